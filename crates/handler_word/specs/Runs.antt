@@ -1,0 +1,31 @@
+-- The text of a list of marks: each run of equal marks as the mark and how many there are.
+use Rattle.std.specs.Prelude.{ℕ, ◌+◌, List, [], ◌∷◌, ◌++◌, Bool, true, false, ◌==◌, if◌then◌else◌, codes, decimal, map}
+use Rattle.std.specs.List.{join_with_byte}
+use Rattle.handler_word.specs.declared.mark.Mark.{Mark}
+use Rattle.handler_word.specs.declared.mark.Mark.TheVariants.{Skipped, NoHandler, NotLogging, Recorded}
+
+-- the character of a mark: . n f +
+abbrev pub mark_byte : Mark → ℕ
+mark_byte Skipped = 46
+mark_byte NoHandler = 110
+mark_byte NotLogging = 102
+mark_byte Recorded = 43
+
+-- a mark in front of runs joins the first of them where they are alike
+abbrev pub onto_runs : Mark → List (Mark × ℕ) → List (Mark × ℕ)
+onto_runs mark [] = (mark, 1) ∷ []
+onto_runs mark ((next, count) ∷ runs) =
+    if mark_byte mark == mark_byte next then (next, count + 1) ∷ runs else (mark, 1) ∷ (next, count) ∷ runs
+
+-- the longest runs of equal marks, in order
+abbrev pub runs_of : List Mark → List (Mark × ℕ)
+runs_of [] = []
+runs_of (mark ∷ marks) = onto_runs mark (runs_of marks)
+
+abbrev pub run_text : Mark × ℕ → List ℕ
+run_text (mark, count) = mark_byte mark ∷ decimal count
+
+-- the runs with a space between them, or - for no marks
+abbrev pub runs_text : List Mark → List ℕ
+runs_text [] = codes "-"
+runs_text (mark ∷ marks) = join_with_byte 32 (map run_text (runs_of (mark ∷ marks)))

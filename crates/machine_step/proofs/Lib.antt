@@ -1,0 +1,2 @@
+pub mod OneUnit
+pub mod OneEnd

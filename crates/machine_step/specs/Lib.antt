@@ -1,0 +1,3 @@
+pub mod PlainStep
+pub mod Loads
+pub mod Texts

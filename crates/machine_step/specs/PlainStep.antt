@@ -1,0 +1,159 @@
+-- The plain machine: what a thread does where its sleds are only counted.
+use Rattle.std.specs.Prelude.{◌≡◌, ◌≢◌, ◌^◌, ◌+◌, ◌*◌, ◌/◌, ◌%◌, ◌==◌, ◌⊎◌, ℕ, zero, suc, List, [], ◌∷◌, ◌++◌, length, Bool, false, if◌then◌else◌, Some, replicate, slice_get, slice_index, slice_set, Contains, MatchBool, ◌-◌, ℤ}
+use Rattle.std.specs.Int.{w64, cast_unsigned}
+use Rattle.subset_decode.specs.declared.instr.Instr.{Instr}
+use Rattle.subset_decode.specs.declared.instr.Instr.TheVariants.{Mov, Add, Sub, Push, Pop, Call, Jmp, Jnz, Ret, Out}
+use Rattle.subset_decode.specs.Encoding.{spelling}
+use Rattle.xray_image.specs.declared.sled.Sled.{Sled}
+use Rattle.xray_image.specs.declared.sled.SledKind.{SledKind}
+use Rattle.xray_image.specs.declared.sled.SledKind.TheVariants as kinds
+use Rattle.xray_image.specs.declared.unit.Unit.{Unit}
+use Rattle.xray_image.specs.declared.unit.What.{What}
+use Rattle.xray_image.specs.declared.unit.What.TheVariants as whats
+use Rattle.xray_image.specs.Program.{Program}
+use Rattle.machine_step.specs.declared.limits.Limits.{Limits}
+use Rattle.machine_step.specs.declared.end.End.{End}
+use Rattle.machine_step.specs.declared.end.End.TheVariants as ends
+
+-- what a thread is between two steps; register n stands at place n, the top of the stack in front
+pub record State : Type 0 where
+  pub address : ℕ
+  pub registers : List ℕ
+  pub zero_flag : Bool
+  pub stack : List ℕ
+  pub output : List ℕ
+  pub instructions : ℕ
+  pub passings : ℕ
+
+-- a thread at the entry function's start: its number in rdi, all else 0
+abbrev pub opening : Program → ℕ → State
+opening program thread = record {
+  address = program.entry;
+  registers = slice_set (replicate 16 0) 7 thread;
+  zero_flag = false;
+  stack = [];
+  output = [];
+  instructions = 0;
+  passings = 0;
+}
+
+-- a step leads on, or is the thread's end
+pub data Next : Type 0 where
+  Goes : (next : State) → Next
+  Ends : (end : End) → (last : State) → Next
+
+-- the state behind an instruction that goes on at an address
+abbrev pub counted : State → ℕ → State
+counted s address = record s { address = address; instructions = s.instructions + 1 }
+
+-- `ret`, also in the place of an exit sled: on an empty stack it is the end
+abbrev pub returns : State → List ℕ → Next
+returns s [] = Ends ends.Returned (counted s s.address)
+returns s (address ∷ stack) = Goes (record (counted s address) { stack = stack })
+
+-- the most values on a stack, and the most bytes of an output
+abbrev pub stack_limit : ℕ
+stack_limit = 65536
+
+abbrev pub output_limit : ℕ
+output_limit = 65536
+
+-- the value of a register
+abbrev pub register : State → ℕ → ℕ
+register s n = slice_index s.registers n
+
+-- what an addition or a subtraction leaves, going on at an address: the value mod 2^64, and whether it is 0
+abbrev pub computed : State → ℕ → ℕ → ℕ → State
+computed s behind dst value =
+    record (counted s behind) { registers = slice_set s.registers dst (value % 2 ^ 64); zero_flag = value % 2 ^ 64 == 0 }
+
+-- a value on the stack, where there is room
+abbrev pub pushed : State → ℕ → ℕ → Next
+pushed s address value =
+    if length s.stack == stack_limit then Ends ends.StackFull s
+    else Goes (record (counted s address) { stack = value ∷ s.stack })
+
+-- the value on top of the stack into a register, where there is one
+abbrev pub popped : State → ℕ → ℕ → List ℕ → Next
+popped s behind reg [] = Ends ends.StackEmpty s
+popped s behind reg (value ∷ stack) =
+    Goes (record (counted s behind) { registers = slice_set s.registers reg value; stack = stack })
+
+-- where a branch goes: the address behind it and the distance that it names, mod 2^64
+abbrev pub branched : ℕ → ℤ → ℕ
+branched behind distance = (behind + cast_unsigned w64 distance) % 2 ^ 64
+
+-- what an instruction does, where `behind` is the address behind it; the target of a branch counts from there
+abbrev pub does : State → ℕ → Instr → Next
+does s behind (Mov dst imm) = Goes (record (counted s behind) { registers = slice_set s.registers dst imm })
+does s behind (Add dst src) = Goes (computed s behind dst (register s dst + register s src))
+does s behind (Sub dst src) = Goes (computed s behind dst (register s dst + (2 ^ 64 - register s src)))
+does s behind (Push reg) = pushed s behind (register s reg)
+does s behind (Pop reg) = popped s behind reg s.stack
+does s behind (Call rel) = pushed s (branched behind rel) behind
+does s behind (Jmp rel) = Goes (counted s (branched behind rel))
+does s behind (Jnz rel) = Goes (counted s (if s.zero_flag then behind else branched behind rel))
+does s behind Ret = returns s s.stack
+does s behind (Out port) =
+    if length s.output == output_limit then Ends ends.OutputFull s
+    else Goes (record (counted s behind) { output = s.output ++ register s 0 % 256 ∷ [] })
+
+-- an instruction wants fuel
+abbrev pub fuelled : Limits → State → Next → Next
+fuelled limits s next = if s.instructions == limits.fuel then Ends ends.Fuel s else next
+
+-- behind its passing, an entry or tail sled does nothing, and an exit sled is a return
+abbrev pub behind_passing : Limits → State → SledKind → Next
+behind_passing limits s kinds.Entry = Goes (record s { address = s.address + 11 })
+behind_passing limits s kinds.Tail = Goes (record s { address = s.address + 11 })
+behind_passing limits s kinds.Exit = fuelled limits s (returns s s.stack)
+
+-- a passing of a sled: of which, with the stamp that its event has
+pub record Passing : Type 0 where
+  pub sled : ℕ
+  pub function : ℕ
+  pub kind : SledKind
+  pub cpu : ℕ
+  pub counter : ℕ
+
+abbrev pub passing_at : Limits → ℕ → State → ℕ → Sled → Passing
+passing_at limits thread s k sled = record {
+  sled = k;
+  function = sled.id;
+  kind = sled.kind;
+  cpu = (thread + s.passings / limits.migrate) % limits.cpus;
+  counter = (limits.tsc + limits.tick * s.instructions) % 2 ^ 64;
+}
+
+-- the step of a unit, with the passing that it makes
+abbrev pub UnitStep : Program → Limits → ℕ → State → What → List Passing → Next → Type 0
+UnitStep program limits thread s (whats.Plain instr) made next =
+    (made ≡ []) × (next ≡ fuelled limits s (does s (s.address + length (spelling instr)) instr))
+UnitStep program limits thread s (whats.Sled k) made next =
+    MatchBool (s.passings == limits.passings)
+    ((made ≡ []) × (next ≡ Ends ends.Passings s))
+    ((sled : Sled) × (slice_get program.sleds k ≡ Some sled)
+    × (made ≡ passing_at limits thread s k sled ∷ [])
+    × (next ≡ behind_passing limits (record s { passings = s.passings + 1 }) sled.kind))
+UnitStep program limits thread s whats.Pad made next =
+    (made ≡ []) × (next ≡ Goes (record s { address = s.address + 1 }))
+
+-- the step of a thread: that of the unit at its address, or its end where no unit is
+abbrev pub PlainStep : Program → Limits → ℕ → State → List Passing → Next → Type 0
+PlainStep program limits thread s made next =
+    (((u : Unit) → Contains program.units u → u.address ≢ s.address) × (made ≡ []) × (next ≡ Ends ends.BadTarget s))
+    ⊎ ((u : Unit) × Contains program.units u × (u.address ≡ s.address) × UnitStep program limits thread s u.what made next)
+
+-- n steps and one more lead from a state to an end, with these passings on the way
+abbrev pub RunsTo : Program → Limits → ℕ → ℕ → State → List Passing → End → State → Type 0
+RunsTo program limits thread zero s passed end last = PlainStep program limits thread s passed (Ends end last)
+RunsTo program limits thread (suc n) s passed end last =
+    (made : List Passing) × (later : List Passing) × (mid : State)
+    × PlainStep program limits thread s made (Goes mid)
+    × RunsTo program limits thread n mid later end last
+    × (passed ≡ made ++ later)
+
+-- what the steps of a thread reach from its opening: its passings, its end and its last state
+abbrev pub PlainRun : Program → Limits → ℕ → List Passing → End → State → Type 0
+PlainRun program limits thread passed end last =
+    (n : ℕ) × RunsTo program limits thread n (opening program thread) passed end last

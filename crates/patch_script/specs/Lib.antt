@@ -1,0 +1,2 @@
+pub mod Micros
+pub mod CodeAt

@@ -1,0 +1,106 @@
+-- What the commands of a script mean: a list of stores and awaits.
+use Rattle.std.specs.Prelude.{ℕ, zero, suc, ◌+◌, List, [], ◌∷◌, ◌++◌, length, Bool, true, false, ◌==◌, not, if◌then◌else◌, map, filter, take_while, slice_get, Option, Some, None}
+use Rattle.std.specs.Option.{option_map_or}
+use Rattle.std.specs.List.{flat_map, list_any, enumerate_from}
+use Rattle.xray_image.specs.declared.sled.Sled.{Sled}
+use Rattle.xray_image.specs.declared.sled.SledKind.{SledKind}
+use Rattle.xray_image.specs.declared.sled.SledKind.TheVariants.{Entry, Exit, Tail}
+use Rattle.xray_image.specs.Program.{Program}
+use Rattle.sled_words.specs.declared.part.Part.TheVariants.{Head, Id, Opcode, Offset}
+use Rattle.sled_words.specs.Words.{word_of, handler_word, state_word, release_word}
+use Rattle.sled_words.specs.Parts.{patched}
+use Rattle.patch_script.specs.declared.command.Command.{Command}
+use Rattle.patch_script.specs.declared.command.Command.TheVariants as commands
+use Rattle.patch_script.specs.declared.micro.Micro.{Micro}
+use Rattle.patch_script.specs.declared.micro.Micro.TheVariants.{Store, Await}
+
+-- a sled and its number
+abbrev pub Numbered : Type 0
+Numbered = ℕ × Sled
+
+-- all sleds, in the order of the map
+abbrev pub all_sleds : Program → List Numbered
+all_sleds program = enumerate_from 0 program.sleds
+
+-- the sleds of a function, in the order of the map
+abbrev pub sleds_of : Program → ℕ → List Numbered
+sleds_of program id = filter (λ s. s.1.id == id) (all_sleds program)
+
+-- the sleds that a command patches
+abbrev pub patches : Program → Command → List Numbered
+patches program commands.Patch = all_sleds program
+patches program (commands.PatchFunction id) = sleds_of program id
+patches program _ = []
+
+-- patching a sled stores its id, its opcode and its offset, and then its head
+abbrev pub patch_sled : Program → Numbered → List Micro
+patch_sled program (k, sled) =
+    Store (word_of k Id) (patched program.trampolines sled Id)
+    ∷ Store (word_of k Opcode) (patched program.trampolines sled Opcode)
+    ∷ Store (word_of k Offset) (patched program.trampolines sled Offset)
+    ∷ Store (word_of k Head) (patched program.trampolines sled Head)
+    ∷ []
+
+-- the head that unpatching leaves: a jump over the sled; or a return, whose high byte is what stood there
+abbrev pub head_left : SledKind → Bool → ℕ
+head_left Entry was_patched = 0x09EB
+head_left Tail was_patched = 0x09EB
+head_left Exit true = 0xBAC3
+head_left Exit false = 0x2EC3
+
+-- unpatching a sled stores its head alone; the sleds that earlier commands patched are known by their numbers
+abbrev pub unpatch_sled : List ℕ → Numbered → Micro
+unpatch_sled earlier (k, sled) = Store (word_of k Head) (head_left sled.kind (list_any (λ j. j == k) earlier))
+
+-- the micro steps of a command behind others that patched the sleds of these numbers
+abbrev pub steps_of : Program → List ℕ → Command → List Micro
+steps_of program earlier commands.Patch = flat_map (patch_sled program) (all_sleds program)
+steps_of program earlier commands.Unpatch = map (unpatch_sled earlier) (all_sleds program)
+steps_of program earlier (commands.PatchFunction id) = flat_map (patch_sled program) (sleds_of program id)
+steps_of program earlier (commands.UnpatchFunction id) = map (unpatch_sled earlier) (sleds_of program id)
+steps_of program earlier commands.SetHandler = Store (handler_word program) 1 ∷ []
+steps_of program earlier commands.RemoveHandler = Store (handler_word program) 0 ∷ []
+steps_of program earlier commands.Init = Store (state_word program) 1 ∷ Store (state_word program) 2 ∷ []
+steps_of program earlier commands.Finalize = Store (state_word program) 3 ∷ Store (state_word program) 4 ∷ []
+steps_of program earlier (commands.Hold thread passing) = []
+steps_of program earlier commands.Go = []
+steps_of program earlier (commands.Release thread) = Store (release_word program thread) 1 ∷ []
+steps_of program earlier (commands.Await thread count) = Await thread count ∷ []
+
+-- the numbers of the sleds that a command patches
+abbrev pub numbers : List Numbered → List ℕ
+numbers sleds = map (λ s. s.0) sleds
+
+-- the micro steps of commands, one command's behind the other's
+abbrev pub micros_behind : Program → List ℕ → List Command → List Micro
+micros_behind program earlier [] = []
+micros_behind program earlier (command ∷ rest) =
+    steps_of program earlier command ++ micros_behind program (earlier ++ numbers (patches program command)) rest
+
+-- the micro steps of a script
+abbrev pub micros : Program → List Command → List Micro
+micros program script = micros_behind program [] script
+
+abbrev pub is_go : Command → Bool
+is_go commands.Go = true
+is_go _ = false
+
+-- how many micro steps stand before `go`, and how many there are
+abbrev pub start_of : Program → List Command → ℕ
+start_of program script = length (micros program (take_while (λ c. not (is_go c)) script))
+
+abbrev pub total_of : Program → List Command → ℕ
+total_of program script = length (micros program script)
+
+-- the passing before which a script holds a thread
+abbrev pub hold_by : ℕ → Command → Option ℕ
+hold_by thread (commands.Hold held passing) = if held == thread then Some passing else None
+hold_by thread _ = None
+
+abbrev pub hold_of : ℕ → List Command → Option ℕ
+hold_of thread [] = None
+hold_of thread (command ∷ rest) = first_some (hold_by thread command) (hold_of thread rest)
+  where
+    first_some : Option ℕ → Option ℕ → Option ℕ
+    first_some (Some n) other = Some n
+    first_some None other = other

@@ -1,0 +1,47 @@
+/// A command of a patch script, one a line. Function ids and threads count from 1, passings from 0.
+#[derive(Clone, Copy, Debug, PartialEq, Eq)]
+pub enum Command {
+    /// `patch`: patches every sled.
+    Patch,
+    /// `unpatch`: unpatches every sled.
+    Unpatch,
+    /// `patch_function N`: patches the sleds of one function.
+    PatchFunction {
+        /// The function's id.
+        id: u32,
+    },
+    /// `unpatch_function N`: unpatches the sleds of one function.
+    UnpatchFunction {
+        /// The function's id.
+        id: u32,
+    },
+    /// `set_handler`: installs the handler.
+    SetHandler,
+    /// `remove_handler`: takes the handler out.
+    RemoveHandler,
+    /// `init`: initializes the log.
+    Init,
+    /// `finalize`: finalizes the log.
+    Finalize,
+    /// `hold T N`: the thread waits before a passing until it is released.
+    Hold {
+        /// The thread that waits.
+        thread: u32,
+        /// The passing before which it waits.
+        passing: u32,
+    },
+    /// `go`: the threads start here.
+    Go,
+    /// `release T`: lets a held thread go on.
+    Release {
+        /// The thread.
+        thread: u32,
+    },
+    /// `await T N`: waits until a thread has made so many passings or has ended.
+    Await {
+        /// The thread.
+        thread: u32,
+        /// How many passings.
+        count: u32,
+    },
+}

@@ -1,0 +1,64 @@
+-- The values of a sled's words, unpatched and patched.
+use Rattle.std.specs.Prelude.{ℕ, ◌+◌, ◌*◌, ◌^◌, ◌-ℤ◌, pos, List, [], ◌∷◌, ◌++◌, Bool, true, false, replicate, unsigned_abs}
+use Rattle.std.specs.Int.{int_rem_euclid}
+use Rattle.std.specs.List.{flat_map}
+use Rattle.xray_image.specs.declared.sled.Sled.{Sled}
+use Rattle.xray_image.specs.declared.sled.SledKind.{SledKind}
+use Rattle.xray_image.specs.declared.sled.SledKind.TheVariants.{Entry, Exit, Tail}
+use Rattle.xray_image.specs.Program.{Program, Trampolines, trampoline_of}
+use Rattle.sled_words.specs.declared.part.Part.{Part}
+use Rattle.sled_words.specs.declared.part.Part.TheVariants.{Head, Id, Opcode, Offset}
+
+-- the head of a sled that was never patched: a jump over the sled, or a return
+abbrev pub unpatched_head : SledKind → ℕ
+unpatched_head Entry = 0x09EB
+unpatched_head Exit = 0x2EC3
+unpatched_head Tail = 0x09EB
+
+-- the head of a patched sled: the first two bytes of mov r10d, id
+abbrev pub patched_head : ℕ
+patched_head = 0xBA41
+
+-- the opcode of a patched sled: a jump to the exit trampoline, a call of the others
+abbrev pub patched_opcode : SledKind → ℕ
+patched_opcode Entry = 0xE8
+patched_opcode Exit = 0xE9
+patched_opcode Tail = 0xE8
+
+-- the displacement of a call or a jump: its target's distance from the address behind it, as 32 bits in two's complement
+abbrev pub displacement : ℕ → ℕ → ℕ
+displacement behind target = unsigned_abs (int_rem_euclid (pos target -ℤ pos behind) (pos (2 ^ 32)))
+
+-- the distance from a sled's end to its trampoline
+abbrev pub trampoline_distance : Trampolines → Sled → ℕ
+trampoline_distance trampolines sled = displacement (sled.address + 11) (trampoline_of trampolines sled.kind)
+
+-- the parts of a sled as the image file has them
+abbrev pub unpatched : Sled → Part → ℕ
+unpatched sled Head = unpatched_head sled.kind
+unpatched sled Id = 0x841F0F66
+unpatched sled Opcode = 0
+unpatched sled Offset = sled.shift
+
+-- the parts of a patched sled: mov r10d, id, and a call or a jump to the trampoline
+abbrev pub patched : Trampolines → Sled → Part → ℕ
+patched trampolines sled Head = patched_head
+patched trampolines sled Id = sled.id
+patched trampolines sled Opcode = patched_opcode sled.kind
+patched trampolines sled Offset = trampoline_distance trampolines sled
+
+abbrev pub part_value : Trampolines → Sled → Part → Bool → ℕ
+part_value trampolines sled part true = patched trampolines sled part
+part_value trampolines sled part false = unpatched sled part
+
+-- the words of one sled before any patching
+abbrev pub sled_words : Sled → List ℕ
+sled_words sled = unpatched sled Head ∷ unpatched sled Id ∷ unpatched sled Opcode ∷ unpatched sled Offset ∷ []
+
+-- the words of all sleds before any patching
+abbrev pub all_sled_words : Program → List ℕ
+all_sled_words program = flat_map sled_words program.sleds
+
+-- all words before the script: those of the sleds unpatched, all others 0
+abbrev pub initial_words : Program → ℕ → List ℕ
+initial_words program threads = all_sled_words program ++ replicate (2 + 2 * threads) 0

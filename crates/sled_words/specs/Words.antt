@@ -1,0 +1,35 @@
+-- The numbers of the words: four a sled, then the handler's and the state's, then two a thread.
+use Rattle.std.specs.Prelude.{ℕ, ◌+◌, ◌*◌, length}
+use Rattle.xray_image.specs.Program.{Program}
+use Rattle.sled_words.specs.declared.part.Part.{Part}
+use Rattle.sled_words.specs.declared.part.Part.TheVariants.{Head, Id, Opcode, Offset}
+
+abbrev pub part_number : Part → ℕ
+part_number Head = 0
+part_number Id = 1
+part_number Opcode = 2
+part_number Offset = 3
+
+-- the word of a part of a sled
+abbrev pub word_of : ℕ → Part → ℕ
+word_of sled part = 4 * sled + part_number part
+
+-- the word that says whether a handler is set
+abbrev pub handler_word : Program → ℕ
+handler_word program = 4 * length program.sleds
+
+-- the word that says in which state the log is
+abbrev pub state_word : Program → ℕ
+state_word program = 4 * length program.sleds + 1
+
+-- the word that lets a held thread go on
+abbrev pub release_word : Program → ℕ → ℕ
+release_word program thread = 4 * length program.sleds + 1 + thread
+
+-- the word in which a thread says how many passings it has made
+abbrev pub progress_word : Program → ℕ → ℕ → ℕ
+progress_word program threads thread = 4 * length program.sleds + 1 + threads + thread
+
+-- how many words there are for so many threads
+abbrev pub word_count : Program → ℕ → ℕ
+word_count program threads = 4 * length program.sleds + 2 + 2 * threads

@@ -1,0 +1,85 @@
+ghost use Rattle.std.specs.Prelude.{◌≡◌, ◌<◌, ◌+◌, length, slice_get, Some};
+ghost use Rattle.sled_words.specs.Parts.{displacement, part_value, patched, unpatched};
+ghost use Rattle.xray_image.specs.declared.sled.Sled.{Sled};
+
+use crate::Part;
+use xray_image::{Image, Sled, SledKind};
+
+/// How many bytes a sled has: its last part ends, and a patched sled's call or jump goes on, so far behind its address.
+const SLED_BYTES: u64 = 11;
+
+/// The head of an entry or tail sled in the file: EB 09, a jump over the nine bytes of the nop behind it
+/// (`Jmp9Seq` of `xray_x86_64.cpp`).
+pub const JUMP_HEAD: u64 = 0x09EB;
+
+/// The head of an exit sled in the file: C3, which is `ret`, and 2E, the first byte of the nop of ten bytes behind it.
+const RETURN_HEAD: u64 = 0x2EC3;
+
+/// The head of a patched sled: 41 BA, of which `mov r10d, imm32` begins (`MovR10Seq` of `xray_x86_64.cpp`). The
+/// function id behind it is the immediate.
+pub const PATCHED_HEAD: u64 = 0xBA41;
+
+/// 66 0F 1F 84, with which the nop behind an unpatched sled's head begins: `nopw disp32(rax, rax)` (Intel SDM vol. 2B).
+const NOP: u64 = 0x841F_0F66;
+
+/// 00, which stands between the nop's first four bytes and its displacement: the SIB byte of (rax, rax).
+const NOP_SIB: u64 = 0;
+
+/// `call rel32` (`CallOpCode` of `xray_x86_64.cpp`).
+const CALL: u64 = 0xE8;
+
+/// `jmp rel32` (`JmpOpCode` of `xray_x86_64.cpp`).
+const JUMP: u64 = 0xE9;
+
+/// The value of a part of a sled: as the image file has it, or as patching stores it.
+///
+/// A patched sled is `mov r10d, id` and then a call of the trampoline of its kind, or for an exit sled a jump to it; the
+/// offset counts from the sled's end. The value has the part's size: 2 bytes of a head, 4 of an id, 1 of an opcode and 4
+/// of an offset, in little-endian order.
+pub fn part_value(image: &Image, sled: u32, part: Part, patched: bool) -> u64
+    requires { sled < length image.now.sleds }
+    ensures { (s : Sled) → slice_get image.now.sleds sled ≡ Some s
+        → result ≡ part_value image.now.trampolines s part patched }
+{
+    let described = image.sled(sled);
+    if patched {
+        patched_value(image, described, part)
+    } else {
+        unpatched_value(described, part)
+    }
+}
+
+pub(crate) fn unpatched_value(sled: Sled, part: Part) -> u64
+    ensures { result ≡ unpatched sled part }
+{
+    match part {
+        Part::Head => match sled.kind {
+            SledKind::Entry | SledKind::Tail => JUMP_HEAD,
+            SledKind::Exit => RETURN_HEAD,
+        },
+        Part::Id => NOP,
+        Part::Opcode => NOP_SIB,
+        Part::Offset => u64::from(sled.shift),
+    }
+}
+
+fn patched_value(image: &Image, sled: Sled, part: Part) -> u64
+    ensures { result ≡ patched image.now.trampolines sled part }
+{
+    match part {
+        Part::Head => PATCHED_HEAD,
+        Part::Id => u64::from(sled.id),
+        Part::Opcode => match sled.kind {
+            SledKind::Entry | SledKind::Tail => CALL,
+            SledKind::Exit => JUMP,
+        },
+        Part::Offset => distance(sled.address, image.trampoline(sled.kind)),
+    }
+}
+
+/// The displacement of a call or a jump that ends a sled: from the sled's end to the target, as 32 bits.
+fn distance(sled_address: u64, target: u64) -> u64
+    ensures { result ≡ displacement (sled_address + 11) target }
+{
+    target.wrapping_sub(sled_address.wrapping_add(SLED_BYTES)) & u64::from(u32::MAX)
+}

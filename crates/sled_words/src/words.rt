@@ -1,0 +1,41 @@
+ghost use Rattle.std.specs.Prelude.{◌≡◌, ◌≤◌, IfOk};
+ghost use Rattle.sled_words.specs.Parts.{initial_words, sled_words};
+
+use crate::Part;
+use crate::value::unpatched_value;
+use std::alloc::Global;
+use xray_image::{Image, Sled};
+use xray_io::NoMemory;
+
+/// The most threads that run at once.
+pub const MAX_THREADS: u32 = 16;
+
+/// All words before a script's first store, for so many threads: of each sled its unpatched head, id, opcode and offset,
+/// and then zeros, for the handler's word, the state's, and two words of each thread.
+///
+/// It takes memory once; `NoMemory` comes where that was refused.
+pub fn initial_words(alloc: Global, image: &Image, threads: u32) -> Result<Vec<u64>, NoMemory>
+    requires { threads ≤ MAX_THREADS }
+    ensures { IfOk result (λ words. words.items ≡ initial_words image.now threads) }
+{
+    let sleds = image.sled_count();
+    let others = 2 + 2 * threads as usize;
+    let mut words = Vec::with_capacity(alloc, 4 * sleds as usize + others)?;
+    for k in 0..sleds {
+        words.extend_from_slice(&unpatched_words(image.sled(k)))?;
+    }
+    words.resize(words.len() + others, 0)?;
+    Ok(words)
+}
+
+/// The words of one sled as the image file has them.
+fn unpatched_words(sled: Sled) -> [u64; 4]
+    ensures { result ≡ sled_words sled }
+{
+    [
+        unpatched_value(sled, Part::Head),
+        unpatched_value(sled, Part::Id),
+        unpatched_value(sled, Part::Opcode),
+        unpatched_value(sled, Part::Offset),
+    ]
+}

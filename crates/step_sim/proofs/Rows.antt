@@ -1,0 +1,66 @@
+-- Worked examples of the definitions, checked by computing.
+use Rattle.std.proofs.Common.{◌≡◌, ℕ, List, [], ◌∷◌, ◌++◌, true, false, Some, None, refl}
+use Rattle.std.specs.Prelude.{codes}
+use Rattle.subset_decode.specs.declared.instr.Instr.TheVariants.{Mov, Out}
+use Rattle.xray_image.specs.declared.sled.SledKind.TheVariants.{Entry, Exit}
+use Rattle.xray_image.specs.declared.unit.What.TheVariants.{Plain, Sled, Pad}
+use Rattle.xray_image.specs.Program.{Program}
+use Rattle.patch_script.specs.declared.command.Command.{Command}
+use Rattle.patch_script.specs.declared.command.Command.TheVariants as commands
+use Rattle.patch_script.specs.declared.micro.Micro.{Micro}
+use Rattle.patch_script.specs.declared.micro.Micro.TheVariants.{Store}
+use Rattle.patch_script.specs.Micros.{micros, start_of, total_of}
+use Rattle.patch_script.specs.CodeAt.{code_at}
+use Rattle.handler_word.specs.declared.mark.Mark.{Mark}
+use Rattle.handler_word.specs.declared.mark.Mark.TheVariants.{Skipped, NoHandler}
+use Rattle.step_sim.specs.declared.turns.Turns.{Turns}
+use Rattle.step_sim.specs.declared.turns.Turns.TheVariants.{Thread, Patcher}
+use Rattle.step_sim.specs.Replay.{Cast, Moment, scheduled, turns, thread_turn, marks_at, wanted_by}
+
+-- a function that moves 65 to eax and prints it
+example : Program
+example = record {
+  base = 4096;
+  entry = 4096;
+  functions = record { start = 4096; name = codes "main" } ∷ [];
+  units = record { address = 4096; what = Sled 0 } ∷ record { address = 4107; what = Plain (Mov 0 65) }
+      ∷ record { address = 4112; what = Plain (Out 1) } ∷ record { address = 4114; what = Sled 1 } ∷ [];
+  sleds = record { address = 4096; function = 4096; id = 1; kind = Entry; always = true; shift = 512 }
+      ∷ record { address = 4114; function = 4096; id = 1; kind = Exit; always = true; shift = 512 } ∷ [];
+  trampolines = record { entry = 0x201000; exit = 0x201010; tail = 0x201020 };
+}
+
+script : List Command
+script = commands.Patch ∷ commands.Go ∷ commands.Unpatch ∷ []
+
+-- id, opcode and offset of each sled are stored before its head; unpatching stores heads alone
+stores : micros example script ≡
+    Store 1 1 ∷ Store 2 0xE8 ∷ Store 3 0x1FFFF5 ∷ Store 0 0xBA41
+    ∷ Store 5 1 ∷ Store 6 0xE9 ∷ Store 7 0x1FFFF3 ∷ Store 4 0xBA41
+    ∷ Store 0 0x09EB ∷ Store 4 0xBAC3 ∷ []
+unfolding example script
+stores = refl
+
+never_patched : micros example (commands.Go ∷ commands.Unpatch ∷ []) ≡ Store 0 0x09EB ∷ Store 4 0x2EC3 ∷ []
+unfolding example
+never_patched = refl
+
+starts : start_of example script ≡ 8
+unfolding example script
+starts = refl
+
+cast : Cast
+cast = record { program = example; script = script; passings = (0 ∷ 1 ∷ []) ∷ [] }
+
+-- the thread has read the first head when both sleds are unpatched
+in_the_middle : marks_at cast (turns 20 (thread_turn cast 1) (scheduled cast (Thread 1 1 ∷ Patcher 2 ∷ []))) ≡ (NoHandler ∷ Skipped ∷ []) ∷ []
+unfolding example script cast
+in_the_middle = refl
+
+at_once : marks_at cast (turns 20 (thread_turn cast 1) (scheduled cast [])) ≡ (NoHandler ∷ NoHandler ∷ []) ∷ []
+unfolding example script cast
+at_once = refl
+
+too_late : marks_at cast (turns 20 (thread_turn cast 1) (scheduled cast (Patcher 2 ∷ []))) ≡ (Skipped ∷ Skipped ∷ []) ∷ []
+unfolding example script cast
+too_late = refl

@@ -1,0 +1,92 @@
+-- The replay of a schedule: turns over a place of the script and a list of loads for each thread.
+use Rattle.std.specs.Prelude.{◌≡◌, ℕ, zero, suc, ◌+◌, ◌-◌, min, List, [], ◌∷◌, ◌++◌, length, Option, Some, None, map, replicate, fold, unwrap_or, slice_get, slice_set}
+use Rattle.std.specs.List.{enumerate_from}
+use Rattle.xray_image.specs.Program.{Program}
+use Rattle.patch_script.specs.declared.command.Command.{Command}
+use Rattle.patch_script.specs.Micros.{start_of, total_of, hold_of}
+use Rattle.patch_script.specs.CodeAt.{code_at}
+use Rattle.handler_word.specs.declared.mark.Mark.{Mark}
+use Rattle.machine_step.specs.Loads.{Load, next_load, marks_of}
+use Rattle.step_sim.specs.declared.turns.Turns.{Turns}
+use Rattle.step_sim.specs.declared.turns.Turns.TheVariants.{Thread, Patcher}
+
+-- what a replay knows of the threads and the script: the sleds that each thread passes, thread 1 first
+pub record Cast : Type 0 where
+  pub program : Program
+  pub script : List Command
+  pub passings : List (List ℕ)
+
+-- where a replay is: the micro steps made so far, and the loads of each thread so far
+pub record Moment : Type 0 where
+  pub place : ℕ
+  pub loads : List (List Load)
+
+-- at first: the micro steps before `go`, and no loads
+abbrev pub first_moment : Cast → Moment
+first_moment cast = record {
+  place = start_of cast.program cast.script;
+  loads = map (λ _. []) cast.passings;
+}
+
+-- the item of a thread in a list with one item a thread
+abbrev pub of_thread : {X : Type 0} → List (List X) → ℕ → List X
+of_thread lists thread = unwrap_or (slice_get lists (thread - 1)) []
+
+-- the word that a thread loads next; none where it has ended
+abbrev pub wanted_by : Cast → ℕ → Moment → Option ℕ
+wanted_by cast thread moment =
+    next_load cast.program thread (hold_of thread cast.script) (of_thread cast.passings thread) (of_thread moment.loads thread)
+
+-- a thread's turn is its next load, of the word's value at the place; one that has ended does nothing
+abbrev pub thread_turn : Cast → ℕ → Moment → Moment
+thread_turn cast thread moment = loaded (wanted_by cast thread moment)
+  where
+    loaded : Option ℕ → Moment
+    loaded None = moment
+    loaded (Some word) = record moment {
+      loads = slice_set moment.loads (thread - 1)
+          (of_thread moment.loads thread
+          ++ record { word = word; value = code_at cast.program cast.script moment.place word } ∷ []);
+    }
+
+-- the patcher's turn is a micro step; at the script's end it does nothing
+abbrev pub patcher_turn : Cast → Moment → Moment
+patcher_turn cast moment = record moment { place = min (moment.place + 1) (total_of cast.program cast.script) }
+
+-- so many turns
+abbrev pub turns : ℕ → (Moment → Moment) → Moment → Moment
+turns zero turn moment = moment
+turns (suc n) turn moment = turns n turn (turn moment)
+
+-- the turns of a line of the schedule, and of all its lines
+abbrev pub line_turns : Cast → Moment → Turns → Moment
+line_turns cast moment (Thread thread count) = turns count (thread_turn cast thread) moment
+line_turns cast moment (Patcher count) = turns count (patcher_turn cast) moment
+
+abbrev pub scheduled : Cast → List Turns → Moment
+scheduled cast schedule = fold (line_turns cast) (first_moment cast) schedule
+
+-- a thread runs out: as many turns as bring it to its end
+abbrev pub RunsOut : Cast → ℕ → Moment → Moment → Type 0
+RunsOut cast thread before after =
+    (n : ℕ) × (after ≡ turns n (thread_turn cast thread) before) × (wanted_by cast thread after ≡ None)
+
+-- so many threads run out, one after the other, from one of a number on
+abbrev pub AllRunOut : Cast → ℕ → ℕ → Moment → Moment → Type 0
+AllRunOut cast zero thread before after = after ≡ before
+AllRunOut cast (suc n) thread before after =
+    (mid : Moment) × RunsOut cast thread before mid × AllRunOut cast n (thread + 1) mid after
+
+-- the marks of each thread
+abbrev pub marks_at : Cast → Moment → List (List Mark)
+marks_at cast moment = map marks_of_thread (enumerate_from 1 cast.passings)
+  where
+    marks_of_thread : ℕ × List ℕ → List Mark
+    marks_of_thread (thread, sleds) =
+        marks_of cast.program thread (hold_of thread cast.script) sleds (of_thread moment.loads thread)
+
+-- The marks of the threads that a schedule leaves: its lines in order; behind them each thread runs out, thread 1 first;
+-- and then the patcher makes the micro steps that are left, which changes no mark.
+abbrev pub Replay : Cast → List Turns → List (List Mark) → Type 0
+Replay cast schedule marks =
+    (last : Moment) × AllRunOut cast (length cast.passings) 1 (scheduled cast schedule) last × (marks ≡ marks_at cast last)

@@ -1,0 +1,4 @@
+pub mod Registers
+pub mod Encoding
+pub mod Refusals
+pub mod Reading

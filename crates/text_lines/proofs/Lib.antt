@@ -1,0 +1,5 @@
+pub mod Places
+pub mod LineLemmas
+pub mod WordLemmas
+pub mod NumberLemmas
+mod Rows

@@ -1,0 +1,91 @@
+//! Desks that tests need beside the one in memory.
+ghost use Rattle.std.specs.Prelude.{◌^◌};
+ghost use Rattle.xray_io.specs.Desk.{Untold};
+
+use std::alloc::Global;
+use xray_io::{Desk, MemDesk, ReadFail};
+
+/// A desk that gives one byte a read.
+#[derive(Drop)]
+pub struct Trickle {
+    desk: MemDesk,
+}
+
+impl Trickle {
+    pub fn new(desk: MemDesk) -> Self {
+        Trickle { desk }
+    }
+}
+
+impl Desk for Trickle {
+    ghost held = { λ _ _. Untold };
+
+    ghost read_faults = { λ _. 2 ^ 64 };
+
+    ghost write_faults = { λ _. 0 };
+
+    fn read(&mut self, name: &str, from: u64, buf: &mut [u8]) -> Result<usize, ReadFail> {
+        let room = buf.len().min(1);
+        match self.desk.read(name, from, &mut buf[..room]) {
+            Ok(count) => Ok(count),
+            Err(_) => Err(ReadFail::Failed),
+        }
+    }
+}
+
+/// A desk that notes the names that it is asked for, each behind the one before it with a space between.
+#[derive(Drop)]
+pub struct Noting {
+    desk: MemDesk,
+    alloc: Global,
+    last: String,
+    names: String,
+}
+
+impl Noting {
+    pub fn new(alloc: Global, desk: MemDesk) -> Self {
+        Noting {
+            desk,
+            alloc,
+            last: String::new(alloc),
+            names: String::new(alloc),
+        }
+    }
+
+    /// The names, in the order in which they were asked for. Reads of a name that follow each other are one.
+    pub fn names(&self) -> &str {
+        self.names.as_str()
+    }
+
+    fn note(&mut self, name: &str) -> Result<(), ReadFail> {
+        if self.last.as_str() == name {
+            return Ok(());
+        }
+        match (
+            String::from_str(self.alloc, name),
+            self.names.push_str(name),
+        ) {
+            (Ok(last), Ok(())) => {
+                self.last = last;
+                Ok(())
+            }
+            _ => Err(ReadFail::Failed),
+        }
+    }
+}
+
+impl Desk for Noting {
+    ghost held = { λ _ _. Untold };
+
+    ghost read_faults = { λ _. 2 ^ 64 };
+
+    ghost write_faults = { λ _. 0 };
+
+    fn read(&mut self, name: &str, from: u64, buf: &mut [u8]) -> Result<usize, ReadFail> {
+        self.note(name)?;
+        match self.desk.read(name, from, buf) {
+            Ok(count) => Ok(count),
+            Err(_) => Err(ReadFail::Failed),
+        }
+    }
+}

@@ -1,0 +1,164 @@
+//! One thread, whose sleds are patched before its start and unpatched behind it.
+use crate::desks::{Noting, Trickle};
+use crate::runs::{IMAGE, SCHEDULE, SCRIPT, STATE, desk_of, run_words};
+use std::test::Fail;
+
+const SIM: [&str; 4] = ["sim", "i", "s", "c"];
+
+#[test]
+fn unpatching_in_the_middle_of_a_passing_keeps_the_call_whole(rt: HostRuntime) -> Result<(), Fail> {
+    for (schedule, marks) in [
+        (SCHEDULE, "marks n1 .1\n"),
+        ("", "marks n2\n"),
+        ("p 2\n", "marks .2\n"),
+    ] {
+        let mut desk = desk_of(rt.alloc(), &[], &IMAGE, SCRIPT, schedule)?;
+        let run = run_words(&rt, &SIM, &mut desk, &[], &[])?;
+        assert_eq!(rt; run.status, 0, "{schedule}");
+        assert_eq!(rt;
+            run.out.as_str().strip_prefix(STATE).ok_or("other state")?,
+            marks,
+            "{schedule}"
+        );
+        assert_eq!(rt; run.err.as_str(), "", "{schedule}");
+    }
+    Ok(())
+}
+
+#[test]
+fn a_desk_that_gives_one_byte_a_read_changes_nothing(rt: HostRuntime) -> Result<(), Fail> {
+    let mut desk = Trickle::new(desk_of(rt.alloc(), &[], &IMAGE, SCRIPT, "p 2")?);
+    let run = run_words(&rt, &SIM, &mut desk, &[], &[])?;
+    assert_eq!(rt; run.status, 0);
+    assert_eq!(rt;
+        run.out.as_str().strip_prefix(STATE).ok_or("other state")?,
+        "marks .2\n"
+    );
+    Ok(())
+}
+
+/// The names show that no input is opened before the one before it was judged.
+#[test]
+fn an_input_that_is_not_of_the_form_is_refused_in_its_turn(rt: HostRuntime) -> Result<(), Fail> {
+    for (image, script, schedule, line, names) in [
+        (
+            &IMAGE[..63],
+            SCRIPT,
+            SCHEDULE,
+            "xray: i: image NotYet\n",
+            "i",
+        ),
+        (&IMAGE[..63], "go", "t 1", "xray: i: image NotYet\n", "i"),
+        (&IMAGE[..], "go", SCHEDULE, "xray: s: script NotYet\n", "is"),
+        (
+            &IMAGE[..],
+            SCRIPT,
+            "t 1",
+            "xray: c: schedule NotYet\n",
+            "isc",
+        ),
+        (
+            &IMAGE[..],
+            SCRIPT,
+            "t 2 1",
+            "xray: c: schedule NotYet\n",
+            "isc",
+        ),
+    ] {
+        let desk = desk_of(rt.alloc(), &[], image, script, schedule)?;
+        let mut noting = Noting::new(rt.alloc(), desk);
+        let run = run_words(&rt, &SIM, &mut noting, &[], &[])?;
+        assert_eq!(rt; run.status, 2, "{line}");
+        assert_eq!(rt; run.out.as_str(), "", "{line}");
+        assert_eq!(rt; run.err.as_str(), line);
+        assert_eq!(rt; noting.names(), names, "{line}");
+    }
+    Ok(())
+}
+
+#[test]
+fn words_that_say_no_command_open_no_input(rt: HostRuntime) -> Result<(), Fail> {
+    for words in [
+        [].as_slice(),
+        ["sim", "i", "s"].as_slice(),
+        ["sim", "i", "s", "c", "c"].as_slice(),
+        ["run", "i", "s", "c"].as_slice(),
+        ["sim", "-x", "s", "c"].as_slice(),
+    ] {
+        let desk = desk_of(rt.alloc(), &[], &IMAGE, SCRIPT, SCHEDULE)?;
+        let mut noting = Noting::new(rt.alloc(), desk);
+        let run = run_words(&rt, words, &mut noting, &[], &[])?;
+        assert_eq!(rt; run.status, 1);
+        assert_eq!(rt; run.out.as_str(), "");
+        assert_eq!(rt; run.err.as_str(), "xray: bad command line\n");
+        assert_eq!(rt; noting.names(), "");
+    }
+    Ok(())
+}
+
+#[test]
+fn a_lone_dash_names_a_file(rt: HostRuntime) -> Result<(), Fail> {
+    let mut desk = desk_of(rt.alloc(), &[], b"", SCRIPT, SCHEDULE)?;
+    desk.put("-", &IMAGE)?;
+    let run = run_words(&rt, &["sim", "-", "s", "c"], &mut desk, &[], &[])?;
+    assert_eq!(rt; run.status, 0);
+    Ok(())
+}
+
+/// Each input is read in two calls: one for its bytes, and one that finds its end.
+#[test]
+fn a_read_that_fails_names_the_input_whose_turn_it_was(rt: HostRuntime) -> Result<(), Fail> {
+    for (call, line) in [
+        (0, "xray: i: read fault\n"),
+        (1, "xray: i: read fault\n"),
+        (2, "xray: s: read fault\n"),
+        (3, "xray: s: read fault\n"),
+        (4, "xray: c: read fault\n"),
+        (5, "xray: c: read fault\n"),
+    ] {
+        let mut desk = desk_of(rt.alloc(), &[call], &IMAGE, SCRIPT, SCHEDULE)?;
+        let run = run_words(&rt, &SIM, &mut desk, &[], &[])?;
+        assert_eq!(rt; run.status, 3, "{call}");
+        assert_eq!(rt; run.out.as_str(), "", "{call}");
+        assert_eq!(rt; run.err.as_str(), line, "{call}");
+    }
+    let mut desk = desk_of(rt.alloc(), &[6], &IMAGE, SCRIPT, SCHEDULE)?;
+    assert_eq!(rt; run_words(&rt, &SIM, &mut desk, &[], &[])?.status, 0);
+    Ok(())
+}
+
+#[test]
+fn a_name_that_is_not_held_is_a_read_fault(rt: HostRuntime) -> Result<(), Fail> {
+    for (words, line) in [
+        (["sim", "x", "s", "c"], "xray: x: read fault\n"),
+        (["sim", "i", "y", "z"], "xray: y: read fault\n"),
+        (["sim", "i", "s", "z"], "xray: z: read fault\n"),
+    ] {
+        let mut desk = desk_of(rt.alloc(), &[], &IMAGE, SCRIPT, SCHEDULE)?;
+        let run = run_words(&rt, &words, &mut desk, &[], &[])?;
+        assert_eq!(rt; run.status, 3, "{line}");
+        assert_eq!(rt; run.out.as_str(), "", "{line}");
+        assert_eq!(rt; run.err.as_str(), line);
+    }
+    Ok(())
+}
+
+#[test]
+fn an_output_that_fails_is_a_write_fault(rt: HostRuntime) -> Result<(), Fail> {
+    let mut desk = desk_of(rt.alloc(), &[], &IMAGE, SCRIPT, SCHEDULE)?;
+    let run = run_words(&rt, &SIM, &mut desk, &[0], &[])?;
+    assert_eq!(rt; run.status, 4);
+    assert_eq!(rt; run.out.as_str(), "");
+    assert_eq!(rt; run.err.as_str(), "xray: output: write fault\n");
+    Ok(())
+}
+
+#[test]
+fn a_failure_of_err_changes_nothing_else(rt: HostRuntime) -> Result<(), Fail> {
+    let mut desk = desk_of(rt.alloc(), &[], &IMAGE, "go", SCHEDULE)?;
+    let run = run_words(&rt, &SIM, &mut desk, &[], &[0])?;
+    assert_eq!(rt; run.status, 2);
+    assert_eq!(rt; run.out.as_str(), "");
+    assert_eq!(rt; run.err.as_str(), "");
+    Ok(())
+}

@@ -1,0 +1,90 @@
+//! A run of the top call, and what it leaves.
+use std::alloc::Global;
+use std::sync::Wait;
+use std::test::Fail;
+use std::thread::Threads;
+use xray_io::{Desk, MemDesk, MemSink, OpenGate, Wall};
+use xray_program::xray;
+
+/// The file of an image of 170 bytes. At 0x1000 stands its only function: an entry sled, `mov eax, 0x41`, `out 1, al`,
+/// and an exit sled.
+pub const IMAGE: [u8; 170] = [
+    // The header: the version, the base, the lengths, and where the trampolines stand.
+    b'X', b'R', b'I', b'M', 1, 0, 0, 0, 0x00, 0x10, 0, 0, 0, 0, 0, 0, //
+    29, 0, 0, 0, 1, 0, 0, 0, 2, 0, 0, 0, 0, 0, 0, 0, //
+    0x00, 0x10, 0x20, 0, 0, 0, 0, 0, 0x10, 0x10, 0x20, 0, 0, 0, 0, 0, //
+    0x20, 0x10, 0x20, 0, 0, 0, 0, 0, 0x30, 0x10, 0x20, 0, 0, 0, 0, 0, //
+    // The code.
+    0xEB, 0x09, 0x66, 0x0F, 0x1F, 0x84, 0x00, 0x00, 0x02, 0x00, 0x00, //
+    0xB8, 0x41, 0x00, 0x00, 0x00, 0xE6, 0x01, //
+    0xC3, 0x2E, 0x66, 0x0F, 0x1F, 0x84, 0x00, 0x00, 0x02, 0x00, 0x00, //
+    // The function.
+    0x00, 0x10, 0, 0, 0, 0, 0, 0, 4, b'm', b'a', b'i', b'n', //
+    // The map: the entry sled, and the exit sled.
+    0x00, 0x10, 0, 0, 0, 0, 0, 0, 0x00, 0x10, 0, 0, 0, 0, 0, 0, //
+    0, 1, 0, 0, 0, 0, 0, 0, 0, 0, 0, 0, 0, 0, 0, 0, //
+    0x12, 0x10, 0, 0, 0, 0, 0, 0, 0x00, 0x10, 0, 0, 0, 0, 0, 0, //
+    1, 1, 0, 0, 0, 0, 0, 0, 0, 0, 0, 0, 0, 0, 0, 0, //
+];
+
+pub const SCRIPT: &str = "patch\ngo\nunpatch\n";
+
+/// The thread makes a load, and the patcher then unpatches both sleds.
+pub const SCHEDULE: &str = "t 1 1\np 2\n";
+
+/// What is printed behind the marks' word for the schedule above.
+pub const STATE: &str = "thread 1 returned instructions 3 passings 2\n\
+    rax=41 rcx=0 rdx=0 rbx=0 rbp=0 rsi=0 rdi=1 r8=0 r9=0 r11=0 r12=0 r13=0 r14=0 r15=0 zf=0\n\
+    output 41\n";
+
+/// What a run left: its status, and what out and err were written.
+#[derive(Drop)]
+pub struct Run {
+    pub status: u8,
+    pub out: String,
+    pub err: String,
+}
+
+/// A desk that holds the three inputs as `i`, `s` and `c`.
+pub fn desk_of(
+    alloc: Global,
+    failing: &[u64],
+    image: &[u8],
+    script: &str,
+    schedule: &str,
+) -> Result<MemDesk, Fail> {
+    let mut desk = MemDesk::new(alloc, Vec::from_slice(alloc, failing)?);
+    desk.put("i", image)?;
+    desk.put("s", script.as_bytes())?;
+    desk.put("c", schedule.as_bytes())?;
+    Ok(desk)
+}
+
+/// Runs the top call over a desk, and over sinks that fail at these of their calls.
+pub fn run_words<R: Threads + Wait + Sync + AllocGlobal, D: Desk>(
+    rt: &R,
+    words: &[&str],
+    desk: &mut D,
+    out_failing: &[u64],
+    err_failing: &[u64],
+) -> Result<Run, Fail> {
+    let alloc = rt.alloc();
+    let mut said = Vec::new(alloc);
+    for word in words {
+        said.push(String::from_str(alloc, word)?)?;
+    }
+    let wall = Wall { secs: 0, micros: 0 };
+    let mut out = MemSink::new(alloc, Vec::from_slice(alloc, out_failing)?);
+    let mut err = MemSink::new(alloc, Vec::from_slice(alloc, err_failing)?);
+    let status = xray(rt, alloc, &said, wall, desk, &mut out, &mut err, &OpenGate);
+    Ok(Run {
+        status,
+        out: text_of(alloc, &out)?,
+        err: text_of(alloc, &err)?,
+    })
+}
+
+fn text_of(alloc: Global, sink: &MemSink) -> Result<String, Fail> {
+    let text = std::str::from_utf8(sink.bytes())?;
+    Ok(String::from_str(alloc, text)?)
+}

@@ -1,0 +1,54 @@
+//! `xray`: LLVM's XRay function tracing, with sleds that are patched while threads run.
+#![tactic(auto)]
+
+use std::process::ExitCode;
+use std::time::{SystemTime, UNIX_EPOCH};
+use std::{env, io};
+use xray_io::{ErrSink, FileDesk, OpenGate, OutSink, Wall};
+use xray_program::xray;
+
+/// Does what the words of the command line say, over files and the standard streams, and ends with the status.
+///
+/// Words that aren't UTF-8 say no command, and neither do words that can't be had.
+fn main(rt: HostRuntime) -> ExitCode {
+    let words = match words_behind_name(&rt) {
+        Ok(words) => words,
+        Err(_) => Vec::new(rt.alloc()),
+    };
+    let status = xray(
+        &rt,
+        rt.alloc(),
+        &words,
+        wall_time(&rt),
+        &mut FileDesk::new(&rt),
+        &mut OutSink::new(&rt),
+        &mut ErrSink::new(rt.stderr()),
+        &OpenGate,
+    );
+    ExitCode::from(status)
+}
+
+fn words_behind_name(rt: &HostRuntime) -> io::Result<Vec<String>> {
+    let words = env::args(rt)?.skip(1).collect(rt.alloc())?;
+    Ok(words)
+}
+
+/// The time of the clock; the epoch where there is no clock, or where it stands before the epoch.
+fn wall_time(rt: &HostRuntime) -> Wall {
+    match SystemTime::now(rt) {
+        Ok(now) => since_epoch(now),
+        Err(_) => EPOCH,
+    }
+}
+
+const EPOCH: Wall = Wall { secs: 0, micros: 0 };
+
+fn since_epoch(now: SystemTime) -> Wall {
+    match now.duration_since(UNIX_EPOCH) {
+        Ok(passed) => Wall {
+            secs: passed.as_secs(),
+            micros: passed.subsec_micros(),
+        },
+        Err(_) => EPOCH,
+    }
+}

@@ -1,0 +1,28 @@
+-- What an image's fields tell, and what holds of them.
+use Rattle.std.specs.Prelude.{ℕ, List, map}
+use Rattle.xray_image.specs.declared.image.Image.TheInside.{Inside}
+use Rattle.xray_image.specs.declared.image.Function.{Function as Named}
+use Rattle.xray_image.specs.Container.{Function}
+use Rattle.xray_image.specs.Program.{Program, IsAccepted, addresses}
+use Rattle.xray_image.specs.Index.{IsIndexOf}
+use Rattle.xray_image.specs.Views.{trampolines_of}
+
+abbrev pub named_function : Named → Function
+named_function f = record { start = f.start; name = f.name.items }
+
+-- the program that the fields tell
+abbrev pub program_in : Inside → Program
+program_in a = record {
+  base = a.base;
+  entry = a.entry;
+  functions = map named_function a.functions.items;
+  units = a.units.items;
+  sleds = a.sleds.items;
+  trampolines = trampolines_of a.trampolines;
+}
+
+-- some accepted file holds the program, and the index is that of its units
+pub record IsSound (a : Inside) : Type 0 where
+  pub bytes : List ℕ
+  pub accepted : IsAccepted bytes (program_in a)
+  pub index : IsIndexOf (addresses a.units.items) a.index

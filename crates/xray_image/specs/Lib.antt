@@ -1,0 +1,11 @@
+pub mod Units
+pub mod Container
+pub mod Program
+pub mod FirstRun
+pub mod Header
+pub mod Reading
+pub mod Views
+pub mod Index
+pub mod Layout
+pub mod ImageView
+pub mod Straight

@@ -1,0 +1,181 @@
+-- What an accepted image file holds, and which files are accepted.
+use Rattle.std.specs.Prelude.{◌≡◌, ◌≢◌, ◌<◌, ◌≤◌, ◌+◌, ◌%◌, ◌+ℤ◌, ◌-ℤ◌, ◌||◌, ◌&&◌, ◌⊎◌, ℕ, ℤ, pos, zero, suc, List, [], ◌∷◌, length, take, Bool, true, false, not, nat_le, ◌==◌, if◌then◌else◌, Option, Some, None, codes, map, filter, All, Contains, slice_get, IfSome, FitsSigned}
+use Rattle.std.specs.Int.{w32}
+use Rattle.std.specs.Option.{option_map_or}
+use Rattle.std.specs.List.{zip, last_or, list_any, position_or_len}
+use Rattle.subset_decode.specs.declared.instr.Instr.{Instr}
+use Rattle.subset_decode.specs.declared.instr.Instr.TheVariants.{Mov, Add, Sub, Push, Pop, Call, Jmp, Jnz, Ret, Out}
+use Rattle.subset_decode.specs.Encoding.{spelling}
+use Rattle.xray_image.specs.declared.sled.Sled.{Sled}
+use Rattle.xray_image.specs.declared.sled.SledKind.{SledKind}
+use Rattle.xray_image.specs.declared.sled.SledKind.TheVariants.{Entry, Exit, Tail}
+use Rattle.xray_image.specs.declared.unit.Unit.{Unit}
+use Rattle.xray_image.specs.declared.unit.What.TheVariants.{Plain}
+use Rattle.xray_image.specs.Units.{Piece, IsUnits, units_from, SledPlace, places_from}
+use Rattle.xray_image.specs.Container.{Function, MapEntry, Parts, magic, version, base_address, code_length, function_count, entry_count, entry_index, number8_at, parts_of}
+
+-- the handlers' trampolines by the kind of the sleds that call them
+pub record Trampolines : Type 0 where
+  pub entry : ℕ
+  pub exit : ℕ
+  pub tail : ℕ
+
+abbrev pub trampoline_of : Trampolines → SledKind → ℕ
+trampoline_of t Entry = t.entry
+trampoline_of t Exit = t.exit
+trampoline_of t Tail = t.tail
+
+-- a program as the image file tells it: what contracts see of an `Image`
+pub record Program : Type 0 where
+  -- the address of the code's first byte
+  pub base : ℕ
+  -- the address at which threads start
+  pub entry : ℕ
+  pub functions : List Function
+  pub units : List Unit
+  pub sleds : List Sled
+  pub trampolines : Trampolines
+
+-- the addresses at which units begin
+abbrev pub addresses : List Unit → List ℕ
+addresses units = map (λ u. u.address) units
+
+-- ---- functions
+
+-- letters, digits, and _ . $
+abbrev pub is_name_byte : ℕ → Bool
+is_name_byte b =
+    (nat_le 65 b && nat_le b 90) || (nat_le 97 b && nat_le b 122) || (nat_le 48 b && nat_le b 57)
+    || (b == 95) || (b == 46) || (b == 36)
+
+-- the first function begins at the base, each other above the one before it
+abbrev pub BeginsBehind : ℕ → Option Function → ℕ → Type 0
+BeginsBehind base None start = start ≡ base
+BeginsBehind base (Some before) start = before.start < start
+
+-- a function that may stand behind those before it: at a unit, in ascending order, with a name of its own
+pub record IsFunction (base : ℕ) (units : List Unit) (before : List Function) (f : Function) : Type 0 where
+  pub at_unit : Contains (addresses units) f.start
+  pub in_order : BeginsBehind base (last_or None before) f.start
+  pub has_name : f.name ≢ []
+  pub name_bytes : All (λ b. is_name_byte b ≡ true) f.name
+  pub own_name : All (λ g. g.name ≢ f.name) before
+
+abbrev pub AreFunctions : ℕ → List Unit → List Function → Type 0
+AreFunctions base units functions =
+    (i : ℕ) (f : Function) → slice_get functions i ≡ Some f → IsFunction base units (take i functions) f
+
+-- the function that an address lies in is the last one that begins at it or below
+abbrev pub LiesIn : List Function → ℕ → ℕ → Type 0
+LiesIn functions address start =
+    last_or None (map (λ f. f.start) (filter (λ f. nat_le f.start address) functions)) ≡ Some start
+
+-- ---- the sled map
+
+-- the kinds of the map: 0 entry, 1 exit, 2 tail
+abbrev pub kind_of : ℕ → SledKind
+kind_of zero = Entry
+kind_of (suc zero) = Exit
+kind_of (suc (suc n)) = Tail
+
+-- exit sleds begin with a return, entry and tail sleds with a jump
+abbrev pub KindFits : Bool → ℕ → Type 0
+KindFits true kind = kind ≡ 1
+KindFits false kind = (kind ≡ 0) ⊎ (kind ≡ 2)
+
+-- an entry says of the sled at its place what the code says
+pub record IsEntryOf (functions : List Function) (place : SledPlace) (entry : MapEntry) : Type 0 where
+  pub in_function : LiesIn functions place.address entry.function
+  pub kind : KindFits place.returns entry.kind
+  pub known_version : entry.version < 2
+
+-- a patched sled's call or jump reaches the trampoline: its 32 bits count from the sled's end
+abbrev pub Reaches : Trampolines → SledPlace → MapEntry → Type 0
+Reaches trampolines place entry =
+    FitsSigned w32 (pos (trampoline_of trampolines (kind_of entry.kind)) -ℤ pos (place.address + 11))
+
+-- P holds of each place and the entry of the same number
+abbrev pub EachSled : List SledPlace → List MapEntry → (SledPlace → MapEntry → Type 0) → Type 0
+EachSled places entries P =
+    (i : ℕ) (place : SledPlace) (entry : MapEntry)
+    → slice_get places i ≡ Some place → slice_get entries i ≡ Some entry → P place entry
+
+-- the numbers of a list that aren't among those seen, each where it first stands
+abbrev pub distinct : List ℕ → List ℕ → List ℕ
+distinct seen [] = []
+distinct seen (x ∷ xs) = if list_any (λ y. y == x) seen then distinct seen xs else x ∷ distinct (x ∷ seen) xs
+
+-- function ids count from 1 over the functions of the map's entries, in the order of the map
+abbrev pub id_of : List MapEntry → ℕ → ℕ
+id_of entries function = 1 + position_or_len (λ f. f == function) (distinct [] (map (λ e. e.function) entries))
+
+-- the sled at a place, with what its entry says
+abbrev pub sled_of : List MapEntry → SledPlace × MapEntry → Sled
+sled_of entries (place, entry) = record {
+  address = place.address;
+  function = entry.function;
+  id = id_of entries entry.function;
+  kind = kind_of entry.kind;
+  always = not (entry.always == 0);
+  shift = place.shift;
+}
+
+-- ---- branches
+
+-- where a branch goes, as a whole number: the address behind it and the distance that it names
+abbrev pub branch_target : ℕ → Instr → Option ℤ
+branch_target behind (Mov dst imm) = None
+branch_target behind (Add dst src) = None
+branch_target behind (Sub dst src) = None
+branch_target behind (Push reg) = None
+branch_target behind (Pop reg) = None
+branch_target behind (Call rel) = Some (pos behind +ℤ rel)
+branch_target behind (Jmp rel) = Some (pos behind +ℤ rel)
+branch_target behind (Jnz rel) = Some (pos behind +ℤ rel)
+branch_target behind Ret = None
+branch_target behind (Out port) = None
+
+-- each branch among units goes to a unit
+abbrev pub BranchesReach : List Unit → Type 0
+BranchesReach units =
+    (u : Unit) (instr : Instr) → Contains units u → u.what ≡ Plain instr
+    → IfSome (branch_target (u.address + length (spelling instr)) instr)
+    (λ target. (address : ℕ) × (target ≡ pos address) × Contains (addresses units) address)
+
+-- ---- the file
+
+-- what the parts of a file and the pieces of its code say
+abbrev pub program_of : List ℕ → Parts → List Piece → Program
+program_of bytes parts pieces = record {
+  base = base_address bytes;
+  entry = option_map_or (λ f. f.start) (slice_get parts.functions (entry_index bytes)) 0;
+  functions = parts.functions;
+  units = units_from (base_address bytes) 0 pieces;
+  sleds = map (sled_of parts.entries) (zip (places_from (base_address bytes) pieces) parts.entries);
+  trampolines = record { entry = number8_at bytes 32; exit = number8_at bytes 40; tail = number8_at bytes 48 };
+}
+
+-- The bytes are an image file that is accepted, and the program is what it holds.
+pub record IsAccepted (bytes : List ℕ) (program : Program) : Type 0 where
+  pub has_header : 64 ≤ length bytes
+  pub magic_bytes : magic bytes ≡ codes "XRIM"
+  pub first_version : version bytes ≡ 1
+  pub code_limit : code_length bytes ≤ 1048576
+  pub some_function : 0 < function_count bytes
+  pub functions_limit : function_count bytes ≤ 1024
+  pub sleds_limit : entry_count bytes ≤ 4096
+  pub entry_exists : entry_index bytes < function_count bytes
+  pub base_aligned : base_address bytes % 16 ≡ 0
+  pub base_limit : base_address bytes ≤ 0x7FFF00000000
+  pub parts : Parts
+  pub reaches : parts_of bytes ≡ Some parts
+  pub nothing_behind : parts.rest ≡ []
+  pub pieces : List Piece
+  pub units : IsUnits parts.code pieces
+  pub even_sleds : All (λ place. place.address % 2 ≡ 0) (places_from (base_address bytes) pieces)
+  pub functions : AreFunctions (base_address bytes) program.units parts.functions
+  pub map_order : map (λ e. e.sled) parts.entries ≡ map (λ p. p.address) (places_from (base_address bytes) pieces)
+  pub entries : EachSled (places_from (base_address bytes) pieces) parts.entries (IsEntryOf parts.functions)
+  pub near : EachSled (places_from (base_address bytes) pieces) parts.entries (Reaches program.trampolines)
+  pub branches : BranchesReach program.units
+  pub holds : program ≡ program_of bytes parts pieces

@@ -1,0 +1,128 @@
+//! All units of a code, and the sleds among them.
+
+ghost use Rattle.std.specs.Prelude.{◌≡◌, ◌≤◌, ◌<◌, ◌^◌, ◌+◌, ◌%◌, ℕ, List, [], ◌∷◌, ◌++◌, length, map, All, OnOk, IfOk, IfErr};
+ghost use Rattle.xray_image.specs.Units.{Piece, IsUnits, what_of, units_from, places_from};
+ghost use Rattle.xray_image.specs.Reading.{IsEven, HasUnits, IsReadTo};
+ghost use Rattle.xray_image.specs.Views.{piece_of, places_in};
+
+use crate::fault::ImageFault;
+use crate::unit::{Unit, What};
+use crate::unit_reader::{RawUnit, read_unit};
+use std::alloc::Global;
+
+/// A sled as the code alone tells it.
+#[derive(Clone, Copy)]
+pub(crate) struct SledSpot {
+    /// The address of its first byte.
+    pub(crate) address: u64,
+    /// The displacement of its nop.
+    pub(crate) shift: u32,
+    /// Whether it begins with a return, as exit sleds do.
+    pub(crate) returns: bool,
+}
+
+/// The units of a code, and the sleds among them, both in ascending address.
+#[derive(Drop)]
+pub(crate) struct CodeUnits {
+    pub(crate) units: Vec<Unit>,
+    pub(crate) sleds: Vec<SledSpot>,
+}
+
+impl CodeUnits {
+    /// Adds a sled, which has to stand at an even address, and gives its unit.
+    fn add_sled(&mut self, address: u64, shift: u32, returns: bool) -> Result<What, ImageFault>
+        requires { length self.old.sleds.items < 2 ^ 32 }
+        ensures what { IfOk result (λ what. what ≡ What.Sled (length self.old.sleds.items)) }
+        ensures sleds { OnOk result (self.new.sleds.items ≡ self.old.sleds.items
+            ++ record { address = address; shift = shift; returns = returns } ∷ []) }
+        ensures even { OnOk result (address % 2 ≡ 0) }
+        ensures units { self.new.units ≡ self.old.units }
+        ensures only { address % 2 ≡ 0 → IfErr result (λ e. e ≡ ImageFault.NoMemory) }
+    {
+        if !address.is_multiple_of(2) {
+            return Err(ImageFault::NotYet);
+        }
+        let number = self.sleds.len() as u32;
+        self.sleds.push(SledSpot {
+            address,
+            shift,
+            returns,
+        })?;
+        Ok(What::Sled(number))
+    }
+
+    /// What the unit is. A sled is added.
+    fn classify(&mut self, address: u64, raw: RawUnit) -> Result<What, ImageFault>
+        requires { length self.old.sleds.items < 2 ^ 32 }
+        ensures what { IfOk result (λ what.
+            what ≡ what_of (length self.old.sleds.items) (piece_of raw)) }
+        ensures sleds { OnOk result (places_in self.new ≡ places_in self.old
+            ++ places_from address (piece_of raw ∷ [])) }
+        ensures even { OnOk result (All IsEven (places_from address (piece_of raw ∷ []))) }
+        ensures units { self.new.units ≡ self.old.units }
+        ensures only { All IsEven (places_from address (piece_of raw ∷ []))
+            → IfErr result (λ e. e ≡ ImageFault.NoMemory) }
+    {
+        match raw {
+            RawUnit::Instruction(instr) => Ok(What::Plain(instr)),
+            RawUnit::JumpSled(shift) => self.add_sled(address, shift, false),
+            RawUnit::ReturnSled(shift) => self.add_sled(address, shift, true),
+            RawUnit::Align => Ok(What::Pad),
+        }
+    }
+
+    /// Adds the unit at an address.
+    fn add(&mut self, address: u64, raw: RawUnit) -> Result<(), ImageFault>
+        requires { length self.old.sleds.items < 2 ^ 32 }
+        ensures units { OnOk result (self.new.units.items ≡ self.old.units.items
+            ++ units_from address (length self.old.sleds.items) (piece_of raw ∷ [])) }
+        ensures sleds { OnOk result (places_in self.new ≡ places_in self.old
+            ++ places_from address (piece_of raw ∷ [])) }
+        ensures even { OnOk result (All IsEven (places_from address (piece_of raw ∷ []))) }
+        ensures only { All IsEven (places_from address (piece_of raw ∷ []))
+            → IfErr result (λ e. e ≡ ImageFault.NoMemory) }
+    {
+        let what = self.classify(address, raw)?;
+        self.units.push(Unit { address, what })?;
+        Ok(())
+    }
+
+    /// Adds the unit that stands at a place of the code, and gives the place behind it.
+    fn add_next(&mut self, base: u64, code: &[u8], at: usize) -> Result<usize, ImageFault>
+        requires base { base < 2 ^ 63 }
+        requires code { length code.now < 2 ^ 32 }
+        requires left { at < length code.now }
+        requires read { IsReadTo base code.now at self.old.units.items (places_in self.old) }
+        ensures read { IfOk result (λ next.
+            IsReadTo base code.now next self.new.units.items (places_in self.new)) }
+        ensures next { IfOk result (λ next. at < next) }
+        ensures only { (pieces : List Piece) → IsUnits code.now pieces
+            → All IsEven (places_from base pieces) → IfErr result (λ e. e ≡ ImageFault.NoMemory) }
+    {
+        let Some((raw, length)) = read_unit(&code[at..]) else {
+            return Err(ImageFault::NotYet);
+        };
+        self.add(base + at as u64, raw)?;
+        Ok(at + length)
+    }
+
+    /// The units of the code whose first byte has the address `base`.
+    pub(crate) fn read(alloc: Global, base: u64, code: &[u8]) -> Result<CodeUnits, ImageFault>
+        requires base { base < 2 ^ 63 }
+        requires code { length code.now < 2 ^ 32 }
+        ensures found { IfOk result (λ read.
+            HasUnits base code.now read.units.items (places_in read)) }
+        ensures only { (pieces : List Piece) → IsUnits code.now pieces
+            → All IsEven (places_from base pieces) → IfErr result (λ e. e ≡ ImageFault.NoMemory) }
+    {
+        let mut read = CodeUnits {
+            units: Vec::new(alloc),
+            sleds: Vec::new(alloc),
+        };
+        let mut at = 0;
+        while at < code.len() {
+            at = read.add_next(base, code, at)?;
+        }
+        Ok(read)
+    }
+}

@@ -1,0 +1,116 @@
+//! The header of an image file.
+
+ghost use Rattle.std.specs.Prelude.{◌≡◌, ◌↔◌, ◌≤◌, length, IsTrue, IsSome, IfSome};
+
+use crate::fields::{u32_at, u64_at};
+use crate::sled::SledKind;
+
+/// How long the header is in bytes. The code stands behind it.
+pub(crate) const HEADER_LENGTH: usize = 64;
+
+/// The first bytes of an image file.
+const MAGIC: [u8; 4] = [0x58, 0x52, 0x49, 0x4D];
+
+/// The version of the container.
+const VERSION: u32 = 1;
+
+/// The longest code in bytes.
+const CODE_LIMIT: u32 = 1_048_576;
+
+/// The most functions.
+const FUNCTION_LIMIT: u32 = 1024;
+
+/// The most entries of the sled map.
+const ENTRY_LIMIT: u32 = 4096;
+
+/// The base address is a multiple of this, so that sleds at even places have even addresses.
+const BASE_ALIGNMENT: u64 = 16;
+
+/// The highest base address. All code then lies in the lower half of the address space.
+const BASE_LIMIT: u64 = 0x7FFF_0000_0000;
+
+/// The addresses of the handlers' trampolines, by the kind of the sleds that call them.
+#[derive(Clone, Copy, Debug)]
+pub(crate) struct Trampolines {
+    pub(crate) entry: u64,
+    pub(crate) exit: u64,
+    pub(crate) tail: u64,
+}
+
+impl Trampolines {
+    ghost use Rattle.xray_image.specs.Program.{trampoline_of};
+    ghost use Rattle.xray_image.specs.Views.{trampolines_of};
+
+    /// The trampoline of a kind of sleds.
+    pub(crate) fn of(&self, kind: SledKind) -> u64
+        ensures { result ≡ trampoline_of (trampolines_of self.now) kind }
+    {
+        match kind {
+            SledKind::Entry => self.entry,
+            SledKind::Exit => self.exit,
+            SledKind::Tail => self.tail,
+        }
+    }
+}
+
+/// The header's fields.
+#[derive(Clone, Copy)]
+pub(crate) struct Header {
+    version: u32,
+    pub(crate) base: u64,
+    pub(crate) code_length: u32,
+    pub(crate) functions: u32,
+    pub(crate) entries: u32,
+    pub(crate) entry_index: u32,
+    pub(crate) trampolines: Trampolines,
+}
+
+impl Header {
+    ghost use Rattle.xray_image.specs.Header.{HasHeader};
+    ghost use Rattle.xray_image.specs.Views.{IsHeaderOf, IsWithinLimits};
+
+    /// The header that an accepted file begins with. Ok only where each field is within its limits.
+    pub(crate) fn read(bytes: &[u8]) -> Option<Header>
+        ensures accepted { IsSome result ↔ HasHeader bytes.now }
+        ensures fields { IfSome result (IsHeaderOf bytes.now) }
+    {
+        if bytes.len() < HEADER_LENGTH || !bytes.starts_with(&MAGIC) {
+            return None;
+        }
+        let header = Header::fields(bytes);
+        header.is_within_limits().then_some(header)
+    }
+
+    /// The fields, each at its place.
+    fn fields(bytes: &[u8]) -> Header
+        requires { 64 ≤ length bytes.now }
+        ensures { IsHeaderOf bytes.now result }
+    {
+        Header {
+            version: u32_at(bytes, 4),
+            base: u64_at(bytes, 8),
+            code_length: u32_at(bytes, 16),
+            functions: u32_at(bytes, 20),
+            entries: u32_at(bytes, 24),
+            entry_index: u32_at(bytes, 28),
+            trampolines: Trampolines {
+                entry: u64_at(bytes, 32),
+                exit: u64_at(bytes, 40),
+                tail: u64_at(bytes, 48),
+            },
+        }
+    }
+
+    /// Whether each field is within its limits.
+    fn is_within_limits(&self) -> bool
+        ensures { IsTrue result ↔ IsWithinLimits self.now }
+    {
+        self.version == VERSION
+            && self.code_length <= CODE_LIMIT
+            && (1..=FUNCTION_LIMIT).contains(&self.functions)
+            && self.entries <= ENTRY_LIMIT
+            && self.entry_index < self.functions
+            && self.base % BASE_ALIGNMENT == 0
+            && self.base <= BASE_LIMIT
+    }
+}

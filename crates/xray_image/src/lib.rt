@@ -1,0 +1,25 @@
+//! The image of a traced program: the container file with its code, functions and sled map.
+#![tactic(auto)]
+
+mod code_units;
+mod fault;
+mod fields;
+mod first_run;
+mod header;
+mod image;
+mod laws;
+mod parts;
+mod sled;
+mod sled_map;
+mod unit;
+mod unit_index;
+mod unit_reader;
+
+pub use fault::ImageFault;
+pub use image::{Image, read_image};
+pub use laws::{one_reading, one_unit_list};
+pub use sled::{Sled, SledKind};
+pub use unit::{Unit, What};
+
+#[cfg(test)]
+mod tests;

@@ -1,0 +1,5 @@
+pub mod Gathering
+pub mod HexDigits
+pub mod Pieces
+pub mod Reading
+pub mod Writing

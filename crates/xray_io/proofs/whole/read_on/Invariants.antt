@@ -1,0 +1,16 @@
+use Rattle.std.proofs.Common.{◌≡◌, ◌≢◌, ◌+◌, ◌-◌, ◌≤◌, ◌<◌, length}
+use Rattle.xray_io.specs.Desk.{Absent, IsFront}
+use Rattle.xray_io.proofs.whole.read_on.Given as goal
+
+abbrev pub invariant-reading : goal.invariant-reading
+invariant-reading g l = record {
+  front : IsFront (g.D.Desk.held l.fn.desk l.name) l.bytes.items;
+  there : 0 < length l.bytes.items → g.D.Desk.held l.fn.desk l.name ≢ Absent;
+  bound : length l.bytes.items ≤ l.limit + 1;
+  held : g.D.Desk.held l.desk ≡ g.D.Desk.held l.fn.desk;
+  later : g.D.Desk.read_faults l.fn.desk ≤ g.D.Desk.read_faults l.desk;
+  writes : g.D.Desk.write_faults l.desk ≡ g.D.Desk.write_faults l.fn.desk;
+}
+
+abbrev pub decreases-reading : goal.decreases-reading
+decreases-reading g l = l.limit + 1 - length l.bytes.items

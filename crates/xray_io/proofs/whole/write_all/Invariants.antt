@@ -1,0 +1,14 @@
+use Rattle.std.proofs.Common.{◌-◌, ◌≤◌, length, take}
+use Rattle.xray_io.specs.Sink.{Adds}
+use Rattle.xray_io.proofs.whole.write_all.Given as goal
+
+abbrev pub invariant-writing : goal.invariant-writing
+invariant-writing g l = record {
+  within : l.done ≤ length l.bytes;
+  adds : Adds (g.S.Sink.written l.fn.sink) (g.S.Sink.written l.sink) (take l.done l.bytes);
+  later : g.S.Sink.faults l.fn.sink ≤ g.S.Sink.faults l.sink;
+  follows : g.S.Sink.follows l.fn.sink l.sink;
+}
+
+abbrev pub decreases-writing : goal.decreases-writing
+decreases-writing g l = length l.bytes - l.done

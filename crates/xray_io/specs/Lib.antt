@@ -1,0 +1,6 @@
+pub mod Desk
+pub mod Faults
+pub mod Memory
+pub mod Piece
+pub mod Sink
+pub mod Text

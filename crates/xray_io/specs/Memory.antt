@@ -1,0 +1,56 @@
+-- What a desk and a sink in memory show.
+use Rattle.std.specs.Prelude.{ℕ, List, Option, Some, None, Vec}
+use Rattle.std.specs.BTreeMap.{get_by_text}
+use Rattle.std.specs.declared.alloc.Global.{Global}
+use Rattle.xray_io.specs.Desk.{Entry, Absent, Holds}
+use Rattle.xray_io.specs.declared.memory.MemDesk.{MemDesk}
+use Rattle.xray_io.specs.declared.memory.MemSink.{MemSink}
+
+-- what is held of a name that a map was asked for
+abbrev pub entry_of : Option (Vec ℕ Global) → Entry
+entry_of None = Absent
+entry_of (Some bytes) = Holds bytes.items
+
+-- what the desk holds of a name
+abbrev pub desk_entry : MemDesk → List ℕ → Entry
+desk_entry desk name = entry_of (get_by_text desk.names name)
+
+-- the numbers of the calls that are to fail
+abbrev pub desk_failing : MemDesk → List ℕ
+desk_failing desk = desk.calls.failing.items
+
+-- how many calls there were
+abbrev pub desk_calls : MemDesk → ℕ
+desk_calls desk = desk.calls.made
+
+-- how often a growth was refused
+abbrev pub desk_refused : MemDesk → ℕ
+desk_refused desk = desk.refused
+
+-- how many reads have failed
+abbrev pub desk_read_faults : MemDesk → ℕ
+desk_read_faults desk = desk.read_faults
+
+-- how many writes have failed
+abbrev pub desk_write_faults : MemDesk → ℕ
+desk_write_faults desk = desk.write_faults
+
+-- all that the sink was written
+abbrev pub sink_bytes : MemSink → List ℕ
+sink_bytes sink = sink.bytes.items
+
+-- the numbers of the calls that are to fail
+abbrev pub sink_failing : MemSink → List ℕ
+sink_failing sink = sink.calls.failing.items
+
+-- how many calls there were
+abbrev pub sink_calls : MemSink → ℕ
+sink_calls sink = sink.calls.made
+
+-- how many writes have failed
+abbrev pub sink_faults : MemSink → ℕ
+sink_faults sink = sink.faults
+
+-- how often a growth was refused
+abbrev pub sink_refused : MemSink → ℕ
+sink_refused sink = sink.refused

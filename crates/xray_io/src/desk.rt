@@ -1,0 +1,40 @@
+// Named inputs.
+ghost use Rattle.std.specs.Prelude.{◌≡◌, ◌≢◌, ℕ, ◌≤◌, ◌<◌, List, length, take, drop, IfOk, OnOk, IsErrOf};
+ghost use Rattle.xray_io.specs.Desk.{Entry, Absent, Holds};
+ghost use Rattle.xray_io.specs.Faults.{Rose};
+
+use crate::ReadFail;
+
+/// A place that holds bytes under names, as a folder of files does.
+pub trait Desk {
+    /// What the desk tells of a name, by the name's bytes.
+    ghost held: { Self → List ℕ → Entry };
+
+    /// How many reads have failed.
+    ghost read_faults: { Self → ℕ };
+
+    /// How many writes have failed.
+    ghost write_faults: { Self → ℕ };
+
+    /// Reads bytes of `name` from byte `from` (counted from 0) on into the front of `buf`, and
+    /// answers how many. Fewer than `buf` has room for is no sign of the end; none, where `buf`
+    /// isn't empty, is. What `buf` has behind them is of no meaning.
+    ///
+    /// `Missing` comes where the desk tells that it doesn't hold the name, and `Failed` where the
+    /// read failed, which is counted.
+    fn read(&mut self, name: &str, from: u64, buf: &mut [u8]) -> Result<usize, ReadFail>
+        ensures within { IfOk result (λ n. n ≤ length buf.new) }
+        ensures bytes { IfOk result (λ n. (bytes : List ℕ) → held self.old name.now ≡ Holds bytes →
+            take n buf.new ≡ take n (drop from bytes)) }
+        ensures end { IfOk result (λ n. (bytes : List ℕ) → held self.old name.now ≡ Holds bytes →
+            n ≡ 0 → 0 < length buf.new → length bytes ≤ from) }
+        ensures there { OnOk result (held self.old name.now ≢ Absent) }
+        ensures missing { IsErrOf result ReadFail.Missing → held self.old name.now ≡ Absent }
+        ensures no_fault { IsErrOf result ReadFail.Missing →
+            read_faults self.new ≡ read_faults self.old }
+        ensures failed { IsErrOf result ReadFail.Failed →
+            Rose (read_faults self.old) (read_faults self.new) }
+        ensures held { held self.new ≡ held self.old }
+        ensures later { read_faults self.old ≤ read_faults self.new }
+        ensures writes { write_faults self.new ≡ write_faults self.old };
+}

@@ -1,0 +1,37 @@
+// Hexadecimal digits.
+ghost use Rattle.std.specs.Prelude.{◌≡◌, ◌+◌, ◌<◌, false, length, drop};
+ghost use Rattle.std.specs.Fmt.{digit_glyph, digits};
+
+/// How many hexadecimal digits a number of 64 bits has at most.
+pub const MOST_DIGITS: usize = 16;
+
+/// The digit of 0.
+pub const ZERO: u8 = b'0';
+
+/// Writes the digits of a number at the end of the buffer, and answers where they begin.
+pub fn put_digits(n: u64, buffer: &mut [u8; MOST_DIGITS]) -> usize
+    ensures start { result + length (digits 16 false n) ≡ 16 }
+    ensures digits { drop result buffer.new ≡ digits 16 false n }
+{
+    let mut start = MOST_DIGITS;
+    let mut rest = n;
+    'more: loop {
+        start -= 1;
+        buffer[start] = digit(rest % 16);
+        rest /= 16;
+        if rest == 0 {
+            return start;
+        }
+    }
+}
+
+fn digit(value: u64) -> u8
+    requires { value < 16 }
+    ensures { result ≡ digit_glyph false value }
+{
+    if value < 10 {
+        ZERO + value as u8
+    } else {
+        b'a' + (value - 10) as u8
+    }
+}

@@ -1,0 +1,64 @@
+// What a device and the calls over it may answer in place of their result.
+ghost use Rattle.std.specs.Prelude.{◌≡◌};
+ghost use Rattle.xray_io.specs.declared.faults.ReadError.TheVariants.{NoMemory};
+
+use std::alloc::{AllocError, AllocFailed};
+
+/// A device did not do what it was asked to, and counted a fault.
+#[derive(Debug, Clone, Copy, PartialEq, Eq)]
+pub struct Failed;
+
+/// Why a read of a desk gave no bytes.
+#[derive(Debug, Clone, Copy, PartialEq, Eq)]
+pub enum ReadFail {
+    /// The desk tells that it doesn't hold the name. This is no fault.
+    Missing,
+    /// The read failed, and the desk counted a fault of reading.
+    Failed,
+}
+
+/// A wall time: seconds since the epoch, and microseconds below 1,000,000.
+#[derive(Debug, Clone, Copy, PartialEq, Eq)]
+pub struct Wall {
+    pub secs: u64,
+    pub micros: u32,
+}
+
+/// An allocation was refused.
+#[derive(Debug, Clone, Copy, PartialEq, Eq)]
+pub struct NoMemory;
+
+/// A sink failed, and counted a fault. A front of the bytes may have been written.
+#[derive(Debug, Clone, Copy, PartialEq, Eq)]
+pub struct WriteFault;
+
+/// Why a name could not be read whole.
+#[derive(Debug, Clone, Copy, PartialEq, Eq)]
+pub enum ReadError {
+    /// A read failed, or the desk doesn't hold the name.
+    ReadFault,
+    /// The name holds more bytes than the limit.
+    TooLong,
+    /// An allocation was refused.
+    NoMemory,
+}
+
+impl From<AllocError> for ReadError {
+    ghost from_gives = { λ _ error. error ≡ NoMemory };
+
+    fn from(_: AllocError) -> Self {
+        ReadError::NoMemory
+    }
+}
+
+impl From<AllocError> for NoMemory {
+    fn from(_: AllocError) -> Self {
+        NoMemory
+    }
+}
+
+impl<T: Drop> From<AllocFailed<T>> for NoMemory {
+    fn from(_: AllocFailed<T>) -> Self {
+        NoMemory
+    }
+}

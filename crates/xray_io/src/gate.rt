@@ -1,0 +1,21 @@
+// Where an order of threads can be set from outside.
+
+/// What a traced thread and the patcher pass before each of their steps. A gate may wait or count;
+/// it answers nothing and changes no result. Threads share it.
+pub trait Gate {
+    /// Thread `thread` (from 1) is about to make its passing `passing` (from 0) of a sled.
+    fn before(&self, thread: u32, passing: u32);
+
+    /// The patcher is about to make micro step `place` (from 0).
+    fn before_store(&self, place: u64);
+}
+
+/// The gate that is always open: it does nothing.
+#[derive(Debug, Clone, Copy, PartialEq, Eq)]
+pub struct OpenGate;
+
+impl Gate for OpenGate {
+    fn before(&self, _thread: u32, _passing: u32) {}
+
+    fn before_store(&self, _place: u64) {}
+}

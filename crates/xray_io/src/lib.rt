@@ -1,0 +1,29 @@
+//! Bytes in and out: a desk of named inputs, a sink that takes bytes, texts of numbers, and the
+//! gate that a traced thread passes. Each device is a trait whose clauses say what it holds and
+//! how often it has failed. There is one of each in memory, and one over the system.
+#![tactic(auto)]
+
+mod desk;
+mod digits;
+mod faults;
+mod gate;
+mod memory;
+mod piece;
+mod sink;
+mod system;
+mod text;
+mod waiting;
+mod whole;
+
+pub use desk::Desk;
+pub use faults::{Failed, NoMemory, ReadError, ReadFail, Wall, WriteFault};
+pub use gate::{Gate, OpenGate};
+pub use memory::{MemDesk, MemSink};
+pub use piece::Piece;
+pub use sink::Sink;
+pub use system::{ErrSink, FileDesk, OutSink};
+pub use text::{Text, write_pieces};
+pub use whole::{read_whole, write_all};
+
+#[cfg(test)]
+mod tests;

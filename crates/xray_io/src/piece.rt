@@ -1,0 +1,12 @@
+// The parts of a text.
+
+/// A part of a text that is printed without taking memory.
+#[derive(Debug, Clone, Copy, PartialEq, Eq)]
+pub enum Piece<'a> {
+    /// These bytes.
+    Bytes(&'a [u8]),
+    /// A number in decimal digits, without leading zeros.
+    Number(u128),
+    /// A number in lower-case hexadecimal digits, with zeros in front up to `digits` of them.
+    Hex { number: u64, digits: usize },
+}

@@ -1,0 +1,37 @@
+// Outputs.
+ghost use Rattle.std.specs.Prelude.{◌≡◌, ℕ, ◌≤◌, [], List, length, take, Option, IfOk, OnErr};
+ghost use Rattle.xray_io.specs.Faults.{Rose};
+ghost use Rattle.xray_io.specs.Sink.{Adds};
+
+use crate::Failed;
+
+/// A place that takes bytes at its end, as a file that is appended to or a stream does.
+pub trait Sink {
+    /// All that was written, where the sink tells it.
+    ghost written: { Self → Option (List ℕ) };
+
+    /// How many writes have failed.
+    ghost faults: { Self → ℕ };
+
+    /// What stays the same, from one state of the sink to a later one, of what stands behind it.
+    ghost follows: { Self → Self → Type 0 };
+
+    /// Writes a front of `bytes` at the end, and answers how many. None is only an answer for no
+    /// bytes. `Failed` has written nothing and counted a fault.
+    fn write(&mut self, bytes: &[u8]) -> Result<usize, Failed>
+        ensures within { IfOk result (λ n. n ≤ length bytes.now) }
+        ensures taken { IfOk result (λ n.
+            Adds (written self.old) (written self.new) (take n bytes.now)) }
+        ensures goes_on { IfOk result (λ n. n ≡ 0 → bytes.now ≡ []) }
+        ensures same { OnErr result (written self.new ≡ written self.old) }
+        ensures failed { OnErr result (Rose (faults self.old) (faults self.new)) }
+        ensures later { faults self.old ≤ faults self.new }
+        ensures follows { follows self.old self.new };
+
+    /// A sink that nothing is done to follows itself.
+    ghost follows_itself: { (sink : Self) → follows sink sink };
+
+    /// What follows a follower follows.
+    ghost follows_along: { (first second third : Self) →
+        follows first second → follows second third → follows first third };
+}

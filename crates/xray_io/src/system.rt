@@ -1,0 +1,168 @@
+// The edge to the system: files by name, and the standard streams. Their bytes are not told.
+ghost use Rattle.std.specs.Prelude.{◌≡◌, ℕ, ◌≤◌, ◌<◌, [], length, None, IfOk, OnErr};
+ghost use Rattle.xray_io.specs.Desk.{Untold};
+ghost use Rattle.xray_io.specs.Faults.{Rose};
+
+use crate::{Desk, Failed, ReadFail, Sink};
+use std::io::{Read, Seek, SeekFrom, Write};
+use std::rt::Files;
+use std::{fs, io};
+
+/// The files of the system, by path. Each error is a fault, a missing file too.
+///
+/// A file stays open while reads go on where the last one ended, so that a pipe can be read.
+#[derive(Drop)]
+pub struct FileDesk<R: Files> {
+    rt: R,
+    opened: Option<Opened<R::File>>,
+    read_faults: u64,
+    write_faults: u64,
+}
+
+// A file that was read up to a place.
+#[derive(Drop)]
+struct Opened<F> {
+    name: String,
+    file: F,
+    place: u64,
+}
+
+impl<R: Files + AllocGlobal> FileDesk<R> {
+    /// A desk over the files that the runtime reaches.
+    pub fn new(rt: R) -> Self
+        ensures read_faults { ⟦<FileDesk<R> as Desk>⟧.read_faults result ≡ 0 }
+        ensures write_faults { ⟦<FileDesk<R> as Desk>⟧.write_faults result ≡ 0 }
+    {
+        FileDesk {
+            rt,
+            opened: None,
+            read_faults: 0,
+            write_faults: 0,
+        }
+    }
+
+    fn open(&self, name: &str, place: u64) -> io::Result<Opened<R::File>> {
+        let name = String::from_str(self.rt.alloc(), name)?;
+        let mut file = fs::open(&self.rt, name.as_str())?;
+        if place > 0 {
+            file.seek(SeekFrom::Start(place))?;
+        }
+        Ok(Opened { name, file, place })
+    }
+
+    fn read_file(&mut self, name: &str, from: u64, buf: &mut [u8]) -> io::Result<usize>
+        ensures within { IfOk result (λ n. n ≤ length buf.new) }
+        ensures read_faults { self.new.read_faults ≡ self.old.read_faults }
+        ensures write_faults { self.new.write_faults ≡ self.old.write_faults }
+    {
+        let mut opened = match self.opened.take() {
+            Some(opened) if opened.name.as_str() == name && opened.place == from => opened,
+            _ => self.open(name, from)?,
+        };
+        let count = opened.file.read(buf)?;
+        opened.place = from.saturating_add(count as u64);
+        self.opened = Some(opened);
+        Ok(count)
+    }
+}
+
+impl<R: Files + AllocGlobal> Desk for FileDesk<R> {
+    ghost held = { λ _ _. Untold };
+
+    ghost read_faults = { λ desk. desk.read_faults };
+
+    ghost write_faults = { λ desk. desk.write_faults };
+
+    fn read(&mut self, name: &str, from: u64, buf: &mut [u8]) -> Result<usize, ReadFail> {
+        match self.read_file(name, from, buf) {
+            Ok(count) => Ok(count),
+            Err(_) => {
+                self.read_faults = self.read_faults.saturating_add(1);
+                Err(ReadFail::Failed)
+            }
+        }
+    }
+}
+
+/// The standard output, or another stream that text is printed to.
+#[derive(Drop)]
+pub struct OutSink<P> {
+    to: P,
+    faults: u64,
+}
+
+impl<P: Print> OutSink<P> {
+    /// A sink over the standard output, which the runtime prints to.
+    pub fn new(rt: P) -> Self
+        ensures { ⟦<OutSink<P> as Sink>⟧.faults result ≡ 0 }
+    {
+        OutSink { to: rt, faults: 0 }
+    }
+}
+
+impl<P: Print> Sink for OutSink<P> {
+    ghost written = { λ _. None };
+
+    ghost faults = { λ sink. sink.faults };
+
+    ghost follows = { λ _ _. Unit {0} };
+
+    fn write(&mut self, bytes: &[u8]) -> Result<usize, Failed> {
+        write_some(&mut io::writer(&self.to), bytes, &mut self.faults)
+    }
+
+    ghost follows_itself = { λ _. tt };
+
+    ghost follows_along = { λ _ _ _ _ _. tt };
+}
+
+/// The standard error, as `rt.stderr()` gives it.
+#[derive(Drop)]
+pub struct ErrSink<P> {
+    to: P,
+    faults: u64,
+}
+
+impl<P: Print> ErrSink<P> {
+    /// A sink over the standard error.
+    pub fn new(stderr: P) -> Self
+        ensures { ⟦<ErrSink<P> as Sink>⟧.faults result ≡ 0 }
+    {
+        ErrSink {
+            to: stderr,
+            faults: 0,
+        }
+    }
+}
+
+impl<P: Print> Sink for ErrSink<P> {
+    ghost written = { λ _. None };
+
+    ghost faults = { λ sink. sink.faults };
+
+    ghost follows = { λ _ _. Unit {0} };
+
+    fn write(&mut self, bytes: &[u8]) -> Result<usize, Failed> {
+        write_some(&mut io::writer(&self.to), bytes, &mut self.faults)
+    }
+
+    ghost follows_itself = { λ _. tt };
+
+    ghost follows_along = { λ _ _ _ _ _. tt };
+}
+
+// Writes a front of the bytes. An error is a fault, and so is a write that took none of them.
+fn write_some<W: Write>(to: &mut W, bytes: &[u8], faults: &mut u64) -> Result<usize, Failed>
+    ensures within { IfOk result (λ n. n ≤ length bytes.now) }
+    ensures goes_on { IfOk result (λ n. n ≡ 0 → bytes.now ≡ []) }
+    ensures failed { OnErr result (Rose faults.old faults.new) }
+    ensures later { faults.old ≤ faults.new }
+{
+    match to.write(bytes) {
+        Ok(count) if count > 0 || bytes.is_empty() => Ok(count),
+        _ => {
+            *faults = faults.saturating_add(1);
+            Err(Failed)
+        }
+    }
+}

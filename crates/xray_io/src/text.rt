@@ -1,0 +1,220 @@
+// Text, gathered on its way to a sink.
+ghost use Rattle.std.specs.Prelude.{◌≡◌, ℕ, ◌+◌, ◌<◌, ◌≤◌, ◌++◌, [], List, length, replicate, Option, OnOk, OnErr};
+ghost use Rattle.std.specs.Fmt.{decimal};
+ghost use Rattle.xray_io.specs.Piece.{piece_text, text_of, hexadecimal};
+ghost use Rattle.xray_io.specs.Faults.{Rose};
+ghost use Rattle.xray_io.specs.Sink.{Adds, AddsPrefix};
+
+use crate::digits::{MOST_DIGITS, ZERO, put_digits};
+use crate::waiting::Waiting;
+use crate::{Piece, Sink, WriteFault, write_all};
+
+/// Text on its way to a sink. It is gathered in an array, so that the sink gets few writes and no
+/// memory is taken. After the last part, `done` writes what still waits; a `Text` that is
+/// dropped before has written a front of its text alone.
+///
+/// Once a call has failed, the text has a hole: nothing is said of the calls after it.
+#[derive(Drop)]
+pub struct Text<'a, S> {
+    sink: &'a mut S,
+    waiting: Waiting,
+}
+
+impl<'a, S: Sink> Text<'a, S> {
+    ghost use Rattle.xray_io.specs.Text.{sink_of, loan_of, waiting, Gathers, Gains, Breaks};
+
+    /// An empty text for this sink.
+    pub fn new(sink: &'a mut S) -> Self
+        ensures empty { Gathers S.written (S.written sink.old) result [] }
+        ensures sink { sink_of result ≡ sink.old }
+        ensures loan { loan_of result ≡ sink.entry.ghost_name }
+    {
+        Text {
+            sink,
+            waiting: Waiting::new(),
+        }
+    }
+
+    // Writes what waits.
+    fn flush(&mut self) -> Result<(), WriteFault>
+        ensures empty { OnOk result (waiting self.new ≡ []) }
+        ensures gains { OnOk result (Gains S.written self.old self.new []) }
+        ensures breaks { OnErr result (Breaks S.written self.old (sink_of self.new) []) }
+        ensures failed { OnErr result
+            (Rose (S.faults (sink_of self.old)) (S.faults (sink_of self.new))) }
+        ensures later { S.faults (sink_of self.old) ≤ S.faults (sink_of self.new) }
+        ensures follows { S.follows (sink_of self.old) (sink_of self.new) }
+        ensures loan { loan_of self.new ≡ loan_of self.old }
+    {
+        write_all(self.sink, self.waiting.as_slice())?;
+        self.waiting.clear();
+        Ok(())
+    }
+
+    // Writes what waits, where there is no room for this many bytes beside it.
+    fn make_room(&mut self, len: usize) -> Result<(), WriteFault>
+        ensures room { OnOk result (4096 < length (waiting self.new) + len →
+            waiting self.new ≡ []) }
+        ensures gains { OnOk result (Gains S.written self.old self.new []) }
+        ensures breaks { OnErr result (Breaks S.written self.old (sink_of self.new) []) }
+        ensures failed { OnErr result
+            (Rose (S.faults (sink_of self.old)) (S.faults (sink_of self.new))) }
+        ensures later { S.faults (sink_of self.old) ≤ S.faults (sink_of self.new) }
+        ensures follows { S.follows (sink_of self.old) (sink_of self.new) }
+        ensures loan { loan_of self.new ≡ loan_of self.old }
+    {
+        if len > self.waiting.room() {
+            return self.flush();
+        }
+        Ok(())
+    }
+
+    // Keeps bytes that there is room for, and writes bytes that there never is.
+    fn put(&mut self, bytes: &[u8]) -> Result<(), WriteFault>
+        requires room { 4096 < length (waiting self.old) + length bytes.now →
+            waiting self.old ≡ [] }
+        ensures gains { OnOk result (Gains S.written self.old self.new bytes.now) }
+        ensures breaks { OnErr result (Breaks S.written self.old (sink_of self.new) bytes.now) }
+        ensures failed { OnErr result
+            (Rose (S.faults (sink_of self.old)) (S.faults (sink_of self.new))) }
+        ensures later { S.faults (sink_of self.old) ≤ S.faults (sink_of self.new) }
+        ensures follows { S.follows (sink_of self.old) (sink_of self.new) }
+        ensures loan { loan_of self.new ≡ loan_of self.old }
+    {
+        if bytes.len() > self.waiting.room() {
+            return write_all(self.sink, bytes);
+        }
+        self.waiting.add(bytes);
+        Ok(())
+    }
+
+    /// Adds these bytes.
+    pub fn bytes(&mut self, bytes: &[u8]) -> Result<(), WriteFault>
+        ensures gains { OnOk result (Gains S.written self.old self.new bytes.now) }
+        ensures breaks { OnErr result (Breaks S.written self.old (sink_of self.new) bytes.now) }
+        ensures failed { OnErr result
+            (Rose (S.faults (sink_of self.old)) (S.faults (sink_of self.new))) }
+        ensures later { S.faults (sink_of self.old) ≤ S.faults (sink_of self.new) }
+        ensures follows { S.follows (sink_of self.old) (sink_of self.new) }
+        ensures loan { loan_of self.new ≡ loan_of self.old }
+    {
+        self.make_room(bytes.len())?;
+        self.put(bytes)
+    }
+
+    /// Adds a number in decimal digits, without leading zeros.
+    pub fn number(&mut self, n: u128) -> Result<(), WriteFault>
+        ensures gains { OnOk result (Gains S.written self.old self.new (decimal n)) }
+        ensures breaks { OnErr result (Breaks S.written self.old (sink_of self.new) (decimal n)) }
+        ensures failed { OnErr result
+            (Rose (S.faults (sink_of self.old)) (S.faults (sink_of self.new))) }
+        ensures later { S.faults (sink_of self.old) ≤ S.faults (sink_of self.new) }
+        ensures follows { S.follows (sink_of self.old) (sink_of self.new) }
+        ensures loan { loan_of self.new ≡ loan_of self.old }
+    {
+        let mut digits = itoa::Buffer::new();
+        self.bytes(digits.format(n).as_bytes())
+    }
+
+    // Adds this many zeros.
+    fn zeros(&mut self, count: usize) -> Result<(), WriteFault>
+        ensures gains { OnOk result (Gains S.written self.old self.new (replicate count ZERO)) }
+        ensures breaks { OnErr result
+            (Breaks S.written self.old (sink_of self.new) (replicate count ZERO)) }
+        ensures failed { OnErr result
+            (Rose (S.faults (sink_of self.old)) (S.faults (sink_of self.new))) }
+        ensures later { S.faults (sink_of self.old) ≤ S.faults (sink_of self.new) }
+        ensures follows { S.follows (sink_of self.old) (sink_of self.new) }
+        ensures loan { loan_of self.new ≡ loan_of self.old }
+    {
+        for done in 0..count {
+            self.bytes(&[ZERO])?;
+        }
+        Ok(())
+    }
+
+    /// Adds a number in lower-case hexadecimal digits, with zeros in front up to `digits` of them.
+    pub fn hex(&mut self, n: u64, digits: usize) -> Result<(), WriteFault>
+        ensures gains { OnOk result (Gains S.written self.old self.new (hexadecimal n digits)) }
+        ensures breaks { OnErr result
+            (Breaks S.written self.old (sink_of self.new) (hexadecimal n digits)) }
+        ensures failed { OnErr result
+            (Rose (S.faults (sink_of self.old)) (S.faults (sink_of self.new))) }
+        ensures later { S.faults (sink_of self.old) ≤ S.faults (sink_of self.new) }
+        ensures follows { S.follows (sink_of self.old) (sink_of self.new) }
+        ensures loan { loan_of self.new ≡ loan_of self.old }
+    {
+        let mut buffer = [0; MOST_DIGITS];
+        let start = put_digits(n, &mut buffer);
+        self.zeros(digits.saturating_sub(MOST_DIGITS - start))?;
+        self.bytes(&buffer[start..])
+    }
+
+    /// Adds a piece.
+    pub fn piece(&mut self, piece: &Piece) -> Result<(), WriteFault>
+        ensures gains { OnOk result (Gains S.written self.old self.new (piece_text piece.now)) }
+        ensures breaks { OnErr result
+            (Breaks S.written self.old (sink_of self.new) (piece_text piece.now)) }
+        ensures failed { OnErr result
+            (Rose (S.faults (sink_of self.old)) (S.faults (sink_of self.new))) }
+        ensures later { S.faults (sink_of self.old) ≤ S.faults (sink_of self.new) }
+        ensures follows { S.follows (sink_of self.old) (sink_of self.new) }
+        ensures loan { loan_of self.new ≡ loan_of self.old }
+    {
+        match *piece {
+            Piece::Bytes(bytes) => self.bytes(bytes),
+            Piece::Number(n) => self.number(n),
+            Piece::Hex { number, digits } => self.hex(number, digits),
+        }
+    }
+
+    /// Adds pieces, one behind the other.
+    pub fn pieces(&mut self, pieces: &[Piece]) -> Result<(), WriteFault>
+        ensures gains { OnOk result (Gains S.written self.old self.new (text_of pieces.now)) }
+        ensures breaks { OnErr result
+            (Breaks S.written self.old (sink_of self.new) (text_of pieces.now)) }
+        ensures failed { OnErr result
+            (Rose (S.faults (sink_of self.old)) (S.faults (sink_of self.new))) }
+        ensures later { S.faults (sink_of self.old) ≤ S.faults (sink_of self.new) }
+        ensures follows { S.follows (sink_of self.old) (sink_of self.new) }
+        ensures loan { loan_of self.new ≡ loan_of self.old }
+    {
+        for piece in pieces {
+            self.piece(piece)?;
+        }
+        Ok(())
+    }
+
+    /// Writes what still waits. Then the sink has all of the text.
+    pub fn done(self) -> Result<(), WriteFault>
+        ensures all { OnOk result ((start : Option (List ℕ)) (given : List ℕ) →
+            Gathers S.written start self.entry given →
+            Adds start (S.written self.exit.0.now) given) }
+        ensures breaks { OnErr result ((start : Option (List ℕ)) (given : List ℕ) →
+            Gathers S.written start self.entry given →
+            AddsPrefix start (S.written self.exit.0.now) given) }
+        ensures failed { OnErr result
+            (Rose (S.faults (sink_of self.entry)) (S.faults self.exit.0.now)) }
+        ensures later { S.faults (sink_of self.entry) ≤ S.faults self.exit.0.now }
+        ensures follows { S.follows (sink_of self.entry) self.exit.0.now }
+    {
+        let Text { sink, waiting } = self;
+        write_all(sink, waiting.as_slice())
+    }
+}
+
+/// Writes the text of these pieces. On `WriteFault` a front of it was written, and the sink counted
+/// a fault.
+pub fn write_pieces<S: Sink>(sink: &mut S, pieces: &[Piece]) -> Result<(), WriteFault>
+    ensures all { OnOk result
+        (Adds (S.written sink.old) (S.written sink.new) (text_of pieces.now)) }
+    ensures front { OnErr result
+        (AddsPrefix (S.written sink.old) (S.written sink.new) (text_of pieces.now)) }
+    ensures failed { OnErr result (Rose (S.faults sink.old) (S.faults sink.new)) }
+    ensures later { S.faults sink.old ≤ S.faults sink.new }
+    ensures follows { S.follows sink.old sink.new }
+{
+    let mut text = Text::new(sink);
+    text.pieces(pieces)?;
+    text.done()
+}

@@ -1,0 +1,61 @@
+// Bytes that wait to be written, in an array.
+ghost use Rattle.std.specs.Prelude.{◌≡◌, ℕ, ◌+◌, ◌≤◌, [], ◌++◌, List, length, take};
+
+use std::marker::Model;
+
+/// How many bytes may wait.
+const ROOM: usize = 4096;
+
+#[derive(Drop)]
+pub struct Waiting {
+    bytes: [u8; ROOM],
+    len: usize,
+}
+
+impl Model for Waiting {
+    ghost Value = { List ℕ };
+
+    ghost view = { λ waiting. take waiting.len waiting.bytes };
+
+    ghost invariant = { λ waiting. waiting.len ≤ 4096 };
+}
+
+impl Waiting {
+    pub fn new() -> Self
+        ensures { result ≡ [] }
+    {
+        Waiting {
+            bytes: [0; ROOM],
+            len: 0,
+        }
+    }
+
+    pub fn as_slice(&self) -> &[u8]
+        ensures { result.now ≡ self.now }
+    {
+        &self.bytes[..self.len]
+    }
+
+    /// How many more there is room for.
+    pub fn room(&self) -> usize
+        ensures { result + length self.now ≡ 4096 }
+    {
+        ROOM - self.len
+    }
+
+    /// Adds bytes that there is room for.
+    pub fn add(&mut self, more: &[u8])
+        requires { length self.old + length more.now ≤ 4096 }
+        ensures { self.new ≡ self.old ++ more.now }
+    {
+        let end = self.len + more.len();
+        self.bytes[self.len..end].copy_from_slice(more);
+        self.len = end;
+    }
+
+    pub fn clear(&mut self)
+        ensures { self.new ≡ [] }
+    {
+        self.len = 0;
+    }
+}

@@ -1,0 +1,13 @@
+use Rattle.std.proofs.Common.{◌≡◌, ℕ, List}
+use Rattle.xray_image.specs.Program.{Program}
+use Rattle.step_sim.specs.Replay.{Moment, thread_turn, turns}
+use Rattle.xray_program.specs.FirstRun.{first_script, one_thread}
+use Rattle.xray_program.specs.Standing.{IsPatcherAt, IsThreadAt}
+use Rattle.xray_program.proofs.replay.thread.Thread.make_loads.Given as goal
+
+abbrev pub invariant-loop-load : goal.invariant-loop-load
+invariant-loop-load l =
+    (l.self.handler_word ≡ l.initial.self.handler_word)
+    × ((program : Program) (passed : List ℕ) (moment : Moment)
+    → IsPatcherAt program moment.place l.patcher → IsThreadAt program passed moment l.initial.self
+    → IsThreadAt program passed (turns l._load (thread_turn (one_thread program first_script passed) 1) moment) l.self)

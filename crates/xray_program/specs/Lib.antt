@@ -1,0 +1,17 @@
+pub mod Words
+pub mod Inputs
+pub mod FirstRun
+pub mod Meaning
+pub mod Answers
+pub mod Commands
+pub mod Stops
+pub mod Takes
+pub mod Calls
+pub mod Lines
+pub mod Straight
+pub mod Stores
+pub mod Passing
+pub mod Standing
+pub mod Marks
+pub mod Shown
+pub mod Jobs

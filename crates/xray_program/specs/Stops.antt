@@ -1,0 +1,40 @@
+-- What ends a call before all is done: its status, its line on err, and what stands behind it.
+use Rattle.std.specs.Prelude.{ℕ, List, Result, Ok, Err, codes}
+use Rattle.xray_program.specs.declared.stop.Kind.{Kind}
+use Rattle.xray_program.specs.declared.stop.Kind.TheVariants.{Image, Script, Schedule}
+use Rattle.xray_program.specs.declared.stop.Refusal.{Refusal}
+use Rattle.xray_program.specs.declared.stop.Refusal.TheVariants.{NotYet}
+use Rattle.xray_program.specs.declared.stop.Stop.{Stop}
+use Rattle.xray_program.specs.declared.stop.Stop.TheVariants as stops
+use Rattle.xray_program.specs.Meaning.{BadLine, Unread, Refused, line_of, write_fault_line, memory_line}
+
+-- the word for a kind of input
+abbrev pub kind_text : Kind → List ℕ
+kind_text Image = codes "image"
+kind_text Script = codes "script"
+kind_text Schedule = codes "schedule"
+
+-- the words for what is wrong
+abbrev pub refusal_text : Refusal → List ℕ
+refusal_text NotYet = codes "NotYet"
+
+-- the status
+abbrev pub stop_status : Stop → ℕ
+stop_status stops.BadLine = 1
+stop_status (stops.Refused name kind refusal) = 2
+stop_status (stops.Unread name) = 3
+stop_status stops.Unwritten = 4
+stop_status stops.NoMemory = 5
+
+-- the line on err
+abbrev pub stop_line : Stop → List ℕ
+stop_line stops.BadLine = line_of BadLine
+stop_line (stops.Refused name kind refusal) = line_of (Refused name.now (kind_text kind) (refusal_text refusal))
+stop_line (stops.Unread name) = line_of (Unread name.now)
+stop_line stops.Unwritten = write_fault_line (codes "output")
+stop_line stops.NoMemory = memory_line
+
+-- the status of a call that went so
+abbrev pub answer_of : {X : Type 0} → Result X Stop → ℕ
+answer_of (Ok value) = 0
+answer_of (Err stop) = stop_status stop

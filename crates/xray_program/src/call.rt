@@ -1,0 +1,185 @@
+//! The top call.
+ghost use Rattle.std.specs.Prelude.{◌≡◌, ◌≢◌, ◌⊎◌, ◌↔◌, ◌≤◌, ℕ, [], ◌∷◌, List, None, IfOk, IfErr, OnOk, codes};
+ghost use Rattle.xray_io.specs.Desk.{Absent, Holds};
+ghost use Rattle.xray_program.specs.Answers.{LeavesText, Reports, CouldNotRead, CouldNotWrite, IsSimulated, IsAnswer};
+ghost use Rattle.xray_program.specs.Calls.{StopsCall};
+ghost use Rattle.xray_program.specs.Commands.{command_of};
+ghost use Rattle.xray_program.specs.Jobs.{job_text};
+ghost use Rattle.xray_program.specs.Meaning.{Outcome, Done, Comes, Means, Says, TellsAll, memory_line, write_fault_line};
+ghost use Rattle.xray_program.specs.Stops.{answer_of};
+ghost use Rattle.xray_program.specs.Takes.{IsAnswerSoFar, Stops};
+ghost use Rattle.xray_program.specs.Words.{reading, texts};
+
+use crate::sim::{Job, prepare_sim};
+use crate::stop::Stop;
+use crate::words::{Command, read_words};
+use std::alloc::Global;
+use std::sync::Wait;
+use std::thread::Threads;
+use xray_io::{Desk, Gate, Sink, Wall, WriteFault};
+
+/// Does what `words` say, which don't hold the program's own name, with the files of `desk`. It answers the program's
+/// status: 0 where all is done; 1 where the words say no command; 2 where an input isn't of its form; 3 where an input
+/// can't be read; 4 where `out` fails; 5 where memory runs out. On 1 to 5 a line on `err` says so. It waits for nobody.
+pub fn xray_still<D: Desk, O: Sink, E: Sink>(
+    alloc: Global,
+    words: &[String],
+    _wall: Wall,
+    desk: &mut D,
+    out: &mut O,
+    err: &mut E,
+) -> u8
+    // No other status comes.
+    ensures status { result ≤ 5 }
+
+    // 0: out got exactly the text that the words mean, and err nothing.
+    ensures done { result ≡ 0 → LeavesText (texts words.now) (D.held desk.old)
+        (O.written out.old) (O.written out.new) }
+    ensures silent { result ≡ 0 → E.written err.new ≡ E.written err.old }
+
+    // 1 tells of the words alone. The words mean a 1 or a 2, and err tells of it.
+    ensures bad_line { (result ≡ 1) ↔ (reading (texts words.now) ≡ None) }
+    ensures refused { (result ≡ 1) ⊎ (result ≡ 2) → Reports (texts words.now) (D.held desk.old)
+        result (E.faults err.old) (E.faults err.new) (E.written err.old) (E.written err.new) }
+
+    // 3 names an input whose turn had come, 4 the output, and 5 want of memory.
+    ensures unread { result ≡ 3 → CouldNotRead (texts words.now) (D.held desk.old)
+        (D.read_faults desk.old) (D.read_faults desk.new)
+        (E.faults err.old) (E.faults err.new) (E.written err.old) (E.written err.new) }
+    ensures unwritten { result ≡ 4 → CouldNotWrite (texts words.now) (D.held desk.old)
+        (O.faults out.old) (O.faults out.new) (O.written out.old) (O.written out.new) }
+    ensures unwritten_line { result ≡ 4 → Says (E.faults err.old) (E.faults err.new)
+        (E.written err.old) (E.written err.new) (write_fault_line (codes "output")) }
+    ensures memory { result ≡ 5 → Says (E.faults err.old) (E.faults err.new)
+        (E.written err.old) (E.written err.new) memory_line }
+
+    // What stays the same: out but on 0 and 4, and the desk always.
+    ensures untouched { result ≢ 0 → result ≢ 4 → O.written out.new ≡ O.written out.old }
+    ensures names { D.held desk.new ≡ D.held desk.old }
+
+    // What the words mean comes, unless memory runs out or a fault is counted.
+    ensures complete { (outcome : Outcome) → TellsAll (D.held desk.old)
+        → Means (texts words.now) (D.held desk.old) outcome
+        → IsAnswer outcome (D.read_faults desk.old) (D.read_faults desk.new)
+        (O.faults out.old) (O.faults out.new) result }
+
+    // With status 0 the state text of the replay is on out.
+    ensures headline { result ≡ 0 → (i s c image script schedule : List ℕ)
+        → texts words.now ≡ codes "sim" ∷ i ∷ s ∷ c ∷ [] → D.held desk.old i ≡ Holds image
+        → D.held desk.old s ≡ Holds script → D.held desk.old c ≡ Holds schedule
+        → IsSimulated image script schedule (O.written out.old) (O.written out.new) }
+{
+    match perform(alloc, words, desk, out) {
+        Ok(()) => 0,
+        Err(stop) => {
+            stop.report(err);
+            stop.status()
+        }
+    }
+}
+
+/// Does what `words` say, which don't hold the program's own name, with the files of `desk`, and answers the program's
+/// status as `xray_still` does. Commands that start threads start them through `rt`, and their threads and patcher pass
+/// `gate`; all others, and so each that is here, are `xray_still`.
+pub fn xray<T: Threads + Wait + Sync, D: Desk, O: Sink, E: Sink, G: Gate + Sync>(
+    _rt: &T,
+    alloc: Global,
+    words: &[String],
+    wall: Wall,
+    desk: &mut D,
+    out: &mut O,
+    err: &mut E,
+    _gate: &G,
+) -> u8
+    // No other status comes.
+    ensures status { result ≤ 5 }
+
+    // 0: out got exactly the text that the words mean, and err nothing.
+    ensures done { result ≡ 0 → LeavesText (texts words.now) (D.held desk.old)
+        (O.written out.old) (O.written out.new) }
+    ensures silent { result ≡ 0 → E.written err.new ≡ E.written err.old }
+
+    // 1 tells of the words alone. The words mean a 1 or a 2, and err tells of it.
+    ensures bad_line { (result ≡ 1) ↔ (reading (texts words.now) ≡ None) }
+    ensures refused { (result ≡ 1) ⊎ (result ≡ 2) → Reports (texts words.now) (D.held desk.old)
+        result (E.faults err.old) (E.faults err.new) (E.written err.old) (E.written err.new) }
+
+    // 3 names an input whose turn had come, 4 the output, and 5 want of memory.
+    ensures unread { result ≡ 3 → CouldNotRead (texts words.now) (D.held desk.old)
+        (D.read_faults desk.old) (D.read_faults desk.new)
+        (E.faults err.old) (E.faults err.new) (E.written err.old) (E.written err.new) }
+    ensures unwritten { result ≡ 4 → CouldNotWrite (texts words.now) (D.held desk.old)
+        (O.faults out.old) (O.faults out.new) (O.written out.old) (O.written out.new) }
+    ensures unwritten_line { result ≡ 4 → Says (E.faults err.old) (E.faults err.new)
+        (E.written err.old) (E.written err.new) (write_fault_line (codes "output")) }
+    ensures memory { result ≡ 5 → Says (E.faults err.old) (E.faults err.new)
+        (E.written err.old) (E.written err.new) memory_line }
+
+    // What stays the same: out but on 0 and 4, and the desk always.
+    ensures untouched { result ≢ 0 → result ≢ 4 → O.written out.new ≡ O.written out.old }
+    ensures names { D.held desk.new ≡ D.held desk.old }
+
+    // What the words mean comes, unless memory runs out or a fault is counted.
+    ensures complete { (outcome : Outcome) → TellsAll (D.held desk.old)
+        → Means (texts words.now) (D.held desk.old) outcome
+        → IsAnswer outcome (D.read_faults desk.old) (D.read_faults desk.new)
+        (O.faults out.old) (O.faults out.new) result }
+
+    // With status 0 the state text of the replay is on out.
+    ensures headline { result ≡ 0 → (i s c image script schedule : List ℕ)
+        → texts words.now ≡ codes "sim" ∷ i ∷ s ∷ c ∷ [] → D.held desk.old i ≡ Holds image
+        → D.held desk.old s ≡ Holds script → D.held desk.old c ≡ Holds schedule
+        → IsSimulated image script schedule (O.written out.old) (O.written out.new) }
+{
+    xray_still(alloc, words, wall, desk, out, err)
+}
+
+/// Does what the words say, but for the line on err.
+fn perform<'a, D: Desk, O: Sink>(
+    alloc: Global,
+    words: &'a [String],
+    desk: &mut D,
+    out: &mut O,
+) -> Result<(), Stop<'a>>
+    ensures done { OnOk result (LeavesText (texts words.now) (D.held desk.old)
+        (O.written out.old) (O.written out.new)) }
+    ensures stops { IfErr result (StopsCall (texts words.now) (D.held desk.old)
+        (D.read_faults desk.old) (D.read_faults desk.new)
+        (O.faults out.old) (O.faults out.new) (O.written out.old) (O.written out.new)) }
+    ensures complete { (outcome : Outcome) → TellsAll (D.held desk.old)
+        → Means (texts words.now) (D.held desk.old) outcome
+        → IsAnswer outcome (D.read_faults desk.old) (D.read_faults desk.new)
+        (O.faults out.old) (O.faults out.new) (answer_of result) }
+    ensures held { D.held desk.new ≡ D.held desk.old }
+{
+    let Some(command) = read_words(words) else {
+        return Err(Stop::BadLine);
+    };
+    let job = prepare(alloc, desk, command)?;
+    match job.deliver(out) {
+        Ok(()) => Ok(()),
+        Err(WriteFault) => Err(Stop::Unwritten),
+    }
+}
+
+/// Takes the inputs of a command, and does all of its work but to write its outputs.
+fn prepare<'a, D: Desk>(alloc: Global, desk: &mut D, command: Command<'a>) -> Result<Job, Stop<'a>>
+    ensures ready { IfOk result (λ job. Comes (λ name. D.held desk.old name ≡ Absent)
+        (D.held desk.old) (command_of command.entry) (Done [] (job_text job))) }
+    ensures stops { IfErr result (Stops
+        (λ fails. Comes fails (D.held desk.old) (command_of command.entry))
+        (D.held desk.old) (D.read_faults desk.old) (D.read_faults desk.new)) }
+    ensures complete { (outcome : Outcome) → TellsAll (D.held desk.old)
+        → Comes (λ name. D.held desk.old name ≡ Absent)
+        (D.held desk.old) (command_of command.entry) outcome
+        → IsAnswerSoFar (D.read_faults desk.old) (D.read_faults desk.new) outcome (answer_of result) }
+    ensures held { D.held desk.new ≡ D.held desk.old }
+{
+    match command {
+        Command::Sim {
+            image,
+            script,
+            schedule,
+        } => prepare_sim(alloc, desk, image, script, schedule),
+    }
+}

@@ -1,0 +1,123 @@
+//! The inputs in their turn: each is read, measured and judged before the next is opened.
+ghost use Rattle.std.specs.Prelude.{◌≡◌, ◌<◌, ◌≤◌, length, IfOk, IfErr, OnOk};
+ghost use Rattle.xray_program.specs.FirstRun.{first_script};
+ghost use Rattle.xray_program.specs.Inputs.{ReadsImage, ReadsScript, ReadsSchedule};
+ghost use Rattle.xray_program.specs.Takes.{Fails, Gives, GivesBytes, ReadsAsNone};
+
+use crate::early::Early;
+use crate::early_schedule::read_schedule;
+use crate::early_script::read_script;
+use crate::stop::{Kind, Refusal, Stop};
+use std::alloc::Global;
+use step_sim::Turns;
+use xray_image::{Image, ImageFault, read_image};
+use xray_io::{Desk, ReadError, read_whole};
+
+/// How many bytes an image file has at most.
+const IMAGE_LIMIT: u64 = 4_194_304;
+
+/// How many bytes a script has at most.
+const SCRIPT_LIMIT: u64 = 1_048_576;
+
+/// How many bytes a schedule has at most.
+const SCHEDULE_LIMIT: u64 = 16_777_216;
+
+/// Takes an image file.
+pub(crate) fn take_image<'a, D: Desk>(
+    alloc: Global,
+    desk: &mut D,
+    name: &'a str,
+) -> Result<Image, Stop<'a>>
+    ensures gives { IfOk result (Gives ReadsImage (D.held desk.old name.now)) }
+    ensures fails { IfErr result (Fails (ReadsAsNone ReadsImage) Kind.Image
+        (D.held desk.old) name.now (D.read_faults desk.old) (D.read_faults desk.new)) }
+    ensures held { D.held desk.new ≡ D.held desk.old }
+    ensures later { D.read_faults desk.old ≤ D.read_faults desk.new }
+{
+    let bytes = take_bytes(alloc, desk, name, Kind::Image, IMAGE_LIMIT)?;
+    match read_image(alloc, &bytes) {
+        Ok(image) => Ok(image),
+        Err(ImageFault::NotYet) => Err(Stop::Refused {
+            name,
+            kind: Kind::Image,
+            refusal: Refusal::NotYet,
+        }),
+        Err(ImageFault::NoMemory) => Err(Stop::NoMemory),
+    }
+}
+
+/// Takes a script, which is the one that is run.
+pub(crate) fn take_script<'a, D: Desk>(
+    alloc: Global,
+    desk: &mut D,
+    name: &'a str,
+) -> Result<(), Stop<'a>>
+    ensures gives { OnOk result (Gives ReadsScript (D.held desk.old name.now) first_script) }
+    ensures fails { IfErr result (Fails (ReadsAsNone ReadsScript) Kind.Script
+        (D.held desk.old) name.now (D.read_faults desk.old) (D.read_faults desk.new)) }
+    ensures held { D.held desk.new ≡ D.held desk.old }
+    ensures later { D.read_faults desk.old ≤ D.read_faults desk.new }
+{
+    let bytes = take_bytes(alloc, desk, name, Kind::Script, SCRIPT_LIMIT)?;
+    match read_script(&bytes) {
+        Ok(()) => Ok(()),
+        Err(Early::NotYet) => Err(Stop::Refused {
+            name,
+            kind: Kind::Script,
+            refusal: Refusal::NotYet,
+        }),
+        Err(Early::NoMemory) => Err(Stop::NoMemory),
+    }
+}
+
+/// Takes a schedule.
+pub(crate) fn take_schedule<'a, D: Desk>(
+    alloc: Global,
+    desk: &mut D,
+    name: &'a str,
+) -> Result<Vec<Turns>, Stop<'a>>
+    ensures gives { IfOk result (λ turns.
+        Gives ReadsSchedule (D.held desk.old name.now) turns.items) }
+    ensures fails { IfErr result (Fails (ReadsAsNone ReadsSchedule) Kind.Schedule
+        (D.held desk.old) name.now (D.read_faults desk.old) (D.read_faults desk.new)) }
+    ensures held { D.held desk.new ≡ D.held desk.old }
+    ensures later { D.read_faults desk.old ≤ D.read_faults desk.new }
+{
+    let bytes = take_bytes(alloc, desk, name, Kind::Schedule, SCHEDULE_LIMIT)?;
+    match read_schedule(alloc, &bytes) {
+        Ok(turns) => Ok(turns),
+        Err(Early::NotYet) => Err(Stop::Refused {
+            name,
+            kind: Kind::Schedule,
+            refusal: Refusal::NotYet,
+        }),
+        Err(Early::NoMemory) => Err(Stop::NoMemory),
+    }
+}
+
+/// Reads the bytes of an input. More than `limit` of them are not of its form.
+fn take_bytes<'a, D: Desk>(
+    alloc: Global,
+    desk: &mut D,
+    name: &'a str,
+    kind: Kind,
+    limit: u64,
+) -> Result<Vec<u8>, Stop<'a>>
+    ensures gives { IfOk result (λ bytes.
+        GivesBytes limit (D.held desk.old name.now) bytes.items) }
+    ensures fails { IfErr result (Fails (λ bytes. limit < length bytes) kind
+        (D.held desk.old) name.now (D.read_faults desk.old) (D.read_faults desk.new)) }
+    ensures held { D.held desk.new ≡ D.held desk.old }
+    ensures later { D.read_faults desk.old ≤ D.read_faults desk.new }
+{
+    match read_whole(alloc, desk, name, limit) {
+        Ok(bytes) => Ok(bytes),
+        Err(ReadError::ReadFault) => Err(Stop::Unread(name)),
+        Err(ReadError::TooLong) => Err(Stop::Refused {
+            name,
+            kind,
+            refusal: Refusal::NotYet,
+        }),
+        Err(ReadError::NoMemory) => Err(Stop::NoMemory),
+    }
+}
