@@ -2,7 +2,7 @@
 ghost use Rattle.std.specs.Prelude.{◌^◌};
 ghost use Rattle.xray_io.specs.Desk.{Untold};
 
-use std::alloc::Global;
+use std::alloc::{AllocError, Global};
 use xray_io::{Desk, MemDesk, ReadFail};
 
 /// A desk that gives one byte a read.
@@ -33,7 +33,7 @@ impl Desk for Trickle {
     }
 }
 
-/// A desk that notes the names that it is asked for, each behind the one before it with a space between.
+/// A desk that notes the names that it is asked for, one behind the other.
 #[derive(Drop)]
 pub struct Noting {
     desk: MemDesk,
@@ -57,20 +57,12 @@ impl Noting {
         self.names.as_str()
     }
 
-    fn note(&mut self, name: &str) -> Result<(), ReadFail> {
-        if self.last.as_str() == name {
-            return Ok(());
+    fn note(&mut self, name: &str) -> Result<(), AllocError> {
+        if self.last.as_str() != name {
+            self.last = String::from_str(self.alloc, name)?;
+            self.names.push_str(name)?;
         }
-        match (
-            String::from_str(self.alloc, name),
-            self.names.push_str(name),
-        ) {
-            (Ok(last), Ok(())) => {
-                self.last = last;
-                Ok(())
-            }
-            _ => Err(ReadFail::Failed),
-        }
+        Ok(())
     }
 }
 
@@ -82,7 +74,9 @@ impl Desk for Noting {
     ghost write_faults = { λ _. 0 };
 
     fn read(&mut self, name: &str, from: u64, buf: &mut [u8]) -> Result<usize, ReadFail> {
-        self.note(name)?;
+        if self.note(name).is_err() {
+            return Err(ReadFail::Failed);
+        }
         match self.desk.read(name, from, buf) {
             Ok(count) => Ok(count),
             Err(_) => Err(ReadFail::Failed),
