@@ -1,7 +1,10 @@
 //! One thread, whose sleds are patched before its start and unpatched behind it.
 use crate::desks::{Noting, Trickle};
 use crate::runs::{IMAGE, SCHEDULE, SCRIPT, STATE, desk_of, run_words};
+use std::process::Abort;
+use std::sync::Wait;
 use std::test::Fail;
+use std::thread::Threads;
 
 const SIM: [&str; 4] = ["sim", "i", "s", "c"];
 
@@ -40,59 +43,75 @@ fn a_desk_that_gives_one_byte_a_read_changes_nothing(rt: HostRuntime) -> Result<
 /// The names show that no input is opened before the one before it was judged.
 #[test]
 fn an_input_that_is_not_of_the_form_is_refused_in_its_turn(rt: HostRuntime) -> Result<(), Fail> {
-    for (image, script, schedule, line, names) in [
-        (
-            &IMAGE[..63],
-            SCRIPT,
-            SCHEDULE,
-            "xray: i: image NotYet\n",
-            "i",
-        ),
-        (&IMAGE[..63], "go", "t 1", "xray: i: image NotYet\n", "i"),
-        (&IMAGE[..], "go", SCHEDULE, "xray: s: script NotYet\n", "is"),
-        (
-            &IMAGE[..],
-            SCRIPT,
-            "t 1",
-            "xray: c: schedule NotYet\n",
-            "isc",
-        ),
-        (
-            &IMAGE[..],
-            SCRIPT,
-            "t 2 1",
-            "xray: c: schedule NotYet\n",
-            "isc",
-        ),
-    ] {
-        let desk = desk_of(rt.alloc(), &[], image, script, schedule)?;
-        let mut noting = Noting::new(rt.alloc(), desk);
-        let run = run_words(&rt, &SIM, &mut noting, &[], &[])?;
-        assert_eq!(rt; run.status, 2, "{line}");
-        assert_eq!(rt; run.out.as_str(), "", "{line}");
-        assert_eq!(rt; run.err.as_str(), line);
-        assert_eq!(rt; noting.names(), names, "{line}");
-    }
+    let cut = &IMAGE[..63];
+    assert_refused(&rt, cut, SCRIPT, SCHEDULE, "xray: i: image NotYet\n", "i")?;
+    assert_refused(&rt, cut, "go", "t 1", "xray: i: image NotYet\n", "i")?;
+    assert_refused(
+        &rt,
+        &IMAGE,
+        "go",
+        SCHEDULE,
+        "xray: s: script NotYet\n",
+        "is",
+    )?;
+    assert_refused(
+        &rt,
+        &IMAGE,
+        SCRIPT,
+        "t 1",
+        "xray: c: schedule NotYet\n",
+        "isc",
+    )?;
+    assert_refused(
+        &rt,
+        &IMAGE,
+        SCRIPT,
+        "t 2 1",
+        "xray: c: schedule NotYet\n",
+        "isc",
+    )
+}
+
+/// Checks that inputs are refused with a line on err, and which of them were asked for.
+fn assert_refused<R: Abort + Threads + Wait + Sync + AllocGlobal>(
+    rt: &R,
+    image: &[u8],
+    script: &str,
+    schedule: &str,
+    line: &str,
+    names: &str,
+) -> Result<(), Fail> {
+    let desk = desk_of(rt.alloc(), &[], image, script, schedule)?;
+    let mut noting = Noting::new(rt.alloc(), desk);
+    let run = run_words(rt, &SIM, &mut noting, &[], &[])?;
+    assert_eq!(rt; run.status, 2, "{line}");
+    assert_eq!(rt; run.out.as_str(), "", "{line}");
+    assert_eq!(rt; run.err.as_str(), line);
+    assert_eq!(rt; noting.names(), names, "{line}");
     Ok(())
 }
 
 #[test]
 fn words_that_say_no_command_open_no_input(rt: HostRuntime) -> Result<(), Fail> {
-    for words in [
-        [].as_slice(),
-        ["sim", "i", "s"].as_slice(),
-        ["sim", "i", "s", "c", "c"].as_slice(),
-        ["run", "i", "s", "c"].as_slice(),
-        ["sim", "-x", "s", "c"].as_slice(),
-    ] {
-        let desk = desk_of(rt.alloc(), &[], &IMAGE, SCRIPT, SCHEDULE)?;
-        let mut noting = Noting::new(rt.alloc(), desk);
-        let run = run_words(&rt, words, &mut noting, &[], &[])?;
-        assert_eq!(rt; run.status, 1);
-        assert_eq!(rt; run.out.as_str(), "");
-        assert_eq!(rt; run.err.as_str(), "xray: bad command line\n");
-        assert_eq!(rt; noting.names(), "");
-    }
+    assert_bad_line(&rt, &[])?;
+    assert_bad_line(&rt, &["sim", "i", "s"])?;
+    assert_bad_line(&rt, &["sim", "i", "s", "c", "c"])?;
+    assert_bad_line(&rt, &["run", "i", "s", "c"])?;
+    assert_bad_line(&rt, &["sim", "-x", "s", "c"])
+}
+
+/// Checks that words are a bad command line, and that no input was asked for.
+fn assert_bad_line<R: Abort + Threads + Wait + Sync + AllocGlobal>(
+    rt: &R,
+    words: &[&str],
+) -> Result<(), Fail> {
+    let desk = desk_of(rt.alloc(), &[], &IMAGE, SCRIPT, SCHEDULE)?;
+    let mut noting = Noting::new(rt.alloc(), desk);
+    let run = run_words(rt, words, &mut noting, &[], &[])?;
+    assert_eq!(rt; run.status, 1);
+    assert_eq!(rt; run.out.as_str(), "");
+    assert_eq!(rt; run.err.as_str(), "xray: bad command line\n");
+    assert_eq!(rt; noting.names(), "");
     Ok(())
 }
 
