@@ -114,9 +114,6 @@ unpatch_made program k sled other word value o h w v =
 
 -- ---- the whole script
 
-patches_of : Program → List Micro
-patches_of program = flat_map (patch_sled program) (all_sleds program)
-
 pub steps_are : (program : Program) (steps patched : List Micro) → patched ≡ flat_map (patch_sled program) (all_sleds program)
     → steps ≡ patched ++ map (unpatch_sled (numbers (all_sleds program))) (all_sleds program) → steps ≡ micros program first_script
 steps_are program steps patched p s =
