@@ -12,6 +12,7 @@ pub struct Trickle {
 }
 
 impl Trickle {
+    /// Over this desk, with its inputs and its faults.
     pub fn new(desk: MemDesk) -> Self {
         Trickle { desk }
     }
@@ -43,6 +44,7 @@ pub struct Noting {
 }
 
 impl Noting {
+    /// Over this desk, with no name noted.
     pub fn new(alloc: Global, desk: MemDesk) -> Self {
         Noting {
             desk,

@@ -27,6 +27,7 @@ pub const IMAGE: [u8; 170] = [
     1, 1, 0, 0, 0, 0, 0, 0, 0, 0, 0, 0, 0, 0, 0, 0, //
 ];
 
+/// Both sleds are patched before the thread starts, and unpatched once it runs.
 pub const SCRIPT: &str = "patch\ngo\nunpatch\n";
 
 /// The thread makes a load, and the patcher then unpatches both sleds.
