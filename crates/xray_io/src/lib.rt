@@ -4,6 +4,7 @@
 #![tactic(auto)]
 
 mod desk;
+mod desk_file;
 mod digits;
 mod faults;
 mod gate;
@@ -16,6 +17,7 @@ mod waiting;
 mod whole;
 
 pub use desk::Desk;
+pub use desk_file::DeskFile;
 pub use faults::{Failed, NoMemory, ReadError, ReadFail, Wall, WriteFault};
 pub use gate::{Gate, OpenGate};
 pub use memory::{MemDesk, MemSink};

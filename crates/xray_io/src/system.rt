@@ -4,19 +4,29 @@ ghost use Rattle.xray_io.specs.Desk.{Untold};
 ghost use Rattle.xray_io.specs.Faults.{Rose};
 
 use crate::{Desk, Failed, ReadFail, Sink};
+use std::fs::OpenOptions;
 use std::io::{Read, Seek, SeekFrom, Write};
 use std::rt::Files;
 use std::{fs, io};
 
 /// The files of the system, by path. Each error is a fault, a missing file too.
 ///
-/// A file stays open while reads go on where the last one ended, so that a pipe can be read.
+/// A file stays open while reads go on where the last one ended, so that a pipe can be read, and
+/// while writes go on with the name that was written last, so that a pipe can be written.
 #[derive(Drop)]
 pub struct FileDesk<R: Files> {
     rt: R,
     opened: Option<Opened<R::File>>,
+    written: Option<Written<R::File>>,
     read_faults: u64,
     write_faults: u64,
+}
+
+// A file that was written up to its end.
+#[derive(Drop)]
+struct Written<F> {
+    name: String,
+    file: F,
 }
 
 // A file that was read up to a place.
@@ -36,6 +46,7 @@ impl<R: Files + AllocGlobal> FileDesk<R> {
         FileDesk {
             rt,
             opened: None,
+            written: None,
             read_faults: 0,
             write_faults: 0,
         }
@@ -64,6 +75,42 @@ impl<R: Files + AllocGlobal> FileDesk<R> {
         self.opened = Some(opened);
         Ok(count)
     }
+
+    // Makes a file hold no bytes.
+    fn create_file(&mut self, name: &str) -> io::Result<()>
+        ensures read_faults { self.new.read_faults ≡ self.old.read_faults }
+        ensures write_faults { self.new.write_faults ≡ self.old.write_faults }
+    {
+        self.written = None;
+        let kept = String::from_str(self.rt.alloc(), name)?;
+        let file = fs::create(&self.rt, name)?;
+        self.written = Some(Written { name: kept, file });
+        Ok(())
+    }
+
+    // Opens a file at its end, and begins one that isn't there.
+    fn open_end(&self, name: &str) -> io::Result<Written<R::File>> {
+        let kept = String::from_str(self.rt.alloc(), name)?;
+        let file = OpenOptions::new()
+            .append(true)
+            .create(true)
+            .open(&self.rt, name)?;
+        Ok(Written { name: kept, file })
+    }
+
+    fn append_file(&mut self, name: &str, bytes: &[u8]) -> io::Result<usize>
+        ensures within { IfOk result (λ n. n ≤ length bytes.now) }
+        ensures read_faults { self.new.read_faults ≡ self.old.read_faults }
+        ensures write_faults { self.new.write_faults ≡ self.old.write_faults }
+    {
+        let mut written = match self.written.take() {
+            Some(written) if written.name.as_str() == name => written,
+            _ => self.open_end(name)?,
+        };
+        let count = written.file.write(bytes)?;
+        self.written = Some(written);
+        Ok(count)
+    }
 }
 
 impl<R: Files + AllocGlobal> Desk for FileDesk<R> {
@@ -79,6 +126,26 @@ impl<R: Files + AllocGlobal> Desk for FileDesk<R> {
             Err(_) => {
                 self.read_faults = self.read_faults.saturating_add(1);
                 Err(ReadFail::Failed)
+            }
+        }
+    }
+
+    fn create(&mut self, name: &str) -> Result<(), Failed> {
+        match self.create_file(name) {
+            Ok(()) => Ok(()),
+            Err(_) => {
+                self.write_faults = self.write_faults.saturating_add(1);
+                Err(Failed)
+            }
+        }
+    }
+
+    fn append(&mut self, name: &str, bytes: &[u8]) -> Result<usize, Failed> {
+        match self.append_file(name, bytes) {
+            Ok(count) if count > 0 || bytes.is_empty() => Ok(count),
+            _ => {
+                self.write_faults = self.write_faults.saturating_add(1);
+                Err(Failed)
             }
         }
     }
