@@ -1,3 +1,5 @@
+pub mod Standing
+pub mod TableRows
 pub mod Pieces
 pub mod Nops
 pub mod SoFar
