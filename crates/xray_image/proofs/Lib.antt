@@ -1,5 +1,3 @@
-pub mod Standing
-pub mod TableRows
 pub mod Pieces
 pub mod Nops
 pub mod SoFar
@@ -11,3 +9,6 @@ pub mod Straight
 pub mod FileParts
 pub mod Accepting
 pub mod FirstRuns
+pub mod Standing
+pub mod TableRows
+pub mod Accepts

@@ -1,5 +1,5 @@
 -- The rows of the table of refusals: where what follows decides one way, so does the row.
-use Rattle.std.proofs.Common.{◌≡◌, ◌≢◌, ℕ, ◌+◌, ◌-◌, ◌<◌, ◌≤◌, inl, inr, List, [], length, Option, Some, None, Ok, Err, refl, sym, ap, subst, ◌∙◌, arith}
+use Rattle.std.proofs.Common.{◌≡◌, ℕ, ◌+◌, ◌-◌, ◌<◌, inl, inr, List, [], length, Option, Some, None, Err, sym, ap, subst, ◌∙◌, arith}
 use Rattle.std.specs.Prelude.{Result, MatchOption}
 use Rattle.std.proofs.lemmas.Bool.{cases_lt}
 use Rattle.subset_decode.specs.declared.instr.Instr.{Instr}
@@ -10,7 +10,7 @@ use Rattle.xray_image.specs.declared.fault.ImageFault.TheVariants as faults
 use Rattle.xray_image.specs.Units.{Piece}
 use Rattle.xray_image.specs.Table.{Verdict, Needs, NeedsEach, NeedsUnits, UnitFault, StopsAt, StandUpTo}
 use Rattle.xray_image.proofs.Pieces.{OneInstruction}
-use Rattle.xray_image.proofs.Standing.{IsFront, SameFront, stuck_at_end, one_front}
+use Rattle.xray_image.proofs.Standing.{IsFront, stuck_at_end, one_front}
 
 -- a part of the table has one verdict at most
 pub record IsOneWay (Part : Verdict → Type 0) : Type 0 where
