@@ -167,6 +167,10 @@ ReadsPieces bytes parts pieces = ReadsProgram parts.entries (places_from (base_a
 abbrev ReadsUnits : List ℕ → Parts → Verdict → Type 0
 ReadsUnits bytes parts = Needs (parts.rest ≡ []) faults.Trailing (NeedsUnits (base_address bytes) parts.code (ReadsPieces bytes parts))
 
+-- what holds of one program holds of the same one
+moved : (P : Program → Type 0) (p q : Program) → p ≡ q → P q → P p
+moved P p q e h = subst P (sym e) h
+
 accepted_from : (bytes : List ℕ) (program : Program) → ReadsAs bytes (Ok program) → IsAccepted bytes program
 accepted_from bytes program r =
     let header = needs_ok _ _ _ program r in
@@ -182,8 +186,8 @@ accepted_from bytes program r =
     let units = units_ok (base_address bytes) parts.0.code (ReadsPieces bytes parts.0) program rest.1 in
     let are = stand_are (base_address bytes) parts.0.code units.0 (base_address bytes + length parts.0.code) units.1 in
     let places = places_from (base_address bytes) units.0 in
-    let rows = program_rows parts.0.entries places (program_of bytes parts.0 units.0) program units.2 in
-    let made = sym rows.holds in
+    let made = program_of bytes parts.0 units.0 in
+    let rows = program_rows parts.0.entries places made program units.2 in
     record {
       has_header = header.0;
       magic_bytes = magic.0;
@@ -201,11 +205,11 @@ accepted_from bytes program r =
       pieces = units.0;
       units = are.0;
       even_sleds = are.1;
-      functions = subst (λ (p : Program). AreFunctions (base_address bytes) p.units parts.0.functions) made rows.functions;
+      functions = moved (λ (p : Program). AreFunctions (base_address bytes) p.units parts.0.functions) program made rows.holds rows.functions;
       map_order = rows.map_order;
       entries = rows.fit;
-      near = subst (λ (p : Program). EachSled places parts.0.entries (Reaches p.trampolines)) made rows.near;
-      branches = subst (λ (p : Program). BranchesReach p.units) made rows.branches;
+      near = moved (λ (p : Program). EachSled places parts.0.entries (Reaches p.trampolines)) program made rows.holds rows.near;
+      branches = moved (λ (p : Program). BranchesReach p.units) program made rows.holds rows.branches;
       holds = rows.holds;
     }
 

@@ -12,3 +12,4 @@ pub mod FirstRuns
 pub mod Standing
 pub mod TableRows
 pub mod Accepts
+pub mod Stops
