@@ -9,3 +9,7 @@ pub mod Straight
 pub mod FileParts
 pub mod Accepting
 pub mod FirstRuns
+pub mod Standing
+pub mod TableRows
+pub mod Accepts
+pub mod Stops

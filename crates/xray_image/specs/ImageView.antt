@@ -15,6 +15,7 @@ abbrev pub program_in : Inside → Program
 program_in a = record {
   base = a.base;
   entry = a.entry;
+  code = a.code.items;
   functions = map named_function a.functions.items;
   units = a.units.items;
   sleds = a.sleds.items;

@@ -9,3 +9,6 @@ pub mod Index
 pub mod Layout
 pub mod ImageView
 pub mod Straight
+pub mod Table
+pub mod Ids
+pub mod Extract

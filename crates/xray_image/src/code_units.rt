@@ -40,7 +40,7 @@ impl CodeUnits {
         ensures only { address % 2 ≡ 0 → IfErr result (λ e. e ≡ ImageFault.NoMemory) }
     {
         if !address.is_multiple_of(2) {
-            return Err(ImageFault::NotYet);
+            return Err(ImageFault::Short);
         }
         let number = self.sleds.len() as u32;
         self.sleds.push(SledSpot {
@@ -100,7 +100,7 @@ impl CodeUnits {
             → All IsEven (places_from base pieces) → IfErr result (λ e. e ≡ ImageFault.NoMemory) }
     {
         let Some((raw, length)) = read_unit(&code[at..]) else {
-            return Err(ImageFault::NotYet);
+            return Err(ImageFault::Short);
         };
         self.add(base + at as u64, raw)?;
         Ok(at + length)

@@ -24,6 +24,7 @@ pub(crate) struct Function {
 pub struct Image {
     base: u64,
     entry: u64,
+    code: Vec<u8>,
     functions: Vec<Function>,
     units: Vec<Unit>,
     sleds: Vec<Sled>,

@@ -15,9 +15,9 @@ mod unit;
 mod unit_index;
 mod unit_reader;
 
-pub use fault::ImageFault;
+pub use fault::{ImageFault, Which};
 pub use image::{Image, read_image};
-pub use laws::{one_reading, one_unit_list};
+pub use laws::{one_reading, one_unit_list, one_verdict};
 pub use sled::{Sled, SledKind};
 pub use unit::{Unit, What};
 

@@ -92,13 +92,13 @@ pub(crate) fn read_sleds(
         → IfErr result (λ e. e ≡ ImageFault.NoMemory) }
 {
     let [first, second] = spots else {
-        return Err(ImageFault::NotYet);
+        return Err(ImageFault::Short);
     };
     let Some(first) = read_sled(function, trampolines, first, &lines[0]) else {
-        return Err(ImageFault::NotYet);
+        return Err(ImageFault::Short);
     };
     let Some(second) = read_sled(function, trampolines, second, &lines[1]) else {
-        return Err(ImageFault::NotYet);
+        return Err(ImageFault::Short);
     };
     Ok(vec![in alloc; first, second]?)
 }

@@ -26,7 +26,7 @@ const OUTPUTS_AN_A: [u8; 170] = [
 
 /// Whether the bytes are refused as an image that isn't read.
 fn is_not_yet(rt: &HostRuntime, bytes: &[u8]) -> bool {
-    matches!(read_image(rt.alloc(), bytes), Err(ImageFault::NotYet))
+    matches!(read_image(rt.alloc(), bytes), Err(ImageFault::Short))
 }
 
 #[test]

@@ -3,6 +3,7 @@
 ghost use Rattle.std.specs.Prelude.{◌≡◌, ◌⊎◌, [], length, Ok, Err, Some, IsTrue, IsSome, IfSome, IfOk, IfErr};
 ghost use Rattle.xray_image.specs.Container.{Parts, function_count, entry_count, parts_of};
 ghost use Rattle.xray_image.specs.Program.{Program, IsAccepted};
+ghost use Rattle.xray_image.specs.Table.{Verdict, ReadsAs};
 ghost use Rattle.xray_image.specs.FirstRun.{IsFirstRun};
 ghost use Rattle.xray_image.specs.Header.{HasHeader};
 ghost use Rattle.xray_image.specs.Reading.{IsOnlyFunction};
@@ -40,23 +41,27 @@ fn read_file(bytes: &[u8]) -> Option<(Header, FileParts<'_>)>
     Some((header, parts))
 }
 
-/// Reads an image file. It has to have one function, whose code is one entry sled, instructions that
-/// go straight on (`mov`, and at most 65,536 `out`), at most one alignment byte, and one exit sled:
-/// everything else is `NotYet`. `NoMemory` comes only for want of memory. Takes time and memory
-/// linear in the file's length.
+/// Reads an image file. Where it isn't accepted the answer is the first refusal of the table that
+/// applies, each as `ImageFault` says. `NoMemory` comes only for want of memory. Takes time linear
+/// in the file's length (a look-up in a map for each name), and takes no memory by a count that the
+/// file's length doesn't bear out.
 pub fn read_image(alloc: Global, bytes: &[u8]) -> Result<Image, ImageFault>
-    ensures found { IfOk result (λ image. IsAccepted bytes.now image × IsFirstRun image) }
-    // Every file of the form is read, unless memory runs out.
-    ensures complete { (program : Program) → IsAccepted bytes.now program → IsFirstRun program
+    // The answer is what the file reads as, unless memory runs out.
+    ensures reads { (result ≡ Err ImageFault.NoMemory) ⊎ ReadsAs bytes.now result }
+    ensures exact { (verdict : Verdict) → ReadsAs bytes.now verdict
+        → (result ≡ verdict) ⊎ (result ≡ Err ImageFault.NoMemory) }
+    // An image is read exactly of an accepted file.
+    ensures found { IfOk result (IsAccepted bytes.now) }
+    ensures complete { (program : Program) → IsAccepted bytes.now program
         → (result ≡ Ok program) ⊎ (result ≡ Err ImageFault.NoMemory) }
 {
     one_instruction();
     let Some((header, parts)) = read_file(bytes) else {
-        return Err(ImageFault::NotYet);
+        return Err(ImageFault::Short);
     };
     let code = CodeUnits::read(alloc, header.base, parts.code)?;
     if !parts.function.is_only(header.base) {
-        return Err(ImageFault::NotYet);
+        return Err(ImageFault::Short);
     }
     let sleds = read_sleds(
         alloc,
@@ -66,7 +71,7 @@ pub fn read_image(alloc: Global, bytes: &[u8]) -> Result<Image, ImageFault>
         &parts.entries,
     )?;
     if !is_straight_run(&code.units, &sleds) {
-        return Err(ImageFault::NotYet);
+        return Err(ImageFault::Short);
     }
     let index = UnitIndex::new(alloc, header.base, parts.code.len(), &code.units)?;
     let name = Vec::from_slice(alloc, parts.function.name)?;
@@ -75,6 +80,7 @@ pub fn read_image(alloc: Global, bytes: &[u8]) -> Result<Image, ImageFault>
     Ok(Image {
         base: header.base,
         entry: header.base,
+        code: Vec::from_slice(alloc, parts.code)?,
         functions,
         units: code.units,
         sleds,
