@@ -1,7 +1,9 @@
 -- Units by their places and their addresses.
-use Rattle.std.proofs.Common.{◌≡◌, ◌≢◌, ℕ, zero, suc, ◌+◌, ◌<◌, ◌≤◌, ◌==◌, Bool, true, false, List, [], ◌∷◌, length, map, Some, refl, sym, ap, subst, ◌∙◌, inl, inr, arith}
-use Rattle.std.specs.Prelude.{◌⊎◌, slice_get, Contains}
+use Rattle.std.proofs.Common.{◌≡◌, ◌≢◌, ℕ, zero, suc, ◌+◌, ◌<◌, ◌==◌, Bool, true, false, List, [], ◌∷◌, length, Some, refl, ap, inl, inr, arith}
+use Rattle.std.specs.Prelude.{slice_get, Contains}
 use Rattle.std.proofs.lemmas.Bool.{eqb-true, eqb-false}
+use Rattle.std.proofs.lemmas.List.{length-map}
+use Rattle.std.proofs.lemmas.Option.{slice_get_within}
 use Rattle.xray_image.specs.declared.unit.Unit.{Unit}
 use Rattle.xray_image.specs.Program.{addresses}
 use Rattle.machine_step.specs.Steps.{IsPlaceOf}
@@ -53,3 +55,9 @@ place_after first units a false is (i, place) = (suc i, place_more first units a
 pub has_place : (units : List Unit) (a : ℕ) → (i : ℕ) × IsPlaceOf units a i
 has_place [] a = (zero, inr (refl, λ among. omega (arith, among.1)))
 has_place (first ∷ units) a = place_after first units a (first.address == a) refl (has_place units a)
+
+-- a place is one of the units' or that behind them
+pub place_within : (units : List Unit) (a i : ℕ) → IsPlaceOf units a i → i < length units + 1
+place_within units a i (inl found) =
+    let below = slice_get_within (addresses units) i a found in omega (arith, length-map units (λ u. u.address))
+place_within units a i (inr (last, none)) = omega arith

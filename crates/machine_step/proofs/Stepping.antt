@@ -1,6 +1,6 @@
 -- What a step makes of a machine is what the plain step makes of its state.
-use Rattle.std.proofs.Common.{◌≡◌, ◌≢◌, ℕ, suc, ◌+◌, ◌-◌, ◌<◌, ◌≤◌, ◌==◌, Bool, true, false, List, [], ◌∷◌, ◌++◌, length, Option, Some, None, refl, sym, ap, subst, ◌∙◌, inl, inr, arith}
-use Rattle.std.specs.Prelude.{◌⊎◌, ◌^◌, if◌then◌else◌, slice_get, slice_index, slice_set, Contains, MatchBool, MatchOption}
+use Rattle.std.proofs.Common.{◌≡◌, ◌≢◌, ℕ, ◌+◌, ◌-◌, ◌<◌, ◌==◌, Bool, true, false, List, [], ◌∷◌, length, Option, Some, None, refl, sym, ap, subst, ◌∙◌, inl, inr, arith}
+use Rattle.std.specs.Prelude.{◌⊎◌, if◌then◌else◌, slice_get, slice_index, Contains, MatchOption}
 use Rattle.std.proofs.lemmas.Bool.{eqb-false}
 use Rattle.std.proofs.lemmas.Option.{slice_get_past}
 use Rattle.subset_decode.specs.declared.instr.Instr.{Instr}
@@ -21,8 +21,8 @@ use Rattle.machine_step.specs.declared.step.Step.TheVariants as steps
 use Rattle.machine_step.specs.declared.step.Way.{Way}
 use Rattle.machine_step.specs.declared.step.Way.TheVariants.{To, Back, Ends as Stops}
 use Rattle.machine_step.specs.declared.machine.Machine.{Machine}
-use Rattle.machine_step.specs.PlainStep.{State, Next, Goes, Ends, Passing, PlainStep, UnitStep, does, pushed, popped, returns, fuelled, branched, computed, passing_at, behind_passing, stack_limit, output_limit}
-use Rattle.machine_step.specs.Machine.{state_at, IsWithin, Taken, ending, going, staying, pushing, popping, returning, putting, leaving, passing, acting, stepping}
+use Rattle.machine_step.specs.PlainStep.{Next, Goes, Ends, Passing, PlainStep, UnitStep, does, pushed, popped, returns, fuelled, branched, passing_at, behind_passing, stack_limit, output_limit}
+use Rattle.machine_step.specs.Machine.{state_at, IsWithin, Taken, ending, staying, pushing, popping, returning, putting, leaving, stepping}
 use Rattle.machine_step.specs.Steps.{IsPlaceOf, IsStepOfInstruction, IsStepOf, IsStepAt, step_of_sled}
 use Rattle.machine_step.proofs.OneEnd.{Passes}
 use Rattle.machine_step.proofs.Places.{found_contains, contains_address, found_address}

@@ -1,5 +1,5 @@
 -- What steps make of a machine, for the contracts of private functions.
-use Rattle.std.specs.Prelude.{◌≡◌, ◌≤◌, ◌+◌, ◌-◌, ◌*◌, ◌^◌, ◌%◌, ◌==◌, ◌&&◌, ℕ, List, [], ◌∷◌, ◌++◌, length, false, if◌then◌else◌, replicate, slice_index, slice_set}
+use Rattle.std.specs.Prelude.{◌≤◌, ◌+◌, ◌-◌, ◌^◌, ◌%◌, ◌==◌, ◌&&◌, ℕ, List, [], ◌∷◌, ◌++◌, length, false, if◌then◌else◌, replicate, slice_index, slice_set}
 use Rattle.machine_step.specs.declared.limits.Limits.{Limits}
 use Rattle.machine_step.specs.declared.end.End.{End}
 use Rattle.machine_step.specs.declared.end.End.TheVariants as ends

@@ -15,3 +15,12 @@ pub fn one_end()
         → PlainRun program limits thread passed' end' last'
         → (passed ≡ passed') × (end ≡ end') × (last ≡ last') }
 {}
+
+/// A thread of an accepted image reaches an end, whatever the image, the thread's number and the limits: with `one_end`,
+/// exactly one.
+pub fn some_end()
+    ensures { (bytes : List ℕ) (program : Program) (limits : Limits) (thread : ℕ)
+        → IsAccepted bytes program
+        → (passed : List Passing) × (end : End) × (last : State)
+        × PlainRun program limits thread passed end last }
+{}

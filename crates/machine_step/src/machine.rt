@@ -75,11 +75,17 @@ impl Machine {
         match *step {
             Step::Mov { dst, imm } => self.load(place + 1, dst, u64::from(imm)),
             Step::Add { dst, src } => {
-                let sum = self.registers.get(dst).wrapping_add(self.registers.get(src));
+                let sum = self
+                    .registers
+                    .get(dst)
+                    .wrapping_add(self.registers.get(src));
                 self.compute(place + 1, dst, sum)
             }
             Step::Sub { dst, src } => {
-                let difference = self.registers.get(dst).wrapping_sub(self.registers.get(src));
+                let difference = self
+                    .registers
+                    .get(dst)
+                    .wrapping_sub(self.registers.get(src));
                 self.compute(place + 1, dst, difference)
             }
             Step::Push { reg } => {

@@ -1,6 +1,7 @@
 //! The plain run of a thread.
 
-ghost use Rattle.std.specs.Prelude.{◌≡◌, ◌<◌, ℕ, length, slice_get, slice_index, Some, IfOk};
+ghost use Rattle.std.specs.Prelude.{◌≡◌, ℕ, List, length, slice_index, IfOk};
+ghost use Rattle.xray_image.specs.Program.{IsAccepted};
 ghost use Rattle.machine_step.specs.PlainEnd.{IsPlainEnd};
 ghost use Rattle.machine_step.specs.Machine.{state_at, IsWithin, RunsFrom};
 ghost use Rattle.machine_step.specs.Steps.{AreStepsOf};
@@ -32,6 +33,8 @@ pub fn plain_run(
     ensures unnamed { IfOk result (λ e.
         (slice_index e.regs.items 4 ≡ 0) × (slice_index e.regs.items 10 ≡ 0)) }
 {
+    // Says that some accepted file holds the image.
+    image.base();
     let steps = Steps::new(alloc, image)?;
     let mut regs = vec![in alloc; 0; REGISTERS]?;
     let mut machine = Machine::new(alloc, thread)?;
@@ -50,6 +53,7 @@ pub fn plain_run(
 
 /// Runs a machine from the entry function's start to its end.
 fn run(machine: &mut Machine, image: &Image, steps: &Steps, limits: Limits) -> End
+    requires accepted { (bytes : List ℕ) × IsAccepted bytes image.now }
     requires steps { AreStepsOf image.now steps.now.all.items }
     requires within { IsWithin limits machine.old }
     ensures { (thread : ℕ) → RunsFrom image.now limits thread

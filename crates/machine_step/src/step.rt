@@ -10,35 +10,15 @@ use subset_decode::Reg;
 /// A branch names the place that it leads to.
 #[derive(Clone, Copy)]
 pub(crate) enum Step {
-    Mov {
-        dst: Reg,
-        imm: u32,
-    },
-    Add {
-        dst: Reg,
-        src: Reg,
-    },
-    Sub {
-        dst: Reg,
-        src: Reg,
-    },
-    Push {
-        reg: Reg,
-    },
-    Pop {
-        reg: Reg,
-    },
+    Mov { dst: Reg, imm: u32 },
+    Add { dst: Reg, src: Reg },
+    Sub { dst: Reg, src: Reg },
+    Push { reg: Reg },
+    Pop { reg: Reg },
     /// `back` is the address behind it.
-    Call {
-        target: u32,
-        back: u64,
-    },
-    Jmp {
-        target: u32,
-    },
-    Jnz {
-        target: u32,
-    },
+    Call { target: u32, back: u64 },
+    Jmp { target: u32 },
+    Jnz { target: u32 },
     Ret,
     Out,
     /// A sled that does nothing: of an entry or before a tail jump.

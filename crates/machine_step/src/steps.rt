@@ -1,7 +1,8 @@
 //! All steps of an image.
 
-ghost use Rattle.std.specs.Prelude.{◌≡◌, ◌<◌, ◌≤◌, ◌+◌, ◌^◌, ℕ, length, Some, slice_get, IfOk};
+ghost use Rattle.std.specs.Prelude.{◌≡◌, ◌<◌, ◌≤◌, ◌+◌, ◌^◌, ℕ, List, length, Some, slice_get, IfOk};
 ghost use Rattle.subset_decode.specs.Encoding.{spelling, IsNamed};
+ghost use Rattle.xray_image.specs.Program.{IsAccepted};
 ghost use Rattle.machine_step.specs.PlainStep.{branched};
 ghost use Rattle.machine_step.specs.Steps.{IsPlaceOf, IsStepOfInstruction, step_of_sled, IsStepOf, AreStepsOf};
 
@@ -19,6 +20,7 @@ pub(crate) struct Steps {
 impl Steps {
     /// Those of an image. Takes memory once.
     pub(crate) fn new(alloc: Global, image: &Image) -> Result<Self, AllocError>
+        requires { (bytes : List ℕ) × IsAccepted bytes image.now }
         ensures { IfOk result (λ steps. AreStepsOf image.now steps.all.items) }
     {
         let count = image.unit_count();
