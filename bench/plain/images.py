@@ -1,7 +1,8 @@
 """Image files for the bench, put together from a few lines of code each.
 
-Code is a list of functions: a name, whether it has sleds, and its lines. A line is a tuple of an instruction's name and its
-operands, registers by number, or a label's name with a colon. `call`, `jmp` and `jnz` name a label or a function.
+Code is a list of functions: a name, whether it has sleds, and its lines. A line is a tuple of an
+instruction's name and its operands, registers by number, or a label's name with a colon. `call`,
+`jmp` and `jnz` name a label or a function.
 """
 import struct
 
@@ -41,7 +42,10 @@ def encode(line, labels, place):
 
 
 def lay_out(functions, labels):
-    """The code, the functions' places, the sleds, and where each label stands, by the labels of an earlier pass."""
+    """The code, the functions' places, the sleds, and where each label stands.
+
+    `labels` says the last of these by an earlier pass.
+    """
     code, starts, sleds, found = bytearray(), [], [], {}
 
     def sled(kind, head):

@@ -1,7 +1,8 @@
 //! The plain machine in ordinary Rust, to measure `xray plain` against: `plain IMAGE THREADS FUEL`.
 //!
-//! It reads an image without judging it, decodes its units once into steps whose branches are resolved, and runs each thread
-//! with a `match` a step, as `machine_step` does. It prints the same text.
+//! It reads an image without judging it, decodes its units once into steps whose branches are
+//! resolved, and runs each thread with a `match` a step, as `machine_step` does. It prints the same
+//! text.
 
 use std::fmt::Write;
 
@@ -44,7 +45,8 @@ fn number(bytes: &[u8], at: usize, length: usize) -> u64 {
     u64::from_le_bytes(field)
 }
 
-/// What stands at a place of the code, with branches that name their target's place in the code, and how long it is.
+/// What stands at a place of the code, with branches that name their target's place in the code,
+/// and how long it is.
 fn decode(code: &[u8], at: usize, base: u64) -> (Step, usize) {
     let distance = |from: usize| number(code, from, 4) as u32 as i32;
     let target = |from: usize| (from as i64 + 4 + i64::from(distance(from))) as u32;
@@ -63,8 +65,18 @@ fn decode(code: &[u8], at: usize, base: u64) -> (Step, usize) {
             },
             5,
         ),
-        [0xE9, ..] => (Step::Jmp { target: target(at + 1) }, 5),
-        [0x0F, 0x85, ..] => (Step::Jnz { target: target(at + 2) }, 6),
+        [0xE9, ..] => (
+            Step::Jmp {
+                target: target(at + 1),
+            },
+            5,
+        ),
+        [0x0F, 0x85, ..] => (
+            Step::Jnz {
+                target: target(at + 2),
+            },
+            6,
+        ),
         [rex @ 0x48..=0x4D, opcode, registers, ..] => {
             let dst = registers % 8 + 8 * (rex % 2);
             let src = registers / 8 % 8 + 8 * (rex / 4 % 2);
@@ -173,15 +185,22 @@ impl Machine {
         let mut place = image.entry as usize;
         loop {
             let step = &image.steps[place];
-            let free = matches!(step, Step::Passing | Step::Leaving | Step::Pad | Step::Nowhere);
+            let free = matches!(
+                step,
+                Step::Passing | Step::Leaving | Step::Pad | Step::Nowhere
+            );
             if self.instructions == fuel && !free {
                 return "fuel";
             }
             let mut next = place + 1;
             match *step {
                 Step::Mov { dst, imm } => self.set(dst, u64::from(imm)),
-                Step::Add { dst, src } => self.compute(dst, self.get(dst).wrapping_add(self.get(src))),
-                Step::Sub { dst, src } => self.compute(dst, self.get(dst).wrapping_sub(self.get(src))),
+                Step::Add { dst, src } => {
+                    self.compute(dst, self.get(dst).wrapping_add(self.get(src)))
+                }
+                Step::Sub { dst, src } => {
+                    self.compute(dst, self.get(dst).wrapping_sub(self.get(src)))
+                }
                 Step::Push { reg } => {
                     if self.stack.len() == STACK_LIMIT {
                         return "stack-full";
@@ -251,11 +270,12 @@ impl Machine {
 
     fn text(&self, thread: u32, end: &str) -> String {
         const NAMES: [&str; 16] = [
-            "rax", "rcx", "rdx", "rbx", "rsp", "rbp", "rsi", "rdi", "r8", "r9", "r10", "r11", "r12", "r13",
-            "r14", "r15",
+            "rax", "rcx", "rdx", "rbx", "rsp", "rbp", "rsi", "rdi", "r8", "r9", "r10", "r11",
+            "r12", "r13", "r14", "r15",
         ];
         let (instructions, passings) = (self.instructions, self.passings);
-        let mut text = format!("thread {thread} {end} instructions {instructions} passings {passings}\n");
+        let mut text =
+            format!("thread {thread} {end} instructions {instructions} passings {passings}\n");
         for (number, name) in NAMES.iter().enumerate() {
             if number != RSP && number != R10 {
                 write!(text, "{name}={:x} ", self.registers[number]).unwrap();

@@ -17,8 +17,8 @@ use std::alloc::Global;
 use xray_image::Image;
 use xray_io::NoMemory;
 
-/// Runs a thread to its end, where entry and tail sleds do nothing, exit sleds are a `ret`, and each sled that is passed is
-/// counted. All memory is taken before the first step.
+/// Runs a thread to its end, where entry and tail sleds do nothing, exit sleds are a `ret`, and
+/// each sled that is passed is counted. All memory is taken before the first step.
 ///
 /// `NoMemory` comes where memory was refused, before the first step.
 pub fn plain_run(

@@ -8,7 +8,8 @@ use std::marker::Model;
 /// How many values a stack has at the most.
 pub const STACK_LIMIT: usize = 65_536;
 
-/// The values that were pushed, return addresses among them, the top in front. All room is taken when it is made.
+/// The values that were pushed, return addresses among them, the top in front. All room is taken
+/// when it is made.
 #[derive(Drop)]
 pub(crate) struct Stack {
     values: Vec<u64>,

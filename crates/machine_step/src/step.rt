@@ -6,8 +6,8 @@ ghost use Rattle.machine_step.specs.Steps.{wants_fuel};
 use crate::end::End;
 use subset_decode::Reg;
 
-/// What stands at a place of the code. Places are the numbers of units, and behind them one more at which nothing stands.
-/// A branch names the place that it leads to.
+/// What stands at a place of the code. Places are the numbers of units, and behind them one more at
+/// which nothing stands. A branch names the place that it leads to.
 #[derive(Clone, Copy)]
 pub(crate) enum Step {
     Mov { dst: Reg, imm: u32 },
@@ -32,7 +32,8 @@ pub(crate) enum Step {
 }
 
 impl Step {
-    /// Whether it is an instruction, and so wants fuel. A sled that returns wants it only behind its passing.
+    /// Whether it is an instruction, and so wants fuel. A sled that returns wants it only behind
+    /// its passing.
     #[inline]
     pub(crate) fn wants_fuel(&self) -> bool
         ensures { result ≡ wants_fuel self.now }
