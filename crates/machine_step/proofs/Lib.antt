@@ -7,4 +7,3 @@ pub mod PlainText
 pub mod Runs
 pub mod SomeEnd
 pub mod Stepping
-pub mod TextSteps

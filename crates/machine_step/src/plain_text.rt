@@ -10,7 +10,7 @@ ghost use Rattle.xray_io.specs.Text.{sink_of, loan_of, Gains, Breaks};
 use crate::end::End;
 use crate::plain_end::PlainEnd;
 use crate::registers::REGISTERS;
-use xray_io::{Piece, Sink, Text, WriteFault};
+use xray_io::{Piece, Sink, Text, WriteFault, text_adds_up};
 
 /// Writes the plain text of a thread's end: three lines, each with its line feed. Takes no memory.
 ///
@@ -43,6 +43,7 @@ fn add_lines<S: Sink>(text: &mut Text<S>, end: &PlainEnd) -> Result<(), WriteFau
     ensures follows { S.follows (sink_of text.old) (sink_of text.new) }
     ensures loan { loan_of text.new ≡ loan_of text.old }
 {
+    text_adds_up::<S>();
     add_counts(text, end.thread, end.end, end.instructions, end.passings)?;
     add_registers(text, &end.regs, end.zf)?;
     add_output(text, &end.output)
@@ -111,6 +112,7 @@ pub(crate) fn add_registers<S: Sink>(
     ensures follows { S.follows (sink_of text.old) (sink_of text.new) }
     ensures loan { loan_of text.new ≡ loan_of text.old }
 {
+    text_adds_up::<S>();
     for place in 0..PRINTED_REGISTERS {
         let (name, number) = printed_register(place);
         text.pieces(&[
@@ -174,6 +176,7 @@ pub(crate) fn add_output<S: Sink>(text: &mut Text<S>, output: &[u8]) -> Result<(
     if output.is_empty() {
         return text.bytes(b"output -\n");
     }
+    text_adds_up::<S>();
     text.bytes(b"output ")?;
     for byte in output {
         text.hex(u64::from(*byte), 2)?;
