@@ -9,3 +9,5 @@ pub mod Straight
 pub mod FileParts
 pub mod Accepting
 pub mod FirstRuns
+pub mod Distinct
+pub mod Numbering

@@ -6,6 +6,7 @@ mod fault;
 mod fields;
 mod first_run;
 mod header;
+mod ids;
 mod image;
 mod laws;
 mod parts;

@@ -74,9 +74,8 @@ pub fn read_image(alloc: Global, bytes: &[u8]) -> Result<Image, ImageFault>
         return Err(ImageFault::Short);
     }
     let index = UnitIndex::new(alloc, header.base, parts.code.len(), &code.units)?;
-    let name = Vec::from_slice(alloc, parts.function.name)?;
-    let start = parts.function.start;
-    let functions = vec![in alloc; Function { start, name }]?;
+    let function = Function::new(alloc, parts.function.start, parts.function.name)?;
+    let functions = vec![in alloc; function]?;
     Ok(Image {
         base: header.base,
         entry: header.base,
@@ -86,5 +85,6 @@ pub fn read_image(alloc: Global, bytes: &[u8]) -> Result<Image, ImageFault>
         sleds,
         trampolines: header.trampolines,
         index,
+        ids: vec![in alloc; 0]?,
     })
 }
