@@ -38,6 +38,16 @@ distinct_all P seen (x ∷ xs) all =
     let others = All-tail P x xs all in
     chosen P (among x seen) _ _ (distinct_all P seen xs others) (All-cons P x _ (All-head P x xs all) (distinct_all P (x ∷ seen) xs others))
 
+-- ---- there are no more of them
+
+shorter : (b : Bool) (x y : List ℕ) (n : ℕ) → length x ≤ n → length y ≤ n → length (cond b x y) ≤ n
+shorter true x y n p q = p
+shorter false x y n p q = q
+
+pub distinct_few : (seen xs : List ℕ) → length (distinct seen xs) ≤ length xs
+distinct_few seen [] = omega arith
+distinct_few seen (x ∷ xs) = shorter (among x seen) (distinct seen xs) (x ∷ distinct (x ∷ seen) xs) _ (omega (arith, distinct_few seen xs)) (omega (arith, distinct_few (x ∷ seen) xs))
+
 -- ---- one number more
 
 same_end : (b : Bool) (x y u v t : List ℕ) → x ≡ u ++ t → y ≡ v ++ t → cond b x y ≡ cond b u v ++ t

@@ -11,3 +11,4 @@ pub mod Accepting
 pub mod FirstRuns
 pub mod Distinct
 pub mod Numbering
+pub mod Naming

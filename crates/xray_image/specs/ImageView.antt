@@ -29,4 +29,4 @@ pub record IsSound (a : Inside) : Type 0 where
   pub bytes : List ℕ
   pub accepted : IsAccepted bytes (program_in a)
   pub index : IsIndexOf (addresses a.units.items) a.index
-  pub ids : AreNumbersOf (map (λ f. f.start) a.functions.items) (sledded_functions (program_in a)) a.ids.items
+  pub ids : AreNumbersOf (map (λ f. f.start) (program_in a).functions) (sledded_functions (program_in a)) a.ids.items

@@ -150,8 +150,10 @@ impl Image {
         ensures name { option_map (λ name. name.now) result ≡ name_of self.now id }
         ensures some { IsSome result ↔ (0 < id) × (id ≤ id_count self.now) }
     {
-        let place = id.checked_sub(1)?;
-        let number = *self.ids.get(place as usize)?;
+        if id == 0 || id > self.id_count() {
+            return None;
+        }
+        let number = self.ids[id as usize - 1];
         Some(self.functions[number as usize].name.as_str())
     }
 
