@@ -12,3 +12,4 @@ pub mod FirstRuns
 pub mod Distinct
 pub mod Numbering
 pub mod Naming
+pub mod NameText
