@@ -13,3 +13,5 @@ pub mod Distinct
 pub mod Numbering
 pub mod Naming
 pub mod NameText
+pub mod TextSteps
+pub mod ExtractText

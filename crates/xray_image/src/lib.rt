@@ -2,6 +2,7 @@
 #![tactic(auto)]
 
 mod code_units;
+mod extract;
 mod fault;
 mod fields;
 mod first_run;
@@ -16,6 +17,7 @@ mod unit;
 mod unit_index;
 mod unit_reader;
 
+pub use extract::write_extract;
 pub use fault::{ImageFault, Which};
 pub use image::{Image, read_image};
 pub use laws::{one_reading, one_unit_list, one_verdict};
