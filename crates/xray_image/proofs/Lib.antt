@@ -15,3 +15,4 @@ pub mod Naming
 pub mod NameText
 pub mod TextSteps
 pub mod ExtractText
+pub mod Lying
