@@ -1,6 +1,6 @@
 //! Images from the bytes of a file.
 
-ghost use Rattle.std.specs.Prelude.{◌≡◌, ◌⊎◌, [], length, Ok, Err, Some, IsTrue, IsSome, IfSome, IfOk, IfErr};
+ghost use Rattle.std.specs.Prelude.{◌≡◌, ◌↔◌, ◌⊎◌, [], length, Ok, Err, Some, IsTrue, IsSome, IfSome, IfOk, IfErr};
 ghost use Rattle.xray_image.specs.Container.{Parts, function_count, entry_count, parts_of};
 ghost use Rattle.xray_image.specs.Program.{Program, IsAccepted};
 ghost use Rattle.xray_image.specs.Table.{Verdict, ReadsAs};
@@ -87,4 +87,15 @@ pub fn read_image(alloc: Global, bytes: &[u8]) -> Result<Image, ImageFault>
         trampolines: header.trampolines,
         index,
     })
+}
+
+impl Image {
+    /// Whether the image is of the form that a first run of `sim` takes: one function that is an entry
+    /// sled, moves and outputs of which at most 65,536 are outputs, at most one alignment byte, and an
+    /// exit sled.
+    pub fn is_first_run(&self) -> bool
+        ensures { IsTrue result ↔ IsFirstRun self.now }
+    {
+        self.functions.len() == 1 && is_straight_run(&self.units, &self.sleds)
+    }
 }
