@@ -2,10 +2,7 @@ pub mod Pieces
 pub mod Nops
 pub mod SoFar
 pub mod Index
-pub mod SledMap
 pub mod Placement
 pub mod Acceptance
 pub mod Straight
-pub mod FileParts
-pub mod Accepting
 pub mod FirstRuns

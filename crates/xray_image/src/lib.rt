@@ -1,10 +1,12 @@
 //! The image of a traced program: the container file with its code, functions and sled map.
 #![tactic(auto)]
 
+mod branches;
 mod code_units;
 mod fault;
 mod fields;
 mod first_run;
+mod functions;
 mod header;
 mod image;
 mod laws;
