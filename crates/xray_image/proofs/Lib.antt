@@ -1,5 +1,8 @@
 pub mod Pieces
 pub mod Nops
+pub mod Stuck
+pub mod FileParts
+pub mod Several
 pub mod SoFar
 pub mod Index
 pub mod Placement

@@ -105,7 +105,8 @@ impl CodeUnits {
             ⊎ StopsAt base code.now fault) }
     {
         let address = base + at as u64;
-        match read_unit(address, &code[at..]) {
+        let (_, left) = code.split_at(at);
+        match read_unit(address, left) {
             Ok((raw, length)) => {
                 self.add(address, raw)?;
                 Ok(at + length)

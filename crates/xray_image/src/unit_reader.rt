@@ -107,10 +107,13 @@ pub(crate) fn read_unit(address: u64, bytes: &[u8]) -> Result<(RawUnit, usize), 
         return Ok((RawUnit::Align, 1));
     }
     if begins_as_sled(bytes) {
-        return match whole_sled(bytes) {
-            Some(sled) if address.is_multiple_of(2) => Ok((sled, SLED_LENGTH)),
-            _ => Err(NoUnit::Sled),
+        let Some(sled) = whole_sled(bytes) else {
+            return Err(NoUnit::Sled);
         };
+        if !address.is_multiple_of(2) {
+            return Err(NoUnit::Sled);
+        }
+        return Ok((sled, SLED_LENGTH));
     }
     match decode(bytes, 0) {
         Ok((instr, length)) => Ok((RawUnit::Instruction(instr), length)),
