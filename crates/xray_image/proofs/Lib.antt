@@ -2,6 +2,7 @@ pub mod Pieces
 pub mod Nops
 pub mod Stuck
 pub mod FileParts
+pub mod HeaderRows
 pub mod Several
 pub mod SoFar
 pub mod Index
