@@ -1,13 +1,14 @@
 pub mod Pieces
 pub mod Nops
+pub mod Stuck
+pub mod FileParts
+pub mod HeaderRows
+pub mod Several
 pub mod SoFar
 pub mod Index
-pub mod SledMap
 pub mod Placement
 pub mod Acceptance
 pub mod Straight
-pub mod FileParts
-pub mod Accepting
 pub mod FirstRuns
 pub mod Distinct
 pub mod Numbering

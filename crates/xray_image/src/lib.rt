@@ -1,11 +1,13 @@
 //! The image of a traced program: the container file with its code, functions and sled map.
 #![tactic(auto)]
 
+mod branches;
 mod code_units;
 mod extract;
 mod fault;
 mod fields;
 mod first_run;
+mod functions;
 mod header;
 mod ids;
 mod image;
