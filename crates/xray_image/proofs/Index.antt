@@ -38,10 +38,18 @@ module _ (all firsts steps : List ℕ) (base i : ℕ) (below : i < length all) (
       let first = so_far.first_of (place / 128) begun in
       let f : ℕ = get_or firsts (place / 128) 0 in
       let far = gap all up f (i - f) (omega (arith, first.counted, below)) in
-      let there : f + (i - f) ≡ i = omega (arith, first.counted) in
-      (first.counted, omega (
-        arith, first.counted, far, ap (λ n. get_or all n 0) there, first.behind f (omega (arith, first.counted, below)) (omega arith), (in_block place).1, (within i below).0
-      ))
+      let there : f + (i - f) ≡ i = omega (arith, first.counted) in (
+        first.counted,
+        omega (
+          arith,
+          first.counted,
+          far,
+          ap (λ n. get_or all n 0) there,
+          first.behind f (omega (arith, first.counted, below)) (omega arith),
+          (in_block place).1,
+          (within i below).0,
+        ),
+      )
 
   module _ (firsts' : List ℕ) (begun : HasBegun firsts firsts' (place / 128) i) (reaches : place / 128 < length firsts') where
     abbrev step : ℕ

@@ -31,7 +31,7 @@ add-requires-clause-near c = λ begun.
     let below : i < length all = omega (arith, length-map units (λ u. u.address)) in
     let within : AreWithin base (length steps) all = subst (λ (n : ℕ). AreWithin base n all) (sym c.loop-number.invariant.steps) c.requires.within in
     let near = first_near all firsts steps base i below within c.requires.ascending c.loop-number.invariant.so_far
-        (subst (λ (a : ℕ). (a - base) / 128 < length firsts) (sym at) begun) in
+    (subst (λ (a : ℕ). (a - base) / 128 < length firsts) (sym at) begun) in
     omega (arith, near.1, ap (λ (a : ℕ). get_or firsts ((a - base) / 128) 0) at)
 
 pub loop-number-preserved : goal.loop-number-preserved
@@ -47,8 +47,8 @@ loop-number-preserved c =
     let below : i < length all = omega (arith, length-map units (λ u. u.address)) in
     let within : AreWithin base (length steps) all = subst (λ (n : ℕ). AreWithin base n all) (sym c.loop-number.invariant.steps) c.requires.within in
     let more = one_more all firsts steps base i below within c.requires.ascending c.loop-number.invariant.so_far firsts'
-        (subst (λ (a : ℕ). HasBegun firsts firsts' ((a - base) / 128) i) (sym at) c.in_ok-add.ensures.begun)
-        (subst (λ (a : ℕ). (a - base) / 128 < length firsts') (sym at) c.in_ok-add.ensures.reaches) in
+    (subst (λ (a : ℕ). HasBegun firsts firsts' ((a - base) / 128) i) (sym at) c.in_ok-add.ensures.begun)
+    (subst (λ (a : ℕ). (a - base) / 128 < length firsts') (sym at) c.in_ok-add.ensures.reaches) in
     let here = subst (λ (a : ℕ). HasFirst all firsts' (set steps (a - base) (i - get_or firsts' ((a - base) / 128) 0)) base (i + 1)) at more in
     record {
       base = c.in_ok-add.ensures.base ∙ c.loop-number.invariant.base;
