@@ -6,6 +6,7 @@ ghost use Rattle.xray_image.specs.ImageView.{named_function};
 ghost use Rattle.xray_image.specs.Index.{AreWithin, IsIndexOf};
 ghost use Rattle.xray_image.specs.Program.{Program, IsAccepted, addresses};
 ghost use Rattle.xray_image.specs.Table.{Verdict, ReadsAs, ReadsProgram};
+ghost use Rattle.xray_image.specs.UnitTable.{units_in};
 ghost use Rattle.xray_image.specs.Views.{entry_of, function_of, places_in, program_read};
 
 use crate::branches::check_branches;
@@ -31,8 +32,9 @@ fn check_program(
     code: &CodeUnits,
     index: &UnitIndex,
 ) -> Result<(), ImageFault>
-    requires index { IsIndexOf (addresses code.now.units.items) index.now }
-    requires within { AreWithin header.now.base (2 ^ 32) (addresses code.now.units.items) }
+    requires index { IsIndexOf (addresses (units_in code.now.units)) index.now }
+    requires within { AreWithin header.now.base (2 ^ 32) (addresses (units_in code.now.units)) }
+    requires low { code.now.units.base < 2 ^ 63 }
     requires functions { length parts.now.functions.items < 2 ^ 32 }
     requires spots { length code.now.sleds.items < 2 ^ 32 }
     requires lines { length parts.now.entries.items < 2 ^ 32 }
@@ -105,6 +107,6 @@ impl Image {
     pub fn is_first_run(&self) -> bool
         ensures { IsTrue result ↔ IsFirstRun self.now }
     {
-        self.functions.len() == 1 && is_straight_run(&self.units, &self.sleds)
+        self.functions.len() == 1 && is_straight_run(self.units.as_slice(), &self.sleds)
     }
 }
