@@ -3,6 +3,7 @@ pub mod Nops
 pub mod Stuck
 pub mod FileParts
 pub mod HeaderRows
+pub mod Scans
 pub mod Several
 pub mod SoFar
 pub mod Index
@@ -10,3 +11,13 @@ pub mod Placement
 pub mod Acceptance
 pub mod Straight
 pub mod FirstRuns
+pub mod Distinct
+pub mod Numbering
+pub mod Naming
+pub mod NameText
+pub mod TextSteps
+pub mod ExtractText
+pub mod Lying
+pub mod Branching
+pub mod Entries
+pub mod FunctionRows

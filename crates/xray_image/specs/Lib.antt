@@ -12,4 +12,4 @@ pub mod Straight
 pub mod Table
 pub mod Ids
 pub mod Extract
-pub mod Names
+pub mod Judging

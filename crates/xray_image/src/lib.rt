@@ -3,11 +3,13 @@
 
 mod branches;
 mod code_units;
+mod extract;
 mod fault;
 mod fields;
 mod first_run;
 mod functions;
 mod header;
+mod ids;
 mod image;
 mod laws;
 mod parts;
@@ -17,6 +19,7 @@ mod unit;
 mod unit_index;
 mod unit_reader;
 
+pub use extract::write_extract;
 pub use fault::{ImageFault, Which};
 pub use image::{Image, read_image};
 pub use laws::{one_reading, one_unit_list, one_verdict};

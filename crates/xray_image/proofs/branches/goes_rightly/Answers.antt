@@ -1,0 +1,13 @@
+use Rattle.xray_image.proofs.Branching.{arrives, outside}
+use Rattle.xray_image.proofs.FunctionRows.{found_is}
+use Rattle.xray_image.specs.Program.{addresses}
+use Rattle.xray_image.proofs.branches.goes_rightly.Goals as goal
+
+pub returns-in-Ok : goal.returns-in-Ok
+returns-in-Ok c = λ units index low.
+    arrives units c.args.unit.now c.in-Plain.instr c.in-Some.target c.in-Plain.is c.in-Some.ensures c.in-Ok.address c.is_some.result c.in-Ok.ensures
+    (found_is (addresses units) c.in-Ok.address c.find.result c.is_some.result c.is_some.ensures (c.find.ensures (addresses units) index))
+
+pub returns-in-Err : goal.returns-in-Err
+returns-in-Err c = λ units index low.
+    outside units c.args.unit.now c.in-Plain.instr c.in-Some.target c.in-Plain.is c.in-Some.ensures c.in-Err.ensures low
