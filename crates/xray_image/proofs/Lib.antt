@@ -21,3 +21,7 @@ pub mod Lying
 pub mod Branching
 pub mod Entries
 pub mod FunctionRows
+pub mod Standing
+pub mod TableRows
+pub mod Accepts
+pub mod Stops
