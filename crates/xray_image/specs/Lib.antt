@@ -13,3 +13,5 @@ pub mod Table
 pub mod Ids
 pub mod Extract
 pub mod Judging
+pub mod Names
+pub mod UnitTable

@@ -49,7 +49,8 @@ fn check_program(
     check_order(&code.sleds, &parts.entries)?;
     check_entries(&parts.functions, &code.sleds, &parts.entries)?;
     check_distances(&header.trampolines, &code.sleds, &parts.entries)?;
-    check_branches(header.base, index, &code.units)
+    check_branches(header.base, index, &code.units)?;
+    Ok(())
 }
 
 /// The functions, with names of their own memory.
