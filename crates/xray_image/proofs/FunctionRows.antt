@@ -1,6 +1,6 @@
 -- Functions one by one.
 use Rattle.std.proofs.Common.{◌≡◌, ◌≢◌, ℕ, suc, ◌+◌, ◌<◌, ◌≤◌, List, [], ◌∷◌, ◌++◌, Bool, true, false, ◌||◌, length, get_or, take, map, All, Option, Some, None, Bor, refl, sym, ap, subst, ◌∙◌, arith}
-use Rattle.std.specs.Prelude.{◌↔◌, slice_get, Contains, MatchOption, IsTrue, is_some}
+use Rattle.std.specs.Prelude.{◌↔◌, slice_get, Contains, MatchOption, IsTrue, is_some, not}
 use Rattle.std.specs.declared.cmp.Ordering.{Ordering}
 use Rattle.std.specs.declared.cmp.Ordering.TheVariants.{Less, Equal, Greater}
 use Rattle.std.specs.Ordering.{match_ordering, is_eq, nat_cmp}
@@ -186,3 +186,11 @@ module _ (base : ℕ) (functions : List FunctionEntry) (i : ℕ) (within : i < l
 -- no function past the last
 pub no_function : (base : ℕ) (units : List Unit) (functions : List FunctionEntry) (i : ℕ) → length functions ≤ i → FunctionIsFit base units (map function_of functions) i
 no_function base units functions i le g e = absurd (let within = slice_get_within (map function_of functions) i g e in omega (arith, length-map functions function_of))
+
+pub true_not : (b : Bool) → not b ≡ false → b ≡ true
+true_not true e = refl
+true_not false e = sym e
+
+pub false_not : (b : Bool) → not b ≡ true → b ≡ false
+false_not true e = sym e
+false_not false e = refl

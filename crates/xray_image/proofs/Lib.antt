@@ -25,3 +25,4 @@ pub mod Standing
 pub mod TableRows
 pub mod Accepts
 pub mod Stops
+pub mod JudgedRows

@@ -13,5 +13,4 @@ pub mod Table
 pub mod Ids
 pub mod Extract
 pub mod Judging
-pub mod Names
 pub mod UnitTable
