@@ -15,7 +15,6 @@ pub mod Distinct
 pub mod Numbering
 pub mod Naming
 pub mod NameText
-pub mod TextSteps
 pub mod ExtractText
 pub mod Lying
 pub mod Branching

@@ -10,7 +10,7 @@ ghost use Rattle.xray_image.specs.Ids.{name_of};
 
 use crate::image::Image;
 use crate::sled::{Sled, SledKind};
-use xray_io::{Piece, Sink, Text, WriteFault};
+use xray_io::{Piece, Sink, Text, WriteFault, text_adds_up};
 
 /// How many hexadecimal digits an address is printed in.
 const ADDRESS_DIGITS: usize = 16;
@@ -44,6 +44,7 @@ fn add_extract<S: Sink>(text: &mut Text<S>, image: &Image) -> Result<(), WriteFa
     ensures follows { S.follows (sink_of text.old) (sink_of text.new) }
     ensures loan { loan_of text.new ≡ loan_of text.old }
 {
+    text_adds_up::<S>();
     text.bytes(b"---\n")?;
     for number in 0..image.sled_count() {
         let sled = image.sled(number);
