@@ -1,0 +1,92 @@
+//! Plain runs of an image, and their text.
+
+use crate::{End, Limits, PlainEnd, one_end, plain_run, some_end, write_plain};
+use std::test::Fail;
+use xray_image::read_image;
+use xray_io::MemSink;
+
+/// A function `main` that outputs an A: an entry sled, `mov eax, 0x41`, `out 1, al`, an exit sled.
+const OUTPUTS_AN_A: [u8; 170] = [
+    // magic, version, base 0x1000
+    0x58, 0x52, 0x49, 0x4D, 1, 0, 0, 0, 0x00, 0x10, 0, 0, 0, 0, 0, 0,
+    // 29 bytes of code, 1 function, 2 map entries, entry function 0
+    29, 0, 0, 0, 1, 0, 0, 0, 2, 0, 0, 0, 0, 0, 0, 0,
+    // trampolines 0x201000, 0x201010, 0x201020, 0x201030
+    0x00, 0x10, 0x20, 0, 0, 0, 0, 0, 0x10, 0x10, 0x20, 0, 0, 0, 0, 0, 0x20, 0x10, 0x20, 0, 0, 0, 0,
+    0, 0x30, 0x10, 0x20, 0, 0, 0, 0, 0,
+    // the code
+    0xEB, 0x09, 0x66, 0x0F, 0x1F, 0x84, 0x00, 0x00, 0x02, 0x00, 0x00, 0xB8, 0x41, 0, 0, 0, 0xE6,
+    0x01, 0xC3, 0x2E, 0x66, 0x0F, 0x1F, 0x84, 0x00, 0x00, 0x02, 0x00, 0x00,
+    // the function
+    0x00, 0x10, 0, 0, 0, 0, 0, 0, 4, 0x6D, 0x61, 0x69, 0x6E,
+    // the map: an entry sled at 0x1000 and an exit sled at 0x1012, always instrumented, version 0
+    0x00, 0x10, 0, 0, 0, 0, 0, 0, 0x00, 0x10, 0, 0, 0, 0, 0, 0, 0, 1, 0, 0, 0, 0, 0, 0, 0, 0, 0, 0,
+    0, 0, 0, 0, 0x12, 0x10, 0, 0, 0, 0, 0, 0, 0x00, 0x10, 0, 0, 0, 0, 0, 0, 1, 1, 0, 0, 0, 0, 0, 0,
+    0, 0, 0, 0, 0, 0, 0, 0,
+];
+
+/// The limits that a run has where nothing else is said.
+const DEFAULT_LIMITS: Limits = Limits {
+    fuel: 10_000_000,
+    passings: 1_048_576,
+    tick: 1,
+    tsc: 0,
+    cpus: 1,
+    migrate: 1_048_576,
+};
+
+/// The plain end of thread 1 of that image.
+fn run_main(rt: &HostRuntime, fuel: u64, passings: u32) -> Result<PlainEnd, Fail> {
+    let image = read_image(rt.alloc(), &OUTPUTS_AN_A)?;
+    let limits = Limits {
+        fuel,
+        passings,
+        ..DEFAULT_LIMITS
+    };
+    Ok(plain_run(rt.alloc(), &image, 1, limits)?)
+}
+
+#[test]
+fn a_thread_returns_with_three_lines(rt: HostRuntime) -> Result<(), Fail> {
+    one_end();
+    some_end();
+    let end = run_main(&rt, DEFAULT_LIMITS.fuel, DEFAULT_LIMITS.passings)?;
+    assert_eq!(rt; end.thread, 1);
+    assert_eq!(rt; end.end, End::Returned);
+    assert_eq!(rt; end.regs.len(), 16);
+    let mut sink = MemSink::new(rt.alloc(), Vec::new(rt.alloc()));
+    write_plain(&end, &mut sink)?;
+    let text = b"thread 1 returned instructions 3 passings 2\n\
+        rax=41 rcx=0 rdx=0 rbx=0 rbp=0 rsi=0 rdi=1 r8=0 r9=0 r11=0 r12=0 r13=0 r14=0 r15=0 zf=0\n\
+        output 41\n";
+    assert_eq!(rt; sink.bytes(), text.as_slice());
+    Ok(())
+}
+
+#[test]
+fn a_limit_ends_a_thread_where_it_is_reached(rt: HostRuntime) -> Result<(), Fail> {
+    let fuel = run_main(&rt, 1, 1_048_576)?;
+    assert_eq!(rt; fuel.end, End::Fuel);
+    assert_eq!(rt; fuel.instructions, 1);
+    assert_eq!(rt; fuel.passings, 1);
+    assert_eq!(rt; fuel.regs.first().copied(), Some(0x41));
+    assert!(rt; fuel.output.is_empty());
+
+    // The exit sled is passed before its return wants fuel.
+    let passed = run_main(&rt, 2, 1_048_576)?;
+    assert_eq!(rt; passed.end, End::Fuel);
+    assert_eq!(rt; passed.instructions, 2);
+    assert_eq!(rt; passed.passings, 2);
+
+    let passings = run_main(&rt, 10_000_000, 1)?;
+    assert_eq!(rt; passings.end, End::Passings);
+    assert_eq!(rt; passings.instructions, 2);
+    assert_eq!(rt; passings.passings, 1);
+    assert_eq!(rt; passings.output.as_slice(), [0x41].as_slice());
+
+    let none = run_main(&rt, 10_000_000, 0)?;
+    assert_eq!(rt; none.end, End::Passings);
+    assert_eq!(rt; none.instructions, 0);
+    assert_eq!(rt; none.passings, 0);
+    Ok(())
+}
