@@ -26,3 +26,6 @@ pub mod TableRows
 pub mod Accepts
 pub mod Stops
 pub mod JudgedRows
+pub mod Making
+pub mod ImageMade
+pub mod FileRows
