@@ -1,5 +1,5 @@
 -- What a file reads as, from what the reader has of it.
-use Rattle.std.proofs.Common.{◌≡◌, ℕ, ◌+◌, ◌<◌, ◌≤◌, ◌^◌, inl, inr, List, [], ◌∷◌, length, map, Option, Some, Ok, Err, refl, sym, ap, subst, ◌∙◌, arith}
+use Rattle.std.proofs.Common.{◌≡◌, ℕ, ◌+◌, ◌<◌, ◌≤◌, ◌^◌, inl, inr, List, [], ◌∷◌, ◌++◌, length, map, Option, Some, Ok, Err, refl, sym, ap, subst, ◌∙◌, arith}
 use Rattle.std.specs.Prelude.{◌⊎◌, slice_get}
 use Rattle.std.specs.Option.{option_map_or}
 use Rattle.std.specs.List.{zip, flat_map}
@@ -57,6 +57,9 @@ module _ (bytes : List ℕ) (h : Header) (head : HasHeader bytes) (is : IsHeader
   pub code_few : length p.code.now < 2 ^ 32
   code_few = omega (arith, code_short bytes (parts_of_view p) there, head.code_limit)
 
+  pub code_low : length p.code.now ≤ 1048576
+  code_low = omega (arith, code_short bytes (parts_of_view p) there, head.code_limit)
+
   pub base_low : h.base < 2 ^ 63
   base_low = omega (arith, is.base, head.base_limit)
 
@@ -79,10 +82,13 @@ module _ (bytes : List ℕ) (h : Header) (head : HasHeader bytes) (is : IsHeader
 
   module _ (u : CodeUnits) (units : HasUnits h.base p.code.now u.units.items (places_in u)) where
     pub spots_few : length u.sleds.items < 2 ^ 32
-    spots_few = omega (
-      arith, length-map u.sleds.items place_of, ap length units.places_are, places_few h.base units.pieces,
-      ap length (stand_shown h.base p.code.now units.pieces (h.base + length p.code.now) [] units.stand), length-append (flat_map piece_bytes units.pieces) ([] {A = ℕ}), code_few
-    )
+    spots_few =
+        let none : List ℕ = [] in
+        let whole : p.code.now ≡ flat_map piece_bytes units.pieces ++ none = stand_shown h.base p.code.now units.pieces (h.base + length p.code.now) [] units.stand in
+        omega (
+          arith, length-map u.sleds.items place_of, ap length units.places_are, places_few h.base units.pieces, ap length whole,
+          length-append (flat_map piece_bytes units.pieces) none, code_few
+        )
 
     pub units_within : (all : List Unit) → all ≡ u.units.items → AreWithin h.base (2 ^ 32) (addresses all)
     units_within all same =

@@ -29,3 +29,4 @@ pub mod JudgedRows
 pub mod Making
 pub mod ImageMade
 pub mod FileRows
+pub mod ReadOnce
