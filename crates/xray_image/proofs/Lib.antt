@@ -24,7 +24,6 @@ pub mod FunctionRows
 pub mod Standing
 pub mod TableRows
 pub mod Accepts
-pub mod Stops
 pub mod JudgedRows
 pub mod Making
 pub mod ImageMade

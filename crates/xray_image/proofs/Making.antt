@@ -19,18 +19,6 @@ use Rattle.xray_image.proofs.Scans.{zero_spot, zero_line}
 
 -- ---- functions
 
--- one more item is made of the next
-pub made_more : {X Y Z : Type 0} (f : X → Z) (g : Y → Z) (xs xs' : List X) (ys : List Y) (i : ℕ) (x : X) (y : Y) → map f xs ≡ map g (take i ys) → xs' ≡ xs ++ x ∷ [] → f x ≡ g (get_or ys i y) → i < length ys
-    → map f xs' ≡ map g (take (i + 1) ys)
-made_more f g xs xs' ys i x y so_far pushed same within =
-    ap (map f) pushed ∙ map-append f xs (x ∷ [])
-    ∙ ap (λ zs. zs ++ f x ∷ []) so_far
-    ∙ ap (λ z. map g (take i ys) ++ z ∷ []) same
-    ∙ sym (ap (map g) (take_more ys i y within) ∙ map-append g (take i ys) (get_or ys i y ∷ []))
-
-pub all_made : {X Y Z : Type 0} (f : X → Z) (g : Y → Z) (xs : List X) (ys : List Y) (i : ℕ) → map f xs ≡ map g (take i ys) → length ys ≤ i → map f xs ≡ map g ys
-all_made f g xs ys i so_far le = so_far ∙ ap (map g) (take_all i ys le)
-
 -- the name of the function of a number
 pub name_at : (functions : List FunctionEntry) (i : ℕ) → i < length functions → All (λ f. All (λ b. is_name_byte b ≡ true) f.name) (map function_of functions)
     → All (λ b. is_name_byte b ≡ true) (get_or functions i zero_function).name.now
