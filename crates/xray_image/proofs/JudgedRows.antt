@@ -13,6 +13,7 @@ use Rattle.xray_image.specs.declared.parts.MapLine.{MapLine}
 use Rattle.xray_image.specs.declared.unit.Unit.{Unit}
 use Rattle.xray_image.specs.declared.unit_index.UnitIndex.{UnitIndex}
 use Rattle.xray_image.specs.Units.{SledPlace}
+use Rattle.xray_image.specs.UnitTable.{units_in}
 use Rattle.xray_image.specs.Container.{MapEntry}
 use Rattle.xray_image.specs.Index.{IsIndexOf}
 use Rattle.xray_image.specs.Judging.{Ascend, IsJudged}
@@ -45,7 +46,7 @@ module _ (h : Header) (p : FileParts) (u : CodeUnits) where
   Told fault = ReadsProgram (map entry_of p.entries.items) (places_in u) (program_read h p u) (Err fault)
 
   abbrev Functions : Type 0
-  Functions = (i : ℕ) → FunctionIsFit h.base u.units.items (map function_of p.functions.items) i
+  Functions = (i : ℕ) → FunctionIsFit h.base (units_in u.units) (map function_of p.functions.items) i
 
   abbrev Order : Type 0
   Order = (i : ℕ) → HasOneAddress (map place_of u.sleds.items) (map entry_of p.entries.items) i
@@ -56,19 +57,19 @@ module _ (h : Header) (p : FileParts) (u : CodeUnits) where
   abbrev Near : Type 0
   Near = (i : ℕ) → FitsAt (map place_of u.sleds.items) (map entry_of p.entries.items) (Reaches (trampolines_of h.trampolines)) i
 
-  module _ (index : UnitIndex) (is_index : IsIndexOf (addresses u.units.items) index) (functions : List FunctionEntry) (same : functions ≡ p.functions.items) where
+  module _ (index : UnitIndex) (is_index : IsIndexOf (addresses (units_in u.units)) index) (functions : List FunctionEntry) (same : functions ≡ p.functions.items) where
     pub functions_all : ((units : List Unit) → IsIndexOf (addresses units) index → (i : ℕ) → FunctionIsFit h.base units (map function_of functions) i) → Functions
-    functions_all all = subst (λ (fs : List FunctionEntry). (i : ℕ) → FunctionIsFit h.base u.units.items (map function_of fs) i) same (all u.units.items is_index)
+    functions_all all = subst (λ (fs : List FunctionEntry). (i : ℕ) → FunctionIsFit h.base (units_in u.units) (map function_of fs) i) same (all (units_in u.units) is_index)
 
     pub functions_row : (fault : ImageFault) → (fault ≡ faults.NoMemory) ⊎ ((units : List Unit) → IsIndexOf (addresses units) index → IsFirstFault (FunctionIsFit h.base units (map function_of functions)) (λ i. faults.Names i) fault)
         → (fault ≡ faults.NoMemory) ⊎ Told fault
     functions_row fault (inl full) = inl full
     functions_row fault (inr first) =
-        let f = subst (λ (fs : List FunctionEntry). IsFirstFault (FunctionIsFit h.base u.units.items (map function_of fs)) (λ i. faults.Names i) fault) same (first u.units.items is_index) in
+        let f = subst (λ (fs : List FunctionEntry). IsFirstFault (FunctionIsFit h.base (units_in u.units) (map function_of fs)) (λ i. faults.Names i) fault) same (first (units_in u.units) is_index) in
         inr (inl (f.number, f.fails, f.holds_below, ap (λ (e : ImageFault). Err e) f.is))
 
   pub ascend : Functions → (functions : List FunctionEntry) → functions ≡ p.functions.items → Ascend (map function_of functions)
-  ascend all functions same = subst (λ (fs : List FunctionEntry). Ascend (map function_of fs)) (sym same) (functions_ascend h.base u.units.items (map function_of p.functions.items) all)
+  ascend all functions same = subst (λ (fs : List FunctionEntry). Ascend (map function_of fs)) (sym same) (functions_ascend h.base (units_in u.units) (map function_of p.functions.items) all)
 
   module _ (spots : List SledSpot) (lines : List MapLine) (same_spots : spots ≡ u.sleds.items) (same_lines : lines ≡ p.entries.items) where
     pub order_all : ((i : ℕ) → HasOneAddress (map place_of spots) (map entry_of lines) i) → Order
@@ -110,8 +111,8 @@ module _ (h : Header) (p : FileParts) (u : CodeUnits) where
         (subst (λ (ls : List MapLine). IsFirstFault (FitsAt (map place_of spots) (map entry_of ls) (Reaches (trampolines_of h.trampolines))) (λ i. faults.Far i) fault) same_lines first) in
         inr (all, inr (order, inr (entries, inl (f.number, f.fails, f.holds_below, ap (λ (e : ImageFault). Err e) f.is))))
 
-  module _ (units : List Unit) (same : units ≡ u.units.items) where
-    pub branches_all : ((i : ℕ) → BranchesRightly units i) → (i : ℕ) → BranchesRightly u.units.items i
+  module _ (units : List Unit) (same : units ≡ (units_in u.units)) where
+    pub branches_all : ((i : ℕ) → BranchesRightly units i) → (i : ℕ) → BranchesRightly (units_in u.units) i
     branches_all all = subst (λ (us : List Unit). (i : ℕ) → BranchesRightly us i) same all
 
     pub branches_row : Functions → Order → Entries → Near → (fault : ImageFault) → IsFirstFault (BranchesRightly units) (λ i. faults.Target (place_of_unit h.base units i)) fault → Told fault

@@ -137,7 +137,9 @@ module _ (functions : List FunctionEntry) (places : List SledPlace) (lines : Lis
       let place : SledPlace = record { address = 0; shift = 0; returns = false } in
       let lt' : j < length lines = omega (arith, length-map lines (λ e. e.function)) in
       omega (
-        arith, get_or-map (λ e. e.function) lines i line d (omega arith), get_or-map (λ e. e.function) lines j line d lt',
+        arith,
+        get_or-map (λ e. e.function) lines i line d (omega arith),
+        get_or-map (λ e. e.function) lines j line d lt',
         lies_in_order (map function_of functions) (get_or places i place).address (get_or places j place).address (get_or lines i line).function (get_or lines j line).function up
-            (lies_at i line place (omega arith)) (lies_at j line place lt') (places_up i j place le (omega (arith, count)))
+            (lies_at i line place (omega arith)) (lies_at j line place lt') (places_up i j place le (omega (arith, count))),
       )

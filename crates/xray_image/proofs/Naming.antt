@@ -38,8 +38,11 @@ functions_ascend base units (f ∷ fs) are k lt =
     let less : (get_or functions k f).start < (get_or functions (suc k) f).start =
     subst (λ (o : Option Function). BeginsBehind base o (get_or functions (suc k) f).start) (last_taken None functions k f (omega (arith, count))) in_order in
     omega (
-      arith, less, get_or-map (λ g. g.start) functions k f 0 (omega (arith, count)), get_or-map (λ g. g.start) functions (suc k) f 0 (omega (arith, count)),
-      ap (λ n. get_or (map (λ g. g.start) functions) n 0) next
+      arith,
+      less,
+      get_or-map (λ g. g.start) functions k f 0 (omega (arith, count)),
+      get_or-map (λ g. g.start) functions (suc k) f 0 (omega (arith, count)),
+      ap (λ n. get_or (map (λ g. g.start) functions) n 0) next,
     )
 
 pub accepted_ascend : (bytes : List ℕ) (program : Program) → IsAccepted bytes program → IsStrictlyIncreasing (map (λ f. f.start) program.functions)
@@ -59,8 +62,12 @@ found_by_start functions k f up at =
     let first : position_or_len (λ g. g.start == f.start) functions ≡ k =
     position_or_len_is (λ g. g.start == f.start) functions k f (omega (arith, within))
     (λ j below. ne_eqb _ f.start (λ same. omega (
-      arith, same, AllPairs-from_increasing (map (λ g. g.start) functions) up j k 0 below (omega (arith, count, within)),
-      get_or-map (λ g. g.start) functions j f 0 (omega (arith, within, below)), get_or-map (λ g. g.start) functions k f 0 within, ap (λ (g : Function). g.start) there
+      arith,
+      same,
+      AllPairs-from_increasing (map (λ g. g.start) functions) up j k 0 below (omega (arith, count, within)),
+      get_or-map (λ g. g.start) functions j f 0 (omega (arith, within, below)),
+      get_or-map (λ g. g.start) functions k f 0 within,
+      ap (λ (g : Function). g.start) there,
     )))
     (λ lt. eq-eqb _ f.start (ap (λ (g : Function). g.start) there)) in
     find_at (λ g. g.start == f.start) functions ∙ ap (slice_get functions) first ∙ at

@@ -1,5 +1,5 @@
 -- What an image's fields tell, and what holds of them.
-use Rattle.std.specs.Prelude.{ℕ, List, map}
+use Rattle.std.specs.Prelude.{◌≡◌, ℕ, List, map}
 use Rattle.std.specs.String.{string_bytes}
 use Rattle.xray_image.specs.declared.image.Image.TheInside.{Inside}
 use Rattle.xray_image.specs.declared.image.Function.{Function as Named}
@@ -7,6 +7,7 @@ use Rattle.xray_image.specs.Container.{Function}
 use Rattle.xray_image.specs.Program.{Program, IsAccepted, addresses}
 use Rattle.xray_image.specs.Ids.{sledded_functions, AreNumbersOf}
 use Rattle.xray_image.specs.Index.{IsIndexOf}
+use Rattle.xray_image.specs.UnitTable.{units_in}
 use Rattle.xray_image.specs.Views.{trampolines_of}
 
 abbrev pub named_function : Named → Function
@@ -19,7 +20,7 @@ program_in a = record {
   entry = a.entry;
   code = a.code.items;
   functions = map named_function a.functions.items;
-  units = a.units.items;
+  units = units_in a.units;
   sleds = a.sleds.items;
   trampolines = trampolines_of a.trampolines;
 }
@@ -28,5 +29,6 @@ program_in a = record {
 pub record IsSound (a : Inside) : Type 0 where
   pub bytes : List ℕ
   pub accepted : IsAccepted bytes (program_in a)
-  pub index : IsIndexOf (addresses a.units.items) a.index
+  pub index : IsIndexOf (addresses (units_in a.units)) a.index
+  pub table : a.units.base ≡ a.base
   pub ids : AreNumbersOf (map (λ f. f.start) (program_in a).functions) (sledded_functions (program_in a)) a.ids.items

@@ -27,6 +27,10 @@ whole_what stored.Pad = whats.Pad
 abbrev pub whole_unit : ℕ → StoredUnit → Unit
 whole_unit base unit = record { address = base + unit.place; what = whole_what unit.what }
 
+-- what units are
+abbrev pub stored_whats : List StoredUnit → List What
+stored_whats units = map (λ u. whole_what u.what) units
+
 -- the units of a table
 abbrev pub units_in : UnitTable → List Unit
 units_in table = map (whole_unit table.base) table.units.items

@@ -19,6 +19,7 @@ use Rattle.xray_image.specs.Table.{BeginsAsSled}
 use Rattle.xray_image.specs.Units.{SledPlace, Piece, Instruction, JumpSled, ReturnSled, Align}
 use Rattle.xray_image.specs.declared.parts.MapLine.{MapLine}
 use Rattle.xray_image.specs.declared.parts.FileParts.{FileParts}
+use Rattle.xray_image.specs.UnitTable.{units_in}
 use Rattle.xray_image.specs.Container.{Function, MapEntry, Parts, version, base_address, code_length, function_count, entry_count, entry_index, number8_at, parts_of}
 
 abbrev pub trampolines_of : Addresses → Trampolines
@@ -76,7 +77,7 @@ program_read h p u = record {
   entry = option_map_or (λ f. f.start) (slice_get (map function_of p.functions.items) h.entry_index) 0;
   code = p.code.now;
   functions = map function_of p.functions.items;
-  units = u.units.items;
+  units = units_in u.units;
   sleds = map (sled_of (map entry_of p.entries.items)) (zip (places_in u) (map entry_of p.entries.items));
   trampolines = trampolines_of h.trampolines;
 }

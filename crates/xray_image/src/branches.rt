@@ -7,10 +7,11 @@ ghost use Rattle.xray_image.specs.declared.unit.Unit.{Unit};
 ghost use Rattle.xray_image.specs.Index.{AreWithin, IsIndexOf};
 ghost use Rattle.xray_image.specs.Program.{addresses, branch_target, BranchReaches};
 ghost use Rattle.xray_image.specs.Reading.{IsFirstFault};
+ghost use Rattle.xray_image.specs.UnitTable.{units_in};
 ghost use Rattle.xray_image.specs.Table.{BranchesRightly, place_of_unit};
 
 use crate::fault::ImageFault;
-use crate::unit::{Unit, What};
+use crate::unit::{Unit, UnitTable, What};
 use crate::unit_index::UnitIndex;
 use subset_decode::Instr;
 
@@ -62,17 +63,19 @@ fn goes_rightly(index: &UnitIndex, unit: &Unit) -> bool
 pub(crate) fn check_branches(
     base: u64,
     index: &UnitIndex,
-    units: &[Unit],
+    units: &UnitTable,
 ) -> Result<(), ImageFault>
-    requires index { IsIndexOf (addresses units.now) index.now }
+    requires index { IsIndexOf (addresses (units_in units.now)) index.now }
     requires base { base < 2 ^ 63 }
-    requires within { AreWithin base (2 ^ 32) (addresses units.now) }
-    ensures right { OnOk result ((i : ℕ) → BranchesRightly units.now i) }
-    ensures refused { IfErr result (IsFirstFault (BranchesRightly units.now)
-        (λ i. ImageFault.Target (place_of_unit base units.now i))) }
+    requires low { units.now.base < 2 ^ 63 }
+    requires within { AreWithin base (2 ^ 32) (addresses (units_in units.now)) }
+    ensures right { OnOk result ((i : ℕ) → BranchesRightly (units_in units.now) i) }
+    ensures refused { IfErr result (IsFirstFault (BranchesRightly (units_in units.now))
+        (λ i. ImageFault.Target (place_of_unit base (units_in units.now) i))) }
 {
-    for unit in units {
-        if !goes_rightly(index, unit) {
+    for number in 0..units.len() {
+        let unit = units.get(number);
+        if !goes_rightly(index, &unit) {
             return Err(ImageFault::Target((unit.address - base) as u32));
         }
     }

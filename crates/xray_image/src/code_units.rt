@@ -4,12 +4,17 @@ ghost use Rattle.std.specs.Prelude.{◌≡◌, ◌≤◌, ◌<◌, ◌^◌, ◌+
 ghost use Rattle.xray_image.specs.Units.{what_of, units_from, places_from};
 ghost use Rattle.xray_image.specs.Reading.{HasUnits, IsReadTo};
 ghost use Rattle.xray_image.specs.Table.{StopsAt};
+ghost use Rattle.xray_image.specs.UnitTable.{units_in};
 ghost use Rattle.xray_image.specs.Views.{piece_of, places_in, fault_at};
 
 use crate::fault::ImageFault;
-use crate::unit::{Unit, What};
+use crate::unit::{Unit, UnitTable, What};
 use crate::unit_reader::{NoUnit, RawUnit, read_unit};
 use std::alloc::Global;
+
+/// How long units are on the average, in bytes, where the table of units doesn't grow while they are
+/// read.
+const MEAN_LENGTH: usize = 3;
 
 /// A sled as the code alone tells it.
 #[derive(Clone, Copy)]
@@ -25,7 +30,7 @@ pub(crate) struct SledSpot {
 /// The units of a code, and the sleds among them, both in ascending address.
 #[derive(Drop)]
 pub(crate) struct CodeUnits {
-    pub(crate) units: Vec<Unit>,
+    pub(crate) units: UnitTable,
     pub(crate) sleds: Vec<SledSpot>,
 }
 
@@ -80,8 +85,11 @@ impl CodeUnits {
 
     /// Adds the unit at an address.
     fn add(&mut self, address: u64, raw: RawUnit) -> Result<(), ImageFault>
-        requires { length self.old.sleds.items < 2 ^ 32 }
-        ensures units { OnOk result (self.new.units.items ≡ self.old.units.items
+        requires sleds { length self.old.sleds.items < 2 ^ 32 }
+        requires above { self.old.units.base ≤ address }
+        requires near { address < self.old.units.base + 2 ^ 32 }
+        ensures base { OnOk result (self.new.units.base ≡ self.old.units.base) }
+        ensures units { OnOk result (units_in self.new.units ≡ units_in self.old.units
             ++ units_from address (length self.old.sleds.items) (piece_of raw ∷ [])) }
         ensures sleds { OnOk result (places_in self.new ≡ places_in self.old
             ++ places_from address (piece_of raw ∷ [])) }
@@ -97,9 +105,11 @@ impl CodeUnits {
         requires base { base < 2 ^ 63 }
         requires code { length code.now < 2 ^ 32 }
         requires left { at < length code.now }
-        requires read { IsReadTo base code.now at self.old.units.items (places_in self.old) }
+        requires table { self.old.units.base ≡ base }
+        requires read { IsReadTo base code.now at (units_in self.old.units) (places_in self.old) }
+        ensures table { OnOk result (self.new.units.base ≡ base) }
         ensures read { IfOk result (λ next.
-            IsReadTo base code.now next self.new.units.items (places_in self.new)) }
+            IsReadTo base code.now next (units_in self.new.units) (places_in self.new)) }
         ensures next { IfOk result (λ next. at < next) }
         ensures refused { IfErr result (λ fault. (fault ≡ ImageFault.NoMemory)
             ⊎ StopsAt base code.now fault) }
@@ -121,12 +131,13 @@ impl CodeUnits {
         requires base { base < 2 ^ 63 }
         requires code { length code.now < 2 ^ 32 }
         ensures found { IfOk result (λ read.
-            HasUnits base code.now read.units.items (places_in read)) }
+            HasUnits base code.now (units_in read.units) (places_in read)) }
+        ensures table { IfOk result (λ read. read.units.base ≡ base) }
         ensures refused { IfErr result (λ fault. (fault ≡ ImageFault.NoMemory)
             ⊎ StopsAt base code.now fault) }
     {
         let mut read = CodeUnits {
-            units: Vec::new(alloc),
+            units: UnitTable::with_room(alloc, base, code.len() / MEAN_LENGTH + 1)?,
             sleds: Vec::new(alloc),
         };
         let mut at = 0;

@@ -9,7 +9,7 @@ mod reading;
 
 use crate::header::Trampolines;
 use crate::sled::{Sled, SledKind};
-use crate::unit::Unit;
+use crate::unit::{Unit, UnitTable};
 use crate::unit_index::UnitIndex;
 pub use reading::read_image;
 use std::alloc::{AllocError, Global};
@@ -41,7 +41,7 @@ pub struct Image {
     entry: u64,
     code: Vec<u8>,
     functions: Vec<Function>,
-    units: Vec<Unit>,
+    units: UnitTable,
     sleds: Vec<Sled>,
     trampolines: Trampolines,
     index: UnitIndex,
@@ -109,7 +109,7 @@ impl Image {
         requires { i < length self.now.units }
         ensures { slice_get self.now.units i ≡ Some result }
     {
-        self.units[i as usize]
+        self.units.get(i as usize)
     }
 
     /// The number of the unit that begins at an address. None exactly where none begins there.

@@ -5,7 +5,7 @@ use std::test::Fail;
 use subset_decode::{Instr, Reg};
 
 /// A function `main` that outputs an A: an entry sled, `mov eax, 0x41`, `out 1, al`, an exit sled.
-const OUTPUTS_AN_A: [u8; 170] = [
+pub(crate) const OUTPUTS_AN_A: [u8; 170] = [
     // magic, version, base 0x1000
     0x58, 0x52, 0x49, 0x4D, 1, 0, 0, 0, 0x00, 0x10, 0, 0, 0, 0, 0, 0,
     // 29 bytes of code, 1 function, 2 map entries, entry function 0

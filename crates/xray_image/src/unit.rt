@@ -98,13 +98,20 @@ impl StoredWhat {
 
 /// A unit as it is stored, in 12 bytes.
 #[derive(Clone, Copy, Debug)]
-struct StoredUnit {
+pub(crate) struct StoredUnit {
     /// The place of its first byte in the code, in bytes from the code's start.
     place: u32,
     what: StoredWhat,
 }
 
 impl StoredUnit {
+    /// What it is.
+    pub(crate) fn what(self) -> What
+        ensures { result ≡ whole_what self.what }
+    {
+        self.what.whole()
+    }
+
     /// The unit, in a code whose first byte has the address `base`.
     fn whole(self, base: u64) -> Unit
         requires { base < 2 ^ 63 }
@@ -166,6 +173,13 @@ impl UnitTable {
         ensures { result ≡ length (units_in self.now) }
     {
         self.units.len()
+    }
+
+    /// The units as they are stored.
+    pub(crate) fn as_slice(&self) -> &[StoredUnit]
+        ensures { result.now ≡ self.now.units.items }
+    {
+        &self.units
     }
 
     /// The unit of a number, from 0.

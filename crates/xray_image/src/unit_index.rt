@@ -4,8 +4,9 @@ ghost use Rattle.std.specs.Prelude.{◌≡◌, ◌≤◌, ◌<◌, ◌+◌, ◌-
 ghost use Rattle.std.specs.List.Sorted.{IsStrictlyIncreasing};
 ghost use Rattle.xray_image.specs.Program.{addresses};
 ghost use Rattle.xray_image.specs.Index.{AreWithin, IsIndexOf, HasBegun};
+ghost use Rattle.xray_image.specs.UnitTable.{units_in};
 
-use crate::unit::Unit;
+use crate::unit::UnitTable;
 use std::alloc::{AllocError, Global};
 
 /// How many bytes of the code a block has.
@@ -67,19 +68,21 @@ impl UnitIndex {
         alloc: Global,
         base: u64,
         code_length: usize,
-        units: &[Unit],
+        units: &UnitTable,
     ) -> Result<UnitIndex, AllocError>
-        requires within { AreWithin base code_length (addresses units.now) }
-        requires ascending { IsStrictlyIncreasing (addresses units.now) }
-        requires few { length units.now < 2 ^ 32 - 1 }
-        ensures index { IfOk result (IsIndexOf (addresses units.now)) }
+        requires within { AreWithin base code_length (addresses (units_in units.now)) }
+        requires ascending { IsStrictlyIncreasing (addresses (units_in units.now)) }
+        requires few { length (units_in units.now) < 2 ^ 32 - 1 }
+        requires low { units.now.base < 2 ^ 63 }
+        ensures index { IfOk result (IsIndexOf (addresses (units_in units.now))) }
     {
         let mut index = UnitIndex {
             base,
             firsts: Vec::new(alloc),
             steps: vec![in alloc; NO_UNIT; code_length]?,
         };
-        for (number, unit) in units.iter().enumerate() {
+        for number in 0..units.len() {
+            let unit = units.get(number);
             index.add((unit.address - base) as usize, number as u32)?;
         }
         Ok(index)

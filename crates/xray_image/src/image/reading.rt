@@ -8,6 +8,7 @@ ghost use Rattle.xray_image.specs.Index.{AreWithin, IsIndexOf};
 ghost use Rattle.xray_image.specs.Judging.{IsJudged};
 ghost use Rattle.xray_image.specs.Program.{Program, IsAccepted, addresses, is_name_byte};
 ghost use Rattle.xray_image.specs.Table.{Verdict, ReadsAs, ReadsProgram};
+ghost use Rattle.xray_image.specs.UnitTable.{units_in};
 ghost use Rattle.xray_image.specs.Views.{entry_of, function_of, places_in, program_read};
 
 use crate::branches::check_branches;
@@ -33,9 +34,10 @@ fn check_program(
     code: &CodeUnits,
     index: &UnitIndex,
 ) -> Result<(), ImageFault>
-    requires index { IsIndexOf (addresses code.now.units.items) index.now }
+    requires index { IsIndexOf (addresses (units_in code.now.units)) index.now }
+    requires low { code.now.units.base < 2 ^ 63 }
     requires base { header.now.base < 2 ^ 63 }
-    requires within { AreWithin header.now.base (2 ^ 32) (addresses code.now.units.items) }
+    requires within { AreWithin header.now.base (2 ^ 32) (addresses (units_in code.now.units)) }
     requires functions { length parts.now.functions.items < 2 ^ 32 }
     requires spots { length code.now.sleds.items < 2 ^ 32 }
     requires lines { length parts.now.entries.items < 2 ^ 32 }
@@ -81,7 +83,7 @@ fn image_of(
     requires judged { IsJudged (map entry_of parts.now.entries.items) (places_in code)
         (program_read header.now parts.now code) }
     requires ascend { IsNonDecreasingBy (λ place. place.address) (places_in code) }
-    requires index { IsIndexOf (addresses code.units.items) index }
+    requires index { IsIndexOf (addresses (units_in code.units)) index }
     requires entry { header.now.entry_index < length parts.now.functions.items }
     requires functions { length parts.now.functions.items < 2 ^ 32 }
     requires lines { length parts.now.entries.items < 2 ^ 32 }
@@ -141,6 +143,6 @@ impl Image {
     pub fn is_first_run(&self) -> bool
         ensures { IsTrue result ↔ IsFirstRun self.now }
     {
-        self.functions.len() == 1 && is_straight_run(&self.units, &self.sleds)
+        self.functions.len() == 1 && is_straight_run(self.units.as_slice(), &self.sleds)
     }
 }

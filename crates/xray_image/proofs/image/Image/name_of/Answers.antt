@@ -24,8 +24,9 @@ index-requires c =
     let count : c.id_count.result ≡ id_count program = c.id_count.ensures ∙ ap id_count (sym c.self.view_is) in
     let within : c.args.id - 1 < length inside.ids.items = omega (arith, few.0, count, c.if-id-id_count.false, c.if-id-eq0.false) in
     omega (
-      arith, inside.functions.ok.0,
-      number_within program inside.functions.items inside.ids.items refl up sound.ids (c.args.id - 1) c.index-number.result.now within c.index-number.ensures
+      arith,
+      inside.functions.ok.0,
+      number_within program inside.functions.items inside.ids.items refl up sound.ids (c.args.id - 1) c.index-number.result.now within c.index-number.ensures,
     )
 
 pub returns-clause-name : goal.returns-clause-name

@@ -1,5 +1,6 @@
-use Rattle.std.proofs.Common.{◌≡◌, ℕ, inr}
+use Rattle.std.proofs.Common.{◌≡◌, ℕ, inr, refl}
 use Rattle.std.proofs.lemmas.Result.{err_from_is_err_and}
+use Rattle.xray_image.specs.UnitTable.{units_in}
 use Rattle.xray_image.proofs.JudgedRows.{functions_all, functions_row, ascend, order_all, order_row, few_lines, entries_all, entries_row, near_all, near_row, branches_all, branches_row}
 use Rattle.xray_image.proofs.image.reading.check_program.Goals as goal
 
@@ -72,7 +73,7 @@ returns-in_err-check_branches-clause-refused c =
     let entries = entries_all h parts code c.deref-5.result.now c.deref-6.result.now c.deref-5.ensures.value c.deref-6.ensures.value c.deref-4.result.now c.deref-4.ensures.value c.in_ok-check_entries.ensures.fit in
     let near = near_all h parts code c.deref-7.result.now c.deref-8.result.now c.deref-7.ensures.value c.deref-8.ensures.value c.in_ok-check_distances.ensures.near in
     let p = err_from_is_err_and c.from_residual-in_err-check_branches.result c.from_residual-in_err-check_branches.ensures.1 in
-    rw (p.1, p.2) (inr (branches_row h parts code c.deref-9.result.now c.deref-9.ensures.value functions order entries near _ c.in_err-check_branches.ensures.refused))
+    rw (p.1, p.2) (inr (branches_row h parts code (units_in code.units) refl functions order entries near _ c.in_err-check_branches.ensures.refused))
 
 pub returns-clause-fit : goal.returns-clause-fit
 returns-clause-fit c =
@@ -84,5 +85,5 @@ returns-clause-fit c =
       order = order_all h parts code c.deref-2.result.now c.deref-3.result.now c.deref-2.ensures.value c.deref-3.ensures.value c.in_ok-check_order.ensures.ordered;
       entries_fit = entries_all h parts code c.deref-5.result.now c.deref-6.result.now c.deref-5.ensures.value c.deref-6.ensures.value c.deref-4.result.now c.deref-4.ensures.value c.in_ok-check_entries.ensures.fit;
       near = near_all h parts code c.deref-7.result.now c.deref-8.result.now c.deref-7.ensures.value c.deref-8.ensures.value c.in_ok-check_distances.ensures.near;
-      branches = branches_all h parts code c.deref-9.result.now c.deref-9.ensures.value c.in_ok-check_branches.ensures.right;
+      branches = branches_all h parts code (units_in code.units) refl c.in_ok-check_branches.ensures.right;
     }
