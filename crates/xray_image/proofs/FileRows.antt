@@ -12,6 +12,7 @@ use Rattle.xray_image.specs.declared.fault.ImageFault.TheVariants as faults
 use Rattle.xray_image.specs.declared.header.Header.{Header}
 use Rattle.xray_image.specs.declared.parts.FileParts.{FileParts}
 use Rattle.xray_image.specs.declared.unit.Unit.{Unit}
+use Rattle.xray_image.specs.declared.unit.UnitTable.{UnitTable}
 use Rattle.xray_image.specs.Units.{Piece, Instruction, JumpSled, ReturnSled, Align, piece_bytes, SledPlace, units_from, places_from}
 use Rattle.xray_image.specs.Container.{Function, MapEntry, Parts, base_address, code_length, function_count, entry_count, entry_index, number8_at, parts_of}
 use Rattle.xray_image.specs.Header.{HasHeader}
@@ -20,6 +21,7 @@ use Rattle.xray_image.specs.Judging.{IsJudged}
 use Rattle.xray_image.specs.Program.{Program, Trampolines, addresses, sled_of, program_of, IsAccepted}
 use Rattle.xray_image.specs.Reading.{HasUnits}
 use Rattle.xray_image.specs.Table.{Verdict, StandUpTo, StopsAt, NeedsUnits, ReadsProgram, ReadsParts, ReadsAs}
+use Rattle.xray_image.specs.UnitTable.{units_in}
 use Rattle.xray_image.specs.Views.{entry_of, function_of, place_of, places_in, parts_of_view, program_read, trampolines_of, IsHeaderOf}
 use Rattle.xray_image.proofs.Acceptance.{parts_count, code_short}
 use Rattle.xray_image.proofs.Accepts.{accepted}
@@ -63,6 +65,9 @@ module _ (bytes : List ℕ) (h : Header) (head : HasHeader bytes) (is : IsHeader
   pub base_low : h.base < 2 ^ 63
   base_low = omega (arith, is.base, head.base_limit)
 
+  pub table_low : (table : UnitTable) → table.base ≡ h.base → table.base < 2 ^ 63
+  table_low table same = omega (arith, same, base_low)
+
   pub functions_few : length p.functions.items < 2 ^ 32
   functions_few = omega (arith, (parts_count bytes (parts_of_view p) there).0, length-map p.functions.items function_of, head.functions_limit)
 
@@ -80,7 +85,7 @@ module _ (bytes : List ℕ) (h : Header) (head : HasHeader bytes) (is : IsHeader
   units_stop fault (inl full) = inl full
   units_stop fault (inr stops) = inr (parts_row (Err fault) (inl (fault, subst (λ (b : ℕ). StopsAt b p.code.now fault) is.base stops, refl)))
 
-  module _ (u : CodeUnits) (units : HasUnits h.base p.code.now u.units.items (places_in u)) where
+  module _ (u : CodeUnits) (units : HasUnits h.base p.code.now (units_in u.units) (places_in u)) where
     pub spots_few : length u.sleds.items < 2 ^ 32
     spots_few =
         let none : List ℕ = [] in
@@ -90,10 +95,10 @@ module _ (bytes : List ℕ) (h : Header) (head : HasHeader bytes) (is : IsHeader
           length-append (flat_map piece_bytes units.pieces) none, code_few
         )
 
-    pub units_within : (all : List Unit) → all ≡ u.units.items → AreWithin h.base (2 ^ 32) (addresses all)
+    pub units_within : (all : List Unit) → all ≡ (units_in u.units) → AreWithin h.base (2 ^ 32) (addresses all)
     units_within all same =
         subst (λ (us : List Unit). AreWithin h.base (2 ^ 32) (addresses us)) (sym same)
-        (λ i lt. let w = has_within h.base p.code.now u.units.items (places_in u) units i lt in (w.0, omega (arith, w.1, code_few)))
+        (λ i lt. let w = has_within h.base p.code.now (units_in u.units) (places_in u) units i lt in (w.0, omega (arith, w.1, code_few)))
 
     pub spots_ascend : IsNonDecreasingBy (λ place. place.address) (places_in u)
     spots_ascend = subst (IsNonDecreasingBy (λ place. place.address)) (sym units.places_are) (places_ascend h.base units.pieces)
@@ -103,8 +108,8 @@ module _ (bytes : List ℕ) (h : Header) (head : HasHeader bytes) (is : IsHeader
 
     program_same : program_read h p u ≡ program_of bytes (parts_of_view p) units.pieces
     program_same =
-        ap (λ (b : ℕ). told b h.entry_index p u.units.items (places_in u) (trampolines_of h.trampolines)) is.base
-        ∙ ap (λ (k : ℕ). told (base_address bytes) k p u.units.items (places_in u) (trampolines_of h.trampolines)) is.entry_index
+        ap (λ (b : ℕ). told b h.entry_index p (units_in u.units) (places_in u) (trampolines_of h.trampolines)) is.base
+        ∙ ap (λ (k : ℕ). told (base_address bytes) k p (units_in u.units) (places_in u) (trampolines_of h.trampolines)) is.entry_index
         ∙ ap (λ (us : List Unit). told (base_address bytes) (entry_index bytes) p us (places_in u) (trampolines_of h.trampolines)) (units.units_are ∙ ap (λ (b : ℕ). units_from b 0 units.pieces) is.base)
         ∙ ap (λ (ps : List SledPlace). told (base_address bytes) (entry_index bytes) p (units_from (base_address bytes) 0 units.pieces) ps (trampolines_of h.trampolines)) places_same
         ∙ ap (told (base_address bytes) (entry_index bytes) p (units_from (base_address bytes) 0 units.pieces) (places_from (base_address bytes) units.pieces)) trampolines_same

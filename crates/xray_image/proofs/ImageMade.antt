@@ -22,6 +22,7 @@ use Rattle.xray_image.specs.ImageView.{named_function}
 use Rattle.xray_image.specs.Judging.{IsJudged}
 use Rattle.xray_image.specs.Program.{Program, is_name_byte, distinct, sled_of}
 use Rattle.xray_image.specs.Table.{FunctionIsFit}
+use Rattle.xray_image.specs.UnitTable.{units_in}
 use Rattle.xray_image.specs.Views.{entry_of, function_of, place_of, places_in, program_read, trampolines_of}
 use Rattle.xray_image.proofs.JudgedRows.{in_order, as_many}
 use Rattle.xray_image.proofs.Lying.{lines_known, lines_in_order}
@@ -50,7 +51,7 @@ module _ (h : Header) (p : FileParts) (u : CodeUnits) (j : IsJudged (map entry_o
   pub falling : (lines : List MapLine) → lines ≡ p.entries.items → IsNonDecreasingBy (λ place. place.address) (places_in u) → IsNonDecreasing (map (λ e. e.function) lines)
   falling lines same up =
       subst (λ (ls : List MapLine). IsNonDecreasing (map (λ e. e.function) ls)) (sym same)
-      (lines_in_order p.functions.items (places_in u) p.entries.items (in_order u.sleds.items p.entries.items j.order) j.entries_fit (functions_ascend h.base u.units.items (map function_of p.functions.items) j.functions) up)
+      (lines_in_order p.functions.items (places_in u) p.entries.items (in_order u.sleds.items p.entries.items j.order) j.entries_fit (functions_ascend h.base (units_in u.units) (map function_of p.functions.items) j.functions) up)
 
   -- the functions of ids, as the image has them
   pub numbers : (functions : List FunctionEntry) (lines : List MapLine) (named : List Named) (sleds : List Sled) (ids : List ℕ) → functions ≡ p.functions.items → lines ≡ p.entries.items
@@ -70,14 +71,14 @@ module _ (h : Header) (p : FileParts) (u : CodeUnits) (j : IsJudged (map entry_o
 
 -- a program with these parts of its own
 abbrev made : Header → CodeUnits → ℕ → List ℕ → List Function → List Sled → Program
-made h u a c fs ss = record { base = h.base; entry = a; code = c; functions = fs; units = u.units.items; sleds = ss; trampolines = trampolines_of h.trampolines }
+made h u a c fs ss = record { base = h.base; entry = a; code = c; functions = fs; units = units_in u.units; sleds = ss; trampolines = trampolines_of h.trampolines }
 
 -- the program of the image is the one that was read
 pub program_made : (h : Header) (p : FileParts) (u : CodeUnits) (entry : FunctionEntry) (code : List ℕ) (named : List Named) (sleds : List Sled)
     → h.entry_index < length p.functions.items → entry ≡ get_or p.functions.items h.entry_index entry
     → code ≡ p.code.now → map named_function named ≡ map function_of p.functions.items
     → sleds ≡ map (sled_of (map entry_of p.entries.items)) (zip (places_in u) (map entry_of p.entries.items))
-    → ◌≡◌ {A = Program} (record { base = h.base; entry = entry.start; code = code; functions = map named_function named; units = u.units.items; sleds = sleds; trampolines = trampolines_of h.trampolines }) (program_read h p u)
+    → ◌≡◌ {A = Program} (record { base = h.base; entry = entry.start; code = code; functions = map named_function named; units = units_in u.units; sleds = sleds; trampolines = trampolines_of h.trampolines }) (program_read h p u)
 program_made h p u entry code named sleds within entry_is code_is named_is sleds_are =
     let start : entry.start ≡ option_map_or (λ f. f.start) (slice_get (map function_of p.functions.items) h.entry_index) 0 =
     sym (ap (λ o. option_map_or (λ f. f.start) o 0) (item_at function_of p.functions.items h.entry_index entry within entry_is)) in

@@ -84,6 +84,7 @@ fn image_of(
         (program_read header.now parts.now code) }
     requires ascend { IsNonDecreasingBy (λ place. place.address) (places_in code) }
     requires index { IsIndexOf (addresses (units_in code.units)) index }
+    requires table { code.units.base ≡ header.now.base }
     requires entry { header.now.entry_index < length parts.now.functions.items }
     requires functions { length parts.now.functions.items < 2 ^ 32 }
     requires lines { length parts.now.entries.items < 2 ^ 32 }

@@ -5,6 +5,7 @@ use Rattle.xray_image.specs.declared.code_units.SledSpot.{SledSpot}
 use Rattle.xray_image.specs.declared.parts.FunctionEntry.{FunctionEntry}
 use Rattle.xray_image.specs.declared.parts.MapLine.{MapLine}
 use Rattle.xray_image.specs.Program.{Program, is_name_byte, id_of, sled_of, IsAccepted}
+use Rattle.xray_image.specs.UnitTable.{units_in}
 use Rattle.xray_image.specs.Views.{entry_of, function_of, place_of}
 use Rattle.xray_image.proofs.Entries.{ascend_entries}
 use Rattle.xray_image.proofs.ImageMade.{names_all, known, falling, numbers, program_made}
@@ -14,7 +15,7 @@ use Rattle.xray_image.proofs.image.reading.image_of.Goals as goal
 pub named_functions-requires : goal.named_functions-requires
 named_functions-requires c =
     subst (λ (fs : List FunctionEntry). All (λ f. All (λ b. is_name_byte b ≡ true) f.name) (map function_of fs)) (sym c.deref.ensures.value)
-    (names_all c.args.header.now.base c.args.code.units.items (map function_of c.args.parts.now.functions.items) c.requires.judged.functions)
+    (names_all c.args.header.now.base (units_in c.args.code.units) (map function_of c.args.parts.now.functions.items) c.requires.judged.functions)
 
 pub new-requires-clause-ascend : goal.new-requires-clause-ascend
 new-requires-clause-ascend c =
@@ -50,6 +51,7 @@ invariant_of-result c =
       bytes = c.requires.accepted.0;
       accepted = subst (IsAccepted c.requires.accepted.0) (sym made) c.requires.accepted.1;
       index = c.requires.index;
+      table = c.requires.table;
       ids = numbers c.args.header.now parts c.args.code c.requires.judged c.deref-2.result.now c.deref-3.result.now c.in_ok-functions.functions.items c.in_ok-sleds.sleds.items c.in_ok-ids.ids.functions.items
           c.deref-2.ensures.value c.deref-3.ensures.value named_is sleds_are c.in_ok-ids.ensures.functions;
     }

@@ -6,9 +6,10 @@ use Rattle.xray_image.specs.declared.unit.Unit.{Unit}
 use Rattle.xray_image.specs.Index.{AreWithin}
 use Rattle.xray_image.specs.Program.{Program, addresses}
 use Rattle.xray_image.specs.Table.{ReadsAs}
+use Rattle.xray_image.specs.UnitTable.{units_in}
 use Rattle.xray_image.specs.Views.{places_in}
 use Rattle.xray_image.proofs.Placement.{has_within, has_ascending, has_few}
-use Rattle.xray_image.proofs.FileRows.{code_few, code_low, base_low, functions_few, entries_few, entry_there, units_stop, spots_few, units_within, spots_ascend, program_stops, program_reads, program_accepted, told_fault}
+use Rattle.xray_image.proofs.FileRows.{code_few, code_low, table_low, functions_few, entries_few, entry_there, units_stop, spots_few, units_within, spots_ascend, program_stops, program_reads, program_accepted, told_fault}
 use Rattle.xray_image.proofs.image.reading.read_program.Goals as goal
 
 pub read-requires-3-clause-code : goal.read-requires-3-clause-code
@@ -22,25 +23,30 @@ returns-in_err-code c =
 
 pub new-requires-clause-within : goal.new-requires-clause-within
 new-requires-clause-within c =
-    subst (λ (us : List Unit). AreWithin c.in_ok-header.header.base (length c.in_ok-parts.parts.code.now) (addresses us)) (sym c.deref.ensures.value)
-    (has_within c.in_ok-header.header.base c.in_ok-parts.parts.code.now c.in_ok-code.code.units.items (places_in c.in_ok-code.code) c.in_ok-code.ensures.found)
+    has_within c.in_ok-header.header.base c.in_ok-parts.parts.code.now (units_in c.in_ok-code.code.units) (places_in c.in_ok-code.code) c.in_ok-code.ensures.found
 
 pub new-requires-clause-ascending : goal.new-requires-clause-ascending
 new-requires-clause-ascending c =
-    subst (λ (us : List Unit). IsStrictlyIncreasing (addresses us)) (sym c.deref.ensures.value)
-    (has_ascending c.in_ok-header.header.base c.in_ok-parts.parts.code.now c.in_ok-code.code.units.items (places_in c.in_ok-code.code) c.in_ok-code.ensures.found)
+    has_ascending c.in_ok-header.header.base c.in_ok-parts.parts.code.now (units_in c.in_ok-code.code.units) (places_in c.in_ok-code.code) c.in_ok-code.ensures.found
 
 pub new-requires-clause-few : goal.new-requires-clause-few
 new-requires-clause-few c =
     omega (
-      arith, has_few c.in_ok-header.header.base c.in_ok-parts.parts.code.now c.in_ok-code.code.units.items (places_in c.in_ok-code.code) c.in_ok-code.ensures.found,
-      code_low c.args.bytes.now c.in_ok-header.header c.in_ok-header.ensures.accepted c.in_ok-header.ensures.fields c.in_ok-parts.parts c.in_ok-parts.ensures.found,
-      ap length c.deref.ensures.value
+      arith, has_few c.in_ok-header.header.base c.in_ok-parts.parts.code.now (units_in c.in_ok-code.code.units) (places_in c.in_ok-code.code) c.in_ok-code.ensures.found,
+      code_low c.args.bytes.now c.in_ok-header.header c.in_ok-header.ensures.accepted c.in_ok-header.ensures.fields c.in_ok-parts.parts c.in_ok-parts.ensures.found
     )
+
+pub new-requires-clause-low : goal.new-requires-clause-low
+new-requires-clause-low c =
+    table_low c.args.bytes.now c.in_ok-header.header c.in_ok-header.ensures.accepted c.in_ok-header.ensures.fields c.in_ok-parts.parts c.in_ok-parts.ensures.found c.in_ok-code.code.units c.in_ok-code.ensures.table
+
+pub check_program-requires-clause-low : goal.check_program-requires-clause-low
+check_program-requires-clause-low c =
+    table_low c.args.bytes.now c.in_ok-header.header c.in_ok-header.ensures.accepted c.in_ok-header.ensures.fields c.in_ok-parts.parts c.in_ok-parts.ensures.found c.in_ok-code.code.units c.in_ok-code.ensures.table
 
 pub check_program-requires-clause-within : goal.check_program-requires-clause-within
 check_program-requires-clause-within c =
-    units_within c.args.bytes.now c.in_ok-header.header c.in_ok-header.ensures.accepted c.in_ok-header.ensures.fields c.in_ok-parts.parts c.in_ok-parts.ensures.found c.in_ok-code.code c.in_ok-code.ensures.found c.in_ok-code.code.units.items refl
+    units_within c.args.bytes.now c.in_ok-header.header c.in_ok-header.ensures.accepted c.in_ok-header.ensures.fields c.in_ok-parts.parts c.in_ok-parts.ensures.found c.in_ok-code.code c.in_ok-code.ensures.found (units_in c.in_ok-code.code.units) refl
 
 pub check_program-requires-clause-functions : goal.check_program-requires-clause-functions
 check_program-requires-clause-functions c =
