@@ -124,13 +124,7 @@ pub record IsPast (functions : List Function) (n : ℕ) (last : Option ℕ) (nam
   pub last_is : last ≡ option_map (λ f. f.start) (last_or None (take n functions))
   pub names_are : (q : List ℕ) → is_among names q ≡ is_before (take n functions) q
 
-pub none_past : (functions : List Function) (last : Option ℕ) (names : List (List ℕ)) → last ≡ None → names ≡ [] → IsPast functions 0 last names
-none_past functions last names none empty = record { last_is = none; names_are = λ q. ap (λ (ns : List (List ℕ)). is_among ns q) empty }
-
 module _ (base : ℕ) (functions : List FunctionEntry) (i : ℕ) (within : i < length functions) (last : Option ℕ) (names : List (List ℕ)) (past : IsPast (map function_of functions) i last names) where
-  f : FunctionEntry
-  f = get_or functions i zero_function
-
   there : slice_get (map function_of functions) i ≡ Some (function_of (get_or functions i zero_function))
   there = item_at function_of functions i (get_or functions i zero_function) within (get_or_default functions i zero_function (get_or functions i zero_function) within)
 

@@ -23,5 +23,8 @@ pub mod FunctionRows
 pub mod Standing
 pub mod TableRows
 pub mod Accepts
-pub mod Stops
 pub mod JudgedRows
+pub mod Making
+pub mod ImageMade
+pub mod FileRows
+pub mod ReadOnce

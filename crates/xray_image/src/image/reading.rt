@@ -84,6 +84,7 @@ fn image_of(
         (program_read header.now parts.now code) }
     requires ascend { IsNonDecreasingBy (λ place. place.address) (places_in code) }
     requires index { IsIndexOf (addresses (units_in code.units)) index }
+    requires table { code.units.base ≡ header.now.base }
     requires entry { header.now.entry_index < length parts.now.functions.items }
     requires functions { length parts.now.functions.items < 2 ^ 32 }
     requires lines { length parts.now.entries.items < 2 ^ 32 }
@@ -105,6 +106,19 @@ fn image_of(
     })
 }
 
+/// Reads an image file: its header, its parts and its units, and then looks at what the file says of
+/// them.
+fn read_program(alloc: Global, bytes: &[u8]) -> Result<Image, ImageFault>
+    ensures { (result ≡ Err ImageFault.NoMemory) ⊎ ReadsAs bytes.now result }
+{
+    let header = Header::read(bytes)?;
+    let parts = FileParts::read(alloc, &header, bytes)?;
+    let code = CodeUnits::read(alloc, header.base, parts.code)?;
+    let index = UnitIndex::new(alloc, header.base, parts.code.len(), &code.units)?;
+    check_program(alloc, &header, &parts, &code, &index)?;
+    Ok(image_of(alloc, &header, &parts, code, index)?)
+}
+
 /// Reads an image file. Where it isn't accepted the answer is the first refusal of the table that
 /// applies, each as `ImageFault` says. `NoMemory` comes only for want of memory. Takes time linear
 /// in the file's length (a look-up in a map for each name), and takes no memory by a count that the
@@ -120,12 +134,7 @@ pub fn read_image(alloc: Global, bytes: &[u8]) -> Result<Image, ImageFault>
         → (result ≡ Ok program) ⊎ (result ≡ Err ImageFault.NoMemory) }
 {
     one_verdict();
-    let header = Header::read(bytes)?;
-    let parts = FileParts::read(alloc, &header, bytes)?;
-    let code = CodeUnits::read(alloc, header.base, parts.code)?;
-    let index = UnitIndex::new(alloc, header.base, parts.code.len(), &code.units)?;
-    check_program(alloc, &header, &parts, &code, &index)?;
-    Ok(image_of(alloc, &header, &parts, code, index)?)
+    read_program(alloc, bytes)
 }
 
 impl Image {
