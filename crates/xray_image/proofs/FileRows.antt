@@ -91,8 +91,13 @@ module _ (bytes : List ℕ) (h : Header) (head : HasHeader bytes) (is : IsHeader
         let none : List ℕ = [] in
         let whole : p.code.now ≡ flat_map piece_bytes units.pieces ++ none = stand_shown h.base p.code.now units.pieces (h.base + length p.code.now) [] units.stand in
         omega (
-          arith, length-map u.sleds.items place_of, ap length units.places_are, places_few h.base units.pieces, ap length whole,
-          length-append (flat_map piece_bytes units.pieces) none, code_few
+          arith,
+          length-map u.sleds.items place_of,
+          ap length units.places_are,
+          places_few h.base units.pieces,
+          ap length whole,
+          length-append (flat_map piece_bytes units.pieces) none,
+          code_few,
         )
 
     pub units_within : (all : List Unit) → all ≡ (units_in u.units) → AreWithin h.base (2 ^ 32) (addresses all)
@@ -124,10 +129,10 @@ module _ (bytes : List ℕ) (h : Header) (head : HasHeader bytes) (is : IsHeader
     program_row : (v : Verdict) → ReadsProgram (map entry_of p.entries.items) (places_in u) (program_read h p u) v → ReadsAs bytes v
     program_row v reads =
         parts_row v (inr (
-            units.pieces,
-            subst (λ (b : ℕ). StandUpTo b p.code.now units.pieces (b + length p.code.now) []) is.base units.stand,
-            subst (λ (ps : List SledPlace). ReadsProgram (map entry_of p.entries.items) ps (program_of bytes (parts_of_view p) units.pieces) v) places_same
-            (subst (λ (g : Program). ReadsProgram (map entry_of p.entries.items) (places_in u) g v) program_same reads),
+          units.pieces,
+          subst (λ (b : ℕ). StandUpTo b p.code.now units.pieces (b + length p.code.now) []) is.base units.stand,
+          subst (λ (ps : List SledPlace). ReadsProgram (map entry_of p.entries.items) ps (program_of bytes (parts_of_view p) units.pieces) v) places_same
+              (subst (λ (g : Program). ReadsProgram (map entry_of p.entries.items) (places_in u) g v) program_same reads),
         ))
 
     pub program_stops : (fault : ImageFault) → (fault ≡ faults.NoMemory) ⊎ ReadsProgram (map entry_of p.entries.items) (places_in u) (program_read h p u) (Err fault)

@@ -49,18 +49,11 @@ fn is_unit(index: &UnitIndex, address: u64) -> bool
 }
 
 /// Whether a function may stand behind one that begins at `last`, whatever the names before it are.
-fn may_stand(
-    base: u64,
-    index: &UnitIndex,
-    last: Option<u64>,
-    function: &FunctionEntry<'_>,
-) -> bool
+fn may_stand(base: u64, index: &UnitIndex, last: Option<u64>, function: &FunctionEntry<'_>) -> bool
     ensures { (all : List ℕ) → IsIndexOf all index.now
         → IsTrue result ↔ StandsBehind base all last (function_of function.now) }
 {
-    is_above(base, last, function.start)
-        && is_unit(index, function.start)
-        && is_name(function.name)
+    is_above(base, last, function.start) && is_unit(index, function.start) && is_name(function.name)
 }
 
 /// Adds a name to those of the functions before. Whether it is none of them.

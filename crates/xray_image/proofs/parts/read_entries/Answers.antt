@@ -10,8 +10,11 @@ loop-number-init c = first_items map_entry_at c.args.bytes.now c.args.count (map
 
 pub returns-in_default-clause-refused : goal.returns-in_default-clause-refused
 returns-in_default-clause-refused c =
-    inr (refl, no_item map_entry_at c.args.bytes.now c.loop-number.rest.now c.args.count c.loop-number._number (map entry_of c.loop-number.entries.items)
-    c.loop-number.invariant c.loop-number-test.true c.in_default.ensures)
+    inr (
+      refl,
+      no_item map_entry_at c.args.bytes.now c.loop-number.rest.now c.args.count c.loop-number._number (map entry_of c.loop-number.entries.items)
+          c.loop-number.invariant c.loop-number-test.true c.in_default.ensures,
+    )
 
 pub loop-number-preserved : goal.loop-number-preserved
 loop-number-preserved c =

@@ -32,8 +32,9 @@ new-requires-clause-ascending c =
 pub new-requires-clause-few : goal.new-requires-clause-few
 new-requires-clause-few c =
     omega (
-      arith, has_few c.in_ok-header.header.base c.in_ok-parts.parts.code.now (units_in c.in_ok-code.code.units) (places_in c.in_ok-code.code) c.in_ok-code.ensures.found,
-      code_low c.args.bytes.now c.in_ok-header.header c.in_ok-header.ensures.accepted c.in_ok-header.ensures.fields c.in_ok-parts.parts c.in_ok-parts.ensures.found
+      arith,
+      has_few c.in_ok-header.header.base c.in_ok-parts.parts.code.now (units_in c.in_ok-code.code.units) (places_in c.in_ok-code.code) c.in_ok-code.ensures.found,
+      code_low c.args.bytes.now c.in_ok-header.header c.in_ok-header.ensures.accepted c.in_ok-header.ensures.fields c.in_ok-parts.parts c.in_ok-parts.ensures.found,
     )
 
 pub new-requires-clause-low : goal.new-requires-clause-low
