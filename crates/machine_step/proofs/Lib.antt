@@ -1,2 +1,5 @@
 pub mod OneUnit
 pub mod OneEnd
+pub mod OutputText
+pub mod PlainText
+pub mod TextSteps

@@ -1,3 +1,4 @@
 pub mod PlainStep
+pub mod PlainEnd
 pub mod Loads
 pub mod Texts

@@ -46,11 +46,15 @@ output_text (b ∷ bytes) = flat_map byte_text (b ∷ bytes)
 abbrev pub line_feed : List ℕ
 line_feed = 10 ∷ []
 
+-- the end, with so many instructions and passings
+abbrev pub counts_text : ℕ → End → ℕ → ℕ → List ℕ
+counts_text thread end instructions passings =
+    codes "thread " ++ decimal thread ++ codes " " ++ end_text end
+    ++ codes " instructions " ++ decimal instructions ++ codes " passings " ++ decimal passings ++ line_feed
+
 -- the end and the counts
 abbrev pub counts_line : ℕ → End → State → List ℕ
-counts_line thread end last =
-    codes "thread " ++ decimal thread ++ codes " " ++ end_text end
-    ++ codes " instructions " ++ decimal last.instructions ++ codes " passings " ++ decimal last.passings ++ line_feed
+counts_line thread end last = counts_text thread end last.instructions last.passings
 
 -- the registers and the zero flag
 abbrev pub registers_line : List ℕ → Bool → List ℕ

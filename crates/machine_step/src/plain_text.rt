@@ -1,0 +1,181 @@
+//! The plain text of a thread: its end and its counts, its registers, and its output.
+
+ghost use Rattle.std.specs.Prelude.{◌≡◌, ◌++◌, ◌≤◌, ◌<◌, length, OnOk, OnErr, slice_get, Some};
+ghost use Rattle.machine_step.specs.PlainEnd.{state_of};
+ghost use Rattle.machine_step.specs.Texts.{plain_text, end_text, counts_text, registers_line, printed_registers, output_line, flag_text, line_feed};
+ghost use Rattle.xray_io.specs.Faults.{Rose};
+ghost use Rattle.xray_io.specs.Sink.{Adds, AddsPrefix};
+ghost use Rattle.xray_io.specs.Text.{sink_of, loan_of, Gains, Breaks};
+
+use crate::end::End;
+use crate::plain_end::PlainEnd;
+use crate::registers::REGISTERS;
+use xray_io::{Piece, Sink, Text, WriteFault};
+
+/// Writes the plain text of a thread's end: three lines, each with its line feed. Takes no memory.
+///
+/// On `WriteFault` a front of the text was written, and the sink counted a fault.
+pub fn write_plain<S: Sink>(end: &PlainEnd, sink: &mut S) -> Result<(), WriteFault>
+    requires { length end.now.regs.items ≡ REGISTERS }
+    ensures all { OnOk result (Adds (S.written sink.old) (S.written sink.new)
+        (plain_text end.now.thread end.now.end (state_of end.now))) }
+    ensures front { OnErr result (AddsPrefix (S.written sink.old) (S.written sink.new)
+        (plain_text end.now.thread end.now.end (state_of end.now))) }
+    ensures failed { OnErr result (Rose (S.faults sink.old) (S.faults sink.new)) }
+    ensures later { S.faults sink.old ≤ S.faults sink.new }
+    ensures follows { S.follows sink.old sink.new }
+{
+    let mut text = Text::new(sink);
+    add_lines(&mut text, end)?;
+    text.done()
+}
+
+/// Adds the three lines.
+fn add_lines<S: Sink>(text: &mut Text<S>, end: &PlainEnd) -> Result<(), WriteFault>
+    requires { length end.now.regs.items ≡ REGISTERS }
+    ensures gains { OnOk result (Gains S.written text.old text.new
+        (plain_text end.now.thread end.now.end (state_of end.now))) }
+    ensures breaks { OnErr result (Breaks S.written text.old (sink_of text.new)
+        (plain_text end.now.thread end.now.end (state_of end.now))) }
+    ensures failed { OnErr result
+        (Rose (S.faults (sink_of text.old)) (S.faults (sink_of text.new))) }
+    ensures later { S.faults (sink_of text.old) ≤ S.faults (sink_of text.new) }
+    ensures follows { S.follows (sink_of text.old) (sink_of text.new) }
+    ensures loan { loan_of text.new ≡ loan_of text.old }
+{
+    add_counts(text, end.thread, end.end, end.instructions, end.passings)?;
+    add_registers(text, &end.regs, end.zf)?;
+    add_output(text, &end.output)
+}
+
+/// Adds the line of a thread's end and its counts to a text.
+pub fn add_counts<S: Sink>(
+    text: &mut Text<S>,
+    thread: u32,
+    end: End,
+    instructions: u64,
+    passings: u32,
+) -> Result<(), WriteFault>
+    ensures gains { OnOk result (Gains S.written text.old text.new
+        (counts_text thread end instructions passings)) }
+    ensures breaks { OnErr result (Breaks S.written text.old (sink_of text.new)
+        (counts_text thread end instructions passings)) }
+    ensures failed { OnErr result
+        (Rose (S.faults (sink_of text.old)) (S.faults (sink_of text.new))) }
+    ensures later { S.faults (sink_of text.old) ≤ S.faults (sink_of text.new) }
+    ensures follows { S.follows (sink_of text.old) (sink_of text.new) }
+    ensures loan { loan_of text.new ≡ loan_of text.old }
+{
+    text.pieces(&[
+        Piece::Bytes(b"thread "),
+        Piece::Number(u128::from(thread)),
+        Piece::Bytes(b" "),
+        Piece::Bytes(end_name(end)),
+        Piece::Bytes(b" instructions "),
+        Piece::Number(u128::from(instructions)),
+        Piece::Bytes(b" passings "),
+        Piece::Number(u128::from(passings)),
+        Piece::Bytes(b"\n"),
+    ])
+}
+
+/// How an end is printed.
+fn end_name(end: End) -> &'static [u8]
+    ensures { result.now ≡ end_text end }
+{
+    match end {
+        End::Returned => b"returned",
+        End::Fuel => b"fuel",
+        End::Passings => b"passings",
+        End::OutputFull => b"output-full",
+        End::StackFull => b"stack-full",
+        End::StackEmpty => b"stack-empty",
+        End::BadTarget => b"bad-target",
+    }
+}
+
+/// Adds the line of a thread's registers, register n at place n, and its zero flag to a text.
+pub fn add_registers<S: Sink>(
+    text: &mut Text<S>,
+    registers: &[u64],
+    zero_flag: bool,
+) -> Result<(), WriteFault>
+    requires { length registers.now ≡ REGISTERS }
+    ensures gains { OnOk result (Gains S.written text.old text.new
+        (registers_line registers.now zero_flag)) }
+    ensures breaks { OnErr result (Breaks S.written text.old (sink_of text.new)
+        (registers_line registers.now zero_flag)) }
+    ensures failed { OnErr result
+        (Rose (S.faults (sink_of text.old)) (S.faults (sink_of text.new))) }
+    ensures later { S.faults (sink_of text.old) ≤ S.faults (sink_of text.new) }
+    ensures follows { S.follows (sink_of text.old) (sink_of text.new) }
+    ensures loan { loan_of text.new ≡ loan_of text.old }
+{
+    for place in 0..PRINTED_REGISTERS {
+        let (name, number) = printed_register(place);
+        text.pieces(&[
+            Piece::Bytes(name),
+            Piece::Hex {
+                number: registers[number],
+                digits: 0,
+            },
+            Piece::Bytes(b" "),
+        ])?;
+    }
+    text.bytes(flag_line(zero_flag))
+}
+
+/// How many registers are printed: all but rsp and r10.
+const PRINTED_REGISTERS: usize = 14;
+
+/// How the register at a place of the line is printed: what stands before its value, and its number.
+fn printed_register(place: usize) -> (&'static [u8], usize)
+    requires { place < PRINTED_REGISTERS }
+    ensures row { slice_get printed_registers place ≡ Some (result.0.now, result.1) }
+    ensures exists { result.1 < REGISTERS }
+{
+    match place {
+        0 => (b"rax=", 0),
+        1 => (b"rcx=", 1),
+        2 => (b"rdx=", 2),
+        3 => (b"rbx=", 3),
+        4 => (b"rbp=", 5),
+        5 => (b"rsi=", 6),
+        6 => (b"rdi=", 7),
+        7 => (b"r8=", 8),
+        8 => (b"r9=", 9),
+        9 => (b"r11=", 11),
+        10 => (b"r12=", 12),
+        11 => (b"r13=", 13),
+        12 => (b"r14=", 14),
+        _ => (b"r15=", 15),
+    }
+}
+
+/// The end of the registers' line.
+fn flag_line(zero_flag: bool) -> &'static [u8]
+    ensures { result.now ≡ flag_text zero_flag ++ line_feed }
+{
+    if zero_flag { b"zf=1\n" } else { b"zf=0\n" }
+}
+
+/// Adds the line of a thread's output to a text: two digits a byte, or - for none.
+pub fn add_output<S: Sink>(text: &mut Text<S>, output: &[u8]) -> Result<(), WriteFault>
+    ensures gains { OnOk result (Gains S.written text.old text.new (output_line output.now)) }
+    ensures breaks { OnErr result (Breaks S.written text.old (sink_of text.new)
+        (output_line output.now)) }
+    ensures failed { OnErr result
+        (Rose (S.faults (sink_of text.old)) (S.faults (sink_of text.new))) }
+    ensures later { S.faults (sink_of text.old) ≤ S.faults (sink_of text.new) }
+    ensures follows { S.follows (sink_of text.old) (sink_of text.new) }
+    ensures loan { loan_of text.new ≡ loan_of text.old }
+{
+    if output.is_empty() {
+        return text.bytes(b"output -\n");
+    }
+    text.bytes(b"output ")?;
+    for byte in output {
+        text.hex(u64::from(*byte), 2)?;
+    }
+    text.bytes(b"\n")
+}

@@ -1,0 +1,4 @@
+//! The general registers of a thread.
+
+/// How many general registers there are.
+pub const REGISTERS: usize = 16;
