@@ -1,5 +1,10 @@
+pub mod Accepted
 pub mod OneUnit
 pub mod OneEnd
 pub mod OutputText
+pub mod Places
 pub mod PlainText
+pub mod Runs
+pub mod SomeEnd
+pub mod Stepping
 pub mod TextSteps

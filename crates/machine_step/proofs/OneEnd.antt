@@ -13,7 +13,7 @@ use Rattle.machine_step.specs.PlainStep.{State, Next, Goes, Ends, Passing, passi
 use Rattle.machine_step.proofs.OneUnit.{OneUnit}
 
 -- what a passing of a sled does, or the end before it
-abbrev Passes : Program → Limits → ℕ → State → ℕ → Bool → List Passing → Next → Type 0
+abbrev pub Passes : Program → Limits → ℕ → State → ℕ → Bool → List Passing → Next → Type 0
 Passes program limits thread s k spent made next =
     MatchBool spent
     ((made ≡ []) × (next ≡ Ends ends.Passings s))

@@ -2,3 +2,5 @@ pub mod PlainStep
 pub mod PlainEnd
 pub mod Loads
 pub mod Texts
+pub mod Machine
+pub mod Steps

@@ -4,15 +4,23 @@
 mod end;
 mod laws;
 mod limits;
+mod machine;
+mod output;
 mod plain_end;
 mod plain_text;
 mod registers;
 mod running;
+mod stack;
+mod step;
+mod steps;
 
 pub use end::End;
-pub use laws::one_end;
+pub use laws::{one_end, some_end};
 pub use limits::Limits;
 pub use plain_end::PlainEnd;
 pub use plain_text::{add_counts, add_output, add_registers, write_plain};
 pub use registers::REGISTERS;
 pub use running::plain_run;
+
+#[cfg(test)]
+mod tests;

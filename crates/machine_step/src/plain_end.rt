@@ -7,8 +7,8 @@ pub struct PlainEnd {
     pub thread: u32,
     /// By which rule it ended.
     pub end: End,
-    /// The values of the 16 registers, register n at place n, numbered as in `Reg`. No instruction names registers 4 and 10,
-    /// so that both are 0.
+    /// The values of the 16 registers, register n at place n, numbered as in `Reg`. No instruction
+    /// names registers 4 and 10, so that both are 0.
     pub regs: Vec<u64>,
     /// Whether the last `add` or `sub` gave 0; false before the first of them.
     pub zf: bool,

@@ -128,7 +128,8 @@ pub fn add_registers<S: Sink>(
 /// How many registers are printed: all but rsp and r10.
 const PRINTED_REGISTERS: usize = 14;
 
-/// How the register at a place of the line is printed: what stands before its value, and its number.
+/// How the register at a place of the line is printed: what stands before its value, and its
+/// number.
 fn printed_register(place: usize) -> (&'static [u8], usize)
     requires { place < PRINTED_REGISTERS }
     ensures row { slice_get printed_registers place ≡ Some (result.0.now, result.1) }

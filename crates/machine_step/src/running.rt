@@ -1,16 +1,24 @@
 //! The plain run of a thread.
 
-ghost use Rattle.std.specs.Prelude.{◌≡◌, length, slice_index, IfOk};
+ghost use Rattle.std.specs.Prelude.{◌≡◌, ℕ, List, length, slice_index, IfOk};
+ghost use Rattle.xray_image.specs.Program.{IsAccepted};
 ghost use Rattle.machine_step.specs.PlainEnd.{IsPlainEnd};
+ghost use Rattle.machine_step.specs.Machine.{state_at, IsWithin, RunsFrom};
+ghost use Rattle.machine_step.specs.Steps.{AreStepsOf};
 
+use crate::end::End;
 use crate::limits::Limits;
+use crate::machine::Machine;
 use crate::plain_end::PlainEnd;
+use crate::registers::REGISTERS;
+use crate::step::Way;
+use crate::steps::{Steps, place_of};
 use std::alloc::Global;
 use xray_image::Image;
 use xray_io::NoMemory;
 
-/// Runs a thread to its end, where entry and tail sleds do nothing, exit sleds are a `ret`, and each sled that is passed is
-/// counted. All memory is taken before the first step.
+/// Runs a thread to its end, where entry and tail sleds do nothing, exit sleds are a `ret`, and
+/// each sled that is passed is counted. All memory is taken before the first step.
 ///
 /// `NoMemory` comes where memory was refused, before the first step.
 pub fn plain_run(
@@ -25,5 +33,39 @@ pub fn plain_run(
     ensures unnamed { IfOk result (λ e.
         (slice_index e.regs.items 4 ≡ 0) × (slice_index e.regs.items 10 ≡ 0)) }
 {
-    Err(NoMemory)
+    // Says that some accepted file holds the image.
+    image.base();
+    let steps = Steps::new(alloc, image)?;
+    let mut regs = vec![in alloc; 0; REGISTERS]?;
+    let mut machine = Machine::new(alloc, thread)?;
+    let end = run(&mut machine, image, &steps, limits);
+    regs.copy_from_slice(machine.registers.all());
+    Ok(PlainEnd {
+        thread,
+        end,
+        regs,
+        zf: machine.zero_flag,
+        output: machine.output.into_bytes(),
+        instructions: machine.instructions,
+        passings: machine.passings,
+    })
+}
+
+/// Runs a machine from the entry function's start to its end.
+fn run(machine: &mut Machine, image: &Image, steps: &Steps, limits: Limits) -> End
+    requires accepted { (bytes : List ℕ) × IsAccepted bytes image.now }
+    requires steps { AreStepsOf image.now steps.now.all.items }
+    requires within { IsWithin limits machine.old }
+    ensures { (thread : ℕ) → RunsFrom image.now limits thread
+        (state_at image.now.entry machine.old) result machine.new }
+{
+    let mut place = place_of(image, image.entry()) as usize;
+    'steps: loop {
+        let step = steps.at(place);
+        match machine.step(step, place, limits) {
+            Way::To(next) => place = next,
+            Way::Back(address) => place = place_of(image, address) as usize,
+            Way::Ends(end) => return end,
+        }
+    }
 }

@@ -1,0 +1,78 @@
+-- The steps that stand for a program's units, for the contracts of private functions.
+use Rattle.std.specs.Prelude.{◌≡◌, ◌+◌, ◌⊎◌, ℕ, Bool, true, false, List, length, Some, slice_get, Contains, MatchOption}
+use Rattle.subset_decode.specs.declared.instr.Instr.{Instr}
+use Rattle.subset_decode.specs.declared.instr.Instr.TheVariants.{Mov, Add, Sub, Push, Pop, Call, Jmp, Jnz, Ret, Out}
+use Rattle.subset_decode.specs.Encoding.{spelling}
+use Rattle.xray_image.specs.declared.sled.Sled.{Sled}
+use Rattle.xray_image.specs.declared.sled.SledKind.{SledKind}
+use Rattle.xray_image.specs.declared.sled.SledKind.TheVariants as kinds
+use Rattle.xray_image.specs.declared.unit.Unit.{Unit}
+use Rattle.xray_image.specs.declared.unit.What.{What}
+use Rattle.xray_image.specs.declared.unit.What.TheVariants as whats
+use Rattle.xray_image.specs.Program.{Program, addresses}
+use Rattle.machine_step.specs.declared.step.Step.{Step}
+use Rattle.machine_step.specs.declared.step.Step.TheVariants as steps
+use Rattle.machine_step.specs.PlainStep.{branched}
+
+-- the place of an address: the number of the unit that begins there, or that behind the last where none does
+abbrev pub IsPlaceOf : List Unit → ℕ → ℕ → Type 0
+IsPlaceOf units address place =
+    (slice_get (addresses units) place ≡ Some address)
+    ⊎ ((place ≡ length units) × (Contains (addresses units) address → ⊥))
+
+-- the step of an instruction; `behind` is the address behind it
+abbrev pub IsStepOfInstruction : List Unit → ℕ → Instr → Step → Type 0
+IsStepOfInstruction units behind (Mov dst imm) step = step ≡ steps.Mov dst imm
+IsStepOfInstruction units behind (Add dst src) step = step ≡ steps.Add dst src
+IsStepOfInstruction units behind (Sub dst src) step = step ≡ steps.Sub dst src
+IsStepOfInstruction units behind (Push reg) step = step ≡ steps.Push reg
+IsStepOfInstruction units behind (Pop reg) step = step ≡ steps.Pop reg
+IsStepOfInstruction units behind (Call rel) step =
+    (target : ℕ) × IsPlaceOf units (branched behind rel) target × (step ≡ steps.Call target behind)
+IsStepOfInstruction units behind (Jmp rel) step =
+    (target : ℕ) × IsPlaceOf units (branched behind rel) target × (step ≡ steps.Jmp target)
+IsStepOfInstruction units behind (Jnz rel) step =
+    (target : ℕ) × IsPlaceOf units (branched behind rel) target × (step ≡ steps.Jnz target)
+IsStepOfInstruction units behind Ret step = step ≡ steps.Ret
+IsStepOfInstruction units behind (Out port) step = step ≡ steps.Out
+
+-- the step of a sled
+abbrev pub step_of_sled : SledKind → Step
+step_of_sled kinds.Entry = steps.Passing
+step_of_sled kinds.Exit = steps.Leaving
+step_of_sled kinds.Tail = steps.Passing
+
+-- the step of what stands at an address
+abbrev pub IsStepOf : Program → ℕ → What → Step → Type 0
+IsStepOf program address (whats.Plain instr) step =
+    IsStepOfInstruction program.units (address + length (spelling instr)) instr step
+IsStepOf program address (whats.Sled k) step =
+    (sled : Sled) × (slice_get program.sleds k ≡ Some sled) × (step ≡ step_of_sled sled.kind)
+IsStepOf program address whats.Pad step = step ≡ steps.Pad
+
+-- the step at a place: of the unit with this number, or none behind the last
+abbrev pub IsStepAt : Program → ℕ → Step → Type 0
+IsStepAt program place step =
+    MatchOption (slice_get program.units place) (step ≡ steps.Nowhere) (λ u. IsStepOf program u.address u.what step)
+
+-- the steps at all places
+pub record AreStepsOf (program : Program) (all : List Step) : Type 0 where
+  pub count : length all ≡ length program.units + 1
+  pub each : (place : ℕ) (step : Step) → slice_get all place ≡ Some step → IsStepAt program place step
+
+-- instructions want fuel
+abbrev pub wants_fuel : Step → Bool
+wants_fuel (steps.Mov dst imm) = true
+wants_fuel (steps.Add dst src) = true
+wants_fuel (steps.Sub dst src) = true
+wants_fuel (steps.Push reg) = true
+wants_fuel (steps.Pop reg) = true
+wants_fuel (steps.Call target back) = true
+wants_fuel (steps.Jmp target) = true
+wants_fuel (steps.Jnz target) = true
+wants_fuel steps.Ret = true
+wants_fuel steps.Out = true
+wants_fuel steps.Passing = false
+wants_fuel steps.Leaving = false
+wants_fuel steps.Pad = false
+wants_fuel steps.Nowhere = false

@@ -1,0 +1,57 @@
+//! The units of an image as the machine takes them: with all that its steps need at hand.
+
+ghost use Rattle.std.specs.Prelude.{◌≡◌};
+ghost use Rattle.machine_step.specs.Steps.{wants_fuel};
+
+use crate::end::End;
+use subset_decode::Reg;
+
+/// What stands at a place of the code. Places are the numbers of units, and behind them one more at
+/// which nothing stands. A branch names the place that it leads to.
+#[derive(Clone, Copy)]
+pub(crate) enum Step {
+    Mov { dst: Reg, imm: u32 },
+    Add { dst: Reg, src: Reg },
+    Sub { dst: Reg, src: Reg },
+    Push { reg: Reg },
+    Pop { reg: Reg },
+    /// `back` is the address behind it.
+    Call { target: u32, back: u64 },
+    Jmp { target: u32 },
+    Jnz { target: u32 },
+    Ret,
+    Out,
+    /// A sled that does nothing: of an entry or before a tail jump.
+    Passing,
+    /// A sled that returns: of an exit.
+    Leaving,
+    /// The alignment byte.
+    Pad,
+    /// No unit: the place of all addresses at which no unit begins.
+    Nowhere,
+}
+
+impl Step {
+    /// Whether it is an instruction, and so wants fuel. A sled that returns wants it only behind
+    /// its passing.
+    #[inline]
+    pub(crate) fn wants_fuel(&self) -> bool
+        ensures { result ≡ wants_fuel self.now }
+    {
+        !matches!(
+            *self,
+            Step::Passing | Step::Leaving | Step::Pad | Step::Nowhere
+        )
+    }
+}
+
+/// Where a step leads.
+#[derive(Clone, Copy)]
+pub(crate) enum Way {
+    /// To this place.
+    To(usize),
+    /// Back to this address, which a `ret` popped.
+    Back(u64),
+    /// The thread ends.
+    Ends(End),
+}

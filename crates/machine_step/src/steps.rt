@@ -1,0 +1,129 @@
+//! All steps of an image.
+
+ghost use Rattle.std.specs.Prelude.{◌≡◌, ◌<◌, ◌≤◌, ◌+◌, ◌^◌, ℕ, List, length, Some, slice_get, IfOk};
+ghost use Rattle.subset_decode.specs.Encoding.{spelling, IsNamed};
+ghost use Rattle.xray_image.specs.Program.{IsAccepted};
+ghost use Rattle.machine_step.specs.PlainStep.{branched};
+ghost use Rattle.machine_step.specs.Steps.{IsPlaceOf, IsStepOfInstruction, step_of_sled, IsStepOf, AreStepsOf};
+
+use crate::step::Step;
+use std::alloc::{AllocError, Global};
+use subset_decode::{Instr, LONGEST, encode};
+use xray_image::{Image, SledKind, Unit, What};
+
+/// The steps of an image, by their places.
+#[derive(Drop)]
+pub(crate) struct Steps {
+    all: Vec<Step>,
+}
+
+impl Steps {
+    /// Those of an image. Takes memory once.
+    pub(crate) fn new(alloc: Global, image: &Image) -> Result<Self, AllocError>
+        requires { (bytes : List ℕ) × IsAccepted bytes image.now }
+        ensures { IfOk result (λ steps. AreStepsOf image.now steps.all.items) }
+    {
+        let count = image.unit_count();
+        let mut steps = Steps {
+            all: Vec::with_capacity(alloc, count as usize + 1)?,
+        };
+        for place in 0..count {
+            steps.all.push_reserved(step_of(image, image.unit(place)));
+        }
+        steps.all.push_reserved(Step::Nowhere);
+        Ok(steps)
+    }
+
+    /// The step at a place.
+    #[inline]
+    pub(crate) fn at(&self, place: usize) -> &Step
+        requires { place < length self.now.all.items }
+        ensures { slice_get self.now.all.items place ≡ Some result.now }
+    {
+        &self.all[place]
+    }
+}
+
+/// The place of an address.
+#[inline]
+pub(crate) fn place_of(image: &Image, address: u64) -> u32
+    ensures { IsPlaceOf image.now.units address result }
+{
+    match image.unit_at(address) {
+        Some(place) => place,
+        None => image.unit_count(),
+    }
+}
+
+/// The place to which a branch leads that counts from an address.
+fn target_of(image: &Image, behind: u64, distance: i32) -> u32
+    ensures { IsPlaceOf image.now.units (branched behind distance) result }
+{
+    place_of(image, behind.wrapping_add_signed(i64::from(distance)))
+}
+
+/// The step of an instruction, where `behind` is the address behind it.
+fn step_of_instruction(image: &Image, behind: u64, instr: Instr) -> Step
+    requires { IsNamed instr }
+    ensures { IsStepOfInstruction image.now.units behind instr result }
+{
+    match instr {
+        Instr::Mov { dst, imm } => Step::Mov { dst, imm },
+        Instr::Add { dst, src } => Step::Add { dst, src },
+        Instr::Sub { dst, src } => Step::Sub { dst, src },
+        Instr::Push { reg } => Step::Push { reg },
+        Instr::Pop { reg } => Step::Pop { reg },
+        Instr::Call { rel } => Step::Call {
+            target: target_of(image, behind, rel),
+            back: behind,
+        },
+        Instr::Jmp { rel } => Step::Jmp {
+            target: target_of(image, behind, rel),
+        },
+        Instr::Jnz { rel } => Step::Jnz {
+            target: target_of(image, behind, rel),
+        },
+        Instr::Ret => Step::Ret,
+        Instr::Out { .. } => Step::Out,
+    }
+}
+
+/// The step of a sled.
+fn step_of_sled(kind: SledKind) -> Step
+    ensures { result ≡ step_of_sled kind }
+{
+    match kind {
+        SledKind::Entry | SledKind::Tail => Step::Passing,
+        SledKind::Exit => Step::Leaving,
+    }
+}
+
+/// How many bytes an instruction has.
+fn length_of(instr: &Instr) -> u8
+    ensures exact { result ≡ length (spelling instr.now) }
+    ensures short { result ≤ LONGEST }
+    ensures named { IsNamed instr.now }
+{
+    let code = encode(instr);
+    code.len
+}
+
+/// The step of a unit.
+fn step_of(image: &Image, unit: Unit) -> Step
+    requires address { unit.address + LONGEST < 2 ^ 64 }
+    requires sled { (k : ℕ) → unit.what ≡ What.Sled k → k < length image.now.sleds }
+    ensures { IsStepOf image.now unit.address unit.what result }
+{
+    let Unit { address, what } = unit;
+    match what {
+        What::Plain(instr) => {
+            let length = length_of(&instr);
+            step_of_instruction(image, address + u64::from(length), instr)
+        }
+        What::Sled(k) => {
+            let sled = image.sled(k);
+            step_of_sled(sled.kind)
+        }
+        What::Pad => Step::Pad,
+    }
+}
