@@ -1,7 +1,7 @@
 -- The text of a sled map.
-use Rattle.std.specs.Prelude.{ℕ, List, [], ◌∷◌, ◌++◌, Bool, true, false, codes, decimal}
+use Rattle.std.specs.Prelude.{ℕ, List, [], ◌++◌, Bool, true, false, codes, decimal}
 use Rattle.std.specs.List.{flat_map}
-use Rattle.std.specs.Option.{option_map_or}
+use Rattle.std.specs.Option.{unwrap_or}
 use Rattle.xray_io.specs.Piece.{hexadecimal}
 use Rattle.xray_image.specs.declared.sled.Sled.{Sled}
 use Rattle.xray_image.specs.declared.sled.SledKind.{SledKind}
@@ -29,8 +29,8 @@ sled_line program sled =
     codes "- { id: " ++ decimal sled.id ++ codes ", address: " ++ address_text sled.address
     ++ codes ", function: " ++ address_text sled.function ++ codes ", kind: " ++ kind_text sled.kind
     ++ codes ", always-instrument: " ++ truth_text sled.always
-    ++ codes ", function-name: '" ++ option_map_or (λ name. name) (name_of program sled.id) [] ++ codes "' }" ++ 10 ∷ []
+    ++ codes ", function-name: '" ++ unwrap_or (name_of program sled.id) [] ++ codes "' }\n"
 
 -- a line for each sled in the order of the map, between the marks of a YAML document
 abbrev pub extract_text : Program → List ℕ
-extract_text program = codes "---" ++ 10 ∷ [] ++ flat_map (sled_line program) program.sleds ++ codes "..." ++ 10 ∷ []
+extract_text program = codes "---\n" ++ flat_map (sled_line program) program.sleds ++ codes "...\n"
