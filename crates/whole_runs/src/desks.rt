@@ -3,9 +3,9 @@ ghost use Rattle.std.specs.Prelude.{◌^◌};
 ghost use Rattle.xray_io.specs.Desk.{Untold};
 
 use std::alloc::{AllocError, Global};
-use xray_io::{Desk, MemDesk, ReadFail};
+use xray_io::{Desk, Failed, MemDesk, ReadFail};
 
-/// A desk that gives one byte a read.
+/// A desk that gives one byte a read, and takes one a write.
 #[derive(Drop)]
 pub struct Trickle {
     desk: MemDesk,
@@ -23,7 +23,7 @@ impl Desk for Trickle {
 
     ghost read_faults = { λ _. 2 ^ 64 };
 
-    ghost write_faults = { λ _. 0 };
+    ghost write_faults = { λ _. 2 ^ 64 };
 
     fn read(&mut self, name: &str, from: u64, buf: &mut [u8]) -> Result<usize, ReadFail> {
         let room = buf.len().min(1);
@@ -31,6 +31,14 @@ impl Desk for Trickle {
             Ok(count) => Ok(count),
             Err(_) => Err(ReadFail::Failed),
         }
+    }
+
+    fn create(&mut self, name: &str) -> Result<(), Failed> {
+        self.desk.create(name)
+    }
+
+    fn append(&mut self, name: &str, bytes: &[u8]) -> Result<usize, Failed> {
+        self.desk.append(name, &bytes[..bytes.len().min(1)])
     }
 }
 
@@ -54,7 +62,7 @@ impl Noting {
         }
     }
 
-    /// The names, in the order in which they were asked for. Reads of a name that follow each other are one.
+    /// The names, in the order in which they were asked for. Calls with a name that follow each other are one.
     pub fn names(&self) -> &str {
         self.names.as_str()
     }
@@ -73,7 +81,7 @@ impl Desk for Noting {
 
     ghost read_faults = { λ _. 2 ^ 64 };
 
-    ghost write_faults = { λ _. 0 };
+    ghost write_faults = { λ _. 2 ^ 64 };
 
     fn read(&mut self, name: &str, from: u64, buf: &mut [u8]) -> Result<usize, ReadFail> {
         if self.note(name).is_err() {
@@ -83,5 +91,19 @@ impl Desk for Noting {
             Ok(count) => Ok(count),
             Err(_) => Err(ReadFail::Failed),
         }
+    }
+
+    fn create(&mut self, name: &str) -> Result<(), Failed> {
+        if self.note(name).is_err() {
+            return Err(Failed);
+        }
+        self.desk.create(name)
+    }
+
+    fn append(&mut self, name: &str, bytes: &[u8]) -> Result<usize, Failed> {
+        if self.note(name).is_err() {
+            return Err(Failed);
+        }
+        self.desk.append(name, bytes)
     }
 }

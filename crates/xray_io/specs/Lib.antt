@@ -1,4 +1,5 @@
 pub mod Desk
+pub mod DeskFile
 pub mod Faults
 pub mod Memory
 pub mod Piece

@@ -1,9 +1,9 @@
-// Named inputs.
-ghost use Rattle.std.specs.Prelude.{◌≡◌, ◌≢◌, ℕ, ◌≤◌, ◌<◌, List, length, take, drop, IfOk, OnOk, IsErrOf};
-ghost use Rattle.xray_io.specs.Desk.{Entry, Absent, Holds};
+// Named inputs and outputs.
+ghost use Rattle.std.specs.Prelude.{◌≡◌, ◌≢◌, ℕ, ◌≤◌, ◌<◌, [], List, length, take, drop, IfOk, OnOk, OnErr, IsErrOf};
+ghost use Rattle.xray_io.specs.Desk.{Entry, Absent, Holds, empty_entry, longer_entry};
 ghost use Rattle.xray_io.specs.Faults.{Rose};
 
-use crate::ReadFail;
+use crate::{Failed, ReadFail};
 
 /// A place that holds bytes under names, as a folder of files does.
 pub trait Desk {
@@ -37,4 +37,31 @@ pub trait Desk {
         ensures held { held self.new ≡ held self.old }
         ensures later { read_faults self.old ≤ read_faults self.new }
         ensures writes { write_faults self.new ≡ write_faults self.old };
+
+    /// Makes `name` hold no bytes, whether the desk held it before or not. `Failed` has changed no
+    /// name, and counted a fault of writing.
+    fn create(&mut self, name: &str) -> Result<(), Failed>
+        ensures created { OnOk result (
+            held self.new name.now ≡ empty_entry (held self.old name.now)) }
+        ensures others { (other : List ℕ) → other ≢ name.now →
+            held self.new other ≡ held self.old other }
+        ensures same { OnErr result (held self.new ≡ held self.old) }
+        ensures failed { OnErr result (Rose (write_faults self.old) (write_faults self.new)) }
+        ensures later { write_faults self.old ≤ write_faults self.new }
+        ensures reads { read_faults self.new ≡ read_faults self.old };
+
+    /// Writes a front of `bytes` at the end of what `name` holds, and answers how many. None is
+    /// only an answer for no bytes. A name that isn't held is begun. `Failed` has changed no name,
+    /// and counted a fault of writing.
+    fn append(&mut self, name: &str, bytes: &[u8]) -> Result<usize, Failed>
+        ensures within { IfOk result (λ n. n ≤ length bytes.now) }
+        ensures added { IfOk result (λ n.
+            held self.new name.now ≡ longer_entry (held self.old name.now) (take n bytes.now)) }
+        ensures goes_on { IfOk result (λ n. n ≡ 0 → bytes.now ≡ []) }
+        ensures others { (other : List ℕ) → other ≢ name.now →
+            held self.new other ≡ held self.old other }
+        ensures same { OnErr result (held self.new ≡ held self.old) }
+        ensures failed { OnErr result (Rose (write_faults self.old) (write_faults self.new)) }
+        ensures later { write_faults self.old ≤ write_faults self.new }
+        ensures reads { read_faults self.new ≡ read_faults self.old };
 }

@@ -4,9 +4,11 @@
 #![tactic(auto)]
 
 mod desk;
+mod desk_file;
 mod digits;
 mod faults;
 mod gate;
+mod laws;
 mod memory;
 mod piece;
 mod sink;
@@ -16,8 +18,10 @@ mod waiting;
 mod whole;
 
 pub use desk::Desk;
+pub use desk_file::DeskFile;
 pub use faults::{Failed, NoMemory, ReadError, ReadFail, Wall, WriteFault};
 pub use gate::{Gate, OpenGate};
+pub use laws::text_adds_up;
 pub use memory::{MemDesk, MemSink};
 pub use piece::Piece;
 pub use sink::Sink;

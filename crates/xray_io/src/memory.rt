@@ -1,6 +1,6 @@
 // A desk and a sink in memory, which fail at the calls that they are told.
 ghost use Rattle.std.specs.Prelude.{◌≡◌, ◌≢◌, ◌⊎◌, ℕ, ◌+◌, ◌-◌, ◌^◌, ◌≤◌, ◌<◌, ◌↔◌, [], ◌++◌, List, Option, Some, None, length, take, drop, min, option_map, IfOk, IfSome, OnOk, OnErr, IsErr, IsErrOf, IsNone, IsTrue, Contains};
-ghost use Rattle.xray_io.specs.Desk.{Entry, Absent, Holds};
+ghost use Rattle.xray_io.specs.Desk.{Entry, Absent, Holds, empty_entry, longer_entry};
 ghost use Rattle.xray_io.specs.Faults.{Rose};
 ghost use Rattle.xray_io.specs.Sink.{Adds};
 
@@ -98,6 +98,49 @@ impl MemDesk {
     {
         self.refused
     }
+
+    // Puts bytes at the end of what a name holds, and begins a name that isn't held.
+    fn add(&mut self, name: &str, bytes: &[u8]) -> Result<(), NoMemory>
+        ensures added { OnOk result (
+            desk_entry self.new name.now ≡ longer_entry (desk_entry self.old name.now) bytes.now) }
+        ensures others { (other : List ℕ) → other ≢ name.now →
+            desk_entry self.new other ≡ desk_entry self.old other }
+        ensures same { OnErr result (desk_entry self.new ≡ desk_entry self.old) }
+        ensures failing { desk_failing self.new ≡ desk_failing self.old }
+        ensures calls { desk_calls self.new ≡ desk_calls self.old }
+        ensures read_faults { desk_read_faults self.new ≡ desk_read_faults self.old }
+        ensures write_faults { desk_write_faults self.new ≡ desk_write_faults self.old }
+        ensures refused { desk_refused self.new ≡ desk_refused self.old }
+    {
+        if let Some(held) = self.names.get_mut(name) {
+            held.extend_from_slice(bytes)?;
+            return Ok(());
+        }
+        self.put(name, bytes)
+    }
+
+    // Counts a failed write.
+    fn fail(&mut self) -> Failed
+        ensures counted { self.new ≡ record self.old {
+          write_faults = min (self.old.write_faults + 1) (2 ^ 64 - 1);
+        } }
+        ensures later { self.old.write_faults ≤ self.new.write_faults }
+    {
+        self.write_faults = self.write_faults.saturating_add(1);
+        Failed
+    }
+
+    // Counts a write that failed since an allocation was refused.
+    fn refuse(&mut self) -> Failed
+        ensures counted { self.new ≡ record self.old {
+          write_faults = min (self.old.write_faults + 1) (2 ^ 64 - 1);
+          refused = min (self.old.refused + 1) (2 ^ 64 - 1);
+        } }
+        ensures later { self.old.write_faults ≤ self.new.write_faults }
+    {
+        self.refused = self.refused.saturating_add(1);
+        self.fail()
+    }
 }
 
 impl Desk for MemDesk {
@@ -149,6 +192,75 @@ impl Desk for MemDesk {
         match self.names.get(name) {
             Some(bytes) => Ok(copy_from(bytes, from, buf)),
             None => Err(ReadFail::Missing),
+        }
+    }
+
+    /// Fails exactly where this call is to fail or an allocation is refused.
+    fn create(&mut self, name: &str) -> Result<(), Failed>
+        ensures told { Contains (desk_failing self.old) (desk_calls self.old) → IsErr result }
+        ensures not_asked { Contains (desk_failing self.old) (desk_calls self.old) →
+            desk_refused self.new ≡ desk_refused self.old }
+        ensures cause { OnErr result (Contains (desk_failing self.old) (desk_calls self.old)
+            ⊎ (desk_refused self.new ≡ min (desk_refused self.old + 1) (2 ^ 64 - 1))) }
+        ensures not_refused { OnOk result (desk_refused self.new ≡ desk_refused self.old) }
+        ensures counted { desk_calls self.new ≡ min (desk_calls self.old + 1) (2 ^ 64 - 1) }
+        ensures fault { OnErr result (
+            desk_write_faults self.new ≡ min (desk_write_faults self.old + 1) (2 ^ 64 - 1)) }
+        ensures no_fault { OnOk result (desk_write_faults self.new ≡ desk_write_faults self.old) }
+        ensures failing { desk_failing self.new ≡ desk_failing self.old }
+
+        ensures created { OnOk result (
+            desk_entry self.new name.now ≡ empty_entry (desk_entry self.old name.now)) }
+        ensures others { (other : List ℕ) → other ≢ name.now →
+            desk_entry self.new other ≡ desk_entry self.old other }
+        ensures same { OnErr result (desk_entry self.new ≡ desk_entry self.old) }
+        ensures failed { OnErr result
+            (Rose (desk_write_faults self.old) (desk_write_faults self.new)) }
+        ensures later { desk_write_faults self.old ≤ desk_write_faults self.new }
+        ensures reads { desk_read_faults self.new ≡ desk_read_faults self.old }
+    {
+        if self.calls.is_next_to_fail() {
+            return Err(self.fail());
+        }
+        match self.put(name, b"") {
+            Ok(()) => Ok(()),
+            Err(_) => Err(self.refuse()),
+        }
+    }
+
+    /// Fails exactly where this call is to fail or an allocation is refused, and else takes all.
+    fn append(&mut self, name: &str, bytes: &[u8]) -> Result<usize, Failed>
+        ensures all { IfOk result (λ n. n ≡ length bytes.now) }
+        ensures told { Contains (desk_failing self.old) (desk_calls self.old) → IsErr result }
+        ensures not_asked { Contains (desk_failing self.old) (desk_calls self.old) →
+            desk_refused self.new ≡ desk_refused self.old }
+        ensures cause { OnErr result (Contains (desk_failing self.old) (desk_calls self.old)
+            ⊎ (desk_refused self.new ≡ min (desk_refused self.old + 1) (2 ^ 64 - 1))) }
+        ensures not_refused { OnOk result (desk_refused self.new ≡ desk_refused self.old) }
+        ensures counted { desk_calls self.new ≡ min (desk_calls self.old + 1) (2 ^ 64 - 1) }
+        ensures fault { OnErr result (
+            desk_write_faults self.new ≡ min (desk_write_faults self.old + 1) (2 ^ 64 - 1)) }
+        ensures no_fault { OnOk result (desk_write_faults self.new ≡ desk_write_faults self.old) }
+        ensures failing { desk_failing self.new ≡ desk_failing self.old }
+
+        ensures within { IfOk result (λ n. n ≤ length bytes.now) }
+        ensures added { IfOk result (λ n. desk_entry self.new name.now
+            ≡ longer_entry (desk_entry self.old name.now) (take n bytes.now)) }
+        ensures goes_on { IfOk result (λ n. n ≡ 0 → bytes.now ≡ []) }
+        ensures others { (other : List ℕ) → other ≢ name.now →
+            desk_entry self.new other ≡ desk_entry self.old other }
+        ensures same { OnErr result (desk_entry self.new ≡ desk_entry self.old) }
+        ensures failed { OnErr result
+            (Rose (desk_write_faults self.old) (desk_write_faults self.new)) }
+        ensures later { desk_write_faults self.old ≤ desk_write_faults self.new }
+        ensures reads { desk_read_faults self.new ≡ desk_read_faults self.old }
+    {
+        if self.calls.is_next_to_fail() {
+            return Err(self.fail());
+        }
+        match self.add(name, bytes) {
+            Ok(()) => Ok(bytes.len()),
+            Err(_) => Err(self.refuse()),
         }
     }
 }
@@ -225,8 +337,10 @@ impl Sink for MemSink {
     /// Fails exactly where this call is to fail or an allocation is refused, and else takes all.
     fn write(&mut self, bytes: &[u8]) -> Result<usize, Failed>
         ensures told { Contains (sink_failing self.old) (sink_calls self.old) → IsErr result }
+        ensures not_asked { Contains (sink_failing self.old) (sink_calls self.old) →
+            sink_refused self.new ≡ sink_refused self.old }
         ensures cause { OnErr result (Contains (sink_failing self.old) (sink_calls self.old)
-            ⊎ Rose (sink_refused self.old) (sink_refused self.new)) }
+            ⊎ (sink_refused self.new ≡ min (sink_refused self.old + 1) (2 ^ 64 - 1))) }
         ensures not_refused { OnOk result (sink_refused self.new ≡ sink_refused self.old) }
         ensures all { OnOk result (sink_bytes self.new ≡ sink_bytes self.old ++ bytes.now) }
         ensures none { OnErr result (sink_bytes self.new ≡ sink_bytes self.old) }

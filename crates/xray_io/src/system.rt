@@ -1,22 +1,32 @@
 // The edge to the system: files by name, and the standard streams. Their bytes are not told.
-ghost use Rattle.std.specs.Prelude.{◌≡◌, ℕ, ◌≤◌, ◌<◌, [], length, None, IfOk, OnErr};
+ghost use Rattle.std.specs.Prelude.{◌≡◌, ℕ, ◌+◌, ◌-◌, ◌^◌, ◌≤◌, ◌<◌, [], length, take, min, string_bytes, None, IfOk, IfSome, OnOk, OnErr};
+ghost use Rattle.std.specs.Io.KnownBytes.{Appends};
 ghost use Rattle.xray_io.specs.Desk.{Untold};
-ghost use Rattle.xray_io.specs.Faults.{Rose};
 
 use crate::{Desk, Failed, ReadFail, Sink};
+use std::fs::OpenOptions;
 use std::io::{Read, Seek, SeekFrom, Write};
 use std::rt::Files;
 use std::{fs, io};
 
 /// The files of the system, by path. Each error is a fault, a missing file too.
 ///
-/// A file stays open while reads go on where the last one ended, so that a pipe can be read.
+/// A file stays open while reads go on where the last one ended, so that a pipe can be read, and
+/// while writes go on with the name that was written last, so that a pipe can be written.
 #[derive(Drop)]
 pub struct FileDesk<R: Files> {
     rt: R,
     opened: Option<Opened<R::File>>,
+    written: Option<Written<R::File>>,
     read_faults: u64,
     write_faults: u64,
+}
+
+// A file that was written up to its end.
+#[derive(Drop)]
+struct Written<F> {
+    name: String,
+    file: F,
 }
 
 // A file that was read up to a place.
@@ -36,12 +46,16 @@ impl<R: Files + AllocGlobal> FileDesk<R> {
         FileDesk {
             rt,
             opened: None,
+            written: None,
             read_faults: 0,
             write_faults: 0,
         }
     }
 
-    fn open(&self, name: &str, place: u64) -> io::Result<Opened<R::File>> {
+    fn open(&self, name: &str, place: u64) -> io::Result<Opened<R::File>>
+        ensures name { IfOk result (λ opened. string_bytes opened.name ≡ name.now) }
+        ensures place { IfOk result (λ opened. opened.place ≡ place) }
+    {
         let name = String::from_str(self.rt.alloc(), name)?;
         let mut file = fs::open(&self.rt, name.as_str())?;
         if place > 0 {
@@ -50,19 +64,76 @@ impl<R: Files + AllocGlobal> FileDesk<R> {
         Ok(Opened { name, file, place })
     }
 
-    fn read_file(&mut self, name: &str, from: u64, buf: &mut [u8]) -> io::Result<usize>
-        ensures within { IfOk result (λ n. n ≤ length buf.new) }
+    // The file at this place: the one that was read last, where it is there, or else opened.
+    fn take_opened(&mut self, name: &str, place: u64) -> io::Result<Opened<R::File>>
+        ensures name { IfOk result (λ opened. string_bytes opened.name ≡ name.now) }
+        ensures place { IfOk result (λ opened. opened.place ≡ place) }
         ensures read_faults { self.new.read_faults ≡ self.old.read_faults }
         ensures write_faults { self.new.write_faults ≡ self.old.write_faults }
     {
-        let mut opened = match self.opened.take() {
-            Some(opened) if opened.name.as_str() == name && opened.place == from => opened,
-            _ => self.open(name, from)?,
-        };
+        match self.opened.take() {
+            Some(opened) if opened.name.as_str() == name && opened.place == place => Ok(opened),
+            _ => self.open(name, place),
+        }
+    }
+
+    fn read_file(&mut self, name: &str, from: u64, buf: &mut [u8]) -> io::Result<usize>
+        ensures within { IfOk result (λ n. n ≤ length buf.new) }
+        ensures kept { IfOk result (λ n. IfSome self.new.opened (λ opened.
+            (string_bytes opened.name ≡ name.now)
+            × (opened.place ≡ min (from + n) (2 ^ 64 - 1)))) }
+        ensures read_faults { self.new.read_faults ≡ self.old.read_faults }
+        ensures write_faults { self.new.write_faults ≡ self.old.write_faults }
+    {
+        let mut opened = self.take_opened(name, from)?;
         let count = opened.file.read(buf)?;
         opened.place = from.saturating_add(count as u64);
         self.opened = Some(opened);
         Ok(count)
+    }
+
+    // Makes a file hold no bytes.
+    fn create_file(&self, name: &str) -> io::Result<Written<R::File>>
+        ensures name { IfOk result (λ written. string_bytes written.name ≡ name.now) }
+    {
+        let name = String::from_str(self.rt.alloc(), name)?;
+        let file = fs::create(&self.rt, name.as_str())?;
+        Ok(Written { name, file })
+    }
+
+    // Opens a file at its end, and begins one that isn't there.
+    fn open_end(&self, name: &str) -> io::Result<Written<R::File>>
+        ensures name { IfOk result (λ written. string_bytes written.name ≡ name.now) }
+    {
+        let name = String::from_str(self.rt.alloc(), name)?;
+        let file = OpenOptions::new()
+            .append(true)
+            .create(true)
+            .open(&self.rt, name.as_str())?;
+        Ok(Written { name, file })
+    }
+
+    // The file at its end: the one that was written last, or else opened.
+    fn take_written(&mut self, name: &str) -> io::Result<Written<R::File>>
+        ensures name { IfOk result (λ written. string_bytes written.name ≡ name.now) }
+        ensures read_faults { self.new.read_faults ≡ self.old.read_faults }
+        ensures write_faults { self.new.write_faults ≡ self.old.write_faults }
+    {
+        match self.written.take() {
+            Some(written) if written.name.as_str() == name => Ok(written),
+            _ => self.open_end(name),
+        }
+    }
+
+    // Counts a failed write.
+    fn fail_write(&mut self) -> Failed
+        ensures write_faults { self.new.write_faults
+            ≡ min (self.old.write_faults + 1) (2 ^ 64 - 1) }
+        ensures later { self.old.write_faults ≤ self.new.write_faults }
+        ensures read_faults { self.new.read_faults ≡ self.old.read_faults }
+    {
+        self.write_faults = self.write_faults.saturating_add(1);
+        Failed
     }
 }
 
@@ -81,6 +152,26 @@ impl<R: Files + AllocGlobal> Desk for FileDesk<R> {
                 Err(ReadFail::Failed)
             }
         }
+    }
+
+    fn create(&mut self, name: &str) -> Result<(), Failed> {
+        self.written = None;
+        match self.create_file(name) {
+            Ok(written) => {
+                self.written = Some(written);
+                Ok(())
+            }
+            Err(_) => Err(self.fail_write()),
+        }
+    }
+
+    fn append(&mut self, name: &str, bytes: &[u8]) -> Result<usize, Failed> {
+        let Ok(mut written) = self.take_written(name) else {
+            return Err(self.fail_write());
+        };
+        let count = write_some(&mut written.file, bytes, &mut self.write_faults)?;
+        self.written = Some(written);
+        Ok(count)
     }
 }
 
@@ -154,8 +245,11 @@ impl<P: Print> Sink for ErrSink<P> {
 // Writes a front of the bytes. An error is a fault, and so is a write that took none of them.
 fn write_some<W: Write>(to: &mut W, bytes: &[u8], faults: &mut u64) -> Result<usize, Failed>
     ensures within { IfOk result (λ n. n ≤ length bytes.now) }
+    ensures taken { IfOk result (λ n.
+        Appends (W.contents to.old) (W.contents to.new) (take n bytes.now)) }
     ensures goes_on { IfOk result (λ n. n ≡ 0 → bytes.now ≡ []) }
-    ensures failed { OnErr result (Rose faults.old faults.new) }
+    ensures failed { OnErr result (faults.new ≡ min (faults.old + 1) (2 ^ 64 - 1)) }
+    ensures none { OnOk result (faults.new ≡ faults.old) }
     ensures later { faults.old ≤ faults.new }
 {
     match to.write(bytes) {

@@ -3,8 +3,8 @@ ghost use Rattle.std.specs.Prelude.{◌^◌, None};
 ghost use Rattle.xray_io.specs.Desk.{Untold};
 
 use crate::{
-    Desk, ErrSink, Failed, FileDesk, Gate, MemDesk, MemSink, OpenGate, OutSink, Piece, ReadError,
-    ReadFail, Sink, Text, WriteFault, read_whole, write_all, write_pieces,
+    Desk, DeskFile, ErrSink, Failed, FileDesk, Gate, MemDesk, MemSink, OpenGate, OutSink, Piece,
+    ReadError, ReadFail, Sink, Text, WriteFault, read_whole, write_all, write_pieces,
 };
 use std::alloc::Global;
 use std::fmt::Display;
@@ -12,7 +12,8 @@ use std::io::Write;
 use std::test::Fail;
 use std::{fs, io};
 
-/// A desk that gives one byte a read, and looks whether each read goes on where the last one ended.
+/// A desk that gives one byte a read and takes one a write, and looks whether each read goes on
+/// where the last one ended.
 #[derive(Drop)]
 struct Trickle {
     desk: MemDesk,
@@ -25,7 +26,7 @@ impl Desk for Trickle {
 
     ghost read_faults = { λ _. 2 ^ 64 };
 
-    ghost write_faults = { λ _. 0 };
+    ghost write_faults = { λ _. 2 ^ 64 };
 
     fn read(&mut self, name: &str, from: u64, buf: &mut [u8]) -> Result<usize, ReadFail> {
         self.in_order = self.in_order && from == self.next;
@@ -37,6 +38,14 @@ impl Desk for Trickle {
             }
             Err(_) => Err(ReadFail::Failed),
         }
+    }
+
+    fn create(&mut self, name: &str) -> Result<(), Failed> {
+        self.desk.create(name)
+    }
+
+    fn append(&mut self, name: &str, bytes: &[u8]) -> Result<usize, Failed> {
+        self.desk.append(name, &bytes[..bytes.len().min(1)])
     }
 }
 
@@ -185,6 +194,64 @@ fn a_desk_in_memory_fails_where_it_is_told(rt: HostRuntime) -> Result<(), Fail> 
 }
 
 #[test]
+fn a_desk_in_memory_is_written_at_the_end_of_a_name(rt: HostRuntime) -> Result<(), Fail> {
+    let alloc = rt.alloc();
+    // Reads, creates and appends are numbered together.
+    let mut desk = MemDesk::new(alloc, vec![in alloc; 5, 6]?);
+    desk.put("a", b"old")?;
+    desk.put("b", b"kept")?;
+    assert_eq!(rt; desk.create("a"), Ok(()));
+    assert_eq!(rt; desk.get("a"), Some(b"".as_slice()));
+    assert_eq!(rt; desk.append("a", b"one"), Ok(3));
+    assert_eq!(rt; desk.append("a", b" two"), Ok(4));
+    assert_eq!(rt; desk.append("c", b"begun"), Ok(5));
+    assert_eq!(rt; desk.read("a", 4, &mut [0; 8]), Ok(3));
+    assert_eq!(rt; desk.append("a", b"lost"), Err(Failed));
+    assert_eq!(rt; desk.create("a"), Err(Failed));
+    assert_eq!(rt; desk.get("a"), Some(b"one two".as_slice()));
+    assert_eq!(rt; desk.get("b"), Some(b"kept".as_slice()));
+    assert_eq!(rt; desk.get("c"), Some(b"begun".as_slice()));
+    assert_eq!(rt; desk.create("d"), Ok(()));
+    assert_eq!(rt; desk.append("e", b""), Ok(0));
+    assert_eq!(rt; desk.get("d"), Some(b"".as_slice()));
+    assert_eq!(rt; desk.get("e"), Some(b"".as_slice()));
+    assert_eq!(rt; desk.refused(), 0);
+    Ok(())
+}
+
+#[test]
+fn a_name_of_a_desk_takes_a_text_as_a_sink(rt: HostRuntime) -> Result<(), Fail> {
+    let alloc = rt.alloc();
+    let mut desk = MemDesk::new(alloc, vec![in alloc; 4]?);
+    desk.put("b", b"kept")?;
+    desk.create("a")?;
+    let mut file = DeskFile::new(&mut desk, "a");
+    write_all(&mut file, b"first")?;
+    write_pieces(&mut file, &[Piece::Bytes(b" n="), Piece::Number(7)])?;
+    write_all(&mut file, b", more")?;
+    assert_eq!(rt; write_all(&mut file, b", lost"), Err(WriteFault));
+    assert_eq!(rt; desk.get("a"), Some(b"first n=7, more".as_slice()));
+    assert_eq!(rt; desk.get("b"), Some(b"kept".as_slice()));
+    // One byte a write, until the third fails.
+    let mut trickle = Trickle {
+        desk: MemDesk::new(alloc, vec![in alloc; 2]?),
+        next: 0,
+        in_order: true,
+    };
+    assert_eq!(rt;
+        write_all(&mut DeskFile::new(&mut trickle, "a"), b"abc"),
+        Err(WriteFault)
+    );
+    assert_eq!(rt;
+        write_all(&mut DeskFile::new(&mut trickle, "b"), b"abc"),
+        Ok(())
+    );
+    assert_eq!(rt; trickle.desk.get("a"), Some(b"ab".as_slice()));
+    assert_eq!(rt; trickle.desk.get("b"), Some(b"abc".as_slice()));
+    Ok(())
+}
+
+#[test]
 fn writes_go_on_after_a_part_and_stop_at_a_fault(rt: HostRuntime) -> Result<(), Fail> {
     let alloc = rt.alloc();
     let mut sips = Sips {
@@ -297,6 +364,37 @@ fn files_are_read_by_name(rt: HostRuntime) -> Result<(), Fail> {
         read_whole(alloc, &mut desk, "/dev/zero", 99_999),
         Err(ReadError::TooLong)
     );
+    Ok(())
+}
+
+#[test]
+fn files_are_written_by_name(rt: HostRuntime) -> Result<(), Fail> {
+    let alloc = rt.alloc();
+    let first = format!(in alloc; "/tmp/xray_io-first-{}", std::process::id(rt.process()))?;
+    let second = format!(in alloc; "/tmp/xray_io-second-{}", std::process::id(rt.process()))?;
+    let (first, second) = (first.as_str(), second.as_str());
+    fs::write(&rt, first, b"old".as_slice())?;
+    let mut desk = FileDesk::new(&rt);
+    assert_eq!(rt; desk.create(first), Ok(()));
+    assert_eq!(rt; read_whole(alloc, &mut desk, first, 9)?.len(), 0);
+    assert_eq!(rt; desk.append(first, b"one"), Ok(3));
+    // A name that isn't there is begun, and the other goes on at its end behind it.
+    assert_eq!(rt; desk.append(second, b"begun"), Ok(5));
+    assert_eq!(rt; desk.append(first, b" two"), Ok(4));
+    assert_eq!(rt; desk.append(first, b""), Ok(0));
+    assert_eq!(rt;
+        read_whole(alloc, &mut desk, first, 9)?.as_slice(),
+        b"one two".as_slice()
+    );
+    assert_eq!(rt;
+        read_whole(alloc, &mut desk, second, 9)?.as_slice(),
+        b"begun".as_slice()
+    );
+    fs::remove_file(&rt, first)?;
+    fs::remove_file(&rt, second)?;
+    assert_eq!(rt; desk.create("/tmp"), Err(Failed));
+    assert_eq!(rt; desk.append("/tmp", b"lost"), Err(Failed));
+    assert_eq!(rt; desk.append("/dev/full", b"lost"), Err(Failed));
     Ok(())
 }
 

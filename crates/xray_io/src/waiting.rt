@@ -21,6 +21,7 @@ impl Model for Waiting {
 }
 
 impl Waiting {
+    /// No bytes.
     pub fn new() -> Self
         ensures { result ≡ [] }
     {
@@ -30,6 +31,7 @@ impl Waiting {
         }
     }
 
+    /// The bytes that wait, the first given first.
     pub fn as_slice(&self) -> &[u8]
         ensures { result.now ≡ self.now }
     {
@@ -53,6 +55,7 @@ impl Waiting {
         self.len = end;
     }
 
+    /// Lets all of them go, once they were written.
     pub fn clear(&mut self)
         ensures { self.new ≡ [] }
     {

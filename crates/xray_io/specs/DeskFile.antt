@@ -1,0 +1,53 @@
+-- A name of a desk as a sink.
+use Rattle.std.specs.Prelude.{◌≡◌, ◌≢◌, ℕ, List, [], Option, Some, None, refl}
+use mathlib.Core.Path.{sym, ap, ◌∙◌}
+use Rattle.xray_io.specs.Desk.{Entry, Untold, Absent, Holds}
+use Rattle.xray_io.specs.declared.desk_file.DeskFile.{DeskFile}
+
+-- the desk that is written
+abbrev pub desk_of : {D : Type 0} → DeskFile D → D
+desk_of file = file.desk.now
+
+-- which loan of the desk it holds
+abbrev pub desk_loan : {D : Type 0} → DeskFile D → ℕ
+desk_loan file = file.desk.ghost_name
+
+-- the name that is written
+abbrev pub name_of : {D : Type 0} → DeskFile D → List ℕ
+name_of file = file.name.now
+
+-- the bytes of a name, where the desk tells; a name that isn't held has none
+abbrev pub bytes_of : Entry → Option (List ℕ)
+bytes_of Untold = None
+bytes_of Absent = Some []
+bytes_of (Holds bytes) = Some bytes
+
+-- one name was written, and nothing else changed: it writes the same name of the same desk, a name
+-- that was held still is, the other names hold what they held, and no read has failed
+pub record WritesOn {D : Type 0} (held : D → List ℕ → Entry) (read_faults : D → ℕ) (old new : DeskFile D) : Type 0 where
+  pub loan : desk_loan new ≡ desk_loan old
+  pub name : name_of new ≡ name_of old
+  pub there : held (desk_of old) (name_of old) ≢ Absent → held (desk_of new) (name_of old) ≢ Absent
+  pub others : (other : List ℕ) → other ≢ name_of old → held (desk_of new) other ≡ held (desk_of old) other
+  pub reads : read_faults (desk_of new) ≡ read_faults (desk_of old)
+
+-- nothing was done
+pub writes_nothing : {D : Type 0} (held : D → List ℕ → Entry) (read_faults : D → ℕ) (file : DeskFile D) → WritesOn held read_faults file file
+writes_nothing held read_faults file = record {
+  loan = refl;
+  name = refl;
+  there = λ was. was;
+  others = λ other differs. refl;
+  reads = refl;
+}
+
+-- one name was written, and then again
+pub writes_both : {D : Type 0} (held : D → List ℕ → Entry) (read_faults : D → ℕ) (first second third : DeskFile D) → WritesOn held read_faults first second → WritesOn held read_faults second third → WritesOn held read_faults first third
+writes_both held read_faults first second third p q = record {
+  loan = q.loan ∙ p.loan;
+  name = q.name ∙ p.name;
+  there = λ was absent.
+      q.there (λ gone. p.there was (ap (held (desk_of second)) (sym p.name) ∙ gone)) (ap (held (desk_of third)) p.name ∙ absent);
+  others = λ other differs. q.others other (λ same. differs (same ∙ p.name)) ∙ p.others other differs;
+  reads = q.reads ∙ p.reads;
+}

@@ -1,0 +1,43 @@
+// A name of a desk as a sink.
+ghost use Rattle.std.specs.Prelude.{◌≡◌};
+
+use crate::{Desk, Failed, Sink};
+
+/// A sink that writes at the end of what one name of a desk holds. A name that isn't held is begun
+/// by the first write, and holds no bytes until then. The faults are those of the desk's writes.
+#[derive(Drop)]
+pub struct DeskFile<'a, D> {
+    desk: &'a mut D,
+    name: &'a str,
+}
+
+impl<'a, D: Desk> DeskFile<'a, D> {
+    ghost use Rattle.xray_io.specs.DeskFile.{desk_of, desk_loan, name_of};
+
+    /// The end of this name of the desk.
+    pub fn new(desk: &'a mut D, name: &'a str) -> Self
+        ensures desk { desk_of result ≡ desk.old }
+        ensures loan { desk_loan result ≡ desk.entry.ghost_name }
+        ensures name { name_of result ≡ name.now }
+    {
+        DeskFile { desk, name }
+    }
+}
+
+impl<D: Desk> Sink for DeskFile<'_, D> {
+    ghost use Rattle.xray_io.specs.DeskFile.{desk_of, name_of, bytes_of, WritesOn, writes_nothing, writes_both};
+
+    ghost written = { λ file. bytes_of (D.held (desk_of file) (name_of file)) };
+
+    ghost faults = { λ file. D.write_faults (desk_of file) };
+
+    ghost follows = { WritesOn D.held D.read_faults };
+
+    fn write(&mut self, bytes: &[u8]) -> Result<usize, Failed> {
+        self.desk.append(self.name, bytes)
+    }
+
+    ghost follows_itself = { writes_nothing D.held D.read_faults };
+
+    ghost follows_along = { writes_both D.held D.read_faults };
+}
