@@ -6,4 +6,6 @@ mod desks;
 #[cfg(test)]
 mod first_run;
 #[cfg(test)]
+mod plain;
+#[cfg(test)]
 mod runs;

@@ -61,6 +61,13 @@ pub fn desk_of(
     Ok(desk)
 }
 
+/// A desk that holds an image as `i` alone.
+pub fn image_desk(alloc: Global, image: &[u8]) -> Result<MemDesk, Fail> {
+    let mut desk = MemDesk::new(alloc, Vec::new(alloc));
+    desk.put("i", image)?;
+    Ok(desk)
+}
+
 /// Runs the top call over a desk, and over sinks that fail at these of their calls.
 pub fn run_words<R: Threads + Wait + Sync + AllocGlobal, D: Desk>(
     rt: &R,

@@ -8,7 +8,7 @@ use Rattle.xray_image.specs.Container.{base_address}
 use Rattle.xray_image.specs.FirstRun.{IsFirstRun}
 use Rattle.xray_image.specs.Program.{Program, IsAccepted}
 use Rattle.xray_image.specs.Units.{units_from}
-use Rattle.xray_program.specs.Straight.{Returns, first_shown, behind_units}
+use Rattle.xray_program.proofs.Straight.{Returns, first_shown, behind_units}
 use Rattle.xray_program.proofs.AcceptedCode.{few_pieces, entry_at_base}
 use Rattle.xray_program.proofs.StraightRun.{Inside, TwoSleds, run_whole}
 

@@ -18,8 +18,11 @@ use Rattle.xray_image.specs.Units.{Piece, Instruction, JumpSled, ReturnSled, Ali
 use Rattle.machine_step.specs.declared.end.End.TheVariants.{Returned}
 use Rattle.machine_step.specs.PlainStep.{State, Goes, Ends, Passing, PlainStep, UnitStep, RunsTo, opening, counted, does, fuelled, passing_at, behind_passing}
 use Rattle.xray_program.specs.FirstRun.{default_limits}
-use Rattle.xray_program.specs.Straight.{Shown, shown_of, behind_unit, behind_instruction, behind_sled, behind_units, first_shown}
-use Rattle.xray_program.proofs.StraightForm.{straight_tail}
+use Rattle.xray_program.proofs.Straight.{Shown, shown_of, behind_unit, behind_instruction, behind_sled, behind_units, first_shown}
+
+-- what stands behind the first sled
+abbrev pub straight_tail : List Instr → List What → List What
+straight_tail body padding = (map whats.Plain body ++ padding) ++ whats.Sled 1 ∷ []
 
 -- from a state the thread runs to its return, passes sleds of these numbers on the way, and this is shown of its end
 pub record ReturnsFrom (program : Program) (thread : ℕ) (s : State) (sleds : List ℕ) (shown : Shown) : Type 0 where
