@@ -19,9 +19,11 @@ const SECOND: &str = "thread 2 returned instructions 3 passings 2\n\
     output 41\n";
 
 /// The registers of thread 1 behind `mov eax, 0x41`.
-const REGISTERS: &str = "rax=41 rcx=0 rdx=0 rbx=0 rbp=0 rsi=0 rdi=1 r8=0 r9=0 r11=0 r12=0 r13=0 r14=0 r15=0 zf=0\n";
+const REGISTERS: &str = "rax=41 rcx=0 rdx=0 rbx=0 rbp=0 rsi=0 rdi=1 r8=0 r9=0 r11=0 r12=0 r13=0 \
+    r14=0 r15=0 zf=0\n";
 
-/// A file whose code is `41 BA 01 00 00 00 C3`, a `mov` to register 10, in one function without sleds.
+/// A file whose code is `41 BA 01 00 00 00 C3`, a `mov` to register 10, in one function without
+/// sleds.
 const REGISTER_10: [u8; 84] = [
     b'X', b'R', b'I', b'M', 1, 0, 0, 0, 0x00, 0x10, 0, 0, 0, 0, 0, 0, //
     7, 0, 0, 0, 1, 0, 0, 0, 0, 0, 0, 0, 0, 0, 0, 0, //
@@ -30,6 +32,9 @@ const REGISTER_10: [u8; 84] = [
     0x41, 0xBA, 0x01, 0x00, 0x00, 0x00, 0xC3, //
     0x00, 0x10, 0, 0, 0, 0, 0, 0, 4, b'm', b'a', b'i', b'n', //
 ];
+
+/// Where the code stands in a file.
+const CODE: usize = 64;
 
 /// A file of two functions, of which the first calls the second; the call goes one byte too far.
 const CALLS_PAST_A_START: [u8; 266] = [
@@ -78,8 +83,9 @@ fn a_plain_run_ends_where_it_returns_or_at_a_limit(rt: HostRuntime) -> Result<()
     assert_prints(&rt, &["plain", "i"], STATE)?;
     let fuel = format!(in alloc; "thread 1 fuel instructions 1 passings 1\n{REGISTERS}output -\n")?;
     assert_prints(&rt, &["plain", "i", "--fuel", "1"], &fuel)?;
-    let passings =
-        format!(in alloc; "thread 1 passings instructions 2 passings 1\n{REGISTERS}output 41\n")?;
+    let passings = format!(in alloc;
+        "thread 1 passings instructions 2 passings 1\n{REGISTERS}output 41\n"
+    )?;
     assert_prints(&rt, &["plain", "i", "--passings=1"], &passings)
 }
 
@@ -96,7 +102,11 @@ fn the_sled_map_is_printed_in_the_order_of_the_file(rt: HostRuntime) -> Result<(
 
 #[test]
 fn options_stand_anywhere_before_two_dashes(rt: HostRuntime) -> Result<(), Fail> {
-    assert_prints(&rt, &["plain", "--fuel=+0010", "i", "--threads", "1"], STATE)?;
+    assert_prints(
+        &rt,
+        &["plain", "--fuel=+0010", "i", "--threads", "1"],
+        STATE,
+    )?;
     assert_prints(&rt, &["plain", "--fuel=1000000000", "--", "i"], STATE)?;
     assert_prints(&rt, &["extract", "--", "i"], SLED_MAP)
 }
@@ -184,6 +194,23 @@ fn an_image_is_refused_with_the_values_of_its_fault(rt: HostRuntime) -> Result<(
     Ok(())
 }
 
+/// A call and two returns are counted as instructions, and the four sleds as passings.
+#[test]
+fn an_image_with_a_call_is_run_and_not_yet_replayed(rt: HostRuntime) -> Result<(), Fail> {
+    let mut image = CALLS_PAST_A_START;
+    image[CODE + 12] = 0x0C;
+    let words = ["sim", "i", "s", "c"];
+    assert_stops(&rt, &words, &image, 2, "xray: i: image NotYet\n")?;
+    let mut desk = image_desk(rt.alloc(), &image)?;
+    let run = run_words(&rt, &["plain", "i"], &mut desk, &[], &[])?;
+    assert_eq!(rt; run.status, 0);
+    assert_eq!(rt;
+        run.out.as_str().lines().next().ok_or("no line")?,
+        "thread 1 returned instructions 3 passings 4"
+    );
+    Ok(())
+}
+
 #[test]
 fn an_image_that_is_not_held_is_a_read_fault(rt: HostRuntime) -> Result<(), Fail> {
     assert_stops(&rt, &["plain", "q"], &IMAGE, 3, "xray: q: read fault\n")?;
@@ -193,11 +220,21 @@ fn an_image_that_is_not_held_is_a_read_fault(rt: HostRuntime) -> Result<(), Fail
 #[test]
 fn an_input_above_its_limit_is_too_long(rt: HostRuntime) -> Result<(), Fail> {
     let image = vec![in rt.alloc(); 0u8; 4_194_305]?;
-    for words in [&["plain", "i"][..], &["extract", "i"], &["sim", "i", "s", "c"]] {
+    for words in [
+        &["plain", "i"][..],
+        &["extract", "i"],
+        &["sim", "i", "s", "c"],
+    ] {
         assert_stops(&rt, words, &image, 6, "xray: i: too long\n")?;
     }
     let script = vec![in rt.alloc(); b'\n'; 1_048_577]?;
-    let mut desk = desk_of(rt.alloc(), &[], &IMAGE, std::str::from_utf8(&script)?, SCHEDULE)?;
+    let mut desk = desk_of(
+        rt.alloc(),
+        &[],
+        &IMAGE,
+        std::str::from_utf8(&script)?,
+        SCHEDULE,
+    )?;
     let run = run_words(&rt, &["sim", "i", "s", "c"], &mut desk, &[], &[])?;
     assert_eq!(rt; run.status, 6);
     assert_eq!(rt; run.err.as_str(), "xray: s: too long\n");

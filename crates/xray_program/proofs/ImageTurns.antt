@@ -94,14 +94,17 @@ fails_first_run held name before now stops.BadLine fails = fails
 fails_first_run held name before now (stops.Unread n) fails = fails
 fails_first_run held name before now (stops.TooLong n) fails = fails
 fails_first_run held name before now (stops.Refused n k refusal) fails =
-    let rejects = fails.2 in
-    (fails.0, fails.1, record {
-      bytes = rejects.bytes;
-      held = rejects.held;
-      within = rejects.within;
-      refused = inl rejects.refused;
-      none = λ other reads. rejects.none other reads.accepted;
-    })
+    let rejects = fails.2 in (
+      fails.0,
+      fails.1,
+      record {
+        bytes = rejects.bytes;
+        held = rejects.held;
+        within = rejects.within;
+        refused = inl rejects.refused;
+        none = λ other reads. rejects.none other reads.accepted;
+      },
+    )
 fails_first_run held name before now stops.Unwritten fails = fails
 fails_first_run held name before now stops.NoMemory fails = fails
 

@@ -13,7 +13,6 @@ pub mod Scripts
 pub mod SimTurns
 pub mod Spoken
 pub mod Storing
-pub mod Straight
 pub mod StraightPrints
 pub mod StraightReturns
 pub mod StraightRun

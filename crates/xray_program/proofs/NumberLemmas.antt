@@ -1,9 +1,9 @@
 -- The number that a word writes.
-use Rattle.std.proofs.Common.{◌≡◌, ◌<◌, ◌≤◌, ◌^◌, ℕ, Bool, true, false, cond, ◌&&◌, List, length, Option, Some, None, Result, Ok, Err, refl, sym, arith, leb}
+use Rattle.std.proofs.Common.{◌≡◌, ◌<◌, ◌≤◌, ◌^◌, ℕ, Bool, true, false, cond, ◌&&◌, List, length, Option, Some, None, Ok, Err, refl, arith, leb}
 use Rattle.std.specs.Str.{all_ascii_digits}
 use Rattle.std.specs.Str.Parse.{digits_value, without_leading_plus, ParsesUnsigned}
 use Rattle.std.proofs.lemmas.Str.Parse.{IsNumeralModel, numerals_by_value, tells_all_ascii_digits}
-use Rattle.std.proofs.lemmas.Bool.{cases_Bool, le-leb, lt-leb, leb-true}
+use Rattle.std.proofs.lemmas.Bool.{le-leb, leb-true}
 use Rattle.xray_program.specs.Words.{number_within}
 
 digits : IsNumeralModel (λ ds. all_ascii_digits ds ≡ true) (digits_value 10)
@@ -17,27 +17,6 @@ number_found E least most n word reads low high =
     let some : leb 1 (length ds) ≡ true = le-leb 1 (length ds) reads.0.0.0 in
     let all : all_ascii_digits ds ≡ true = digits.from ds reads.0.0.1 in
     rw (some, all, ← reads.1, le-leb least n low, le-leb n most high) refl
-
--- one that is read as a number out of the range
-pub number_below : (E : Type 0) (least most n : ℕ) (word : List ℕ) → ParsesUnsigned {E = E} 64 10 word (Ok n) → n < least
-    → number_within least most word ≡ None
-number_below E least most n word reads low =
-    let ds = without_leading_plus word in
-    let some : leb 1 (length ds) ≡ true = le-leb 1 (length ds) reads.0.0.0 in
-    let all : all_ascii_digits ds ≡ true = digits.from ds reads.0.0.1 in
-    rw (some, all, ← reads.1, lt-leb least n low) refl
-
-too_large : (low : Bool) (n : ℕ) → cond (low && false) (Some n) None ≡ None
-too_large true n = refl
-too_large false n = refl
-
-pub number_above : (E : Type 0) (least most n : ℕ) (word : List ℕ) → ParsesUnsigned {E = E} 64 10 word (Ok n) → most < n
-    → number_within least most word ≡ None
-number_above E least most n word reads high =
-    let ds = without_leading_plus word in
-    let some : leb 1 (length ds) ≡ true = le-leb 1 (length ds) reads.0.0.0 in
-    let all : all_ascii_digits ds ≡ true = digits.from ds reads.0.0.1 in
-    rw (some, all, ← reads.1, lt-leb n most high) (too_large (leb least n) n)
 
 -- one that is read as no number
 refused : (some all low high : Bool) (n : ℕ) → ((some ≡ true) → (all ≡ true) → (high ≡ true) → ⊥)

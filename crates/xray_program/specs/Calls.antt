@@ -9,8 +9,8 @@ use Rattle.xray_program.specs.Meaning.{TooLong, Refused, Means, HadItsTurn}
 use Rattle.xray_program.specs.Stops.{kind_text, refusal_text}
 use Rattle.xray_program.specs.Words.{reading}
 
--- what stands behind each stop: the words, a name whose turn had come, what the words mean, or a fault of out; and out
--- got nothing but in the last
+-- what stands behind each stop: the words, a name whose turn had come, what the words mean, or a
+-- fault of out; and out got nothing but in the last
 abbrev pub StopsCall : List (List ℕ) → (List ℕ → Entry) → (reads_before reads_now out_before out_now : ℕ)
     → (old new : Option (List ℕ)) → Stop → Type 0
 StopsCall said held reads_before reads_now out_before out_now old new stops.BadLine =

@@ -29,7 +29,8 @@ fault_text faults.Magic = codes "Magic"
 fault_text faults.Version = codes "Version"
 fault_text (faults.Limit which) = codes "Limit " ++ field_text which
 fault_text faults.Trailing = codes "Trailing"
-fault_text (faults.Code place fault) = codes "Code " ++ decimal place ++ codes " " ++ decode_text fault
+fault_text (faults.Code place fault) =
+    codes "Code " ++ decimal place ++ codes " " ++ decode_text fault
 fault_text (faults.Sled place) = codes "Sled " ++ decimal place
 fault_text (faults.Names number) = codes "Names " ++ decimal number
 fault_text (faults.MapOrder number) = codes "MapOrder " ++ decimal number
@@ -40,4 +41,5 @@ fault_text faults.NoMemory = codes "NoMemory"
 
 -- the text of the words of a refusal
 abbrev pub text_of_words : Words → List ℕ
-text_of_words w = piece_text w.first ++ piece_text w.second ++ piece_text w.third ++ piece_text w.fourth
+text_of_words w =
+    piece_text w.first ++ piece_text w.second ++ piece_text w.third ++ piece_text w.fourth

@@ -14,8 +14,8 @@ use Rattle.step_sim.specs.declared.turns.Turns.{Turns}
 use Rattle.step_sim.specs.declared.turns.Turns.TheVariants.{Thread, Patcher}
 use Rattle.xray_program.specs.FirstRun.{first_script}
 
--- A kind of input: how a line on err names it, how many bytes it has at the most, what its bytes read as, and why they
--- are refused, in the words of the line.
+-- A kind of input: how a line on err names it, how many bytes it has at the most, what its bytes
+-- read as, and why they are refused, in the words of the line.
 pub record Form (X : Type 0) : Type 1 where
   pub kind : List ℕ
   pub limit : ℕ
@@ -26,10 +26,16 @@ pub record Form (X : Type 0) : Type 1 where
 
 -- an image file is refused for the first fault that it has
 abbrev pub RefusesImage : List ℕ → List ℕ → Type 0
-RefusesImage bytes refusal = (fault : ImageFault) × ReadsAs bytes (Err fault) × (refusal ≡ fault_text fault)
+RefusesImage bytes refusal =
+    (fault : ImageFault) × ReadsAs bytes (Err fault) × (refusal ≡ fault_text fault)
 
 abbrev pub image_form : Form Program
-image_form = record { kind = codes "image"; limit = 4194304; Reads = IsAccepted; Refuses = RefusesImage }
+image_form = record {
+  kind = codes "image";
+  limit = 4194304;
+  Reads = IsAccepted;
+  Refuses = RefusesImage;
+}
 
 -- an accepted image of the form that `sim` runs
 pub record ReadsFirstRun (bytes : List ℕ) (program : Program) : Type 0 where
@@ -40,16 +46,23 @@ pub record ReadsFirstRun (bytes : List ℕ) (program : Program) : Type 0 where
 abbrev pub RefusesFirstRun : List ℕ → List ℕ → Type 0
 RefusesFirstRun bytes refusal =
     RefusesImage bytes refusal
-    ⊎ ((program : Program) × IsAccepted bytes program × (IsFirstRun program → ⊥) × (refusal ≡ codes "NotYet"))
+    ⊎ ((program : Program) × IsAccepted bytes program × (IsFirstRun program → ⊥)
+    × (refusal ≡ codes "NotYet"))
 
 abbrev pub first_run_form : Form Program
-first_run_form = record { kind = codes "image"; limit = 4194304; Reads = ReadsFirstRun; Refuses = RefusesFirstRun }
+first_run_form = record {
+  kind = codes "image";
+  limit = 4194304;
+  Reads = ReadsFirstRun;
+  Refuses = RefusesFirstRun;
+}
 
 -- ---- scripts
 
 -- bytes that aren't of the form
 abbrev pub IsNotYet : {X : Type 0} → (List ℕ → X → Type 0) → List ℕ → List ℕ → Type 0
-IsNotYet {X} Reads bytes refusal = ((value : X) → Reads bytes value → ⊥) × (refusal ≡ codes "NotYet")
+IsNotYet {X} Reads bytes refusal =
+    ((value : X) → Reads bytes value → ⊥) × (refusal ≡ codes "NotYet")
 
 -- the words of each line that has some
 abbrev pub spoken_lines : List ℕ → List (List (List ℕ))
@@ -66,15 +79,20 @@ pub record ReadsScript (bytes : List ℕ) (script : List Command) : Type 0 where
   pub meaning : script ≡ first_script
 
 abbrev pub script_form : Form (List Command)
-script_form = record { kind = codes "script"; limit = 1048576; Reads = ReadsScript; Refuses = IsNotYet ReadsScript }
+script_form = record {
+  kind = codes "script";
+  limit = 1048576;
+  Reads = ReadsScript;
+  Refuses = IsNotYet ReadsScript;
+}
 
 -- ---- schedules
 
 -- the words of a line that gives turns: t 1 K, or p K, with K from 1 on
 abbrev pub SaysTurns : List (List ℕ) → Turns → Type 0
 SaysTurns words (Thread thread count) =
-    (t k : List ℕ) × (words ≡ codes "t" ∷ t ∷ k ∷ []) × (number_of t ≡ Some thread) × (number_of k ≡ Some count)
-    × (thread ≡ 1) × (0 < count)
+    (t k : List ℕ) × (words ≡ codes "t" ∷ t ∷ k ∷ [])
+    × (number_of t ≡ Some thread) × (number_of k ≡ Some count) × (thread ≡ 1) × (0 < count)
 SaysTurns words (Patcher count) =
     (k : List ℕ) × (words ≡ codes "p" ∷ k ∷ []) × (number_of k ≡ Some count) × (0 < count)
 
@@ -92,4 +110,9 @@ pub record ReadsSchedule (bytes : List ℕ) (schedule : List Turns) : Type 0 whe
   pub turns : SayAll (spoken_lines bytes) schedule
 
 abbrev pub schedule_form : Form (List Turns)
-schedule_form = record { kind = codes "schedule"; limit = 16777216; Reads = ReadsSchedule; Refuses = IsNotYet ReadsSchedule }
+schedule_form = record {
+  kind = codes "schedule";
+  limit = 16777216;
+  Reads = ReadsSchedule;
+  Refuses = IsNotYet ReadsSchedule;
+}

@@ -34,5 +34,6 @@ IsPrintable (SledMap image) = Unit {0}
 -- the ends of so many threads of a program, in the order of their numbers, from 1 on
 pub record AreEnds (program : Program) (options : RunOptions) (threads : ℕ) (ends : List PlainEnd) : Type 0 where
   pub count : length ends ≡ threads
-  pub each : (k : ℕ) (e : PlainEnd) → slice_get ends k ≡ Some e → IsPlainEnd program (limits_of options) (k + 1) e
+  pub each : (k : ℕ) (e : PlainEnd) → slice_get ends k ≡ Some e
+      → IsPlainEnd program (limits_of options) (k + 1) e
   pub registers : All HasRegisters ends

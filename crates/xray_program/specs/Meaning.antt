@@ -10,8 +10,9 @@ use Rattle.xray_program.specs.Plain.{PlainPrints}
 use Rattle.xray_program.specs.Words.{Sim, Plain, Extract, reading}
 use Rattle.xray_program.specs.Words as words
 
--- what comes of a command line: it says no command; an input can't be read; an input has too many bytes; an input isn't
--- in its definition, by what kind of input it is and why; or outputs, each a name and its bytes, and a text
+-- what comes of a command line: it says no command; an input can't be read; an input has too many
+-- bytes; an input isn't in its definition, by what kind of input it is and why; or outputs, each a
+-- name and its bytes, and a text
 pub data Outcome : Type 0 where
   BadLine : Outcome
   Unread : (name : List ℕ) → Outcome
@@ -52,18 +53,20 @@ MayHold Untold bytes = ⊤
 MayHold Absent bytes = ⊥
 MayHold (Holds content) bytes = bytes ≡ content
 
--- Bytes are judged: they are too many; or they are refused; or they read as a value, and what follows is that value's.
-abbrev pub Judge : {X : Type 0} → Form X → (name bytes : List ℕ) → (X → Outcome → Type 0) → Outcome → Type 0
+-- Bytes are judged: they are too many; or they are refused; or they read as a value, and what
+-- follows is that value's.
+abbrev pub Judge : {X : Type 0} → Form X → (name bytes : List ℕ) → (X → Outcome → Type 0) → Outcome
+    → Type 0
 Judge {X} form name bytes next outcome =
     ((form.limit < length bytes) × (outcome ≡ TooLong name))
-    ⊎ ((length bytes ≤ form.limit)
-    × (((refusal : List ℕ) × form.Refuses bytes refusal × (outcome ≡ Refused name form.kind refusal))
+    ⊎ ((length bytes ≤ form.limit) × (((refusal : List ℕ) × form.Refuses bytes refusal
+    × (outcome ≡ Refused name form.kind refusal))
     ⊎ ((value : X) × form.Reads bytes value × next value outcome)))
 
--- An input is taken in its turn, where `fails` says which names can't be read: it can't be read; or the bytes that it
--- holds are judged, and the next input's turn comes.
-abbrev pub Take : {X : Type 0} → Form X → (List ℕ → Type 0) → (List ℕ → Entry) → List ℕ → (X → Outcome → Type 0)
-    → Outcome → Type 0
+-- An input is taken in its turn, where `fails` says which names can't be read: it can't be read; or
+-- the bytes that it holds are judged, and the next input's turn comes.
+abbrev pub Take : {X : Type 0} → Form X → (List ℕ → Type 0) → (List ℕ → Entry) → List ℕ
+    → (X → Outcome → Type 0) → Outcome → Type 0
 Take form fails held name next outcome =
     (fails name × (outcome ≡ Unread name))
     ⊎ ((bytes : List ℕ) × MayHold (held name) bytes × Judge form name bytes next outcome)

@@ -11,7 +11,14 @@ use Rattle.xray_program.specs.declared.words.RunOptions.{RunOptions}
 -- what bounds each thread; only events have stamps, and the plain run prints none
 abbrev pub limits_of : RunOptions → Limits
 limits_of options =
-    record { fuel = options.fuel; passings = options.passings; tick = 1; tsc = 0; cpus = 1; migrate = 1048576 }
+    record {
+      fuel = options.fuel;
+      passings = options.passings;
+      tick = 1;
+      tsc = 0;
+      cpus = 1;
+      migrate = 1048576;
+    }
 
 -- the text of a thread, with the end, the counts, the registers and the output of its plain run
 pub record IsPlainText (program : Program) (limits : Limits) (thread : ℕ) (text : List ℕ) : Type 0 where
@@ -25,5 +32,6 @@ pub record IsPlainText (program : Program) (limits : Limits) (thread : ℕ) (tex
 pub record PlainPrints (program : Program) (options : RunOptions) (text : List ℕ) : Type 0 where
   pub texts : List (List ℕ)
   pub count : length texts ≡ options.threads
-  pub each : (k : ℕ) (t : List ℕ) → slice_get texts k ≡ Some t → IsPlainText program (limits_of options) (k + 1) t
+  pub each : (k : ℕ) (t : List ℕ) → slice_get texts k ≡ Some t
+      → IsPlainText program (limits_of options) (k + 1) t
   pub joined : text ≡ flat_map (λ t. t) texts

@@ -40,18 +40,20 @@ pub record Rejects {X : Type 0} (form : Form X) (entry : Entry) (refusal : List 
   pub refused : form.Refuses bytes refusal
   pub none : (value : X) → form.Reads bytes value → ⊥
 
--- An input of this name wasn't read whole: reads failed or the desk doesn't hold the name; or it may hold more bytes than
--- the limit; or memory ran out.
+-- An input of this name wasn't read whole: reads failed or the desk doesn't hold the name; or it
+-- may hold more bytes than the limit; or memory ran out.
 abbrev pub FailsToRead : ℕ → (List ℕ → Entry) → List ℕ → ℕ → ℕ → Stop → Type 0
 FailsToRead limit held name before now stops.BadLine = ⊥
 FailsToRead limit held name before now (stops.Unread n) =
     (n.now ≡ name) × (Rose before now ⊎ (held name ≡ Absent))
-FailsToRead limit held name before now (stops.TooLong n) = (n.now ≡ name) × IsTooLong limit (held name)
+FailsToRead limit held name before now (stops.TooLong n) =
+    (n.now ≡ name) × IsTooLong limit (held name)
 FailsToRead limit held name before now (stops.Refused n k refusal) = ⊥
 FailsToRead limit held name before now stops.Unwritten = ⊥
 FailsToRead limit held name before now stops.NoMemory = ⊤
 
--- the turn of an input of this form and name ends with a stop: it wasn't read whole, or it may hold bytes that are refused
+-- the turn of an input of this form and name ends with a stop: it wasn't read whole, or it may hold
+-- bytes that are refused
 abbrev pub Fails : {X : Type 0} → Form X → (List ℕ → Entry) → List ℕ → ℕ → ℕ → Stop → Type 0
 Fails form held name before now (stops.Refused n k refusal) =
     (n.now ≡ name) × (kind_text k ≡ form.kind) × Rejects form (held name) (refusal_text refusal)
@@ -78,7 +80,8 @@ Stops M held before now (stops.Refused n kind refusal) =
 Stops M held before now stops.Unwritten = ⊥
 Stops M held before now stops.NoMemory = ⊤
 
--- a status for an outcome before anything is written: its own, that for want of memory, or that for a read that failed
+-- a status for an outcome before anything is written: its own, that for want of memory, or that for
+-- a read that failed
 abbrev pub IsAnswerSoFar : ℕ → ℕ → Outcome → ℕ → Type 0
 IsAnswerSoFar before now outcome status =
     (status ≡ status_of outcome) ⊎ (status ≡ 5) ⊎ ((status ≡ 3) × Rose before now)

@@ -36,8 +36,8 @@ is_name word = not (nat_le 2 (length word) && slice_index word 0 == 45)
 abbrev pub is_equals : ℕ → Bool
 is_equals byte = byte == 61
 
--- What words say, where an option may stand before them that wants its value: that is the next word, whatever it looks
--- like. Behind a word -- all words are file names.
+-- What words say, where an option may stand before them that wants its value: that is the next
+-- word, whatever it looks like. Behind a word -- all words are file names.
 abbrev pub items_behind : Option (List ℕ) → List (List ℕ) → List Item
 items_behind None [] = []
 items_behind (Some option) [] = Bare option ∷ []
@@ -96,13 +96,14 @@ pub record NumberOption : Type 0 where
   pub most : ℕ
   pub default : ℕ
 
--- the number that a word writes in decimal, within a range: zeros may lead, and one plus before them
+-- the number that a word writes in decimal, within a range: zeros may lead, and one plus before
+-- them
 abbrev pub number_within : (least most : ℕ) → List ℕ → Option ℕ
 number_within least most word =
     let digits = without_leading_plus word in
     let number = digits_value 10 digits in
-    if nat_le 1 (length digits) && all_ascii_digits digits && nat_le least number && nat_le number most
-    then Some number else None
+    if nat_le 1 (length digits) && all_ascii_digits digits
+    && nat_le least number && nat_le number most then Some number else None
 
 -- the number that an option is given, once at the most
 abbrev pub number_given : NumberOption → List Item → Option ℕ
@@ -125,8 +126,8 @@ abbrev pub passings_option : NumberOption
 passings_option = record { name = codes "--passings"; least = 0; most = 1048576; default = 1048576 }
 
 abbrev pub run_options : List Item → Option RunOptions
-run_options items = with_numbers
-    (number_given threads_option items) (number_given fuel_option items) (number_given passings_option items)
+run_options items = with_numbers (number_given threads_option items)
+    (number_given fuel_option items) (number_given passings_option items)
   where
     with_numbers : Option ℕ → Option ℕ → Option ℕ → Option RunOptions
     with_numbers (Some threads) (Some fuel) (Some passings) =

@@ -21,10 +21,11 @@ use std::sync::Wait;
 use std::thread::Threads;
 use xray_io::{Desk, Gate, Sink, Wall, WriteFault};
 
-/// Does what `words` say, which don't hold the program's own name, with the files of `desk`. It answers the program's
-/// status: 0 where all is done; 1 where the words say no command; 2 where an input isn't of its form; 3 where an input
-/// can't be read; 4 where `out` fails; 5 where memory runs out; 6 where an input has more bytes than its limit. On 1 to 6 a
-/// line on `err` says so. It waits for nobody.
+/// Does what `words` say, which don't hold the program's own name, with the files of `desk`. It
+/// answers the program's status: 0 where all is done; 1 where the words say no command; 2 where an
+/// input isn't of its form; 3 where an input can't be read; 4 where `out` fails; 5 where memory
+/// runs out; 6 where an input has more bytes than its limit. On 1 to 6 a line on `err` says so. It
+/// waits for nobody.
 pub fn xray_still<D: Desk, O: Sink, E: Sink>(
     alloc: Global,
     words: &[String],
@@ -43,8 +44,9 @@ pub fn xray_still<D: Desk, O: Sink, E: Sink>(
 
     // 1 tells of the words alone. The words mean a 1, a 2 or a 6, and err tells of it.
     ensures bad_line { (result ≡ 1) ↔ (reading (texts words.now) ≡ None) }
-    ensures refused { (result ≡ 1) ⊎ (result ≡ 2) ⊎ (result ≡ 6) → Reports (texts words.now) (D.held desk.old)
-        result (E.faults err.old) (E.faults err.new) (E.written err.old) (E.written err.new) }
+    ensures refused { (result ≡ 1) ⊎ (result ≡ 2) ⊎ (result ≡ 6)
+        → Reports (texts words.now) (D.held desk.old) result
+        (E.faults err.old) (E.faults err.new) (E.written err.old) (E.written err.new) }
 
     // 3 names an input whose turn had come, 4 the output, and 5 want of memory.
     ensures unread { result ≡ 3 → CouldNotRead (texts words.now) (D.held desk.old)
@@ -82,9 +84,10 @@ pub fn xray_still<D: Desk, O: Sink, E: Sink>(
     }
 }
 
-/// Does what `words` say, which don't hold the program's own name, with the files of `desk`, and answers the program's
-/// status as `xray_still` does. Commands that start threads start them through `rt`, and their threads and patcher pass
-/// `gate`; all others, and so each that is here, are `xray_still`.
+/// Does what `words` say, which don't hold the program's own name, with the files of `desk`, and
+/// answers the program's status as `xray_still` does. Commands that start threads start them
+/// through `rt`, and their threads and patcher pass `gate`; all others, and so each that is here,
+/// are `xray_still`.
 pub fn xray<T: Threads + Wait + Sync, D: Desk, O: Sink, E: Sink, G: Gate + Sync>(
     _rt: &T,
     alloc: Global,
@@ -105,8 +108,9 @@ pub fn xray<T: Threads + Wait + Sync, D: Desk, O: Sink, E: Sink, G: Gate + Sync>
 
     // 1 tells of the words alone. The words mean a 1, a 2 or a 6, and err tells of it.
     ensures bad_line { (result ≡ 1) ↔ (reading (texts words.now) ≡ None) }
-    ensures refused { (result ≡ 1) ⊎ (result ≡ 2) ⊎ (result ≡ 6) → Reports (texts words.now) (D.held desk.old)
-        result (E.faults err.old) (E.faults err.new) (E.written err.old) (E.written err.new) }
+    ensures refused { (result ≡ 1) ⊎ (result ≡ 2) ⊎ (result ≡ 6)
+        → Reports (texts words.now) (D.held desk.old) result
+        (E.faults err.old) (E.faults err.new) (E.written err.old) (E.written err.new) }
 
     // 3 names an input whose turn had come, 4 the output, and 5 want of memory.
     ensures unread { result ≡ 3 → CouldNotRead (texts words.now) (D.held desk.old)
@@ -177,7 +181,8 @@ fn prepare<'a, D: Desk>(alloc: Global, desk: &mut D, command: Command<'a>) -> Re
     ensures complete { (outcome : Outcome) → TellsAll (D.held desk.old)
         → Comes (λ name. D.held desk.old name ≡ Absent)
         (D.held desk.old) (command_of command.entry) outcome
-        → IsAnswerSoFar (D.read_faults desk.old) (D.read_faults desk.new) outcome (answer_of result) }
+        → IsAnswerSoFar (D.read_faults desk.old) (D.read_faults desk.new)
+        outcome (answer_of result) }
     ensures held { D.held desk.new ≡ D.held desk.old }
 {
     match command {

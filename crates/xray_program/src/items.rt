@@ -1,5 +1,5 @@
 //! The words behind a command, as options and file names.
-ghost use Rattle.std.specs.Prelude.{◌≡◌, [], ◌∷◌, List, IfNone, IfSome, Some, codes, false, map, option_copied};
+ghost use Rattle.std.specs.Prelude.{◌≡◌, [], ◌∷◌, IfNone, IfSome, Some, codes, false, map, option_copied};
 ghost use Rattle.std.specs.List.{list_any};
 ghost use Rattle.xray_program.specs.Commands.{item_of};
 ghost use Rattle.xray_program.specs.Words.{File, files_of, have_only, is_among, is_name, items_behind, is_text, items_of, texts, value_of, values_of};
@@ -71,7 +71,8 @@ impl<'a> Model for Items<'a> {
 
     ghost Value = { List Item };
 
-    ghost view = { λ i. if i.names_only then map File (texts i.words.now) else items_of (texts i.words.now) };
+    ghost view = { λ i. let words = texts i.words.now in
+        if i.names_only then map File words else items_of words };
 }
 
 impl<'a> Items<'a> {

@@ -19,8 +19,8 @@ pub(crate) struct NumberOption {
 }
 
 impl NumberOption {
-    /// The number that words give the option, or its default. None where they give it twice, or give no number within its
-    /// range.
+    /// The number that words give the option, or its default. None where they give it twice, or
+    /// give no number within its range.
     pub(crate) fn number_in(&self, words: &[String]) -> Option<u64>
         requires { self.now.default ≤ self.now.most }
         ensures given { result ≡ number_given (row_of self.now) (items_of (texts words.now)) }
@@ -37,7 +37,8 @@ impl NumberOption {
     }
 }
 
-/// The number that a word writes in decimal, where it lies within a range. Zeros may lead, and one plus before them.
+/// The number that a word writes in decimal, where it lies within a range. Zeros may lead, and one
+/// plus before them.
 fn number_within(least: u64, most: u64, word: &str) -> Option<u64>
     ensures number { result ≡ number_within least most word.now }
     ensures within { IfSome result (λ number. number ≤ most) }

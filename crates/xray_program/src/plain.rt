@@ -1,5 +1,5 @@
 //! `plain`: the plain runs of an image's threads.
-ghost use Rattle.std.specs.Prelude.{◌≡◌, ◌≤◌, [], IfOk, IfErr};
+ghost use Rattle.std.specs.Prelude.{◌≡◌, [], IfOk, IfErr};
 ghost use Rattle.xray_io.specs.Desk.{Absent};
 ghost use Rattle.xray_program.specs.Jobs.{job_text, AreEnds, IsPrintable};
 ghost use Rattle.xray_program.specs.Meaning.{Outcome, Done, Comes, TellsAll};
@@ -33,7 +33,8 @@ pub(crate) fn prepare_plain<'a, D: Desk>(
     ensures complete { (outcome : Outcome) → TellsAll (D.held desk.old)
         → Comes (λ name. D.held desk.old name ≡ Absent)
         (D.held desk.old) (Plain image.now options) outcome
-        → IsAnswerSoFar (D.read_faults desk.old) (D.read_faults desk.new) outcome (answer_of result) }
+        → IsAnswerSoFar (D.read_faults desk.old) (D.read_faults desk.new)
+        outcome (answer_of result) }
     ensures held { D.held desk.new ≡ D.held desk.old }
 {
     let program = take_image(alloc, desk, image)?;
@@ -44,11 +45,7 @@ pub(crate) fn prepare_plain<'a, D: Desk>(
 }
 
 /// Runs the threads, each to its end.
-fn run_threads(
-    alloc: Global,
-    image: &Image,
-    options: RunOptions,
-) -> Result<Vec<PlainEnd>, NoMemory>
+fn run_threads(alloc: Global, image: &Image, options: RunOptions) -> Result<Vec<PlainEnd>, NoMemory>
     ensures { IfOk result (λ ends. AreEnds image.now options options.threads ends.items) }
 {
     let mut ends = Vec::new(alloc);

@@ -117,7 +117,8 @@ fn field_name(which: Which) -> &'static [u8]
 
 /// The words for a place of the code at which no instruction stands.
 fn code(place: u32, fault: DecodeFault) -> Words
-    ensures { text_of_words result ≡ codes "Code " ++ decimal place ++ codes " " ++ decode_text fault }
+    ensures { text_of_words result
+        ≡ codes "Code " ++ decimal place ++ codes " " ++ decode_text fault }
 {
     let (third, fourth) = decode_pieces(fault);
     Words {

@@ -54,7 +54,8 @@ pub(crate) fn prepare_sim<'a, D: Desk>(
     ensures complete { (outcome : Outcome) → TellsAll (D.held desk.old)
         → Comes (λ name. D.held desk.old name ≡ Absent)
         (D.held desk.old) (Sim image.now script.now schedule.now) outcome
-        → IsAnswerSoFar (D.read_faults desk.old) (D.read_faults desk.new) outcome (answer_of result) }
+        → IsAnswerSoFar (D.read_faults desk.old) (D.read_faults desk.new)
+        outcome (answer_of result) }
     ensures held { D.held desk.new ≡ D.held desk.old }
     ensures later { D.read_faults desk.old ≤ D.read_faults desk.new }
 {

@@ -14,15 +14,11 @@ use handler_word::Mark;
 use machine_step::{PlainEnd, REGISTERS, write_plain};
 use xray_io::{Piece, Sink, Text, WriteFault};
 
-/// Writes the state text of a thread whose passings had these marks: the three lines of its plain text, and one of its
-/// marks. Takes no memory.
+/// Writes the state text of a thread whose passings had these marks: the three lines of its plain
+/// text, and one of its marks. Takes no memory.
 ///
 /// On `WriteFault` a front of the text was written, and the sink counted a fault.
-pub fn write_state<S: Sink>(
-    sink: &mut S,
-    end: &PlainEnd,
-    marks: &[Mark],
-) -> Result<(), WriteFault>
+pub fn write_state<S: Sink>(sink: &mut S, end: &PlainEnd, marks: &[Mark]) -> Result<(), WriteFault>
     requires { length end.now.regs.items ≡ REGISTERS }
     ensures all { OnOk result (Adds (S.written sink.old) (S.written sink.new)
         (state_text end.now.thread end.now.end (state_of end.now) marks.now)) }

@@ -125,7 +125,11 @@ fn read_sim(words: &[String]) -> Option<Command<'_>>
     let schedule = items.next_file()?;
     match items.next_file() {
         Some(_) => None,
-        None => Some(Command::Sim { image, script, schedule }),
+        None => Some(Command::Sim {
+            image,
+            script,
+            schedule,
+        }),
     }
 }
 
@@ -148,5 +152,9 @@ fn run_options(words: &[String]) -> Option<RunOptions>
     let threads = THREADS.number_in(words)?;
     let fuel = FUEL.number_in(words)?;
     let passings = PASSINGS.number_in(words)?;
-    Some(RunOptions { threads: threads as u32, fuel, passings: passings as u32 })
+    Some(RunOptions {
+        threads: threads as u32,
+        fuel,
+        passings: passings as u32,
+    })
 }
