@@ -19,7 +19,7 @@ abbrev with_functions : List ℕ → Option (List Function × List ℕ) → Opti
 with_functions bytes o = option_and_then (λ functions. with_entries bytes functions.0 (several map_entry_at (entry_count bytes) functions.1)) o
 
 -- the table from the parts on
-abbrev Rows : List ℕ → Option Parts → Verdict → Type 0
+abbrev pub Rows : List ℕ → Option Parts → Verdict → Type 0
 Rows bytes o verdict =
     MatchOption o (verdict ≡ Err faults.Short)
     (λ parts. Needs (parts.rest ≡ []) faults.Trailing

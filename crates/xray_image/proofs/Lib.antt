@@ -3,6 +3,7 @@ pub mod Nops
 pub mod Stuck
 pub mod FileParts
 pub mod HeaderRows
+pub mod Scans
 pub mod Several
 pub mod SoFar
 pub mod Index
@@ -17,3 +18,15 @@ pub mod NameText
 pub mod TextSteps
 pub mod ExtractText
 pub mod Lying
+pub mod Branching
+pub mod Entries
+pub mod FunctionRows
+pub mod Standing
+pub mod TableRows
+pub mod Accepts
+pub mod Stops
+pub mod JudgedRows
+pub mod Making
+pub mod ImageMade
+pub mod FileRows
+pub mod ReadOnce

@@ -23,7 +23,7 @@ use Rattle.xray_image.proofs.Numbering.{as_many}
 
 -- ---- functions ascend
 
-last_taken : {X : Type 0} (o : Option X) (xs : List X) (i : ℕ) (d : X) → i < length xs → last_or o (take (suc i) xs) ≡ Some (get_or xs i d)
+pub last_taken : {X : Type 0} (o : Option X) (xs : List X) (i : ℕ) (d : X) → i < length xs → last_or o (take (suc i) xs) ≡ Some (get_or xs i d)
 last_taken o [] i d lt = absurd (omega arith)
 last_taken o (x ∷ xs) zero d lt = refl
 last_taken o (x ∷ xs) (suc i) d lt = last_taken (Some x) xs i d (omega arith)

@@ -12,5 +12,5 @@ pub mod Straight
 pub mod Table
 pub mod Ids
 pub mod Extract
-pub mod Names
+pub mod Judging
 pub mod UnitTable

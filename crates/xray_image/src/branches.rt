@@ -1,6 +1,7 @@
 //! Where the branches of a code go.
 
-ghost use Rattle.std.specs.Prelude.{◌≡◌, ◌<◌, ◌≤◌, ◌^◌, ◌+◌, ◌↔◌, ℕ, List, length, IsTrue, OnOk, IfErr};
+ghost use Rattle.std.specs.Prelude.{◌≡◌, ◌<◌, ◌≤◌, ◌^◌, ◌+◌, ◌↔◌, ℕ, List, length, Contains, IsTrue, IfSome, FitsSigned, OnOk, IfErr};
+ghost use Rattle.std.specs.Int.{w128};
 ghost use Rattle.subset_decode.specs.Encoding.{spelling};
 ghost use Rattle.xray_image.specs.declared.unit.Unit.{Unit};
 ghost use Rattle.xray_image.specs.Index.{AreWithin, IsIndexOf};
@@ -22,7 +23,8 @@ const CONDITIONAL_LENGTH: i128 = 6;
 /// Where an instruction at an address goes, as a whole number, if it is a branch: its distance counts
 /// from the address behind it.
 fn target(address: u64, instr: &Instr) -> Option<i128>
-    ensures { result ≡ branch_target (address + length (spelling instr.now)) instr.now }
+    ensures target { result ≡ branch_target (address + length (spelling instr.now)) instr.now }
+    ensures fits { IfSome result (FitsSigned w128) }
 {
     let address = i128::from(address);
     match *instr {
@@ -41,6 +43,7 @@ fn target(address: u64, instr: &Instr) -> Option<i128>
 /// Whether a unit goes to a unit, if it branches.
 fn goes_rightly(index: &UnitIndex, unit: &Unit) -> bool
     ensures { (units : List Unit) → IsIndexOf (addresses units) index.now
+        → ((a : ℕ) → Contains (addresses units) a → a < 2 ^ 64)
         → IsTrue result ↔ BranchReaches units unit.now }
 {
     let What::Plain(instr) = unit.what else {
@@ -62,6 +65,7 @@ pub(crate) fn check_branches(
     units: &[Unit],
 ) -> Result<(), ImageFault>
     requires index { IsIndexOf (addresses units.now) index.now }
+    requires base { base < 2 ^ 63 }
     requires within { AreWithin base (2 ^ 32) (addresses units.now) }
     ensures right { OnOk result ((i : ℕ) → BranchesRightly units.now i) }
     ensures refused { IfErr result (IsFirstFault (BranchesRightly units.now)

@@ -1,10 +1,10 @@
 //! The functions of a file against the units of its code.
 
-ghost use Rattle.std.specs.Prelude.{◌≡◌, ◌<◌, ◌^◌, ◌↔◌, ◌⊎◌, ℕ, List, length, map, not, ◌||◌, IsTrue, OnOk, IfOk, IfErr};
+ghost use Rattle.std.specs.Prelude.{◌≡◌, ◌<◌, ◌^◌, ◌↔◌, ◌⊎◌, ℕ, List, length, map, not, Contains, ◌||◌, IsTrue, OnOk, IfOk, IfErr};
 ghost use Rattle.std.specs.Str.{bytes_eq};
 ghost use Rattle.xray_image.specs.declared.unit.Unit.{Unit};
 ghost use Rattle.xray_image.specs.Index.{IsIndexOf};
-ghost use Rattle.xray_image.specs.Names.{IsName, StandsBehind, is_among};
+ghost use Rattle.xray_image.specs.Judging.{IsAbove, IsName, StandsBehind, is_among};
 ghost use Rattle.xray_image.specs.Program.{addresses, is_name_byte};
 ghost use Rattle.xray_image.specs.Reading.{IsFirstFault};
 ghost use Rattle.xray_image.specs.Table.{FunctionIsFit};
@@ -30,17 +30,37 @@ fn is_name(name: &[u8]) -> bool
     !name.is_empty() && name.iter().all(|&byte| may_name(byte))
 }
 
-/// Whether a function that begins at `start` may stand behind one that begins at `last`: at a unit,
-/// and above it, or at the base where it is the first.
-fn stands_behind(base: u64, index: &UnitIndex, last: Option<u64>, start: u64) -> bool
-    ensures { (units : List Unit) → IsIndexOf (addresses units) index.now
-        → IsTrue result ↔ StandsBehind base units last start }
+/// Whether a function that begins at `start` stands above one that begins at `last`, or at the base
+/// where it is the first.
+fn is_above(base: u64, last: Option<u64>, start: u64) -> bool
+    ensures { IsTrue result ↔ IsAbove base last start }
 {
-    let ascends = match last {
+    match last {
         None => start == base,
         Some(last) => last < start,
-    };
-    ascends && index.find(start).is_some()
+    }
+}
+
+/// Whether a unit begins at an address.
+fn is_unit(index: &UnitIndex, address: u64) -> bool
+    ensures { (all : List ℕ) → IsIndexOf all index.now → IsTrue result ↔ Contains all address }
+{
+    index.find(address).is_some()
+}
+
+/// Whether a function may stand behind one that begins at `last`, whatever the names before it are.
+fn may_stand(
+    base: u64,
+    index: &UnitIndex,
+    last: Option<u64>,
+    function: &FunctionEntry<'_>,
+) -> bool
+    ensures { (all : List ℕ) → IsIndexOf all index.now
+        → IsTrue result ↔ StandsBehind base all last (function_of function.now) }
+{
+    is_above(base, last, function.start)
+        && is_unit(index, function.start)
+        && is_name(function.name)
 }
 
 /// Adds a name to those of the functions before. Whether it is none of them.
@@ -71,10 +91,10 @@ pub(crate) fn check_functions(
     let mut names = BTreeSet::new(alloc);
     let mut last = None;
     for (number, function) in functions.iter().enumerate() {
-        let fits = stands_behind(base, index, last, function.start)
-            && is_name(function.name)
-            && add_name(&mut names, function.name)?;
-        if !fits {
+        if !may_stand(base, index, last, function) {
+            return Err(ImageFault::Names(number as u32));
+        }
+        if !add_name(&mut names, function.name)? {
             return Err(ImageFault::Names(number as u32));
         }
         last = Some(function.start);

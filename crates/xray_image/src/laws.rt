@@ -5,7 +5,7 @@ ghost use Rattle.xray_image.specs.Units.{Piece, IsUnits};
 ghost use Rattle.xray_image.specs.Program.{Program, IsAccepted};
 ghost use Rattle.xray_image.specs.Table.{Verdict, ReadsAs};
 
-use subset_decode::one_instruction;
+use subset_decode::{one_answer, one_instruction};
 
 /// No code has two lists of units.
 pub fn one_unit_list()
@@ -29,4 +29,5 @@ pub fn one_verdict()
         → IsAccepted bytes program ↔ ReadsAs bytes (Ok program) }
 {
     one_instruction();
+    one_answer();
 }

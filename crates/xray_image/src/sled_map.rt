@@ -1,10 +1,10 @@
 //! The entries of the sled map against the sleds of the code.
 
-ghost use Rattle.std.specs.Prelude.{◌≡◌, ◌<◌, ◌^◌, ◌↔◌, ◌-ℤ◌, ◌+◌, ℕ, pos, length, map, IsTrue, IsSome, IfSome, OnOk, IfOk, IfErr, FitsSigned};
+ghost use Rattle.std.specs.Prelude.{◌≡◌, ◌<◌, ◌≤◌, ◌^◌, ◌↔◌, ◌-ℤ◌, ◌+◌, ℕ, pos, length, map, IsTrue, OnOk, IfOk, IfErr, FitsSigned};
 ghost use Rattle.std.specs.List.{zip};
 ghost use Rattle.std.specs.Int.{w32};
-ghost use Rattle.xray_image.specs.Names.{Ascend, ids_in};
-ghost use Rattle.xray_image.specs.Program.{KindFits, LiesIn, IsEntryOf, Reaches, kind_of, sled_of};
+ghost use Rattle.xray_image.specs.Judging.{Ascend};
+ghost use Rattle.xray_image.specs.Program.{KindFits, LiesIn, IsEntryOf, Reaches, kind_of, id_of, sled_of};
 ghost use Rattle.xray_image.specs.Reading.{IsFirstFault};
 ghost use Rattle.xray_image.specs.Table.{HasOneAddress, FitsAt};
 ghost use Rattle.xray_image.specs.Views.{function_of, entry_of, place_of, trampolines_of};
@@ -30,13 +30,16 @@ pub(crate) fn check_order(spots: &[SledSpot], lines: &[MapLine]) -> Result<(), I
     ensures refused { IfErr result (IsFirstFault
         (HasOneAddress (map place_of spots.now) (map entry_of lines.now)) ImageFault.MapOrder) }
 {
-    for (number, (spot, line)) in spots.iter().zip(lines).enumerate() {
-        if spot.address != line.sled {
+    for (number, line) in lines.iter().enumerate() {
+        if number >= spots.len() {
+            return Err(ImageFault::MapOrder(number as u32));
+        }
+        if spots[number].address != line.sled {
             return Err(ImageFault::MapOrder(number as u32));
         }
     }
-    if spots.len() != lines.len() {
-        return Err(ImageFault::MapOrder(spots.len().min(lines.len()) as u32));
+    if lines.len() < spots.len() {
+        return Err(ImageFault::MapOrder(lines.len() as u32));
     }
     Ok(())
 }
@@ -48,10 +51,7 @@ fn lies_in(functions: &[FunctionEntry<'_>], address: u64, start: u64) -> bool
     ensures { IsTrue result ↔ LiesIn (map function_of functions.now) address start }
 {
     let count = functions.partition_point(|function| function.start <= address);
-    match functions[..count].last() {
-        Some(function) => function.start == start,
-        None => false,
-    }
+    count > 0 && functions[count - 1].start == start
 }
 
 /// Whether a sled that begins with a return, or doesn't, may have a kind of the map.
@@ -59,6 +59,17 @@ fn may_have_kind(returns: bool, kind: u8) -> bool
     ensures { IsTrue result ↔ KindFits returns kind }
 {
     matches!((returns, kind), (true, 1) | (false, 0 | 2))
+}
+
+/// Whether an entry says of a sled what the code says.
+fn is_entry_of(functions: &[FunctionEntry<'_>], spot: &SledSpot, line: &MapLine) -> bool
+    requires { Ascend (map function_of functions.now) }
+    ensures { IsTrue result
+        ↔ IsEntryOf (map function_of functions.now) (place_of spot.now) (entry_of line.now) }
+{
+    lies_in(functions, spot.address, line.function)
+        && may_have_kind(spot.returns, line.kind)
+        && line.version < VERSIONS
 }
 
 /// Looks at what each entry says of its sled: the function that the sled lies in, a kind that fits how
@@ -69,17 +80,15 @@ pub(crate) fn check_entries(
     lines: &[MapLine],
 ) -> Result<(), ImageFault>
     requires few { length lines.now < 2 ^ 32 }
+    requires spots { length lines.now ≤ length spots.now }
     requires ascend { Ascend (map function_of functions.now) }
     ensures fit { OnOk result ((i : ℕ) → FitsAt (map place_of spots.now) (map entry_of lines.now)
         (IsEntryOf (map function_of functions.now)) i) }
     ensures refused { IfErr result (IsFirstFault (FitsAt (map place_of spots.now)
         (map entry_of lines.now) (IsEntryOf (map function_of functions.now))) ImageFault.Odd) }
 {
-    for (number, (spot, line)) in spots.iter().zip(lines).enumerate() {
-        let fits = lies_in(functions, spot.address, line.function)
-            && may_have_kind(spot.returns, line.kind)
-            && line.version < VERSIONS;
-        if !fits {
+    for (number, line) in lines.iter().enumerate() {
+        if !is_entry_of(functions, &spots[number], line) {
             return Err(ImageFault::Odd(number as u32));
         }
     }
@@ -114,38 +123,37 @@ pub(crate) fn check_distances(
     lines: &[MapLine],
 ) -> Result<(), ImageFault>
     requires few { length lines.now < 2 ^ 32 }
+    requires spots { length lines.now ≤ length spots.now }
     ensures near { OnOk result ((i : ℕ) → FitsAt (map place_of spots.now) (map entry_of lines.now)
         (Reaches (trampolines_of trampolines.now)) i) }
     ensures refused { IfErr result (IsFirstFault (FitsAt (map place_of spots.now)
         (map entry_of lines.now) (Reaches (trampolines_of trampolines.now))) ImageFault.Far) }
 {
-    for (number, (spot, line)) in spots.iter().zip(lines).enumerate() {
-        if !reaches(spot.address, trampolines.of(kind_of(line.kind))) {
+    for (number, line) in lines.iter().enumerate() {
+        let trampoline = trampolines.of(kind_of(line.kind));
+        if !reaches(spots[number].address, trampoline) {
             return Err(ImageFault::Far(number as u32));
         }
     }
     Ok(())
 }
 
-/// The id of each entry's function.
-fn ids_of(alloc: Global, lines: &[MapLine]) -> Result<Vec<u32>, AllocError>
-    ensures { IfOk result (λ ids. ids.items ≡ ids_in (map entry_of lines.now)) }
-{
-    Ok(Vec::new(alloc))
-}
-
-/// The sleds of a code with what the map's entries of the same numbers say.
+/// The sleds of a code with what the map's entries of the same numbers say, and the ids of the entries'
+/// functions.
 pub(crate) fn read_sleds(
     alloc: Global,
     spots: &[SledSpot],
     lines: &[MapLine],
+    ids: &[u32],
 ) -> Result<Vec<Sled>, AllocError>
+    requires spots { length lines.now ≤ length spots.now }
+    requires ids { ids.now ≡ map (λ e. id_of (map entry_of lines.now) e.function) lines.now }
     ensures { IfOk result (λ sleds. let entries = map entry_of lines.now in
         sleds.items ≡ map (sled_of entries) (zip (map place_of spots.now) entries)) }
 {
-    let ids = ids_of(alloc, lines)?;
     let mut sleds = Vec::with_capacity(alloc, lines.len())?;
-    for (number, (spot, line)) in spots.iter().zip(lines).enumerate() {
+    for (number, line) in lines.iter().enumerate() {
+        let spot = &spots[number];
         sleds.push(Sled {
             address: spot.address,
             function: line.function,

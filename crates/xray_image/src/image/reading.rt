@@ -1,10 +1,12 @@
 //! Images from the bytes of a file.
 
-ghost use Rattle.std.specs.Prelude.{◌≡◌, ◌<◌, ◌^◌, ◌↔◌, ◌⊎◌, length, map, Ok, Err, IsTrue, OnOk, IfOk, IfErr};
+ghost use Rattle.std.specs.Prelude.{◌≡◌, ◌<◌, ◌^◌, ◌↔◌, ◌⊎◌, ℕ, List, length, map, true, All, Ok, Err, IsTrue, OnOk, IfOk, IfErr};
+ghost use Rattle.std.specs.List.Sorted.{IsNonDecreasingBy};
 ghost use Rattle.xray_image.specs.FirstRun.{IsFirstRun};
 ghost use Rattle.xray_image.specs.ImageView.{named_function};
 ghost use Rattle.xray_image.specs.Index.{AreWithin, IsIndexOf};
-ghost use Rattle.xray_image.specs.Program.{Program, IsAccepted, addresses};
+ghost use Rattle.xray_image.specs.Judging.{IsJudged};
+ghost use Rattle.xray_image.specs.Program.{Program, IsAccepted, addresses, is_name_byte};
 ghost use Rattle.xray_image.specs.Table.{Verdict, ReadsAs, ReadsProgram};
 ghost use Rattle.xray_image.specs.Views.{entry_of, function_of, places_in, program_read};
 
@@ -32,12 +34,13 @@ fn check_program(
     index: &UnitIndex,
 ) -> Result<(), ImageFault>
     requires index { IsIndexOf (addresses code.now.units.items) index.now }
+    requires base { header.now.base < 2 ^ 63 }
     requires within { AreWithin header.now.base (2 ^ 32) (addresses code.now.units.items) }
     requires functions { length parts.now.functions.items < 2 ^ 32 }
     requires spots { length code.now.sleds.items < 2 ^ 32 }
     requires lines { length parts.now.entries.items < 2 ^ 32 }
-    ensures fit { OnOk result (ReadsProgram (map entry_of parts.now.entries.items) (places_in code.now)
-        (program_read header.now parts.now code.now) (Ok (program_read header.now parts.now code.now))) }
+    ensures fit { OnOk result (IsJudged (map entry_of parts.now.entries.items) (places_in code.now)
+        (program_read header.now parts.now code.now)) }
     ensures refused { IfErr result (λ fault. (fault ≡ ImageFault.NoMemory)
         ⊎ ReadsProgram (map entry_of parts.now.entries.items) (places_in code.now)
         (program_read header.now parts.now code.now) (Err fault)) }
@@ -46,7 +49,8 @@ fn check_program(
     check_order(&code.sleds, &parts.entries)?;
     check_entries(&parts.functions, &code.sleds, &parts.entries)?;
     check_distances(&header.trampolines, &code.sleds, &parts.entries)?;
-    check_branches(header.base, index, &code.units)
+    check_branches(header.base, index, &code.units)?;
+    Ok(())
 }
 
 /// The functions, with names of their own memory.
@@ -54,6 +58,7 @@ fn named_functions(
     alloc: Global,
     entries: &[FunctionEntry<'_>],
 ) -> Result<Vec<Function>, AllocError>
+    requires { All (λ f. All (λ b. is_name_byte b ≡ true) f.name) (map function_of entries.now) }
     ensures { IfOk result (λ functions.
         map named_function functions.items ≡ map function_of entries.now) }
 {
@@ -62,6 +67,53 @@ fn named_functions(
         functions.push(Function::new(alloc, entry.start, entry.name)?)?;
     }
     Ok(functions)
+}
+
+/// The image of an accepted file.
+fn image_of(
+    alloc: Global,
+    header: &Header,
+    parts: &FileParts<'_>,
+    code: CodeUnits,
+    index: UnitIndex,
+) -> Result<Image, AllocError>
+    requires accepted { (bytes : List ℕ) × IsAccepted bytes (program_read header.now parts.now code) }
+    requires judged { IsJudged (map entry_of parts.now.entries.items) (places_in code)
+        (program_read header.now parts.now code) }
+    requires ascend { IsNonDecreasingBy (λ place. place.address) (places_in code) }
+    requires index { IsIndexOf (addresses code.units.items) index }
+    requires entry { header.now.entry_index < length parts.now.functions.items }
+    requires functions { length parts.now.functions.items < 2 ^ 32 }
+    requires lines { length parts.now.entries.items < 2 ^ 32 }
+    ensures { IfOk result (λ image. image ≡ program_read header.now parts.now code) }
+{
+    let functions = named_functions(alloc, &parts.functions)?;
+    let ids = FunctionIds::new(alloc, &parts.functions, &parts.entries)?;
+    let sleds = read_sleds(alloc, &code.sleds, &parts.entries, &ids.of_entries)?;
+    Ok(Image {
+        base: header.base,
+        entry: parts.functions[header.entry_index as usize].start,
+        code: Vec::from_slice(alloc, parts.code)?,
+        functions,
+        units: code.units,
+        sleds,
+        trampolines: header.trampolines,
+        index,
+        ids: ids.functions,
+    })
+}
+
+/// Reads an image file: its header, its parts and its units, and then looks at what the file says of
+/// them.
+fn read_program(alloc: Global, bytes: &[u8]) -> Result<Image, ImageFault>
+    ensures { (result ≡ Err ImageFault.NoMemory) ⊎ ReadsAs bytes.now result }
+{
+    let header = Header::read(bytes)?;
+    let parts = FileParts::read(alloc, &header, bytes)?;
+    let code = CodeUnits::read(alloc, header.base, parts.code)?;
+    let index = UnitIndex::new(alloc, header.base, parts.code.len(), &code.units)?;
+    check_program(alloc, &header, &parts, &code, &index)?;
+    Ok(image_of(alloc, &header, &parts, code, index)?)
 }
 
 /// Reads an image file. Where it isn't accepted the answer is the first refusal of the table that
@@ -79,23 +131,7 @@ pub fn read_image(alloc: Global, bytes: &[u8]) -> Result<Image, ImageFault>
         → (result ≡ Ok program) ⊎ (result ≡ Err ImageFault.NoMemory) }
 {
     one_verdict();
-    let header = Header::read(bytes)?;
-    let parts = FileParts::read(alloc, &header, bytes)?;
-    let code = CodeUnits::read(alloc, header.base, parts.code)?;
-    let index = UnitIndex::new(alloc, header.base, parts.code.len(), &code.units)?;
-    check_program(alloc, &header, &parts, &code, &index)?;
-    let functions = named_functions(alloc, &parts.functions)?;
-    Ok(Image {
-        base: header.base,
-        entry: functions[header.entry_index as usize].start,
-        code: Vec::from_slice(alloc, parts.code)?,
-        functions,
-        units: code.units,
-        sleds: read_sleds(alloc, &code.sleds, &parts.entries)?,
-        trampolines: header.trampolines,
-        index,
-        ids: FunctionIds::new(alloc, &parts.functions, &parts.entries)?.functions,
-    })
+    read_program(alloc, bytes)
 }
 
 impl Image {
