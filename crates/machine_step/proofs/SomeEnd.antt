@@ -88,6 +88,12 @@ counted_within limits m after within fuel instructions passings =
     let some = eqb-false m.instructions limits.fuel fuel in
     record { fuel = omega (arith, within.fuel); passings = omega (arith, within.passings) }
 
+-- where there is no fuel, nothing changes
+fuelled_within : (limits : Limits) (m : Machine) (taken : Taken) → IsWithin limits m
+    → ((m.instructions == limits.fuel) ≡ false → IsWithin limits taken.left)
+    → IsWithin limits (if m.instructions == limits.fuel then ending ends.Fuel m else taken).left
+fuelled_within limits m taken within fuelled = within_if limits (m.instructions == limits.fuel) (ending ends.Fuel m) taken (λ _. within) fuelled
+
 pushing_within : (limits : Limits) (place value : ℕ) (m : Machine) → IsWithin limits m
     → (m.instructions == limits.fuel) ≡ false → IsWithin limits (pushing place value m).left
 pushing_within limits place value m within fuel =
@@ -122,39 +128,38 @@ passing_within limits m behind within on =
 
 step_within : (limits : Limits) (place : ℕ) (m : Machine) (step : Step) → IsWithin limits m → IsWithin limits (stepping limits place m step).left
 step_within limits place m (steps.Mov dst imm) within =
-    within_if limits (m.instructions == limits.fuel) (ending ends.Fuel m) (acting limits place m (steps.Mov dst imm)) (λ _. within)
+    fuelled_within limits m (acting limits place m (steps.Mov dst imm)) within
     (λ e. counted_within limits m (acting limits place m (steps.Mov dst imm)).left within e refl refl)
 step_within limits place m (steps.Add dst src) within =
-    within_if limits (m.instructions == limits.fuel) (ending ends.Fuel m) (acting limits place m (steps.Add dst src)) (λ _. within)
+    fuelled_within limits m (acting limits place m (steps.Add dst src)) within
     (λ e. counted_within limits m (acting limits place m (steps.Add dst src)).left within e refl refl)
 step_within limits place m (steps.Sub dst src) within =
-    within_if limits (m.instructions == limits.fuel) (ending ends.Fuel m) (acting limits place m (steps.Sub dst src)) (λ _. within)
+    fuelled_within limits m (acting limits place m (steps.Sub dst src)) within
     (λ e. counted_within limits m (acting limits place m (steps.Sub dst src)).left within e refl refl)
 step_within limits place m (steps.Push reg) within =
-    within_if limits (m.instructions == limits.fuel) (ending ends.Fuel m) (acting limits place m (steps.Push reg)) (λ _. within)
+    fuelled_within limits m (acting limits place m (steps.Push reg)) within
     (pushing_within limits (place + 1) (slice_index m.registers reg) m within)
 step_within limits place m (steps.Pop reg) within =
-    within_if limits (m.instructions == limits.fuel) (ending ends.Fuel m) (acting limits place m (steps.Pop reg)) (λ _. within)
+    fuelled_within limits m (acting limits place m (steps.Pop reg)) within
     (popping_within limits (place + 1) reg m m.stack within)
 step_within limits place m (steps.Call target back) within =
-    within_if limits (m.instructions == limits.fuel) (ending ends.Fuel m) (acting limits place m (steps.Call target back)) (λ _. within)
+    fuelled_within limits m (acting limits place m (steps.Call target back)) within
     (pushing_within limits target back m within)
 step_within limits place m (steps.Jmp target) within =
-    within_if limits (m.instructions == limits.fuel) (ending ends.Fuel m) (acting limits place m (steps.Jmp target)) (λ _. within)
+    fuelled_within limits m (acting limits place m (steps.Jmp target)) within
     (λ e. counted_within limits m (acting limits place m (steps.Jmp target)).left within e refl refl)
 step_within limits place m (steps.Jnz target) within =
-    within_if limits (m.instructions == limits.fuel) (ending ends.Fuel m) (acting limits place m (steps.Jnz target)) (λ _. within)
+    fuelled_within limits m (acting limits place m (steps.Jnz target)) within
     (λ e. counted_within limits m (acting limits place m (steps.Jnz target)).left within e refl refl)
 step_within limits place m steps.Ret within =
-    within_if limits (m.instructions == limits.fuel) (ending ends.Fuel m) (acting limits place m steps.Ret) (λ _. within)
+    fuelled_within limits m (acting limits place m steps.Ret) within
     (returning_within limits m m.stack within)
 step_within limits place m steps.Out within =
-    within_if limits (m.instructions == limits.fuel) (ending ends.Fuel m) (acting limits place m steps.Out) (λ _. within)
+    fuelled_within limits m (acting limits place m steps.Out) within
     (putting_within limits (place + 1) m within)
 step_within limits place m steps.Passing within = passing_within limits m (staying (place + 1)) within (λ after is. is)
 step_within limits place m steps.Leaving within = passing_within limits m (leaving limits) within
-    (λ after is. within_if limits (after.instructions == limits.fuel) (ending ends.Fuel after) (returning after after.stack) (λ _. is)
-    (returning_within limits after after.stack is))
+    (λ after is. fuelled_within limits after (returning after after.stack) is (returning_within limits after after.stack is))
 step_within limits place m steps.Pad within = within
 step_within limits place m steps.Nowhere within = within
 

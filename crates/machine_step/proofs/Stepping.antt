@@ -111,33 +111,39 @@ fuel_leads units limits place address m taken next leads =
     by_test units limits place m (m.instructions == limits.fuel) _ _ _ _ (λ _. (address, refl))
     (λ e. leads (eqb-false m.instructions limits.fuel e))
 
+-- a step by an equation
+by_step : (units : List Unit) (limits : Limits) (place : ℕ) (m : Machine) (step other : Step) (next : Next) → step ≡ other
+    → Leads units limits place m (stepping limits place m other) next → Leads units limits place m (stepping limits place m step) next
+by_step units limits place m step other next is leads =
+    subst (λ (t : Step). Leads units limits place m (stepping limits place m t) next) (sym is) leads
+
 -- the step of an instruction
 instruction_leads : (units : List Unit) (limits : Limits) (place behind address : ℕ) (m : Machine) (instr : Instr) (step : Step)
     → IsPlaceOf units behind (place + 1) → IsWithin limits m → IsStepOfInstruction units behind instr step
     → Leads units limits place m (stepping limits place m step) (fuelled limits (state_at address m) (does (state_at address m) behind instr))
 instruction_leads units limits place behind address m (Mov dst imm) step next within is =
-    subst (λ (t : Step). Leads units limits place m (stepping limits place m t) (fuelled limits (state_at address m) (does (state_at address m) behind (Mov dst imm)))) (sym is)
+    by_step units limits place m step (steps.Mov dst imm) _ is
     (fuel_leads units limits place address m _ _ (λ fuel. (behind, next, refl, inl (spends limits m within fuel))))
 instruction_leads units limits place behind address m (Add dst src) step next within is =
-    subst (λ (t : Step). Leads units limits place m (stepping limits place m t) (fuelled limits (state_at address m) (does (state_at address m) behind (Add dst src)))) (sym is)
+    by_step units limits place m step (steps.Add dst src) _ is
     (fuel_leads units limits place address m _ _ (λ fuel. (behind, next, refl, inl (spends limits m within fuel))))
 instruction_leads units limits place behind address m (Sub dst src) step next within is =
-    subst (λ (t : Step). Leads units limits place m (stepping limits place m t) (fuelled limits (state_at address m) (does (state_at address m) behind (Sub dst src)))) (sym is)
+    by_step units limits place m step (steps.Sub dst src) _ is
     (fuel_leads units limits place address m _ _ (λ fuel. (behind, next, refl, inl (spends limits m within fuel))))
 instruction_leads units limits place behind address m (Push reg) step next within is =
-    subst (λ (t : Step). Leads units limits place m (stepping limits place m t) (fuelled limits (state_at address m) (does (state_at address m) behind (Push reg)))) (sym is)
+    by_step units limits place m step (steps.Push reg) _ is
     (fuel_leads units limits place address m _ _ (push_leads units limits place (place + 1) behind address (slice_index m.registers reg) m next within))
 instruction_leads units limits place behind address m (Pop reg) step next within is =
-    subst (λ (t : Step). Leads units limits place m (stepping limits place m t) (fuelled limits (state_at address m) (does (state_at address m) behind (Pop reg)))) (sym is)
+    by_step units limits place m step (steps.Pop reg) _ is
     (fuel_leads units limits place address m _ _ (pop_leads units limits place behind address reg m m.stack next within))
 instruction_leads units limits place behind address m (Call rel) step next within (target, there, is) =
-    subst (λ (t : Step). Leads units limits place m (stepping limits place m t) (fuelled limits (state_at address m) (does (state_at address m) behind (Call rel)))) (sym is)
+    by_step units limits place m step (steps.Call target behind) _ is
     (fuel_leads units limits place address m _ _ (push_leads units limits place target (branched behind rel) address behind m there within))
 instruction_leads units limits place behind address m (Jmp rel) step next within (target, there, is) =
-    subst (λ (t : Step). Leads units limits place m (stepping limits place m t) (fuelled limits (state_at address m) (does (state_at address m) behind (Jmp rel)))) (sym is)
+    by_step units limits place m step (steps.Jmp target) _ is
     (fuel_leads units limits place address m _ _ (λ fuel. (branched behind rel, there, refl, inl (spends limits m within fuel))))
 instruction_leads units limits place behind address m (Jnz rel) step next within (target, there, is) =
-    subst (λ (t : Step). Leads units limits place m (stepping limits place m t) (fuelled limits (state_at address m) (does (state_at address m) behind (Jnz rel)))) (sym is)
+    by_step units limits place m step (steps.Jnz target) _ is
     (fuel_leads units limits place address m _ _ (λ fuel. (
       if m.zero_flag then behind else branched behind rel,
       place_by units m.zero_flag behind (branched behind rel) (place + 1) target next there,
@@ -145,10 +151,10 @@ instruction_leads units limits place behind address m (Jnz rel) step next within
       inl (spends limits m within fuel),
     )))
 instruction_leads units limits place behind address m Ret step next within is =
-    subst (λ (t : Step). Leads units limits place m (stepping limits place m t) (fuelled limits (state_at address m) (does (state_at address m) behind Ret))) (sym is)
+    by_step units limits place m step steps.Ret _ is
     (fuel_leads units limits place address m _ _ (return_leads units limits place address m m.stack within))
 instruction_leads units limits place behind address m (Out port) step next within is =
-    subst (λ (t : Step). Leads units limits place m (stepping limits place m t) (fuelled limits (state_at address m) (does (state_at address m) behind (Out port)))) (sym is)
+    by_step units limits place m step steps.Out _ is
     (fuel_leads units limits place address m _ _ (out_leads units limits place (place + 1) behind address port m next within))
 
 -- what is nearer than one that is nearer
@@ -232,8 +238,7 @@ unit_steps program limits place address m (whats.Sled k) step next within (sled,
 unit_steps program limits place address m whats.Pad step next within is = record {
   next = Goes (state_at (address + 1) m);
   plain = λ thread. ([], (refl, refl));
-  leads = subst (λ (t : Step). Leads program.units limits place m (stepping limits place m t) (Goes (state_at (address + 1) m))) (sym is)
-      (address + 1, next, refl, inr (refl, refl));
+  leads = by_step program.units limits place m step steps.Pad _ is (address + 1, next, refl, inr (refl, refl));
 }
 
 -- what a thread at an address does, and the step at its place
@@ -266,7 +271,7 @@ step_nowhere : (program : Program) (limits : Limits) (place address : ℕ) (m : 
 step_nowhere program limits place address m step none is = record {
   next = Ends ends.BadTarget (state_at address m);
   plain = λ thread. ([], inl (λ u among at. none (subst (λ a. Contains (addresses program.units) a) at (contains_address program.units u among)), refl, refl));
-  leads = subst (λ (t : Step). Leads program.units limits place m (stepping limits place m t) (Ends ends.BadTarget (state_at address m))) (sym is) (address, refl);
+  leads = by_step program.units limits place m step steps.Nowhere _ is (address, refl);
 }
 
 -- the step at the place of an address is what a thread there does

@@ -45,7 +45,7 @@ pub record Taken : Type 0 where
   pub way : Way
   pub left : Machine
 
--- an instruction that ends the thread, and isn't counted
+-- the end of the thread, at which nothing is counted
 abbrev pub ending : End → Machine → Taken
 ending end m = record { way = ways.Ends end; left = m }
 
@@ -53,33 +53,38 @@ ending end m = record { way = ways.Ends end; left = m }
 abbrev pub going : ℕ → Machine → Taken
 going place m = record { way = ways.To place; left = record m { instructions = m.instructions + 1 } }
 
--- what each instruction makes of a machine, going on at a place
+-- a value into a register
 abbrev pub loading : ℕ → ℕ → ℕ → Machine → Taken
 loading place reg value m = going place (record m { registers = slice_set m.registers reg value })
 
+-- the same of a value that was computed, which the zero flag tells of
 abbrev pub computing : ℕ → ℕ → ℕ → Machine → Taken
 computing place reg value m = going place (record m { registers = slice_set m.registers reg value; zero_flag = value == 0 })
 
+-- a value onto the stack, where there is room
 abbrev pub pushing : ℕ → ℕ → Machine → Taken
 pushing place value m =
     if length m.stack == stack_limit then ending ends.StackFull m else going place (record m { stack = value ∷ m.stack })
 
+-- the value on top of the stack into a register, where there is one
 abbrev pub popping : ℕ → ℕ → Machine → List ℕ → Taken
 popping place reg m [] = ending ends.StackEmpty m
 popping place reg m (value ∷ stack) =
     going place (record m { registers = slice_set m.registers reg value; stack = stack })
 
+-- back to the address on top of the stack, or from the thread where there is none
 abbrev pub returning : Machine → List ℕ → Taken
 returning m [] = record { way = ways.Ends ends.Returned; left = record m { instructions = m.instructions + 1 } }
 returning m (address ∷ stack) =
     record { way = ways.Back address; left = record m { stack = stack; instructions = m.instructions + 1 } }
 
+-- the low byte of rax to the output, where there is room
 abbrev pub putting : ℕ → Machine → Taken
 putting place m =
     if length m.output == output_limit then ending ends.OutputFull m
     else going place (record m { output = m.output ++ slice_index m.registers 0 % 256 ∷ [] })
 
--- nothing, going on at a place
+-- on at a place, with nothing done
 abbrev pub staying : ℕ → Machine → Taken
 staying place m = record { way = ways.To place; left = m }
 
@@ -87,12 +92,12 @@ staying place m = record { way = ways.To place; left = m }
 abbrev pub leaving : Limits → Machine → Taken
 leaving limits m = if m.instructions == limits.fuel then ending ends.Fuel m else returning m m.stack
 
--- a passing, and what is behind it
+-- a passing, where one is left, and what is behind it
 abbrev pub passing : Limits → Machine → (Machine → Taken) → Taken
 passing limits m behind =
     if m.passings == limits.passings then ending ends.Passings m else behind (record m { passings = m.passings + 1 })
 
--- the step at a place, where an instruction has fuel
+-- the step at a place, where it has the fuel that it wants
 abbrev pub acting : Limits → ℕ → Machine → Step → Taken
 acting limits place m (steps.Mov dst imm) = loading (place + 1) dst imm m
 acting limits place m (steps.Add dst src) =

@@ -18,7 +18,7 @@ pub use end::End;
 pub use laws::{one_end, some_end};
 pub use limits::Limits;
 pub use plain_end::PlainEnd;
-pub use plain_text::{add_counts, add_output, add_registers, write_plain};
+pub use plain_text::write_plain;
 pub use registers::REGISTERS;
 pub use running::plain_run;
 

@@ -49,7 +49,7 @@ fn add_lines<S: Sink>(text: &mut Text<S>, end: &PlainEnd) -> Result<(), WriteFau
 }
 
 /// Adds the line of a thread's end and its counts to a text.
-pub fn add_counts<S: Sink>(
+pub(crate) fn add_counts<S: Sink>(
     text: &mut Text<S>,
     thread: u32,
     end: End,
@@ -95,7 +95,7 @@ fn end_name(end: End) -> &'static [u8]
 }
 
 /// Adds the line of a thread's registers, register n at place n, and its zero flag to a text.
-pub fn add_registers<S: Sink>(
+pub(crate) fn add_registers<S: Sink>(
     text: &mut Text<S>,
     registers: &[u64],
     zero_flag: bool,
@@ -161,7 +161,7 @@ fn flag_line(zero_flag: bool) -> &'static [u8]
 }
 
 /// Adds the line of a thread's output to a text: two digits a byte, or - for none.
-pub fn add_output<S: Sink>(text: &mut Text<S>, output: &[u8]) -> Result<(), WriteFault>
+pub(crate) fn add_output<S: Sink>(text: &mut Text<S>, output: &[u8]) -> Result<(), WriteFault>
     ensures gains { OnOk result (Gains S.written text.old text.new (output_line output.now)) }
     ensures breaks { OnErr result (Breaks S.written text.old (sink_of text.new)
         (output_line output.now)) }

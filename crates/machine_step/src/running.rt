@@ -17,10 +17,12 @@ use std::alloc::Global;
 use xray_image::Image;
 use xray_io::NoMemory;
 
-/// Runs a thread to its end, where entry and tail sleds do nothing, exit sleds are a `ret`, and
-/// each sled that is passed is counted. All memory is taken before the first step.
+/// Runs a thread from the entry function's start to its end. It finds its number in rdi. Entry and
+/// tail sleds do nothing, exit sleds are a `ret`, and each sled that is passed is counted; an
+/// instruction costs one of the fuel, and the passing of a sled none.
 ///
-/// `NoMemory` comes where memory was refused, before the first step.
+/// All memory is taken before the first step: for a step of each unit, and for the whole of the
+/// stack and the output. `NoMemory` comes where some of it was refused.
 pub fn plain_run(
     alloc: Global,
     image: &Image,
