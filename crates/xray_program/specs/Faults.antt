@@ -23,6 +23,7 @@ decode_text decoding.Short = codes "Short"
 decode_text (decoding.Unknown byte) = codes "Unknown " ++ decimal byte
 decode_text (decoding.Register number) = codes "Register " ++ decimal number
 
+-- why bytes are no image
 abbrev pub fault_text : ImageFault → List ℕ
 fault_text faults.Short = codes "Short"
 fault_text faults.Magic = codes "Magic"

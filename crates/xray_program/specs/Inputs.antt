@@ -29,6 +29,7 @@ abbrev pub RefusesImage : List ℕ → List ℕ → Type 0
 RefusesImage bytes refusal =
     (fault : ImageFault) × ReadsAs bytes (Err fault) × (refusal ≡ fault_text fault)
 
+-- the image of `plain` and `extract`
 abbrev pub image_form : Form Program
 image_form = record {
   kind = codes "image";
@@ -49,6 +50,7 @@ RefusesFirstRun bytes refusal =
     ⊎ ((program : Program) × IsAccepted bytes program × (IsFirstRun program → ⊥)
     × (refusal ≡ codes "NotYet"))
 
+-- the image of `sim`
 abbrev pub first_run_form : Form Program
 first_run_form = record {
   kind = codes "image";
@@ -78,6 +80,7 @@ pub record ReadsScript (bytes : List ℕ) (script : List Command) : Type 0 where
   pub commands : spoken_lines bytes ≡ map (λ word. word ∷ []) command_words
   pub meaning : script ≡ first_script
 
+-- the script of `sim`
 abbrev pub script_form : Form (List Command)
 script_form = record {
   kind = codes "script";
@@ -109,6 +112,7 @@ pub record ReadsSchedule (bytes : List ℕ) (schedule : List Turns) : Type 0 whe
   pub clean : IsTrue (list_all is_clean (lines bytes))
   pub turns : SayAll (spoken_lines bytes) schedule
 
+-- the schedule of `sim`
 abbrev pub schedule_form : Form (List Turns)
 schedule_form = record {
   kind = codes "schedule";

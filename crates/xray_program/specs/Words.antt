@@ -21,8 +21,9 @@ texts words = map string_bytes words
 abbrev pub is_text : List ℕ → List ℕ → Bool
 is_text text other = pointwise nat_eq text other
 
--- ---- the words behind the command: file names, and options with their values
+-- ---- the words behind the command
 
+-- a file name; an option with its value; or an option at the end, which has none
 pub data Item : Type 0 where
   File : (name : List ℕ) → Item
   Given : (option value : List ℕ) → Item
@@ -49,15 +50,17 @@ items_behind None (word ∷ words) =
     then Given (before_first is_equals word) (after_first is_equals word) ∷ items_behind None words
     else items_behind (Some word) words
 
+-- what the words behind a command say, from the first on
 abbrev pub items_of : List (List ℕ) → List Item
 items_of words = items_behind None words
 
--- the file names among them
+-- the name, where an item is one
 abbrev pub file_of : Item → Option (List ℕ)
 file_of (File name) = Some name
 file_of (Given option value) = None
 file_of (Bare option) = None
 
+-- the file names among items
 abbrev pub files_of : List Item → List (List ℕ)
 files_of items = filter_map file_of items
 
@@ -69,21 +72,23 @@ only_file items = only (files_of items)
     only (name ∷ []) = Some name
     only _ = None
 
--- the values that an option is given
+-- the value that an item gives an option, where it gives it one
 abbrev pub value_of : List ℕ → Item → Option (List ℕ)
 value_of option (File name) = None
 value_of option (Given other value) = if is_text other option then Some value else None
 value_of option (Bare other) = None
 
+-- the values that items give an option
 abbrev pub values_of : List ℕ → List Item → List (List ℕ)
 values_of option items = filter_map (value_of option) items
 
--- each option among them is one of these, and has a value
+-- an item is a file name, or one of these options with a value
 abbrev pub is_among : List (List ℕ) → Item → Bool
 is_among options (File name) = true
 is_among options (Given option value) = list_any (is_text option) options
 is_among options (Bare option) = false
 
+-- each item is
 abbrev pub have_only : List (List ℕ) → List Item → Bool
 have_only options items = list_all (is_among options) items
 
@@ -105,7 +110,7 @@ number_within least most word =
     if nat_le 1 (length digits) && all_ascii_digits digits
     && nat_le least number && nat_le number most then Some number else None
 
--- the number that an option is given, once at the most
+-- the number that an option is given, once at the most, or what it is where it isn't given
 abbrev pub number_given : NumberOption → List Item → Option ℕ
 number_given row items = of_values (values_of row.name items)
   where
@@ -116,15 +121,19 @@ number_given row items = of_values (values_of row.name items)
 
 -- ---- the options of the commands that run threads
 
+-- how many threads there are
 abbrev pub threads_option : NumberOption
 threads_option = record { name = codes "--threads"; least = 1; most = 16; default = 1 }
 
+-- how many instructions each makes at the most
 abbrev pub fuel_option : NumberOption
 fuel_option = record { name = codes "--fuel"; least = 0; most = 1000000000; default = 10000000 }
 
+-- how many passings each makes at the most
 abbrev pub passings_option : NumberOption
 passings_option = record { name = codes "--passings"; least = 0; most = 1048576; default = 1048576 }
 
+-- all three, where each is as it may be
 abbrev pub run_options : List Item → Option RunOptions
 run_options items = with_numbers (number_given threads_option items)
     (number_given fuel_option items) (number_given passings_option items)
@@ -136,16 +145,20 @@ run_options items = with_numbers (number_given threads_option items)
 
 -- ---- the commands
 
+-- `sim` has three files
 abbrev pub sim_with : List (List ℕ) → Option Command
 sim_with (image ∷ script ∷ schedule ∷ []) = Some (Sim image script schedule)
 sim_with _ = None
 
+-- and no options
 abbrev pub sim_of : List Item → Option Command
 sim_of items = if have_only [] items then sim_with (files_of items) else None
 
+-- `extract` has a file, and no options
 abbrev pub extract_of : List Item → Option Command
 extract_of items = if have_only [] items then option_map Extract (only_file items) else None
 
+-- `plain` has a file, and the options of the commands that run threads
 abbrev pub plain_of : List Item → Option Command
 plain_of items =
     if have_only (map (λ row. row.name) (threads_option ∷ fuel_option ∷ passings_option ∷ [])) items
