@@ -44,8 +44,8 @@ fn a_desk_that_gives_one_byte_a_read_changes_nothing(rt: HostRuntime) -> Result<
 #[test]
 fn an_input_that_is_not_of_the_form_is_refused_in_its_turn(rt: HostRuntime) -> Result<(), Fail> {
     let cut = &IMAGE[..63];
-    assert_refused(&rt, cut, SCRIPT, SCHEDULE, "xray: i: image NotYet\n", "i")?;
-    assert_refused(&rt, cut, "go", "t 1", "xray: i: image NotYet\n", "i")?;
+    assert_refused(&rt, cut, SCRIPT, SCHEDULE, "xray: i: image Short\n", "i")?;
+    assert_refused(&rt, cut, "go", "t 1", "xray: i: image Short\n", "i")?;
     assert_refused(
         &rt,
         &IMAGE,

@@ -6,8 +6,8 @@ use std::thread::Threads;
 use xray_io::{Desk, MemDesk, MemSink, OpenGate, Wall};
 use xray_program::xray;
 
-/// The file of an image of 170 bytes. At 0x1000 stands its only function: an entry sled, `mov eax, 0x41`, `out 1, al`,
-/// and an exit sled.
+/// The file of an image of 170 bytes. At 0x1000 stands its only function: an entry sled, `mov eax,
+/// 0x41`, `out 1, al`, and an exit sled.
 pub const IMAGE: [u8; 170] = [
     // The header: the version, the base, the lengths, and where the trampolines stand.
     b'X', b'R', b'I', b'M', 1, 0, 0, 0, 0x00, 0x10, 0, 0, 0, 0, 0, 0, //
@@ -58,6 +58,13 @@ pub fn desk_of(
     desk.put("i", image)?;
     desk.put("s", script.as_bytes())?;
     desk.put("c", schedule.as_bytes())?;
+    Ok(desk)
+}
+
+/// A desk that holds an image as `i` alone.
+pub fn image_desk(alloc: Global, image: &[u8]) -> Result<MemDesk, Fail> {
+    let mut desk = MemDesk::new(alloc, Vec::new(alloc));
+    desk.put("i", image)?;
     Ok(desk)
 }
 

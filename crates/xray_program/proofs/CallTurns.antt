@@ -1,6 +1,7 @@
 -- What stands behind the statuses of the call.
 use Rattle.std.specs.Prelude.{◌&&◌, if◌then◌else◌, MatchOption}
-use Rattle.std.proofs.Common.{◌≡◌, ◌≢◌, ◌⊎◌, ℕ, Bool, true, false, List, [], ◌∷◌, Option, Some, None, inl, inr, refl, sym, subst, codes, arith}
+use Rattle.std.specs.List.{after_first, before_first, list_any}
+use Rattle.std.proofs.Common.{◌≡◌, ◌≢◌, ◌⊎◌, ◌≤◌, length, map, ap, ℕ, Bool, true, false, List, [], ◌∷◌, Option, Some, None, inl, inr, refl, sym, subst, codes, arith}
 use Rattle.xray_io.specs.Desk.{Entry, Absent, Holds}
 use Rattle.xray_io.specs.Faults.{Rose}
 use Rattle.xray_io.specs.Sink.{Adds, AddsPrefix}
@@ -12,10 +13,10 @@ use Rattle.xray_program.specs.FirstRun.{first_script, SimPrints}
 use Rattle.xray_image.specs.Program.{Program}
 use Rattle.patch_script.specs.declared.command.Command.{Command}
 use Rattle.step_sim.specs.declared.turns.Turns.{Turns}
-use Rattle.xray_program.specs.Inputs.{ReadsImage, ReadsScript, ReadsSchedule}
-use Rattle.xray_program.specs.Meaning.{Outcome, BadLine, Unread, Refused, Done, Take, TakeScript, TakeSchedule, IsNotYet, Comes, Means, Says}
+use Rattle.xray_program.specs.Inputs.{Form, first_run_form, script_form, schedule_form, ReadsScript}
+use Rattle.xray_program.specs.Meaning.{Outcome, BadLine, Unread, TooLong, Refused, Done, Take, Comes, Means, Says}
 use Rattle.xray_program.specs.Stops.{kind_text, refusal_text, stop_status, stop_line}
-use Rattle.xray_program.specs.Words.{Sim, reading, is_name}
+use Rattle.xray_program.specs.Words.{Sim, Item, File, Given, files_of, have_only, is_equals, is_name, is_text, items_behind, items_of, reading, sim_with}
 use Rattle.xray_program.specs.Words as words
 
 -- ---- 0 and 4
@@ -38,18 +39,23 @@ could_not_write said held command text before now old new says comes rose front 
 pub reports : (said : List (List ℕ)) (held : List ℕ → Entry) (reads_before reads_now out_before out_now : ℕ)
     (old new : Option (List ℕ)) (before now : ℕ) (err_old err_new : Option (List ℕ)) (stop : Stop) (status : ℕ)
     → StopsCall said held reads_before reads_now out_before out_now old new stop
-    → Says before now err_old err_new (stop_line stop) → status ≡ stop_status stop → (status ≡ 1) ⊎ (status ≡ 2)
+    → Says before now err_old err_new (stop_line stop) → status ≡ stop_status stop → (status ≡ 1) ⊎ (status ≡ 2) ⊎ (status ≡ 6)
     → Reports said held status before now err_old err_new
 reports said held rb rn ob on old new before now err_old err_new stops.BadLine status stands says is among =
     record { outcome = BadLine; meant = rw stands.0 refl; status_is = sym is; says = says }
+reports said held rb rn ob on old new before now err_old err_new (stops.TooLong n) status stands says is among =
+    record { outcome = TooLong n.now; meant = stands.0; status_is = sym is; says = says }
 reports said held rb rn ob on old new before now err_old err_new (stops.Refused n kind refusal) status stands says is among =
     record { outcome = Refused n.now (kind_text kind) (refusal_text refusal); meant = stands.0; status_is = sym is; says = says }
 reports said held rb rn ob on old new before now err_old err_new (stops.Unread n) status stands says is (inl one) = absurd (omega arith)
-reports said held rb rn ob on old new before now err_old err_new (stops.Unread n) status stands says is (inr two) = absurd (omega arith)
+reports said held rb rn ob on old new before now err_old err_new (stops.Unread n) status stands says is (inr (inl two)) = absurd (omega arith)
+reports said held rb rn ob on old new before now err_old err_new (stops.Unread n) status stands says is (inr (inr six)) = absurd (omega arith)
 reports said held rb rn ob on old new before now err_old err_new stops.Unwritten status stands says is (inl one) = absurd (omega arith)
-reports said held rb rn ob on old new before now err_old err_new stops.Unwritten status stands says is (inr two) = absurd (omega arith)
+reports said held rb rn ob on old new before now err_old err_new stops.Unwritten status stands says is (inr (inl two)) = absurd (omega arith)
+reports said held rb rn ob on old new before now err_old err_new stops.Unwritten status stands says is (inr (inr six)) = absurd (omega arith)
 reports said held rb rn ob on old new before now err_old err_new stops.NoMemory status stands says is (inl one) = absurd (omega arith)
-reports said held rb rn ob on old new before now err_old err_new stops.NoMemory status stands says is (inr two) = absurd (omega arith)
+reports said held rb rn ob on old new before now err_old err_new stops.NoMemory status stands says is (inr (inl two)) = absurd (omega arith)
+reports said held rb rn ob on old new before now err_old err_new stops.NoMemory status stands says is (inr (inr six)) = absurd (omega arith)
 
 -- ---- the headline
 
@@ -59,16 +65,16 @@ record Went {X : Type 0} (Reads : List ℕ → X → Type 0) (bytes : List ℕ) 
   reads : Reads bytes value
   next : Next value
 
-went_on : {X : Type 0} (kind : List ℕ) (Reads : List ℕ → X → Type 0) (Refuses : List ℕ → List ℕ → Type 0)
-    (fails : List ℕ → Type 0) (held : List ℕ → Entry) (name : List ℕ) (next : X → Outcome → Type 0)
-    (outputs : List (List ℕ × List ℕ)) (text content : List ℕ) → held name ≡ Holds content
-    → Take kind Reads Refuses fails held name next (Done outputs text)
-    → Went Reads content (λ value. next value (Done outputs text))
-went_on kind Reads Refuses fails held name next outputs text content holds (inl (failed, is)) = absurd cc
-went_on kind Reads Refuses fails held name next outputs text content holds (inr (bytes, may, inl (refusal, refuses, is))) = absurd cc
-went_on kind Reads Refuses fails held name next outputs text content holds (inr (bytes, may, inr (value, reads, comes))) =
+went_on : {X : Type 0} (form : Form X) (fails : List ℕ → Type 0) (held : List ℕ → Entry) (name : List ℕ)
+    (next : X → Outcome → Type 0) (outputs : List (List ℕ × List ℕ)) (text content : List ℕ) → held name ≡ Holds content
+    → Take form fails held name next (Done outputs text)
+    → Went form.Reads content (λ value. next value (Done outputs text))
+went_on form fails held name next outputs text content holds (inl (failed, is)) = absurd cc
+went_on form fails held name next outputs text content holds (inr (bytes, may, inl (long, is))) = absurd cc
+went_on form fails held name next outputs text content holds (inr (bytes, may, inr (within, inl (refusal, refuses, is)))) = absurd cc
+went_on form fails held name next outputs text content holds (inr (bytes, may, inr (within, inr (value, reads, comes)))) =
     let same : bytes ≡ content = rw holds at may in
-    record { value = value; reads = subst (λ b. Reads b value) same reads; next = comes }
+    record { value = value; reads = subst (λ b. form.Reads b value) same reads; next = comes }
 
 -- what comes of the inputs of `sim` where all is done
 abbrev Printing : Program → List Command → List Turns → Outcome → Type 0
@@ -80,13 +86,13 @@ simulated_by : (held : List ℕ → Entry) (i s c image script schedule : List �
     → IsSimulated image script schedule old new
 simulated_by held i s c image script schedule outputs text old new image_held script_held schedule_held comes adds =
     let absent : List ℕ → Type 0 = λ name. held name ≡ Absent in
-    let first = went_on (codes "image") ReadsImage (IsNotYet ReadsImage) absent held i
-    (λ program. TakeScript absent held s (λ commands. TakeSchedule absent held c (Printing program commands)))
+    let first = went_on first_run_form absent held i
+    (λ program. Take script_form absent held s (λ commands. Take schedule_form absent held c (Printing program commands)))
     outputs text image image_held comes in
-    let second = went_on (codes "script") ReadsScript (IsNotYet ReadsScript) absent held s
-    (λ commands. TakeSchedule absent held c (Printing first.value commands))
+    let second = went_on script_form absent held s
+    (λ commands. Take schedule_form absent held c (Printing first.value commands))
     outputs text script script_held first.next in
-    let third = went_on (codes "schedule") ReadsSchedule (IsNotYet ReadsSchedule) absent held c
+    let third = went_on schedule_form absent held c
     (Printing first.value second.value) outputs text schedule schedule_held second.next in
     let printed = third.next in
     let is : text ≡ printed.0 = done_alike outputs [] text printed.0 printed.2 in
@@ -106,16 +112,69 @@ simulated_by held i s c image script schedule outputs text old new image_held sc
     done_alike : (one other : List (List ℕ × List ℕ)) (text text' : List ℕ) → Done one text ≡ Done other text' → text ≡ text'
     done_alike one other text text' is = cc
 
+-- file names are themselves
+files_of_files : (words : List (List ℕ)) → files_of (map File words) ≡ words
+files_of_files [] = refl
+files_of_files (word ∷ words) = ap (λ (ws : List (List ℕ)). word ∷ ws) (files_of_files words)
+
+-- the items of words of which the first is no separator where `all` is false, no file name where `name` is, and has no =
+-- where `equals` is
+abbrev items_by : List ℕ → List (List ℕ) → (all name equals : Bool) → List Item
+items_by word words all name equals =
+    if all then map File words
+    else if name then File word ∷ items_behind None words
+    else if equals then Given (before_first is_equals word) (after_first is_equals word) ∷ items_behind None words
+    else items_behind (Some word) words
+
+few_by : (word : List ℕ) (words : List (List ℕ)) (all name equals : Bool) → length (files_of (items_behind None words)) ≤ length words
+    → length (files_of (items_behind (Some word) words)) ≤ length words → length (files_of (items_by word words all name equals)) ≤ length (word ∷ words)
+few_by word words true name equals few fewer = let same = ap length (files_of_files words) in omega arith
+few_by word words false true equals few fewer = omega arith
+few_by word words false false true few fewer = omega arith
+few_by word words false false false few fewer = omega arith
+
+-- words have no more file names than there are words
+few_names : (waiting : Option (List ℕ)) (words : List (List ℕ)) → length (files_of (items_behind waiting words)) ≤ length words
+few_names None [] = omega arith
+few_names (Some option) [] = omega arith
+few_names (Some option) (value ∷ words) = let few = few_names None words in omega arith
+few_names None (word ∷ words) =
+    few_by word words (is_text word (codes "--")) (is_name word) (list_any is_equals word) (few_names None words) (few_names (Some word) words)
+
+all_by : (word : List ℕ) (words : List (List ℕ)) (all name equals : Bool)
+    → (length (files_of (items_behind None words)) ≡ length words → files_of (items_behind None words) ≡ words)
+    → length (files_of (items_by word words all name equals)) ≡ length (word ∷ words)
+    → files_of (items_by word words all name equals) ≡ word ∷ words
+all_by word words true name equals rest same = absurd (let alike = ap length (files_of_files words) in omega arith)
+all_by word words false true equals rest same = ap (λ (ws : List (List ℕ)). word ∷ ws) (rest (omega arith))
+all_by word words false false true rest same = absurd (let few = few_names None words in omega arith)
+all_by word words false false false rest same = absurd (let few = few_names (Some word) words in omega arith)
+
+-- and where they have as many, they are file names alone
+all_names : (words : List (List ℕ)) → length (files_of (items_of words)) ≡ length words → files_of (items_of words) ≡ words
+all_names [] same = refl
+all_names (word ∷ words) same =
+    all_by word words (is_text word (codes "--")) (is_name word) (list_any is_equals word) (all_names words) same
+
 pub simulated : (said : List (List ℕ)) (held : List ℕ → Entry) (old new : Option (List ℕ)) → LeavesText said held old new
     → (i s c image script schedule : List ℕ) → said ≡ codes "sim" ∷ i ∷ s ∷ c ∷ []
     → held i ≡ Holds image → held s ≡ Holds script → held c ≡ Holds schedule → IsSimulated image script schedule old new
 simulated said held old new leaves i s c image script schedule words image_held script_held schedule_held =
-    by_names (is_name i && is_name s && is_name c) (rw words at leaves.meant)
+    let items = items_of (i ∷ s ∷ c ∷ []) in
+    by_files (have_only [] items) (files_of items) (all_names (i ∷ s ∷ c ∷ [])) (rw words at leaves.meant)
   where
-    by_names : (named : Bool)
-        → MatchOption (if named then Some (Sim i s c) else None) (Done leaves.outputs leaves.text ≡ BadLine)
+    by_files : (only : Bool) (files : List (List ℕ)) → (length files ≡ 3 → files ≡ i ∷ s ∷ c ∷ [])
+        → MatchOption (if only then sim_with files else None) (Done leaves.outputs leaves.text ≡ BadLine)
         (λ command. Comes (λ name. held name ≡ Absent) held command (Done leaves.outputs leaves.text))
         → IsSimulated image script schedule old new
-    by_names true meant =
-        simulated_by held i s c image script schedule leaves.outputs leaves.text old new image_held script_held schedule_held meant leaves.out
-    by_names false meant = absurd cc
+    by_files false files same meant = absurd cc
+    by_files true [] same meant = absurd cc
+    by_files true (a ∷ []) same meant = absurd cc
+    by_files true (a ∷ b ∷ []) same meant = absurd cc
+    by_files true (a ∷ b ∷ d ∷ []) same meant =
+        let is = same refl in
+        let first : a ≡ i = cc in
+        let second : b ≡ s = cc in
+        let third : d ≡ c = cc in
+        simulated_by held a b d image script schedule leaves.outputs leaves.text old new (rw first image_held) (rw second script_held) (rw third schedule_held) meant leaves.out
+    by_files true (a ∷ b ∷ d ∷ e ∷ more) same meant = absurd cc

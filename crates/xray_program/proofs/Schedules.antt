@@ -79,9 +79,8 @@ keeps_same text n line left turns (clean, none) kept =
     }
 
 -- behind the last line
-pub keeps_all : (text : List ℕ) (turns : List Turns) → length text ≤ 16777216 → length (lines text) ≤ 1048576 → Keeps text [] turns → ReadsSchedule text turns
-keeps_all text turns limit few kept = record {
-  limit = limit;
+pub keeps_all : (text : List ℕ) (turns : List Turns) → length (lines text) ≤ 1048576 → Keeps text [] turns → ReadsSchedule text turns
+keeps_all text turns few kept = record {
   lines_limit = few;
   clean = kept.clean;
   turns = rw (append-nil turns) at (kept.joins [] tt);

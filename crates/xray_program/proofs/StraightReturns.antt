@@ -8,9 +8,18 @@ use Rattle.xray_image.specs.Container.{base_address}
 use Rattle.xray_image.specs.FirstRun.{IsFirstRun}
 use Rattle.xray_image.specs.Program.{Program, IsAccepted}
 use Rattle.xray_image.specs.Units.{units_from}
-use Rattle.xray_program.specs.Straight.{Returns, first_shown, behind_units}
+use Rattle.machine_step.specs.declared.end.End.TheVariants.{Returned}
+use Rattle.machine_step.specs.PlainStep.{State, Passing, PlainRun}
+use Rattle.xray_program.specs.FirstRun.{default_limits}
 use Rattle.xray_program.proofs.AcceptedCode.{few_pieces, entry_at_base}
 use Rattle.xray_program.proofs.StraightRun.{Inside, TwoSleds, run_whole}
+
+-- the plain run of the thread returns, having passed sled 0 and then sled 1 and no other
+pub record Returns (program : Program) (thread : ℕ) : Type 0 where
+  pub passed : List Passing
+  pub last : State
+  pub plain : PlainRun program default_limits thread passed Returned last
+  pub sleds : map (λ p. p.sled) passed ≡ 0 ∷ 1 ∷ []
 
 two_sleds : (program : Program) (sleds : List Sled) → program.sleds ≡ sleds → map (λ (s : Sled). s.kind) sleds ≡ Entry ∷ Exit ∷ [] → TwoSleds program
 two_sleds program [] is kinds = absurd cc
@@ -25,7 +34,7 @@ two_sleds program (first ∷ second ∷ rest) is kinds = record {
 }
 
 pub straight_returns : (bytes : List ℕ) (program : Program) → IsAccepted bytes program → IsFirstRun program → (thread : ℕ)
-    → Returns program thread (behind_units program.sleds (first_shown thread) program.units)
+    → Returns program thread
 straight_returns bytes program accepted form thread =
     let base = base_address bytes in
     let units : program.units ≡ units_from base 0 accepted.pieces = ap (λ (p : Program). p.units) accepted.holds in
@@ -39,5 +48,4 @@ straight_returns bytes program accepted form thread =
       last = run.last;
       plain = (run.steps, run.runs);
       sleds = run.numbers;
-      shows = ap (behind_units program.sleds (first_shown thread)) units ∙ run.shows;
     }

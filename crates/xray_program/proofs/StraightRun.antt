@@ -1,7 +1,6 @@
 -- Straight code runs to its return.
-use Rattle.std.proofs.Common.{◌≡◌, ℕ, suc, ◌+◌, ◌<◌, ◌≤◌, ◌==◌, false, List, [], ◌∷◌, ◌++◌, length, map, Some, refl, ap, subst, sym, ◌∙◌, arith, inl, inr, length-append}
-use Rattle.std.specs.Prelude.{slice_get, count_by, ◌⊎◌, Contains, if◌then◌else◌}
-use Rattle.std.specs.Option.{option_map_or}
+use Rattle.std.proofs.Common.{◌≡◌, ℕ, suc, ◌+◌, ◌%◌, ◌<◌, ◌≤◌, ◌==◌, false, List, [], ◌∷◌, ◌++◌, length, map, Some, refl, ap, subst, sym, ◌∙◌, arith, inl, inr, length-append}
+use Rattle.std.specs.Prelude.{slice_get, slice_index, slice_set, count_by, ◌⊎◌, Contains, if◌then◌else◌}
 use Rattle.std.proofs.lemmas.Bool.{ne_eqb}
 use Rattle.std.proofs.lemmas.List.Sums.{sum_by-cons}
 use Rattle.std.specs.List.{AllByRecursion}
@@ -18,54 +17,41 @@ use Rattle.xray_image.specs.Units.{Piece, Instruction, JumpSled, ReturnSled, Ali
 use Rattle.machine_step.specs.declared.end.End.TheVariants.{Returned}
 use Rattle.machine_step.specs.PlainStep.{State, Goes, Ends, Passing, PlainStep, UnitStep, RunsTo, opening, counted, does, fuelled, passing_at, behind_passing}
 use Rattle.xray_program.specs.FirstRun.{default_limits}
-use Rattle.xray_program.specs.Straight.{Shown, shown_of, behind_unit, behind_instruction, behind_sled, behind_units, first_shown}
-use Rattle.xray_program.proofs.StraightForm.{straight_tail}
 
--- from a state the thread runs to its return, passes sleds of these numbers on the way, and this is shown of its end
-pub record ReturnsFrom (program : Program) (thread : ℕ) (s : State) (sleds : List ℕ) (shown : Shown) : Type 0 where
+-- what stands behind the first sled
+abbrev pub straight_tail : List Instr → List What → List What
+straight_tail body padding = (map whats.Plain body ++ padding) ++ whats.Sled 1 ∷ []
+
+-- from a state the thread runs to its return, and passes sleds of these numbers on the way
+pub record ReturnsFrom (program : Program) (thread : ℕ) (s : State) (sleds : List ℕ) : Type 0 where
   pub steps : ℕ
   pub passed : List Passing
   pub last : State
   pub runs : RunsTo program default_limits thread steps s passed Returned last
   pub numbers : map (λ p. p.sled) passed ≡ sleds
-  pub shows : shown ≡ shown_of last
 
 -- a step in front
-step_in_front : (program : Program) (thread : ℕ) (s mid : State) (sleds : List ℕ) (shown : Shown)
+step_in_front : (program : Program) (thread : ℕ) (s mid : State) (sleds : List ℕ)
     → PlainStep program default_limits thread s [] (Goes mid)
-    → ReturnsFrom program thread mid sleds shown → ReturnsFrom program thread s sleds shown
-step_in_front program thread s mid sleds shown step later = record {
+    → ReturnsFrom program thread mid sleds → ReturnsFrom program thread s sleds
+step_in_front program thread s mid sleds step later = record {
   steps = suc later.steps;
   passed = later.passed;
   last = later.last;
   runs = ([], later.passed, mid, step, later.runs, refl);
   numbers = later.numbers;
-  shows = later.shows;
 }
 
 -- a passing in front
-passing_in_front : (program : Program) (thread : ℕ) (s mid : State) (p : Passing) (sleds : List ℕ) (shown : Shown)
+passing_in_front : (program : Program) (thread : ℕ) (s mid : State) (p : Passing) (sleds : List ℕ)
     → PlainStep program default_limits thread s (p ∷ []) (Goes mid)
-    → ReturnsFrom program thread mid sleds shown → ReturnsFrom program thread s (p.sled ∷ sleds) shown
-passing_in_front program thread s mid p sleds shown step later = record {
+    → ReturnsFrom program thread mid sleds → ReturnsFrom program thread s (p.sled ∷ sleds)
+passing_in_front program thread s mid p sleds step later = record {
   steps = suc later.steps;
   passed = p ∷ later.passed;
   last = later.last;
   runs = (p ∷ [], later.passed, mid, step, later.runs, refl);
   numbers = ap (λ numbers. p.sled ∷ numbers) later.numbers;
-  shows = later.shows;
-}
-
--- what is shown, by an equation
-shown_as : (program : Program) (thread : ℕ) (s : State) (sleds : List ℕ) (shown other : Shown) → shown ≡ other
-    → ReturnsFrom program thread s sleds other → ReturnsFrom program thread s sleds shown
-shown_as program thread s sleds shown other same run = record {
-  steps = run.steps;
-  passed = run.passed;
-  last = run.last;
-  runs = run.runs;
-  numbers = run.numbers;
-  shows = same ∙ run.shows;
 }
 
 -- the units of a list are among those of a program
@@ -96,14 +82,9 @@ has_fuel s address instructions outputs some ready = ne_eqb s.instructions 10000
 
 -- the state behind an instruction of straight code
 abbrev after_instruction : State → ℕ → Instr → State
-after_instruction s address (Mov dst imm) = record (counted s address) { registers = (behind_instruction (shown_of s) (Mov dst imm)).registers }
-after_instruction s address (Out port) = record (counted s address) { output = (behind_instruction (shown_of s) (Out port)).output }
+after_instruction s address (Mov dst imm) = record (counted s address) { registers = slice_set s.registers dst imm }
+after_instruction s address (Out port) = record (counted s address) { output = s.output ++ slice_index s.registers 0 % 256 ∷ [] }
 after_instruction s address _ = s
-
-after_instruction_shows : (s : State) (address : ℕ) (instr : Instr) → behind_instruction (shown_of s) instr ≡ shown_of (after_instruction s address instr)
-after_instruction_shows s address (Mov dst imm) = refl
-after_instruction_shows s address (Out port) = refl
-after_instruction_shows s address _ = refl
 
 -- one output where an instruction is one
 abbrev one_output : Instr → ℕ
@@ -237,10 +218,6 @@ sled_bytes k n (JumpSled shift) is = refl
 sled_bytes k n (ReturnSled shift) is = refl
 sled_bytes k n Align is = absurd cc
 
-no_units : (units : List Unit) → map (λ u. u.what) units ≡ [] → units ≡ []
-no_units [] none = refl
-no_units (u ∷ units) none = absurd cc
-
 -- ---- whole runs
 
 -- the map of straight code has an entry sled and then an exit sled
@@ -257,28 +234,20 @@ run_exit : (program : Program) (two : TwoSleds program) (thread address k : ℕ)
     → Inside program (units_from address k pieces)
     → map (λ u. u.what) (units_from address k pieces) ≡ whats.Sled 1 ∷ []
     → (s : State) (outputs : ℕ) → Ready s address (length pieces) outputs
-    → ReturnsFrom program thread s (1 ∷ []) (behind_units program.sleds (shown_of s) (units_from address k pieces))
+    → ReturnsFrom program thread s (1 ∷ [])
 run_exit program two thread address k [] inside shape s outputs ready = absurd cc
 run_exit program two thread address k (piece ∷ pieces) inside shape s outputs ready =
     let what : what_of k piece ≡ whats.Sled 1 = cc in
-    let none : map (λ u. u.what) (units_from (address + length (piece_bytes piece)) (k + sleds_in piece) pieces) ≡ [] = cc in
     let fuel = has_fuel s address (suc (length pieces)) outputs (omega arith) ready in
     let step = exit_step program thread s 1 two.second (record { address = address; what = what_of k piece }) two.second_found
     two.second_kind (omega (arith, ready.once)) fuel ready.empty (first_inside program _ _ inside) (sym ready.at) what in
     let last : State = counted (record s { passings = s.passings + 1 }) s.address in
-    let by_what : behind_unit program.sleds (shown_of s) (what_of k piece) ≡ behind_unit program.sleds (shown_of s) (whats.Sled 1) =
-    ap (behind_unit program.sleds (shown_of s)) what in
-    let by_sled : behind_unit program.sleds (shown_of s) (whats.Sled 1) ≡ behind_sled (shown_of s) two.second.kind =
-    ap (λ found. option_map_or (λ (sled : Sled). behind_sled (shown_of s) sled.kind) found (shown_of s)) two.second_found in
-    let by_kind : behind_sled (shown_of s) two.second.kind ≡ shown_of last = ap (behind_sled (shown_of s)) two.second_kind in
-    let by_rest = ap (behind_units program.sleds (behind_unit program.sleds (shown_of s) (what_of k piece))) (no_units _ none) in
     record {
       steps = 0;
       passed = passing_at default_limits thread s 1 two.second ∷ [];
       last = last;
       runs = step;
       numbers = refl;
-      shows = by_rest ∙ (by_what ∙ (by_sled ∙ by_kind));
     }
 
 -- from an alignment byte and then the exit sled
@@ -286,7 +255,7 @@ run_padded : (program : Program) (two : TwoSleds program) (thread address k : �
     → Inside program (units_from address k pieces)
     → map (λ u. u.what) (units_from address k pieces) ≡ whats.Pad ∷ whats.Sled 1 ∷ []
     → (s : State) (outputs : ℕ) → Ready s address (length pieces) outputs
-    → ReturnsFrom program thread s (1 ∷ []) (behind_units program.sleds (shown_of s) (units_from address k pieces))
+    → ReturnsFrom program thread s (1 ∷ [])
 run_padded program two thread address k [] inside shape s outputs ready = absurd cc
 run_padded program two thread address k (piece ∷ pieces) inside shape s outputs ready =
     let what : what_of k piece ≡ whats.Pad = cc in
@@ -297,10 +266,7 @@ run_padded program two thread address k (piece ∷ pieces) inside shape s output
     let later = run_exit program two thread (address + length (piece_bytes piece)) (k + sleds_in piece) pieces
     (rest_inside program _ _ inside) rest mid outputs
     (record { at = omega (arith, ready.at); empty = ready.empty; once = ready.once; fuel = omega (arith, ready.fuel); room = ready.room }) in
-    shown_as program thread s (1 ∷ []) _ _
-    (ap (λ before. behind_units program.sleds before (units_from (address + length (piece_bytes piece)) (k + sleds_in piece) pieces))
-    (ap (behind_unit program.sleds (shown_of s)) what))
-    (step_in_front program thread s mid (1 ∷ []) _ step later)
+    step_in_front program thread s mid (1 ∷ []) step later
 
 -- from an instruction, or from what stands behind the last of them
 run_tail : (program : Program) (two : TwoSleds program) (thread address k : ℕ) (pieces : List Piece) (body : List Instr) (padding : List What)
@@ -308,7 +274,7 @@ run_tail : (program : Program) (two : TwoSleds program) (thread address k : ℕ)
     → Inside program (units_from address k pieces)
     → map (λ u. u.what) (units_from address k pieces) ≡ straight_tail body padding
     → (s : State) → Ready s address (length pieces) (count_by is_out body)
-    → ReturnsFrom program thread s (1 ∷ []) (behind_units program.sleds (shown_of s) (units_from address k pieces))
+    → ReturnsFrom program thread s (1 ∷ [])
 run_tail program two thread address k pieces [] padding straight (inl none) inside shape s ready =
     run_exit program two thread address k pieces inside (shape ∙ ap (λ p. p ++ whats.Sled 1 ∷ []) none) s 0 ready
 run_tail program two thread address k pieces [] padding straight (inr one) inside shape s ready =
@@ -329,10 +295,7 @@ run_tail program two thread address k (piece ∷ pieces) (instr ∷ body) paddin
     let later = run_tail program two thread (address + length (piece_bytes piece)) (k + sleds_in piece) pieces body padding straight.1 few
     (rest_inside program _ _ inside) rest (after_instruction s next instr)
     (record { at = after.at ∙ there; empty = after.empty; once = after.once; fuel = after.fuel; room = after.room }) in
-    shown_as program thread s (1 ∷ []) _ _
-    (ap (λ before. behind_units program.sleds before (units_from (address + length (piece_bytes piece)) (k + sleds_in piece) pieces))
-    (ap (behind_unit program.sleds (shown_of s)) what ∙ after_instruction_shows s next instr))
-    (step_in_front program thread s (after_instruction s next instr) (1 ∷ []) _ step later)
+    step_in_front program thread s (after_instruction s next instr) (1 ∷ []) step later
 
 -- from the entry sled, at the opening
 pub run_whole : (program : Program) (two : TwoSleds program) (thread base : ℕ) (pieces : List Piece) (body : List Instr) (padding : List What)
@@ -340,7 +303,7 @@ pub run_whole : (program : Program) (two : TwoSleds program) (thread base : ℕ)
     → Inside program (units_from base 0 pieces)
     → map (λ u. u.what) (units_from base 0 pieces) ≡ whats.Sled 0 ∷ straight_tail body padding
     → program.entry ≡ base → length pieces ≤ 1048576 → count_by is_out body ≤ 65536
-    → ReturnsFrom program thread (opening program thread) (0 ∷ 1 ∷ []) (behind_units program.sleds (first_shown thread) (units_from base 0 pieces))
+    → ReturnsFrom program thread (opening program thread) (0 ∷ 1 ∷ [])
 run_whole program two thread base [] body padding straight few inside shape entry limit outputs = absurd cc
 run_whole program two thread base (piece ∷ pieces) body padding straight few inside shape entry limit outputs =
     let s : State = opening program thread in
@@ -353,12 +316,4 @@ run_whole program two thread base (piece ∷ pieces) body padding straight few i
     let later = run_tail program two thread (base + length (piece_bytes piece)) (0 + sleds_in piece) pieces body padding straight few
     (rest_inside program _ _ inside) rest mid
     (record { at = omega (arith, entry); empty = refl; once = refl; fuel = omega arith; room = omega arith }) in
-    let by_what : behind_unit program.sleds (shown_of s) (what_of 0 piece) ≡ behind_unit program.sleds (shown_of s) (whats.Sled 0) =
-    ap (behind_unit program.sleds (shown_of s)) what in
-    let by_sled : behind_unit program.sleds (shown_of s) (whats.Sled 0) ≡ behind_sled (shown_of s) two.first.kind =
-    ap (λ found. option_map_or (λ (sled : Sled). behind_sled (shown_of s) sled.kind) found (shown_of s)) two.first_found in
-    let by_kind : behind_sled (shown_of s) two.first.kind ≡ shown_of mid = ap (behind_sled (shown_of s)) two.first_kind in
-    shown_as program thread s (0 ∷ 1 ∷ []) _ _
-    (ap (λ before. behind_units program.sleds before (units_from (base + length (piece_bytes piece)) (0 + sleds_in piece) pieces))
-    (by_what ∙ (by_sled ∙ by_kind)))
-    (passing_in_front program thread s mid (passing_at default_limits thread s 0 two.first) (1 ∷ []) _ step later)
+    passing_in_front program thread s mid (passing_at default_limits thread s 0 two.first) (1 ∷ []) step later

@@ -39,7 +39,8 @@ pub record CouldNotWrite (said : List (List ℕ)) (held : List ℕ → Entry) (o
   pub fault : Rose out_before out_now
   pub front : AddsPrefix old new text
 
--- the image file, the script and the schedule are of their forms, and out has the state text of their replay
+-- the image file, the script and the schedule are of their forms, and out has the state text of
+-- their replay
 pub record IsSimulated (image script schedule : List ℕ) (old new : Option (List ℕ)) : Type 0 where
   pub program : Program
   pub accepted : IsAccepted image program
@@ -51,8 +52,8 @@ pub record IsSimulated (image script schedule : List ℕ) (old new : Option (Lis
   pub prints : SimPrints program first_script turns text
   pub out : Adds old new text
 
--- a status that may come where the words mean an outcome: that outcome's, 5 for want of memory, 3 where a read of the
--- desk failed, or 4 where out did
+-- a status that may come where the words mean an outcome: that outcome's, 5 for want of memory, 3
+-- where a read of the desk failed, or 4 where out did
 abbrev pub IsAnswer : Outcome → (reads_before reads_now out_before out_now status : ℕ) → Type 0
 IsAnswer outcome reads_before reads_now out_before out_now status =
     (status ≡ status_of outcome) ⊎ (status ≡ 5)

@@ -23,8 +23,8 @@ default_limits = record { fuel = 10000000; passings = 1048576; tick = 1; tsc = 0
 abbrev pub one_thread : Program → List Command → List ℕ → Cast
 one_thread program script sleds = record { program = program; script = script; passings = sleds ∷ [] }
 
--- The text is the state text of thread 1: with the end, the counts, the registers and the output of its plain run, and
--- with the marks that the replay of the schedule leaves to its passings.
+-- The text is the state text of thread 1: with the end, the counts, the registers and the output of
+-- its plain run, and with the marks that the replay of the schedule leaves to its passings.
 pub record SimPrints (program : Program) (script : List Command) (schedule : List Turns) (text : List ℕ) : Type 0 where
   pub passed : List Passing
   pub end : End

@@ -1,21 +1,70 @@
 -- The forms of the inputs.
-use Rattle.std.specs.Prelude.{◌≡◌, ◌<◌, ◌≤◌, ◌==◌, ℕ, List, [], ◌∷◌, length, not, Some, codes, map, filter, IsTrue, ⊤}
+use Rattle.std.specs.Prelude.{◌≡◌, ◌⊎◌, ◌<◌, ◌≤◌, ◌==◌, Err, ℕ, List, [], ◌∷◌, length, not, Some, codes, map, filter, IsTrue, ⊤}
 use Rattle.std.specs.List.{list_all}
 use Rattle.std.specs.Str.Lines.{lines}
 use Rattle.text_lines.specs.Words.{is_clean, words_of}
 use Rattle.text_lines.specs.Numbers.{number_of}
 use Rattle.xray_image.specs.Program.{Program, IsAccepted}
 use Rattle.xray_image.specs.FirstRun.{IsFirstRun}
+use Rattle.xray_image.specs.declared.fault.ImageFault.{ImageFault}
+use Rattle.xray_image.specs.Table.{ReadsAs}
+use Rattle.xray_program.specs.Faults.{fault_text}
 use Rattle.patch_script.specs.declared.command.Command.{Command}
 use Rattle.step_sim.specs.declared.turns.Turns.{Turns}
 use Rattle.step_sim.specs.declared.turns.Turns.TheVariants.{Thread, Patcher}
 use Rattle.xray_program.specs.FirstRun.{first_script}
 
--- an image file of at most 4 MiB, accepted and of the form that is run
-pub record ReadsImage (bytes : List ℕ) (program : Program) : Type 0 where
-  pub limit : length bytes ≤ 4194304
+-- A kind of input: how a line on err names it, how many bytes it has at the most, what its bytes
+-- read as, and why they are refused, in the words of the line.
+pub record Form (X : Type 0) : Type 1 where
+  pub kind : List ℕ
+  pub limit : ℕ
+  pub Reads : List ℕ → X → Type 0
+  pub Refuses : List ℕ → List ℕ → Type 0
+
+-- ---- images
+
+-- an image file is refused for the first fault that it has
+abbrev pub RefusesImage : List ℕ → List ℕ → Type 0
+RefusesImage bytes refusal =
+    (fault : ImageFault) × ReadsAs bytes (Err fault) × (refusal ≡ fault_text fault)
+
+-- the image of `plain` and `extract`
+abbrev pub image_form : Form Program
+image_form = record {
+  kind = codes "image";
+  limit = 4194304;
+  Reads = IsAccepted;
+  Refuses = RefusesImage;
+}
+
+-- an accepted image of the form that `sim` runs
+pub record ReadsFirstRun (bytes : List ℕ) (program : Program) : Type 0 where
   pub accepted : IsAccepted bytes program
   pub form : IsFirstRun program
+
+-- an image that isn't accepted, or one that is and isn't of this form
+abbrev pub RefusesFirstRun : List ℕ → List ℕ → Type 0
+RefusesFirstRun bytes refusal =
+    RefusesImage bytes refusal
+    ⊎ ((program : Program) × IsAccepted bytes program × (IsFirstRun program → ⊥)
+    × (refusal ≡ codes "NotYet"))
+
+-- the image of `sim`
+abbrev pub first_run_form : Form Program
+first_run_form = record {
+  kind = codes "image";
+  limit = 4194304;
+  Reads = ReadsFirstRun;
+  Refuses = RefusesFirstRun;
+}
+
+-- ---- scripts
+
+-- bytes that aren't of the form
+abbrev pub IsNotYet : {X : Type 0} → (List ℕ → X → Type 0) → List ℕ → List ℕ → Type 0
+IsNotYet {X} Reads bytes refusal =
+    ((value : X) → Reads bytes value → ⊥) × (refusal ≡ codes "NotYet")
 
 -- the words of each line that has some
 abbrev pub spoken_lines : List ℕ → List (List (List ℕ))
@@ -25,18 +74,28 @@ spoken_lines text = filter (λ words. not (length words == 0)) (map words_of (li
 abbrev pub command_words : List (List ℕ)
 command_words = codes "patch" ∷ codes "go" ∷ codes "unpatch" ∷ []
 
--- a script of at most 1 MiB whose commands are these three, in this order, each in a line of its own
+-- a script whose commands are these three, in this order, each in a line of its own
 pub record ReadsScript (bytes : List ℕ) (script : List Command) : Type 0 where
-  pub limit : length bytes ≤ 1048576
   pub clean : IsTrue (list_all is_clean (lines bytes))
   pub commands : spoken_lines bytes ≡ map (λ word. word ∷ []) command_words
   pub meaning : script ≡ first_script
 
+-- the script of `sim`
+abbrev pub script_form : Form (List Command)
+script_form = record {
+  kind = codes "script";
+  limit = 1048576;
+  Reads = ReadsScript;
+  Refuses = IsNotYet ReadsScript;
+}
+
+-- ---- schedules
+
 -- the words of a line that gives turns: t 1 K, or p K, with K from 1 on
 abbrev pub SaysTurns : List (List ℕ) → Turns → Type 0
 SaysTurns words (Thread thread count) =
-    (t k : List ℕ) × (words ≡ codes "t" ∷ t ∷ k ∷ []) × (number_of t ≡ Some thread) × (number_of k ≡ Some count)
-    × (thread ≡ 1) × (0 < count)
+    (t k : List ℕ) × (words ≡ codes "t" ∷ t ∷ k ∷ [])
+    × (number_of t ≡ Some thread) × (number_of k ≡ Some count) × (thread ≡ 1) × (0 < count)
 SaysTurns words (Patcher count) =
     (k : List ℕ) × (words ≡ codes "p" ∷ k ∷ []) × (number_of k ≡ Some count) × (0 < count)
 
@@ -47,9 +106,17 @@ SayAll [] (turns ∷ schedule) = ⊥
 SayAll (words ∷ spoken) [] = ⊥
 SayAll (words ∷ spoken) (turns ∷ schedule) = SaysTurns words turns × SayAll spoken schedule
 
--- a schedule of at most 16 MiB and 1,048,576 lines, each with words giving turns
+-- a schedule of at most 1,048,576 lines, each with words giving turns
 pub record ReadsSchedule (bytes : List ℕ) (schedule : List Turns) : Type 0 where
-  pub limit : length bytes ≤ 16777216
   pub lines_limit : length (lines bytes) ≤ 1048576
   pub clean : IsTrue (list_all is_clean (lines bytes))
   pub turns : SayAll (spoken_lines bytes) schedule
+
+-- the schedule of `sim`
+abbrev pub schedule_form : Form (List Turns)
+schedule_form = record {
+  kind = codes "schedule";
+  limit = 16777216;
+  Reads = ReadsSchedule;
+  Refuses = IsNotYet ReadsSchedule;
+}

@@ -1,10 +1,39 @@
 -- What is left to do of a command once its inputs were judged.
-use Rattle.std.specs.Prelude.{ℕ, List}
-use Rattle.machine_step.specs.declared.end.End.TheVariants.{Returned}
-use Rattle.machine_step.specs.Texts.{state_text}
-use Rattle.xray_program.specs.declared.sim.Job.{Job}
-use Rattle.xray_program.specs.Shown.{state_of}
+use Rattle.std.specs.Prelude.{◌≡◌, ◌+◌, ℕ, List, length, Some, slice_get}
+use Rattle.std.specs.List.{All, flat_map}
+use Rattle.xray_image.specs.Extract.{extract_text}
+use Rattle.xray_image.specs.Program.{Program}
+use Rattle.machine_step.specs.declared.plain_end.PlainEnd.{PlainEnd}
+use Rattle.machine_step.specs.PlainEnd.{IsPlainEnd, state_of}
+use Rattle.machine_step.specs.Texts.{plain_text, state_text}
+use Rattle.xray_program.specs.Plain.{limits_of}
+use Rattle.xray_program.specs.declared.words.RunOptions.{RunOptions}
+use Rattle.xray_program.specs.declared.job.Job.{Job}
+use Rattle.xray_program.specs.declared.job.Job.TheVariants.{State, Ends, SledMap}
+
+-- the plain text of a thread that has come to its end
+abbrev pub end_text : PlainEnd → List ℕ
+end_text e = plain_text e.thread e.end (state_of e)
 
 -- the text that out gets
 unfoldable pub job_text : Job → List ℕ
-job_text job = state_text 1 Returned (state_of job.thread) job.marks.items
+job_text (State end marks) = state_text end.thread end.end (state_of end) marks.items
+job_text (Ends ends) = flat_map end_text ends.items
+job_text (SledMap image) = extract_text image
+
+-- the end of a thread tells of all 16 registers
+abbrev pub HasRegisters : PlainEnd → Type 0
+HasRegisters e = length e.regs.items ≡ 16
+
+-- each end that is printed does
+unfoldable pub IsPrintable : Job → Type 0
+IsPrintable (State end marks) = HasRegisters end
+IsPrintable (Ends ends) = All HasRegisters ends.items
+IsPrintable (SledMap image) = Unit {0}
+
+-- the ends of so many threads of a program, in the order of their numbers, from 1 on
+pub record AreEnds (program : Program) (options : RunOptions) (threads : ℕ) (ends : List PlainEnd) : Type 0 where
+  pub count : length ends ≡ threads
+  pub each : (k : ℕ) (e : PlainEnd) → slice_get ends k ≡ Some e
+      → IsPlainEnd program (limits_of options) (k + 1) e
+  pub registers : All HasRegisters ends

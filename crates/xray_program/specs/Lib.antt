@@ -1,4 +1,6 @@
 pub mod Words
+pub mod Faults
+pub mod Plain
 pub mod Inputs
 pub mod FirstRun
 pub mod Meaning
@@ -8,10 +10,8 @@ pub mod Stops
 pub mod Takes
 pub mod Calls
 pub mod Lines
-pub mod Straight
 pub mod Stores
 pub mod Passing
 pub mod Standing
 pub mod Marks
-pub mod Shown
 pub mod Jobs

@@ -1,21 +1,22 @@
 -- What a command means: what comes of the words and of what the desk holds.
-use Rattle.std.specs.Prelude.{◌≡◌, ◌≢◌, ◌⊎◌, ℕ, List, [], ◌∷◌, ◌++◌, codes, MatchOption, Option, ⊤}
+use Rattle.std.specs.Prelude.{◌≡◌, ◌≢◌, ◌⊎◌, ◌<◌, ◌≤◌, ℕ, List, [], ◌∷◌, ◌++◌, length, codes, MatchOption, Option, ⊤}
 use Rattle.xray_io.specs.Desk.{Entry, Untold, Absent, Holds}
 use Rattle.xray_io.specs.Faults.{Rose}
 use Rattle.xray_io.specs.Sink.{Adds, AddsPrefix}
-use Rattle.xray_image.specs.Program.{Program}
-use Rattle.patch_script.specs.declared.command.Command.{Command}
-use Rattle.step_sim.specs.declared.turns.Turns.{Turns}
+use Rattle.xray_image.specs.Extract.{extract_text}
 use Rattle.xray_program.specs.FirstRun.{SimPrints}
-use Rattle.xray_program.specs.Inputs.{ReadsImage, ReadsScript, ReadsSchedule}
-use Rattle.xray_program.specs.Words.{Sim, reading}
+use Rattle.xray_program.specs.Inputs.{Form, image_form, first_run_form, script_form, schedule_form}
+use Rattle.xray_program.specs.Plain.{PlainPrints}
+use Rattle.xray_program.specs.Words.{Sim, Plain, Extract, reading}
 use Rattle.xray_program.specs.Words as words
 
--- what comes of a command line: it says no command; an input can't be read; an input isn't in its definition, by
--- what kind of input it is and why; or outputs, each a name and its bytes, and a text
+-- what comes of a command line: it says no command; an input can't be read; an input has too many
+-- bytes; an input isn't in its definition, by what kind of input it is and why; or outputs, each a
+-- name and its bytes, and a text
 pub data Outcome : Type 0 where
   BadLine : Outcome
   Unread : (name : List ℕ) → Outcome
+  TooLong : (name : List ℕ) → Outcome
   Refused : (name kind refusal : List ℕ) → Outcome
   Done : (outputs : List (List ℕ × List ℕ)) → (text : List ℕ) → Outcome
 
@@ -23,6 +24,7 @@ pub data Outcome : Type 0 where
 abbrev pub status_of : Outcome → ℕ
 status_of BadLine = 1
 status_of (Unread name) = 3
+status_of (TooLong name) = 6
 status_of (Refused name kind refusal) = 2
 status_of (Done outputs text) = 0
 
@@ -34,6 +36,7 @@ err_line text = codes "xray: " ++ text ++ 10 ∷ []
 abbrev pub line_of : Outcome → List ℕ
 line_of BadLine = err_line (codes "bad command line")
 line_of (Unread name) = err_line (name ++ codes ": read fault")
+line_of (TooLong name) = err_line (name ++ codes ": too long")
 line_of (Refused name kind refusal) = err_line (name ++ codes ": " ++ kind ++ codes " " ++ refusal)
 line_of (Done outputs text) = []
 
@@ -50,36 +53,36 @@ MayHold Untold bytes = ⊤
 MayHold Absent bytes = ⊥
 MayHold (Holds content) bytes = bytes ≡ content
 
--- An input is taken in its turn, where `fails` says which names can't be read: it can't be read; or its bytes are refused;
--- or they read as a value, and the next input's turn comes.
-abbrev pub Take : {X : Type 0} → List ℕ → (List ℕ → X → Type 0) → (List ℕ → List ℕ → Type 0) → (List ℕ → Type 0)
-    → (List ℕ → Entry) → List ℕ → (X → Outcome → Type 0) → Outcome → Type 0
-Take {X} kind Reads Refuses fails held name next outcome =
+-- Bytes are judged: they are too many; or they are refused; or they read as a value, and what
+-- follows is that value's.
+abbrev pub Judge : {X : Type 0} → Form X → (name bytes : List ℕ) → (X → Outcome → Type 0) → Outcome
+    → Type 0
+Judge {X} form name bytes next outcome =
+    ((form.limit < length bytes) × (outcome ≡ TooLong name))
+    ⊎ ((length bytes ≤ form.limit) × (((refusal : List ℕ) × form.Refuses bytes refusal
+    × (outcome ≡ Refused name form.kind refusal))
+    ⊎ ((value : X) × form.Reads bytes value × next value outcome)))
+
+-- An input is taken in its turn, where `fails` says which names can't be read: it can't be read; or
+-- the bytes that it holds are judged, and the next input's turn comes.
+abbrev pub Take : {X : Type 0} → Form X → (List ℕ → Type 0) → (List ℕ → Entry) → List ℕ
+    → (X → Outcome → Type 0) → Outcome → Type 0
+Take form fails held name next outcome =
     (fails name × (outcome ≡ Unread name))
-    ⊎ ((bytes : List ℕ) × MayHold (held name) bytes
-    × (((refusal : List ℕ) × Refuses bytes refusal × (outcome ≡ Refused name kind refusal))
-    ⊎ ((value : X) × Reads bytes value × next value outcome)))
-
--- bytes that aren't of the form
-abbrev pub IsNotYet : {X : Type 0} → (List ℕ → X → Type 0) → List ℕ → List ℕ → Type 0
-IsNotYet {X} Reads bytes refusal = ((value : X) → Reads bytes value → ⊥) × (refusal ≡ codes "NotYet")
-
-abbrev pub TakeImage : (List ℕ → Type 0) → (List ℕ → Entry) → List ℕ → (Program → Outcome → Type 0) → Outcome → Type 0
-TakeImage = Take (codes "image") ReadsImage (IsNotYet ReadsImage)
-
-abbrev pub TakeScript : (List ℕ → Type 0) → (List ℕ → Entry) → List ℕ → (List Command → Outcome → Type 0) → Outcome → Type 0
-TakeScript = Take (codes "script") ReadsScript (IsNotYet ReadsScript)
-
-abbrev pub TakeSchedule : (List ℕ → Type 0) → (List ℕ → Entry) → List ℕ → (List Turns → Outcome → Type 0) → Outcome → Type 0
-TakeSchedule = Take (codes "schedule") ReadsSchedule (IsNotYet ReadsSchedule)
+    ⊎ ((bytes : List ℕ) × MayHold (held name) bytes × Judge form name bytes next outcome)
 
 -- what comes of a command where `fails` says which names can't be read
 abbrev pub Comes : (List ℕ → Type 0) → (List ℕ → Entry) → words.Command → Outcome → Type 0
 Comes fails held (Sim image script schedule) =
-    TakeImage fails held image (λ program.
-    TakeScript fails held script (λ commands.
-    TakeSchedule fails held schedule (λ turns outcome.
+    Take first_run_form fails held image (λ program.
+    Take script_form fails held script (λ commands.
+    Take schedule_form fails held schedule (λ turns outcome.
     (text : List ℕ) × SimPrints program commands turns text × (outcome ≡ Done [] text))))
+Comes fails held (Plain image options) =
+    Take image_form fails held image (λ program outcome.
+    (text : List ℕ) × PlainPrints program options text × (outcome ≡ Done [] text))
+Comes fails held (Extract image) =
+    Take image_form fails held image (λ program outcome. outcome ≡ Done [] (extract_text program))
 
 -- what comes of words where `fails` says which names can't be read
 abbrev pub ComesOf : (List ℕ → Type 0) → (List ℕ → Entry) → List (List ℕ) → Outcome → Type 0

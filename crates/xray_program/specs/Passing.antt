@@ -23,8 +23,8 @@ loads_before stages.Offset = load_of patched_head ∷ load_of 0 ∷ load_of 0 �
 loads_before stages.Handler = load_of patched_head ∷ load_of 0 ∷ load_of 0 ∷ load_of 0 ∷ []
 loads_before stages.State = load_of patched_head ∷ load_of 0 ∷ load_of 0 ∷ load_of 0 ∷ load_of 1 ∷ []
 
--- What a load of a value at a stage leads to, in a passing of any sled: another stage of the passing, or a mark behind
--- which the next passing begins.
+-- What a load of a value at a stage leads to, in a passing of any sled: another stage of the
+-- passing, or a mark behind which the next passing begins.
 abbrev pub marks_behind : Program → ℕ → ℕ → List ℕ → Next → List Load → List Mark
 marks_behind program number sled left (Loads stage) more =
     marks_from program 1 None number (sled ∷ left) (loads_before stage ++ more)

@@ -1,4 +1,5 @@
--- Where the patcher and the thread of a replay stand: at a place of the script, and behind a list of loads.
+-- Where the patcher and the thread of a replay stand: at a place of the script, and behind a list
+-- of loads.
 use Rattle.std.specs.Prelude.{◌≡◌, ◌≤◌, ◌+◌, ◌*◌, ℕ, List, [], ◌∷◌, ◌++◌, length, min, take, None, ⊤}
 use Rattle.xray_image.specs.Program.{Program}
 use Rattle.sled_words.specs.Parts.{initial_words}
@@ -22,15 +23,17 @@ pub record IsPatcherAt (program : Program) (place : ℕ) (patcher : Patcher) : T
   pub at : patcher.place ≡ place
   pub behind : patcher.words.items ≡ all_stored (initial_words program 1) (take place patcher.steps.items)
 
--- Loads lead to marks and then to a stage of a passing of the first sled that is left: whatever loads come behind them,
--- the marks of all are these marks and those of the passings that are left, and the word that is loaded next is theirs.
+-- Loads lead to marks and then to a stage of a passing of the first sled that is left: whatever
+-- loads come behind them, the marks of all are these marks and those of the passings that are left,
+-- and the word that is loaded next is theirs.
 pub record LeadTo (program : Program) (sleds : List ℕ) (loads : List Load) (marks : List Mark) (left : List ℕ) (stage : Stage) : Type 0 where
   pub marks_are : (more : List Load) → marks_from program 1 None 0 sleds (loads ++ more)
       ≡ marks ++ marks_from program 1 None (length marks) left (loads_before stage ++ more)
   pub next_is : (more : List Load) → next_from program 1 None 0 sleds (loads ++ more)
       ≡ next_from program 1 None (length marks) left (loads_before stage ++ more)
 
--- the one thread has made the loads of a moment, and stands where they lead in its passings of sleds
+-- the one thread has made the loads of a moment, and stands where they lead in its passings of
+-- sleds
 pub record IsThreadAt (program : Program) (sleds : List ℕ) (moment : Moment) (thread : Thread) : Type 0 where
   pub words : thread.handler_word ≡ handler_word program
   pub loads : List Load

@@ -2,11 +2,12 @@
 use Rattle.std.specs.Prelude.{ℕ, List, Result, Ok, Err, codes}
 use Rattle.xray_program.specs.declared.stop.Kind.{Kind}
 use Rattle.xray_program.specs.declared.stop.Kind.TheVariants.{Image, Script, Schedule}
-use Rattle.xray_program.specs.declared.stop.Refusal.{Refusal}
-use Rattle.xray_program.specs.declared.stop.Refusal.TheVariants.{NotYet}
+use Rattle.xray_program.specs.declared.refusal.Refusal.{Refusal}
+use Rattle.xray_program.specs.declared.refusal.Refusal.TheVariants.{NotYet, Faulty}
+use Rattle.xray_program.specs.Faults.{fault_text}
 use Rattle.xray_program.specs.declared.stop.Stop.{Stop}
 use Rattle.xray_program.specs.declared.stop.Stop.TheVariants as stops
-use Rattle.xray_program.specs.Meaning.{BadLine, Unread, Refused, line_of, write_fault_line, memory_line}
+use Rattle.xray_program.specs.Meaning.{BadLine, Unread, TooLong, Refused, line_of, write_fault_line, memory_line}
 
 -- the word for a kind of input
 abbrev pub kind_text : Kind → List ℕ
@@ -17,12 +18,14 @@ kind_text Schedule = codes "schedule"
 -- the words for what is wrong
 abbrev pub refusal_text : Refusal → List ℕ
 refusal_text NotYet = codes "NotYet"
+refusal_text (Faulty fault) = fault_text fault
 
 -- the status
 abbrev pub stop_status : Stop → ℕ
 stop_status stops.BadLine = 1
 stop_status (stops.Refused name kind refusal) = 2
 stop_status (stops.Unread name) = 3
+stop_status (stops.TooLong name) = 6
 stop_status stops.Unwritten = 4
 stop_status stops.NoMemory = 5
 
@@ -31,6 +34,7 @@ abbrev pub stop_line : Stop → List ℕ
 stop_line stops.BadLine = line_of BadLine
 stop_line (stops.Refused name kind refusal) = line_of (Refused name.now (kind_text kind) (refusal_text refusal))
 stop_line (stops.Unread name) = line_of (Unread name.now)
+stop_line (stops.TooLong name) = line_of (TooLong name.now)
 stop_line stops.Unwritten = write_fault_line (codes "output")
 stop_line stops.NoMemory = memory_line
 

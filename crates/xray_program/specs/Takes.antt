@@ -1,11 +1,15 @@
 -- How an input's turn ends: with a value, or with a stop.
-use Rattle.std.specs.Prelude.{◌≡◌, ◌⊎◌, ◌<◌, ◌≤◌, ℕ, List, length, ⊤, codes}
+use Rattle.std.specs.Prelude.{◌≡◌, ◌≢◌, ◌⊎◌, ◌<◌, ◌≤◌, ℕ, List, length, ⊤}
 use Rattle.xray_io.specs.Desk.{Entry, Absent}
 use Rattle.xray_io.specs.Faults.{Rose}
-use Rattle.xray_program.specs.declared.stop.Kind.{Kind}
+use Rattle.xray_image.specs.declared.fault.ImageFault.{ImageFault}
+use Rattle.xray_image.specs.declared.fault.ImageFault.TheVariants as faults
+use Rattle.xray_program.specs.declared.refusal.Refusal.TheVariants.{Faulty}
+use Rattle.xray_program.specs.declared.stop.Kind.TheVariants.{Image}
 use Rattle.xray_program.specs.declared.stop.Stop.{Stop}
 use Rattle.xray_program.specs.declared.stop.Stop.TheVariants as stops
-use Rattle.xray_program.specs.Meaning.{Outcome, Unread, Refused, MayHold, status_of}
+use Rattle.xray_program.specs.Inputs.{Form}
+use Rattle.xray_program.specs.Meaning.{Outcome, Unread, TooLong, Refused, MayHold, status_of}
 use Rattle.xray_program.specs.Stops.{kind_text, refusal_text}
 
 -- bytes that the name may hold were read, as many as may be
@@ -13,45 +17,71 @@ pub record GivesBytes (limit : ℕ) (entry : Entry) (bytes : List ℕ) : Type 0 
   pub held : MayHold entry bytes
   pub within : length bytes ≤ limit
 
--- bytes that the name may hold read as this value, and as no other
-pub record Gives {X : Type 0} (Reads : List ℕ → X → Type 0) (entry : Entry) (value : X) : Type 0 where
+-- bytes that the name may hold are more than may be
+pub record IsTooLong (limit : ℕ) (entry : Entry) : Type 0 where
   pub bytes : List ℕ
   pub held : MayHold entry bytes
-  pub reads : Reads bytes value
-  pub only : (other : X) → Reads bytes other → other ≡ value
+  pub long : limit < length bytes
 
--- bytes that the name may hold, and for which this holds
-pub record Rejects (P : List ℕ → Type 0) (entry : Entry) : Type 0 where
+-- bytes that the name may hold read as this value and as no other, and aren't refused
+pub record Gives {X : Type 0} (form : Form X) (entry : Entry) (value : X) : Type 0 where
   pub bytes : List ℕ
   pub held : MayHold entry bytes
-  pub wrong : P bytes
+  pub within : length bytes ≤ form.limit
+  pub reads : form.Reads bytes value
+  pub only : (other : X) → form.Reads bytes other → other ≡ value
+  pub unrefused : (refusal : List ℕ) → form.Refuses bytes refusal → ⊥
 
--- The turn of an input of this kind and name ends with a stop: reads failed or the desk doesn't hold the name; or it
--- may hold bytes that are wrong; or memory ran out.
-abbrev pub Fails : (List ℕ → Type 0) → Kind → (List ℕ → Entry) → List ℕ → ℕ → ℕ → Stop → Type 0
-Fails IsWrong kind held name before now stops.BadLine = ⊥
-Fails IsWrong kind held name before now (stops.Unread n) =
+-- bytes that the name may hold are refused so, and read as nothing
+pub record Rejects {X : Type 0} (form : Form X) (entry : Entry) (refusal : List ℕ) : Type 0 where
+  pub bytes : List ℕ
+  pub held : MayHold entry bytes
+  pub within : length bytes ≤ form.limit
+  pub refused : form.Refuses bytes refusal
+  pub none : (value : X) → form.Reads bytes value → ⊥
+
+-- An input of this name wasn't read whole: reads failed or the desk doesn't hold the name; or it
+-- may hold more bytes than the limit; or memory ran out.
+abbrev pub FailsToRead : ℕ → (List ℕ → Entry) → List ℕ → ℕ → ℕ → Stop → Type 0
+FailsToRead limit held name before now stops.BadLine = ⊥
+FailsToRead limit held name before now (stops.Unread n) =
     (n.now ≡ name) × (Rose before now ⊎ (held name ≡ Absent))
-Fails IsWrong kind held name before now (stops.Refused n k refusal) =
-    (n.now ≡ name) × (k ≡ kind) × Rejects IsWrong (held name)
-Fails IsWrong kind held name before now stops.Unwritten = ⊥
-Fails IsWrong kind held name before now stops.NoMemory = ⊤
+FailsToRead limit held name before now (stops.TooLong n) =
+    (n.now ≡ name) × IsTooLong limit (held name)
+FailsToRead limit held name before now (stops.Refused n k refusal) = ⊥
+FailsToRead limit held name before now stops.Unwritten = ⊥
+FailsToRead limit held name before now stops.NoMemory = ⊤
 
--- bytes that read as nothing
-abbrev pub ReadsAsNone : {X : Type 0} → (List ℕ → X → Type 0) → List ℕ → Type 0
-ReadsAsNone {X} Reads bytes = (value : X) → Reads bytes value → ⊥
+-- the turn of an input of this form and name ends with a stop: it wasn't read whole, or it may hold
+-- bytes that are refused
+abbrev pub Fails : {X : Type 0} → Form X → (List ℕ → Entry) → List ℕ → ℕ → ℕ → Stop → Type 0
+Fails form held name before now (stops.Refused n k refusal) =
+    (n.now ≡ name) × (kind_text k ≡ form.kind) × Rejects form (held name) (refusal_text refusal)
+Fails form held name before now stop = FailsToRead form.limit held name before now stop
+
+-- what an image's fault comes to: want of memory, or a refusal
+abbrev pub IsImageStop : List ℕ → ImageFault → Stop → Type 0
+IsImageStop name fault stops.BadLine = ⊥
+IsImageStop name fault (stops.Unread n) = ⊥
+IsImageStop name fault (stops.TooLong n) = ⊥
+IsImageStop name fault (stops.Refused n kind refusal) =
+    (n.now ≡ name) × (kind ≡ Image) × (refusal ≡ Faulty fault) × (fault ≢ faults.NoMemory)
+IsImageStop name fault stops.Unwritten = ⊥
+IsImageStop name fault stops.NoMemory = fault ≡ faults.NoMemory
 
 -- A command that comes to M, by which names can't be read, ends with a stop.
 abbrev pub Stops : ((List ℕ → Type 0) → Outcome → Type 0) → (List ℕ → Entry) → ℕ → ℕ → Stop → Type 0
 Stops M held before now stops.BadLine = ⊥
 Stops M held before now (stops.Unread n) =
     M (λ _. ⊤) (Unread n.now) × (Rose before now ⊎ (held n.now ≡ Absent))
+Stops M held before now (stops.TooLong n) = M (λ name. held name ≡ Absent) (TooLong n.now)
 Stops M held before now (stops.Refused n kind refusal) =
     M (λ name. held name ≡ Absent) (Refused n.now (kind_text kind) (refusal_text refusal))
 Stops M held before now stops.Unwritten = ⊥
 Stops M held before now stops.NoMemory = ⊤
 
--- a status for an outcome before anything is written: its own, that for want of memory, or that for a read that failed
+-- a status for an outcome before anything is written: its own, that for want of memory, or that for
+-- a read that failed
 abbrev pub IsAnswerSoFar : ℕ → ℕ → Outcome → ℕ → Type 0
 IsAnswerSoFar before now outcome status =
     (status ≡ status_of outcome) ⊎ (status ≡ 5) ⊎ ((status ≡ 3) × Rose before now)

@@ -4,13 +4,16 @@ ghost use Rattle.xray_io.specs.Desk.{Absent, Holds};
 ghost use Rattle.xray_program.specs.Answers.{LeavesText, Reports, CouldNotRead, CouldNotWrite, IsSimulated, IsAnswer};
 ghost use Rattle.xray_program.specs.Calls.{StopsCall};
 ghost use Rattle.xray_program.specs.Commands.{command_of};
-ghost use Rattle.xray_program.specs.Jobs.{job_text};
+ghost use Rattle.xray_program.specs.Jobs.{job_text, IsPrintable};
 ghost use Rattle.xray_program.specs.Meaning.{Outcome, Done, Comes, Means, Says, TellsAll, memory_line, write_fault_line};
 ghost use Rattle.xray_program.specs.Stops.{answer_of};
 ghost use Rattle.xray_program.specs.Takes.{IsAnswerSoFar, Stops};
 ghost use Rattle.xray_program.specs.Words.{reading, texts};
 
-use crate::sim::{Job, prepare_sim};
+use crate::extract::prepare_extract;
+use crate::job::Job;
+use crate::plain::prepare_plain;
+use crate::sim::prepare_sim;
 use crate::stop::Stop;
 use crate::words::{Command, read_words};
 use std::alloc::Global;
@@ -18,9 +21,11 @@ use std::sync::Wait;
 use std::thread::Threads;
 use xray_io::{Desk, Gate, Sink, Wall, WriteFault};
 
-/// Does what `words` say, which don't hold the program's own name, with the files of `desk`. It answers the program's
-/// status: 0 where all is done; 1 where the words say no command; 2 where an input isn't of its form; 3 where an input
-/// can't be read; 4 where `out` fails; 5 where memory runs out. On 1 to 5 a line on `err` says so. It waits for nobody.
+/// Does what `words` say, which don't hold the program's own name, with the files of `desk`. It
+/// answers the program's status: 0 where all is done; 1 where the words say no command; 2 where an
+/// input isn't of its form; 3 where an input can't be read; 4 where `out` fails; 5 where memory
+/// runs out; 6 where an input has more bytes than its limit. On 1 to 6 a line on `err` says so. It
+/// waits for nobody.
 pub fn xray_still<D: Desk, O: Sink, E: Sink>(
     alloc: Global,
     words: &[String],
@@ -30,17 +35,18 @@ pub fn xray_still<D: Desk, O: Sink, E: Sink>(
     err: &mut E,
 ) -> u8
     // No other status comes.
-    ensures status { result ≤ 5 }
+    ensures status { result ≤ 6 }
 
     // 0: out got exactly the text that the words mean, and err nothing.
     ensures done { result ≡ 0 → LeavesText (texts words.now) (D.held desk.old)
         (O.written out.old) (O.written out.new) }
     ensures silent { result ≡ 0 → E.written err.new ≡ E.written err.old }
 
-    // 1 tells of the words alone. The words mean a 1 or a 2, and err tells of it.
+    // 1 tells of the words alone. The words mean a 1, a 2 or a 6, and err tells of it.
     ensures bad_line { (result ≡ 1) ↔ (reading (texts words.now) ≡ None) }
-    ensures refused { (result ≡ 1) ⊎ (result ≡ 2) → Reports (texts words.now) (D.held desk.old)
-        result (E.faults err.old) (E.faults err.new) (E.written err.old) (E.written err.new) }
+    ensures refused { (result ≡ 1) ⊎ (result ≡ 2) ⊎ (result ≡ 6)
+        → Reports (texts words.now) (D.held desk.old) result
+        (E.faults err.old) (E.faults err.new) (E.written err.old) (E.written err.new) }
 
     // 3 names an input whose turn had come, 4 the output, and 5 want of memory.
     ensures unread { result ≡ 3 → CouldNotRead (texts words.now) (D.held desk.old)
@@ -78,9 +84,10 @@ pub fn xray_still<D: Desk, O: Sink, E: Sink>(
     }
 }
 
-/// Does what `words` say, which don't hold the program's own name, with the files of `desk`, and answers the program's
-/// status as `xray_still` does. Commands that start threads start them through `rt`, and their threads and patcher pass
-/// `gate`; all others, and so each that is here, are `xray_still`.
+/// Does what `words` say, which don't hold the program's own name, with the files of `desk`, and
+/// answers the program's status as `xray_still` does. Commands that start threads start them
+/// through `rt`, and their threads and patcher pass `gate`; all others, and so each that is here,
+/// are `xray_still`.
 pub fn xray<T: Threads + Wait + Sync, D: Desk, O: Sink, E: Sink, G: Gate + Sync>(
     _rt: &T,
     alloc: Global,
@@ -92,17 +99,18 @@ pub fn xray<T: Threads + Wait + Sync, D: Desk, O: Sink, E: Sink, G: Gate + Sync>
     _gate: &G,
 ) -> u8
     // No other status comes.
-    ensures status { result ≤ 5 }
+    ensures status { result ≤ 6 }
 
     // 0: out got exactly the text that the words mean, and err nothing.
     ensures done { result ≡ 0 → LeavesText (texts words.now) (D.held desk.old)
         (O.written out.old) (O.written out.new) }
     ensures silent { result ≡ 0 → E.written err.new ≡ E.written err.old }
 
-    // 1 tells of the words alone. The words mean a 1 or a 2, and err tells of it.
+    // 1 tells of the words alone. The words mean a 1, a 2 or a 6, and err tells of it.
     ensures bad_line { (result ≡ 1) ↔ (reading (texts words.now) ≡ None) }
-    ensures refused { (result ≡ 1) ⊎ (result ≡ 2) → Reports (texts words.now) (D.held desk.old)
-        result (E.faults err.old) (E.faults err.new) (E.written err.old) (E.written err.new) }
+    ensures refused { (result ≡ 1) ⊎ (result ≡ 2) ⊎ (result ≡ 6)
+        → Reports (texts words.now) (D.held desk.old) result
+        (E.faults err.old) (E.faults err.new) (E.written err.old) (E.written err.new) }
 
     // 3 names an input whose turn had come, 4 the output, and 5 want of memory.
     ensures unread { result ≡ 3 → CouldNotRead (texts words.now) (D.held desk.old)
@@ -166,13 +174,15 @@ fn perform<'a, D: Desk, O: Sink>(
 fn prepare<'a, D: Desk>(alloc: Global, desk: &mut D, command: Command<'a>) -> Result<Job, Stop<'a>>
     ensures ready { IfOk result (λ job. Comes (λ name. D.held desk.old name ≡ Absent)
         (D.held desk.old) (command_of command.entry) (Done [] (job_text job))) }
+    ensures printable { IfOk result IsPrintable }
     ensures stops { IfErr result (Stops
         (λ fails. Comes fails (D.held desk.old) (command_of command.entry))
         (D.held desk.old) (D.read_faults desk.old) (D.read_faults desk.new)) }
     ensures complete { (outcome : Outcome) → TellsAll (D.held desk.old)
         → Comes (λ name. D.held desk.old name ≡ Absent)
         (D.held desk.old) (command_of command.entry) outcome
-        → IsAnswerSoFar (D.read_faults desk.old) (D.read_faults desk.new) outcome (answer_of result) }
+        → IsAnswerSoFar (D.read_faults desk.old) (D.read_faults desk.new)
+        outcome (answer_of result) }
     ensures held { D.held desk.new ≡ D.held desk.old }
 {
     match command {
@@ -181,5 +191,7 @@ fn prepare<'a, D: Desk>(alloc: Global, desk: &mut D, command: Command<'a>) -> Re
             script,
             schedule,
         } => prepare_sim(alloc, desk, image, script, schedule),
+        Command::Plain { image, options } => prepare_plain(alloc, desk, image, options),
+        Command::Extract { image } => prepare_extract(alloc, desk, image),
     }
 }

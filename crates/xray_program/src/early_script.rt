@@ -9,7 +9,8 @@ ghost use Rattle.xray_program.specs.Lines.{IsWord, IsNoWord};
 use crate::early::Early;
 use text_lines::{Line, Lines};
 
-/// Whether a script of at most 1 MiB has these three commands, and nothing else but blanks and comments.
+/// Whether a script of at most 1 MiB has these three commands, and nothing else but blanks and
+/// comments.
 pub fn read_script(text: &[u8]) -> Result<(), Early>
     requires { length text.now ≤ 1048576 }
     ensures found { OnOk result (ReadsScript text.now first_script) }

@@ -1,13 +1,14 @@
 //! The inputs in their turn: each is read, measured and judged before the next is opened.
-ghost use Rattle.std.specs.Prelude.{◌≡◌, ◌<◌, ◌≤◌, length, IfOk, IfErr, OnOk};
+ghost use Rattle.std.specs.Prelude.{◌≡◌, ◌≤◌, IfOk, IfErr, OnOk};
 ghost use Rattle.xray_program.specs.FirstRun.{first_script};
-ghost use Rattle.xray_program.specs.Inputs.{ReadsImage, ReadsScript, ReadsSchedule};
-ghost use Rattle.xray_program.specs.Takes.{Fails, Gives, GivesBytes, ReadsAsNone};
+ghost use Rattle.xray_program.specs.Inputs.{first_run_form, image_form, schedule_form, script_form};
+ghost use Rattle.xray_program.specs.Takes.{Fails, Gives, FailsToRead, GivesBytes, IsImageStop};
 
 use crate::early::Early;
 use crate::early_schedule::read_schedule;
 use crate::early_script::read_script;
-use crate::stop::{Kind, Refusal, Stop};
+use crate::refusal::Refusal;
+use crate::stop::{Kind, Stop};
 use std::alloc::Global;
 use step_sim::Turns;
 use xray_image::{Image, ImageFault, read_image};
@@ -28,22 +29,54 @@ pub(crate) fn take_image<'a, D: Desk>(
     desk: &mut D,
     name: &'a str,
 ) -> Result<Image, Stop<'a>>
-    ensures gives { IfOk result (Gives ReadsImage (D.held desk.old name.now)) }
-    ensures fails { IfErr result (Fails (ReadsAsNone ReadsImage) Kind.Image
-        (D.held desk.old) name.now (D.read_faults desk.old) (D.read_faults desk.new)) }
+    ensures gives { IfOk result (Gives image_form (D.held desk.old name.now)) }
+    ensures fails { IfErr result (Fails image_form (D.held desk.old) name.now
+        (D.read_faults desk.old) (D.read_faults desk.new)) }
     ensures held { D.held desk.new ≡ D.held desk.old }
     ensures later { D.read_faults desk.old ≤ D.read_faults desk.new }
 {
-    let bytes = take_bytes(alloc, desk, name, Kind::Image, IMAGE_LIMIT)?;
+    let bytes = take_bytes(alloc, desk, name, IMAGE_LIMIT)?;
     match read_image(alloc, &bytes) {
         Ok(image) => Ok(image),
-        Err(ImageFault::NotYet) => Err(Stop::Refused {
+        Err(fault) => Err(image_stop(name, fault)),
+    }
+}
+
+/// What an image's fault comes to.
+fn image_stop(name: &str, fault: ImageFault) -> Stop<'_>
+    ensures { IsImageStop name.now fault result }
+{
+    match fault {
+        ImageFault::NoMemory => Stop::NoMemory,
+        _ => Stop::Refused {
+            name,
+            kind: Kind::Image,
+            refusal: Refusal::Faulty(fault),
+        },
+    }
+}
+
+/// Takes an image file of the form that `sim` runs.
+pub(crate) fn take_first_run<'a, D: Desk>(
+    alloc: Global,
+    desk: &mut D,
+    name: &'a str,
+) -> Result<Image, Stop<'a>>
+    ensures gives { IfOk result (Gives first_run_form (D.held desk.old name.now)) }
+    ensures fails { IfErr result (Fails first_run_form (D.held desk.old) name.now
+        (D.read_faults desk.old) (D.read_faults desk.new)) }
+    ensures held { D.held desk.new ≡ D.held desk.old }
+    ensures later { D.read_faults desk.old ≤ D.read_faults desk.new }
+{
+    let image = take_image(alloc, desk, name)?;
+    if !image.is_first_run() {
+        return Err(Stop::Refused {
             name,
             kind: Kind::Image,
             refusal: Refusal::NotYet,
-        }),
-        Err(ImageFault::NoMemory) => Err(Stop::NoMemory),
+        });
     }
+    Ok(image)
 }
 
 /// Takes a script, which is the one that is run.
@@ -52,13 +85,13 @@ pub(crate) fn take_script<'a, D: Desk>(
     desk: &mut D,
     name: &'a str,
 ) -> Result<(), Stop<'a>>
-    ensures gives { OnOk result (Gives ReadsScript (D.held desk.old name.now) first_script) }
-    ensures fails { IfErr result (Fails (ReadsAsNone ReadsScript) Kind.Script
-        (D.held desk.old) name.now (D.read_faults desk.old) (D.read_faults desk.new)) }
+    ensures gives { OnOk result (Gives script_form (D.held desk.old name.now) first_script) }
+    ensures fails { IfErr result (Fails script_form (D.held desk.old) name.now
+        (D.read_faults desk.old) (D.read_faults desk.new)) }
     ensures held { D.held desk.new ≡ D.held desk.old }
     ensures later { D.read_faults desk.old ≤ D.read_faults desk.new }
 {
-    let bytes = take_bytes(alloc, desk, name, Kind::Script, SCRIPT_LIMIT)?;
+    let bytes = take_bytes(alloc, desk, name, SCRIPT_LIMIT)?;
     match read_script(&bytes) {
         Ok(()) => Ok(()),
         Err(Early::NotYet) => Err(Stop::Refused {
@@ -77,13 +110,13 @@ pub(crate) fn take_schedule<'a, D: Desk>(
     name: &'a str,
 ) -> Result<Vec<Turns>, Stop<'a>>
     ensures gives { IfOk result (λ turns.
-        Gives ReadsSchedule (D.held desk.old name.now) turns.items) }
-    ensures fails { IfErr result (Fails (ReadsAsNone ReadsSchedule) Kind.Schedule
-        (D.held desk.old) name.now (D.read_faults desk.old) (D.read_faults desk.new)) }
+        Gives schedule_form (D.held desk.old name.now) turns.items) }
+    ensures fails { IfErr result (Fails schedule_form (D.held desk.old) name.now
+        (D.read_faults desk.old) (D.read_faults desk.new)) }
     ensures held { D.held desk.new ≡ D.held desk.old }
     ensures later { D.read_faults desk.old ≤ D.read_faults desk.new }
 {
-    let bytes = take_bytes(alloc, desk, name, Kind::Schedule, SCHEDULE_LIMIT)?;
+    let bytes = take_bytes(alloc, desk, name, SCHEDULE_LIMIT)?;
     match read_schedule(alloc, &bytes) {
         Ok(turns) => Ok(turns),
         Err(Early::NotYet) => Err(Stop::Refused {
@@ -95,29 +128,24 @@ pub(crate) fn take_schedule<'a, D: Desk>(
     }
 }
 
-/// Reads the bytes of an input. More than `limit` of them are not of its form.
+/// Reads the bytes of an input, at most `limit` of them.
 fn take_bytes<'a, D: Desk>(
     alloc: Global,
     desk: &mut D,
     name: &'a str,
-    kind: Kind,
     limit: u64,
 ) -> Result<Vec<u8>, Stop<'a>>
     ensures gives { IfOk result (λ bytes.
         GivesBytes limit (D.held desk.old name.now) bytes.items) }
-    ensures fails { IfErr result (Fails (λ bytes. limit < length bytes) kind
-        (D.held desk.old) name.now (D.read_faults desk.old) (D.read_faults desk.new)) }
+    ensures fails { IfErr result (FailsToRead limit (D.held desk.old) name.now
+        (D.read_faults desk.old) (D.read_faults desk.new)) }
     ensures held { D.held desk.new ≡ D.held desk.old }
     ensures later { D.read_faults desk.old ≤ D.read_faults desk.new }
 {
     match read_whole(alloc, desk, name, limit) {
         Ok(bytes) => Ok(bytes),
         Err(ReadError::ReadFault) => Err(Stop::Unread(name)),
-        Err(ReadError::TooLong) => Err(Stop::Refused {
-            name,
-            kind,
-            refusal: Refusal::NotYet,
-        }),
+        Err(ReadError::TooLong) => Err(Stop::TooLong(name)),
         Err(ReadError::NoMemory) => Err(Stop::NoMemory),
     }
 }

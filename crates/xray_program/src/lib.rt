@@ -1,20 +1,27 @@
 //! The top call: all that the program does, from the words of its command line to what it writes.
 //!
-//! The words are read first (`words`). Then the inputs are taken in the order of the words (`inputs`): each is read,
-//! measured and judged before the next is opened, so the first that fails decides. Then the memory is taken and the work
-//! done (`sim`, over `machine` and `replay`), then the outputs are written, and last a line on err says what stopped the
+//! The words are read first (`words`). Then the inputs are taken in the order of the words
+//! (`inputs`): each is read, measured and judged before the next is opened, so the first that fails
+//! decides. Then the memory is taken and the work done (`plain`, `extract`, and `sim` over
+//! `replay`), then the outputs are written (`job`), and last a line on err says what stopped the
 //! call, if something did (`stop`).
 //!
-//! What a command means is one relation, `Comes` of `specs/Meaning.antt`; what stands behind each status is a record of
-//! `specs/Answers.antt`. A further command adds a case to `Comes`, and no clause to the call.
+//! What a command means is one relation, `Comes` of `specs/Meaning.antt`; what stands behind each
+//! status is a record of `specs/Answers.antt`. A further command adds a case to `Comes`, and no
+//! clause to the call.
 #![tactic(auto)]
 
 mod call;
 mod early;
 mod early_schedule;
 mod early_script;
+mod extract;
 mod inputs;
-mod machine;
+mod items;
+mod job;
+mod number_option;
+mod plain;
+mod refusal;
 mod replay;
 mod sim;
 mod state_text;

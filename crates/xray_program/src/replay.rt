@@ -1,4 +1,5 @@
-//! The replay of a schedule on one thread: the script patches every sled before the start, and unpatches it behind it.
+//! The replay of a schedule on one thread: the script patches every sled before the start, and
+//! unpatches it behind it.
 ghost use Rattle.std.specs.Prelude.{◌≡◌, ◌<◌, ◌+◌, ◌^◌, ◌∷◌, [], All, IfOk, length, vec_len};
 ghost use Rattle.step_sim.specs.Replay.{Replay};
 ghost use Rattle.xray_program.specs.FirstRun.{first_script, one_thread};
@@ -17,8 +18,8 @@ use thread::Thread;
 use xray_image::Image;
 use xray_io::NoMemory;
 
-/// The marks of thread 1, which passes sleds of these numbers, where it and the patcher take the turns of a schedule. Behind
-/// the last line the thread makes the loads that are left.
+/// The marks of thread 1, which passes sleds of these numbers, where it and the patcher take the
+/// turns of a schedule. Behind the last line the thread makes the loads that are left.
 ///
 /// All memory is taken before the first turn; `NoMemory` comes where it was refused.
 pub fn replay(

@@ -1,41 +1,41 @@
 //! `sim`: the replay of a schedule over an image and a script.
-ghost use Rattle.std.specs.Prelude.{◌≡◌, ◌≤◌, ℕ, [], All, List, IfOk, IfErr, OnOk, OnErr};
+ghost use Rattle.std.specs.Prelude.{◌≡◌, ◌≤◌, ℕ, [], All, List, IfOk, IfErr};
 ghost use Rattle.xray_image.specs.Program.{IsAccepted};
 ghost use Rattle.xray_image.specs.FirstRun.{IsFirstRun};
 ghost use Rattle.xray_io.specs.Desk.{Absent};
-ghost use Rattle.xray_io.specs.Faults.{Rose};
-ghost use Rattle.xray_io.specs.Sink.{Adds, AddsPrefix};
 ghost use Rattle.xray_program.specs.FirstRun.{first_script, SimPrints};
-ghost use Rattle.xray_program.specs.Jobs.{job_text};
+ghost use Rattle.xray_program.specs.Jobs.{job_text, IsPrintable};
 ghost use Rattle.xray_program.specs.Meaning.{Outcome, Done, Comes, TellsAll};
 ghost use Rattle.xray_program.specs.Standing.{AreOfOneThread};
 ghost use Rattle.xray_program.specs.Stops.{answer_of};
 ghost use Rattle.xray_program.specs.Takes.{IsAnswerSoFar, Stops};
 ghost use Rattle.xray_program.specs.Words.{Sim};
 
-use crate::inputs::{take_image, take_schedule, take_script};
-use crate::machine::{Thread, run_straight};
+use crate::inputs::{take_first_run, take_schedule, take_script};
+use crate::job::Job;
 use crate::replay::replay;
-use crate::state_text::write_state;
 use crate::stop::Stop;
-use handler_word::Mark;
+use machine_step::{Limits, one_end, plain_run};
 use std::alloc::Global;
 use step_sim::Turns;
 use xray_image::Image;
-use xray_io::{Desk, NoMemory, Sink, WriteFault};
+use xray_io::{Desk, NoMemory};
 
 /// The number of the one thread.
 const THREAD: u32 = 1;
 
+/// What bounds the thread.
+const LIMITS: Limits = Limits {
+    fuel: 10_000_000,
+    passings: 1_048_576,
+    tick: 1,
+    tsc: 0,
+    cpus: 1,
+    migrate: 1_048_576,
+};
+
 /// The sleds that the thread passes: the function's entry, and its exit.
 const PASSINGS: [u32; 2] = [0, 1];
-
-/// What is left to do of a command once its inputs were judged and its memory was taken: to write its outputs.
-#[derive(Drop)]
-pub(crate) struct Job {
-    thread: Thread,
-    marks: Vec<Mark>,
-}
 
 /// Takes the inputs of `sim`, and replays.
 pub(crate) fn prepare_sim<'a, D: Desk>(
@@ -47,17 +47,19 @@ pub(crate) fn prepare_sim<'a, D: Desk>(
 ) -> Result<Job, Stop<'a>>
     ensures ready { IfOk result (λ job. Comes (λ name. D.held desk.old name ≡ Absent)
         (D.held desk.old) (Sim image.now script.now schedule.now) (Done [] (job_text job))) }
+    ensures printable { IfOk result IsPrintable }
     ensures stops { IfErr result (Stops
         (λ fails. Comes fails (D.held desk.old) (Sim image.now script.now schedule.now))
         (D.held desk.old) (D.read_faults desk.old) (D.read_faults desk.new)) }
     ensures complete { (outcome : Outcome) → TellsAll (D.held desk.old)
         → Comes (λ name. D.held desk.old name ≡ Absent)
         (D.held desk.old) (Sim image.now script.now schedule.now) outcome
-        → IsAnswerSoFar (D.read_faults desk.old) (D.read_faults desk.new) outcome (answer_of result) }
+        → IsAnswerSoFar (D.read_faults desk.old) (D.read_faults desk.new)
+        outcome (answer_of result) }
     ensures held { D.held desk.new ≡ D.held desk.old }
     ensures later { D.read_faults desk.old ≤ D.read_faults desk.new }
 {
-    let program = take_image(alloc, desk, image)?;
+    let program = take_first_run(alloc, desk, image)?;
     take_script(alloc, desk, script)?;
     let turns = take_schedule(alloc, desk, schedule)?;
     match simulate(alloc, &program, &turns) {
@@ -67,29 +69,17 @@ pub(crate) fn prepare_sim<'a, D: Desk>(
 }
 
 /// Runs the thread, and replays the schedule over its passings.
-#[tactic(auto, unfolding(crate::specs::Jobs::job_text))]
+#[tactic(auto, unfolding(crate::specs::Jobs::job_text, crate::specs::Jobs::IsPrintable))]
 fn simulate(alloc: Global, image: &Image, schedule: &[Turns]) -> Result<Job, NoMemory>
     requires form { IsFirstRun image.now }
     requires accepted { (bytes : List ℕ) × IsAccepted bytes image.now }
     requires one_thread { All AreOfOneThread schedule.now }
-    ensures { IfOk result (λ job.
+    ensures prints { IfOk result (λ job.
         SimPrints image.now first_script schedule.now (job_text job)) }
+    ensures printable { IfOk result IsPrintable }
 {
-    let thread = run_straight(alloc, image, THREAD)?;
+    one_end();
+    let end = plain_run(alloc, image, THREAD, LIMITS)?;
     let marks = replay(alloc, image, &PASSINGS, schedule)?;
-    Ok(Job { thread, marks })
-}
-
-impl Job {
-    /// Writes the text on out.
-    #[tactic(auto, unfolding(crate::specs::Jobs::job_text))]
-    pub(crate) fn deliver<O: Sink>(&self, out: &mut O) -> Result<(), WriteFault>
-        ensures all { OnOk result
-            (Adds (O.written out.old) (O.written out.new) (job_text self.now)) }
-        ensures front { OnErr result
-            (AddsPrefix (O.written out.old) (O.written out.new) (job_text self.now)) }
-        ensures failed { OnErr result (Rose (O.faults out.old) (O.faults out.new)) }
-    {
-        write_state(out, THREAD, &self.thread, &self.marks)
-    }
+    Ok(Job::State { end, marks })
 }

@@ -1,9 +1,10 @@
 //! What ends a call before all is done.
 ghost use Rattle.std.specs.Prelude.{◌≡◌};
 ghost use Rattle.xray_io.specs.Piece.{text_of};
-ghost use Rattle.xray_program.specs.Meaning.{Says};
+ghost use Rattle.xray_program.specs.Meaning.{Refused, Says, line_of};
 ghost use Rattle.xray_program.specs.Stops.{kind_text, refusal_text, stop_line, stop_status};
 
+use crate::refusal::Refusal;
 use xray_io::{Piece, Sink, write_pieces};
 
 /// What stands in front of each line on err.
@@ -36,24 +37,6 @@ impl Kind {
     }
 }
 
-/// What is wrong with an input.
-#[derive(Clone, Copy, Debug, PartialEq, Eq)]
-pub(crate) enum Refusal {
-    /// It isn't of the form that is run.
-    NotYet,
-}
-
-impl Refusal {
-    /// The refusal's words in a line on err.
-    fn text(self) -> &'static [u8]
-        ensures { result.now ≡ refusal_text self }
-    {
-        match self {
-            Refusal::NotYet => b"NotYet",
-        }
-    }
-}
-
 /// What ends a call before all is done, with the name of the input that it lies in.
 #[derive(Clone, Copy, Debug)]
 pub(crate) enum Stop<'a> {
@@ -61,6 +44,8 @@ pub(crate) enum Stop<'a> {
     BadLine,
     /// An input can't be read: a read failed, or the desk doesn't hold the name.
     Unread(&'a str),
+    /// An input has more bytes than its limit.
+    TooLong(&'a str),
     /// An input isn't in its definition.
     Refused {
         /// The input's name.
@@ -77,7 +62,7 @@ pub(crate) enum Stop<'a> {
 }
 
 impl Stop<'_> {
-    /// The program's status: 1 to 5.
+    /// The program's status: 1 to 6.
     pub(crate) fn status(&self) -> u8
         ensures { result ≡ stop_status self.now }
     {
@@ -87,8 +72,10 @@ impl Stop<'_> {
             Stop::Unread(_) => 3,
             Stop::Unwritten => 4,
             Stop::NoMemory => 5,
+            Stop::TooLong(_) => 6,
         }
     }
+
     /// Writes the line on err that tells of it. Nobody hears of it where err fails.
     pub(crate) fn report<E: Sink>(&self, err: &mut E)
         ensures { Says (E.faults err.old) (E.faults err.new)
@@ -108,22 +95,20 @@ impl Stop<'_> {
                     LINE_FEED,
                 ],
             ),
-            Stop::Refused {
-                name,
-                kind,
-                refusal,
-            } => say(
+            Stop::TooLong(name) => say(
                 err,
                 &[
                     PROGRAM,
                     Piece::Bytes(name.as_bytes()),
-                    Piece::Bytes(b": "),
-                    Piece::Bytes(kind.text()),
-                    Piece::Bytes(b" "),
-                    Piece::Bytes(refusal.text()),
+                    Piece::Bytes(b": too long"),
                     LINE_FEED,
                 ],
             ),
+            Stop::Refused {
+                name,
+                kind,
+                refusal,
+            } => say(err, &refused_line(name, *kind, *refusal)),
             Stop::Unwritten => say(
                 err,
                 &[PROGRAM, Piece::Bytes(b"output: write fault"), LINE_FEED],
@@ -131,6 +116,25 @@ impl Stop<'_> {
             Stop::NoMemory => say(err, &[PROGRAM, Piece::Bytes(b"out of memory"), LINE_FEED]),
         }
     }
+}
+
+/// The line on err that tells of a refusal.
+fn refused_line(name: &str, kind: Kind, refusal: Refusal) -> [Piece<'_>; 10]
+    ensures { text_of result ≡ line_of (Refused name.now (kind_text kind) (refusal_text refusal)) }
+{
+    let words = refusal.words();
+    [
+        PROGRAM,
+        Piece::Bytes(name.as_bytes()),
+        Piece::Bytes(b": "),
+        Piece::Bytes(kind.text()),
+        Piece::Bytes(b" "),
+        words.first,
+        words.second,
+        words.third,
+        words.fourth,
+        LINE_FEED,
+    ]
 }
 
 /// Writes a line on err. Where err fails, a front of it is there.

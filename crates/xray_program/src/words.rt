@@ -1,13 +1,54 @@
 //! The words of the command line.
-ghost use Rattle.std.specs.Prelude.{◌≡◌, Some, None, if◌then◌else◌, option_copied, option_map};
+ghost use Rattle.std.specs.Prelude.{◌≡◌, option_copied, option_map};
 ghost use Rattle.xray_program.specs.Commands.{command_of};
-ghost use Rattle.xray_program.specs.Words.{is_name, reading, texts};
+ghost use Rattle.xray_program.specs.Words.{extract_of, items_of, only_file, plain_of, reading, run_options, sim_of, texts};
+
+use crate::items::{Items, have_only};
+use crate::number_option::NumberOption;
 
 /// The word of the command that replays a schedule.
 const SIM: &str = "sim";
 
-/// The byte that begins an option, where more stands behind it.
-const DASH: u8 = b'-';
+/// The word of the command that runs an image without sleds.
+const PLAIN: &str = "plain";
+
+/// The word of the command that prints the sled map of an image.
+const EXTRACT: &str = "extract";
+
+/// How many threads there are.
+const THREADS: NumberOption = NumberOption {
+    name: "--threads",
+    least: 1,
+    most: 16,
+    default: 1,
+};
+
+/// How many instructions a thread makes at the most.
+const FUEL: NumberOption = NumberOption {
+    name: "--fuel",
+    least: 0,
+    most: 1_000_000_000,
+    default: 10_000_000,
+};
+
+/// How many passings a thread makes at the most.
+const PASSINGS: NumberOption = NumberOption {
+    name: "--passings",
+    least: 0,
+    most: 1_048_576,
+    default: 1_048_576,
+};
+
+/// What bounds the threads of a run.
+#[derive(Clone, Copy, Debug, PartialEq, Eq)]
+pub(crate) struct RunOptions {
+    /// How many threads there are, from 1 to 16.
+    pub(crate) threads: u32,
+    /// How many instructions a thread makes at the most.
+    pub(crate) fuel: u64,
+    /// How many passings a thread makes at the most.
+    pub(crate) passings: u32,
+}
 
 /// What the program is asked to do, and the names of the files for it.
 #[derive(Clone, Copy, Debug)]
@@ -21,31 +62,99 @@ pub(crate) enum Command<'a> {
         /// The turns of the thread and the patcher.
         schedule: &'a str,
     },
+    /// Runs an image without sleds on each thread, and prints how they end.
+    Plain {
+        /// The image file.
+        image: &'a str,
+        /// What bounds the threads.
+        options: RunOptions,
+    },
+    /// Prints the sled map of an image.
+    Extract {
+        /// The image file.
+        image: &'a str,
+    },
 }
 
 /// The command that words say, which don't hold the program's own name; `None` where they say none.
 pub(crate) fn read_words(words: &[String]) -> Option<Command<'_>>
     ensures { option_map command_of result ≡ reading (texts words.now) }
 {
-    let [command, image, script, schedule] = words else {
-        return None;
-    };
-    if command.as_str() != SIM {
-        return None;
+    let (command, rest) = words.split_first()?;
+    match command.as_str() {
+        PLAIN => read_plain(rest),
+        EXTRACT => read_extract(rest),
+        SIM => read_sim(rest),
+        _ => None,
     }
-    Some(Command::Sim {
-        image: file_name(image)?,
-        script: file_name(script)?,
-        schedule: file_name(schedule)?,
-    })
 }
 
-/// The word as a file name; `None` where it would be an option. A lone `-` is a name.
-fn file_name(word: &str) -> Option<&str>
-    ensures { option_copied result ≡ (if is_name word.now then Some word.now else None) }
+/// `plain IMAGE`, with the options of commands that run threads.
+fn read_plain(words: &[String]) -> Option<Command<'_>>
+    ensures { option_map command_of result ≡ plain_of (items_of (texts words.now)) }
 {
-    match word.as_bytes() {
-        [DASH, _, ..] => None,
-        _ => Some(word),
+    if !have_only(&[THREADS.name, FUEL.name, PASSINGS.name], words) {
+        return None;
     }
+    let options = run_options(words)?;
+    let image = only_file(words)?;
+    Some(Command::Plain { image, options })
+}
+
+/// `extract IMAGE`.
+fn read_extract(words: &[String]) -> Option<Command<'_>>
+    ensures { option_map command_of result ≡ extract_of (items_of (texts words.now)) }
+{
+    if !have_only(&[], words) {
+        return None;
+    }
+    let image = only_file(words)?;
+    Some(Command::Extract { image })
+}
+
+/// `sim IMAGE SCRIPT SCHEDULE`.
+fn read_sim(words: &[String]) -> Option<Command<'_>>
+    ensures { option_map command_of result ≡ sim_of (items_of (texts words.now)) }
+{
+    if !have_only(&[], words) {
+        return None;
+    }
+    let mut items = Items::new(words);
+    let image = items.next_file()?;
+    let script = items.next_file()?;
+    let schedule = items.next_file()?;
+    match items.next_file() {
+        Some(_) => None,
+        None => Some(Command::Sim {
+            image,
+            script,
+            schedule,
+        }),
+    }
+}
+
+/// The file name among the words, where it is the only one.
+fn only_file(words: &[String]) -> Option<&str>
+    ensures { option_copied result ≡ only_file (items_of (texts words.now)) }
+{
+    let mut items = Items::new(words);
+    let name = items.next_file()?;
+    match items.next_file() {
+        Some(_) => None,
+        None => Some(name),
+    }
+}
+
+/// The options of commands that run threads.
+fn run_options(words: &[String]) -> Option<RunOptions>
+    ensures { result ≡ run_options (items_of (texts words.now)) }
+{
+    let threads = THREADS.number_in(words)?;
+    let fuel = FUEL.number_in(words)?;
+    let passings = PASSINGS.number_in(words)?;
+    Some(RunOptions {
+        threads: threads as u32,
+        fuel,
+        passings: passings as u32,
+    })
 }

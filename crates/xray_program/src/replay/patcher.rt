@@ -10,7 +10,8 @@ use std::alloc::Global;
 use xray_image::Image;
 use xray_io::NoMemory;
 
-/// The words of an image and of one thread, with the micro steps of the script, of which the first are made.
+/// The words of an image and of one thread, with the micro steps of the script, of which the first
+/// are made.
 #[derive(Drop)]
 pub struct Patcher {
     /// The words by their numbers.

@@ -1,4 +1,5 @@
-//! The micro steps of the one script that is run: every sled is patched before the start, and unpatched behind it.
+//! The micro steps of the one script that is run: every sled is patched before the start, and
+//! unpatched behind it.
 ghost use Rattle.std.specs.Prelude.{◌≡◌, ◌<◌, ◌^◌, ◌++◌, length, map, slice_get, Some, true, IfOk, OnOk};
 ghost use Rattle.std.specs.List.{flat_map};
 ghost use Rattle.xray_image.specs.declared.sled.Sled.{Sled};
@@ -14,8 +15,9 @@ use std::alloc::Global;
 use xray_image::{Image, SledKind};
 use xray_io::NoMemory;
 
-/// What unpatching leaves of a patched exit sled's head: C3, which is `ret`, in the low byte, and what stood there in the
-/// high byte. `patchFunctionExit` of LLVM's `xray_x86_64.cpp` stores the one byte.
+/// What unpatching leaves of a patched exit sled's head: C3, which is `ret`, in the low byte, and
+/// what stood there in the high byte. `patchFunctionExit` of LLVM's `xray_x86_64.cpp` stores the
+/// one byte.
 const RETURN_WHERE_PATCHED: u64 = 0xBAC3;
 
 /// The micro steps of a script.
@@ -64,7 +66,8 @@ fn push_unpatch(steps: &mut Vec<Micro>, image: &Image) -> Result<(), NoMemory>
     Ok(())
 }
 
-/// The stores that patch a sled: its head comes last, since a thread that has read it reads the other parts.
+/// The stores that patch a sled: its head comes last, since a thread that has read it reads the
+/// other parts.
 fn patch_steps(image: &Image, k: u32) -> [Micro; 4]
     requires exists { k < length image.now.sleds }
     requires fits { length image.now.sleds < 2 ^ 30 }
@@ -92,7 +95,8 @@ fn patch_step(image: &Image, k: u32, part: Part) -> Micro
     }
 }
 
-/// The one store that unpatches a patched sled: its id, opcode and offset stay, for the threads that have read its head.
+/// The one store that unpatches a patched sled: its id, opcode and offset stay, for the threads
+/// that have read its head.
 fn unpatch_step(image: &Image, k: u32) -> Micro
     requires exists { k < length image.now.sleds }
     requires fits { length image.now.sleds < 2 ^ 30 }

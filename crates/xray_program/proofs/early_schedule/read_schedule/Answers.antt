@@ -18,4 +18,4 @@ pub returns-clause-found : goal.returns-clause-found
 returns-clause-found c =
     let left : c.loop-line.line-iterator ≡ [] = search rules in
     let few : length (lines c.args.text.now) ≤ 1048576 = omega (arith, c.count_lines.ensures.count) in
-    keeps_all c.args.text.now c.loop-line.schedule.items c.requires few (rw left at c.loop-line.invariant)
+    keeps_all c.args.text.now c.loop-line.schedule.items few (rw left at c.loop-line.invariant)

@@ -9,6 +9,11 @@ returns-in-Unread g c =
     let says = rw c.as_bytes.ensures.value at c.say-in-Unread.ensures in
     rw c.in-Unread.is (simp append_assoc says)
 
+pub returns-in-TooLong : goal.returns-in-TooLong
+returns-in-TooLong g c =
+    let says = rw c.as_bytes-in-TooLong.ensures.value at c.say-in-TooLong.ensures in
+    rw c.in-TooLong.is (simp append_assoc says)
+
 pub returns-in-Unwritten : goal.returns-in-Unwritten
 returns-in-Unwritten g c = rw c.in-Unwritten.is c.say-in-Unwritten.ensures
 

@@ -1,0 +1,253 @@
+//! `plain` and `extract`, their options, and the refusals of their image.
+use crate::runs::{IMAGE, SCHEDULE, SCRIPT, STATE, desk_of, image_desk, run_words};
+use std::process::Abort;
+use std::sync::Wait;
+use std::test::Fail;
+use std::thread::Threads;
+
+/// The sled map of the image.
+const SLED_MAP: &str = "---\n\
+    - { id: 1, address: 0x0000000000001000, function: 0x0000000000001000, kind: function-enter, \
+    always-instrument: true, function-name: 'main' }\n\
+    - { id: 1, address: 0x0000000000001012, function: 0x0000000000001000, kind: function-exit, \
+    always-instrument: true, function-name: 'main' }\n\
+    ...\n";
+
+/// What thread 2 leaves, which finds another number in rdi.
+const SECOND: &str = "thread 2 returned instructions 3 passings 2\n\
+    rax=41 rcx=0 rdx=0 rbx=0 rbp=0 rsi=0 rdi=2 r8=0 r9=0 r11=0 r12=0 r13=0 r14=0 r15=0 zf=0\n\
+    output 41\n";
+
+/// The registers of thread 1 behind `mov eax, 0x41`.
+const REGISTERS: &str = "rax=41 rcx=0 rdx=0 rbx=0 rbp=0 rsi=0 rdi=1 r8=0 r9=0 r11=0 r12=0 r13=0 \
+    r14=0 r15=0 zf=0\n";
+
+/// A file whose code is `41 BA 01 00 00 00 C3`, a `mov` to register 10, in one function without
+/// sleds.
+const REGISTER_10: [u8; 84] = [
+    b'X', b'R', b'I', b'M', 1, 0, 0, 0, 0x00, 0x10, 0, 0, 0, 0, 0, 0, //
+    7, 0, 0, 0, 1, 0, 0, 0, 0, 0, 0, 0, 0, 0, 0, 0, //
+    0x00, 0x10, 0x20, 0, 0, 0, 0, 0, 0x10, 0x10, 0x20, 0, 0, 0, 0, 0, //
+    0x20, 0x10, 0x20, 0, 0, 0, 0, 0, 0x30, 0x10, 0x20, 0, 0, 0, 0, 0, //
+    0x41, 0xBA, 0x01, 0x00, 0x00, 0x00, 0xC3, //
+    0x00, 0x10, 0, 0, 0, 0, 0, 0, 4, b'm', b'a', b'i', b'n', //
+];
+
+/// Where the code stands in a file.
+const CODE: usize = 64;
+
+/// A file of two functions, of which the first calls the second; the call goes one byte too far.
+const CALLS_PAST_A_START: [u8; 266] = [
+    b'X', b'R', b'I', b'M', 1, 0, 0, 0, 0x00, 0x10, 0, 0, 0, 0, 0, 0, //
+    51, 0, 0, 0, 2, 0, 0, 0, 4, 0, 0, 0, 0, 0, 0, 0, //
+    0x00, 0x10, 0x20, 0, 0, 0, 0, 0, 0x10, 0x10, 0x20, 0, 0, 0, 0, 0, //
+    0x20, 0x10, 0x20, 0, 0, 0, 0, 0, 0x30, 0x10, 0x20, 0, 0, 0, 0, 0, //
+    // main: the entry sled, the call, the exit sled, and an alignment byte.
+    0xEB, 0x09, 0x66, 0x0F, 0x1F, 0x84, 0x00, 0x00, 0x02, 0x00, 0x00, //
+    0xE8, 0x0D, 0x00, 0x00, 0x00, //
+    0xC3, 0x2E, 0x66, 0x0F, 0x1F, 0x84, 0x00, 0x00, 0x02, 0x00, 0x00, 0x90, //
+    // f: the entry sled, an alignment byte, and the exit sled.
+    0xEB, 0x09, 0x66, 0x0F, 0x1F, 0x84, 0x00, 0x00, 0x02, 0x00, 0x00, 0x90, //
+    0xC3, 0x2E, 0x66, 0x0F, 0x1F, 0x84, 0x00, 0x00, 0x02, 0x00, 0x00, //
+    // The functions.
+    0x00, 0x10, 0, 0, 0, 0, 0, 0, 4, b'm', b'a', b'i', b'n', //
+    0x1C, 0x10, 0, 0, 0, 0, 0, 0, 1, b'f', //
+    // The map.
+    0x00, 0x10, 0, 0, 0, 0, 0, 0, 0x00, 0x10, 0, 0, 0, 0, 0, 0, //
+    0, 1, 0, 0, 0, 0, 0, 0, 0, 0, 0, 0, 0, 0, 0, 0, //
+    0x10, 0x10, 0, 0, 0, 0, 0, 0, 0x00, 0x10, 0, 0, 0, 0, 0, 0, //
+    1, 1, 0, 0, 0, 0, 0, 0, 0, 0, 0, 0, 0, 0, 0, 0, //
+    0x1C, 0x10, 0, 0, 0, 0, 0, 0, 0x1C, 0x10, 0, 0, 0, 0, 0, 0, //
+    0, 1, 0, 0, 0, 0, 0, 0, 0, 0, 0, 0, 0, 0, 0, 0, //
+    0x28, 0x10, 0, 0, 0, 0, 0, 0, 0x1C, 0x10, 0, 0, 0, 0, 0, 0, //
+    1, 1, 0, 0, 0, 0, 0, 0, 0, 0, 0, 0, 0, 0, 0, 0, //
+];
+
+/// Runs words over a desk that holds an image, and checks that they are done with this text.
+fn assert_prints<R: Abort + Threads + Wait + Sync + AllocGlobal>(
+    rt: &R,
+    words: &[&str],
+    text: &str,
+) -> Result<(), Fail> {
+    let mut desk = image_desk(rt.alloc(), &IMAGE)?;
+    let run = run_words(rt, words, &mut desk, &[], &[])?;
+    assert_eq!(rt; run.status, 0, "{text}");
+    assert_eq!(rt; run.out.as_str(), text);
+    assert_eq!(rt; run.err.as_str(), "");
+    Ok(())
+}
+
+#[test]
+fn a_plain_run_ends_where_it_returns_or_at_a_limit(rt: HostRuntime) -> Result<(), Fail> {
+    let alloc = rt.alloc();
+    assert_prints(&rt, &["plain", "i"], STATE)?;
+    let fuel = format!(in alloc; "thread 1 fuel instructions 1 passings 1\n{REGISTERS}output -\n")?;
+    assert_prints(&rt, &["plain", "i", "--fuel", "1"], &fuel)?;
+    let passings = format!(in alloc;
+        "thread 1 passings instructions 2 passings 1\n{REGISTERS}output 41\n"
+    )?;
+    assert_prints(&rt, &["plain", "i", "--passings=1"], &passings)
+}
+
+#[test]
+fn threads_are_printed_in_the_order_of_their_numbers(rt: HostRuntime) -> Result<(), Fail> {
+    let both = format!(in rt.alloc(); "{STATE}{SECOND}")?;
+    assert_prints(&rt, &["plain", "--threads", "2", "i"], &both)
+}
+
+#[test]
+fn the_sled_map_is_printed_in_the_order_of_the_file(rt: HostRuntime) -> Result<(), Fail> {
+    assert_prints(&rt, &["extract", "i"], SLED_MAP)
+}
+
+#[test]
+fn options_stand_anywhere_before_two_dashes(rt: HostRuntime) -> Result<(), Fail> {
+    assert_prints(
+        &rt,
+        &["plain", "--fuel=+0010", "i", "--threads", "1"],
+        STATE,
+    )?;
+    assert_prints(&rt, &["plain", "--fuel=1000000000", "--", "i"], STATE)?;
+    assert_prints(&rt, &["extract", "--", "i"], SLED_MAP)
+}
+
+/// Checks that words are a bad command line.
+fn assert_bad_line<R: Abort + Threads + Wait + Sync + AllocGlobal>(
+    rt: &R,
+    words: &[&str],
+) -> Result<(), Fail> {
+    let mut desk = image_desk(rt.alloc(), &IMAGE)?;
+    let run = run_words(rt, words, &mut desk, &[], &[])?;
+    assert_eq!(rt; run.status, 1);
+    assert_eq!(rt; run.out.as_str(), "");
+    assert_eq!(rt; run.err.as_str(), "xray: bad command line\n");
+    Ok(())
+}
+
+#[test]
+fn options_out_of_range_twice_or_unknown_are_a_bad_line(rt: HostRuntime) -> Result<(), Fail> {
+    assert_bad_line(&rt, &[])?;
+    assert_bad_line(&rt, &["plain", "i", "--threads", "17"])?;
+    assert_bad_line(&rt, &["plain", "i", "--threads", "0"])?;
+    assert_bad_line(&rt, &["plain", "i", "--threads", "1", "--threads", "1"])?;
+    assert_bad_line(&rt, &["plain", "i", "--threads", "1", "--threads=1"])?;
+    assert_bad_line(&rt, &["plain", "i", "--thread", "1"])?;
+    assert_bad_line(&rt, &["plain", "i", "--fuel", "1000000001"])?;
+    assert_bad_line(&rt, &["plain", "i", "--fuel", "18446744073709551617"])?;
+    assert_bad_line(&rt, &["plain", "i", "--fuel", "-1"])
+}
+
+#[test]
+fn words_that_lack_a_value_or_a_name_are_a_bad_line(rt: HostRuntime) -> Result<(), Fail> {
+    assert_bad_line(&rt, &["plain", "i", "--fuel"])?;
+    assert_bad_line(&rt, &["plain", "i", "--fuel="])?;
+    assert_bad_line(&rt, &["plain", "i", "--fuel", "+"])?;
+    assert_bad_line(&rt, &["plain", "i", "--fuel", "--", "1"])?;
+    assert_bad_line(&rt, &["plain", "--", "i", "--fuel", "1"])?;
+    assert_bad_line(&rt, &["plain", "i", "--help"])?;
+    assert_bad_line(&rt, &["plain"])?;
+    assert_bad_line(&rt, &["extract", "i", "--threads", "1"])?;
+    assert_bad_line(&rt, &["sim", "i", "s", "c", "--fuel", "1"])
+}
+
+#[test]
+fn two_dashes_and_a_schedule_replay(rt: HostRuntime) -> Result<(), Fail> {
+    let mut desk = desk_of(rt.alloc(), &[], &IMAGE, SCRIPT, SCHEDULE)?;
+    let words = ["sim", "i", "--", "s", "c"];
+    assert_eq!(rt; run_words(&rt, &words, &mut desk, &[], &[])?.status, 0);
+    Ok(())
+}
+
+/// Checks that a command over an image ends with a status and a line on err, and prints nothing.
+fn assert_stops<R: Abort + Threads + Wait + Sync + AllocGlobal>(
+    rt: &R,
+    words: &[&str],
+    image: &[u8],
+    status: u8,
+    line: &str,
+) -> Result<(), Fail> {
+    let mut desk = image_desk(rt.alloc(), image)?;
+    let run = run_words(rt, words, &mut desk, &[], &[])?;
+    assert_eq!(rt; run.status, status, "{line}");
+    assert_eq!(rt; run.out.as_str(), "", "{line}");
+    assert_eq!(rt; run.err.as_str(), line);
+    Ok(())
+}
+
+#[test]
+fn an_image_is_refused_with_the_values_of_its_fault(rt: HostRuntime) -> Result<(), Fail> {
+    let mut far = IMAGE;
+    // The trampoline of entry sleds, 0x200000000.
+    far[33] = 0;
+    far[34] = 0;
+    far[36] = 2;
+    for (image, line) in [
+        (&REGISTER_10[..], "xray: i: image Code 0 Register 10\n"),
+        (&CALLS_PAST_A_START[..], "xray: i: image Target 11\n"),
+        (&far[..], "xray: i: image Far 0\n"),
+        (&IMAGE[..63], "xray: i: image Short\n"),
+    ] {
+        assert_stops(&rt, &["plain", "i"], image, 2, line)?;
+        assert_stops(&rt, &["extract", "i"], image, 2, line)?;
+        assert_stops(&rt, &["sim", "i", "s", "c"], image, 2, line)?;
+    }
+    Ok(())
+}
+
+/// A call and two returns are counted as instructions, and the four sleds as passings.
+#[test]
+fn an_image_with_a_call_is_run_and_not_yet_replayed(rt: HostRuntime) -> Result<(), Fail> {
+    let mut image = CALLS_PAST_A_START;
+    image[CODE + 12] = 0x0C;
+    let words = ["sim", "i", "s", "c"];
+    assert_stops(&rt, &words, &image, 2, "xray: i: image NotYet\n")?;
+    let mut desk = image_desk(rt.alloc(), &image)?;
+    let run = run_words(&rt, &["plain", "i"], &mut desk, &[], &[])?;
+    assert_eq!(rt; run.status, 0);
+    assert_eq!(rt;
+        run.out.as_str().lines().next().ok_or("no line")?,
+        "thread 1 returned instructions 3 passings 4"
+    );
+    Ok(())
+}
+
+#[test]
+fn an_image_that_is_not_held_is_a_read_fault(rt: HostRuntime) -> Result<(), Fail> {
+    assert_stops(&rt, &["plain", "q"], &IMAGE, 3, "xray: q: read fault\n")?;
+    assert_stops(&rt, &["extract", "q"], &IMAGE, 3, "xray: q: read fault\n")
+}
+
+#[test]
+fn an_input_above_its_limit_is_too_long(rt: HostRuntime) -> Result<(), Fail> {
+    let image = vec![in rt.alloc(); 0u8; 4_194_305]?;
+    for words in [
+        &["plain", "i"][..],
+        &["extract", "i"],
+        &["sim", "i", "s", "c"],
+    ] {
+        assert_stops(&rt, words, &image, 6, "xray: i: too long\n")?;
+    }
+    let script = vec![in rt.alloc(); b'\n'; 1_048_577]?;
+    let mut desk = desk_of(
+        rt.alloc(),
+        &[],
+        &IMAGE,
+        std::str::from_utf8(&script)?,
+        SCHEDULE,
+    )?;
+    let run = run_words(&rt, &["sim", "i", "s", "c"], &mut desk, &[], &[])?;
+    assert_eq!(rt; run.status, 6);
+    assert_eq!(rt; run.err.as_str(), "xray: s: too long\n");
+    Ok(())
+}
+
+#[test]
+fn a_write_that_fails_between_threads_is_a_write_fault(rt: HostRuntime) -> Result<(), Fail> {
+    let mut desk = image_desk(rt.alloc(), &IMAGE)?;
+    let words = ["plain", "i", "--threads=3"];
+    let run = run_words(&rt, &words, &mut desk, &[1], &[])?;
+    assert_eq!(rt; run.status, 4);
+    assert_eq!(rt; run.out.as_str(), STATE);
+    assert_eq!(rt; run.err.as_str(), "xray: output: write fault\n");
+    Ok(())
+}

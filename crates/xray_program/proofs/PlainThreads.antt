@@ -1,0 +1,83 @@
+-- Plain runs of threads, and their texts.
+use Rattle.std.proofs.Common.{◌≡◌, ◌≢◌, ◌⊎◌, ◌<◌, ◌≤◌, ◌+◌, ◌++◌, ◌∙◌, ℕ, suc, List, [], ◌∷◌, length, map, take, drop, get_or, Option, option_map, Some, None, zero, inl, inr, refl, sym, ap, subst, arith, add-one, length-append}
+use Rattle.std.specs.List.{All, flat_map, slice_get}
+use Rattle.std.proofs.lemmas.List.{length-map, length_push}
+use Rattle.std.proofs.lemmas.List.Elements.{All-nil, All-push}
+use Rattle.std.proofs.lemmas.Option.{slice_get-map, slice_get_within}
+use Rattle.xray_image.specs.Program.{Program}
+use Rattle.machine_step.specs.declared.end.End.{End}
+use Rattle.machine_step.specs.declared.plain_end.PlainEnd.{PlainEnd}
+use Rattle.machine_step.specs.PlainEnd.{IsPlainEnd, state_of}
+use Rattle.machine_step.specs.PlainStep.{State}
+use Rattle.machine_step.specs.Texts.{plain_text, state_text}
+use Rattle.handler_word.specs.declared.mark.Mark.{Mark}
+use Rattle.xray_program.specs.declared.words.RunOptions.{RunOptions}
+use Rattle.xray_program.specs.Jobs.{AreEnds, HasRegisters, end_text}
+use Rattle.xray_program.specs.Plain.{IsPlainText, PlainPrints, limits_of}
+
+-- what is printed of an end is what is printed of the last state of its run
+pub same_text : (program : Program) (options : RunOptions) (thread : ℕ) (e : PlainEnd)
+    → IsPlainEnd program (limits_of options) thread e → IsPlainText program (limits_of options) thread (end_text e)
+same_text program options thread e is = record {
+  passed = is.passed;
+  end = e.end;
+  last = is.last;
+  run = is.run;
+  prints = rw (is.thread, is.registers, is.zero_flag, is.output, is.instructions, is.passings) refl;
+}
+
+-- no element stands in an empty list
+none_at : {X : Type 0} (k : ℕ) (x : X) → slice_get [] k ≡ Some x → ⊥
+none_at zero x is = cc
+none_at (suc k) x is = cc
+
+-- the element at a place of a list with one more behind it
+at_push : {X : Type 0} (xs : List X) (y : X) (k : ℕ) (x : X) → slice_get (xs ++ y ∷ []) k ≡ Some x
+    → (slice_get xs k ≡ Some x) ⊎ ((k ≡ length xs) × (x ≡ y))
+at_push [] y zero x is = inr (refl, cc)
+at_push [] y (suc k) x is = absurd (none_at k x is)
+at_push (z ∷ xs) y zero x is = inl is
+at_push (z ∷ xs) y (suc k) x is = elim (at_push xs y k x is) [
+  | inl before ↦ inl before
+  | inr last ↦ inr (ap suc last.0, last.1)
+]
+
+-- no threads
+pub no_ends : (program : Program) (options : RunOptions) → AreEnds program options 0 []
+no_ends program options = record { count = refl; each = λ k e is. absurd (none_at k e is); registers = All-nil HasRegisters }
+
+-- a thread more
+pub one_end_more : (program : Program) (options : RunOptions) (threads : ℕ) (ends : List PlainEnd) (e : PlainEnd)
+    → AreEnds program options threads ends → IsPlainEnd program (limits_of options) (threads + 1) e → HasRegisters e
+    → AreEnds program options (threads + 1) (ends ++ e ∷ [])
+one_end_more program options threads ends e are is has = record {
+  count = length_push ends e ∙ ap (λ n. n + 1) are.count;
+  each = λ k f at. at_place k f (at_push ends e k f at);
+  registers = All-push HasRegisters ends e are.registers has;
+}
+  where
+    at_place : (k : ℕ) (f : PlainEnd) → (slice_get ends k ≡ Some f) ⊎ ((k ≡ length ends) × (f ≡ e))
+        → IsPlainEnd program (limits_of options) (k + 1) f
+    at_place k f (inl before) = are.each k f before
+    at_place k f (inr (last, same)) = rw (same, last, are.count) is
+
+-- the ends of all threads are printed as `plain` prints
+pub prints_all : (program : Program) (options : RunOptions) (ends : List PlainEnd)
+    → AreEnds program options options.threads ends → PlainPrints program options (flat_map end_text ends)
+prints_all program options ends are = record {
+  texts = map end_text ends;
+  count = length-map ends end_text ∙ are.count;
+  each = λ k t at. at_place k t (slice_get ends k) refl (sym (slice_get-map end_text ends k) ∙ at);
+  joined = texts_joined ends;
+}
+  where
+    at_place : (k : ℕ) (t : List ℕ) (found : Option PlainEnd) → slice_get ends k ≡ found → option_map end_text found ≡ Some t
+        → IsPlainText program (limits_of options) (k + 1) t
+    at_place k t None is at = absurd cc
+    at_place k t (Some e) is at =
+        let text : end_text e ≡ t = cc in
+        subst (IsPlainText program (limits_of options) (k + 1)) text (same_text program options (k + 1) e (are.each k e is))
+
+    texts_joined : (ends : List PlainEnd) → flat_map end_text ends ≡ flat_map (λ t. t) (map end_text ends)
+    texts_joined [] = refl
+    texts_joined (e ∷ ends) = ap (λ (texts : List ℕ). end_text e ++ texts) (texts_joined ends)

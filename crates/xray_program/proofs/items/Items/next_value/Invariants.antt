@@ -1,0 +1,10 @@
+use Rattle.std.proofs.Common.{◌≡◌}
+use Rattle.xray_program.specs.Words.{values_of}
+use Rattle.xray_program.proofs.items.Items.next_value.Given as goal
+
+abbrev pub invariant-passed : goal.invariant-passed
+invariant-passed l = record {
+  can_next : (goal.iterator-passed).can_next l.self;
+  ends : (goal.iterator-passed).is_finite l.self;
+  same : values_of l.option l.fn.self ≡ values_of l.option l.self;
+}

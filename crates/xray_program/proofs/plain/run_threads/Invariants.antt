@@ -1,0 +1,5 @@
+use Rattle.xray_program.specs.Jobs.{AreEnds}
+use Rattle.xray_program.proofs.plain.run_threads.Given as goal
+
+abbrev pub invariant-loop-thread : goal.invariant-loop-thread
+invariant-loop-thread l = AreEnds l.image l.options l.thread l.ends.items

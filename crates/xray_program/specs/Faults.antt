@@ -1,0 +1,46 @@
+-- Refusals of image files in a line on err: the name of each and its values, a space between them.
+use Rattle.std.specs.Prelude.{ℕ, List, ◌++◌, codes, decimal}
+use Rattle.xray_io.specs.Piece.{piece_text}
+use Rattle.subset_decode.specs.declared.fault.DecodeFault.{DecodeFault}
+use Rattle.subset_decode.specs.declared.fault.DecodeFault.TheVariants as decoding
+use Rattle.xray_image.specs.declared.fault.ImageFault.{ImageFault}
+use Rattle.xray_image.specs.declared.fault.ImageFault.TheVariants as faults
+use Rattle.xray_image.specs.declared.fault.Which.{Which}
+use Rattle.xray_image.specs.declared.fault.Which.TheVariants as limits
+use Rattle.xray_program.specs.declared.refusal.Words.{Words}
+
+-- which field of the header
+abbrev pub field_text : Which → List ℕ
+field_text limits.Code = codes "Code"
+field_text limits.Functions = codes "Functions"
+field_text limits.Sleds = codes "Sleds"
+field_text limits.Entry = codes "Entry"
+field_text limits.Base = codes "Base"
+
+-- why bytes are no instruction
+abbrev pub decode_text : DecodeFault → List ℕ
+decode_text decoding.Short = codes "Short"
+decode_text (decoding.Unknown byte) = codes "Unknown " ++ decimal byte
+decode_text (decoding.Register number) = codes "Register " ++ decimal number
+
+-- why bytes are no image
+abbrev pub fault_text : ImageFault → List ℕ
+fault_text faults.Short = codes "Short"
+fault_text faults.Magic = codes "Magic"
+fault_text faults.Version = codes "Version"
+fault_text (faults.Limit which) = codes "Limit " ++ field_text which
+fault_text faults.Trailing = codes "Trailing"
+fault_text (faults.Code place fault) =
+    codes "Code " ++ decimal place ++ codes " " ++ decode_text fault
+fault_text (faults.Sled place) = codes "Sled " ++ decimal place
+fault_text (faults.Names number) = codes "Names " ++ decimal number
+fault_text (faults.MapOrder number) = codes "MapOrder " ++ decimal number
+fault_text (faults.Odd number) = codes "Odd " ++ decimal number
+fault_text (faults.Far number) = codes "Far " ++ decimal number
+fault_text (faults.Target place) = codes "Target " ++ decimal place
+fault_text faults.NoMemory = codes "NoMemory"
+
+-- the text of the words of a refusal
+abbrev pub text_of_words : Words → List ℕ
+text_of_words w =
+    piece_text w.first ++ piece_text w.second ++ piece_text w.third ++ piece_text w.fourth
