@@ -22,6 +22,8 @@ example : Program
 example = record {
   base = 4096;
   entry = 4096;
+  code = 0xEB ∷ 0x09 ∷ 0x66 ∷ 0x0F ∷ 0x1F ∷ 0x84 ∷ 0 ∷ 0 ∷ 2 ∷ 0 ∷ 0 ∷ 0xB8 ∷ 65 ∷ 0 ∷ 0 ∷ 0 ∷ 0xE6 ∷ 1
+      ∷ 0xC3 ∷ 0x2E ∷ 0x66 ∷ 0x0F ∷ 0x1F ∷ 0x84 ∷ 0 ∷ 0 ∷ 2 ∷ 0 ∷ 0 ∷ [];
   functions = record { start = 4096; name = codes "main" } ∷ [];
   units = record { address = 4096; what = Sled 0 } ∷ record { address = 4107; what = Plain (Mov 0 65) }
       ∷ record { address = 4112; what = Plain (Out 1) } ∷ record { address = 4114; what = Sled 1 } ∷ [];

@@ -19,14 +19,14 @@ OneInstruction =
 
 -- bytes that begin as no jump sled and no alignment byte do, nor with the second byte of a return sled, and that
 -- are a return alone where they begin with one
-record Opens (bytes : List ℕ) : Type 0 where
-  first : ℕ
-  rest : List ℕ
-  begins : bytes ≡ first ∷ rest
-  no_jump : first ≢ 0xEB
-  no_second : first ≢ 0x2E
-  no_align : first ≢ 0x90
-  return_alone : first ≡ 0xC3 → rest ≡ []
+pub record Opens (bytes : List ℕ) : Type 0 where
+  pub first : ℕ
+  pub rest : List ℕ
+  pub begins : bytes ≡ first ∷ rest
+  pub no_jump : first ≢ 0xEB
+  pub no_second : first ≢ 0x2E
+  pub no_align : first ≢ 0x90
+  pub return_alone : first ≡ 0xC3 → rest ≡ []
 
 opens_with : (first : ℕ) (rest : List ℕ) → first ≢ 0xEB → first ≢ 0x2E → first ≢ 0x90 → first ≢ 0xC3 → Opens (first ∷ rest)
 opens_with first rest no_jump no_second no_align no_return =
@@ -40,7 +40,7 @@ opens_low false opcode rest o = opens_with 0x41 (opcode ∷ rest) (λ e. omega a
 opens_two : (opcode dst src : ℕ) → dst < 16 → src < 16 → Opens (two_registers opcode dst src)
 opens_two opcode dst src d s = opens_with (0x48 + 4 * (src / 8) + dst / 8) _ (λ e. omega arith) (λ e. omega arith) (λ e. omega arith) (λ e. omega arith)
 
-opens : (i : Instr) → IsNamed i → Opens (spelling i)
+pub opens : (i : Instr) → IsNamed i → Opens (spelling i)
 opens (Mov dst imm) h = opens_low (ltb dst 8) (0xB8 + dst % 8) (to_le_bytes w32 imm) (opens_with (0xB8 + dst % 8) (to_le_bytes w32 imm) (λ e. omega arith) (λ e. omega arith) (λ e. omega arith) (λ e. omega arith))
 opens (Add dst src) h = opens_two 0x01 dst src h.0.0 h.1.0
 opens (Sub dst src) h = opens_two 0x29 dst src h.0.0 h.1.0
@@ -62,7 +62,7 @@ tail_same : (x y : ℕ) (xs ys : List ℕ) → x ∷ xs ≡ y ∷ ys → xs ≡ 
 tail_same x y xs ys e = cc
 
 -- an instruction doesn't begin with another byte than its first
-other_byte : (i : Instr) (b : ℕ) (s t : List ℕ) (o : Opens (spelling i)) → o.first ≢ b → spelling i ++ s ≡ b ∷ t → ⊥
+pub other_byte : (i : Instr) (b : ℕ) (s t : List ℕ) (o : Opens (spelling i)) → o.first ≢ b → spelling i ++ s ≡ b ∷ t → ⊥
 other_byte i b s t o differs e =
     let front : spelling i ++ s ≡ o.first ∷ (o.rest ++ s) = ap (λ (x : List ℕ). x ++ s) o.begins in
     differs (head_same o.first b (o.rest ++ s) t (sym front ∙ e))
@@ -85,7 +85,7 @@ no_second (ReturnSled shift ∷ ps) rest fits e = apart 0xC3 0x2E _ _ (λ h. ome
 no_second (Align ∷ ps) rest fits e = apart 0x90 0x2E _ _ (λ h. omega arith) e
 
 -- so an instruction before pieces begins no return sled
-return_alone : (i : Instr) (ps : List Piece) (rest : List ℕ) → IsNamed i → AllByRecursion IsPiece ps → spelling i ++ flat_map piece_bytes ps ≡ 0xC3 ∷ 0x2E ∷ rest → ⊥
+pub return_alone : (i : Instr) (ps : List Piece) (rest : List ℕ) → IsNamed i → AllByRecursion IsPiece ps → spelling i ++ flat_map piece_bytes ps ≡ 0xC3 ∷ 0x2E ∷ rest → ⊥
 return_alone i ps rest named fits e =
     let o = opens i named in
     let bytes = flat_map piece_bytes ps in
@@ -111,7 +111,7 @@ same_nop : (a b : ℕ) (s t : List ℕ) → a < 2 ^ 32 → b < 2 ^ 32 → nop_by
 same_nop a b s t la lb e = same_shift a b s t la lb cc
 
 -- no piece begins another
-same_piece : OneInstruction → (p q : Piece) (s t : List ℕ) → IsPiece p → IsPiece q → IsNoReturnSled p s → IsNoReturnSled q t → piece_bytes p ++ s ≡ piece_bytes q ++ t → p ≡ q
+pub same_piece : OneInstruction → (p q : Piece) (s t : List ℕ) → IsPiece p → IsPiece q → IsNoReturnSled p s → IsNoReturnSled q t → piece_bytes p ++ s ≡ piece_bytes q ++ t → p ≡ q
 same_piece one (Instruction i) (Instruction j) s t p q _ _ e = ap Instruction (one i j (spelling i ++ s) p q (s, refl) (t, e))
 same_piece one (Instruction i) (JumpSled b) s t p q _ _ e = absurd (other_byte i 0xEB s _ (opens i p) (opens i p).no_jump e)
 same_piece one (Instruction i) (ReturnSled b) s t p q alone _ e = absurd (alone _ e)

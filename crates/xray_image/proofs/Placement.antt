@@ -3,7 +3,7 @@ use Rattle.std.proofs.Common.{◌≡◌, ℕ, zero, suc, ◌+◌, ◌≤◌, fal
 use Rattle.std.specs.Prelude.{slice_get, IfSome}
 use Rattle.std.specs.List.{flat_map}
 use Rattle.std.specs.List.Sorted.{IsStrictlyIncreasing}
-use Rattle.std.proofs.lemmas.List.{length-append}
+use Rattle.std.proofs.lemmas.List.{append-nil, length-append}
 use Rattle.std.proofs.lemmas.List.Elements.{All-nil, All-cons}
 use Rattle.std.proofs.lemmas.Option.{none-some, same_Some}
 use Rattle.subset_decode.specs.Encoding.{spelling}
@@ -15,7 +15,9 @@ use Rattle.xray_image.specs.Program.{addresses}
 use Rattle.xray_image.specs.Index.{AreWithin}
 use Rattle.xray_image.specs.Reading.{HasUnits}
 use Rattle.xray_image.specs.Layout.{width_of, AreContiguous}
+use Rattle.xray_image.specs.Table.{StandUpTo}
 use Rattle.xray_image.proofs.Pieces.{piece_has_byte}
+use Rattle.xray_image.proofs.SoFar.{stand_shown}
 
 -- ---- widths
 
@@ -120,13 +122,16 @@ place_named base ps i k u e w =
 
 -- ---- the units of a code
 
+whole_code : (base : ℕ) (code : List ℕ) (pieces : List Piece) → StandUpTo base code pieces (base + length code) [] → code ≡ flat_map piece_bytes pieces
+whole_code base code pieces s = stand_shown base code pieces (base + length code) [] s ∙ append-nil (flat_map piece_bytes pieces)
+
 pub has_within : (base : ℕ) (code : List ℕ) (units : List Unit) (places : List SledPlace) → HasUnits base code units places → AreWithin base (length code) (addresses units)
 has_within base code units places u =
     subst (λ (us : List Unit). AreWithin base (length code) (addresses us)) (sym u.units_are)
-    (subst (λ (bytes : List ℕ). AreWithin base (length bytes) (addresses (units_from base 0 u.pieces))) (sym u.are.whole) (units_within base 0 u.pieces))
+    (subst (λ (bytes : List ℕ). AreWithin base (length bytes) (addresses (units_from base 0 u.pieces))) (sym (whole_code base code u.pieces u.stand)) (units_within base 0 u.pieces))
 
 pub has_ascending : (base : ℕ) (code : List ℕ) (units : List Unit) (places : List SledPlace) → HasUnits base code units places → IsStrictlyIncreasing (addresses units)
 has_ascending base code units places u = subst (λ (us : List Unit). IsStrictlyIncreasing (addresses us)) (sym u.units_are) (units_ascend base 0 u.pieces)
 
 pub has_few : (base : ℕ) (code : List ℕ) (units : List Unit) (places : List SledPlace) → HasUnits base code units places → length units ≤ length code
-has_few base code units places u = omega (arith, ap length u.units_are, ap length u.are.whole, units_few base 0 u.pieces)
+has_few base code units places u = omega (arith, ap length u.units_are, ap length (whole_code base code u.pieces u.stand), units_few base 0 u.pieces)

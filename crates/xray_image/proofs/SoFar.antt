@@ -1,13 +1,16 @@
 -- The units that are read up to a place of the code.
-use Rattle.std.proofs.Common.{◌≡◌, ℕ, ◌+◌, ◌<◌, ◌≤◌, true, false, List, [], ◌∷◌, ◌++◌, length, drop, All, refl, sym, ap, subst, ◌∙◌, append_assoc, arith}
-use Rattle.std.specs.List.{flat_map, AllByRecursion}
-use Rattle.std.proofs.lemmas.List.{append-nil, append_cancel_left, length-append, length-drop, drop-drop, drop_at, take_at}
-use Rattle.std.proofs.lemmas.List.Concat.{flat_map-append}
-use Rattle.std.proofs.lemmas.List.Elements.{All-append, All-drop, All-take}
-use Rattle.subset_decode.specs.Encoding.{spelling, Begins}
+use Rattle.std.proofs.Common.{◌≡◌, ◌≢◌, ℕ, ◌+◌, ◌-◌, ◌<◌, ◌≤◌, inl, inr, true, false, List, [], ◌∷◌, ◌++◌, length, drop, refl, sym, ap, subst, ◌∙◌, append_assoc, arith}
+use Rattle.std.specs.List.{flat_map}
+use Rattle.std.proofs.lemmas.List.{length-append, length-drop, drop-drop}
+use Rattle.subset_decode.specs.Encoding.{spelling}
+use Rattle.xray_image.specs.declared.fault.ImageFault.{ImageFault}
 use Rattle.xray_image.specs.declared.unit.Unit.{Unit}
-use Rattle.xray_image.specs.Units.{Piece, Instruction, JumpSled, ReturnSled, Align, piece_bytes, IsPiece, IsUnits, SledPlace, what_of, sleds_in, units_from, places_from}
-use Rattle.xray_image.specs.Reading.{IsEven, IsReadTo}
+use Rattle.xray_image.specs.declared.unit_reader.NoUnit.{NoUnit}
+use Rattle.xray_image.specs.declared.unit_reader.NoUnit.TheVariants.{Sled, Code}
+use Rattle.xray_image.specs.Units.{Piece, Instruction, JumpSled, ReturnSled, Align, piece_bytes, SledPlace, what_of, sleds_in, units_from, places_from}
+use Rattle.xray_image.specs.Reading.{IsReadTo}
+use Rattle.xray_image.specs.Table.{StandsAt, StandUpTo, UnitFault, StopsAt}
+use Rattle.xray_image.specs.Views.{IsNoUnit, fault_at}
 
 -- ---- what follows pieces begins where they end
 
@@ -37,48 +40,52 @@ units_from-append address sleds (p ∷ xs) ys =
     ∙ ap (λ (a : ℕ). units_from next (sleds + sleds_in p) xs ++ units_from a ((sleds + sleds_in p) + length (places_from next xs)) ys) place
     ∙ ap (λ (n : ℕ). units_from next (sleds + sleds_in p) xs ++ units_from (address + length (piece_bytes p ++ flat_map piece_bytes xs)) n ys) number)
 
-AllByRecursion-push : (front : List Piece) (p : Piece) → AllByRecursion IsPiece front → IsPiece p → AllByRecursion IsPiece (front ++ p ∷ [])
-AllByRecursion-push [] p fits fit = (fit, tt)
-AllByRecursion-push (q ∷ qs) p fits fit = (fits.0, AllByRecursion-push qs p fits.1 fit)
+-- ---- units that stand
+
+-- one more unit stands behind those that stand
+stand_push : (address : ℕ) (bytes : List ℕ) (front : List Piece) (end : ℕ) (left : List ℕ) (piece : Piece) (behind : List ℕ)
+    → StandUpTo address bytes front end left → StandsAt end left piece behind → StandUpTo address bytes (front ++ piece ∷ []) (end + length (piece_bytes piece)) behind
+stand_push address bytes [] end left piece behind s at =
+    let here : StandsAt address bytes piece behind = subst (λ (a : ℕ). StandsAt a bytes piece behind) s.0 (subst (λ (l : List ℕ). StandsAt end l piece behind) s.1 at) in
+    (behind, here, (ap (λ (a : ℕ). a + length (piece_bytes piece)) s.0, refl))
+stand_push address bytes (p ∷ ps) end left piece behind s at =
+    (s.0, s.1, stand_push (address + length (piece_bytes p)) s.0 ps end left piece behind s.2 at)
+
+-- they end where their bytes do
+stand_end : (address : ℕ) (bytes : List ℕ) (front : List Piece) (end : ℕ) (left : List ℕ) → StandUpTo address bytes front end left → end ≡ address + length (flat_map piece_bytes front)
+stand_end address bytes [] end left s = omega (arith, s.0)
+stand_end address bytes (p ∷ ps) end left s =
+    omega (arith, stand_end (address + length (piece_bytes p)) s.0 ps end left s.2, length-append (piece_bytes p) (flat_map piece_bytes ps))
+
+-- the bytes are theirs, with what is left
+pub stand_shown : (address : ℕ) (bytes : List ℕ) (front : List Piece) (end : ℕ) (left : List ℕ) → StandUpTo address bytes front end left → bytes ≡ flat_map piece_bytes front ++ left
+stand_shown address bytes [] end left s = sym s.1
+stand_shown address bytes (p ∷ ps) end left s =
+    s.1.spelled ∙ ap (λ (x : List ℕ). piece_bytes p ++ x) (stand_shown (address + length (piece_bytes p)) s.0 ps end left s.2) ∙ sym (append_assoc (piece_bytes p) (flat_map piece_bytes ps) left)
 
 -- ---- the loop
 
--- where bytes are left, a piece is left
-pub next_piece : (base : ℕ) (code : List ℕ) (at : ℕ) (units : List Unit) (places : List SledPlace) (so_far : IsReadTo base code at units places) → at < length code → (all : List Piece) → IsUnits code all
-    → (first : Piece) × (others : List Piece) × (all ≡ so_far.front ++ first ∷ others) × IsUnits (drop at code) (first ∷ others)
-next_piece base code at units places so_far left all u =
-    let o = so_far.only all u in
-    elim o.0 as (λ (x : List Piece). all ≡ so_far.front ++ x → IsUnits (drop at code) x → (first : Piece) × (others : List Piece) × (all ≡ so_far.front ++ first ∷ others) × IsUnits (drop at code) (first ∷ others)) [
-      | [] ↦ λ e v. absurd (let h = ap length v.whole in omega (arith, length-drop at code))
-      | first ∷ others ↦ λ e v. (first, others, e, v)
-    ] o.1 o.2
+fits_behind : (code : List ℕ) (at n : ℕ) (front : List ℕ) → at < length code → n ≡ length front → drop at code ≡ front ++ drop (at + n) code → at + n ≤ length code
+fits_behind code at n front left wide e =
+    let h = ap length e in
+    omega (arith, length-append front (drop (at + n) code), length-drop at code, length-drop (at + n) code)
 
-pub fits_behind : (code front : List ℕ) (at : ℕ) → Begins front (drop at code) → at ≤ length code → at + length front ≤ length code
-fits_behind code front at b within = let h = ap length b.1 in omega (arith, length-append front b.0, length-drop at code)
-
-pub one_more : (base : ℕ) (code : List ℕ) (at : ℕ) (units units' : List Unit) (places places' : List SledPlace) (piece : Piece) (n : ℕ)
-    → IsReadTo base code at units places → at < length code → IsPiece piece → Begins (piece_bytes piece) (drop at code) → n ≡ length (piece_bytes piece)
-    → ((first : Piece) (others : List Piece) → IsUnits (drop at code) (first ∷ others) → piece ≡ first)
+one_more : (base : ℕ) (code : List ℕ) (at : ℕ) (units units' : List Unit) (places places' : List SledPlace) (piece : Piece) (n : ℕ)
+    → IsReadTo base code at units places → at < length code → StandsAt (base + at) (drop at code) piece (drop (at + n) code) → n ≡ length (piece_bytes piece)
     → units' ≡ units ++ units_from (base + at) (length places) (piece ∷ [])
     → places' ≡ places ++ places_from (base + at) (piece ∷ [])
-    → All IsEven (places_from (base + at) (piece ∷ []))
     → IsReadTo base code (at + n) units' places'
-one_more base code at units units' places places' piece n so_far left fit begins wide is units_more places_more even =
+one_more base code at units units' places places' piece n so_far left stands wide units_more places_more =
     let front = so_far.front in
-    let bytes = piece_bytes piece in
-    let flat : flat_map piece_bytes (front ++ piece ∷ []) ≡ flat_map piece_bytes front ++ bytes = flat_map-append piece_bytes front (piece ∷ []) ∙ ap (λ (x : List ℕ). flat_map piece_bytes front ++ x) (append-nil bytes) in
-    let behind : drop (at + n) code ≡ begins.0 = sym (drop-drop n at code) ∙ ap (drop n) begins.1 ∙ drop_at bytes begins.0 n (sym wide) in
-    let place : at + n ≡ length (flat_map piece_bytes (front ++ piece ∷ [])) = omega (arith, ap length flat, length-append (flat_map piece_bytes front) bytes, so_far.place) in
-    let there : base + at ≡ base + length (flat_map piece_bytes front) = omega (arith, so_far.place) in
+    let there : base + at ≡ base + length (flat_map piece_bytes front) = stand_end base code front (base + at) (drop at code) so_far.stand in
     let count : length places ≡ 0 + length (places_from base front) = omega (arith, ap length so_far.places_are) in
     let added : length (places_from (base + at) (piece ∷ [])) ≤ n = omega (arith, one_place (base + at) piece) in
+    let next : (base + at) + length (piece_bytes piece) ≡ base + (at + n) = omega arith in
     record {
       front = front ++ piece ∷ [];
-      within = omega (arith, fits_behind code bytes at begins (omega arith));
-      bytes = so_far.bytes ∙ ap (λ (x : List ℕ). flat_map piece_bytes front ++ x) begins.1 ∙ sym (append_assoc (flat_map piece_bytes front) bytes begins.0)
-          ∙ ap (λ (x : List ℕ). x ++ begins.0) (sym flat) ∙ ap (λ (x : List ℕ). flat_map piece_bytes (front ++ piece ∷ []) ++ x) (sym behind);
-      place = place;
-      fits = AllByRecursion-push front piece so_far.fits fit;
+      within = fits_behind code at n (piece_bytes piece) left wide stands.spelled;
+      stand = subst (λ (a : ℕ). StandUpTo base code (front ++ piece ∷ []) a (drop (at + n) code)) next
+          (stand_push base code front (base + at) (drop at code) piece (drop (at + n) code) so_far.stand stands);
       units_are = units_more ∙ ap (λ (us : List Unit). us ++ units_from (base + at) (length places) (piece ∷ [])) so_far.units_are
           ∙ ap (λ (a : ℕ). units_from base 0 front ++ units_from a (length places) (piece ∷ [])) there
           ∙ ap (λ (k : ℕ). units_from base 0 front ++ units_from (base + length (flat_map piece_bytes front)) k (piece ∷ [])) count
@@ -87,12 +94,6 @@ one_more base code at units units' places places' piece n so_far left fit begins
           ∙ ap (λ (a : ℕ). places_from base front ++ places_from a (piece ∷ [])) there
           ∙ sym (places_from-append base front (piece ∷ []));
       few = omega (arith, ap length places_more, length-append places (places_from (base + at) (piece ∷ [])), so_far.few);
-      even = subst (All IsEven) (sym places_more) (All-append IsEven places (places_from (base + at) (piece ∷ [])) so_far.even even);
-      only = λ all u.
-          let next = next_piece base code at units places so_far left all u in
-          let same : piece ≡ next.0 = is next.0 next.1 next.3 in
-          let whole : begins.0 ≡ flat_map piece_bytes next.1 = append_cancel_left bytes begins.0 (flat_map piece_bytes next.1) (sym begins.1 ∙ next.3.whole ∙ ap (λ (q : Piece). piece_bytes q ++ flat_map piece_bytes next.1) (sym same)) in
-          (next.1, next.2 ∙ ap (λ (q : Piece). front ++ q ∷ next.1) (sym same) ∙ sym (append_assoc front (piece ∷ []) next.1), record { whole = behind ∙ whole; pieces_fit = next.3.pieces_fit.1 });
     }
   where
     one_place : (address : ℕ) (p : Piece) → length (places_from address (p ∷ [])) ≤ length (piece_bytes p)
@@ -101,17 +102,39 @@ one_more base code at units units' places places' piece n so_far left fit begins
     one_place address (ReturnSled shift) = omega arith
     one_place address Align = omega arith
 
--- where all sleds of the code are even, that of the next piece is
-pub next_even : (base : ℕ) (code : List ℕ) (at : ℕ) (units : List Unit) (places : List SledPlace) (so_far : IsReadTo base code at units places) (piece : Piece) (all others : List Piece)
-    → all ≡ so_far.front ++ piece ∷ others → All IsEven (places_from base all) → All IsEven (places_from (base + at) (piece ∷ []))
-next_even base code at units places so_far piece all others e even =
-    let front = so_far.front in
-    let before = places_from base front in
-    let here = places_from (base + at) (piece ∷ []) in
-    let there : base + length (flat_map piece_bytes front) ≡ base + at = omega (arith, so_far.place) in
-    let rest = places_from ((base + at) + length (flat_map piece_bytes (piece ∷ []))) others in
-    let split : places_from base all ≡ before ++ (here ++ rest) = ap (places_from base) e ∙ places_from-append base front (piece ∷ others)
-    ∙ ap (λ (a : ℕ). before ++ places_from a (piece ∷ others)) there ∙ ap (λ (x : List SledPlace). before ++ x) (places_from-append (base + at) (piece ∷ []) others) in
-    let whole : All IsEven (before ++ (here ++ rest)) = subst (All IsEven) split even in
-    let behind : All IsEven (here ++ rest) = subst (All IsEven) (drop_at before (here ++ rest) (length before) refl) (All-drop IsEven (length before) (before ++ (here ++ rest)) whole) in
-    subst (All IsEven) (take_at here rest (length here) refl) (All-take IsEven (length here) (here ++ rest) behind)
+-- where none stands, the units stop
+why_none : (place : ℕ) (bytes : List ℕ) (e : NoUnit) → IsNoUnit bytes e → UnitFault place bytes (fault_at place e)
+why_none place bytes Sled h = inl (h, refl)
+why_none place bytes (Code f) h = inr (h.0, (f, h.1, refl))
+
+stops : (base : ℕ) (code : List ℕ) (at : ℕ) (units : List Unit) (places : List SledPlace) (e : NoUnit) → IsReadTo base code at units places → at < length code
+    → ((piece : Piece) (rest : List ℕ) → StandsAt (base + at) (drop at code) piece rest → ⊥) → IsNoUnit (drop at code) e → StopsAt base code (fault_at at e)
+stops base code at units places e so_far left none why =
+    let place : at ≡ (base + at) - base = omega arith in
+    record {
+      front = so_far.front;
+      address = base + at;
+      left = drop at code;
+      stand = so_far.stand;
+      some_left = λ h. let n = ap length h in omega (arith, length-drop at code);
+      none_goes_on = none;
+      why = subst (λ (p : ℕ). UnitFault p (drop at code) (fault_at at e)) place (why_none at (drop at code) e why);
+    }
+
+-- ---- the same of the bytes that are left, as the code has them
+
+pub next_read : (base : ℕ) (code : List ℕ) (at : ℕ) (units units' : List Unit) (places places' : List SledPlace) (piece : Piece) (n : ℕ) (rest : List ℕ)
+    → IsReadTo base code at units places → at < length code → rest ≡ drop at code → StandsAt (base + at) rest piece (drop n rest) → n ≡ length (piece_bytes piece)
+    → units' ≡ units ++ units_from (base + at) (length places) (piece ∷ [])
+    → places' ≡ places ++ places_from (base + at) (piece ∷ [])
+    → IsReadTo base code (at + n) units' places'
+next_read base code at units units' places places' piece n rest so_far left e stands wide units_more places_more =
+    let here : StandsAt (base + at) (drop at code) piece (drop n (drop at code)) = subst (λ (r : List ℕ). StandsAt (base + at) r piece (drop n r)) e stands in
+    one_more base code at units units' places places' piece n so_far left (subst (StandsAt (base + at) (drop at code) piece) (drop-drop n at code) here) wide units_more places_more
+
+pub stops_here : (base : ℕ) (code : List ℕ) (at : ℕ) (units : List Unit) (places : List SledPlace) (e : NoUnit) (rest : List ℕ) (fault : ImageFault) → IsReadTo base code at units places → at < length code
+    → rest ≡ drop at code → ((piece : Piece) (behind : List ℕ) → StandsAt (base + at) rest piece behind → ⊥) → IsNoUnit rest e → fault ≡ fault_at at e → StopsAt base code fault
+stops_here base code at units places e rest fault so_far left same none why is =
+    subst (StopsAt base code) (sym is)
+    (stops base code at units places e so_far left (subst (λ (r : List ℕ). (piece : Piece) (behind : List ℕ) → StandsAt (base + at) r piece behind → ⊥) same none)
+    (subst (λ (r : List ℕ). IsNoUnit r e) same why))

@@ -8,16 +8,17 @@ use Rattle.std.proofs.lemmas.List.Sums.{sum_by-append}
 use Rattle.subset_decode.specs.declared.instr.Instr.{Instr}
 use Rattle.subset_decode.specs.declared.instr.Instr.TheVariants.{Mov, Add, Sub, Push, Pop, Call, Jmp, Jnz, Ret, Out}
 use Rattle.xray_image.specs.declared.sled.SledKind.{SledKind}
-use Rattle.xray_image.specs.declared.unit.Unit.{Unit}
+use Rattle.xray_image.specs.declared.unit.StoredUnit.{StoredUnit}
 use Rattle.xray_image.specs.declared.unit.What.{What}
 use Rattle.xray_image.specs.declared.unit.What.TheVariants.{Plain, Sled, Pad}
 use Rattle.xray_image.specs.FirstRun.{IsStraight, is_out}
-use Rattle.xray_image.specs.Straight.{whats_of, IsPadding, IsBetween, IsStraightRun}
+use Rattle.xray_image.specs.Straight.{IsPadding, IsBetween}
+use Rattle.xray_image.specs.UnitTable.{whole_what, stored_whats}
 
 -- ---- padding
 
-pub padded : (units body : List Unit) (pad : Unit) → units ≡ body ++ pad ∷ [] → pad.what ≡ Pad → whats_of units ≡ whats_of body ++ Pad ∷ []
-padded units body pad e p = ap whats_of e ∙ map-append (λ u. u.what) body (pad ∷ []) ∙ ap (λ (w : What). whats_of body ++ w ∷ []) p
+pub padded : (units body : List StoredUnit) (pad : StoredUnit) → units ≡ body ++ pad ∷ [] → whole_what pad.what ≡ Pad → stored_whats units ≡ stored_whats body ++ Pad ∷ []
+padded units body pad e p = ap stored_whats e ∙ map-append (λ u. whole_what u.what) body (pad ∷ []) ∙ ap (λ (w : What). stored_whats body ++ w ∷ []) p
 
 head_apart : (i : Instr) (xs ys : List What) → Plain i ∷ xs ≡ Pad ∷ ys → ⊥
 head_apart i xs ys e = absurd cc
@@ -28,19 +29,19 @@ no_padding [] (w ∷ ws) e = absurd cc
 no_padding (i ∷ is) [] e = head_apart i (map Plain is) [] e
 no_padding (i ∷ is) (w ∷ ws) e = no_padding is ws (let h = e in cc)
 
-pub padding_gone : (units body : List Unit) (pad : Unit) (instrs : List Instr) (padding : List What) → units ≡ body ++ pad ∷ [] → pad.what ≡ Pad → IsPadding padding
-    → whats_of units ≡ map Plain instrs ++ padding → whats_of body ≡ map Plain instrs
+pub padding_gone : (units body : List StoredUnit) (pad : StoredUnit) (instrs : List Instr) (padding : List What) → units ≡ body ++ pad ∷ [] → whole_what pad.what ≡ Pad → IsPadding padding
+    → stored_whats units ≡ map Plain instrs ++ padding → stored_whats body ≡ map Plain instrs
 padding_gone units body pad instrs padding e p (inl none) w =
-    absurd (no_padding instrs (whats_of body) (sym (append-nil (map Plain instrs)) ∙ ap (λ (x : List What). map Plain instrs ++ x) (sym none) ∙ sym w ∙ padded units body pad e p))
+    absurd (no_padding instrs (stored_whats body) (sym (append-nil (map Plain instrs)) ∙ ap (λ (x : List What). map Plain instrs ++ x) (sym none) ∙ sym w ∙ padded units body pad e p))
 padding_gone units body pad instrs padding e p (inr one) w =
-    (same_from_push (whats_of body) (map Plain instrs) Pad Pad (sym (padded units body pad e p) ∙ w ∙ ap (λ (x : List What). map Plain instrs ++ x) one)).0
+    (same_from_push (stored_whats body) (map Plain instrs) Pad Pad (sym (padded units body pad e p) ∙ w ∙ ap (λ (x : List What). map Plain instrs ++ x) one)).0
 
 -- ---- the count
 
 -- the instructions that the first n units are, and how many outputs they have
-pub record HasCounted (units : List Unit) (n count : ℕ) : Type 0 where
+pub record HasCounted (units : List StoredUnit) (n count : ℕ) : Type 0 where
   pub body : List Instr
-  pub are : whats_of (take n units) ≡ map Plain body
+  pub are : stored_whats (take n units) ≡ map Plain body
   pub straight : AllByRecursion IsStraight body
   pub outputs : count ≡ count_by is_out body
   pub few : count ≤ n
@@ -49,16 +50,16 @@ AllByRecursion-push : (body : List Instr) (i : Instr) → AllByRecursion IsStrai
 AllByRecursion-push [] i all one = (one, tt)
 AllByRecursion-push (j ∷ js) i all one = (all.0, AllByRecursion-push js i all.1 one)
 
-pub counted_more : (units : List Unit) (n count more : ℕ) (u : Unit) (i : Instr) → HasCounted units n count → n < length units → u ≡ get_or units n u → u.what ≡ Plain i → IsStraight i
+pub counted_more : (units : List StoredUnit) (n count more : ℕ) (u : StoredUnit) (i : Instr) → HasCounted units n count → n < length units → u ≡ get_or units n u → whole_what u.what ≡ Plain i → IsStraight i
     → cond (is_out i) 1 0 ≡ more → HasCounted units (n + 1) (count + more)
 counted_more units n count more u i so_far lt at what straight is =
     let body = so_far.body in
-    let taken : take (n + 1) units ≡ take n units ++ u ∷ [] = take_more units n u lt ∙ ap (λ (v : Unit). take n units ++ v ∷ []) (sym at) in
+    let taken : take (n + 1) units ≡ take n units ++ u ∷ [] = take_more units n u lt ∙ ap (λ (v : StoredUnit). take n units ++ v ∷ []) (sym at) in
     let one : count_by is_out (i ∷ []) ≡ more = omega (arith, is) in
     let added : count_by is_out (body ++ i ∷ []) ≡ count_by is_out body + more = sum_by-append (λ x. cond (is_out x) 1 0) body (i ∷ []) ∙ ap (λ (k : ℕ). count_by is_out body + k) one in
     record {
       body = body ++ i ∷ [];
-      are = ap whats_of taken ∙ map-append (λ u. u.what) (take n units) (u ∷ []) ∙ ap (λ (ws : List What). ws ++ u.what ∷ []) so_far.are ∙ ap (λ (w : What). map Plain body ++ w ∷ []) what ∙ sym (map-append Plain body (i ∷ []));
+      are = ap stored_whats taken ∙ map-append (λ u. whole_what u.what) (take n units) (u ∷ []) ∙ ap (λ (ws : List What). ws ++ whole_what u.what ∷ []) so_far.are ∙ ap (λ (w : What). map Plain body ++ w ∷ []) what ∙ sym (map-append Plain body (i ∷ []));
       straight = AllByRecursion-push body i so_far.straight straight;
       outputs = ap (λ (k : ℕ). k + more) so_far.outputs ∙ sym added;
       few = omega (arith, so_far.few, at_most_one i, is);
@@ -77,11 +78,11 @@ counted_more units n count more u i so_far lt at what straight is =
     at_most_one (Out port) = omega arith
 
 -- a unit of instructions that go straight on is one of them
-pub unit_is : (units : List Unit) (body : List Instr) (n : ℕ) (u : Unit) → whats_of units ≡ map Plain body → AllByRecursion IsStraight body → n < length units → u ≡ get_or units n u
-    → (i : Instr) × (u.what ≡ Plain i) × IsStraight i
+pub unit_is : (units : List StoredUnit) (body : List Instr) (n : ℕ) (u : StoredUnit) → stored_whats units ≡ map Plain body → AllByRecursion IsStraight body → n < length units → u ≡ get_or units n u
+    → (i : Instr) × (whole_what u.what ≡ Plain i) × IsStraight i
 unit_is [] body n u w all lt at = absurd (omega arith)
 unit_is (v ∷ units) [] n u w all lt at = absurd cc
-unit_is (v ∷ units) (i ∷ body) zero u w all lt at = (i, ap (λ (x : Unit). x.what) at ∙ (let h = w in cc), all.0)
+unit_is (v ∷ units) (i ∷ body) zero u w all lt at = (i, ap (λ (x : StoredUnit). whole_what x.what) at ∙ (let h = w in cc), all.0)
 unit_is (v ∷ units) (i ∷ body) (suc n) u w all lt at = unit_is units body n u (let h = w in cc) all.1 (omega arith) at
 
 plain_same : (i j : Instr) (xs ys : List What) → Plain i ∷ xs ≡ Plain j ∷ ys → i ≡ j
@@ -108,35 +109,3 @@ pub between_same : (ws : List What) (b c : List Instr) (p q : List What) → IsB
 between_same ws b c p q x y =
     bodies_same b c p q x.one_at_most y.one_at_most
     (sym (append_assoc (map Plain b) p (Sled 1 ∷ [])) ∙ rest_same (Sled 0) (Sled 0) _ _ (sym x.shape ∙ y.shape) ∙ append_assoc (map Plain c) q (Sled 1 ∷ []))
-
--- ---- no branches
-
--- an instruction that stands there goes straight on
-abbrev KeepsOn : What → Type 0
-KeepsOn what = (i : Instr) → what ≡ Plain i → IsStraight i
-
-body_keeps_on : (body : List Instr) → AllByRecursion IsStraight body → All KeepsOn (map Plain body)
-body_keeps_on [] all = All-nil KeepsOn
-body_keeps_on (j ∷ js) all = All-cons KeepsOn (Plain j) (map Plain js) (λ i e. subst IsStraight (let same : j ≡ i = cc in same) all.0) (body_keeps_on js all.1)
-
-other_keeps_on : (what : What) → ((i : Instr) → what ≡ Plain i → ⊥) → All KeepsOn (what ∷ [])
-other_keeps_on what none = All-cons KeepsOn what [] (λ i e. absurd (none i e)) (All-nil KeepsOn)
-
-padding_keeps_on : (padding : List What) → IsPadding padding → All KeepsOn padding
-padding_keeps_on padding (inl none) = subst (All KeepsOn) (sym none) (All-nil KeepsOn)
-padding_keeps_on padding (inr one) = subst (All KeepsOn) (sym one) (other_keeps_on Pad (λ i e. cc))
-
--- the instructions of a straight run go straight on
-pub run_keeps_on : (units : List Unit) (kinds : List SledKind) → IsStraightRun (whats_of units) kinds → (u : Unit) (i : Instr) → Contains units u → u.what ≡ Plain i → IsStraight i
-run_keeps_on units kinds run u i there is =
-    let body = map Plain run.body in
-    let all : All KeepsOn ((Sled 0 ∷ []) ++ body ++ run.padding ++ (Sled 1 ∷ [])) =
-    All-append KeepsOn ((Sled 0 ∷ []) ++ body ++ run.padding) (Sled 1 ∷ [])
-    (All-append KeepsOn ((Sled 0 ∷ []) ++ body) run.padding
-    (All-append KeepsOn (Sled 0 ∷ []) body (other_keeps_on (Sled 0) (λ i e. cc)) (body_keeps_on run.body run.straight))
-    (padding_keeps_on run.padding run.between.one_at_most))
-    (other_keeps_on (Sled 1) (λ i e. cc)) in
-    let whats : All KeepsOn (whats_of units) = subst (All KeepsOn) (sym run.between.shape) all in
-    let at : get_or (whats_of units) there.0 u.what ≡ u.what = get_or-map (λ v. v.what) units there.0 u u.what there.1 ∙ ap (λ (v : Unit). v.what) there.2 in
-    let here : KeepsOn u.what = subst KeepsOn at (whats there.0 u.what (omega (arith, there.1, length-map units (λ v. v.what)))) in
-    here i is

@@ -9,3 +9,8 @@ pub mod Index
 pub mod Layout
 pub mod ImageView
 pub mod Straight
+pub mod Table
+pub mod Ids
+pub mod Extract
+pub mod Judging
+pub mod UnitTable

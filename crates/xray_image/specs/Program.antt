@@ -31,6 +31,7 @@ pub record Program : Type 0 where
   pub base : ℕ
   -- the address at which threads start
   pub entry : ℕ
+  pub code : List ℕ
   pub functions : List Function
   pub units : List Unit
   pub sleds : List Sled
@@ -135,12 +136,16 @@ branch_target behind (Jnz rel) = Some (pos behind +ℤ rel)
 branch_target behind Ret = None
 branch_target behind (Out port) = None
 
--- each branch among units goes to a unit
-abbrev pub BranchesReach : List Unit → Type 0
-BranchesReach units =
-    (u : Unit) (instr : Instr) → Contains units u → u.what ≡ Plain instr
+-- a unit that branches goes to a unit
+abbrev pub BranchReaches : List Unit → Unit → Type 0
+BranchReaches units u =
+    (instr : Instr) → u.what ≡ Plain instr
     → IfSome (branch_target (u.address + length (spelling instr)) instr)
     (λ target. (address : ℕ) × (target ≡ pos address) × Contains (addresses units) address)
+
+-- each branch among units goes to a unit
+abbrev pub BranchesReach : List Unit → Type 0
+BranchesReach units = (u : Unit) → Contains units u → BranchReaches units u
 
 -- ---- the file
 
@@ -149,6 +154,7 @@ abbrev pub program_of : List ℕ → Parts → List Piece → Program
 program_of bytes parts pieces = record {
   base = base_address bytes;
   entry = option_map_or (λ f. f.start) (slice_get parts.functions (entry_index bytes)) 0;
+  code = parts.code;
   functions = parts.functions;
   units = units_from (base_address bytes) 0 pieces;
   sleds = map (sled_of parts.entries) (zip (places_from (base_address bytes) pieces) parts.entries);

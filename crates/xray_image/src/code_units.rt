@@ -1,14 +1,20 @@
 //! All units of a code, and the sleds among them.
 
-ghost use Rattle.std.specs.Prelude.{◌≡◌, ◌≤◌, ◌<◌, ◌^◌, ◌+◌, ◌%◌, ℕ, List, [], ◌∷◌, ◌++◌, length, map, All, OnOk, IfOk, IfErr};
-ghost use Rattle.xray_image.specs.Units.{Piece, IsUnits, what_of, units_from, places_from};
-ghost use Rattle.xray_image.specs.Reading.{IsEven, HasUnits, IsReadTo};
-ghost use Rattle.xray_image.specs.Views.{piece_of, places_in};
+ghost use Rattle.std.specs.Prelude.{◌≡◌, ◌≤◌, ◌<◌, ◌^◌, ◌+◌, ◌⊎◌, [], ◌∷◌, ◌++◌, length, OnOk, IfOk, IfErr};
+ghost use Rattle.xray_image.specs.Units.{what_of, units_from, places_from};
+ghost use Rattle.xray_image.specs.Reading.{HasUnits, IsReadTo};
+ghost use Rattle.xray_image.specs.Table.{StopsAt};
+ghost use Rattle.xray_image.specs.UnitTable.{units_in};
+ghost use Rattle.xray_image.specs.Views.{piece_of, places_in, fault_at};
 
 use crate::fault::ImageFault;
-use crate::unit::{Unit, What};
-use crate::unit_reader::{RawUnit, read_unit};
+use crate::unit::{Unit, UnitTable, What};
+use crate::unit_reader::{NoUnit, RawUnit, read_unit};
 use std::alloc::Global;
+
+/// How long units are on the average, in bytes, where the table of units doesn't grow while they are
+/// read.
+const MEAN_LENGTH: usize = 3;
 
 /// A sled as the code alone tells it.
 #[derive(Clone, Copy)]
@@ -24,24 +30,32 @@ pub(crate) struct SledSpot {
 /// The units of a code, and the sleds among them, both in ascending address.
 #[derive(Drop)]
 pub(crate) struct CodeUnits {
-    pub(crate) units: Vec<Unit>,
+    pub(crate) units: UnitTable,
     pub(crate) sleds: Vec<SledSpot>,
 }
 
+impl NoUnit {
+    /// The fault at a place of the code.
+    fn at(self, place: u32) -> ImageFault
+        ensures { result ≡ fault_at place self }
+    {
+        match self {
+            NoUnit::Sled => ImageFault::Sled(place),
+            NoUnit::Code(fault) => ImageFault::Code(place, fault),
+        }
+    }
+}
+
 impl CodeUnits {
-    /// Adds a sled, which has to stand at an even address, and gives its unit.
+    /// Adds a sled, and gives its unit.
     fn add_sled(&mut self, address: u64, shift: u32, returns: bool) -> Result<What, ImageFault>
         requires { length self.old.sleds.items < 2 ^ 32 }
         ensures what { IfOk result (λ what. what ≡ What.Sled (length self.old.sleds.items)) }
         ensures sleds { OnOk result (self.new.sleds.items ≡ self.old.sleds.items
             ++ record { address = address; shift = shift; returns = returns } ∷ []) }
-        ensures even { OnOk result (address % 2 ≡ 0) }
         ensures units { self.new.units ≡ self.old.units }
-        ensures only { address % 2 ≡ 0 → IfErr result (λ e. e ≡ ImageFault.NoMemory) }
+        ensures full { IfErr result (λ fault. fault ≡ ImageFault.NoMemory) }
     {
-        if !address.is_multiple_of(2) {
-            return Err(ImageFault::NotYet);
-        }
         let number = self.sleds.len() as u32;
         self.sleds.push(SledSpot {
             address,
@@ -58,10 +72,8 @@ impl CodeUnits {
             what ≡ what_of (length self.old.sleds.items) (piece_of raw)) }
         ensures sleds { OnOk result (places_in self.new ≡ places_in self.old
             ++ places_from address (piece_of raw ∷ [])) }
-        ensures even { OnOk result (All IsEven (places_from address (piece_of raw ∷ []))) }
         ensures units { self.new.units ≡ self.old.units }
-        ensures only { All IsEven (places_from address (piece_of raw ∷ []))
-            → IfErr result (λ e. e ≡ ImageFault.NoMemory) }
+        ensures full { IfErr result (λ fault. fault ≡ ImageFault.NoMemory) }
     {
         match raw {
             RawUnit::Instruction(instr) => Ok(What::Plain(instr)),
@@ -73,14 +85,15 @@ impl CodeUnits {
 
     /// Adds the unit at an address.
     fn add(&mut self, address: u64, raw: RawUnit) -> Result<(), ImageFault>
-        requires { length self.old.sleds.items < 2 ^ 32 }
-        ensures units { OnOk result (self.new.units.items ≡ self.old.units.items
+        requires sleds { length self.old.sleds.items < 2 ^ 32 }
+        requires above { self.old.units.base ≤ address }
+        requires near { address < self.old.units.base + 2 ^ 32 }
+        ensures base { OnOk result (self.new.units.base ≡ self.old.units.base) }
+        ensures units { OnOk result (units_in self.new.units ≡ units_in self.old.units
             ++ units_from address (length self.old.sleds.items) (piece_of raw ∷ [])) }
         ensures sleds { OnOk result (places_in self.new ≡ places_in self.old
             ++ places_from address (piece_of raw ∷ [])) }
-        ensures even { OnOk result (All IsEven (places_from address (piece_of raw ∷ []))) }
-        ensures only { All IsEven (places_from address (piece_of raw ∷ []))
-            → IfErr result (λ e. e ≡ ImageFault.NoMemory) }
+        ensures full { IfErr result (λ fault. fault ≡ ImageFault.NoMemory) }
     {
         let what = self.classify(address, raw)?;
         self.units.push(Unit { address, what })?;
@@ -92,31 +105,39 @@ impl CodeUnits {
         requires base { base < 2 ^ 63 }
         requires code { length code.now < 2 ^ 32 }
         requires left { at < length code.now }
-        requires read { IsReadTo base code.now at self.old.units.items (places_in self.old) }
+        requires table { self.old.units.base ≡ base }
+        requires read { IsReadTo base code.now at (units_in self.old.units) (places_in self.old) }
+        ensures table { OnOk result (self.new.units.base ≡ base) }
         ensures read { IfOk result (λ next.
-            IsReadTo base code.now next self.new.units.items (places_in self.new)) }
+            IsReadTo base code.now next (units_in self.new.units) (places_in self.new)) }
         ensures next { IfOk result (λ next. at < next) }
-        ensures only { (pieces : List Piece) → IsUnits code.now pieces
-            → All IsEven (places_from base pieces) → IfErr result (λ e. e ≡ ImageFault.NoMemory) }
+        ensures refused { IfErr result (λ fault. (fault ≡ ImageFault.NoMemory)
+            ⊎ StopsAt base code.now fault) }
     {
-        let Some((raw, length)) = read_unit(&code[at..]) else {
-            return Err(ImageFault::NotYet);
-        };
-        self.add(base + at as u64, raw)?;
-        Ok(at + length)
+        let address = base + at as u64;
+        let (_, left) = code.split_at(at);
+        match read_unit(address, left) {
+            Ok((raw, length)) => {
+                self.add(address, raw)?;
+                Ok(at + length)
+            }
+            Err(none) => Err(none.at(at as u32)),
+        }
     }
 
-    /// The units of the code whose first byte has the address `base`.
+    /// The units of the code whose first byte has the address `base`, or why none stands at the first
+    /// place where none does.
     pub(crate) fn read(alloc: Global, base: u64, code: &[u8]) -> Result<CodeUnits, ImageFault>
         requires base { base < 2 ^ 63 }
         requires code { length code.now < 2 ^ 32 }
         ensures found { IfOk result (λ read.
-            HasUnits base code.now read.units.items (places_in read)) }
-        ensures only { (pieces : List Piece) → IsUnits code.now pieces
-            → All IsEven (places_from base pieces) → IfErr result (λ e. e ≡ ImageFault.NoMemory) }
+            HasUnits base code.now (units_in read.units) (places_in read)) }
+        ensures table { IfOk result (λ read. read.units.base ≡ base) }
+        ensures refused { IfErr result (λ fault. (fault ≡ ImageFault.NoMemory)
+            ⊎ StopsAt base code.now fault) }
     {
         let mut read = CodeUnits {
-            units: Vec::new(alloc),
+            units: UnitTable::with_room(alloc, base, code.len() / MEAN_LENGTH + 1)?,
             sleds: Vec::new(alloc),
         };
         let mut at = 0;

@@ -4,24 +4,25 @@ ghost use Rattle.std.specs.Prelude.{◌≡◌, ◌≤◌, ◌++◌, ◌↔◌, [
 ghost use Rattle.std.specs.List.{AllByRecursion};
 ghost use Rattle.subset_decode.specs.declared.instr.Instr.{Instr};
 ghost use Rattle.xray_image.specs.FirstRun.{IsStraight, is_out};
-ghost use Rattle.xray_image.specs.Straight.{IsPadding, IsBetween, IsStraightRun, whats_of};
+ghost use Rattle.xray_image.specs.Straight.{IsPadding, IsBetween, IsStraightRun};
+ghost use Rattle.xray_image.specs.UnitTable.{whole_what, stored_whats};
 
 use crate::sled::{Sled, SledKind};
-use crate::unit::{Unit, What};
+use crate::unit::{StoredUnit, What};
 use subset_decode::Instr;
 
 /// The most outputs of a run.
 const OUTPUT_LIMIT: usize = 65_536;
 
 /// What stands between the first sled and the second, where these are the first unit and the last.
-fn between_sleds(units: &[Unit]) -> Option<&[Unit]>
+fn between_sleds(units: &[StoredUnit]) -> Option<&[StoredUnit]>
     ensures { MatchOption result
-        ((inner : List What) → whats_of units.now ≡ What.Sled 0 ∷ (inner ++ What.Sled 1 ∷ []) → ⊥)
-        (λ inner. whats_of units.now ≡ What.Sled 0 ∷ (whats_of inner.now ++ What.Sled 1 ∷ [])) }
+        ((inner : List What) → stored_whats units.now ≡ What.Sled 0 ∷ (inner ++ What.Sled 1 ∷ []) → ⊥)
+        (λ inner. stored_whats units.now ≡ What.Sled 0 ∷ (stored_whats inner.now ++ What.Sled 1 ∷ [])) }
 {
     let (first, units) = units.split_first()?;
     let (last, units) = units.split_last()?;
-    if first.what == What::Sled(0) && last.what == What::Sled(1) {
+    if first.what() == What::Sled(0) && last.what() == What::Sled(1) {
         Some(units)
     } else {
         None
@@ -29,26 +30,26 @@ fn between_sleds(units: &[Unit]) -> Option<&[Unit]>
 }
 
 /// The units without an alignment byte at their end.
-fn without_padding(units: &[Unit]) -> &[Unit]
+fn without_padding(units: &[StoredUnit]) -> &[StoredUnit]
     ensures padded { (padding : List What) × IsPadding padding
-        × (whats_of units.now ≡ whats_of result.now ++ padding) }
+        × (stored_whats units.now ≡ stored_whats result.now ++ padding) }
     ensures only { (body : List Instr) (padding : List What) → IsPadding padding
-        → whats_of units.now ≡ map What.Plain body ++ padding
-        → whats_of result.now ≡ map What.Plain body }
+        → stored_whats units.now ≡ map What.Plain body ++ padding
+        → stored_whats result.now ≡ map What.Plain body }
 {
     match units.split_last() {
-        Some((pad, body)) if pad.what == What::Pad => body,
+        Some((pad, body)) if pad.what() == What::Pad => body,
         _ => units,
     }
 }
 
 /// How many outputs a unit is, where it is an instruction that goes straight on.
-fn outputs_of(unit: &Unit) -> Option<usize>
-    ensures { MatchOption result ((i : Instr) → unit.now.what ≡ What.Plain i → IsStraight i → ⊥)
-        (λ count. (i : Instr) × (unit.now.what ≡ What.Plain i) × IsStraight i
+fn outputs_of(unit: &StoredUnit) -> Option<usize>
+    ensures { MatchOption result ((i : Instr) → whole_what unit.now.what ≡ What.Plain i → IsStraight i → ⊥)
+        (λ count. (i : Instr) × (whole_what unit.now.what ≡ What.Plain i) × IsStraight i
         × (count ≡ (if is_out i then 1 else 0))) }
 {
-    match unit.what {
+    match unit.what() {
         What::Plain(Instr::Mov { .. }) => Some(0),
         What::Plain(Instr::Out { .. }) => Some(1),
         What::Plain(_) | What::Sled(_) | What::Pad => None,
@@ -56,11 +57,11 @@ fn outputs_of(unit: &Unit) -> Option<usize>
 }
 
 /// How many outputs there are, where all units are instructions that go straight on.
-fn count_outputs(units: &[Unit]) -> Option<usize>
+fn count_outputs(units: &[StoredUnit]) -> Option<usize>
     ensures { MatchOption result
-        ((body : List Instr) → whats_of units.now ≡ map What.Plain body
+        ((body : List Instr) → stored_whats units.now ≡ map What.Plain body
         → AllByRecursion IsStraight body → ⊥)
-        (λ count. (body : List Instr) × (whats_of units.now ≡ map What.Plain body)
+        (λ count. (body : List Instr) × (stored_whats units.now ≡ map What.Plain body)
         × AllByRecursion IsStraight body × (count ≡ count_by is_out body)) }
 {
     let mut count = 0;
@@ -72,12 +73,12 @@ fn count_outputs(units: &[Unit]) -> Option<usize>
 
 /// How many outputs there are, where the units are a sled, instructions that go straight on, at
 /// most one alignment byte, and a second sled.
-fn straight_outputs(units: &[Unit]) -> Option<usize>
+fn straight_outputs(units: &[StoredUnit]) -> Option<usize>
     ensures { MatchOption result
         ((body : List Instr) (padding : List What)
-        → IsBetween (whats_of units.now) body padding → AllByRecursion IsStraight body → ⊥)
+        → IsBetween (stored_whats units.now) body padding → AllByRecursion IsStraight body → ⊥)
         (λ count. (body : List Instr) × (padding : List What)
-        × IsBetween (whats_of units.now) body padding
+        × IsBetween (stored_whats units.now) body padding
         × AllByRecursion IsStraight body × (count ≡ count_by is_out body)) }
 {
     let inner = between_sleds(units)?;
@@ -96,8 +97,8 @@ fn are_entry_and_exit(sleds: &[Sled]) -> bool
 
 /// Whether the units are an entry sled, instructions that go straight on, at most one alignment
 /// byte, and an exit sled.
-pub(crate) fn is_straight_run(units: &[Unit], sleds: &[Sled]) -> bool
-    ensures { IsTrue result ↔ IsStraightRun (whats_of units.now) (map (λ s. s.kind) sleds.now) }
+pub(crate) fn is_straight_run(units: &[StoredUnit], sleds: &[Sled]) -> bool
+    ensures { IsTrue result ↔ IsStraightRun (stored_whats units.now) (map (λ s. s.kind) sleds.now) }
 {
     let Some(outputs) = straight_outputs(units) else {
         return false;

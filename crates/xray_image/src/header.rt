@@ -1,7 +1,8 @@
 //! The header of an image file.
 
-ghost use Rattle.std.specs.Prelude.{◌≡◌, ◌↔◌, ◌≤◌, length, IsTrue, IsSome, IfSome};
+ghost use Rattle.std.specs.Prelude.{◌≡◌, ◌≤◌, length, OnOk, IfOk, IfErr};
 
+use crate::fault::{ImageFault, Which};
 use crate::fields::{u32_at, u64_at};
 use crate::sled::SledKind;
 
@@ -67,18 +68,41 @@ pub(crate) struct Header {
 
 impl Header {
     ghost use Rattle.xray_image.specs.Header.{HasHeader};
-    ghost use Rattle.xray_image.specs.Views.{IsHeaderOf, IsWithinLimits};
+    ghost use Rattle.xray_image.specs.Table.{ReadsAs};
+    ghost use Rattle.xray_image.specs.Views.{IsHeaderOf};
 
-    /// The header that an accepted file begins with. Ok only where each field is within its limits.
-    pub(crate) fn read(bytes: &[u8]) -> Option<Header>
-        ensures accepted { IsSome result ↔ HasHeader bytes.now }
-        ensures fields { IfSome result (IsHeaderOf bytes.now) }
+    /// The header that a file begins with, or the first fault of its fields in the order of the checks.
+    pub(crate) fn read(bytes: &[u8]) -> Result<Header, ImageFault>
+        ensures accepted { OnOk result (HasHeader bytes.now) }
+        ensures fields { IfOk result (IsHeaderOf bytes.now) }
+        ensures refused { IfErr result (λ fault. ReadsAs bytes.now (Err fault)) }
     {
-        if bytes.len() < HEADER_LENGTH || !bytes.starts_with(&MAGIC) {
-            return None;
+        if bytes.len() < HEADER_LENGTH {
+            return Err(ImageFault::Short);
+        }
+        if !bytes.starts_with(&MAGIC) {
+            return Err(ImageFault::Magic);
         }
         let header = Header::fields(bytes);
-        header.is_within_limits().then_some(header)
+        if header.version != VERSION {
+            return Err(ImageFault::Version);
+        }
+        if header.code_length > CODE_LIMIT {
+            return Err(ImageFault::Limit(Which::Code));
+        }
+        if header.functions == 0 || header.functions > FUNCTION_LIMIT {
+            return Err(ImageFault::Limit(Which::Functions));
+        }
+        if header.entries > ENTRY_LIMIT {
+            return Err(ImageFault::Limit(Which::Sleds));
+        }
+        if header.entry_index >= header.functions {
+            return Err(ImageFault::Limit(Which::Entry));
+        }
+        if header.base % BASE_ALIGNMENT != 0 || header.base > BASE_LIMIT {
+            return Err(ImageFault::Limit(Which::Base));
+        }
+        Ok(header)
     }
 
     /// The fields, each at its place.
@@ -99,18 +123,5 @@ impl Header {
                 tail: u64_at(bytes, 48),
             },
         }
-    }
-
-    /// Whether each field is within its limits.
-    fn is_within_limits(&self) -> bool
-        ensures { IsTrue result ↔ IsWithinLimits self.now }
-    {
-        self.version == VERSION
-            && self.code_length <= CODE_LIMIT
-            && (1..=FUNCTION_LIMIT).contains(&self.functions)
-            && self.entries <= ENTRY_LIMIT
-            && self.entry_index < self.functions
-            && self.base % BASE_ALIGNMENT == 0
-            && self.base <= BASE_LIMIT
     }
 }

@@ -1,21 +1,36 @@
 //! An image that was read, and what it tells.
 
-ghost use Rattle.std.specs.Prelude.{◌≡◌, ◌<◌, List, ℕ, length, Some, slice_get, Contains, MatchOption};
+ghost use Rattle.std.specs.Prelude.{◌≡◌, ◌<◌, ◌≤◌, ◌↔◌, List, ℕ, length, true, Some, slice_get, All, Contains, MatchOption, IsSome, IfOk};
+ghost use Rattle.std.specs.Option.{option_map};
+ghost use Rattle.xray_image.specs.Program.{is_name_byte};
+ghost use Rattle.xray_image.specs.ImageView.{named_function};
 
 mod reading;
 
 use crate::header::Trampolines;
 use crate::sled::{Sled, SledKind};
-use crate::unit::Unit;
+use crate::unit::{Unit, UnitTable};
 use crate::unit_index::UnitIndex;
 pub use reading::read_image;
+use std::alloc::{AllocError, Global};
 use std::marker::Model;
 
 /// A function of the image.
 #[derive(Debug, Drop)]
 pub(crate) struct Function {
     pub(crate) start: u64,
-    pub(crate) name: Vec<u8>,
+    pub(crate) name: String,
+}
+
+impl Function {
+    /// The function that begins at an address, with its name as text.
+    pub(crate) fn new(alloc: Global, start: u64, name: &[u8]) -> Result<Function, AllocError>
+        requires { All (λ b. is_name_byte b ≡ true) name.now }
+        ensures { IfOk result (λ f. named_function f ≡ record { start = start; name = name.now }) }
+    {
+        let name = String::from_utf8_lossy(alloc, name)?;
+        Ok(Function { start, name })
+    }
 }
 
 /// A program with sleds, as an accepted image file tells it: its units, the sleds among them, and
@@ -24,11 +39,14 @@ pub(crate) struct Function {
 pub struct Image {
     base: u64,
     entry: u64,
+    code: Vec<u8>,
     functions: Vec<Function>,
-    units: Vec<Unit>,
+    units: UnitTable,
     sleds: Vec<Sled>,
     trampolines: Trampolines,
     index: UnitIndex,
+    /// The number of the function of each id, from id 1 on.
+    ids: Vec<u32>,
 }
 
 impl Model for Image {
@@ -46,6 +64,7 @@ impl Model for Image {
 impl Image {
     ghost use Rattle.xray_image.specs.Program.{Program, IsAccepted, addresses, trampoline_of};
     ghost use Rattle.xray_image.specs.Layout.{AreContiguous, SledsStand};
+    ghost use Rattle.xray_image.specs.Ids.{id_count, name_of};
 
     /// The address of the code's first byte.
     pub fn base(&self) -> u64
@@ -61,6 +80,13 @@ impl Image {
         ensures { result ≡ self.now.entry }
     {
         self.entry
+    }
+
+    /// The bytes of the code as the file has them, the sleds unpatched.
+    pub fn code(&self) -> &[u8]
+        ensures { result.now ≡ self.now.code }
+    {
+        &self.code
     }
 
     /// How many functions there are.
@@ -83,7 +109,7 @@ impl Image {
         requires { i < length self.now.units }
         ensures { slice_get self.now.units i ≡ Some result }
     {
-        self.units[i as usize]
+        self.units.get(i as usize)
     }
 
     /// The number of the unit that begins at an address. None exactly where none begins there.
@@ -108,6 +134,27 @@ impl Image {
         ensures { slice_get self.now.sleds k ≡ Some result }
     {
         self.sleds[k as usize]
+    }
+
+    /// How many function ids there are. Ids count from 1 over the functions that have a sled, in the
+    /// order of the sled map, as XRay's do.
+    pub fn id_count(&self) -> u32
+        ensures { result ≡ id_count self.now }
+    {
+        self.ids.len() as u32
+    }
+
+    /// The name of the function with an id. None exactly for 0 and for numbers above the count of
+    /// ids.
+    pub fn name_of(&self, id: u32) -> Option<&str>
+        ensures name { option_map (λ name. name.now) result ≡ name_of self.now id }
+        ensures some { IsSome result ↔ (0 < id) × (id ≤ id_count self.now) }
+    {
+        if id == 0 || id > self.id_count() {
+            return None;
+        }
+        let number = self.ids[id as usize - 1];
+        Some(self.functions[number as usize].name.as_str())
     }
 
     /// The address of the trampoline that patched sleds of a kind call.

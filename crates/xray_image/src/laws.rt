@@ -1,10 +1,11 @@
 //! What follows for the definitions. Each law is the contract of a function that does nothing.
 
-ghost use Rattle.std.specs.Prelude.{◌≡◌, List, ℕ};
+ghost use Rattle.std.specs.Prelude.{◌≡◌, ◌↔◌, List, ℕ, Ok};
 ghost use Rattle.xray_image.specs.Units.{Piece, IsUnits};
 ghost use Rattle.xray_image.specs.Program.{Program, IsAccepted};
+ghost use Rattle.xray_image.specs.Table.{Verdict, ReadsAs};
 
-use subset_decode::one_instruction;
+use subset_decode::{one_answer, one_instruction};
 
 /// No code has two lists of units.
 pub fn one_unit_list()
@@ -18,4 +19,15 @@ pub fn one_reading()
     ensures { (bytes : List ℕ) (p q : Program) → IsAccepted bytes p → IsAccepted bytes q → p ≡ q }
 {
     one_instruction();
+}
+
+/// The table of refusals decides each file one way at the most, and accepts exactly the accepted files:
+/// those to which no line of it applies.
+pub fn one_verdict()
+    ensures one { (bytes : List ℕ) (v w : Verdict) → ReadsAs bytes v → ReadsAs bytes w → v ≡ w }
+    ensures accepted { (bytes : List ℕ) (program : Program)
+        → IsAccepted bytes program ↔ ReadsAs bytes (Ok program) }
+{
+    one_instruction();
+    one_answer();
 }

@@ -1,11 +1,15 @@
 //! The image of a traced program: the container file with its code, functions and sled map.
 #![tactic(auto)]
 
+mod branches;
 mod code_units;
+mod extract;
 mod fault;
 mod fields;
 mod first_run;
+mod functions;
 mod header;
+mod ids;
 mod image;
 mod laws;
 mod parts;
@@ -15,9 +19,10 @@ mod unit;
 mod unit_index;
 mod unit_reader;
 
-pub use fault::ImageFault;
+pub use extract::write_extract;
+pub use fault::{ImageFault, Which};
 pub use image::{Image, read_image};
-pub use laws::{one_reading, one_unit_list};
+pub use laws::{one_reading, one_unit_list, one_verdict};
 pub use sled::{Sled, SledKind};
 pub use unit::{Unit, What};
 

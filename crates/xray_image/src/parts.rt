@@ -1,13 +1,15 @@
 //! What stands behind the header: the code, the functions and the sled map.
 
-ghost use Rattle.std.specs.Prelude.{◌≡◌, ◌↔◌, IsTrue};
-ghost use Rattle.xray_image.specs.Program.{is_name_byte};
+ghost use Rattle.std.specs.Prelude.{◌≡◌, ◌≤◌, ◌⊎◌, length, map, Some, None, Err, IfOk, IfErr};
 ghost use Rattle.std.specs.Option.{option_map};
-ghost use Rattle.xray_image.specs.Container.{function_at, map_entry_at};
-ghost use Rattle.xray_image.specs.Views.{function_of, entry_of, parts_of_view};
-ghost use Rattle.xray_image.specs.Reading.{parts_behind, IsOnlyFunction};
+ghost use Rattle.xray_image.specs.Container.{function_at, map_entry_at, several, parts_of};
+ghost use Rattle.xray_image.specs.Table.{ReadsParts};
+ghost use Rattle.xray_image.specs.Views.{function_of, entry_of, parts_of_view, IsHeaderOf};
 
+use crate::fault::ImageFault;
 use crate::fields::u64_at;
+use crate::header::{HEADER_LENGTH, Header};
+use std::alloc::Global;
 
 /// How long a function entry is before its name: the start address and the name's length.
 const FUNCTION_FRONT: usize = 9;
@@ -53,22 +55,6 @@ impl<'a> FunctionEntry<'a> {
     }
 }
 
-/// Whether a byte may stand in a name: a letter, a digit, or one of `_`, `.` and `$`.
-fn may_name(byte: u8) -> bool
-    ensures { result ≡ is_name_byte byte }
-{
-    byte.is_ascii_alphanumeric() || matches!(byte, b'_' | b'.' | b'$')
-}
-
-impl FunctionEntry<'_> {
-    /// Whether this may be the only function of a code that begins at `base`.
-    pub(crate) fn is_only(&self, base: u64) -> bool
-        ensures { IsTrue result ↔ IsOnlyFunction base (function_of self.now) }
-    {
-        self.start == base && !self.name.is_empty() && self.name.iter().all(|&byte| may_name(byte))
-    }
-}
-
 /// An entry of the sled map as it stands in the file.
 #[derive(Clone, Copy)]
 pub(crate) struct MapLine {
@@ -99,35 +85,90 @@ impl MapLine {
     }
 }
 
-/// The parts of a file with one function and two map entries.
-#[derive(Clone, Copy)]
+/// The parts of a file behind its header.
+#[derive(Drop)]
 pub(crate) struct FileParts<'a> {
     pub(crate) code: &'a [u8],
-    pub(crate) function: FunctionEntry<'a>,
-    pub(crate) entries: [MapLine; 2],
+    pub(crate) functions: Vec<FunctionEntry<'a>>,
+    pub(crate) entries: Vec<MapLine>,
+}
+
+/// As many function entries as are counted, and the bytes behind them. Room is taken as they are
+/// read, so that a count costs nothing that the bytes don't bear out.
+fn read_functions<'a>(
+    alloc: Global,
+    count: u32,
+    bytes: &'a [u8],
+) -> Result<(Vec<FunctionEntry<'a>>, &'a [u8]), ImageFault>
+    ensures found { IfOk result (λ x. several function_at count bytes.now
+        ≡ Some (map function_of x.0.items, x.1.now)) }
+    ensures refused { IfErr result (λ fault. (fault ≡ ImageFault.NoMemory)
+        ⊎ ((fault ≡ ImageFault.Short) × (several function_at count bytes.now ≡ None))) }
+{
+    let mut functions = Vec::new(alloc);
+    let mut rest = bytes;
+    for _number in 0..count {
+        let Some((function, behind)) = FunctionEntry::read(rest) else {
+            return Err(ImageFault::Short);
+        };
+        functions.push(function)?;
+        rest = behind;
+    }
+    Ok((functions, rest))
+}
+
+/// The same of map entries.
+fn read_entries(
+    alloc: Global,
+    count: u32,
+    bytes: &[u8],
+) -> Result<(Vec<MapLine>, &[u8]), ImageFault>
+    ensures found { IfOk result (λ x. several map_entry_at count bytes.now
+        ≡ Some (map entry_of x.0.items, x.1.now)) }
+    ensures refused { IfErr result (λ fault. (fault ≡ ImageFault.NoMemory)
+        ⊎ ((fault ≡ ImageFault.Short) × (several map_entry_at count bytes.now ≡ None))) }
+{
+    let mut entries = Vec::new(alloc);
+    let mut rest = bytes;
+    for _number in 0..count {
+        let Some((entry, behind)) = MapLine::read(rest) else {
+            return Err(ImageFault::Short);
+        };
+        entries.push(entry)?;
+        rest = behind;
+    }
+    Ok((entries, rest))
 }
 
 impl<'a> FileParts<'a> {
-    /// The parts, where the bytes behind the header are a code of this length, one function, two
-    /// map entries and nothing more.
-    #[tactic(auto, unfolding(crate::specs::Reading::parts_behind))]
-    pub(crate) fn read(code_length: usize, bytes: &'a [u8]) -> Option<FileParts<'a>>
-        ensures { option_map parts_of_view result ≡ parts_behind code_length bytes.now }
+    /// The parts that the header counts. `Short` where the file ends before them, `Trailing` where
+    /// bytes follow them.
+    pub(crate) fn read(
+        alloc: Global,
+        header: &Header,
+        bytes: &'a [u8],
+    ) -> Result<FileParts<'a>, ImageFault>
+        requires long { 64 ≤ length bytes.now }
+        requires header { IsHeaderOf bytes.now header.now }
+        ensures found { IfOk result (λ parts. parts_of bytes.now ≡ Some (parts_of_view parts)) }
+        ensures refused { IfErr result (λ fault. (fault ≡ ImageFault.NoMemory)
+            ⊎ ReadsParts bytes.now (Err fault)) }
     {
-        if bytes.len() < code_length {
-            return None;
+        let (_, behind) = bytes.split_at(HEADER_LENGTH);
+        let code_length = header.code_length as usize;
+        if behind.len() < code_length {
+            return Err(ImageFault::Short);
         }
-        let (code, rest) = bytes.split_at(code_length);
-        let (function, rest) = FunctionEntry::read(rest)?;
-        let (first, rest) = MapLine::read(rest)?;
-        let (second, rest) = MapLine::read(rest)?;
+        let (code, rest) = behind.split_at(code_length);
+        let (functions, rest) = read_functions(alloc, header.functions, rest)?;
+        let (entries, rest) = read_entries(alloc, header.entries, rest)?;
         if !rest.is_empty() {
-            return None;
+            return Err(ImageFault::Trailing);
         }
-        Some(FileParts {
+        Ok(FileParts {
             code,
-            function,
-            entries: [first, second],
+            functions,
+            entries,
         })
     }
 }

@@ -1,36 +1,108 @@
 //! The entries of the sled map against the sleds of the code.
 
-ghost use Rattle.std.specs.Prelude.{◌≡◌, ◌↔◌, ◌-ℤ◌, ◌+◌, pos, not, ◌==◌, map, IsTrue, IsSome, IfSome, OnOk, IfOk, IfErr, FitsSigned};
+ghost use Rattle.std.specs.Prelude.{◌≡◌, ◌<◌, ◌≤◌, ◌^◌, ◌↔◌, ◌-ℤ◌, ◌+◌, ℕ, pos, length, map, IsTrue, OnOk, IfOk, IfErr, FitsSigned};
 ghost use Rattle.std.specs.List.{zip};
 ghost use Rattle.std.specs.Int.{w32};
-ghost use Rattle.xray_image.specs.Program.{KindFits, kind_of, sled_of};
-ghost use Rattle.xray_image.specs.Reading.{IsLineOf};
-ghost use Rattle.xray_image.specs.Views.{entry_of, place_of, trampolines_of, LinesFit};
+ghost use Rattle.xray_image.specs.Judging.{Ascend};
+ghost use Rattle.xray_image.specs.Program.{KindFits, LiesIn, IsEntryOf, Reaches, kind_of, id_of, sled_of};
+ghost use Rattle.xray_image.specs.Reading.{IsFirstFault};
+ghost use Rattle.xray_image.specs.Table.{HasOneAddress, FitsAt};
+ghost use Rattle.xray_image.specs.Views.{function_of, entry_of, place_of, trampolines_of};
 
 use crate::code_units::SledSpot;
 use crate::fault::ImageFault;
 use crate::header::Trampolines;
-use crate::parts::MapLine;
+use crate::parts::{FunctionEntry, MapLine};
 use crate::sled::{Sled, SledKind};
 use crate::unit_reader::SLED_LENGTH;
-use std::alloc::Global;
+use std::alloc::{AllocError, Global};
 
 /// The versions of map entries that are known are those below this.
 const VERSIONS: u8 = 2;
 
-/// The id of the only function.
-const FIRST_ID: u32 = 1;
-
-/// The kind of a sled by its number in the map, where it fits how the sled begins.
-fn sled_kind(returns: bool, kind: u8) -> Option<SledKind>
-    ensures fits { IsSome result ↔ KindFits returns kind }
-    ensures value { IfSome result (λ named. named ≡ kind_of kind) }
+/// Looks whether the entries of the map stand in the order of the sleds, one for each. `MapOrder` tells
+/// the first number whose entry and sled don't both exist with one address.
+pub(crate) fn check_order(spots: &[SledSpot], lines: &[MapLine]) -> Result<(), ImageFault>
+    requires spots { length spots.now < 2 ^ 32 }
+    requires lines { length lines.now < 2 ^ 32 }
+    ensures ordered { OnOk result ((i : ℕ)
+        → HasOneAddress (map place_of spots.now) (map entry_of lines.now) i) }
+    ensures refused { IfErr result (IsFirstFault
+        (HasOneAddress (map place_of spots.now) (map entry_of lines.now)) ImageFault.MapOrder) }
 {
-    match (returns, kind) {
-        (false, 0) => Some(SledKind::Entry),
-        (true, 1) => Some(SledKind::Exit),
-        (false, 2) => Some(SledKind::Tail),
-        _ => None,
+    for (number, line) in lines.iter().enumerate() {
+        if number >= spots.len() {
+            return Err(ImageFault::MapOrder(number as u32));
+        }
+        if spots[number].address != line.sled {
+            return Err(ImageFault::MapOrder(number as u32));
+        }
+    }
+    if lines.len() < spots.len() {
+        return Err(ImageFault::MapOrder(lines.len() as u32));
+    }
+    Ok(())
+}
+
+/// Whether an address lies in the function that begins at `start`: the last that begins at the address
+/// or below.
+fn lies_in(functions: &[FunctionEntry<'_>], address: u64, start: u64) -> bool
+    requires { Ascend (map function_of functions.now) }
+    ensures { IsTrue result ↔ LiesIn (map function_of functions.now) address start }
+{
+    let count = functions.partition_point(|function| function.start <= address);
+    count > 0 && functions[count - 1].start == start
+}
+
+/// Whether a sled that begins with a return, or doesn't, may have a kind of the map.
+fn may_have_kind(returns: bool, kind: u8) -> bool
+    ensures { IsTrue result ↔ KindFits returns kind }
+{
+    matches!((returns, kind), (true, 1) | (false, 0 | 2))
+}
+
+/// Whether an entry says of a sled what the code says.
+fn is_entry_of(functions: &[FunctionEntry<'_>], spot: &SledSpot, line: &MapLine) -> bool
+    requires { Ascend (map function_of functions.now) }
+    ensures { IsTrue result
+        ↔ IsEntryOf (map function_of functions.now) (place_of spot.now) (entry_of line.now) }
+{
+    lies_in(functions, spot.address, line.function)
+        && may_have_kind(spot.returns, line.kind)
+        && line.version < VERSIONS
+}
+
+/// Looks at what each entry says of its sled: the function that the sled lies in, a kind that fits how
+/// the sled begins, and a known version. `Odd` tells the first that doesn't.
+pub(crate) fn check_entries(
+    functions: &[FunctionEntry<'_>],
+    spots: &[SledSpot],
+    lines: &[MapLine],
+) -> Result<(), ImageFault>
+    requires few { length lines.now < 2 ^ 32 }
+    requires spots { length lines.now ≤ length spots.now }
+    requires ascend { Ascend (map function_of functions.now) }
+    ensures fit { OnOk result ((i : ℕ) → FitsAt (map place_of spots.now) (map entry_of lines.now)
+        (IsEntryOf (map function_of functions.now)) i) }
+    ensures refused { IfErr result (IsFirstFault (FitsAt (map place_of spots.now)
+        (map entry_of lines.now) (IsEntryOf (map function_of functions.now))) ImageFault.Odd) }
+{
+    for (number, line) in lines.iter().enumerate() {
+        if !is_entry_of(functions, &spots[number], line) {
+            return Err(ImageFault::Odd(number as u32));
+        }
+    }
+    Ok(())
+}
+
+/// The kind of a sled by its number in the map.
+fn kind_of(kind: u8) -> SledKind
+    ensures { result ≡ kind_of kind }
+{
+    match kind {
+        0 => SledKind::Entry,
+        1 => SledKind::Exit,
+        _ => SledKind::Tail,
     }
 }
 
@@ -43,62 +115,53 @@ fn reaches(sled: u64, trampoline: u64) -> bool
     i32::try_from(i128::from(trampoline) - end).is_ok()
 }
 
-/// The sled at a place of the code with what its map entry says, where the entry fits it. All sleds
-/// lie in the one function that begins at `function`.
-fn read_sled(
-    function: u64,
-    trampolines: &Trampolines,
-    spot: &SledSpot,
-    line: &MapLine,
-) -> Option<Sled>
-    ensures fits { IsSome result
-        ↔ IsLineOf function (trampolines_of trampolines.now) (place_of spot.now) (entry_of line.now) }
-    ensures value { IfSome result (λ sled. sled ≡ record {
-      address = spot.now.address;
-      function = line.now.function;
-      id = 1;
-      kind = kind_of line.now.kind;
-      always = not (line.now.always == 0);
-      shift = spot.now.shift;
-    }) }
-{
-    let kind = sled_kind(spot.returns, line.kind)?;
-    let fits = line.sled == spot.address
-        && line.function == function
-        && line.version < VERSIONS
-        && reaches(spot.address, trampolines.of(kind));
-    fits.then_some(Sled {
-        address: spot.address,
-        function: line.function,
-        id: FIRST_ID,
-        kind,
-        always: line.always != 0,
-        shift: spot.shift,
-    })
-}
-
-/// The sleds of a code with two sleds in one function, where the map's entries fit them.
-pub(crate) fn read_sleds(
-    alloc: Global,
-    function: u64,
+/// Looks whether each sled reaches the trampoline of its kind. `Far` tells the first entry whose sled
+/// doesn't.
+pub(crate) fn check_distances(
     trampolines: &Trampolines,
     spots: &[SledSpot],
-    lines: &[MapLine; 2],
-) -> Result<Vec<Sled>, ImageFault>
-    ensures fits { OnOk result (LinesFit function trampolines.now spots.now lines.now) }
-    ensures sleds { IfOk result (λ sleds. let entries = map entry_of lines.now in
-        sleds.items ≡ map (sled_of entries) (zip (map place_of spots.now) entries)) }
-    ensures only { LinesFit function trampolines.now spots.now lines.now
-        → IfErr result (λ e. e ≡ ImageFault.NoMemory) }
+    lines: &[MapLine],
+) -> Result<(), ImageFault>
+    requires few { length lines.now < 2 ^ 32 }
+    requires spots { length lines.now ≤ length spots.now }
+    ensures near { OnOk result ((i : ℕ) → FitsAt (map place_of spots.now) (map entry_of lines.now)
+        (Reaches (trampolines_of trampolines.now)) i) }
+    ensures refused { IfErr result (IsFirstFault (FitsAt (map place_of spots.now)
+        (map entry_of lines.now) (Reaches (trampolines_of trampolines.now))) ImageFault.Far) }
 {
-    let [first, second] = spots else {
-        return Err(ImageFault::NotYet);
-    };
-    let Some(first) = read_sled(function, trampolines, first, &lines[0]) else {
-        return Err(ImageFault::NotYet);
-    };
-    let Some(second) = read_sled(function, trampolines, second, &lines[1]) else {
-        return Err(ImageFault::NotYet);
-    };
-    Ok(vec![in alloc; first, second]?)
+    for (number, line) in lines.iter().enumerate() {
+        let trampoline = trampolines.of(kind_of(line.kind));
+        if !reaches(spots[number].address, trampoline) {
+            return Err(ImageFault::Far(number as u32));
+        }
+    }
+    Ok(())
+}
+
+/// The sleds of a code with what the map's entries of the same numbers say, and the ids of the entries'
+/// functions.
+pub(crate) fn read_sleds(
+    alloc: Global,
+    spots: &[SledSpot],
+    lines: &[MapLine],
+    ids: &[u32],
+) -> Result<Vec<Sled>, AllocError>
+    requires spots { length lines.now ≤ length spots.now }
+    requires ids { ids.now ≡ map (λ e. id_of (map entry_of lines.now) e.function) lines.now }
+    ensures { IfOk result (λ sleds. let entries = map entry_of lines.now in
+        sleds.items ≡ map (sled_of entries) (zip (map place_of spots.now) entries)) }
+{
+    let mut sleds = Vec::with_capacity(alloc, lines.len())?;
+    for (number, line) in lines.iter().enumerate() {
+        let spot = &spots[number];
+        sleds.push(Sled {
+            address: spot.address,
+            function: line.function,
+            id: ids[number],
+            kind: kind_of(line.kind),
+            always: line.always != 0,
+            shift: spot.shift,
+        })?;
+    }
+    Ok(sleds)
 }

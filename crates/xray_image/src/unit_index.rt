@@ -1,43 +1,91 @@
 //! Which unit begins at an address.
 
-ghost use Rattle.std.specs.Prelude.{◌≡◌, ◌≤◌, ◌<◌, ◌+◌, ◌-◌, ◌^◌, ℕ, List, length, Contains, slice_get, Some, MatchOption, IfOk};
+ghost use Rattle.std.specs.Prelude.{◌≡◌, ◌≤◌, ◌<◌, ◌+◌, ◌-◌, ◌/◌, ◌^◌, ℕ, List, length, Contains, slice_get, slice_index, slice_set, Some, MatchOption, IfOk, OnOk};
 ghost use Rattle.std.specs.List.Sorted.{IsStrictlyIncreasing};
 ghost use Rattle.xray_image.specs.Program.{addresses};
-ghost use Rattle.xray_image.specs.Index.{AreWithin, IsIndexOf};
+ghost use Rattle.xray_image.specs.Index.{AreWithin, IsIndexOf, HasBegun};
+ghost use Rattle.xray_image.specs.UnitTable.{units_in};
 
-use crate::unit::Unit;
+use crate::unit::UnitTable;
 use std::alloc::{AllocError, Global};
 
-/// Stands at the places of the code at which no unit begins.
-const NO_UNIT: u32 = u32::MAX;
+/// How many bytes of the code a block has.
+const BLOCK: usize = 128;
 
-/// The units of a code by their addresses.
+/// Stands at the bytes of the code at which no unit begins.
+const NO_UNIT: u8 = u8::MAX;
+
+/// The units of a code by their addresses, in about one byte for each byte of the code: a unit's number
+/// is that of the first unit of its block, and the unit's number within the block.
 #[derive(Debug, Drop)]
 pub(crate) struct UnitIndex {
     /// The address of the code's first byte.
     base: u64,
-    /// For each byte of the code the number of the unit that begins there, or `NO_UNIT`.
-    numbers: Vec<u32>,
+    /// For each block of the code, up to that of the last unit, how many units begin before it.
+    firsts: Vec<u32>,
+    /// For each byte of the code the number within its block of the unit that begins there, from 0, or
+    /// `NO_UNIT`.
+    steps: Vec<u8>,
 }
 
 impl UnitIndex {
+    /// Begins the blocks up to one that aren't begun. The next unit is their first.
+    fn begin_blocks(&mut self, block: usize, number: u32) -> Result<(), AllocError>
+        ensures begun { OnOk result
+            (HasBegun self.old.firsts.items self.new.firsts.items block number) }
+        ensures reaches { OnOk result (block < length self.new.firsts.items) }
+        ensures steps { self.new.steps ≡ self.old.steps }
+        ensures base { self.new.base ≡ self.old.base }
+    {
+        while self.firsts.len() <= block {
+            self.firsts.push(number)?;
+        }
+        Ok(())
+    }
+
+    /// Adds a unit behind the others, by its place in the code.
+    fn add(&mut self, place: usize, number: u32) -> Result<(), AllocError>
+        requires within { place < length self.old.steps.items }
+        requires above { (b : ℕ) → b < length self.old.firsts.items
+            → slice_index self.old.firsts.items b ≤ number }
+        requires near { place / 128 < length self.old.firsts.items
+            → number < slice_index self.old.firsts.items (place / 128) + 255 }
+        ensures begun { OnOk result
+            (HasBegun self.old.firsts.items self.new.firsts.items (place / 128) number) }
+        ensures reaches { OnOk result (place / 128 < length self.new.firsts.items) }
+        ensures steps { OnOk result (self.new.steps.items ≡ slice_set self.old.steps.items place
+            (number - slice_index self.new.firsts.items (place / 128))) }
+        ensures base { self.new.base ≡ self.old.base }
+    {
+        let block = place / BLOCK;
+        self.begin_blocks(block, number)?;
+        self.steps[place] = (number - self.firsts[block]) as u8;
+        Ok(())
+    }
+
     /// The index of units that lie in ascending address within a code of a length.
     pub(crate) fn new(
         alloc: Global,
         base: u64,
         code_length: usize,
-        units: &[Unit],
+        units: &UnitTable,
     ) -> Result<UnitIndex, AllocError>
-        requires within { AreWithin base code_length (addresses units.now) }
-        requires ascending { IsStrictlyIncreasing (addresses units.now) }
-        requires few { length units.now < 2 ^ 32 - 1 }
-        ensures index { IfOk result (IsIndexOf (addresses units.now)) }
+        requires within { AreWithin base code_length (addresses (units_in units.now)) }
+        requires ascending { IsStrictlyIncreasing (addresses (units_in units.now)) }
+        requires few { length (units_in units.now) < 2 ^ 32 - 1 }
+        requires low { units.now.base < 2 ^ 63 }
+        ensures index { IfOk result (IsIndexOf (addresses (units_in units.now))) }
     {
-        let mut numbers = vec![in alloc; NO_UNIT; code_length]?;
-        for (number, unit) in units.iter().enumerate() {
-            numbers[(unit.address - base) as usize] = number as u32;
+        let mut index = UnitIndex {
+            base,
+            firsts: Vec::new(alloc),
+            steps: vec![in alloc; NO_UNIT; code_length]?,
+        };
+        for number in 0..units.len() {
+            let unit = units.get(number);
+            index.add((unit.address - base) as usize, number as u32)?;
         }
-        Ok(UnitIndex { base, numbers })
+        Ok(index)
     }
 
     /// The number of the unit that begins at an address.
@@ -46,12 +94,15 @@ impl UnitIndex {
             → MatchOption result (Contains all address → ⊥) (λ i. slice_get all i ≡ Some address) }
     {
         let place = address.checked_sub(self.base)?;
-        if place >= self.numbers.len() as u64 {
+        if place >= self.steps.len() as u64 {
             return None;
         }
-        match self.numbers[place as usize] {
-            NO_UNIT => None,
-            number => Some(number),
+        let place = place as usize;
+        let step = self.steps[place];
+        if step == NO_UNIT {
+            return None;
         }
+        let first = *self.firsts.get(place / BLOCK)?;
+        first.checked_add(u32::from(step))
     }
 }

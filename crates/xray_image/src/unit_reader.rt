@@ -1,13 +1,16 @@
 //! The units of a code, read from its first byte to its last.
 
-ghost use Rattle.std.specs.Prelude.{◌≡◌, ◌≤◌, ◌<◌, ◌+◌, ◌^◌, ℕ, List, ◌∷◌, ◌++◌, length, MatchOption, IfSome, IsSome, IsSomeAnd, Some};
-ghost use Rattle.subset_decode.specs.declared.instr.Instr.{Instr};
-ghost use Rattle.subset_decode.specs.Encoding.{spelling, IsNamed, Begins};
-ghost use Rattle.xray_image.specs.Units.{Piece, piece_bytes, nop_bytes, IsPiece, IsUnits};
-ghost use Rattle.xray_image.specs.Views.{piece_of};
+ghost use Rattle.std.specs.Prelude.{◌≡◌, ◌≤◌, ◌<◌, ◌+◌, ◌^◌, ◌↔◌, ℕ, List, ◌∷◌, ◌++◌, length, drop, MatchOption, IfSome, IsSome, IsTrue, IfOk, IfErr, OnErr};
+ghost use Rattle.subset_decode.specs.Encoding.{Begins};
+ghost use Rattle.xray_image.specs.Units.{Piece, JumpSled, ReturnSled, piece_bytes, nop_bytes, IsPiece, IsSled};
+ghost use Rattle.xray_image.specs.Table.{BeginsAsSled, StandsAt};
+ghost use Rattle.xray_image.specs.Views.{piece_of, IsNoUnit};
 
 use crate::fields::u32_at;
-use subset_decode::{Instr, decode, one_instruction};
+use subset_decode::{DecodeFault, Instr, decode};
+
+/// The first byte of an entry or tail sled: a short jump.
+const JUMP: [u8; 1] = [0xEB];
 
 /// The first bytes of an entry or tail sled: a jump over the sled's other nine.
 const ENTRY_HEAD: [u8; 2] = [0xEB, 0x09];
@@ -40,6 +43,15 @@ pub(crate) enum RawUnit {
     Align,
 }
 
+/// Why no unit stands at an address.
+#[derive(Clone, Copy)]
+pub(crate) enum NoUnit {
+    /// What stands there begins as a sled, and isn't a whole one or stands at an odd address.
+    Sled,
+    /// What stands there is no instruction.
+    Code(DecodeFault),
+}
+
 /// What stands behind a front, where the bytes begin with it.
 fn behind<'a>(bytes: &'a [u8], front: &[u8]) -> Option<&'a [u8]>
     ensures { MatchOption result ((rest : List ℕ) → bytes.now ≡ front.now ++ rest → ⊥)
@@ -60,36 +72,51 @@ fn nop_shift(bytes: &[u8]) -> Option<u32>
     Some(u32_at(field, 0))
 }
 
-/// The instruction that the bytes begin with, and its length.
-fn instruction(bytes: &[u8]) -> Option<(Instr, usize)>
-    ensures found { IfSome result (λ x. IsNamed x.0 × Begins (spelling x.0) bytes.now
-        × (x.1 ≡ length (spelling x.0))) }
-    ensures only { (i : Instr) → IsNamed i → Begins (spelling i) bytes.now → IsSome result }
+/// Whether the bytes begin as a sled does. No instruction of the subset begins so, but for a return.
+fn begins_as_sled(bytes: &[u8]) -> bool
+    ensures { IsTrue result ↔ BeginsAsSled bytes.now }
 {
-    decode(bytes, 0).ok()
+    behind(bytes, &JUMP).is_some() || behind(bytes, &EXIT_HEAD).is_some()
 }
 
-/// The unit that the bytes begin with, and its length.
-pub(crate) fn read_unit(bytes: &[u8]) -> Option<(RawUnit, usize)>
-    requires { 0 < length bytes.now }
-    ensures found { IfSome result (λ x. IsPiece (piece_of x.0)
-        × Begins (piece_bytes (piece_of x.0)) bytes.now
-        × (x.1 ≡ length (piece_bytes (piece_of x.0)))) }
-    ensures only { (first : Piece) (others : List Piece) → IsUnits bytes.now (first ∷ others)
-        → IsSomeAnd result (λ x. piece_of x.0 ≡ first) }
+/// The sled that the bytes begin with.
+fn whole_sled(bytes: &[u8]) -> Option<RawUnit>
+    ensures found { IfSome result (λ raw. IsSled (piece_of raw) × IsPiece (piece_of raw)
+        × Begins (piece_bytes (piece_of raw)) bytes.now) }
+    ensures only { (piece : Piece) → IsSled piece → Begins (piece_bytes piece) bytes.now → IsSome result }
 {
-    one_instruction();
-    if bytes[0] == ALIGNMENT {
-        return Some((RawUnit::Align, 1));
-    }
     if let Some(nop) = behind(bytes, &ENTRY_HEAD) {
         let shift = nop_shift(nop)?;
-        return Some((RawUnit::JumpSled(shift), SLED_LENGTH));
+        return Some(RawUnit::JumpSled(shift));
     }
-    if let Some(nop) = behind(bytes, &EXIT_HEAD) {
-        let shift = nop_shift(nop)?;
-        return Some((RawUnit::ReturnSled(shift), SLED_LENGTH));
+    let nop = behind(bytes, &EXIT_HEAD)?;
+    let shift = nop_shift(nop)?;
+    Some(RawUnit::ReturnSled(shift))
+}
+
+/// The unit that stands at an address, where these bytes begin, and its length.
+pub(crate) fn read_unit(address: u64, bytes: &[u8]) -> Result<(RawUnit, usize), NoUnit>
+    requires { 0 < length bytes.now }
+    ensures found { IfOk result (λ x. StandsAt address bytes.now (piece_of x.0) (drop x.1 bytes.now)) }
+    ensures length { IfOk result (λ x. x.1 ≡ length (piece_bytes (piece_of x.0))) }
+    ensures none { OnErr result ((piece : Piece) (rest : List ℕ)
+        → StandsAt address bytes.now piece rest → ⊥) }
+    ensures why { IfErr result (IsNoUnit bytes.now) }
+{
+    if bytes[0] == ALIGNMENT {
+        return Ok((RawUnit::Align, 1));
     }
-    let (instr, length) = instruction(bytes)?;
-    Some((RawUnit::Instruction(instr), length))
+    if begins_as_sled(bytes) {
+        let Some(sled) = whole_sled(bytes) else {
+            return Err(NoUnit::Sled);
+        };
+        if !address.is_multiple_of(2) {
+            return Err(NoUnit::Sled);
+        }
+        return Ok((sled, SLED_LENGTH));
+    }
+    match decode(bytes, 0) {
+        Ok((instr, length)) => Ok((RawUnit::Instruction(instr), length)),
+        Err(fault) => Err(NoUnit::Code(fault)),
+    }
 }

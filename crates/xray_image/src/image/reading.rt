@@ -1,84 +1,149 @@
 //! Images from the bytes of a file.
 
-ghost use Rattle.std.specs.Prelude.{◌≡◌, ◌⊎◌, [], length, Ok, Err, Some, IsTrue, IsSome, IfSome, IfOk, IfErr};
-ghost use Rattle.xray_image.specs.Container.{Parts, function_count, entry_count, parts_of};
-ghost use Rattle.xray_image.specs.Program.{Program, IsAccepted};
+ghost use Rattle.std.specs.Prelude.{◌≡◌, ◌<◌, ◌^◌, ◌↔◌, ◌⊎◌, ℕ, List, length, map, true, All, Ok, Err, IsTrue, OnOk, IfOk, IfErr};
+ghost use Rattle.std.specs.List.Sorted.{IsNonDecreasingBy};
 ghost use Rattle.xray_image.specs.FirstRun.{IsFirstRun};
-ghost use Rattle.xray_image.specs.Header.{HasHeader};
-ghost use Rattle.xray_image.specs.Reading.{IsOnlyFunction};
-ghost use Rattle.xray_image.specs.Views.{IsFileOf, function_of};
+ghost use Rattle.xray_image.specs.ImageView.{named_function};
+ghost use Rattle.xray_image.specs.Index.{AreWithin, IsIndexOf};
+ghost use Rattle.xray_image.specs.Judging.{IsJudged};
+ghost use Rattle.xray_image.specs.Program.{Program, IsAccepted, addresses, is_name_byte};
+ghost use Rattle.xray_image.specs.Table.{Verdict, ReadsAs, ReadsProgram};
+ghost use Rattle.xray_image.specs.UnitTable.{units_in};
+ghost use Rattle.xray_image.specs.Views.{entry_of, function_of, places_in, program_read};
 
+use crate::branches::check_branches;
 use crate::code_units::CodeUnits;
 use crate::fault::ImageFault;
 use crate::first_run::is_straight_run;
-use crate::header::{HEADER_LENGTH, Header};
+use crate::functions::check_functions;
+use crate::header::Header;
+use crate::ids::FunctionIds;
 use crate::image::{Function, Image};
+use crate::laws::one_verdict;
 use crate::parts::{FileParts, FunctionEntry};
-use crate::sled_map::read_sleds;
+use crate::sled_map::{check_distances, check_entries, check_order, read_sleds};
 use crate::unit_index::UnitIndex;
 use std::alloc::{AllocError, Global};
-use subset_decode::one_instruction;
 
-/// How many functions a file has that is read.
-const FUNCTIONS: u32 = 1;
-
-/// How many map entries a file has that is read.
-const MAP_ENTRIES: u32 = 2;
-
-/// The header and the parts of a file with one function and two map entries.
-fn read_file(bytes: &[u8]) -> Option<(Header, FileParts<'_>)>
-    ensures found { IfSome result (λ file. IsFileOf bytes.now file.0 file.1) }
-    ensures only { (parts : Parts) → HasHeader bytes.now
-        → function_count bytes.now ≡ 1 → entry_count bytes.now ≡ 2
-        → parts_of bytes.now ≡ Some parts → parts.rest ≡ [] → IsSome result }
+/// Looks at all that has to hold of a file whose units were read, in the order of the refusals: its
+/// functions, the order of the map, its entries, the distances to the trampolines, and the branches.
+fn check_program(
+    alloc: Global,
+    header: &Header,
+    parts: &FileParts<'_>,
+    code: &CodeUnits,
+    index: &UnitIndex,
+) -> Result<(), ImageFault>
+    requires index { IsIndexOf (addresses (units_in code.now.units)) index.now }
+    requires low { code.now.units.base < 2 ^ 63 }
+    requires base { header.now.base < 2 ^ 63 }
+    requires within { AreWithin header.now.base (2 ^ 32) (addresses (units_in code.now.units)) }
+    requires functions { length parts.now.functions.items < 2 ^ 32 }
+    requires spots { length code.now.sleds.items < 2 ^ 32 }
+    requires lines { length parts.now.entries.items < 2 ^ 32 }
+    ensures fit { OnOk result (IsJudged (map entry_of parts.now.entries.items) (places_in code.now)
+        (program_read header.now parts.now code.now)) }
+    ensures refused { IfErr result (λ fault. (fault ≡ ImageFault.NoMemory)
+        ⊎ ReadsProgram (map entry_of parts.now.entries.items) (places_in code.now)
+        (program_read header.now parts.now code.now) (Err fault)) }
 {
-    let header = Header::read(bytes)?;
-    if header.functions != FUNCTIONS || header.entries != MAP_ENTRIES {
-        return None;
-    }
-    let parts = FileParts::read(header.code_length as usize, &bytes[HEADER_LENGTH..])?;
-    Some((header, parts))
+    check_functions(alloc, header.base, index, &parts.functions)?;
+    check_order(&code.sleds, &parts.entries)?;
+    check_entries(&parts.functions, &code.sleds, &parts.entries)?;
+    check_distances(&header.trampolines, &code.sleds, &parts.entries)?;
+    check_branches(header.base, index, &code.units)?;
+    Ok(())
 }
 
-/// Reads an image file. It has to have one function, whose code is one entry sled, instructions that
-/// go straight on (`mov`, and at most 65,536 `out`), at most one alignment byte, and one exit sled:
-/// everything else is `NotYet`. `NoMemory` comes only for want of memory. Takes time and memory
-/// linear in the file's length.
-pub fn read_image(alloc: Global, bytes: &[u8]) -> Result<Image, ImageFault>
-    ensures found { IfOk result (λ image. IsAccepted bytes.now image × IsFirstRun image) }
-    // Every file of the form is read, unless memory runs out.
-    ensures complete { (program : Program) → IsAccepted bytes.now program → IsFirstRun program
-        → (result ≡ Ok program) ⊎ (result ≡ Err ImageFault.NoMemory) }
+/// The functions, with names of their own memory.
+fn named_functions(
+    alloc: Global,
+    entries: &[FunctionEntry<'_>],
+) -> Result<Vec<Function>, AllocError>
+    requires { All (λ f. All (λ b. is_name_byte b ≡ true) f.name) (map function_of entries.now) }
+    ensures { IfOk result (λ functions.
+        map named_function functions.items ≡ map function_of entries.now) }
 {
-    one_instruction();
-    let Some((header, parts)) = read_file(bytes) else {
-        return Err(ImageFault::NotYet);
-    };
-    let code = CodeUnits::read(alloc, header.base, parts.code)?;
-    if !parts.function.is_only(header.base) {
-        return Err(ImageFault::NotYet);
+    let mut functions = Vec::with_capacity(alloc, entries.len())?;
+    for entry in entries {
+        functions.push(Function::new(alloc, entry.start, entry.name)?)?;
     }
-    let sleds = read_sleds(
-        alloc,
-        header.base,
-        &header.trampolines,
-        &code.sleds,
-        &parts.entries,
-    )?;
-    if !is_straight_run(&code.units, &sleds) {
-        return Err(ImageFault::NotYet);
-    }
-    let index = UnitIndex::new(alloc, header.base, parts.code.len(), &code.units)?;
-    let name = Vec::from_slice(alloc, parts.function.name)?;
-    let start = parts.function.start;
-    let functions = vec![in alloc; Function { start, name }]?;
+    Ok(functions)
+}
+
+/// The image of an accepted file.
+fn image_of(
+    alloc: Global,
+    header: &Header,
+    parts: &FileParts<'_>,
+    code: CodeUnits,
+    index: UnitIndex,
+) -> Result<Image, AllocError>
+    requires accepted { (bytes : List ℕ) × IsAccepted bytes (program_read header.now parts.now code) }
+    requires judged { IsJudged (map entry_of parts.now.entries.items) (places_in code)
+        (program_read header.now parts.now code) }
+    requires ascend { IsNonDecreasingBy (λ place. place.address) (places_in code) }
+    requires index { IsIndexOf (addresses (units_in code.units)) index }
+    requires table { code.units.base ≡ header.now.base }
+    requires entry { header.now.entry_index < length parts.now.functions.items }
+    requires functions { length parts.now.functions.items < 2 ^ 32 }
+    requires lines { length parts.now.entries.items < 2 ^ 32 }
+    ensures { IfOk result (λ image. image ≡ program_read header.now parts.now code) }
+{
+    let functions = named_functions(alloc, &parts.functions)?;
+    let ids = FunctionIds::new(alloc, &parts.functions, &parts.entries)?;
+    let sleds = read_sleds(alloc, &code.sleds, &parts.entries, &ids.of_entries)?;
     Ok(Image {
         base: header.base,
-        entry: header.base,
+        entry: parts.functions[header.entry_index as usize].start,
+        code: Vec::from_slice(alloc, parts.code)?,
         functions,
         units: code.units,
         sleds,
         trampolines: header.trampolines,
         index,
+        ids: ids.functions,
     })
+}
+
+/// Reads an image file: its header, its parts and its units, and then looks at what the file says of
+/// them.
+fn read_program(alloc: Global, bytes: &[u8]) -> Result<Image, ImageFault>
+    ensures { (result ≡ Err ImageFault.NoMemory) ⊎ ReadsAs bytes.now result }
+{
+    let header = Header::read(bytes)?;
+    let parts = FileParts::read(alloc, &header, bytes)?;
+    let code = CodeUnits::read(alloc, header.base, parts.code)?;
+    let index = UnitIndex::new(alloc, header.base, parts.code.len(), &code.units)?;
+    check_program(alloc, &header, &parts, &code, &index)?;
+    Ok(image_of(alloc, &header, &parts, code, index)?)
+}
+
+/// Reads an image file. Where it isn't accepted the answer is the first refusal of the table that
+/// applies, each as `ImageFault` says. `NoMemory` comes only for want of memory. Takes time linear
+/// in the file's length (a look-up in a map for each name), and takes no memory by a count that the
+/// file's length doesn't bear out.
+pub fn read_image(alloc: Global, bytes: &[u8]) -> Result<Image, ImageFault>
+    // The answer is what the file reads as, unless memory runs out.
+    ensures reads { (result ≡ Err ImageFault.NoMemory) ⊎ ReadsAs bytes.now result }
+    ensures exact { (verdict : Verdict) → ReadsAs bytes.now verdict
+        → (result ≡ verdict) ⊎ (result ≡ Err ImageFault.NoMemory) }
+    // An image is read exactly of an accepted file.
+    ensures found { IfOk result (IsAccepted bytes.now) }
+    ensures complete { (program : Program) → IsAccepted bytes.now program
+        → (result ≡ Ok program) ⊎ (result ≡ Err ImageFault.NoMemory) }
+{
+    one_verdict();
+    read_program(alloc, bytes)
+}
+
+impl Image {
+    /// Whether the image is of the form that a first run of `sim` takes: one function that is an entry
+    /// sled, moves and outputs of which at most 65,536 are outputs, at most one alignment byte, and an
+    /// exit sled.
+    pub fn is_first_run(&self) -> bool
+        ensures { IsTrue result ↔ IsFirstRun self.now }
+    {
+        self.functions.len() == 1 && is_straight_run(self.units.as_slice(), &self.sleds)
+    }
 }

@@ -1,10 +1,14 @@
-use Rattle.std.proofs.Common.{◌-◌, length, map}
+use Rattle.std.proofs.Common.{◌≡◌, ◌-◌, length, map}
 use Rattle.xray_image.specs.Reading.{IsReadTo}
+use Rattle.xray_image.specs.UnitTable.{units_in}
 use Rattle.xray_image.specs.Views.{place_of}
 use Rattle.xray_image.proofs.code_units.CodeUnits.read.Given as goal
 
 abbrev pub invariant-loop-at : goal.invariant-loop-at
-invariant-loop-at l = IsReadTo l.base l.code l.at l.read.units.items (map place_of l.read.sleds.items)
+invariant-loop-at l = record {
+  table : l.read.units.base ≡ l.base;
+  read : IsReadTo l.base l.code l.at (units_in l.read.units) (map place_of l.read.sleds.items);
+}
 
 abbrev pub decreases-loop-at : goal.decreases-loop-at
 decreases-loop-at l = length l.code - l.at

@@ -1,0 +1,133 @@
+-- Units that stand one behind the other: what stands at a place is one unit at most.
+use Rattle.std.proofs.Common.{◌≡◌, ℕ, ◌+◌, ◌%◌, inl, inr, true, false, List, [], ◌∷◌, ◌++◌, length, All, refl, sym, ap, subst, ◌∙◌, arith}
+use Rattle.std.specs.Prelude.{◌↔◌}
+use Rattle.std.specs.List.{flat_map, AllByRecursion}
+use Rattle.std.proofs.lemmas.List.{append_cancel_left, length-append}
+use Rattle.std.proofs.lemmas.List.Elements.{All-nil, All-cons, All-head, All-tail}
+use Rattle.subset_decode.specs.declared.instr.Instr.{Instr}
+use Rattle.subset_decode.specs.Encoding.{spelling, IsNamed}
+use Rattle.xray_image.specs.Units.{Piece, Instruction, JumpSled, ReturnSled, Align, piece_bytes, IsPiece, IsUnits, places_from}
+use Rattle.xray_image.specs.Reading.{IsEven}
+use Rattle.xray_image.specs.Table.{BeginsAsSled, MayStand, StandsAt, StandUpTo}
+use Rattle.xray_image.proofs.Pieces.{OneInstruction, IsNoReturnSled, same_piece, piece_has_byte, opens, other_byte, return_alone}
+
+-- ---- one place
+
+-- an instruction that stands somewhere is no return in front of 2E
+no_return_sled : (address : ℕ) (bytes : List ℕ) (p : Piece) (behind : List ℕ) → StandsAt address bytes p behind → IsNoReturnSled p behind
+no_return_sled address bytes (Instruction i) behind s = λ rest e. s.place (inr (rest, s.spelled ∙ e))
+no_return_sled address bytes (JumpSled shift) behind s = tt
+no_return_sled address bytes (ReturnSled shift) behind s = tt
+no_return_sled address bytes Align behind s = tt
+
+-- what stands at a place, and what is behind it, the bytes determine
+pub stands_once : OneInstruction → (address : ℕ) (bytes : List ℕ) (p q : Piece) (s t : List ℕ) → StandsAt address bytes p s → StandsAt address bytes q t → (p ≡ q) × (s ≡ t)
+stands_once one address bytes p q s t x y =
+    let same : p ≡ q = same_piece one p q s t x.fits y.fits (no_return_sled address bytes p s x) (no_return_sled address bytes q t y) (sym x.spelled ∙ y.spelled) in (
+      same,
+      append_cancel_left (piece_bytes p) s t (sym x.spelled ∙ y.spelled ∙ ap (λ (x : Piece). piece_bytes x ++ t) (sym same)),
+    )
+
+-- ---- one front
+
+-- no unit stands in front of the bytes
+pub record IsStuck (address : ℕ) (bytes : List ℕ) : Type 0 where
+  pub none : (piece : Piece) (behind : List ℕ) → StandsAt address bytes piece behind → ⊥
+
+-- nothing stands in front of no bytes
+pub stuck_at_end : (address : ℕ) → IsStuck address []
+stuck_at_end address = record {
+  none = λ piece behind s.
+      let h = ap length s.spelled in
+      omega (arith, length-append (piece_bytes piece) behind, piece_has_byte piece);
+}
+
+-- units that go on until none does
+pub record IsFront (address : ℕ) (bytes : List ℕ) (pieces : List Piece) (end : ℕ) (left : List ℕ) : Type 0 where
+  pub stand : StandUpTo address bytes pieces end left
+  pub stuck : IsStuck end left
+
+pub record SameFront (ps qs : List Piece) (end end' : ℕ) (left left' : List ℕ) : Type 0 where
+  pub pieces : ps ≡ qs
+  pub ends : end ≡ end'
+  pub lefts : left ≡ left'
+
+-- the bytes determine how far units go on, and which
+pub one_front : OneInstruction → (address : ℕ) (bytes : List ℕ) (ps qs : List Piece) (end end' : ℕ) (left left' : List ℕ)
+    → IsFront address bytes ps end left → IsFront address bytes qs end' left' → SameFront ps qs end end' left left'
+one_front one address bytes [] [] end end' left left' f g =
+    record { pieces = refl; ends = f.stand.0 ∙ sym g.stand.0; lefts = f.stand.1 ∙ sym g.stand.1 }
+one_front one address bytes [] (q ∷ qs) end end' left left' f g =
+    let here = subst (λ (a : ℕ). IsStuck a bytes) f.stand.0 (subst (IsStuck end) f.stand.1 f.stuck) in
+    absurd (here.none q g.stand.0 g.stand.1)
+one_front one address bytes (p ∷ ps) [] end end' left left' f g =
+    let here = subst (λ (a : ℕ). IsStuck a bytes) g.stand.0 (subst (IsStuck end') g.stand.1 g.stuck) in
+    absurd (here.none p f.stand.0 f.stand.1)
+one_front one address bytes (p ∷ ps) (q ∷ qs) end end' left left' f g =
+    let same = stands_once one address bytes p q f.stand.0 g.stand.0 f.stand.1 g.stand.1 in
+    let next = address + length (piece_bytes p) in
+    let behind = f.stand.0 in
+    let others : StandUpTo next behind qs end' left' =
+    subst (λ (b : List ℕ). StandUpTo next b qs end' left') (sym same.1)
+    (subst (λ (x : Piece). StandUpTo (address + length (piece_bytes x)) g.stand.0 qs end' left') (sym same.0) g.stand.2) in
+    let rest = one_front one next behind ps qs end end' left left' (record { stand = f.stand.2; stuck = f.stuck }) (record { stand = others; stuck = g.stuck }) in
+    record {
+      pieces = ap (λ (x : Piece). x ∷ ps) same.0 ∙ ap (λ (x : List Piece). q ∷ x) rest.pieces;
+      ends = rest.ends;
+      lefts = rest.lefts;
+    }
+
+-- ---- the whole code
+
+even_with : (address : ℕ) (bytes : List ℕ) (p : Piece) (behind : List ℕ) (ps : List Piece) → StandsAt address bytes p behind
+    → All IsEven (places_from (address + length (piece_bytes p)) ps) → All IsEven (places_from address (p ∷ ps))
+even_with address bytes (Instruction i) behind ps s even = even
+even_with address bytes (JumpSled shift) behind ps s even = All-cons IsEven (record { address = address; shift = shift; returns = false }) (places_from (address + 11) ps) s.place even
+even_with address bytes (ReturnSled shift) behind ps s even = All-cons IsEven (record { address = address; shift = shift; returns = true }) (places_from (address + 11) ps) s.place even
+even_with address bytes Align behind ps s even = even
+
+-- units that stand up to the end are the units of the code, and their sleds stand at even addresses
+pub stand_are : (address : ℕ) (bytes : List ℕ) (pieces : List Piece) (end : ℕ) → StandUpTo address bytes pieces end [] → IsUnits bytes pieces × All IsEven (places_from address pieces)
+stand_are address bytes [] end s = (record { whole = sym s.1; pieces_fit = tt }, All-nil IsEven)
+stand_are address bytes (p ∷ ps) end s =
+    let here = s.1 in
+    let rest = stand_are (address + length (piece_bytes p)) s.0 ps end s.2 in (
+      record { whole = here.spelled ∙ ap (λ (x : List ℕ). piece_bytes p ++ x) rest.0.whole; pieces_fit = (here.fits, rest.0.pieces_fit) },
+      even_with address bytes p s.0 ps here rest.1,
+    )
+
+even_behind : (address : ℕ) (p : Piece) (ps : List Piece) → All IsEven (places_from address (p ∷ ps)) → All IsEven (places_from (address + length (piece_bytes p)) ps)
+even_behind address (Instruction i) ps even = even
+even_behind address (JumpSled shift) ps even = All-tail IsEven (record { address = address; shift = shift; returns = false }) (places_from (address + 11) ps) even
+even_behind address (ReturnSled shift) ps even = All-tail IsEven (record { address = address; shift = shift; returns = true }) (places_from (address + 11) ps) even
+even_behind address Align ps even = even
+
+-- an instruction in front of units begins as no sled
+begins_no_sled : (i : Instr) (ps : List Piece) (bytes : List ℕ) → IsNamed i → AllByRecursion IsPiece ps → bytes ≡ spelling i ++ flat_map piece_bytes ps → BeginsAsSled bytes → ⊥
+begins_no_sled i ps bytes fit fits e (inl (rest, jump)) = other_byte i 0xEB (flat_map piece_bytes ps) rest (opens i fit) (opens i fit).no_jump (sym e ∙ jump)
+begins_no_sled i ps bytes fit fits e (inr (rest, returns)) = return_alone i ps rest fit fits (sym e ∙ returns)
+
+may_stand : (address : ℕ) (bytes : List ℕ) (p : Piece) (ps : List Piece) → bytes ≡ piece_bytes p ++ flat_map piece_bytes ps → IsPiece p → AllByRecursion IsPiece ps
+    → All IsEven (places_from address (p ∷ ps)) → MayStand address bytes p
+may_stand address bytes (Instruction i) ps e fit fits even = begins_no_sled i ps bytes fit fits e
+may_stand address bytes (JumpSled shift) ps e fit fits even = All-head IsEven (record { address = address; shift = shift; returns = false }) (places_from (address + 11) ps) even
+may_stand address bytes (ReturnSled shift) ps e fit fits even = All-head IsEven (record { address = address; shift = shift; returns = true }) (places_from (address + 11) ps) even
+may_stand address bytes Align ps e fit fits even = tt
+
+-- the units of a code whose sleds stand at even addresses stand up to its end
+pub units_stand : (address : ℕ) (bytes : List ℕ) (pieces : List Piece) → IsUnits bytes pieces → All IsEven (places_from address pieces) → StandUpTo address bytes pieces (address + length bytes) []
+units_stand address bytes [] u even = (let h = ap length u.whole in omega arith, sym u.whole)
+units_stand address bytes (p ∷ ps) u even =
+    let behind = flat_map piece_bytes ps in
+    let next = address + length (piece_bytes p) in
+    let rest : StandUpTo next behind ps (next + length behind) [] = units_stand next behind ps (record { whole = refl; pieces_fit = u.pieces_fit.1 }) (even_behind address p ps even) in
+    let end : next + length behind ≡ address + length bytes = omega (arith, ap length u.whole, length-append (piece_bytes p) behind) in (
+      behind,
+      record { spelled = u.whole; fits = u.pieces_fit.0; place = may_stand address bytes p ps u.whole u.pieces_fit.0 u.pieces_fit.1 even },
+      subst (λ (e : ℕ). StandUpTo next behind ps e []) end rest,
+    )
+
+-- the units stand up to the code's end exactly where they are the code and their sleds stand at even addresses
+pub stand_whole : (base : ℕ) (code : List ℕ) (pieces : List Piece)
+    → StandUpTo base code pieces (base + length code) [] ↔ (IsUnits code pieces × All (λ place. place.address % 2 ≡ 0) (places_from base pieces))
+stand_whole base code pieces = (λ s. stand_are base code pieces (base + length code) s, λ u. units_stand base code pieces u.0 u.1)

@@ -1,0 +1,10 @@
+use Rattle.std.proofs.Common.{map}
+use Rattle.xray_image.specs.Program.{id_of}
+use Rattle.xray_image.specs.Ids.{HasCounted}
+use Rattle.xray_image.specs.Views.{entry_of}
+use Rattle.xray_image.proofs.ids.FunctionIds.new.Given as goal
+
+abbrev pub invariant-loop-line : goal.invariant-loop-line
+invariant-loop-line l =
+    HasCounted (map (λ f. f.start) l.functions) (map (λ e. e.function) l.lines) (map (λ e. id_of (map entry_of l.lines) e.function) l.lines) l.line-index l.last
+    l.ids.functions.items l.ids.of_entries.items

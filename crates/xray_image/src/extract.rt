@@ -1,0 +1,121 @@
+//! The text of a sled map.
+
+ghost use Rattle.std.specs.Prelude.{◌≡◌, ◌≤◌, [], OnOk, OnErr};
+ghost use Rattle.std.specs.Option.{unwrap_or};
+ghost use Rattle.xray_io.specs.Faults.{Rose};
+ghost use Rattle.xray_io.specs.Sink.{Adds, AddsPrefix};
+ghost use Rattle.xray_io.specs.Text.{sink_of, loan_of, Gains, Breaks};
+ghost use Rattle.xray_image.specs.Extract.{extract_text, sled_line, kind_text, truth_text};
+ghost use Rattle.xray_image.specs.Ids.{name_of};
+
+use crate::image::Image;
+use crate::sled::{Sled, SledKind};
+use xray_io::{Piece, Sink, Text, WriteFault};
+
+/// How many hexadecimal digits an address is printed in.
+const ADDRESS_DIGITS: usize = 16;
+
+/// Writes the sled map of an image as `llvm-xray extract` does, as a YAML document with a line for
+/// each sled in the order of the map. Takes no memory.
+///
+/// On `WriteFault` a front of the text was written, and the sink counted a fault.
+pub fn write_extract<S: Sink>(image: &Image, sink: &mut S) -> Result<(), WriteFault>
+    ensures all { OnOk result
+        (Adds (S.written sink.old) (S.written sink.new) (extract_text image.now)) }
+    ensures front { OnErr result
+        (AddsPrefix (S.written sink.old) (S.written sink.new) (extract_text image.now)) }
+    ensures failed { OnErr result (Rose (S.faults sink.old) (S.faults sink.new)) }
+    ensures later { S.faults sink.old ≤ S.faults sink.new }
+    ensures follows { S.follows sink.old sink.new }
+{
+    let mut text = Text::new(sink);
+    add_extract(&mut text, image)?;
+    text.done()
+}
+
+/// Adds the whole document.
+fn add_extract<S: Sink>(text: &mut Text<S>, image: &Image) -> Result<(), WriteFault>
+    ensures gains { OnOk result (Gains S.written text.old text.new (extract_text image.now)) }
+    ensures breaks { OnErr result
+        (Breaks S.written text.old (sink_of text.new) (extract_text image.now)) }
+    ensures failed { OnErr result
+        (Rose (S.faults (sink_of text.old)) (S.faults (sink_of text.new))) }
+    ensures later { S.faults (sink_of text.old) ≤ S.faults (sink_of text.new) }
+    ensures follows { S.follows (sink_of text.old) (sink_of text.new) }
+    ensures loan { loan_of text.new ≡ loan_of text.old }
+{
+    text.bytes(b"---\n")?;
+    for number in 0..image.sled_count() {
+        let sled = image.sled(number);
+        add_sled(text, image, &sled)?;
+    }
+    text.bytes(b"...\n")
+}
+
+/// Adds the line of a sled.
+fn add_sled<S: Sink>(text: &mut Text<S>, image: &Image, sled: &Sled) -> Result<(), WriteFault>
+    ensures gains { OnOk result
+        (Gains S.written text.old text.new (sled_line image.now sled.now)) }
+    ensures breaks { OnErr result
+        (Breaks S.written text.old (sink_of text.new) (sled_line image.now sled.now)) }
+    ensures failed { OnErr result
+        (Rose (S.faults (sink_of text.old)) (S.faults (sink_of text.new))) }
+    ensures later { S.faults (sink_of text.old) ≤ S.faults (sink_of text.new) }
+    ensures follows { S.follows (sink_of text.old) (sink_of text.new) }
+    ensures loan { loan_of text.new ≡ loan_of text.old }
+{
+    let id = u128::from(sled.id);
+    let name = name_bytes(image, sled.id);
+    text.pieces(&[
+        Piece::Bytes(b"- { id: "),
+        Piece::Number(id),
+        Piece::Bytes(b", address: 0x"),
+        Piece::Hex {
+            number: sled.address,
+            digits: ADDRESS_DIGITS,
+        },
+        Piece::Bytes(b", function: 0x"),
+        Piece::Hex {
+            number: sled.function,
+            digits: ADDRESS_DIGITS,
+        },
+        Piece::Bytes(b", kind: "),
+        Piece::Bytes(kind_bytes(sled.kind)),
+        Piece::Bytes(b", always-instrument: "),
+        Piece::Bytes(truth_bytes(sled.always)),
+        Piece::Bytes(b", function-name: '"),
+        Piece::Bytes(name),
+        Piece::Bytes(b"' }\n"),
+    ])
+}
+
+/// The name of the function with an id.
+fn name_bytes(image: &Image, id: u32) -> &[u8]
+    ensures { result.now ≡ unwrap_or (name_of image.now id) [] }
+{
+    match image.name_of(id) {
+        Some(name) => name.as_bytes(),
+        None => b"",
+    }
+}
+
+/// How a kind of sleds is printed.
+fn kind_bytes(kind: SledKind) -> &'static [u8]
+    ensures { result.now ≡ kind_text kind }
+{
+    match kind {
+        SledKind::Entry => b"function-enter",
+        SledKind::Exit => b"function-exit",
+        SledKind::Tail => b"tail-exit",
+    }
+}
+
+/// How a yes or no is printed.
+fn truth_bytes(holds: bool) -> &'static [u8]
+    ensures { result.now ≡ truth_text holds }
+{
+    if holds { b"true" } else { b"false" }
+}
+
+#[cfg(test)]
+mod tests;

@@ -1,0 +1,96 @@
+//! The functions of a file against the units of its code.
+
+ghost use Rattle.std.specs.Prelude.{◌≡◌, ◌<◌, ◌^◌, ◌↔◌, ◌⊎◌, ℕ, List, length, map, not, Contains, ◌||◌, IsTrue, OnOk, IfOk, IfErr};
+ghost use Rattle.std.specs.Str.{bytes_eq};
+ghost use Rattle.xray_image.specs.declared.unit.Unit.{Unit};
+ghost use Rattle.xray_image.specs.Index.{IsIndexOf};
+ghost use Rattle.xray_image.specs.Judging.{IsAbove, IsName, StandsBehind, is_among};
+ghost use Rattle.xray_image.specs.Program.{addresses, is_name_byte};
+ghost use Rattle.xray_image.specs.Reading.{IsFirstFault};
+ghost use Rattle.xray_image.specs.Table.{FunctionIsFit};
+ghost use Rattle.xray_image.specs.Views.{function_of};
+
+use crate::fault::ImageFault;
+use crate::parts::FunctionEntry;
+use crate::unit_index::UnitIndex;
+use std::alloc::Global;
+use std::collections::BTreeSet;
+
+/// Whether a byte may stand in a name: a letter, a digit, or one of `_`, `.` and `$`.
+fn may_name(byte: u8) -> bool
+    ensures { result ≡ is_name_byte byte }
+{
+    byte.is_ascii_alphanumeric() || matches!(byte, b'_' | b'.' | b'$')
+}
+
+/// Whether bytes are a name.
+fn is_name(name: &[u8]) -> bool
+    ensures { IsTrue result ↔ IsName name.now }
+{
+    !name.is_empty() && name.iter().all(|&byte| may_name(byte))
+}
+
+/// Whether a function that begins at `start` stands above one that begins at `last`, or at the base
+/// where it is the first.
+fn is_above(base: u64, last: Option<u64>, start: u64) -> bool
+    ensures { IsTrue result ↔ IsAbove base last start }
+{
+    match last {
+        None => start == base,
+        Some(last) => last < start,
+    }
+}
+
+/// Whether a unit begins at an address.
+fn is_unit(index: &UnitIndex, address: u64) -> bool
+    ensures { (all : List ℕ) → IsIndexOf all index.now → IsTrue result ↔ Contains all address }
+{
+    index.find(address).is_some()
+}
+
+/// Whether a function may stand behind one that begins at `last`, whatever the names before it are.
+fn may_stand(base: u64, index: &UnitIndex, last: Option<u64>, function: &FunctionEntry<'_>) -> bool
+    ensures { (all : List ℕ) → IsIndexOf all index.now
+        → IsTrue result ↔ StandsBehind base all last (function_of function.now) }
+{
+    is_above(base, last, function.start) && is_unit(index, function.start) && is_name(function.name)
+}
+
+/// Adds a name to those of the functions before. Whether it is none of them.
+fn add_name<'a>(names: &mut BTreeSet<&'a [u8]>, name: &'a [u8]) -> Result<bool, ImageFault>
+    ensures own { IfOk result (λ own. own ≡ not (is_among (map (λ k. k.now) names.old.keys) name.now)) }
+    ensures names { OnOk result ((other : List ℕ) → is_among (map (λ k. k.now) names.new.keys) other
+        ≡ (bytes_eq other name.now || is_among (map (λ k. k.now) names.old.keys) other)) }
+    ensures full { IfErr result (λ fault. fault ≡ ImageFault.NoMemory) }
+{
+    Ok(names.insert(name)?)
+}
+
+/// Looks at each function: whether it begins at a unit and in order, and has a name of its own.
+/// `Names` tells the first that doesn't.
+pub(crate) fn check_functions(
+    alloc: Global,
+    base: u64,
+    index: &UnitIndex,
+    functions: &[FunctionEntry<'_>],
+) -> Result<(), ImageFault>
+    requires few { length functions.now < 2 ^ 32 }
+    ensures fit { OnOk result ((units : List Unit) → IsIndexOf (addresses units) index.now
+        → (i : ℕ) → FunctionIsFit base units (map function_of functions.now) i) }
+    ensures refused { IfErr result (λ fault. (fault ≡ ImageFault.NoMemory)
+        ⊎ ((units : List Unit) → IsIndexOf (addresses units) index.now
+        → IsFirstFault (FunctionIsFit base units (map function_of functions.now)) ImageFault.Names fault)) }
+{
+    let mut names = BTreeSet::new(alloc);
+    let mut last = None;
+    for (number, function) in functions.iter().enumerate() {
+        if !may_stand(base, index, last, function) {
+            return Err(ImageFault::Names(number as u32));
+        }
+        if !add_name(&mut names, function.name)? {
+            return Err(ImageFault::Names(number as u32));
+        }
+        last = Some(function.start);
+    }
+    Ok(())
+}
