@@ -5,6 +5,8 @@ use std::test::Fail;
 use xray_image::read_image;
 use xray_io::MemSink;
 
+mod ends;
+
 /// A function `main` that outputs an A: an entry sled, `mov eax, 0x41`, `out 1, al`, an exit sled.
 const OUTPUTS_AN_A: [u8; 170] = [
     // magic, version, base 0x1000

@@ -1,0 +1,121 @@
+//! An image for each end, and one that calls itself twice.
+
+ghost use Rattle.std.specs.Prelude.{◌<◌, length};
+
+use super::DEFAULT_LIMITS;
+use crate::{End, Limits, plain_run};
+use std::test::Fail;
+use xray_image::read_image;
+
+/// The header of an image of one function and no sled: base 0x1000, and the code's length at 16.
+const HEADER: [u8; 64] = [
+    0x58, 0x52, 0x49, 0x4D, 1, 0, 0, 0, 0x00, 0x10, 0, 0, 0, 0, 0, 0, 0, 0, 0, 0, 1, 0, 0, 0, 0, 0,
+    0, 0, 0, 0, 0, 0, 0x00, 0x10, 0x20, 0, 0, 0, 0, 0, 0x10, 0x10, 0x20, 0, 0, 0, 0, 0, 0x20, 0x10,
+    0x20, 0, 0, 0, 0, 0, 0x30, 0x10, 0x20, 0, 0, 0, 0, 0,
+];
+
+/// The function `f` at 0x1000.
+const FUNCTION: [u8; 10] = [0x00, 0x10, 0, 0, 0, 0, 0, 0, 1, 0x66];
+
+/// Whether thread 1 of an image of this code alone ends so.
+fn ends_so(
+    rt: &HostRuntime,
+    code: &[u8],
+    fuel: u64,
+    end: End,
+    instructions: u64,
+) -> Result<bool, Fail>
+    requires { length code.now < 256 }
+{
+    let mut header = HEADER;
+    header[16] = code.len() as u8;
+    let mut bytes = header.to_vec(rt.alloc())?;
+    bytes.extend_from_slice(code)?;
+    bytes.extend_from_slice(&FUNCTION)?;
+    let image = read_image(rt.alloc(), &bytes)?;
+    let limits = Limits {
+        fuel,
+        ..DEFAULT_LIMITS
+    };
+    let run = plain_run(rt.alloc(), &image, 1, limits)?;
+    Ok(run.end == end && run.instructions == instructions)
+}
+
+#[test]
+fn each_end_comes_where_its_rule_says(rt: HostRuntime) -> Result<(), Fail> {
+    // ret
+    assert!(rt; ends_so(&rt, &[0xC3], 1, End::Returned, 1)?);
+    assert!(rt; ends_so(&rt, &[0xC3], 0, End::Fuel, 0)?);
+    // pop rax
+    assert!(rt; ends_so(&rt, &[0x58], 1, End::StackEmpty, 0)?);
+    // f: call f
+    let calls = [0xE8, 0xFB, 0xFF, 0xFF, 0xFF];
+    assert!(rt; ends_so(&rt, &calls, 65_537, End::StackFull, 65_536)?);
+    assert!(rt; ends_so(&rt, &calls, 65_536, End::Fuel, 65_536)?);
+    // f: out 1, al; jmp f
+    let outputs = [0xE6, 0x01, 0xE9, 0xF9, 0xFF, 0xFF, 0xFF];
+    assert!(rt; ends_so(&rt, &outputs, 131_073, End::OutputFull, 131_072)?);
+    // mov ecx, 0x1001; push rcx; ret
+    let into_a_unit = [0xB9, 0x01, 0x10, 0, 0, 0x51, 0xC3];
+    assert!(rt; ends_so(&rt, &into_a_unit, 3, End::BadTarget, 3)?);
+    // mov eax, 0x41
+    assert!(rt; ends_so(&rt, &[0xB8, 0x41, 0, 0, 0], 1, End::BadTarget, 1)?);
+    Ok(())
+}
+
+/// `main` calls `fib` with 20, which calls itself for 19 and 18; a sled at its entry and at each of
+/// its three exits.
+const FIBONACCI: [u8; 326] = [
+    // base 0x1000, 109 bytes of code, 2 functions, 4 map entries
+    0x58, 0x52, 0x49, 0x4D, 1, 0, 0, 0, 0, 0x10, 0, 0, 0, 0, 0, 0, 0x6D, 0, 0, 0, 2, 0, 0, 0, 4, 0,
+    0, 0, 0, 0, 0, 0, 0, 0x10, 0x20, 0, 0, 0, 0, 0, 0x10, 0x10, 0x20, 0, 0, 0, 0, 0, 0x20, 0x10,
+    0x20, 0, 0, 0, 0, 0, 0x30, 0x10, 0x20, 0, 0, 0, 0, 0,
+    // main: mov edi, 20; call fib; ret; an alignment byte
+    0xBF, 0x14, 0, 0, 0, 0xE8, 2, 0, 0, 0, 0xC3, 0x90,
+    // fib: an entry sled
+    0xEB, 9, 0x66, 0x0F, 0x1F, 0x84, 0, 0, 2, 0, 0,
+    // mov ecx, 0; add rdi, rcx; jnz positive
+    0xB9, 0, 0, 0, 0, 0x48, 1, 0xCF, 0x0F, 0x85, 0x0C, 0, 0, 0,
+    // an alignment byte; an exit sled
+    0x90, 0xC3, 0x2E, 0x66, 0x0F, 0x1F, 0x84, 0, 0, 2, 0, 0,
+    // positive: mov ecx, 1; sub rdi, rcx; jnz large
+    0xB9, 1, 0, 0, 0, 0x48, 0x29, 0xCF, 0x0F, 0x85, 0x0E, 0, 0, 0,
+    // add rax, rcx
+    0x48, 1, 0xC8,
+    // an exit sled
+    0xC3, 0x2E, 0x66, 0x0F, 0x1F, 0x84, 0, 0, 2, 0, 0,
+    // large: push rdi; call fib
+    0x57, 0xE8, 0xB9, 0xFF, 0xFF, 0xFF,
+    // pop rdi; mov ecx, 1; sub rdi, rcx; call fib
+    0x5F, 0xB9, 1, 0, 0, 0, 0x48, 0x29, 0xCF, 0xE8, 0xAB, 0xFF, 0xFF, 0xFF,
+    // an alignment byte; an exit sled
+    0x90, 0xC3, 0x2E, 0x66, 0x0F, 0x1F, 0x84, 0, 0, 2, 0, 0,
+    // main at 0x1000
+    0, 0x10, 0, 0, 0, 0, 0, 0, 4, 0x6D, 0x61, 0x69, 0x6E,
+    // fib at 0x100C
+    0x0C, 0x10, 0, 0, 0, 0, 0, 0, 3, 0x66, 0x69, 0x62,
+    // the map: an entry sled
+    0x0C, 0x10, 0, 0, 0, 0, 0, 0, 0x0C, 0x10, 0, 0, 0, 0, 0, 0, 0, 1, 0, 0, 0, 0, 0, 0, 0, 0, 0, 0,
+    0, 0, 0, 0,
+    // an exit sled
+    0x26, 0x10, 0, 0, 0, 0, 0, 0, 0x0C, 0x10, 0, 0, 0, 0, 0, 0, 1, 1, 0, 0, 0, 0, 0, 0, 0, 0, 0, 0,
+    0, 0, 0, 0,
+    // an exit sled
+    0x42, 0x10, 0, 0, 0, 0, 0, 0, 0x0C, 0x10, 0, 0, 0, 0, 0, 0, 1, 1, 0, 0, 0, 0, 0, 0, 0, 0, 0, 0,
+    0, 0, 0, 0,
+    // an exit sled
+    0x62, 0x10, 0, 0, 0, 0, 0, 0, 0x0C, 0x10, 0, 0, 0, 0, 0, 0, 1, 1, 0, 0, 0, 0, 0, 0, 0, 0, 0, 0,
+    0, 0, 0, 0,
+];
+
+#[test]
+fn a_function_that_calls_itself_returns(rt: HostRuntime) -> Result<(), Fail> {
+    let image = read_image(rt.alloc(), &FIBONACCI)?;
+    let end = plain_run(rt.alloc(), &image, 1, DEFAULT_LIMITS)?;
+    assert_eq!(rt; end.end, End::Returned);
+    assert_eq!(rt; end.instructions, 213_132);
+    assert_eq!(rt; end.passings, 43_782);
+    assert_eq!(rt; end.regs.first().copied(), Some(0x1A6D));
+    assert!(rt; end.zf);
+    Ok(())
+}
