@@ -1,6 +1,7 @@
 pub mod AcceptedCode
 pub mod Adding
 pub mod CallTurns
+pub mod Faulted
 pub mod ImageTurns
 pub mod ItemLemmas
 pub mod Leading
@@ -17,5 +18,4 @@ pub mod StraightPrints
 pub mod StraightReturns
 pub mod StraightRun
 pub mod Taking
-pub mod TextSteps
 pub mod Turning

@@ -12,7 +12,7 @@ ghost use Rattle.xray_program.specs.Marks.{leading_run, leading_text};
 
 use handler_word::Mark;
 use machine_step::{PlainEnd, REGISTERS, write_plain};
-use xray_io::{Piece, Sink, Text, WriteFault};
+use xray_io::{Piece, Sink, Text, WriteFault, text_adds_up};
 
 /// Writes the state text of a thread whose passings had these marks: the three lines of its plain
 /// text, and one of its marks. Takes no memory.
@@ -54,6 +54,7 @@ fn add_marks<S: Sink>(text: &mut Text<S>, marks: &[Mark]) -> Result<(), WriteFau
     ensures follows { S.follows (sink_of text.old) (sink_of text.new) }
     ensures loan { loan_of text.new ≡ loan_of text.old }
 {
+    text_adds_up::<S>();
     if marks.is_empty() {
         return text.bytes(b"marks -\n");
     }

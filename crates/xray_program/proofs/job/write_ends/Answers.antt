@@ -4,7 +4,7 @@ use Rattle.machine_step.specs.declared.plain_end.PlainEnd.{PlainEnd}
 use Rattle.xray_io.specs.Sink.{Adds, AddsPrefix}
 use Rattle.xray_program.specs.Jobs.{end_text}
 use Rattle.xray_program.proofs.Adding.{adds_more, front_more, front_only, texts_more, texts_split}
-use Rattle.xray_program.proofs.TextSteps.{at_fault}
+use Rattle.xray_program.proofs.Faulted.{at_fault}
 use Rattle.xray_program.proofs.job.write_ends.Goals as goal
 
 pub loop-end-preserved : goal.loop-end-preserved

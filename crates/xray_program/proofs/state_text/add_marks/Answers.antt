@@ -7,13 +7,15 @@ use Rattle.machine_step.specs.Texts.{line_feed}
 use Rattle.handler_word.specs.Runs.{runs_text}
 use Rattle.xray_io.specs.Text.{sink_of, Gains, Breaks}
 use Rattle.xray_program.specs.Marks.{leading_run, leading_text, spaced_runs}
+use Rattle.xray_program.proofs.Faulted.{at_fault}
 use Rattle.xray_program.proofs.MarksText.{marks_more, marks_split, marks_all}
-use Rattle.xray_program.proofs.TextSteps.{gains_both, breaks_within, breaks_first, at_fault}
 use Rattle.xray_program.proofs.state_text.add_marks.Goals as goal
 
 pub returns-in_err-bytes-clause-breaks : goal.returns-in_err-bytes-clause-breaks
 returns-in_err-bytes-clause-breaks g c =
-    at_fault c.from_residual.result (breaks_first g.S.Sink.written _ _ (codes "marks") (32 ∷ runs_text c.args.marks.now ++ line_feed) _ c.in_err-bytes.ensures.breaks refl)
+    at_fault c.from_residual.result
+    (c.text_adds_up.ensures.breaks _ _ _ [] (codes "marks") (32 ∷ runs_text c.args.marks.now ++ line_feed) _
+    (c.text_adds_up.ensures.nothing _) c.in_err-bytes.ensures.breaks refl)
 
 pub returns-in_err-at-clause-breaks : goal.returns-in_err-at-clause-breaks
 returns-in_err-at-clause-breaks g c =
@@ -22,7 +24,7 @@ returns-in_err-at-clause-breaks g c =
     let done = c.runs.invariant.written.0 in
     let broken = subst (λ m. Breaks g.S.Sink.written c.runs.text (sink_of c.add_run.new.text) (leading_text m)) (take_rest marks at) c.in_err-at.ensures.breaks in
     at_fault c.from_residual-in_err-at.result
-    (breaks_within g.S.Sink.written _ c.runs.text _ (codes "marks" ++ done) (leading_text (drop at marks))
+    (c.text_adds_up.ensures.breaks _ c.runs.text _ (codes "marks" ++ done) (leading_text (drop at marks))
     (spaced_runs (drop (at + leading_run (drop at marks)) marks) ++ line_feed) _ c.runs.invariant.written.1 broken
     (marks_split marks at done (omega arith) c.runs.invariant.written.2))
 
@@ -40,7 +42,7 @@ runs-preserved g c =
       written = (
         done ++ leading_text (drop at marks),
         subst (Gains g.S.Sink.written _ c.add_run.new.text) (append_assoc (codes "marks") done (leading_text (drop at marks)))
-            (gains_both g.S.Sink.written _ c.runs.text _ (codes "marks" ++ done) (leading_text (drop at marks)) c.runs.invariant.written.1 gains),
+            (c.text_adds_up.ensures.gains _ c.runs.text _ (codes "marks" ++ done) (leading_text (drop at marks)) c.runs.invariant.written.1 gains),
         marks_more marks at c.in_ok-at.field-0 done (omega arith) c.runs.invariant.written.2 count,
       );
       later = search rules;
@@ -55,7 +57,7 @@ returns-clause-gains g c =
     let some : 0 < length marks = omega (arith, eqb-false (length marks) 0 (sym c.is_empty.ensures ∙ c.if-is_empty.false)) in
     let all = marks_all marks c.runs.at done some (omega arith) c.runs.invariant.written.2 in
     on_ok_weaker c.bytes-3.result (λ gains. subst (Gains g.S.Sink.written _ c.bytes-3.new.self) all
-    (gains_both g.S.Sink.written _ c.runs.text _ (codes "marks" ++ done) line_feed c.runs.invariant.written.1 gains)) c.bytes-3.ensures.gains
+    (c.text_adds_up.ensures.gains _ c.runs.text _ (codes "marks" ++ done) line_feed c.runs.invariant.written.1 gains)) c.bytes-3.ensures.gains
 
 pub returns-clause-breaks : goal.returns-clause-breaks
 returns-clause-breaks g c =
@@ -64,5 +66,5 @@ returns-clause-breaks g c =
     let some : 0 < length marks = omega (arith, eqb-false (length marks) 0 (sym c.is_empty.ensures ∙ c.if-is_empty.false)) in
     let all = marks_all marks c.runs.at done some (omega arith) c.runs.invariant.written.2 in
     on_err_weaker c.bytes-3.result (λ broken.
-    breaks_within g.S.Sink.written _ c.runs.text _ (codes "marks" ++ done) line_feed [] _ c.runs.invariant.written.1 broken (append-nil _ ∙ all))
+    c.text_adds_up.ensures.breaks _ c.runs.text _ (codes "marks" ++ done) line_feed [] _ c.runs.invariant.written.1 broken (append-nil _ ∙ all))
     c.bytes-3.ensures.breaks

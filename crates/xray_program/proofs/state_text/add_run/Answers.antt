@@ -1,7 +1,7 @@
 use Rattle.std.proofs.Common.{subst}
 use Rattle.xray_io.specs.Text.{sink_of, Gains, Breaks}
+use Rattle.xray_program.proofs.Faulted.{at_fault}
 use Rattle.xray_program.proofs.MarksText.{run_within, leading_pieces}
-use Rattle.xray_program.proofs.TextSteps.{at_fault}
 use Rattle.xray_program.proofs.state_text.add_run.Goals as goal
 
 pub returns-in_err-pieces-clause-breaks : goal.returns-in_err-pieces-clause-breaks

@@ -2,7 +2,7 @@ use Rattle.std.proofs.lemmas.Result.{on_ok_weaker, on_err_weaker}
 use Rattle.machine_step.specs.PlainEnd.{state_of}
 use Rattle.machine_step.specs.Texts.{marks_line, plain_text}
 use Rattle.xray_program.proofs.Adding.{adds_more, front_more, front_only}
-use Rattle.xray_program.proofs.TextSteps.{at_fault}
+use Rattle.xray_program.proofs.Faulted.{at_fault}
 use Rattle.xray_program.proofs.state_text.write_state.Goals as goal
 
 pub returns-in_err-write_plain-clause-front : goal.returns-in_err-write_plain-clause-front
