@@ -89,7 +89,8 @@ fn an_image_tells_its_units_and_sleds(rt: HostRuntime) -> Result<(), Fail> {
     Ok(())
 }
 
-/// That image with some bytes changed, cut to a length or with a zero behind it, and why it is refused.
+/// That image with some bytes changed, cut to a length or with a zero behind it, and why it is
+/// refused.
 type Damage = (&'static [(usize, u8)], usize, ImageFault);
 
 /// How long that image is.
@@ -259,8 +260,8 @@ fn add_entry(bytes: &mut Vec<u8>, sled: u64, function: u64, kind: u8) -> Result<
     put(bytes, u64::from(kind), 16)
 }
 
-/// The file of a code at 0x1000 with functions by their starts and names, and with map entries by sled,
-/// function and kind.
+/// The file of a code at 0x1000 with functions by their starts and names, and with map entries by
+/// sled, function and kind.
 fn file(
     alloc: Global,
     code: &[u8],
@@ -403,12 +404,23 @@ fn file_of_code(alloc: Global, length: usize) -> Result<Vec<u8>, AllocError> {
     file(alloc, &code, &[(0x1000, "main")], &[])
 }
 
-/// The file of a code of alignment bytes with a function at each, named by its number in four digits.
+/// The last digit of a number as text.
+fn digit(number: usize) -> u8 {
+    b'0' + (number % 10) as u8
+}
+
+/// The file of a code of alignment bytes with a function at each, named by its number in four
+/// digits.
 fn file_of_functions(alloc: Global, count: usize) -> Result<Vec<u8>, AllocError> {
     let code = vec![in alloc; 0x90_u8; count]?;
     let mut bytes = front(alloc, &code, count, 0)?;
     for number in 0..count {
-        let name = [1000, 100, 10, 1].map(|place| b'0' + (number / place % 10) as u8);
+        let name = [
+            digit(number / 1000),
+            digit(number / 100),
+            digit(number / 10),
+            digit(number),
+        ];
         add_function(&mut bytes, (number as u64).wrapping_add(0x1000), &name)?;
     }
     Ok(bytes)
