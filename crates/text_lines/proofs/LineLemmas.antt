@@ -108,3 +108,7 @@ length_of_lines-le (b ∷ c ∷ text) =
 -- so the numbers of the lines are no more than the bytes
 pub length_of_numbered_lines : (text : List ℕ) → length (numbered_lines text) ≤ length text
 length_of_numbered_lines text = omega (arith, length-enumerate_from 1 (lines text), length_of_lines-le text)
+
+-- a text has no more lines than bytes
+pub lines_within : (text : List ℕ) → length (lines text) ≤ length text
+lines_within text = length_of_lines-le text

@@ -70,7 +70,7 @@ impl<'a> Model for Lines<'a> {
 
     ghost view = { λ l. enumerate_from (l.passed + 1) (lines l.rest.now) };
 
-    ghost invariant = { λ l. l.passed + length l.rest.now < 2 ^ 32 - 1 };
+    ghost invariant = { λ l. l.passed + length (lines l.rest.now) < 2 ^ 32 - 1 };
 }
 
 impl<'a> Lines<'a> {
@@ -78,9 +78,22 @@ impl<'a> Lines<'a> {
 
     /// The lines of `text`, first to last. A text of fewer than `u32::MAX` bytes has so few lines that each of
     /// their numbers, and the number behind the last, fits a `u32`.
-    #[tactic(auto, using(crate::proofs::LineLemmas::length_of_numbered_lines))]
+    #[tactic(auto, using(crate::proofs::LineLemmas::length_of_numbered_lines, crate::proofs::LineLemmas::lines_within))]
     pub fn new(text: &'a [u8]) -> Self
         requires { length text.now < u32.MAX }
+        ensures lines { result ≡ numbered_lines text.now }
+        ensures bound { length result ≤ length text.now }
+    {
+        Lines {
+            rest: text,
+            passed: 0,
+        }
+    }
+
+    /// The same of a text of any length that has fewer than `u32::MAX` lines.
+    #[tactic(auto, using(crate::proofs::LineLemmas::length_of_numbered_lines))]
+    pub fn with_few_lines(text: &'a [u8]) -> Self
+        requires { length (lines text.now) < u32.MAX }
         ensures lines { result ≡ numbered_lines text.now }
         ensures bound { length result ≤ length text.now }
     {

@@ -1,0 +1,95 @@
+-- One more line behind those that are laid out, where each function that doesn't say never counts as instrumented.
+use Rattle.std.proofs.Common.{◌≡◌, ℕ, ◌+◌, Bool, false, [], ◌∷◌, ◌++◌, refl, ap, ◌∙◌, arith, append-nil}
+use Rattle.std.specs.List.{flat_map}
+use Rattle.std.proofs.lemmas.List.Sums.{sum_by-append}
+use Rattle.std.proofs.lemmas.Grind.{flat_map-append}
+use Rattle.asm_text.specs.declared.statement.Choice.TheVariants.{ByLength, Always, Never}
+use Rattle.asm_text.specs.Statements.{Statement, Base, Entry, Func, Label, Does}
+use Rattle.asm_text.specs.Layout.{Lines, Owner, Placed, unless_never, owner_of, no_owner, parts_of, parts_at, placed_from, placed, all_parts, width, widths}
+use Rattle.asm_text.specs.FirstPass.{traced_after, traced_by}
+
+-- where the lines end, and the function that the last one stands in
+abbrev pub end_of : ℕ → Owner → Lines → ℕ
+end_of place owner [] = place
+end_of place owner (line ∷ behind) =
+    let here = owner_of unless_never place owner line.1 behind in
+    end_of (place + widths (parts_of here.traced place line.1)) here behind
+
+abbrev pub owner_after : ℕ → Owner → Lines → Owner
+owner_after place owner [] = owner
+owner_after place owner (line ∷ behind) =
+    let here = owner_of unless_never place owner line.1 behind in
+    owner_after (place + widths (parts_of here.traced place line.1)) here behind
+
+-- what stands behind decides nothing here
+same_owner : (place : ℕ) (owner : Owner) (statement : Statement) (xs ys : Lines) → owner_of unless_never place owner statement xs ≡ owner_of unless_never place owner statement ys
+same_owner place owner (Base address) xs ys = refl
+same_owner place owner (Entry name) xs ys = refl
+same_owner place owner (Func name ByLength) xs ys = refl
+same_owner place owner (Func name Always) xs ys = refl
+same_owner place owner (Func name Never) xs ys = refl
+same_owner place owner (Label name) xs ys = refl
+same_owner place owner (Does operation) xs ys = refl
+
+-- a line as it is laid out behind others
+abbrev pub placed_last : ℕ → Owner → Lines → ℕ → Statement → Placed
+placed_last place owner lines number statement = record {
+  line = number;
+  statement = statement;
+  owner = owner_of unless_never (end_of place owner lines) (owner_after place owner lines) statement [];
+  place = end_of place owner lines;
+}
+
+placed_from-more : (place : ℕ) (owner : Owner) (lines : Lines) (number : ℕ) (statement : Statement)
+    → placed_from unless_never place owner (lines ++ (number, statement) ∷ []) ≡ placed_from unless_never place owner lines ++ placed_last place owner lines number statement ∷ []
+placed_from-more place owner [] number statement = refl
+placed_from-more place owner (line ∷ behind) number statement =
+    let here = owner_of unless_never place owner line.1 behind in
+    let more = placed_from-more (place + widths (parts_of here.traced place line.1)) here behind number statement in
+    let same = same_owner place owner line.1 (behind ++ (number, statement) ∷ []) behind in
+    ap (λ (o : Owner). record { line = line.0; statement = line.1; owner = o; place = place } ∷ placed_from unless_never (place + widths (parts_of o.traced place line.1)) o (behind ++ (number, statement) ∷ [])) same
+    ∙ ap (λ ps. record { line = line.0; statement = line.1; owner = here; place = place } ∷ ps) more
+
+end_of-is : (place : ℕ) (owner : Owner) (lines : Lines) → end_of place owner lines ≡ place + widths (flat_map parts_at (placed_from unless_never place owner lines))
+end_of-is place owner [] = omega arith
+end_of-is place owner (line ∷ behind) =
+    let here = owner_of unless_never place owner line.1 behind in
+    let next = place + widths (parts_of here.traced place line.1) in
+    omega (arith, end_of-is next here behind, sum_by-append width (parts_of here.traced place line.1) (flat_map parts_at (placed_from unless_never next here behind)))
+
+-- how many bytes the lines have
+pub end_of_lines : (lines : Lines) → end_of 0 no_owner lines ≡ widths (all_parts unless_never lines)
+end_of_lines lines = omega (arith, end_of-is 0 no_owner lines)
+
+traced_after-is : (place : ℕ) (owner : Owner) (statement : Statement) (behind : Lines) → (owner_of unless_never place owner statement behind).traced ≡ traced_after owner.traced statement
+traced_after-is place owner (Base address) behind = refl
+traced_after-is place owner (Entry name) behind = refl
+traced_after-is place owner (Func name ByLength) behind = refl
+traced_after-is place owner (Func name Always) behind = refl
+traced_after-is place owner (Func name Never) behind = refl
+traced_after-is place owner (Label name) behind = refl
+traced_after-is place owner (Does operation) behind = refl
+
+owner_after-traced : (place : ℕ) (owner : Owner) (lines : Lines) → (owner_after place owner lines).traced ≡ traced_by owner.traced lines
+owner_after-traced place owner [] = refl
+owner_after-traced place owner (line ∷ behind) =
+    let here = owner_of unless_never place owner line.1 behind in
+    owner_after-traced (place + widths (parts_of here.traced place line.1)) here behind ∙ ap (λ t. traced_by t behind) (traced_after-is place owner line.1 behind)
+
+-- the parts of one more line
+pub all_parts-more : (lines : Lines) (number : ℕ) (statement : Statement)
+    → all_parts unless_never (lines ++ (number, statement) ∷ [])
+    ≡ all_parts unless_never lines ++ parts_of (traced_after (traced_by false lines) statement) (widths (all_parts unless_never lines)) statement
+all_parts-more lines number statement =
+    let last = placed_last 0 no_owner lines number statement in
+    let joined : all_parts unless_never (lines ++ (number, statement) ∷ []) ≡ all_parts unless_never lines ++ parts_at last =
+    ap (flat_map parts_at) (placed_from-more 0 no_owner lines number statement) ∙ flat_map-append parts_at (placed unless_never lines) (last ∷ [])
+    ∙ ap (λ ps. all_parts unless_never lines ++ ps) (append-nil (parts_at last)) in
+    let traced : last.owner.traced ≡ traced_after (traced_by false lines) statement =
+    traced_after-is (end_of 0 no_owner lines) (owner_after 0 no_owner lines) statement [] ∙ ap (λ t. traced_after t statement) (owner_after-traced 0 no_owner lines) in
+    joined ∙ ap (λ t. all_parts unless_never lines ++ parts_of t (end_of 0 no_owner lines) statement) traced
+    ∙ ap (λ n. all_parts unless_never lines ++ parts_of (traced_after (traced_by false lines) statement) n statement) (end_of_lines lines)
+
+pub traced_by-more : (traced : Bool) (lines : Lines) (number : ℕ) (statement : Statement) → traced_by traced (lines ++ (number, statement) ∷ []) ≡ traced_after (traced_by traced lines) statement
+traced_by-more traced [] number statement = refl
+traced_by-more traced (line ∷ behind) number statement = traced_by-more (traced_after traced line.1) behind number statement

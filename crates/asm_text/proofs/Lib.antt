@@ -1,0 +1,24 @@
+mod Rows
+pub mod NumberLemmas
+pub mod NameLemmas
+pub mod WidthLemmas
+pub mod LayoutLemmas
+pub mod TotalsLemmas
+pub mod NameTableLemmas
+pub mod FirstPassLemmas
+pub mod TargetLemmas
+pub mod EndingLemmas
+pub mod CodeLemmas
+pub mod FileLemmas
+pub mod WriteLemmas
+pub mod Monotone
+pub mod Placing
+pub mod Fitting
+pub mod Writable
+pub mod UnitsLaw
+pub mod Assembled
+pub mod SledMapLaw
+pub mod Owners
+pub mod Soundness
+pub mod ReadBack
+pub mod FileFitting

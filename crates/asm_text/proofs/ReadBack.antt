@@ -1,0 +1,114 @@
+-- The parts of a file are read back as they were written.
+use Rattle.std.proofs.Common.{◌≡◌, ℕ, zero, suc, ◌+◌, ◌^◌, ◌<◌, ◌≤◌, false, cond, List, [], ◌∷◌, ◌++◌, length, take, drop, Option, Some, None, refl, sym, ap, ◌∙◌, arith, ltb, append_assoc, append-nil, length-append}
+use Rattle.std.specs.Prelude.{option_and_then, option_map, replicate}
+use Rattle.std.specs.List.{flat_map, AllByRecursion}
+use Rattle.std.proofs.lemmas.Bool.{le-ltb}
+use Rattle.std.proofs.Math.Seq.{take-append_seam, drop-append_seam}
+use Rattle.byteorder.specs.Endian.{little_bytes}
+use Rattle.byteorder.specs.Numbers.{little_number-reads_back}
+use Rattle.xray_image.specs.Container.{Function, MapEntry, Parts, function_at, map_entry_at, several, parts_of, code_length, function_count, entry_count, number8_at}
+use Rattle.asm_text.specs.Writing.{File, header_bytes, trampolines_of, function_bytes, entry_bytes, file_bytes}
+
+-- what fits the fields of an entry of each kind
+abbrev pub FunctionFits : Function → Type 0
+FunctionFits f = (f.start < 256 ^ 8) × (length f.name ≤ 255)
+
+abbrev pub EntryFits : MapEntry → Type 0
+EntryFits e = (e.sled < 256 ^ 8) × (e.function < 256 ^ 8)
+
+drop_none : (n : ℕ) → drop {A = ℕ} n [] ≡ []
+drop_none zero = refl
+drop_none (suc n) = refl
+
+drop_more : (a n : ℕ) (xs : List ℕ) → drop (a + n) xs ≡ drop n (drop a xs)
+drop_more zero n xs = let same : 0 + n ≡ n = omega arith in ap (λ m. drop m xs) same
+drop_more (suc a) n [] = drop_none (suc a + n) ∙ sym (drop_none n)
+drop_more (suc a) n (x ∷ xs) = let same : suc a + n ≡ suc (a + n) = omega arith in ap (λ m. drop m (x ∷ xs)) same ∙ drop_more a n xs
+
+function_back : (f : Function) (rest : List ℕ) → FunctionFits f → function_at (function_bytes f ++ rest) ≡ Some (f, rest)
+function_back f rest fits =
+    let bytes = function_bytes f ++ rest in
+    let n = length f.name in
+    let start : number8_at bytes 0 ≡ f.start = little_number-reads_back 8 f.start (n ∷ f.name ++ rest) fits.0 in
+    let long : ltb (length bytes) (9 + n) ≡ false = le-ltb (length bytes) (9 + n) (omega (arith, length-append f.name rest)) in
+    let behind : drop (9 + n) bytes ≡ rest = drop_more 9 n bytes ∙ drop-append_seam f.name rest in
+    ap (λ t. cond t None (Some (record { start = number8_at bytes 0; name = take n (drop 9 bytes) }, drop (9 + n) bytes))) long
+    ∙ ap (λ m. Some (record { start = m; name = take n (drop 9 bytes) }, drop (9 + n) bytes)) start
+    ∙ ap (λ name. Some (record { start = f.start; name = name }, drop (9 + n) bytes)) (take-append_seam f.name rest)
+    ∙ ap (λ xs. Some (f, xs)) behind
+
+entry_back : (e : MapEntry) (rest : List ℕ) → EntryFits e → map_entry_at (entry_bytes e ++ rest) ≡ Some (e, rest)
+entry_back e rest fits =
+    let bytes = entry_bytes e ++ rest in
+    let flags = e.kind ∷ e.always ∷ e.version ∷ replicate 13 0 ++ rest in
+    let sled : number8_at bytes 0 ≡ e.sled = little_number-reads_back 8 e.sled (little_bytes 8 e.function ++ flags) fits.0 in
+    let function : number8_at bytes 8 ≡ e.function = little_number-reads_back 8 e.function flags fits.1 in
+    let long : ltb (length bytes) 32 ≡ false = le-ltb (length bytes) 32 (omega arith) in
+    ap (λ t. cond t None (Some (record { sled = number8_at bytes 0; function = number8_at bytes 8; kind = e.kind; always = e.always; version = e.version }, rest))) long
+    ∙ ap (λ m. Some (record { sled = m; function = number8_at bytes 8; kind = e.kind; always = e.always; version = e.version }, rest)) sled
+    ∙ ap (λ m. Some (record { sled = e.sled; function = m; kind = e.kind; always = e.always; version = e.version }, rest)) function
+
+functions_back : (fs : List Function) (rest : List ℕ) → AllByRecursion FunctionFits fs → several function_at (length fs) (flat_map function_bytes fs ++ rest) ≡ Some (fs, rest)
+functions_back [] rest fits = refl
+functions_back (f ∷ fs) rest fits =
+    let next = several function_at (length fs) in
+    ap (λ bytes. option_and_then (λ (first : Function × List ℕ). option_map (λ (others : List Function × List ℕ). (first.0 ∷ others.0, others.1)) (next first.1)) (function_at bytes)) (append_assoc (function_bytes f) (flat_map function_bytes fs) rest)
+    ∙ ap (λ o. option_and_then (λ (first : Function × List ℕ). option_map (λ (others : List Function × List ℕ). (first.0 ∷ others.0, others.1)) (next first.1)) o) (function_back f (flat_map function_bytes fs ++ rest) fits.0)
+    ∙ ap (λ o. option_map (λ (others : List Function × List ℕ). (f ∷ others.0, others.1)) o) (functions_back fs rest fits.1)
+
+entries_back : (es : List MapEntry) (rest : List ℕ) → AllByRecursion EntryFits es → several map_entry_at (length es) (flat_map entry_bytes es ++ rest) ≡ Some (es, rest)
+entries_back [] rest fits = refl
+entries_back (e ∷ es) rest fits =
+    let next = several map_entry_at (length es) in
+    ap (λ bytes. option_and_then (λ (first : MapEntry × List ℕ). option_map (λ (others : List MapEntry × List ℕ). (first.0 ∷ others.0, others.1)) (next first.1)) (map_entry_at bytes)) (append_assoc (entry_bytes e) (flat_map entry_bytes es) rest)
+    ∙ ap (λ o. option_and_then (λ (first : MapEntry × List ℕ). option_map (λ (others : List MapEntry × List ℕ). (first.0 ∷ others.0, others.1)) (next first.1)) o) (entry_back e (flat_map entry_bytes es ++ rest) fits.0)
+    ∙ ap (λ o. option_map (λ (others : List MapEntry × List ℕ). (e ∷ others.0, others.1)) o) (entries_back es rest fits.1)
+
+-- the parts by the counts of the header
+abbrev pub parts_with : (n m k : ℕ) → List ℕ → Option Parts
+parts_with n m k b =
+    cond (ltb (length b) (64 + n)) None
+    (option_and_then (λ (fs : List Function × List ℕ). option_map (λ (es : List MapEntry × List ℕ). record { code = take n (drop 64 b); functions = fs.0; entries = es.0; rest = es.1 }) (several map_entry_at k fs.1)) (several function_at m (drop (64 + n) b)))
+
+-- what fits the fields of a file
+pub record FileFits (f : File) : Type 0 where
+  pub code : length f.code < 256 ^ 4
+  pub function_count : length f.functions < 256 ^ 4
+  pub entry_count : length f.entries < 256 ^ 4
+  pub each_function : AllByRecursion FunctionFits f.functions
+  pub each_entry : AllByRecursion EntryFits f.entries
+
+counts_back : (f : File) (rest : List ℕ) → FileFits f → parts_of (header_bytes f ++ rest) ≡ parts_with (length f.code) (length f.functions) (length f.entries) (header_bytes f ++ rest)
+counts_back f rest fits =
+    let b = header_bytes f ++ rest in
+    let trampolines = flat_map (little_bytes 8) (trampolines_of f.base) ++ rest in
+    let c : code_length b ≡ length f.code = little_number-reads_back 4 (length f.code) (little_bytes 4 (length f.functions) ++ little_bytes 4 (length f.entries) ++ little_bytes 4 f.entry ++ trampolines) fits.code in
+    let m : function_count b ≡ length f.functions = little_number-reads_back 4 (length f.functions) (little_bytes 4 (length f.entries) ++ little_bytes 4 f.entry ++ trampolines) fits.function_count in
+    let k : entry_count b ≡ length f.entries = little_number-reads_back 4 (length f.entries) (little_bytes 4 f.entry ++ trampolines) fits.entry_count in
+    ap (λ n. parts_with n (function_count b) (entry_count b) b) c
+    ∙ ap (λ n. parts_with (length f.code) n (entry_count b) b) m
+    ∙ ap (λ n. parts_with (length f.code) (length f.functions) n b) k
+
+-- the parts of a file
+pub parts_back : (f : File) → FileFits f → parts_of (file_bytes f) ≡ Some (record { code = f.code; functions = f.functions; entries = f.entries; rest = [] })
+parts_back f fits =
+    let functions_part = flat_map function_bytes f.functions in
+    let entries_part = flat_map entry_bytes f.entries in
+    let rest = f.code ++ (functions_part ++ entries_part) in
+    let b = header_bytes f ++ rest in
+    let n = length f.code in
+    let shape : file_bytes f ≡ b =
+    append_assoc (header_bytes f ++ f.code) functions_part entries_part ∙ append_assoc (header_bytes f) f.code (functions_part ++ entries_part) in
+    let long : ltb (length b) (64 + n) ≡ false = le-ltb (length b) (64 + n) (omega (arith, length-append f.code (functions_part ++ entries_part))) in
+    let behind : drop (64 + n) b ≡ functions_part ++ entries_part = drop_more 64 n b ∙ drop-append_seam f.code (functions_part ++ entries_part) in
+    let code : take n (drop 64 b) ≡ f.code = take-append_seam f.code (functions_part ++ entries_part) in
+    let last : several map_entry_at (length f.entries) entries_part ≡ Some (f.entries, []) =
+    ap (several map_entry_at (length f.entries)) (sym (append-nil entries_part)) ∙ entries_back f.entries [] fits.each_entry in
+    let with_code : List ℕ → List MapEntry × List ℕ → List Function × List ℕ → Parts = λ c es fs. record { code = c; functions = fs.0; entries = es.0; rest = es.1 } in
+    ap parts_of shape
+    ∙ counts_back f rest fits
+    ∙ ap (λ t. cond t None (option_and_then (λ (fs : List Function × List ℕ). option_map (λ (es : List MapEntry × List ℕ). with_code (take n (drop 64 b)) es fs) (several map_entry_at (length f.entries) fs.1)) (several function_at (length f.functions) (drop (64 + n) b)))) long
+    ∙ ap (λ xs. option_and_then (λ (fs : List Function × List ℕ). option_map (λ (es : List MapEntry × List ℕ). with_code (take n (drop 64 b)) es fs) (several map_entry_at (length f.entries) fs.1)) (several function_at (length f.functions) xs)) behind
+    ∙ ap (λ o. option_and_then (λ (fs : List Function × List ℕ). option_map (λ (es : List MapEntry × List ℕ). with_code (take n (drop 64 b)) es fs) (several map_entry_at (length f.entries) fs.1)) o) (functions_back f.functions entries_part fits.each_function)
+    ∙ ap (λ o. option_map (λ (es : List MapEntry × List ℕ). with_code (take n (drop 64 b)) es (f.functions, entries_part)) o) last
+    ∙ ap (λ c. Some (with_code c (f.entries, []) (f.functions, entries_part))) code

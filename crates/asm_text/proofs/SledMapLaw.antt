@@ -1,0 +1,247 @@
+-- The sled map lists the sleds of the code.
+use Rattle.std.proofs.Common.{◌≡◌, ℕ, zero, suc, ◌+◌, ◌%◌, ◌<◌, ◌≤◌, Bool, true, false, cond, List, [], ◌∷◌, ◌++◌, length, Option, Some, None, inl, inr, ◌-ℤ◌, pos, refl, sym, ap, subst, ◌∙◌, arith, eqb, map, length-append, append-nil, add_assoc}
+use Rattle.std.specs.Prelude.{option_map}
+use Rattle.std.specs.Prelude.{FitsSigned}
+use Rattle.std.specs.Int.{w32}
+use Rattle.std.specs.List.{flat_map, filter_map, cons_option, All, AllByRecursion}
+use Rattle.std.proofs.lemmas.Int.{ints}
+use Rattle.xray_image.specs.Units.{Piece, Instruction, JumpSled, ReturnSled, Align, SledPlace, piece_bytes, places_from}
+use Rattle.xray_image.specs.Container.{Function, MapEntry}
+use Rattle.xray_image.specs.Program.{EachSled, KindFits, LiesIn, IsEntryOf, Reaches, trampoline_of, kind_of}
+use Rattle.asm_text.specs.declared.statement.Branch.{Branch}
+use Rattle.asm_text.specs.declared.statement.Branch.TheVariants as branches
+use Rattle.asm_text.specs.Statements.{Plain, Go, TailJump, Return, Statement, Base, Entry, Func, Label, Does}
+use Rattle.asm_text.specs.Layout.{Lines, Part, Fixed, Jump, Placed, Owner, Choosing, owner_of, no_owner, parts_of, parts_at, aligned, placed_from, placed, widths, sled_shift, piece_of, line_pieces, pieces, sled_kind, entry_in, map_entries, functions}
+use Rattle.asm_text.proofs.Placing.{AllLie, parts_length}
+use Rattle.asm_text.specs.Assembling.{trampolines_at}
+use Rattle.asm_text.proofs.Owners.{LiesAmong, lines_lie}
+
+-- the sleds of pieces behind others
+places_behind : (address : ℕ) (xs ys : List Piece) → places_from address (xs ++ ys) ≡ places_from address xs ++ places_from (address + length (flat_map piece_bytes xs)) ys
+places_behind address [] ys = ap (λ n. places_from n ys) (sym (add_zero address))
+  where
+    add_zero : (n : ℕ) → n + 0 ≡ n
+    add_zero n = omega arith
+places_behind address (Instruction instr ∷ xs) ys =
+    let n = length (piece_bytes (Instruction instr)) in
+    places_behind (address + n) xs ys
+    ∙ ap (λ m. places_from (address + n) xs ++ places_from m ys) (add_assoc address n (length (flat_map piece_bytes xs)) ∙ ap (λ m. address + m) (sym (length-append (piece_bytes (Instruction instr)) (flat_map piece_bytes xs))))
+places_behind address (JumpSled shift ∷ xs) ys =
+    ap (λ ps. record { address = address; shift = shift; returns = false } ∷ ps)
+    (places_behind (address + 11) xs ys ∙ ap (λ m. places_from (address + 11) xs ++ places_from m ys) (add_assoc address 11 (length (flat_map piece_bytes xs)) ∙ ap (λ m. address + m) (sym (length-append (piece_bytes (JumpSled shift)) (flat_map piece_bytes xs)))))
+places_behind address (ReturnSled shift ∷ xs) ys =
+    ap (λ ps. record { address = address; shift = shift; returns = true } ∷ ps)
+    (places_behind (address + 11) xs ys ∙ ap (λ m. places_from (address + 11) xs ++ places_from m ys) (add_assoc address 11 (length (flat_map piece_bytes xs)) ∙ ap (λ m. address + m) (sym (length-append (piece_bytes (ReturnSled shift)) (flat_map piece_bytes xs)))))
+places_behind address (Align ∷ xs) ys =
+    places_behind (address + 1) xs ys
+    ∙ ap (λ m. places_from (address + 1) xs ++ places_from m ys) (add_assoc address 1 (length (flat_map piece_bytes xs)) ∙ ap (λ m. address + m) (sym (length-append (piece_bytes Align) (flat_map piece_bytes xs))))
+
+-- the lines that have sleds, each with its sled's kind
+abbrev pub sled_line : Bool → Placed → Option ℕ → Option (Placed × ℕ)
+sled_line true p kind = option_map (λ k. (p, k)) kind
+sled_line false p kind = None
+
+abbrev pub sled_lines : List Placed → List (Placed × ℕ)
+sled_lines lines = filter_map (λ p. sled_line p.owner.traced p (sled_kind p.statement)) lines
+
+-- the sled of such a line, and its entry
+abbrev pub place_for : ℕ → Placed × ℕ → SledPlace
+place_for base line = record { address = base + (line.0.place + line.0.place % 2); shift = sled_shift; returns = eqb line.1 1 }
+
+abbrev pub entry_for : ℕ → Placed × ℕ → MapEntry
+entry_for base line = record {
+  sled = base + (line.0.place + line.0.place % 2);
+  function = base + line.0.owner.start;
+  kind = line.1;
+  always = cond line.0.owner.always 1 0;
+  version = 0;
+}
+
+-- ---- the map
+
+entry_first : (base : ℕ) (traced : Bool) (p : Placed) (kind : Option ℕ) (lines : List (Placed × ℕ))
+    → cons_option (cond traced (option_map (λ k. entry_for base (p, k)) kind) None) (map (entry_for base) lines) ≡ map (entry_for base) (cons_option (sled_line traced p kind) lines)
+entry_first base true p None lines = refl
+entry_first base true p (Some k) lines = refl
+entry_first base false p kind lines = refl
+
+pub map_by_lines : (base : ℕ) (lines : List Placed) → map_entries base lines ≡ map (entry_for base) (sled_lines lines)
+map_by_lines base [] = refl
+map_by_lines base (p ∷ behind) =
+    ap (λ es. cons_option (entry_in base p) es) (map_by_lines base behind) ∙ entry_first base p.owner.traced p (sled_kind p.statement) (sled_lines behind)
+
+-- ---- the code
+
+add_zero : (n : ℕ) → n + 0 ≡ n
+add_zero n = omega arith
+
+-- a sled by the parity of its place
+sled_at : (all : List Placed) (behind at : ℕ) (sled : Piece) (r : ℕ) → r < 2 → (rest : List Part)
+    → places_from at (map (piece_of all behind) (cond (eqb r 0) (Fixed sled ∷ []) (Fixed Align ∷ Fixed sled ∷ []) ++ rest)) ≡ places_from (at + r) (sled ∷ map (piece_of all behind) rest)
+sled_at all behind at sled zero h rest = ap (λ n. places_from n (sled ∷ map (piece_of all behind) rest)) (sym (add_zero at))
+sled_at all behind at sled (suc zero) h rest = refl
+sled_at all behind at sled (suc (suc r)) h rest = absurd (omega arith)
+
+-- a sled behind the byte that aligns it
+sled_behind : (all : List Placed) (behind base place : ℕ) (sled : Piece) (rest : List Part)
+    → places_from (base + place) (map (piece_of all behind) (aligned place sled ++ rest)) ≡ places_from (base + (place + place % 2)) (sled ∷ map (piece_of all behind) rest)
+sled_behind all behind base place sled rest =
+    sled_at all behind (base + place) sled (place % 2) (omega arith) rest
+    ∙ ap (λ n. places_from n (sled ∷ map (piece_of all behind) rest)) (add_assoc base place (place % 2))
+
+sled_only : (all : List Placed) (behind base place : ℕ) (sled : Piece)
+    → places_from (base + place) (map (piece_of all behind) (aligned place sled)) ≡ places_from (base + (place + place % 2)) (sled ∷ [])
+sled_only all behind base place sled =
+    ap (λ parts. places_from (base + place) (map (piece_of all behind) parts)) (sym (append-nil (aligned place sled))) ∙ sled_behind all behind base place sled []
+
+-- the sled that a line has
+abbrev pub places_of : ℕ → Option (Placed × ℕ) → List SledPlace
+places_of base None = []
+places_of base (Some line) = place_for base line ∷ []
+
+no_sled : (base : ℕ) (traced : Bool) (p : Placed) → [] ≡ places_of base (sled_line traced p None)
+no_sled base true p = refl
+no_sled base false p = refl
+
+-- the parts of a line, from its place on
+line_places : (all : List Placed) (base behind : ℕ) (p : Placed) (traced : Bool) (s : Statement)
+    → places_from (base + p.place) (map (piece_of all behind) (parts_of traced p.place s)) ≡ places_of base (sled_line traced p (sled_kind s))
+line_places all base behind p traced (Base address) = no_sled base traced p
+line_places all base behind p traced (Entry name) = no_sled base traced p
+line_places all base behind p true (Func name choice) = sled_only all behind base p.place (JumpSled sled_shift)
+line_places all base behind p false (Func name choice) = refl
+line_places all base behind p traced (Label name) = no_sled base traced p
+line_places all base behind p true (Does (Plain instr)) = refl
+line_places all base behind p true (Does (Go branch name)) = by_branch branch
+  where
+    by_branch : (b : Branch) → places_from (base + p.place) (piece_of all behind (Jump b name) ∷ []) ≡ []
+    by_branch b = refl
+line_places all base behind p true (Does (TailJump name)) = sled_behind all behind base p.place (JumpSled sled_shift) (Jump branches.Jmp name ∷ [])
+line_places all base behind p true (Does Return) = sled_only all behind base p.place (ReturnSled sled_shift)
+line_places all base behind p false (Does (Plain instr)) = refl
+line_places all base behind p false (Does (Go branch name)) = refl
+line_places all base behind p false (Does (TailJump name)) = refl
+line_places all base behind p false (Does Return) = refl
+
+places_first : (base : ℕ) (o : Option (Placed × ℕ)) (lines : List (Placed × ℕ)) → places_of base o ++ map (place_for base) lines ≡ map (place_for base) (cons_option o lines)
+places_first base None lines = refl
+places_first base (Some line) lines = refl
+
+code_places : (all : List Placed) (base : ℕ) (chosen : Choosing) (place : ℕ) (owner : Owner) (lines : Lines)
+    → places_from (base + place) (flat_map (line_pieces all) (placed_from chosen place owner lines)) ≡ map (place_for base) (sled_lines (placed_from chosen place owner lines))
+code_places all base chosen place owner [] = refl
+code_places all base chosen place owner (line ∷ behind) =
+    let here = owner_of chosen place owner line.1 behind in
+    let p : Placed = record { line = line.0; statement = line.1; owner = here; place = place } in
+    let xs = parts_at p in
+    let left = placed_from chosen (place + widths xs) here behind in
+    let first = map (piece_of all (place + widths xs)) xs in
+    let others = flat_map (line_pieces all) left in
+    places_behind (base + place) first others
+    ∙ ap (λ ps. ps ++ places_from (base + place + length (flat_map piece_bytes first)) others) (line_places all base (place + widths xs) p here.traced line.1)
+    ∙ ap (λ n. places_of base (sled_line here.traced p (sled_kind line.1)) ++ places_from n others) (ap (λ w. base + place + w) (parts_length all (place + widths xs) xs) ∙ add_assoc base place (widths xs))
+    ∙ ap (λ ps. places_of base (sled_line here.traced p (sled_kind line.1)) ++ ps) (code_places all base chosen (place + widths xs) here behind)
+    ∙ places_first base (sled_line here.traced p (sled_kind line.1)) (sled_lines left)
+
+-- the sleds of the whole code
+pub places_by_lines : (base : ℕ) (chosen : Choosing) (said : Lines) → places_from base (pieces (placed chosen said)) ≡ map (place_for base) (sled_lines (placed chosen said))
+places_by_lines base chosen said =
+    ap (λ n. places_from n (pieces (placed chosen said))) (sym (add_zero base)) ∙ code_places (placed chosen said) base chosen 0 no_owner said
+
+-- ---- what the map says of the code
+
+even_address : (base place : ℕ) → base % 16 ≡ 0 → (base + (place + place % 2)) % 2 ≡ 0
+even_address base place aligned = omega (arith, aligned)
+
+even_lines : (base : ℕ) (lines : List (Placed × ℕ)) → base % 16 ≡ 0 → All (λ place. place.address % 2 ≡ 0) (map (place_for base) lines)
+even_lines base [] aligned k d within = absurd (omega arith)
+even_lines base (line ∷ behind) aligned zero d within = even_address base line.0.place aligned
+even_lines base (line ∷ behind) aligned (suc k) d within = even_lines base behind aligned k d (omega arith)
+
+same_order : (base : ℕ) (lines : List (Placed × ℕ)) → map (λ e. e.sled) (map (entry_for base) lines) ≡ map (λ p. p.address) (map (place_for base) lines)
+same_order base [] = refl
+same_order base (line ∷ behind) = ap (λ ns. (base + (line.0.place + line.0.place % 2)) ∷ ns) (same_order base behind)
+
+-- sleds stand at even addresses
+pub even_sleds : (base : ℕ) (chosen : Choosing) (said : Lines) → base % 16 ≡ 0 → All (λ place. place.address % 2 ≡ 0) (places_from base (pieces (placed chosen said)))
+even_sleds base chosen said aligned =
+    subst (λ ps. All (λ place. place.address % 2 ≡ 0) ps) (sym (places_by_lines base chosen said)) (even_lines base (sled_lines (placed chosen said)) aligned)
+
+-- the map's entries are those of the sleds, in their order
+pub map_order : (base : ℕ) (chosen : Choosing) (said : Lines) → map (λ e. e.sled) (map_entries base (placed chosen said)) ≡ map (λ p. p.address) (places_from base (pieces (placed chosen said)))
+map_order base chosen said =
+    ap (map (λ e. e.sled)) (map_by_lines base (placed chosen said)) ∙ same_order base (sled_lines (placed chosen said)) ∙ sym (ap (map (λ p. p.address)) (places_by_lines base chosen said))
+
+-- ---- each entry and its sled
+
+-- what holds of each line with a sled, among functions
+abbrev pub SledFacts : ℕ → List Function → Placed × ℕ → Type 0
+SledFacts base fs line =
+    (line.0.place ≤ 1048576) × (sled_kind line.0.statement ≡ Some line.1) × LiesIn fs (base + (line.0.place + line.0.place % 2)) (base + line.0.owner.start)
+
+facts_first : (base : ℕ) (fs : List Function) (traced : Bool) (p : Placed) (kind : Option ℕ) (lines : List (Placed × ℕ)) → p.place ≤ 1048576 → sled_kind p.statement ≡ kind → p.owner.traced ≡ traced
+    → LiesAmong base None fs p → AllByRecursion (SledFacts base fs) lines → AllByRecursion (SledFacts base fs) (cons_option (sled_line traced p kind) lines)
+facts_first base fs true p None lines h e t among rest = rest
+facts_first base fs true p (Some k) lines h e t among rest = ((h, e, among k t e), rest)
+facts_first base fs false p kind lines h e t among rest = rest
+
+sled_facts : (base : ℕ) (fs : List Function) (lines : List Placed) → AllLie 1048576 lines → AllByRecursion (LiesAmong base None fs) lines → AllByRecursion (SledFacts base fs) (sled_lines lines)
+sled_facts base fs [] lie among = tt
+sled_facts base fs (p ∷ behind) lie among =
+    facts_first base fs p.owner.traced p (sled_kind p.statement) (sled_lines behind) lie.0.0 refl refl among.0 (sled_facts base fs behind lie.1 among.1)
+
+each_line : (base : ℕ) (fs : List Function) (P : SledPlace → MapEntry → Type 0) (lines : List (Placed × ℕ)) → AllByRecursion (SledFacts base fs) lines
+    → ((line : Placed × ℕ) → SledFacts base fs line → P (place_for base line) (entry_for base line)) → EachSled (map (place_for base) lines) (map (entry_for base) lines) P
+each_line base fs P [] facts h i place entry e d = absurd (cc e)
+each_line base fs P (line ∷ behind) facts h zero place entry e d =
+    let at : place_for base line ≡ place = cc e in
+    let of : entry_for base line ≡ entry = cc d in
+    subst (λ p. P p entry) at (subst (λ x. P (place_for base line) x) of (h line facts.0))
+each_line base fs P (line ∷ behind) facts h (suc i) place entry e d = each_line base fs P behind facts.1 h i place entry e d
+
+-- the kinds that lines have
+kind_cases : (K : ℕ → Type 0) → K 0 → K 1 → K 2 → (s : Statement) (k : ℕ) → sled_kind s ≡ Some k → K k
+kind_cases K a b c (Base address) k e = absurd (cc e)
+kind_cases K a b c (Entry name) k e = absurd (cc e)
+kind_cases K a b c (Func name choice) k e = let at : 0 ≡ k = cc e in subst K at a
+kind_cases K a b c (Label name) k e = absurd (cc e)
+kind_cases K a b c (Does (Plain instr)) k e = absurd (cc e)
+kind_cases K a b c (Does (Go branch name)) k e = absurd (cc e)
+kind_cases K a b c (Does (TailJump name)) k e = let at : 2 ≡ k = cc e in subst K at c
+kind_cases K a b c (Does Return) k e = let at : 1 ≡ k = cc e in subst K at b
+
+kind_fits : (s : Statement) (k : ℕ) → sled_kind s ≡ Some k → KindFits (eqb k 1) k
+kind_fits s k e = kind_cases (λ n. KindFits (eqb n 1) n) (inl refl) refl (inr refl) s k e
+
+-- a trampoline's distance fits its place
+distance_near : (base far place : ℕ) → 0x200000 ≤ far → far ≤ 0x200020 → place ≤ 1048576 → FitsSigned w32 (pos (base + far) -ℤ pos (base + (place + place % 2) + 11))
+distance_near base far place low high h = omega (arith, ints)
+
+near_line : (base : ℕ) (fs : List Function) (line : Placed × ℕ) → SledFacts base fs line → Reaches (trampolines_at base) (place_for base line) (entry_for base line)
+near_line base fs line facts =
+    kind_cases (λ k. FitsSigned w32 (pos (trampoline_of (trampolines_at base) (kind_of k)) -ℤ pos (base + (line.0.place + line.0.place % 2) + 11)))
+    (distance_near base 0x200000 line.0.place (omega arith) (omega arith) facts.0)
+    (distance_near base 0x200010 line.0.place (omega arith) (omega arith) facts.0)
+    (distance_near base 0x200020 line.0.place (omega arith) (omega arith) facts.0)
+    line.0.statement line.1 facts.1
+
+each_sled : (base : ℕ) (chosen : Choosing) (said : Lines) (P : SledPlace → MapEntry → Type 0) → AllLie 1048576 (placed chosen said)
+    → ((line : Placed × ℕ) → SledFacts base (functions base (placed chosen said)) line → P (place_for base line) (entry_for base line))
+    → EachSled (places_from base (pieces (placed chosen said))) (map_entries base (placed chosen said)) P
+each_sled base chosen said P lie h =
+    let fs = functions base (placed chosen said) in
+    subst (λ ps. EachSled ps (map_entries base (placed chosen said)) P) (sym (places_by_lines base chosen said))
+    (subst (λ es. EachSled (map (place_for base) (sled_lines (placed chosen said))) es P) (sym (map_by_lines base (placed chosen said)))
+    (each_line base fs P (sled_lines (placed chosen said)) (sled_facts base fs (placed chosen said) lie (lines_lie chosen base said)) h))
+
+-- a patched sled reaches its trampoline
+pub near_sleds : (base : ℕ) (chosen : Choosing) (said : Lines) → AllLie 1048576 (placed chosen said)
+    → EachSled (places_from base (pieces (placed chosen said))) (map_entries base (placed chosen said)) (Reaches (trampolines_at base))
+near_sleds base chosen said lie = each_sled base chosen said (Reaches (trampolines_at base)) lie (near_line base (functions base (placed chosen said)))
+
+-- an entry says of its sled what the code says
+pub entries_tell : (base : ℕ) (chosen : Choosing) (said : Lines) → AllLie 1048576 (placed chosen said)
+    → EachSled (places_from base (pieces (placed chosen said))) (map_entries base (placed chosen said)) (IsEntryOf (functions base (placed chosen said)))
+entries_tell base chosen said lie =
+    each_sled base chosen said (IsEntryOf (functions base (placed chosen said))) lie
+    (λ line facts. record { in_function = facts.2; kind = kind_fits line.0.statement line.1 facts.1; known_version = omega arith })

@@ -1,0 +1,53 @@
+use Rattle.std.proofs.Common.{◌≡◌, false, List, sym, ap, subst, inr, ◌∙◌, rules}
+use Rattle.std.specs.Prelude.{Ok, Err}
+use Rattle.asm_text.specs.declared.layout.Laid.{Laid}
+use Rattle.asm_text.specs.Refusals.{ends_early, resolved}
+use Rattle.asm_text.specs.FirstPass.{lines_in}
+use Rattle.asm_text.specs.Laying.{placed_in, lines_of}
+use Rattle.asm_text.specs.LaidTexts.{all_in}
+use Rattle.asm_text.specs.Assembling.{assembled}
+use Rattle.asm_text.proofs.Assembled.{assembled_fault, assembled_file, said_whole}
+use Rattle.asm_text.proofs.Soundness.{sound_image}
+use Rattle.asm_text.proofs.assembling.assemble.Goals as goal
+use Rattle.asm_text.proofs.assembling.assemble.Goals.{In-Err-resolve, In-Ok-write_file}
+
+-- an unresolved line
+fault_verdict : (c : In-Err-resolve) → assembled c.args.text.now c.args.threshold ≡ Err c.in-Err-resolve.fault
+fault_verdict c =
+    let said = lines_in c.in-Ok.pass.entries.items in
+    let whole : ends_early said ≡ false = sym (c.end_early.ensures said c.in-Ok.ensures.reads.1.totals) ∙ c.if-end_early.false in
+    let found : resolved (lines_of (all_in c.in-Ok-new.laid)) (lines_of (all_in c.in-Ok-new.laid)) ≡ Err c.in-Err-resolve.fault =
+    subst (λ (lines : List Laid). resolved (lines_of (placed_in lines)) (lines_of (placed_in lines)) ≡ Err c.in-Err-resolve.fault) c.deref.ensures.value c.in-Err-resolve.ensures in
+    assembled_fault c.args.text.now c.args.threshold said (all_in c.in-Ok-new.laid) c.in-Ok-new.ensures.lines c.in-Ok.ensures.reads.0 whole c.in-Err-resolve.fault found
+
+-- the image
+file_verdict : (c : In-Ok-write_file) → assembled c.args.text.now c.args.threshold ≡ Ok c.in-Ok-write_file.file.items
+file_verdict c =
+    let said = lines_in c.in-Ok.pass.entries.items in
+    let whole : ends_early said ≡ false = sym (c.end_early.ensures said c.in-Ok.ensures.reads.1.totals) ∙ c.if-end_early.false in
+    let found : resolved (lines_of (all_in c.in-Ok-new.laid)) (lines_of (all_in c.in-Ok-new.laid)) ≡ Ok (lines_of (all_in c.in-Ok-new.laid)) = search rules in
+    assembled_file c.args.text.now c.args.threshold said (all_in c.in-Ok-new.laid) c.in-Ok-new.ensures.lines c.in-Ok.ensures.reads.0 whole found
+    ∙ ap (λ bytes. Ok bytes) (sym c.in-Ok-write_file.ensures)
+
+pub returns-in-Err-resolve-clause-reads : goal.returns-in-Err-resolve-clause-reads
+returns-in-Err-resolve-clause-reads c = inr (sym (fault_verdict (goal.at.returns-in-Err-resolve-clause-reads c).In-Err-resolve))
+
+pub returns-in-Err-resolve-clause-exact : goal.returns-in-Err-resolve-clause-exact
+returns-in-Err-resolve-clause-exact c = λ verdict is. inr (sym (fault_verdict (goal.at.returns-in-Err-resolve-clause-exact c).In-Err-resolve) ∙ sym is)
+
+pub returns-in-Ok-write_file-clause-reads : goal.returns-in-Ok-write_file-clause-reads
+returns-in-Ok-write_file-clause-reads c = inr (sym (file_verdict (goal.at.returns-in-Ok-write_file-clause-reads c).In-Ok-write_file))
+
+pub returns-in-Ok-write_file-clause-exact : goal.returns-in-Ok-write_file-clause-exact
+returns-in-Ok-write_file-clause-exact c = λ verdict is. inr (sym (file_verdict (goal.at.returns-in-Ok-write_file-clause-exact c).In-Ok-write_file) ∙ sym is)
+
+-- the code and the sled map
+pub returns-in-Ok-write_file-clause-sound : goal.returns-in-Ok-write_file-clause-sound
+returns-in-Ok-write_file-clause-sound c =
+    let said = lines_in c.in-Ok.pass.entries.items in
+    let whole : ends_early said ≡ false = sym (c.end_early.ensures said c.in-Ok.ensures.reads.1.totals) ∙ c.if-end_early.false in
+    let found : resolved (lines_of (all_in c.in-Ok-new.laid)) (lines_of (all_in c.in-Ok-new.laid)) ≡ Ok (lines_of (all_in c.in-Ok-new.laid)) = search rules in
+    sound_image c.args.text.now c.args.threshold said
+    (said_whole c.args.text.now c.args.threshold said (all_in c.in-Ok-new.laid) c.in-Ok-new.ensures.lines c.in-Ok.ensures.reads.0 whole found)
+    c.in-Ok.ensures.fit
+    c.in-Ok.pass.totals c.in-Ok.ensures.reads.1.totals c.in-Ok.ensures.reads.1.within

@@ -1,0 +1,9 @@
+use Rattle.std.proofs.Common.{◌≡◌, ◌++◌, take}
+use Rattle.std.specs.List.{flat_map}
+use Rattle.asm_text.specs.Laying.{placed_in}
+use Rattle.asm_text.specs.Files.{function_line_bytes}
+use Rattle.asm_text.proofs.file.push_functions.Given as goal
+
+-- the bytes of the lines so far are added
+abbrev pub invariant-loop-line : goal.invariant-loop-line
+invariant-loop-line l = l.out.items ≡ l.fn.out.items ++ flat_map (function_line_bytes l.base) (placed_in (take l.line-index l.lines))

@@ -1,0 +1,83 @@
+-- The lines of the language: which words say what.
+use Rattle.std.specs.Prelude.{ℕ, List, [], ◌∷◌, Option, Some, None, codes, find, option_map, option_and_then}
+use Rattle.subset_decode.specs.declared.instr.Instr.{Instr}
+use Rattle.subset_decode.specs.declared.instr.Instr.TheVariants as instrs
+use Rattle.asm_text.specs.declared.statement.Choice.{Choice}
+use Rattle.asm_text.specs.declared.statement.Choice.TheVariants.{ByLength, Always, Never}
+use Rattle.asm_text.specs.declared.statement.Branch.TheVariants as branches
+use Rattle.asm_text.specs.declared.keyword.Keyword.{Keyword}
+use Rattle.asm_text.specs.declared.keyword.Keyword.TheVariants as words
+use Rattle.asm_text.specs.Numbers.{number_of}
+use Rattle.asm_text.specs.Names.{is_text, name_of, before_end}
+use Rattle.asm_text.specs.Registers.{register32, register64, before_comma}
+use Rattle.asm_text.specs.Statements.{Plain, Go, TailJump, Return, Statement, Base, Entry, Func, Label, Does}
+
+-- what a table has for a word
+abbrev pub in_table : {X : Type 0} → List (List ℕ × X) → List ℕ → Option X
+in_table table word = option_map (λ entry. entry.1) (find (λ entry. is_text entry.0 word) table)
+
+-- the first words of lines, labels apart
+abbrev pub keywords : List (List ℕ × Keyword)
+keywords =
+    (codes "base", words.Base) ∷ (codes "entry", words.Entry) ∷ (codes "fn", words.Function)
+    ∷ (codes "mov", words.Mov) ∷ (codes "add", words.Add) ∷ (codes "sub", words.Sub)
+    ∷ (codes "push", words.Push) ∷ (codes "pop", words.Pop)
+    ∷ (codes "call", words.Call) ∷ (codes "jmp", words.Jmp) ∷ (codes "jnz", words.Jnz)
+    ∷ (codes "tailjmp", words.TailJump) ∷ (codes "ret", words.Ret) ∷ (codes "out", words.Out) ∷ []
+
+abbrev pub keyword_of : List ℕ → Option Keyword
+keyword_of word = in_table keywords word
+
+-- the words behind a function's name
+abbrev pub choices : List (List ℕ × Choice)
+choices = (codes "always", Always) ∷ (codes "never", Never) ∷ []
+
+abbrev pub choice_of : List ℕ → Option Choice
+choice_of word = in_table choices word
+
+-- an instruction on two registers, the destination first
+abbrev pub on_two : (ℕ → ℕ → Instr) → List ℕ → List ℕ → Option Statement
+on_two instr first second =
+    option_and_then (λ dst. option_map (λ src. Does (Plain (instr dst src))) (register64 second))
+    (option_and_then register64 (before_comma first))
+
+-- a move of a number
+abbrev pub move : List ℕ → List ℕ → Option Statement
+move first second =
+    option_and_then (λ dst. option_map (λ imm. Does (Plain (instrs.Mov dst imm))) (number_of second))
+    (option_and_then register32 (before_comma first))
+
+-- what a keyword says with the words behind it
+abbrev pub says : Keyword → List (List ℕ) → Option Statement
+says words.Base (number ∷ []) = option_map Base (number_of number)
+says words.Entry (name ∷ []) = option_map Entry (name_of name)
+says words.Function (name ∷ []) = option_map (λ n. Func n ByLength) (name_of name)
+says words.Function (name ∷ choice ∷ []) =
+    option_and_then (λ n. option_map (λ c. Func n c) (choice_of choice)) (name_of name)
+says words.Mov (dst ∷ number ∷ []) = move dst number
+says words.Add (dst ∷ src ∷ []) = on_two instrs.Add dst src
+says words.Sub (dst ∷ src ∷ []) = on_two instrs.Sub dst src
+says words.Push (reg ∷ []) = option_map (λ r. Does (Plain (instrs.Push r))) (register64 reg)
+says words.Pop (reg ∷ []) = option_map (λ r. Does (Plain (instrs.Pop r))) (register64 reg)
+says words.Call (name ∷ []) = option_map (λ n. Does (Go branches.Call n)) (name_of name)
+says words.Jmp (name ∷ []) = option_map (λ n. Does (Go branches.Jmp n)) (name_of name)
+says words.Jnz (name ∷ []) = option_map (λ n. Does (Go branches.Jnz n)) (name_of name)
+says words.TailJump (name ∷ []) = option_map (λ n. Does (TailJump n)) (name_of name)
+says words.Ret [] = Some (Does Return)
+says words.Out (number ∷ []) = option_map (λ n. Does (Plain (instrs.Out n))) (number_of number)
+says keyword behind = None
+
+-- a label: a name and a colon (58), alone in its line
+abbrev pub label_of : List ℕ → List (List ℕ) → Option Statement
+label_of word [] = option_map Label (option_and_then name_of (before_end 58 word))
+label_of word (next ∷ behind) = None
+
+-- a line that begins with a keyword, or a label
+abbrev pub line_of : Option Keyword → List ℕ → List (List ℕ) → Option Statement
+line_of (Some keyword) word behind = says keyword behind
+line_of None word behind = label_of word behind
+
+-- what the words of a line say
+abbrev pub statement_of : List (List ℕ) → Option Statement
+statement_of [] = None
+statement_of (word ∷ behind) = line_of (keyword_of word) word behind

@@ -1,0 +1,281 @@
+-- Where the lines of a text put their units. Places count from the code's first byte.
+use Rattle.std.specs.Prelude.{ℕ, suc, ◌+◌, ◌%◌, ◌||◌, ◌==◌, pos, ◌-ℤ◌, ℤ, Bool, true, false, nat_le, List, [], ◌∷◌, ◌++◌, length, map, sum_by, slice_get, Option, Some, None, option_map, unwrap_or, if◌then◌else◌}
+use Rattle.std.specs.List.{flat_map, filter_map, position_or_len}
+use Rattle.subset_decode.specs.declared.instr.Instr.{Instr}
+use Rattle.subset_decode.specs.declared.instr.Instr.TheVariants as instrs
+use Rattle.xray_image.specs.Units.{Piece, Instruction, JumpSled, ReturnSled, Align, piece_bytes, sleds_in}
+use Rattle.xray_image.specs.Container.{Function, MapEntry}
+use Rattle.asm_text.specs.declared.statement.Choice.{Choice}
+use Rattle.asm_text.specs.declared.statement.Choice.TheVariants.{ByLength, Always, Never}
+use Rattle.asm_text.specs.declared.statement.Branch.{Branch}
+use Rattle.asm_text.specs.declared.statement.Branch.TheVariants as branches
+use Rattle.asm_text.specs.Names.{is_text}
+use Rattle.asm_text.specs.Statements.{Operation, Plain, Go, TailJump, Return, Statement, Base, Entry, Func, Label, Does}
+
+-- the lines of a text that say something, each with its number
+abbrev pub Lines : Type 0
+Lines = List (ℕ × Statement)
+
+-- ---- the parts of the code
+
+-- a unit that is known from its line, or a branch to a name
+pub data Part : Type 0 where
+  Fixed : (piece : Piece) → Part
+  Jump : (branch : Branch) (name : List ℕ) → Part
+
+-- the displacement of the nop in each sled
+abbrev pub sled_shift : ℕ
+sled_shift = 0x200
+
+abbrev pub branch_width : Branch → ℕ
+branch_width branches.Call = 5
+branch_width branches.Jmp = 5
+branch_width branches.Jnz = 6
+
+-- how many bytes a part has
+abbrev pub width : Part → ℕ
+width (Fixed piece) = length (piece_bytes piece)
+width (Jump branch name) = branch_width branch
+
+abbrev pub widths : List Part → ℕ
+widths parts = sum_by width parts
+
+-- a sled that would stand at an odd place has an alignment byte before it
+abbrev pub aligned : ℕ → Piece → List Part
+aligned place sled = if place % 2 == 0 then Fixed sled ∷ [] else Fixed Align ∷ Fixed sled ∷ []
+
+-- the parts of an instruction line in a function that isn't instrumented, and in one that is
+abbrev pub plain_parts : Operation → List Part
+plain_parts (Plain instr) = Fixed (Instruction instr) ∷ []
+plain_parts (Go branch name) = Jump branch name ∷ []
+plain_parts (TailJump name) = Jump branches.Jmp name ∷ []
+plain_parts Return = Fixed (Instruction instrs.Ret) ∷ []
+
+abbrev pub traced_parts : ℕ → Operation → List Part
+traced_parts place (Plain instr) = Fixed (Instruction instr) ∷ []
+traced_parts place (Go branch name) = Jump branch name ∷ []
+traced_parts place (TailJump name) = aligned place (JumpSled sled_shift) ++ Jump branches.Jmp name ∷ []
+traced_parts place Return = aligned place (ReturnSled sled_shift)
+
+-- the parts that a line makes, by whether its function is instrumented and where the line begins
+abbrev pub parts_of : Bool → ℕ → Statement → List Part
+parts_of traced place (Base address) = []
+parts_of traced place (Entry name) = []
+parts_of traced place (Func name choice) = if traced then aligned place (JumpSled sled_shift) else []
+parts_of traced place (Label name) = []
+parts_of traced place (Does operation) = if traced then traced_parts place operation else plain_parts operation
+
+-- ---- which functions are instrumented
+
+abbrev pub is_function : Statement → Bool
+is_function (Base address) = false
+is_function (Entry name) = false
+is_function (Func name choice) = true
+is_function (Label name) = false
+is_function (Does operation) = false
+
+abbrev pub is_instruction : Statement → Bool
+is_instruction (Base address) = false
+is_instruction (Entry name) = false
+is_instruction (Func name choice) = false
+is_instruction (Label name) = false
+is_instruction (Does operation) = true
+
+-- how many instruction lines stand before the next function
+abbrev pub instruction_lines : Lines → ℕ
+instruction_lines [] = 0
+instruction_lines (line ∷ behind) =
+    if is_function line.1 then 0 else if is_instruction line.1 then suc (instruction_lines behind) else instruction_lines behind
+
+-- which functions are instrumented, by what they say and how many instruction lines they have
+abbrev pub Choosing : Type 0
+Choosing = Choice → ℕ → Bool
+
+-- those that say always, and those that don't say never and have the threshold's number of instruction lines
+abbrev pub by_threshold : ℕ → Choosing
+by_threshold threshold Always count = true
+by_threshold threshold Never count = false
+by_threshold threshold ByLength count = nat_le threshold count
+
+-- all that don't say never
+abbrev pub unless_never : Choosing
+unless_never Always count = true
+unless_never Never count = false
+unless_never ByLength count = true
+
+-- ---- places
+
+-- the function that a line stands in: whether it is instrumented, whether it says always, and where it starts
+pub record Owner : Type 0 where
+  pub traced : Bool
+  pub always : Bool
+  pub start : ℕ
+
+abbrev pub no_owner : Owner
+no_owner = record { traced = false; always = false; start = 0 }
+
+abbrev pub is_always : Choice → Bool
+is_always ByLength = false
+is_always Always = true
+is_always Never = false
+
+-- a function that begins at a place: an instrumented one starts with its entry sled, behind any alignment byte
+abbrev pub function_at : Bool → Choice → ℕ → Owner
+function_at traced choice place =
+    record { traced = traced; always = is_always choice; start = if traced then place + place % 2 else place }
+
+-- the function that a line stands in, by that of the line before it and the lines behind it
+abbrev pub owner_of : Choosing → ℕ → Owner → Statement → Lines → Owner
+owner_of chosen place owner (Base address) behind = owner
+owner_of chosen place owner (Entry name) behind = owner
+owner_of chosen place owner (Func name choice) behind = function_at (chosen choice (instruction_lines behind)) choice place
+owner_of chosen place owner (Label name) behind = owner
+owner_of chosen place owner (Does operation) behind = owner
+
+-- a line with its function and the place at which it begins
+pub record Placed : Type 0 where
+  pub line : ℕ
+  pub statement : Statement
+  pub owner : Owner
+  pub place : ℕ
+
+abbrev pub parts_at : Placed → List Part
+parts_at p = parts_of p.owner.traced p.place p.statement
+
+-- the first line begins at 0, and each other behind the parts of the line before it
+abbrev pub placed_from : Choosing → ℕ → Owner → Lines → List Placed
+placed_from chosen place owner [] = []
+placed_from chosen place owner (line ∷ behind) =
+    let here = owner_of chosen place owner line.1 behind in
+    record { line = line.0; statement = line.1; owner = here; place = place }
+    ∷ placed_from chosen (place + widths (parts_of here.traced place line.1)) here behind
+
+abbrev pub placed : Choosing → Lines → List Placed
+placed chosen lines = placed_from chosen 0 no_owner lines
+
+-- all parts, one behind the other
+abbrev pub all_parts : Choosing → Lines → List Part
+all_parts chosen lines = flat_map parts_at (placed chosen lines)
+
+abbrev pub sleds_of : Part → ℕ
+sleds_of (Fixed piece) = sleds_in piece
+sleds_of (Jump branch name) = 0
+
+-- ---- names
+
+-- whether a statement gives a function, or a label, this name
+abbrev pub names_function : List ℕ → Statement → Bool
+names_function name (Base address) = false
+names_function name (Entry other) = false
+names_function name (Func other choice) = is_text other name
+names_function name (Label other) = false
+names_function name (Does operation) = false
+
+abbrev pub names_label : List ℕ → Statement → Bool
+names_label name (Base address) = false
+names_label name (Entry other) = false
+names_label name (Func other choice) = false
+names_label name (Label other) = is_text other name
+names_label name (Does operation) = false
+
+abbrev pub defines : List ℕ → Statement → Bool
+defines name statement = names_function name statement || names_label name statement
+
+-- the place that a line itself gives: that of an instruction line's first byte, an alignment byte too, or a function's start
+abbrev pub own_place : Placed → Option ℕ
+own_place p =
+    if is_function p.statement then Some p.owner.start else if is_instruction p.statement then Some p.place else None
+
+-- the place of the next instruction line or function
+abbrev pub next_place : List Placed → Option ℕ
+next_place lines = slice_get (filter_map own_place lines) 0
+
+-- the place of a name: a function's start, or for a label the place of the next instruction line or function behind it
+abbrev pub place_of : List ℕ → List Placed → Option ℕ
+place_of name [] = None
+place_of name (p ∷ behind) = if defines name p.statement then next_place (p ∷ behind) else place_of name behind
+
+-- ---- the program
+
+abbrev pub branch_to : Branch → ℤ → Instr
+branch_to branches.Call rel = instrs.Call rel
+branch_to branches.Jmp rel = instrs.Jmp rel
+branch_to branches.Jnz rel = instrs.Jnz rel
+
+-- a part as a unit; a branch is the last part of its line, so its distance counts from where the line ends
+abbrev pub piece_of : List Placed → ℕ → Part → Piece
+piece_of lines behind (Fixed piece) = piece
+piece_of lines behind (Jump branch name) =
+    Instruction (branch_to branch (pos (unwrap_or (place_of name lines) 0) -ℤ pos behind))
+
+abbrev pub line_pieces : List Placed → Placed → List Piece
+line_pieces lines p = map (piece_of lines (p.place + widths (parts_at p))) (parts_at p)
+
+abbrev pub pieces : List Placed → List Piece
+pieces lines = flat_map (line_pieces lines) lines
+
+-- the functions, each at its start
+abbrev pub function_in : ℕ → Placed → Statement → Option Function
+function_in base p (Base address) = None
+function_in base p (Entry name) = None
+function_in base p (Func name choice) = Some (record { start = base + p.owner.start; name = name })
+function_in base p (Label name) = None
+function_in base p (Does operation) = None
+
+abbrev pub functions : ℕ → List Placed → List Function
+functions base lines = filter_map (λ p. function_in base p p.statement) lines
+
+-- the kind of the sled that a line of an instrumented function has: 0 entry, 1 exit, 2 tail
+abbrev pub operation_kind : Operation → Option ℕ
+operation_kind (Plain instr) = None
+operation_kind (Go branch name) = None
+operation_kind (TailJump name) = Some 2
+operation_kind Return = Some 1
+
+abbrev pub sled_kind : Statement → Option ℕ
+sled_kind (Base address) = None
+sled_kind (Entry name) = None
+sled_kind (Func name choice) = Some 0
+sled_kind (Label name) = None
+sled_kind (Does operation) = operation_kind operation
+
+-- the entry of a line's sled in the sled map
+abbrev pub entry_in : ℕ → Placed → Option MapEntry
+entry_in base p =
+    if p.owner.traced
+    then option_map (λ kind. record {
+      sled = base + (p.place + p.place % 2);
+      function = base + p.owner.start;
+      kind = kind;
+      always = if p.owner.always then 1 else 0;
+      version = 0;
+    }) (sled_kind p.statement)
+    else None
+
+abbrev pub map_entries : ℕ → List Placed → List MapEntry
+map_entries base lines = filter_map (entry_in base) lines
+
+-- the address of the first byte, and the number of the entry function
+abbrev pub base_in : Statement → Option ℕ
+base_in (Base address) = Some address
+base_in (Entry name) = None
+base_in (Func name choice) = None
+base_in (Label name) = None
+base_in (Does operation) = None
+
+abbrev pub entry_in_line : Statement → Option (List ℕ)
+entry_in_line (Base address) = None
+entry_in_line (Entry name) = Some name
+entry_in_line (Func name choice) = None
+entry_in_line (Label name) = None
+entry_in_line (Does operation) = None
+
+abbrev pub base_of : Lines → ℕ
+base_of lines = unwrap_or (slice_get (filter_map (λ line. base_in line.1) lines) 0) 4096
+
+abbrev pub number_of_function : Option (List ℕ) → List Function → ℕ
+number_of_function None all = 0
+number_of_function (Some name) all = position_or_len (λ f. is_text f.name name) all
+
+abbrev pub entry_of : Lines → List Function → ℕ
+entry_of lines all = number_of_function (slice_get (filter_map (λ line. entry_in_line line.1) lines) 0) all

@@ -1,0 +1,16 @@
+pub mod Numbers
+pub mod Names
+pub mod Registers
+pub mod Statements
+pub mod Language
+pub mod Layout
+pub mod Refusals
+pub mod Writing
+pub mod Assembling
+pub mod Views
+pub mod NameTables
+pub mod Fits
+pub mod FirstPass
+pub mod Laying
+pub mod LaidTexts
+pub mod Files

@@ -1,0 +1,25 @@
+-- The names of functions and labels.
+use Rattle.std.specs.Prelude.{ℕ, Bool, ◌&&◌, not, nat_le, ◌==◌, ◌-◌, List, length, take, slice_index, Option, Some, None, if◌then◌else◌, nat_eq}
+use Rattle.std.specs.Cmp.Lexicographic.{pointwise}
+use Rattle.std.specs.List.{list_all}
+use Rattle.xray_image.specs.Program.{is_name_byte}
+
+-- two texts are the same
+abbrev pub is_text : List ℕ → List ℕ → Bool
+is_text text other = pointwise nat_eq text other
+
+-- a decimal digit
+abbrev pub is_decimal : ℕ → Bool
+is_decimal b = nat_le 48 b && nat_le b 57
+
+-- a name has 1 to 255 letters, digits and _ . $ and doesn't begin with a digit
+abbrev pub is_name : List ℕ → Bool
+is_name word = nat_le 1 (length word) && nat_le (length word) 255 && not (is_decimal (slice_index word 0)) && list_all is_name_byte word
+
+abbrev pub name_of : List ℕ → Option (List ℕ)
+name_of word = if is_name word then Some word else None
+
+-- what stands before the byte that a word ends with, where it ends so
+abbrev pub before_end : ℕ → List ℕ → Option (List ℕ)
+before_end byte word =
+    if nat_le 1 (length word) && slice_index word (length word - 1) == byte then Some (take (length word - 1) word) else None

@@ -1,0 +1,159 @@
+-- The refusals, in the order in which they are looked for: line by line, on one line in the order of its rows, and
+-- then at the end of the text.
+use Rattle.std.specs.Prelude.{ℕ, ◌||◌, ◌==◌, ◌%◌, Bool, true, false, not, nat_lt, List, [], ◌∷◌, ◌++◌, fold, sum_by, count_by, Option, Some, None, is_some, Result, Ok, Err, if◌then◌else◌}
+use Rattle.std.specs.List.{list_any}
+use Rattle.subset_decode.specs.declared.instr.Instr.{Instr}
+use Rattle.subset_decode.specs.declared.instr.Instr.TheVariants.{Mov, Add, Sub, Push, Pop, Call, Jmp, Jnz, Ret, Out}
+use Rattle.subset_decode.specs.Encoding.{reserved_register}
+use Rattle.text_lines.specs.Words.{is_clean, words_of}
+use Rattle.asm_text.specs.declared.fault.AsmFault.{AsmFault}
+use Rattle.asm_text.specs.declared.fault.AsmFault.TheVariants.{Syntax, Register, Range, Repeat, Limit, Label as Unresolved}
+use Rattle.asm_text.specs.Statements.{Operation, Plain, Go, TailJump, Return, Statement, Base, Entry, Func, Label, Does}
+use Rattle.asm_text.specs.Language.{statement_of}
+use Rattle.asm_text.specs.Layout.{Lines, is_function, is_instruction, base_in, entry_in_line, defines, names_function, unless_never, all_parts, widths, sleds_of}
+
+-- ---- the rows of a line, by the lines before it
+
+abbrev pub has_function : Lines → Bool
+has_function lines = list_any (λ line. is_function line.1) lines
+
+-- the last function has no instruction line
+abbrev pub is_bare : Lines → Bool
+is_bare lines =
+    fold (λ bare line. if is_function line.1 then true else if is_instruction line.1 then false else bare) false lines
+
+-- a base or an entry that is repeated or stands behind a function, an instruction or a label that stands before any, a
+-- function behind one without an instruction line
+abbrev pub is_misplaced : Lines → Statement → Bool
+is_misplaced before (Base address) = list_any (λ line. is_some (base_in line.1)) before || has_function before
+is_misplaced before (Entry name) = list_any (λ line. is_some (entry_in_line line.1)) before || has_function before
+is_misplaced before (Func name choice) = is_bare before
+is_misplaced before (Label name) = not (has_function before)
+is_misplaced before (Does operation) = not (has_function before)
+
+-- a register that may not be named
+abbrev pub operation_reserves : Operation → Bool
+operation_reserves (Plain instr) = is_some (reserved_register instr)
+operation_reserves (Go branch name) = false
+operation_reserves (TailJump name) = false
+operation_reserves Return = false
+
+abbrev pub names_reserved : Statement → Bool
+names_reserved (Base address) = false
+names_reserved (Entry name) = false
+names_reserved (Func name choice) = false
+names_reserved (Label name) = false
+names_reserved (Does operation) = operation_reserves operation
+
+-- a number that its place can't hold
+abbrev pub is_wide : Instr → Bool
+is_wide (Mov dst imm) = nat_lt 4294967295 imm
+is_wide (Add dst src) = false
+is_wide (Sub dst src) = false
+is_wide (Push reg) = false
+is_wide (Pop reg) = false
+is_wide (Call rel) = false
+is_wide (Jmp rel) = false
+is_wide (Jnz rel) = false
+is_wide Ret = false
+is_wide (Out port) = nat_lt 255 port
+
+abbrev pub operation_exceeds : Operation → Bool
+operation_exceeds (Plain instr) = is_wide instr
+operation_exceeds (Go branch name) = false
+operation_exceeds (TailJump name) = false
+operation_exceeds Return = false
+
+-- the base is a multiple of 16, and at most 0x7FFF00000000
+abbrev pub is_out_of_range : Statement → Bool
+is_out_of_range (Base address) = not (address % 16 == 0) || nat_lt 0x7FFF00000000 address
+is_out_of_range (Entry name) = false
+is_out_of_range (Func name choice) = false
+is_out_of_range (Label name) = false
+is_out_of_range (Does operation) = operation_exceeds operation
+
+-- a name that an earlier function or label has
+abbrev pub is_defined : List ℕ → Lines → Bool
+is_defined name lines = list_any (λ line. defines name line.1) lines
+
+abbrev pub repeats : Lines → Statement → Bool
+repeats before (Base address) = false
+repeats before (Entry name) = false
+repeats before (Func name choice) = is_defined name before
+repeats before (Label name) = is_defined name before
+repeats before (Does operation) = false
+
+-- more than 1,024 functions, 1,048,576 bytes of code or 4,096 sleds, as if each function that doesn't say never were
+-- instrumented
+abbrev pub exceeds_limits : Lines → Bool
+exceeds_limits lines =
+    nat_lt 1024 (count_by (λ line. is_function line.1) lines)
+    || nat_lt 1048576 (widths (all_parts unless_never lines))
+    || nat_lt 4096 (sum_by sleds_of (all_parts unless_never lines))
+
+-- the lines with one more, or the first row of its refusals that applies
+abbrev pub judged : Lines → ℕ → Statement → Result Lines AsmFault
+judged before number statement =
+    if is_misplaced before statement then Err (Syntax number)
+    else if names_reserved statement then Err (Register number)
+    else if is_out_of_range statement then Err (Range number)
+    else if repeats before statement then Err (Repeat number)
+    else if exceeds_limits (before ++ (number, statement) ∷ []) then Err (Limit number)
+    else Ok (before ++ (number, statement) ∷ [])
+
+-- words that say nothing are refused first of all
+abbrev pub spoken : Lines → ℕ → Option Statement → Result Lines AsmFault
+spoken before number None = Err (Syntax number)
+spoken before number (Some statement) = judged before number statement
+
+-- a line without words is skipped
+abbrev pub with_words : Lines → ℕ → List (List ℕ) → Result Lines AsmFault
+with_words before number [] = Ok before
+with_words before number (word ∷ words) = spoken before number (statement_of (word ∷ words))
+
+abbrev pub with_line : Lines → ℕ × List ℕ → Result Lines AsmFault
+with_line before (number, line) = if is_clean line then with_words before number (words_of line) else Err (Syntax number)
+
+infixl 10 ◌>>=◌
+abbrev pub ◌>>=◌ : {A B : Type 0} → Result A AsmFault → (A → Result B AsmFault) → Result B AsmFault
+(Ok x) >>= f = f x
+(Err e) >>= f = Err e
+
+-- what all lines say, behind those before them, or the first refusal
+abbrev pub read_lines : Lines → List (ℕ × List ℕ) → Result Lines AsmFault
+read_lines before [] = Ok before
+read_lines before (line ∷ behind) = with_line before line >>= λ lines. read_lines lines behind
+
+-- ---- the rows at the end of the text
+
+-- there is no function, or the last one has no instruction line
+abbrev pub ends_early : Lines → Bool
+ends_early lines = not (has_function lines) || is_bare lines
+
+-- the name that an instruction line goes to
+abbrev pub name_in : Operation → Option (List ℕ)
+name_in (Plain instr) = None
+name_in (Go branch name) = Some name
+name_in (TailJump name) = Some name
+name_in Return = None
+
+abbrev pub is_missing : Lines → Option (List ℕ) → Bool
+is_missing lines None = false
+is_missing lines (Some name) = not (is_defined name lines)
+
+-- an entry that names no function, a label with no instruction line or function behind it, a name that isn't defined
+abbrev pub is_unresolved : Lines → Statement → Lines → Bool
+is_unresolved lines (Base address) behind = false
+is_unresolved lines (Entry name) behind = not (list_any (λ line. names_function name line.1) lines)
+is_unresolved lines (Func name choice) behind = false
+is_unresolved lines (Label name) behind = not (list_any (λ line. is_function line.1 || is_instruction line.1) behind)
+is_unresolved lines (Does operation) behind = is_missing lines (name_in operation)
+
+-- the lines that are left, or the first that is unresolved
+abbrev pub resolved : Lines → Lines → Result Lines AsmFault
+resolved lines [] = Ok lines
+resolved lines (line ∷ behind) =
+    if is_unresolved lines line.1 behind then Err (Unresolved line.0) else resolved lines behind
+
+abbrev pub ended : ℕ → Lines → Result Lines AsmFault
+ended number lines = if ends_early lines then Err (Syntax number) else resolved lines lines

@@ -1,0 +1,50 @@
+//! From a text to its image.
+
+ghost use Rattle.std.specs.Prelude.{◌≡◌, ◌<◌, ◌⊎◌, List, ℕ, length, OnOk, Result};
+ghost use Rattle.std.specs.Str.Lines.{lines};
+ghost use Rattle.asm_text.specs.declared.fault.AsmFault.{AsmFault as Fault};
+ghost use Rattle.asm_text.specs.declared.fault.AsmFault.TheVariants.{NoMemory};
+ghost use Rattle.asm_text.specs.Assembling.{Assembles, IsSoundImage, seen};
+
+use crate::ending::resolve;
+use crate::fault::AsmFault;
+use crate::first_pass::read_text;
+use crate::laid_text::LaidText;
+use crate::write::write_file;
+use std::alloc::Global;
+use text_lines::count_lines;
+
+/// The image file of an assembler text. `always` and `never` behind a function's name decide
+/// whether it gets sleds; where neither stands there, it gets them from `threshold` instruction
+/// lines on. The sleds are those of compiler-rt's `xray_x86_64.cpp`: one at the function's entry,
+/// one in the place of each `ret`, and one before each tail jump.
+///
+/// A text that can't be assembled is refused by its first fault, as `AsmFault` tells; `NoMemory`
+/// may come in place of any answer. The lines of the text are counted by `u32`.
+pub fn assemble(alloc: Global, text: &[u8], threshold: u32) -> Result<Vec<u8>, AsmFault>
+    requires { length (lines text.now) < u32.MAX }
+    ensures reads { (result ≡ Err NoMemory) ⊎ Assembles text.now threshold (seen result) }
+    ensures exact { (verdict : Result (List ℕ) Fault) → Assembles text.now threshold verdict
+        → (result ≡ Err NoMemory) ⊎ (seen result ≡ verdict) }
+    // The code and the sled map of an image are as its reader wants them.
+    ensures sound { OnOk result (IsSoundImage text.now threshold) }
+{
+    let pass = match read_text(alloc, text) {
+        Ok(pass) => pass,
+        Err(fault) => return Err(fault),
+    };
+    if pass.totals.end_early() {
+        return Err(AsmFault::Syntax(count_lines(text) as u32 + 1));
+    }
+    let laid = match LaidText::new(alloc, threshold, pass) {
+        Ok(laid) => laid,
+        Err(_) => return Err(AsmFault::NoMemory),
+    };
+    if let Err(fault) = resolve(&laid.lines, &laid.names, &laid.targets) {
+        return Err(fault);
+    }
+    match write_file(alloc, &laid) {
+        Ok(file) => Ok(file),
+        Err(_) => Err(AsmFault::NoMemory),
+    }
+}

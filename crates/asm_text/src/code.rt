@@ -1,0 +1,158 @@
+//! The bytes of the code.
+
+ghost use Rattle.std.specs.Prelude.{◌≡◌, ◌≤◌, ◌%◌, ◌++◌, ◌∷◌, ◌==◌, pos, ◌-ℤ◌, OnOk, if◌then◌else◌, length};
+ghost use Rattle.std.specs.List.{flat_map};
+ghost use Rattle.subset_decode.specs.Encoding.{spelling};
+ghost use Rattle.xray_image.specs.Units.{piece_bytes};
+ghost use Rattle.asm_text.specs.Layout.{branch_to, pieces, line_pieces, piece_of, plain_parts, traced_parts, Jump};
+ghost use Rattle.asm_text.specs.Views.{operation_checked};
+ghost use Rattle.asm_text.specs.Laying.{line_placed, parts_bytes};
+ghost use Rattle.asm_text.specs.LaidTexts.{all_in, IsLaidText};
+
+use crate::laid_text::LaidText;
+use crate::layout::Laid;
+use crate::statement::{Branch, Operation, Statement};
+use crate::width::line_width;
+use std::alloc::AllocError;
+use subset_decode::{Instr, encode};
+
+/// The byte that aligns sleds.
+const ALIGNMENT: u8 = 0x90;
+
+/// An entry or tail sled: a jump over the nop of nine bytes that fills it (`xray_x86_64.cpp` of
+/// compiler-rt).
+const JUMP_SLED: [u8; 11] = [
+    0xEB, 0x09, 0x66, 0x0F, 0x1F, 0x84, 0x00, 0x00, 0x02, 0x00, 0x00,
+];
+
+/// An exit sled: a return, and the rest of a nop behind it.
+const RETURN_SLED: [u8; 11] = [
+    0xC3, 0x2E, 0x66, 0x0F, 0x1F, 0x84, 0x00, 0x00, 0x02, 0x00, 0x00,
+];
+
+/// Adds an instruction.
+fn push_instr(out: &mut Vec<u8>, instr: &Instr) -> Result<(), AllocError>
+    ensures { OnOk result (out.new.items ≡ out.old.items ++ spelling instr.now) }
+{
+    out.extend_from_slice(encode(instr).as_slice())
+}
+
+/// Adds a sled at a place, with the alignment byte before it at an odd one.
+fn push_sled(out: &mut Vec<u8>, place: u32, sled: &[u8; 11]) -> Result<(), AllocError>
+    ensures { OnOk result (out.new.items ≡ out.old.items
+        ++ (if place % 2 == 0 then sled.now else 0x90 ∷ sled.now)) }
+{
+    if !place.is_multiple_of(2) {
+        out.push(ALIGNMENT)?;
+    }
+    out.extend_from_slice(sled)
+}
+
+/// A branch to a target, whose distance counts from the place behind the branch.
+fn branch(branch: Branch, target: u32, behind: u32) -> Instr
+    requires target { target ≤ 1048576 }
+    requires behind { behind ≤ 2097152 }
+    ensures { result ≡ branch_to branch (pos target -ℤ pos behind) }
+{
+    let rel = target as i32 - behind as i32;
+    match branch {
+        Branch::Call => Instr::Call { rel },
+        Branch::Jmp => Instr::Jmp { rel },
+        Branch::Jnz => Instr::Jnz { rel },
+    }
+}
+
+/// Adds a branch to a name.
+fn push_branch(
+    out: &mut Vec<u8>,
+    text: &LaidText,
+    kind: Branch,
+    name: &[u8],
+    behind: u32,
+) -> Result<(), AllocError>
+    requires text { IsLaidText text.now }
+    requires behind { behind ≤ 2097152 }
+    ensures { OnOk result (out.new.items ≡ out.old.items
+        ++ piece_bytes (piece_of (all_in text.now) behind (Jump kind name.now))) }
+{
+    push_instr(out, &branch(kind, text.target_of(name), behind))
+}
+
+/// Adds an instruction line of a function that isn't instrumented.
+fn push_plain(
+    out: &mut Vec<u8>,
+    text: &LaidText,
+    operation: &Operation,
+    behind: u32,
+) -> Result<(), AllocError>
+    requires text { IsLaidText text.now }
+    requires behind { behind ≤ 2097152 }
+    ensures { OnOk result (out.new.items ≡ out.old.items
+        ++ parts_bytes (all_in text.now) behind (plain_parts (operation_checked operation.now))) }
+{
+    match operation {
+        Operation::Plain(plain) => push_instr(out, &plain.instr()),
+        Operation::Go { branch, name } => push_branch(out, text, *branch, *name, behind),
+        Operation::TailJump { name } => push_branch(out, text, Branch::Jmp, *name, behind),
+        Operation::Return => push_instr(out, &Instr::Ret),
+    }
+}
+
+/// Adds an instruction line of an instrumented function.
+fn push_traced(
+    out: &mut Vec<u8>,
+    text: &LaidText,
+    place: u32,
+    operation: &Operation,
+    behind: u32,
+) -> Result<(), AllocError>
+    requires text { IsLaidText text.now }
+    requires behind { behind ≤ 2097152 }
+    ensures { OnOk result (out.new.items ≡ out.old.items
+        ++ parts_bytes (all_in text.now) behind
+        (traced_parts place (operation_checked operation.now))) }
+{
+    match operation {
+        Operation::Plain(_) | Operation::Go { .. } => push_plain(out, text, operation, behind),
+        Operation::TailJump { name } => {
+            push_sled(out, place, &JUMP_SLED)?;
+            push_branch(out, text, Branch::Jmp, *name, behind)
+        }
+        Operation::Return => push_sled(out, place, &RETURN_SLED),
+    }
+}
+
+/// Adds a line.
+#[tactic(auto, using(crate::proofs::CodeLemmas::sled_alone))]
+fn push_line(out: &mut Vec<u8>, text: &LaidText, line: &Laid) -> Result<(), AllocError>
+    requires text { IsLaidText text.now }
+    requires place { line.now.place ≤ 1048576 }
+    ensures { OnOk result (out.new.items ≡ out.old.items
+        ++ flat_map piece_bytes (line_pieces (all_in text.now) (line_placed line.now))) }
+{
+    let traced = line.owner.traced;
+    let behind = line.place + line_width(traced, line.place, &line.statement);
+    match &line.statement {
+        Statement::Function { .. } if traced => push_sled(out, line.place, &JUMP_SLED),
+        Statement::Does(operation) if traced => {
+            push_traced(out, text, line.place, operation, behind)
+        }
+        Statement::Does(operation) => push_plain(out, text, operation, behind),
+        Statement::Base(_)
+        | Statement::Entry(_)
+        | Statement::Function { .. }
+        | Statement::Label(_) => Ok(()),
+    }
+}
+
+/// Adds the whole code.
+pub(crate) fn push_code(out: &mut Vec<u8>, text: &LaidText) -> Result<(), AllocError>
+    requires { IsLaidText text.now }
+    ensures { OnOk result (out.new.items ≡ out.old.items
+        ++ flat_map piece_bytes (pieces (all_in text.now))) }
+{
+    for line in &text.lines {
+        push_line(out, text, line)?;
+    }
+    Ok(())
+}

@@ -1,0 +1,146 @@
+//! The image file.
+
+ghost use Rattle.std.specs.Prelude.{◌≡◌, ◌≤◌, ◌<◌, ◌+◌, ◌++◌, ◌∷◌, ℕ, List, OnOk, length, replicate, if◌then◌else◌};
+ghost use Rattle.std.specs.List.{flat_map, AllByRecursion};
+ghost use Rattle.asm_text.specs.Layout.{functions, map_entries, function_in, entry_in, sled_kind};
+ghost use Rattle.asm_text.specs.Writing.{File, function_bytes, entry_bytes, header_bytes, file_bytes};
+ghost use Rattle.asm_text.specs.Views.{statement_said};
+ghost use Rattle.asm_text.specs.Laying.{line_placed, placed_in};
+ghost use Rattle.asm_text.specs.Files.{function_line_bytes, sled_line_bytes, HasShortName, AreShortNames};
+
+use crate::fields::{push_addresses, push_u64};
+use crate::layout::Laid;
+use crate::statement::{Operation, Statement};
+use std::alloc::AllocError;
+
+/// How many bytes of padding a map entry has.
+const PADDING: [u8; 13] = [0; 13];
+
+/// The version of map entries with absolute addresses.
+const MAP_VERSION: u8 = 0;
+
+/// The kind of an entry sled in the map (`XRayEntryType` of compiler-rt).
+const ENTRY: u8 = 0;
+
+/// The kind of an exit sled.
+const EXIT: u8 = 1;
+
+/// The kind of a tail sled.
+const TAIL: u8 = 2;
+
+/// Adds the entry of a function.
+fn push_function(out: &mut Vec<u8>, start: u64, name: &[u8]) -> Result<(), AllocError>
+    requires { length name.now ≤ 255 }
+    ensures { OnOk result (out.new.items ≡ out.old.items
+        ++ function_bytes (record { start = start; name = name.now })) }
+{
+    push_u64(out, start)?;
+    out.push(name.len() as u8)?;
+    out.extend_from_slice(name)
+}
+
+/// Adds the function that a line begins, if it does.
+fn push_function_line(out: &mut Vec<u8>, base: u64, line: &Laid) -> Result<(), AllocError>
+    requires base { base ≤ 0x7FFF00000000 }
+    requires name { HasShortName (statement_said line.now.statement) }
+    ensures { OnOk result (out.new.items ≡ out.old.items
+        ++ function_line_bytes base (line_placed line.now)) }
+{
+    match &line.statement {
+        Statement::Function { name, .. } => {
+            push_function(out, base + u64::from(line.owner.start), *name)
+        }
+        Statement::Base(_) | Statement::Entry(_) | Statement::Label(_) | Statement::Does(_) => Ok(
+            (),
+        ),
+    }
+}
+
+/// The kind of the sled that a line of an instrumented function has.
+pub(crate) fn kind_of(statement: &Statement) -> Option<u8>
+    ensures { result ≡ sled_kind (statement_said statement.now) }
+{
+    match statement {
+        Statement::Function { .. } => Some(ENTRY),
+        Statement::Does(Operation::Return) => Some(EXIT),
+        Statement::Does(Operation::TailJump { .. }) => Some(TAIL),
+        Statement::Does(Operation::Plain(_) | Operation::Go { .. })
+        | Statement::Base(_)
+        | Statement::Entry(_)
+        | Statement::Label(_) => None,
+    }
+}
+
+/// Adds the flags of a map entry and its padding.
+fn push_flags(out: &mut Vec<u8>, kind: u8, always: bool) -> Result<(), AllocError>
+    ensures { OnOk result (out.new.items ≡ out.old.items
+        ++ kind ∷ (if always then 1 else 0) ∷ 0 ∷ replicate 13 0) }
+{
+    out.extend_from_slice(&[kind, u8::from(always), MAP_VERSION])?;
+    out.extend_from_slice(&PADDING)
+}
+
+/// Adds an entry of the sled map.
+fn push_entry(
+    out: &mut Vec<u8>,
+    sled: u64,
+    function: u64,
+    kind: u8,
+    always: bool,
+) -> Result<(), AllocError>
+    ensures { OnOk result (out.new.items ≡ out.old.items
+        ++ entry_bytes (record {
+          sled = sled;
+          function = function;
+          kind = kind;
+          always = if always then 1 else 0;
+          version = 0;
+        })) }
+{
+    push_addresses(out, sled, function)?;
+    push_flags(out, kind, always)
+}
+
+/// Adds the map entry of a line's sled, if it has one.
+fn push_sled_line(out: &mut Vec<u8>, base: u64, line: &Laid) -> Result<(), AllocError>
+    requires base { base ≤ 0x7FFF00000000 }
+    ensures { OnOk result (out.new.items ≡ out.old.items
+        ++ sled_line_bytes base (line_placed line.now)) }
+{
+    let place = line.place;
+    let owner = line.owner;
+    if !owner.traced {
+        return Ok(());
+    }
+    let sled = base + (u64::from(place) + u64::from(place % 2));
+    let function = base + u64::from(owner.start);
+    match kind_of(&line.statement) {
+        Some(kind) => push_entry(out, sled, function, kind, owner.always),
+        None => Ok(()),
+    }
+}
+
+/// Adds the entries of all functions.
+pub(crate) fn push_functions(out: &mut Vec<u8>, base: u64, lines: &[Laid]) -> Result<(), AllocError>
+    requires base { base ≤ 0x7FFF00000000 }
+    requires names { AreShortNames lines.now }
+    ensures { OnOk result (out.new.items ≡ out.old.items
+        ++ flat_map function_bytes (functions base (placed_in lines.now))) }
+{
+    for line in lines {
+        push_function_line(out, base, line)?;
+    }
+    Ok(())
+}
+
+/// Adds the sled map.
+pub(crate) fn push_map(out: &mut Vec<u8>, base: u64, lines: &[Laid]) -> Result<(), AllocError>
+    requires base { base ≤ 0x7FFF00000000 }
+    ensures { OnOk result (out.new.items ≡ out.old.items
+        ++ flat_map entry_bytes (map_entries base (placed_in lines.now))) }
+{
+    for line in lines {
+        push_sled_line(out, base, line)?;
+    }
+    Ok(())
+}

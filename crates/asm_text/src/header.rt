@@ -1,0 +1,104 @@
+//! The header of the image file.
+
+ghost use Rattle.std.specs.Prelude.{◌≡◌, ◌≤◌, ◌+◌, ◌++◌, OnOk, codes};
+ghost use Rattle.std.specs.List.{flat_map};
+ghost use Rattle.byteorder.specs.Endian.{little_bytes};
+ghost use Rattle.asm_text.specs.Writing.{header_of, trampolines_of};
+
+use crate::fields::{push_addresses, push_u32, push_u64};
+use std::alloc::AllocError;
+
+/// The first bytes of an image file.
+const MAGIC: [u8; 4] = [0x58, 0x52, 0x49, 0x4D];
+
+/// The version of the container.
+const VERSION: u32 = 1;
+
+/// How far behind the base the entry trampoline stands.
+const ENTRY_TRAMPOLINE: u64 = 0x20_0000;
+
+/// The same of the exit trampoline.
+const EXIT_TRAMPOLINE: u64 = 0x20_0010;
+
+/// The same of the tail trampoline.
+const TAIL_TRAMPOLINE: u64 = 0x20_0020;
+
+/// The same of the trampoline for entries with arguments.
+const ARGUMENT_TRAMPOLINE: u64 = 0x20_0030;
+
+/// What the header counts.
+#[derive(Clone, Copy)]
+pub(crate) struct Header {
+    /// The address of the code's first byte.
+    pub(crate) base: u64,
+    /// How long the code is.
+    pub(crate) code: u32,
+    /// How many functions there are.
+    pub(crate) functions: u32,
+    /// How many entries the sled map has.
+    pub(crate) entries: u32,
+    /// The number of the entry function, from 0.
+    pub(crate) entry: u32,
+}
+
+/// Adds the front of the header.
+fn push_front(out: &mut Vec<u8>, base: u64) -> Result<(), AllocError>
+    ensures { OnOk result (out.new.items ≡ out.old.items
+        ++ (codes "XRIM" ++ little_bytes 4 1 ++ little_bytes 8 base)) }
+{
+    out.extend_from_slice(&MAGIC)?;
+    push_u32(out, VERSION)?;
+    push_u64(out, base)
+}
+
+/// Adds two counts.
+fn push_pair(out: &mut Vec<u8>, first: u32, second: u32) -> Result<(), AllocError>
+    ensures { OnOk result (out.new.items ≡ out.old.items
+        ++ (little_bytes 4 first ++ little_bytes 4 second)) }
+{
+    push_u32(out, first)?;
+    push_u32(out, second)
+}
+
+/// Adds two addresses at distances behind the base.
+fn push_trampolines(out: &mut Vec<u8>, base: u64, first: u64, second: u64) -> Result<(), AllocError>
+    requires base { base ≤ 0x7FFF00000000 }
+    requires first { first ≤ 0x300000 }
+    requires second { second ≤ 0x300000 }
+    ensures { OnOk result (out.new.items ≡ out.old.items
+        ++ (little_bytes 8 (base + first) ++ little_bytes 8 (base + second))) }
+{
+    push_addresses(out, base + first, base + second)
+}
+
+/// Adds the counts.
+fn push_counts(out: &mut Vec<u8>, header: &Header) -> Result<(), AllocError>
+    ensures { OnOk result (out.new.items ≡ out.old.items
+        ++ (little_bytes 4 header.now.code ++ little_bytes 4 header.now.functions
+        ++ little_bytes 4 header.now.entries ++ little_bytes 4 header.now.entry)) }
+{
+    push_pair(out, header.code, header.functions)?;
+    push_pair(out, header.entries, header.entry)
+}
+
+/// Adds the trampolines' addresses.
+fn push_all_trampolines(out: &mut Vec<u8>, base: u64) -> Result<(), AllocError>
+    requires { base ≤ 0x7FFF00000000 }
+    ensures { OnOk result (out.new.items ≡ out.old.items
+        ++ flat_map (little_bytes 8) (trampolines_of base)) }
+{
+    push_trampolines(out, base, ENTRY_TRAMPOLINE, EXIT_TRAMPOLINE)?;
+    push_trampolines(out, base, TAIL_TRAMPOLINE, ARGUMENT_TRAMPOLINE)
+}
+
+/// Adds the header of 64 bytes.
+pub(crate) fn push_header(out: &mut Vec<u8>, header: &Header) -> Result<(), AllocError>
+    requires { header.now.base ≤ 0x7FFF00000000 }
+    ensures { OnOk result (out.new.items ≡ out.old.items
+        ++ header_of header.now.base header.now.code header.now.functions header.now.entries
+        header.now.entry) }
+{
+    push_front(out, header.base)?;
+    push_counts(out, header)?;
+    push_all_trampolines(out, header.base)
+}

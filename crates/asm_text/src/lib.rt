@@ -1,0 +1,36 @@
+//! The assembler: a text of functions, labels and instructions as an image file with sleds.
+//!
+//! `line` reads a line as what it says, `operands` judges its operands, and `first_pass` gathers
+//! the lines with their names and totals and refuses the first that may not follow. Behind that
+//! `layout` gives each line its place, `targets` each name, `ending` refuses names without places,
+//! and `code`, `file` and `header` write the bytes. Each pass is linear in the text.
+#![tactic(auto)]
+
+mod assembling;
+mod code;
+mod ending;
+mod fault;
+mod fields;
+mod file;
+mod first_pass;
+mod header;
+mod keyword;
+mod laid_text;
+mod layout;
+mod line;
+mod name_table;
+mod names;
+mod numbers;
+mod operands;
+mod registers;
+mod statement;
+mod targets;
+mod totals;
+mod width;
+mod write;
+
+pub use assembling::assemble;
+pub use fault::AsmFault;
+
+#[cfg(test)]
+mod tests;

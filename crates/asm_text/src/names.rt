@@ -1,0 +1,51 @@
+//! The names of functions and labels.
+
+ghost use Rattle.std.specs.Prelude.{◌≡◌, option_copied};
+ghost use Rattle.std.specs.List.{list_all};
+ghost use Rattle.xray_image.specs.Program.{is_name_byte};
+ghost use Rattle.asm_text.specs.Names.{is_name, name_of, before_end};
+
+/// How many bytes a name has at most.
+const LONGEST_NAME: usize = 255;
+
+/// Whether a byte may stand in a name: a letter, a digit, or one of `_`, `.` and `$`.
+fn may_name(byte: u8) -> bool
+    ensures { result ≡ is_name_byte byte }
+{
+    byte.is_ascii_alphanumeric() || matches!(byte, b'_' | b'.' | b'$')
+}
+
+/// Whether each byte of a word may stand in a name.
+fn all_may_name(word: &[u8]) -> bool
+    ensures { result ≡ list_all is_name_byte word.now }
+{
+    word.iter().all(|&byte| may_name(byte))
+}
+
+/// Whether a word is a name, which has 1 to 255 bytes and doesn't begin with a digit.
+#[tactic(auto, using(crate::proofs::NameLemmas::name_by_parts))]
+fn is_name(word: &[u8]) -> bool
+    ensures { result ≡ is_name word.now }
+{
+    if word.is_empty() || word.len() > LONGEST_NAME || word[0].is_ascii_digit() {
+        return false;
+    }
+    all_may_name(word)
+}
+
+/// The word, where it is a name.
+pub(crate) fn name_of(word: &[u8]) -> Option<&[u8]>
+    ensures { option_copied result ≡ name_of word.now }
+{
+    if is_name(word) { Some(word) } else { None }
+}
+
+/// What stands before the byte that a word ends with. None where it doesn't end so.
+pub(crate) fn before_end(byte: u8, word: &[u8]) -> Option<&[u8]>
+    ensures { option_copied result ≡ before_end byte word.now }
+{
+    match word {
+        [front @ .., last] if *last == byte => Some(front),
+        _ => None,
+    }
+}

@@ -1,0 +1,92 @@
+//! Whether the operands of a line can stand there.
+
+ghost use Rattle.std.specs.Prelude.{◌≡◌, ◌<◌, ◌^◌, true, false, MatchResult};
+ghost use Rattle.subset_decode.specs.Registers.{is_reserved};
+ghost use Rattle.asm_text.specs.Views.{register_number, statement_said, statement_spoken, operation_checked, operation_written, operation_of, statement_of_spoken, Tells};
+
+use crate::fault::AsmFault;
+use crate::registers::{Register, RegisterWord};
+use crate::statement::{Operation, Plain, Spoken, Statement, Written};
+
+/// The base address is a multiple of this.
+const BASE_ALIGNMENT: u64 = 16;
+
+/// The highest base address.
+const BASE_LIMIT: u64 = 0x7FFF_0000_0000;
+
+/// The register, or the fault `Register` where it can't be named.
+fn register(line: u32, word: RegisterWord) -> Result<Register, AsmFault>
+    ensures { MatchResult result (λ reg. (register_number reg ≡ word) × (is_reserved word ≡ false))
+        (λ e. (e ≡ AsmFault.Register line) × (is_reserved word ≡ true)) }
+{
+    match word.register() {
+        Some(reg) => Ok(reg),
+        None => Err(AsmFault::Register(line)),
+    }
+}
+
+/// The operation of an instruction line. `Register` where it names a register that can't be named,
+/// and `Range` where a number doesn't fit its place.
+fn checked_operation<'a>(line: u32, written: &Written<'a>) -> Result<Operation<'a>, AsmFault>
+    ensures { Tells operation_checked result (operation_of line (operation_written written.now)) }
+{
+    match *written {
+        Written::Mov { dst, imm } => {
+            let dst = register(line, dst)?;
+            match u32::try_from(imm) {
+                Ok(imm) => Ok(Operation::Plain(Plain::Mov { dst, imm })),
+                Err(_) => Err(AsmFault::Range(line)),
+            }
+        }
+        Written::Add { dst, src } => {
+            let dst = register(line, dst)?;
+            let src = register(line, src)?;
+            Ok(Operation::Plain(Plain::Add { dst, src }))
+        }
+        Written::Sub { dst, src } => {
+            let dst = register(line, dst)?;
+            let src = register(line, src)?;
+            Ok(Operation::Plain(Plain::Sub { dst, src }))
+        }
+        Written::Push { reg } => {
+            let reg = register(line, reg)?;
+            Ok(Operation::Plain(Plain::Push { reg }))
+        }
+        Written::Pop { reg } => {
+            let reg = register(line, reg)?;
+            Ok(Operation::Plain(Plain::Pop { reg }))
+        }
+        Written::Out { port } => match u8::try_from(port) {
+            Ok(port) => Ok(Operation::Plain(Plain::Out { port })),
+            Err(_) => Err(AsmFault::Range(line)),
+        },
+        Written::Go { branch, name } => Ok(Operation::Go { branch, name }),
+        Written::TailJump { name } => Ok(Operation::TailJump { name }),
+        Written::Return => Ok(Operation::Return),
+    }
+}
+
+/// What a line says, with operands that can stand there, or its refusal.
+pub(crate) fn checked<'a>(line: u32, spoken: &Spoken<'a>) -> Result<Statement<'a>, AsmFault>
+    ensures { Tells statement_said result (statement_of_spoken line (statement_spoken spoken.now)) }
+{
+    match spoken {
+        Spoken::Base(address) => {
+            let address = *address;
+            if !address.is_multiple_of(BASE_ALIGNMENT) || address > BASE_LIMIT {
+                return Err(AsmFault::Range(line));
+            }
+            Ok(Statement::Base(address))
+        }
+        Spoken::Entry(name) => Ok(Statement::Entry(*name)),
+        Spoken::Function { name, choice } => Ok(Statement::Function {
+            name: *name,
+            choice: *choice,
+        }),
+        Spoken::Label(name) => Ok(Statement::Label(*name)),
+        Spoken::Does(written) => match checked_operation(line, written) {
+            Ok(operation) => Ok(Statement::Does(operation)),
+            Err(fault) => Err(fault),
+        },
+    }
+}

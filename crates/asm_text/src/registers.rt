@@ -1,0 +1,175 @@
+//! The registers as a text names them.
+
+ghost use Rattle.std.specs.Prelude.{◌≡◌, ◌<◌, ◌≤◌, true, false, map, length, position, IfSome, MatchOption};
+ghost use Rattle.subset_decode.specs.Registers.{IsRegister};
+ghost use Rattle.asm_text.specs.Names.{is_text};
+ghost use Rattle.asm_text.specs.Registers.{names32, names64, number_in, register32, register64, reserved};
+
+use std::marker::Model;
+use subset_decode::Reg;
+
+/// A register as a text names it, by its number; those too that can't be named.
+#[derive(Clone, Copy)]
+pub(crate) struct RegisterWord(u8);
+
+impl Model for RegisterWord {
+    ghost use Rattle.std.specs.Prelude.{ℕ, ◌<◌};
+
+    ghost Value = { ℕ };
+
+    ghost view = { λ r. r.0 };
+
+    ghost invariant = { λ r. r.0 < 16 };
+
+    ghost inverse = { λ n. record { 0 = n } };
+}
+
+impl RegisterWord {
+    ghost use Rattle.subset_decode.specs.Registers.{is_reserved};
+    ghost use Rattle.asm_text.specs.Views.{register_number};
+
+    /// The register, where it can be named.
+    pub(crate) fn register(self) -> Option<Register>
+        ensures { MatchOption result (is_reserved self ≡ true)
+            (λ r. (register_number r ≡ self) × (is_reserved self ≡ false)) }
+    {
+        match self.0 {
+            0 => Some(Register::Rax),
+            1 => Some(Register::Rcx),
+            2 => Some(Register::Rdx),
+            3 => Some(Register::Rbx),
+            5 => Some(Register::Rbp),
+            6 => Some(Register::Rsi),
+            7 => Some(Register::Rdi),
+            8 => Some(Register::R8),
+            9 => Some(Register::R9),
+            11 => Some(Register::R11),
+            12 => Some(Register::R12),
+            13 => Some(Register::R13),
+            14 => Some(Register::R14),
+            15 => Some(Register::R15),
+            _ => None,
+        }
+    }
+}
+
+/// A register that an instruction may name.
+#[derive(Clone, Copy, Debug, PartialEq, Eq)]
+pub(crate) enum Register {
+    Rax,
+    Rcx,
+    Rdx,
+    Rbx,
+    Rbp,
+    Rsi,
+    Rdi,
+    R8,
+    R9,
+    R11,
+    R12,
+    R13,
+    R14,
+    R15,
+}
+
+/// The register of a number that can be named.
+fn named(number: u8) -> Reg
+    requires { IsRegister number }
+    ensures { result ≡ number }
+{
+    match Reg::new(number) {
+        Some(reg) => reg,
+        None => unreachable!(),
+    }
+}
+
+impl Register {
+    ghost use Rattle.asm_text.specs.Views.{register_number};
+
+    /// The register as instructions have it.
+    pub(crate) fn reg(self) -> Reg
+        ensures { result ≡ register_number self }
+    {
+        match self {
+            Register::Rax => named(0),
+            Register::Rcx => named(1),
+            Register::Rdx => named(2),
+            Register::Rbx => named(3),
+            Register::Rbp => named(5),
+            Register::Rsi => named(6),
+            Register::Rdi => named(7),
+            Register::R8 => named(8),
+            Register::R9 => named(9),
+            Register::R11 => named(11),
+            Register::R12 => named(12),
+            Register::R13 => named(13),
+            Register::R14 => named(14),
+            Register::R15 => named(15),
+        }
+    }
+}
+
+/// The registers by number, as the names of their lower halves.
+const NAMES32: [&[u8]; 16] = [
+    b"eax", b"ecx", b"edx", b"ebx", b"esp", b"ebp", b"esi", b"edi", b"r8d", b"r9d", b"r10d",
+    b"r11d", b"r12d", b"r13d", b"r14d", b"r15d",
+];
+
+/// The registers by number, as the names of all their 64 bits.
+const NAMES64: [&[u8]; 16] = [
+    b"rax", b"rcx", b"rdx", b"rbx", b"rsp", b"rbp", b"rsi", b"rdi", b"r8", b"r9", b"r10", b"r11",
+    b"r12", b"r13", b"r14", b"r15",
+];
+
+/// The place of a name in a list.
+fn place_in(names: &[&[u8]], word: &[u8]) -> Option<usize>
+    ensures { result ≡ position (λ name. is_text name.now word.now) names.now }
+{
+    names.iter().position(|name| *name == word)
+}
+
+/// The same of a list of at most 16 names.
+#[tactic(auto, using(crate::proofs::NameLemmas::number_in_map, crate::proofs::NameLemmas::position_within))]
+fn number_in(names: &[&[u8]], word: &[u8]) -> Option<u8>
+    requires { length names.now ≤ 16 }
+    ensures place { result ≡ number_in (map (λ name. name.now) names.now) word.now }
+    ensures within { IfSome result (λ n. n < 16) }
+{
+    match place_in(names, word) {
+        Some(place) => Some(place as u8),
+        None => None,
+    }
+}
+
+/// A register's number, where it can't be named.
+fn reserved(number: u8) -> Option<u8>
+    requires { number < 16 }
+    ensures value { result ≡ reserved number }
+    ensures within { IfSome result (λ n. n < 16) }
+{
+    match Reg::new(number) {
+        Some(_) => None,
+        None => Some(number),
+    }
+}
+
+/// The register that a word names where `mov` has one. The names of rsp and r10 are registers
+/// whatever their width, and refused as that later on.
+pub(crate) fn register32(word: &[u8]) -> Option<RegisterWord>
+    ensures { result ≡ register32 word.now }
+{
+    match number_in(&NAMES32, word) {
+        Some(number) => Some(RegisterWord(number)),
+        None => Some(RegisterWord(reserved(number_in(&NAMES64, word)?)?)),
+    }
+}
+
+/// The same where the other instructions have a register.
+pub(crate) fn register64(word: &[u8]) -> Option<RegisterWord>
+    ensures { result ≡ register64 word.now }
+{
+    match number_in(&NAMES64, word) {
+        Some(number) => Some(RegisterWord(number)),
+        None => Some(RegisterWord(reserved(number_in(&NAMES32, word)?)?)),
+    }
+}

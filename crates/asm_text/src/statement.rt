@@ -1,0 +1,180 @@
+//! What a line says.
+
+ghost use Rattle.std.specs.Prelude.{◌≡◌, option_copied};
+
+use crate::registers::{Register, RegisterWord};
+use subset_decode::Instr;
+
+/// Which functions are instrumented.
+#[derive(Clone, Copy, Debug, PartialEq, Eq)]
+pub(crate) enum Choice {
+    /// By its number of instruction lines.
+    ByLength,
+    /// In any case.
+    Always,
+    /// In no case.
+    Never,
+}
+
+/// The branches that name a place.
+#[derive(Clone, Copy, Debug, PartialEq, Eq)]
+pub(crate) enum Branch {
+    Call,
+    Jmp,
+    Jnz,
+}
+
+/// What an instruction line asks for as it is written. Its registers may be those that can't be
+/// named, and a number may be larger than its place.
+#[derive(Clone, Copy)]
+pub(crate) enum Written<'a> {
+    Mov {
+        dst: RegisterWord,
+        imm: u64,
+    },
+    Add {
+        dst: RegisterWord,
+        src: RegisterWord,
+    },
+    Sub {
+        dst: RegisterWord,
+        src: RegisterWord,
+    },
+    Push {
+        reg: RegisterWord,
+    },
+    Pop {
+        reg: RegisterWord,
+    },
+    Out {
+        port: u64,
+    },
+    Go {
+        branch: Branch,
+        name: &'a [u8],
+    },
+    TailJump {
+        name: &'a [u8],
+    },
+    Return,
+}
+
+/// What a line says as it is written.
+#[derive(Clone, Copy)]
+pub(crate) enum Spoken<'a> {
+    Base(u64),
+    Entry(&'a [u8]),
+    Function { name: &'a [u8], choice: Choice },
+    Label(&'a [u8]),
+    Does(Written<'a>),
+}
+
+/// An instruction that names no place.
+#[derive(Clone, Copy)]
+pub(crate) enum Plain {
+    Mov { dst: Register, imm: u32 },
+    Add { dst: Register, src: Register },
+    Sub { dst: Register, src: Register },
+    Push { reg: Register },
+    Pop { reg: Register },
+    Out { port: u8 },
+}
+
+impl Plain {
+    ghost use Rattle.asm_text.specs.Views.{plain_instr};
+
+    /// The instruction.
+    pub(crate) fn instr(&self) -> Instr
+        ensures { result ≡ plain_instr self.now }
+    {
+        match *self {
+            Plain::Mov { dst, imm } => Instr::Mov {
+                dst: dst.reg(),
+                imm,
+            },
+            Plain::Add { dst, src } => Instr::Add {
+                dst: dst.reg(),
+                src: src.reg(),
+            },
+            Plain::Sub { dst, src } => Instr::Sub {
+                dst: dst.reg(),
+                src: src.reg(),
+            },
+            Plain::Push { reg } => Instr::Push { reg: reg.reg() },
+            Plain::Pop { reg } => Instr::Pop { reg: reg.reg() },
+            Plain::Out { port } => Instr::Out { port },
+        }
+    }
+}
+
+/// What an instruction line asks for, with operands that can stand there.
+#[derive(Clone, Copy)]
+pub(crate) enum Operation<'a> {
+    /// An instruction that names no place.
+    Plain(Plain),
+    /// A branch to a name.
+    Go { branch: Branch, name: &'a [u8] },
+    /// A tail jump to a name.
+    TailJump { name: &'a [u8] },
+    /// A return.
+    Return,
+}
+
+/// What a line says, with operands that can stand there.
+#[derive(Clone, Copy)]
+pub(crate) enum Statement<'a> {
+    /// The address of the code's first byte.
+    Base(u64),
+    /// The entry function.
+    Entry(&'a [u8]),
+    /// Begins a function.
+    Function { name: &'a [u8], choice: Choice },
+    /// A label.
+    Label(&'a [u8]),
+    /// An instruction line.
+    Does(Operation<'a>),
+}
+
+impl<'a> Operation<'a> {
+    ghost use Rattle.asm_text.specs.Refusals.{name_in};
+    ghost use Rattle.asm_text.specs.Views.{operation_checked};
+
+    /// The name that the operation goes to.
+    pub(crate) fn target_name(&self) -> Option<&'a [u8]>
+        ensures { option_copied result ≡ name_in (operation_checked self.now) }
+    {
+        match self {
+            Operation::Go { name, .. } => Some(*name),
+            Operation::TailJump { name } => Some(*name),
+            Operation::Plain(_) | Operation::Return => None,
+        }
+    }
+}
+
+impl<'a> Statement<'a> {
+    ghost use Rattle.asm_text.specs.Layout.{names_function};
+    ghost use Rattle.asm_text.specs.Views.{statement_said};
+    ghost use Rattle.asm_text.specs.FirstPass.{name_defined};
+
+    /// The name that the statement gives a function or a label.
+    pub(crate) fn defined_name(&self) -> Option<&'a [u8]>
+        ensures { option_copied result ≡ name_defined (statement_said self.now) }
+    {
+        match self {
+            Statement::Function { name, .. } => Some(*name),
+            Statement::Label(name) => Some(*name),
+            Statement::Base(_) | Statement::Entry(_) | Statement::Does(_) => None,
+        }
+    }
+
+    /// Whether the statement begins a function of this name.
+    pub(crate) fn names_function(&self, name: &[u8]) -> bool
+        ensures { result ≡ names_function name.now (statement_said self.now) }
+    {
+        match self {
+            Statement::Function { name: other, .. } => *other == name,
+            Statement::Base(_) | Statement::Entry(_) | Statement::Label(_) | Statement::Does(_) =>
+                false,
+        }
+    }
+}

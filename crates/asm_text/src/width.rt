@@ -1,0 +1,100 @@
+//! How many bytes and sleds a line makes.
+
+ghost use Rattle.std.specs.Prelude.{◌≡◌, ◌≤◌, ◌<◌, ◌^◌, ◌+◌, ◌%◌, ℕ, sum_by};
+ghost use Rattle.asm_text.specs.Layout.{widths, sleds_of, parts_of, traced_parts, plain_parts, branch_width};
+ghost use Rattle.asm_text.specs.Views.{statement_said, operation_checked};
+
+use crate::statement::{Branch, Operation, Statement};
+use subset_decode::encode;
+
+/// How long a sled is in bytes.
+pub(crate) const SLED_LENGTH: u32 = 11;
+
+/// How long a `call` or `jmp` is.
+const NEAR_LENGTH: u32 = 5;
+
+/// How long a `jnz` is, whose opcode has two bytes.
+const CONDITIONAL_LENGTH: u32 = 6;
+
+/// How long a `ret` is.
+const RETURN_LENGTH: u32 = 1;
+
+/// How many bytes a branch has.
+pub(crate) fn branch_width(branch: Branch) -> u32
+    ensures width { result ≡ branch_width branch }
+    ensures few { result ≤ 6 }
+{
+    match branch {
+        Branch::Call | Branch::Jmp => NEAR_LENGTH,
+        Branch::Jnz => CONDITIONAL_LENGTH,
+    }
+}
+
+/// How many bytes a sled at a place has, with the alignment byte before it at an odd one.
+fn aligned_width(place: u32) -> u32
+    ensures width { result ≡ place % 2 + 11 }
+    ensures few { result ≤ 12 }
+{
+    place % 2 + SLED_LENGTH
+}
+
+/// How many bytes an instruction line makes in a function that isn't instrumented.
+fn plain_width(operation: &Operation) -> u32
+    ensures width { result ≡ widths (plain_parts (operation_checked operation.now)) }
+    ensures few { result ≤ 6 }
+{
+    match operation {
+        Operation::Plain(plain) => u32::from(encode(&plain.instr()).len),
+        Operation::Go { branch, .. } => branch_width(*branch),
+        Operation::TailJump { .. } => NEAR_LENGTH,
+        Operation::Return => RETURN_LENGTH,
+    }
+}
+
+/// How many bytes an instruction line makes at a place in an instrumented function.
+#[tactic(auto, using(crate::proofs::WidthLemmas::widths_aligned, crate::proofs::WidthLemmas::widths_aligned_branch))]
+fn traced_width(place: u32, operation: &Operation) -> u32
+    ensures width { result ≡ widths (traced_parts place (operation_checked operation.now)) }
+    ensures few { result ≤ 17 }
+{
+    match operation {
+        Operation::Plain(_) | Operation::Go { .. } => plain_width(operation),
+        Operation::TailJump { .. } => aligned_width(place) + NEAR_LENGTH,
+        Operation::Return => aligned_width(place),
+    }
+}
+
+/// How many bytes a line makes that begins at a place, in a function that is instrumented or not.
+#[tactic(auto, using(crate::proofs::WidthLemmas::widths_aligned))]
+pub(crate) fn line_width(traced: bool, place: u32, statement: &Statement) -> u32
+    ensures width { result ≡ widths (parts_of traced place (statement_said statement.now)) }
+    ensures few { result ≤ 17 }
+{
+    match statement {
+        Statement::Function { .. } if traced => aligned_width(place),
+        Statement::Does(operation) if traced => traced_width(place, operation),
+        Statement::Does(operation) => plain_width(operation),
+        Statement::Base(_)
+        | Statement::Entry(_)
+        | Statement::Function { .. }
+        | Statement::Label(_) => 0,
+    }
+}
+
+/// How many sleds a line makes, wherever it begins.
+#[tactic(auto, using(crate::proofs::WidthLemmas::sleds_aligned, crate::proofs::WidthLemmas::sleds_aligned_branch))]
+pub(crate) fn line_sleds(traced: bool, statement: &Statement) -> u32
+    ensures sleds { (place : ℕ) → result
+        ≡ sum_by sleds_of (parts_of traced place (statement_said statement.now)) }
+    ensures few { result ≤ 1 }
+{
+    match statement {
+        Statement::Function { .. } if traced => 1,
+        Statement::Does(Operation::TailJump { .. } | Operation::Return) if traced => 1,
+        Statement::Base(_)
+        | Statement::Entry(_)
+        | Statement::Function { .. }
+        | Statement::Label(_)
+        | Statement::Does(_) => 0,
+    }
+}
