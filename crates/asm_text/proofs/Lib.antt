@@ -19,6 +19,11 @@ pub mod UnitsLaw
 pub mod Assembled
 pub mod SledMapLaw
 pub mod Owners
-pub mod Soundness
+pub mod SaidLemmas
+pub mod EntryLaw
+pub mod HeaderLaw
+pub mod FunctionsLaw
+pub mod BranchesLaw
+pub mod ProgramLaw
 pub mod ReadBack
 pub mod FileFitting
