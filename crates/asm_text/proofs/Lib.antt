@@ -22,3 +22,6 @@ pub mod Owners
 pub mod Soundness
 pub mod ReadBack
 pub mod FileFitting
+pub mod SaidLines
+pub mod Addresses
+pub mod OwnPlaces
