@@ -25,3 +25,4 @@ pub mod FileFitting
 pub mod SaidLines
 pub mod Addresses
 pub mod OwnPlaces
+pub mod FunctionsLaw
