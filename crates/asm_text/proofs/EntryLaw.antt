@@ -11,11 +11,7 @@ use Rattle.asm_text.specs.Statements.{Statement, Base, Entry, Func, Label, Does}
 use Rattle.asm_text.specs.Layout.{Lines, Placed, Owner, Choosing, owner_of, no_owner, parts_of, placed_from, placed, widths, is_function, names_function, functions, function_in, entry_in_line, number_of_function, entry_of}
 use Rattle.asm_text.specs.Refusals.{has_function, is_bare, is_unresolved, resolved, ends_early}
 use Rattle.asm_text.specs.Programs.{entry_function}
-use Rattle.asm_text.proofs.SaidLemmas.{not_refused}
-
-not_false : (b : Bool) → not b ≡ false → b ≡ true
-not_false true h = refl
-not_false false h = absurd (cc h)
+use Rattle.asm_text.proofs.SaidLines.{AreSaid, Settled, not_false}
 
 -- ---- a function of each function line
 
@@ -78,24 +74,21 @@ entry_first all (Label other) behind names name free rest h = rest h
 entry_first all (Does operation) behind names name free rest h = rest h
 
 -- an entry names a function
-entry_named : (all lines said : Lines) → resolved all lines ≡ Ok said → (name : List ℕ) → slice_get (filter_map (λ line. entry_in_line line.1) lines) 0 ≡ Some name
+entry_named : (all lines : Lines) → Settled all lines → (name : List ℕ) → slice_get (filter_map (λ line. entry_in_line line.1) lines) 0 ≡ Some name
     → list_any (λ line. names_function name line.1) all ≡ true
-entry_named all [] said e name h = absurd (cc h)
-entry_named all (line ∷ behind) said e name h =
-    let row = not_refused (is_unresolved all line.1 behind) (faults.Label line.0) (resolved all behind) said e in
-    entry_first all line.1 behind (filter_map (λ line. entry_in_line line.1) behind) name row.0 (entry_named all behind said row.1 name) h
+entry_named all [] settled name h = absurd (cc h)
+entry_named all (line ∷ behind) settled name h =
+    entry_first all line.1 behind (filter_map (λ line. entry_in_line line.1) behind) name settled.0 (entry_named all behind settled.1 name) h
 
 -- the number of the entry is that of a function
-pub entry_exists : (base : ℕ) (chosen : Choosing) (said : Lines) → ends_early said ≡ false → resolved said said ≡ Ok said
-    → entry_of said (functions base (placed chosen said)) < length (functions base (placed chosen said))
-entry_exists base chosen said whole named = by_name (slice_get (filter_map (λ line. entry_in_line line.1) said) 0) refl
+pub entry_exists : (base : ℕ) (chosen : Choosing) (said : Lines) → AreSaid said → entry_of said (functions base (placed chosen said)) < length (functions base (placed chosen said))
+entry_exists base chosen said are = by_name (slice_get (filter_map (λ line. entry_in_line line.1) said) 0) refl
   where
     by_name : (o : Option (List ℕ)) → slice_get (filter_map (λ line. entry_in_line line.1) said) 0 ≡ o → number_of_function o (functions base (placed chosen said)) < length (functions base (placed chosen said))
-    by_name None is =
-        some_function base chosen 0 no_owner said (not_false (has_function said) (or_parts (not (has_function said)) (is_bare said) whole).0)
+    by_name None is = some_function base chosen 0 no_owner said are.some
     by_name (Some name) is =
         place_found (λ (f : Function). is_text f.name name) (functions base (placed chosen said))
-        (named_function name base chosen 0 no_owner said ∙ entry_named said said said named name is)
+        (named_function name base chosen 0 no_owner said ∙ entry_named said said are.settled name is)
 
 -- the function of that number is the entry function
 pub entry_is : (o : Option (List ℕ)) (all : List Function) → slice_get all (number_of_function o all) ≡ entry_function o all

@@ -54,11 +54,11 @@ SmallRegisters (Go branch name) = ⊤
 SmallRegisters (TailJump name) = ⊤
 SmallRegisters Return = ⊤
 
--- a function's name is short, and registers are among the sixteen
+-- a function's name is a name, and registers are among the sixteen
 abbrev pub IsShort : Statement → Type 0
 IsShort (Base address) = ⊤
 IsShort (Entry name) = ⊤
-IsShort (Func name choice) = length name ≤ 255
+IsShort (Func name choice) = is_name name ≡ true
 IsShort (Label name) = ⊤
 IsShort (Does operation) = SmallRegisters operation
 
@@ -115,14 +115,14 @@ named : (word : List ℕ) (choice : Choice) → SaysShort (option_map (λ n. Fun
 named word choice = by_name (is_name word) refl
   where
     by_name : (t : Bool) → is_name word ≡ t → SaysShort (option_map (λ n. Func n choice) (cond t (Some word) None))
-    by_name true h = name_short word h
+    by_name true h = h
     by_name false h = tt
 
 chosen : (word : List ℕ) (choice : Option Choice) → SaysShort (option_and_then (λ n. option_map (λ c. Func n c) choice) (name_of word))
 chosen word choice = by_name (is_name word) refl
   where
     by_name : (t : Bool) → is_name word ≡ t → SaysShort (option_and_then (λ n. option_map (λ c. Func n c) choice) (cond t (Some word) None))
-    by_name true h = mapped (λ c. Func word c) choice (λ _ _. name_short word h)
+    by_name true h = mapped (λ c. Func word c) choice (λ _ _. h)
     by_name false h = tt
 
 says_short : (keyword : Keyword) (behind : List (List ℕ)) → SaysShort (says keyword behind)
@@ -153,7 +153,8 @@ label_short : (word : List ℕ) (behind : List (List ℕ)) → SaysShort (label_
 label_short word [] = mapped Label (option_and_then name_of (before_end 58 word)) (λ _ _. tt)
 label_short word (next ∷ behind) = tt
 
-line_short : (keyword : Option Keyword) (word : List ℕ) (behind : List (List ℕ)) → SaysShort (line_of keyword word behind)
+-- the statement of a line
+pub line_short : (keyword : Option Keyword) (word : List ℕ) (behind : List (List ℕ)) → SaysShort (line_of keyword word behind)
 line_short None word behind = label_short word behind
 line_short (Some keyword) word behind = says_short keyword behind
 
@@ -204,7 +205,7 @@ fits_from (Base address) short free range =
     let parts = or_parts (not (eqb (address % 16) 0)) (ltb 0x7FFF00000000 address) range in
     (eqb-true (address % 16) 0 (not_false (eqb (address % 16) 0) parts.0), ltb-false 0x7FFF00000000 address parts.1)
 fits_from (Entry name) short free range = tt
-fits_from (Func name choice) short free range = short
+fits_from (Func name choice) short free range = name_short name short
 fits_from (Label name) short free range = tt
 fits_from (Does operation) short free range = operation_fits operation short free range
 

@@ -20,7 +20,8 @@ use Rattle.asm_text.proofs.FileFitting.{image_fits}
 use Rattle.asm_text.proofs.Fitting.{base_aligned, base_fits}
 use Rattle.asm_text.proofs.UnitsLaw.{code_is_units}
 use Rattle.asm_text.proofs.SledMapLaw.{sled_lines, place_for, entry_for, places_by_lines, map_by_lines, even_sleds, map_order, entries_tell, near_sleds}
-use Rattle.asm_text.proofs.SaidLemmas.{said_parts, said_fits, said_within}
+use Rattle.asm_text.proofs.SaidLemmas.{said_fits, said_within}
+use Rattle.asm_text.proofs.SaidLines.{are_said}
 use Rattle.asm_text.proofs.EntryLaw.{entry_exists, entry_is}
 use Rattle.asm_text.proofs.HeaderLaw.{program_in, IsInOrder, accepted_file}
 use Rattle.asm_text.proofs.FunctionsLaw.{are_functions}
@@ -67,7 +68,6 @@ module _ (text : List ℕ) (threshold : ℕ) (said : Lines) (read : said_by text
   in_order =
       let fit = said_fits text said read in
       let within = said_within text said read in
-      let parts = said_parts text said read in
       let chosen = by_threshold threshold in
       let base = base_of said in
       let all = placed chosen said in
@@ -89,7 +89,7 @@ module _ (text : List ℕ) (threshold : ℕ) (said : Lines) (read : said_by text
         code_limit = omega (arith, code_length all, few);
         functions_limit = omega (arith, length-functions base all, functions_count chosen 0 no_owner said, within.functions);
         sleds_limit = omega (arith, length-map_entries base all, sleds_count all, sleds);
-        entry_exists = entry_exists base chosen said parts.whole parts.named;
+        entry_exists = entry_exists base chosen said (are_said text said read);
         units = code_is_units chosen said fit few;
         even_sleds = even_sleds base chosen said (base_aligned said fit);
         functions = are_functions text threshold said read;
