@@ -3,6 +3,7 @@ use Rattle.std.proofs.Common.{◌≡◌, ℕ, ◌+◌, ◌<◌, Bool, true, fals
 use Rattle.std.specs.Prelude.{Ok, slice_get}
 use Rattle.std.specs.List.{cons_option, filter_map, list_any, position_or_len}
 use Rattle.std.proofs.lemmas.Bool.{or_parts}
+use Rattle.std.proofs.lemmas.Bool.{not-false}
 use Rattle.std.proofs.lemmas.List.Folds.{find_at}
 use Rattle.xray_image.specs.Container.{Function}
 use Rattle.asm_text.specs.declared.fault.AsmFault.TheVariants as faults
@@ -11,7 +12,7 @@ use Rattle.asm_text.specs.Statements.{Statement, Base, Entry, Func, Label, Does}
 use Rattle.asm_text.specs.Layout.{Lines, Placed, Owner, Choosing, owner_of, no_owner, parts_of, placed_from, placed, widths, is_function, names_function, functions, function_in, entry_in_line, number_of_function, entry_of}
 use Rattle.asm_text.specs.Refusals.{has_function, is_bare, is_unresolved, resolved, ends_early}
 use Rattle.asm_text.specs.Programs.{entry_function}
-use Rattle.asm_text.proofs.SaidLines.{AreSaid, Settled, not_false}
+use Rattle.asm_text.proofs.SaidLines.{AreSaid, Settled}
 
 -- ---- a function of each function line
 
@@ -68,7 +69,7 @@ entry_first : (all : Lines) (s : Statement) (behind : Lines) (names : List (List
 entry_first all (Base address) behind names name free rest h = rest h
 entry_first all (Entry other) behind names name free rest h =
     let same : other ≡ name = cc h in
-    subst (λ (n : List ℕ). list_any (λ (line : ℕ × Statement). names_function n line.1) all ≡ true) same (not_false (list_any (λ (line : ℕ × Statement). names_function other line.1) all) free)
+    subst (λ (n : List ℕ). list_any (λ (line : ℕ × Statement). names_function n line.1) all ≡ true) same (not-false (list_any (λ (line : ℕ × Statement). names_function other line.1) all) free)
 entry_first all (Func other choice) behind names name free rest h = rest h
 entry_first all (Label other) behind names name free rest h = rest h
 entry_first all (Does operation) behind names name free rest h = rest h

@@ -3,7 +3,7 @@ use Rattle.std.proofs.Common.{◌≡◌, ◌≢◌, ℕ, zero, suc, ◌+◌, ◌
 use Rattle.std.specs.Prelude.{⊤, Ok, All, Contains, slice_get}
 use Rattle.std.specs.Int.{w32, to_le_bytes}
 use Rattle.std.specs.List.{list_all, cons_option, last_or, AllByRecursion}
-use Rattle.std.proofs.lemmas.Bool.{and_parts, or_parts}
+use Rattle.std.proofs.lemmas.Bool.{and_parts, or_parts, not-false}
 use Rattle.std.proofs.lemmas.List.Elements.{All-from_recursion}
 use Rattle.std.proofs.lemmas.Slice.Eq.{bytes_eq-Decides}
 use Rattle.subset_decode.specs.declared.instr.Instr.{Instr}
@@ -22,7 +22,7 @@ use Rattle.asm_text.specs.Refusals.{has_function, is_bare, is_defined}
 use Rattle.asm_text.specs.Assembling.{said_by}
 use Rattle.asm_text.proofs.WidthLemmas.{widths_aligned, widths_aligned_branch}
 use Rattle.asm_text.proofs.Owners.{start_from, start_to}
-use Rattle.asm_text.proofs.SaidLines.{IsAllowed, Allowed, AreSaid, are_said, all_filled, is_bare-more, has_function-more, is_defined-more, not_false}
+use Rattle.asm_text.proofs.SaidLines.{IsAllowed, Allowed, AreSaid, are_said, all_filled, is_bare-more, has_function-more, is_defined-more}
 use Rattle.asm_text.proofs.Addresses.{addresses_from, addresses-units}
 use Rattle.asm_text.proofs.OwnPlaces.{Stands, own_places}
 
@@ -146,11 +146,11 @@ line_ascends chosen base place owner before number (Func name choice) behind o m
     by_last (Some f) stood = omega (arith, stood.1 may.in_place, start_from chosen place owner name choice behind)
 line_ascends chosen base place owner before number (Label name) behind o may stood = (tt, stood_same base place before number (Label name) o refl refl stood)
 line_ascends chosen base place owner before number (Does operation) behind None may stood =
-    let some : has_function before ≡ true = not_false (has_function before) may.in_place in absurd (cc (some, stood.1))
+    let some : has_function before ≡ true = not-false (has_function before) may.in_place in absurd (cc (some, stood.1))
 line_ascends chosen base place owner before number (Does operation) behind (Some f) may stood =
     (tt, (omega (arith, stood.0), λ h. omega (arith, stood.0, operation_width owner.traced place operation)))
 
-ascending : (base : ℕ) (chosen : Choosing) (place : ℕ) (owner : Owner) (before lines : Lines) (o : Option Function) → Allowed before lines → Stood base place before o
+pub ascending : (base : ℕ) (chosen : Choosing) (place : ℕ) (owner : Owner) (before lines : Lines) (o : Option Function) → Allowed before lines → Stood base place before o
     → Ascend base o (functions base (placed_from chosen place owner lines))
 ascending base chosen place owner before [] o all stood = tt
 ascending base chosen place owner before (line ∷ behind) o all stood =

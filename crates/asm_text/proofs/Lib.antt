@@ -30,3 +30,4 @@ pub mod OwnPlaces
 pub mod FunctionsLaw
 pub mod BranchesLaw
 pub mod ProgramLaw
+pub mod SledNames

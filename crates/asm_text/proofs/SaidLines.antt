@@ -1,22 +1,18 @@
 -- What is known of the lines of a text that was read to its end.
-use Rattle.std.proofs.Common.{◌≡◌, ℕ, ◌+◌, ◌<◌, Bool, true, false, cond, not, ◌||◌, List, [], ◌∷◌, ◌++◌, length, Option, Some, None, refl, sym, ap, subst, ◌∙◌, arith, append_assoc, append-nil}
-use Rattle.std.specs.Prelude.{⊤, Result, Ok, Err}
-use Rattle.std.specs.List.{list_any}
+use Rattle.std.proofs.Common.{◌≡◌, ℕ, ◌<◌, Bool, true, false, cond, not, ◌||◌, List, [], ◌∷◌, ◌++◌, refl, sym, ap, subst, ◌∙◌, arith, append_assoc, append-nil}
+use Rattle.std.specs.Prelude.{⊤, Ok}
 use Rattle.std.specs.Str.Lines.{lines}
 use Rattle.std.proofs.lemmas.List.Sums.{fold-append}
 use Rattle.std.proofs.lemmas.List.Folds.{list_any-append}
-use Rattle.text_lines.specs.Words.{is_clean, words_of}
-use Rattle.text_lines.specs.Lines.{numbered_lines}
-use Rattle.asm_text.specs.declared.fault.AsmFault.{AsmFault}
 use Rattle.asm_text.specs.declared.fault.AsmFault.TheVariants as faults
 use Rattle.asm_text.specs.Statements.{Statement, Base, Entry, Func, Label, Does}
 use Rattle.asm_text.specs.Language.{keyword_of, statement_of}
 use Rattle.asm_text.specs.Layout.{Lines, is_function, is_instruction, instruction_lines, defines}
-use Rattle.asm_text.specs.Refusals.{judged, spoken, with_words, with_line, read_lines, has_function, is_bare, is_misplaced, names_reserved, is_out_of_range, is_defined, repeats, exceeds_limits, is_unresolved, resolved, ends_early, ended, ◌>>=◌}
+use Rattle.asm_text.specs.Refusals.{has_function, is_bare, is_misplaced, is_defined, repeats, is_unresolved, resolved}
 use Rattle.asm_text.specs.Assembling.{said_by}
 use Rattle.asm_text.proofs.Fitting.{IsShort, SaysShort, line_short}
 use Rattle.asm_text.proofs.SaidLemmas.{Keeps, not_refused, said_parts, said_keeps}
-use Rattle.std.proofs.lemmas.Bool.{or_parts}
+use Rattle.std.proofs.lemmas.Bool.{or_parts, not-false}
 
 -- ---- each line behind those before it
 
@@ -65,10 +61,6 @@ settled_by lines (line ∷ behind) said e =
     let row = not_refused (is_unresolved lines line.1 behind) (faults.Label line.0) (resolved lines behind) said e in
     (row.0, settled_by lines behind said row.1)
 
-pub not_false : (b : Bool) → not b ≡ false → b ≡ true
-not_false true h = refl
-not_false false h = absurd (cc h)
-
 -- all lines of a text
 pub are_said : (text : List ℕ) (said : Lines) → said_by text ≡ Ok said → AreSaid said
 are_said text said read =
@@ -76,7 +68,7 @@ are_said text said read =
     let early = or_parts (not (has_function said)) (is_bare said) parts.whole in
     record {
       allowed = said_keeps (Allowed []) allowed_keeps tt text said read;
-      some = not_false (has_function said) early.0;
+      some = not-false (has_function said) early.0;
       whole = early.1;
       settled = settled_by said said said parts.named;
     }

@@ -1,13 +1,14 @@
 -- The program that an assembler text says.
-use Rattle.std.specs.Prelude.{◌≡◌, ℕ, ◌+◌, ◌==◌, not, List, map, find, slice_get, Option, Some, None, Ok}
+use Rattle.std.specs.Prelude.{◌≡◌, ℕ, ◌+◌, ◌==◌, not, List, map, take, find, slice_get, Option, Some, None, option_map, option_and_then, Ok}
 use Rattle.std.specs.Option.{option_map_or}
-use Rattle.std.specs.List.{flat_map, filter_map}
+use Rattle.std.specs.List.{flat_map, filter_map, last_or}
 use Rattle.xray_image.specs.declared.sled.Sled.{Sled}
 use Rattle.xray_image.specs.Container.{Function, MapEntry}
 use Rattle.xray_image.specs.Units.{piece_bytes, units_from}
 use Rattle.xray_image.specs.Program.{Program, Trampolines, IsAccepted, id_of, kind_of}
 use Rattle.asm_text.specs.Names.{is_text}
-use Rattle.asm_text.specs.Layout.{Lines, by_threshold, placed, pieces, functions, map_entries, base_of, entry_in_line, sled_shift}
+use Rattle.asm_text.specs.Statements.{Statement, Base, Entry, Func, Label, Does}
+use Rattle.asm_text.specs.Layout.{Lines, by_threshold, placed, pieces, functions, map_entries, entry_in, base_of, entry_in_line, sled_shift}
 use Rattle.asm_text.specs.Assembling.{said_by}
 
 -- the function that an entry line names, or else the first
@@ -56,3 +57,23 @@ pub record IsProgramOf (text : List ℕ) (threshold : ℕ) (file : List ℕ) : T
   pub said : Lines
   pub read : said_by text ≡ Ok said
   pub accepted : IsAccepted file (program_said threshold said)
+
+-- ---- the function that a line stands in
+
+-- the name that a function line gives
+abbrev pub function_named : Statement → Option (List ℕ)
+function_named (Base address) = None
+function_named (Entry name) = None
+function_named (Func name choice) = Some name
+function_named (Label name) = None
+function_named (Does operation) = None
+
+-- the name of the function that the line of a number stands in: that of the last function line up to it
+abbrev pub function_over : Lines → ℕ → Option (List ℕ)
+function_over said i = last_or None (filter_map (λ line. function_named line.1) (take (i + 1) said))
+
+-- the sled of the line of a number, if it has one
+abbrev pub sled_at_line : ℕ → Lines → ℕ → Option Sled
+sled_at_line threshold said i =
+    let all = placed (by_threshold threshold) said in
+    option_map (sled_said (map_entries (base_of said) all)) (option_and_then (entry_in (base_of said)) (slice_get all i))

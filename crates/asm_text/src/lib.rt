@@ -32,7 +32,7 @@ mod write;
 
 pub use assembling::assemble;
 pub use fault::AsmFault;
-pub use laws::an_assembled_file_is_accepted;
+pub use laws::{an_assembled_file_is_accepted, each_sled_is_of_its_function};
 
 #[cfg(test)]
 mod tests;
