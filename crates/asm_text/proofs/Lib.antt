@@ -26,3 +26,4 @@ pub mod SaidLines
 pub mod Addresses
 pub mod OwnPlaces
 pub mod FunctionsLaw
+pub mod BranchesLaw
