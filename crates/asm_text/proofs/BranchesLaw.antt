@@ -1,7 +1,7 @@
 -- The branches of a text that was read go to units.
-use Rattle.std.proofs.Common.{◌≡◌, ℕ, zero, suc, ◌<◌, ◌+◌, ◌%◌, ◌+ℤ◌, ◌-ℤ◌, ℤ, pos, Bool, true, false, cond, not, ◌||◌, List, [], ◌∷◌, ◌++◌, length, Option, Some, None, refl, sym, ap, subst, ◌∙◌, arith, eqb, map, length-append, add_assoc}
+use Rattle.std.proofs.Common.{◌≡◌, ℕ, zero, suc, ◌<◌, ◌+◌, ◌%◌, ℤ, pos, Bool, true, false, cond, ◌||◌, List, [], ◌∷◌, ◌++◌, length, Option, Some, None, refl, sym, ap, subst, ◌∙◌, arith, eqb, map, length-append, add_assoc, add-zero}
 use Rattle.std.specs.Prelude.{⊤, Ok, Contains, IfSome, is_some, unwrap_or}
-use Rattle.std.specs.List.{flat_map, list_any, AllByRecursion}
+use Rattle.std.specs.List.{flat_map, AllByRecursion}
 use Rattle.std.proofs.lemmas.Int.{ints}
 use Rattle.std.proofs.lemmas.List.Elements.{All-from_recursion, All-contains}
 use Rattle.subset_decode.specs.declared.instr.Instr.{Instr}
@@ -11,21 +11,20 @@ use Rattle.xray_image.specs.declared.unit.Unit.{Unit as CodeUnit}
 use Rattle.xray_image.specs.declared.unit.What.{What}
 use Rattle.xray_image.specs.declared.unit.What.TheVariants as whats
 use Rattle.xray_image.specs.Units.{Piece, Instruction, JumpSled, ReturnSled, Align, piece_bytes, sleds_in, units_from, what_of}
-use Rattle.xray_image.specs.Program.{addresses, branch_target, BranchReaches, BranchesReach}
-use Rattle.asm_text.specs.declared.statement.Choice.{Choice}
+use Rattle.xray_image.specs.Program.{addresses, branch_target, BranchesReach}
 use Rattle.asm_text.specs.declared.statement.Branch.{Branch}
 use Rattle.asm_text.specs.declared.statement.Branch.TheVariants as branches
 use Rattle.asm_text.specs.Statements.{Operation, Plain, Go, TailJump, Return, Statement, Base, Entry, Func, Label, Does}
-use Rattle.asm_text.specs.Layout.{Lines, Part, Fixed, Jump, Placed, Owner, Choosing, by_threshold, is_function, is_instruction, names_function, names_label, defines, owner_of, no_owner, parts_of, parts_at, plain_parts, traced_parts, aligned, placed_from, placed, widths, branch_width, branch_to, sled_shift, piece_of, own_place, next_place, place_of, line_pieces, pieces, base_of}
+use Rattle.asm_text.specs.Layout.{Lines, Fixed, Jump, Placed, Owner, Choosing, by_threshold, is_function, is_instruction, defines, owner_of, no_owner, parts_of, aligned, placed_from, placed, widths, branch_width, sled_shift, piece_of, own_place, next_place, place_of, line_pieces, pieces, base_of}
 use Rattle.asm_text.specs.Laying.{earlier, lines_of}
 use Rattle.asm_text.specs.Refusals.{is_defined, is_missing, name_in, is_unresolved}
 use Rattle.asm_text.specs.Assembling.{said_by}
-use Rattle.asm_text.proofs.Fitting.{NamesNoPlace, IsShort}
+use Rattle.asm_text.proofs.Fitting.{NamesNoPlace, IsShort, not_false}
 use Rattle.asm_text.proofs.TargetLemmas.{next_place-cons}
-use Rattle.asm_text.proofs.EndingLemmas.{has_place, label_unresolved}
+use Rattle.asm_text.proofs.EndingLemmas.{label_unresolved}
 use Rattle.asm_text.proofs.WidthLemmas.{at_parity, widths_aligned_branch}
 use Rattle.asm_text.proofs.Placing.{parts_length, lines_of-placed}
-use Rattle.asm_text.proofs.SaidLines.{IsAllowed, Allowed, Settled, AreSaid, are_said, all_filled, not_false}
+use Rattle.asm_text.proofs.SaidLines.{IsAllowed, Allowed, Settled, AreSaid, are_said, all_filled}
 use Rattle.asm_text.proofs.Addresses.{addresses_from, addresses-units}
 use Rattle.asm_text.proofs.OwnPlaces.{Stands, own_places}
 
@@ -232,9 +231,6 @@ module _ (all : List Placed) (base : ℕ) (begins : List ℕ) where
 
 -- ---- all together
 
-add_zero : (n : ℕ) → n + 0 ≡ n
-add_zero n = omega arith
-
 -- the branches of lines that were read
 said_reach : (base : ℕ) (chosen : Choosing) (said : Lines) → AreSaid said → BranchesReach (units_from base 0 (pieces (placed chosen said)))
 said_reach base chosen said are u within =
@@ -242,13 +238,13 @@ said_reach base chosen said are u within =
     let units = units_from base 0 (pieces all) in
     let begins = addresses units in
     let stands = own_places all base chosen 0 no_owner said (all_filled [] said are.allowed are.whole) in
-    let at : addresses_from (base + 0) (pieces all) ≡ begins = ap (λ n. addresses_from n (pieces all)) (add_zero base) ∙ sym (addresses-units base 0 (pieces all)) in
+    let at : addresses_from (base + 0) (pieces all) ≡ begins = ap (λ n. addresses_from n (pieces all)) (add-zero base) ∙ sym (addresses-units base 0 (pieces all)) in
     let has = subst (λ ns. AllByRecursion (Stands base ns) all) at stands in
     let P : ℕ → Type 0 = λ place. Contains begins (base + place) in
     let knows : (name : List ℕ) → is_defined name said ≡ true → Contains begins (base + unwrap_or (place_of name all) 0) =
     λ name defined. some_place P (place_of name all) (defined_has_place said name chosen 0 no_owner said are.settled defined) (name_has P all has name) in
     let reach = lines_reach all base begins said chosen 0 no_owner [] said knows are.allowed are.settled in
-    let reach_there = subst (λ a. Reach begins a (pieces all)) (add_zero base) reach in
+    let reach_there = subst (λ a. Reach begins a (pieces all)) (add-zero base) reach in
     All-contains (UnitReaches begins) units u (All-from_recursion (UnitReaches begins) units (units_reach begins base 0 (pieces all) reach_there)) within
 
 -- the branches of a text

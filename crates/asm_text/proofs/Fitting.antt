@@ -158,11 +158,11 @@ pub line_short : (keyword : Option Keyword) (word : List ℕ) (behind : List (Li
 line_short None word behind = label_short word behind
 line_short (Some keyword) word behind = says_short keyword behind
 
-or_parts : (a b : Bool) → (a || b) ≡ false → (a ≡ false) × (b ≡ false)
+pub or_parts : (a b : Bool) → (a || b) ≡ false → (a ≡ false) × (b ≡ false)
 or_parts true b h = absurd (cc h)
 or_parts false b h = (refl, h)
 
-not_false : (b : Bool) → not b ≡ false → b ≡ true
+pub not_false : (b : Bool) → not b ≡ false → b ≡ true
 not_false true h = refl
 not_false false h = absurd (cc h)
 

@@ -1,7 +1,6 @@
 -- What is known of the lines of a text that was read to its end.
 use Rattle.std.proofs.Common.{◌≡◌, ℕ, ◌+◌, ◌<◌, Bool, true, false, cond, not, ◌||◌, List, [], ◌∷◌, ◌++◌, length, Option, Some, None, refl, sym, ap, subst, ◌∙◌, arith, append_assoc, append-nil}
 use Rattle.std.specs.Prelude.{⊤, Result, Ok, Err}
-use Rattle.std.specs.List.{list_any}
 use Rattle.std.specs.Str.Lines.{lines}
 use Rattle.std.proofs.lemmas.List.Sums.{fold-append}
 use Rattle.std.proofs.lemmas.List.Folds.{list_any-append}
@@ -14,7 +13,7 @@ use Rattle.asm_text.specs.Language.{keyword_of, statement_of}
 use Rattle.asm_text.specs.Layout.{Lines, is_function, is_instruction, instruction_lines, defines}
 use Rattle.asm_text.specs.Refusals.{judged, spoken, with_words, with_line, read_lines, has_function, is_bare, is_misplaced, names_reserved, is_out_of_range, is_defined, repeats, exceeds_limits, is_unresolved, resolved, ends_early, ended, ◌>>=◌}
 use Rattle.asm_text.specs.Assembling.{said_by}
-use Rattle.asm_text.proofs.Fitting.{IsShort, SaysShort, line_short}
+use Rattle.asm_text.proofs.Fitting.{IsShort, SaysShort, line_short, or_parts, not_false}
 
 -- ---- each line behind those before it
 
@@ -97,14 +96,6 @@ settled_first lines line behind said false here rest e = let more = rest e in ((
 settled_by : (lines behind said : Lines) → resolved lines behind ≡ Ok said → Settled lines behind × (lines ≡ said)
 settled_by lines [] said e = (tt, cc e)
 settled_by lines (line ∷ behind) said e = settled_first lines line behind said (is_unresolved lines line.1 behind) refl (settled_by lines behind said) e
-
-pub or_parts : (a b : Bool) → (a || b) ≡ false → (a ≡ false) × (b ≡ false)
-or_parts true b h = absurd (cc h)
-or_parts false b h = (refl, h)
-
-pub not_false : (b : Bool) → not b ≡ false → b ≡ true
-not_false true h = refl
-not_false false h = absurd (cc h)
 
 ended_said : (number : ℕ) (lines said : Lines) → Allowed [] lines → ended number lines ≡ Ok said → AreSaid said
 ended_said number lines said all e = by_end (ends_early lines) refl e
