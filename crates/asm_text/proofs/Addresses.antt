@@ -1,5 +1,5 @@
 -- The addresses at which units begin.
-use Rattle.std.proofs.Common.{◌≡◌, ℕ, ◌+◌, List, [], ◌∷◌, ◌++◌, length, refl, sym, ap, subst, ◌∙◌, arith, length-append, add_assoc}
+use Rattle.std.proofs.Common.{◌≡◌, ℕ, ◌+◌, List, [], ◌∷◌, ◌++◌, length, refl, sym, ap, subst, ◌∙◌, arith, length-append, add_assoc, add-zero}
 use Rattle.std.specs.Prelude.{Contains}
 use Rattle.std.specs.List.{flat_map}
 use Rattle.std.proofs.lemmas.List.Elements.{Contains-append_left}
@@ -16,12 +16,9 @@ addresses-units address sleds [] = refl
 addresses-units address sleds (piece ∷ pieces) =
     ap (λ ns. address ∷ ns) (addresses-units (address + length (piece_bytes piece)) (sleds + sleds_in piece) pieces)
 
-add_zero : (n : ℕ) → n + 0 ≡ n
-add_zero n = omega arith
-
 -- pieces behind others
 pub addresses-append : (address : ℕ) (xs ys : List Piece) → addresses_from address (xs ++ ys) ≡ addresses_from address xs ++ addresses_from (address + length (flat_map piece_bytes xs)) ys
-addresses-append address [] ys = ap (λ n. addresses_from n ys) (sym (add_zero address))
+addresses-append address [] ys = ap (λ n. addresses_from n ys) (sym (add-zero address))
 addresses-append address (x ∷ xs) ys =
     let n = length (piece_bytes x) in
     ap (λ ns. address ∷ ns)

@@ -1,16 +1,14 @@
 -- A text that is refused nowhere has an entry function.
 use Rattle.std.proofs.Common.{◌≡◌, ℕ, ◌+◌, ◌<◌, Bool, true, false, cond, not, ◌||◌, List, [], ◌∷◌, length, suc, Option, Some, None, refl, sym, ap, subst, ◌∙◌, arith}
-use Rattle.std.specs.Prelude.{Ok, slice_get}
+use Rattle.std.specs.Prelude.{slice_get}
 use Rattle.std.specs.List.{cons_option, filter_map, list_any, position_or_len}
-use Rattle.std.proofs.lemmas.Bool.{or_parts}
 use Rattle.std.proofs.lemmas.Bool.{not-false}
 use Rattle.std.proofs.lemmas.List.Folds.{find_at}
 use Rattle.xray_image.specs.Container.{Function}
-use Rattle.asm_text.specs.declared.fault.AsmFault.TheVariants as faults
 use Rattle.asm_text.specs.Names.{is_text}
 use Rattle.asm_text.specs.Statements.{Statement, Base, Entry, Func, Label, Does}
 use Rattle.asm_text.specs.Layout.{Lines, Placed, Owner, Choosing, owner_of, no_owner, parts_of, placed_from, placed, widths, is_function, names_function, functions, function_in, entry_in_line, number_of_function, entry_of}
-use Rattle.asm_text.specs.Refusals.{has_function, is_bare, is_unresolved, resolved, ends_early}
+use Rattle.asm_text.specs.Refusals.{has_function, is_unresolved}
 use Rattle.asm_text.specs.Programs.{entry_function}
 use Rattle.asm_text.proofs.SaidLines.{AreSaid, Settled}
 

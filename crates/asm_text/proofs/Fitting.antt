@@ -1,8 +1,8 @@
 -- What every statement of a text that was read keeps to.
-use Rattle.std.proofs.Common.{◌≡◌, ℕ, zero, suc, ◌%◌, ◌<◌, ◌≤◌, Bool, true, false, cond, not, ◌||◌, ◌&&◌, List, [], ◌∷◌, ◌++◌, length, get_or, Option, Some, None, refl, sym, subst, arith, eqb, ltb, leb}
+use Rattle.std.proofs.Common.{◌≡◌, ℕ, zero, suc, ◌%◌, ◌<◌, ◌≤◌, Bool, true, false, cond, not, ◌&&◌, List, [], ◌∷◌, ◌++◌, length, get_or, Option, Some, None, refl, sym, subst, arith, eqb, ltb, leb}
 use Rattle.std.specs.Prelude.{⊤, is_some, find, Result, Ok, Err, option_map, option_and_then, slice_get, unwrap_or}
 use Rattle.std.specs.List.{list_all, filter_map, cons_option, AllByRecursion}
-use Rattle.std.proofs.lemmas.Bool.{ltb-false, leb-true, eqb-true, eqb-false, and_parts}
+use Rattle.std.proofs.lemmas.Bool.{ltb-false, leb-true, eqb-true, eqb-false, and_parts, or_parts, not-false}
 use Rattle.text_lines.specs.Words.{is_clean, words_of}
 use Rattle.asm_text.specs.declared.fault.AsmFault.{AsmFault}
 use Rattle.asm_text.specs.declared.fault.AsmFault.TheVariants as faults
@@ -158,14 +158,6 @@ pub line_short : (keyword : Option Keyword) (word : List ℕ) (behind : List (Li
 line_short None word behind = label_short word behind
 line_short (Some keyword) word behind = says_short keyword behind
 
-or_parts : (a b : Bool) → (a || b) ≡ false → (a ≡ false) × (b ≡ false)
-or_parts true b h = absurd (cc h)
-or_parts false b h = (refl, h)
-
-not_false : (b : Bool) → not b ≡ false → b ≡ true
-not_false true h = refl
-not_false false h = absurd (cc h)
-
 -- a register among the sixteen that isn't reserved can be named
 register_fits : (n : ℕ) → n < 16 → is_reserved n ≡ false → IsRegister n
 register_fits n small free =
@@ -203,7 +195,7 @@ operation_fits Return small free narrow = tt
 fits_from : (s : Statement) → IsShort s → names_reserved s ≡ false → is_out_of_range s ≡ false → Fits s
 fits_from (Base address) short free range =
     let parts = or_parts (not (eqb (address % 16) 0)) (ltb 0x7FFF00000000 address) range in
-    (eqb-true (address % 16) 0 (not_false (eqb (address % 16) 0) parts.0), ltb-false 0x7FFF00000000 address parts.1)
+    (eqb-true (address % 16) 0 (not-false (eqb (address % 16) 0) parts.0), ltb-false 0x7FFF00000000 address parts.1)
 fits_from (Entry name) short free range = tt
 fits_from (Func name choice) short free range = name_short name short
 fits_from (Label name) short free range = tt

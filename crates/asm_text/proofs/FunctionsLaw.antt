@@ -1,26 +1,20 @@
 -- The functions of a text that was read are functions of an accepted image.
-use Rattle.std.proofs.Common.{◌≡◌, ◌≢◌, ℕ, zero, suc, ◌+◌, ◌%◌, ◌<◌, ◌≤◌, Bool, true, false, cond, not, ◌||◌, ◌&&◌, List, [], ◌∷◌, ◌++◌, length, get_or, take, Option, Some, None, refl, sym, ap, subst, ◌∙◌, arith, leb, ltb, append-nil}
+use Rattle.std.proofs.Common.{◌≡◌, ◌≢◌, ℕ, zero, suc, ◌+◌, ◌<◌, ◌≤◌, Bool, true, false, cond, not, ◌||◌, ◌&&◌, List, [], ◌∷◌, ◌++◌, length, get_or, take, Option, Some, None, refl, sym, ap, subst, ◌∙◌, arith, leb, add-zero}
 use Rattle.std.specs.Prelude.{⊤, Ok, All, Contains, slice_get}
-use Rattle.std.specs.Int.{w32, to_le_bytes}
 use Rattle.std.specs.List.{list_all, cons_option, last_or, AllByRecursion}
 use Rattle.std.proofs.lemmas.Bool.{and_parts, or_parts, not-false}
 use Rattle.std.proofs.lemmas.List.Elements.{All-from_recursion}
 use Rattle.std.proofs.lemmas.Slice.Eq.{bytes_eq-Decides}
-use Rattle.subset_decode.specs.declared.instr.Instr.{Instr}
-use Rattle.subset_decode.specs.declared.instr.Instr.TheVariants as instrs
-use Rattle.subset_decode.specs.Encoding.{spelling, opcode_of}
-use Rattle.xray_image.specs.Units.{JumpSled, ReturnSled, units_from}
+use Rattle.xray_image.specs.Units.{units_from}
 use Rattle.xray_image.specs.Container.{Function}
 use Rattle.xray_image.specs.Program.{addresses, is_name_byte, BeginsBehind, IsFunction, AreFunctions}
 use Rattle.asm_text.specs.declared.statement.Choice.{Choice}
-use Rattle.asm_text.specs.declared.statement.Branch.{Branch}
-use Rattle.asm_text.specs.declared.statement.Branch.TheVariants as branches
 use Rattle.asm_text.specs.Names.{is_text, is_name, is_decimal}
-use Rattle.asm_text.specs.Statements.{Operation, Plain, Go, TailJump, Return, Statement, Base, Entry, Func, Label, Does}
-use Rattle.asm_text.specs.Layout.{Lines, Placed, Owner, Choosing, by_threshold, is_function, is_instruction, defines, owner_of, no_owner, function_at, instruction_lines, parts_of, parts_at, placed_from, placed, widths, branch_width, sled_shift, own_place, pieces, functions, function_in, base_of}
+use Rattle.asm_text.specs.Statements.{Statement, Base, Entry, Func, Label, Does}
+use Rattle.asm_text.specs.Layout.{Lines, Placed, Owner, Choosing, by_threshold, is_function, is_instruction, defines, owner_of, no_owner, function_at, instruction_lines, parts_at, placed_from, placed, widths, own_place, pieces, functions, function_in, base_of}
 use Rattle.asm_text.specs.Refusals.{has_function, is_bare, is_defined}
 use Rattle.asm_text.specs.Assembling.{said_by}
-use Rattle.asm_text.proofs.WidthLemmas.{widths_aligned, widths_aligned_branch}
+use Rattle.asm_text.proofs.WidthLemmas.{operation_width}
 use Rattle.asm_text.proofs.Owners.{start_from, start_to}
 use Rattle.asm_text.proofs.SaidLines.{IsAllowed, Allowed, AreSaid, are_said, all_filled, is_bare-more, has_function-more, is_defined-more}
 use Rattle.asm_text.proofs.Addresses.{addresses_from, addresses-units}
@@ -82,44 +76,6 @@ stood_same base place before number s (Some g) f i stood =
     let more : is_bare (before ++ (number, s) ∷ []) ≡ cond (is_function s) true (cond (is_instruction s) false (is_bare before)) = is_bare-more before (number, s) in
     let same : cond (is_function s) true (cond (is_instruction s) false (is_bare before)) ≡ is_bare before = rw (f, i) refl in
     (omega (arith, stood.0), λ h. omega (arith, stood.1 (sym (more ∙ same) ∙ h)))
-
--- an instruction line has a byte
-low_has_byte : (low : Bool) (opcode : ℕ) (rest : List ℕ) → 0 < length (cond low (opcode ∷ []) (0x41 ∷ opcode ∷ []) ++ rest)
-low_has_byte true opcode rest = omega arith
-low_has_byte false opcode rest = omega arith
-
-opcode_has_byte : (opcode reg : ℕ) → 0 < length (opcode_of opcode reg)
-opcode_has_byte opcode reg = subst (λ (x : List ℕ). 0 < length x) (append-nil (opcode_of opcode reg)) (low_has_byte (ltb reg 8) (opcode + reg % 8) [])
-
-instr_has_byte : (instr : Instr) → 0 < length (spelling instr)
-instr_has_byte (instrs.Mov dst imm) = low_has_byte (ltb dst 8) (0xB8 + dst % 8) (to_le_bytes w32 imm)
-instr_has_byte (instrs.Add dst src) = omega arith
-instr_has_byte (instrs.Sub dst src) = omega arith
-instr_has_byte (instrs.Push reg) = opcode_has_byte 0x50 reg
-instr_has_byte (instrs.Pop reg) = opcode_has_byte 0x58 reg
-instr_has_byte (instrs.Call rel) = omega arith
-instr_has_byte (instrs.Jmp rel) = omega arith
-instr_has_byte (instrs.Jnz rel) = omega arith
-instr_has_byte instrs.Ret = omega arith
-instr_has_byte (instrs.Out port) = omega arith
-
-branch_has_byte : (branch : Branch) → 0 < branch_width branch
-branch_has_byte branches.Call = omega arith
-branch_has_byte branches.Jmp = omega arith
-branch_has_byte branches.Jnz = omega arith
-
-plain_width : (place : ℕ) (operation : Operation) → 0 < widths (parts_of false place (Does operation))
-plain_width place (Plain instr) = omega (arith, instr_has_byte instr)
-plain_width place (Go branch name) = omega (arith, branch_has_byte branch)
-plain_width place (TailJump name) = omega arith
-plain_width place Return = omega arith
-
-operation_width : (traced : Bool) (place : ℕ) (operation : Operation) → 0 < widths (parts_of traced place (Does operation))
-operation_width true place (Plain instr) = plain_width place (Plain instr)
-operation_width true place (Go branch name) = plain_width place (Go branch name)
-operation_width true place (TailJump name) = omega (arith, widths_aligned_branch place (JumpSled sled_shift) branches.Jmp name)
-operation_width true place Return = omega (arith, widths_aligned place (ReturnSled sled_shift))
-operation_width false place operation = plain_width place operation
 
 -- where a function starts
 first_start : (chosen : Choosing) (base place : ℕ) (owner : Owner) (name : List ℕ) (choice : Choice) (behind : Lines) → place ≡ 0
@@ -271,15 +227,12 @@ own_at (g ∷ fs) (suc i) f own e = (differ g f (each_at (λ x. is_text g.name x
 
 -- ---- all together
 
-add_zero : (n : ℕ) → n + 0 ≡ n
-add_zero n = omega arith
-
 module _ (base : ℕ) (chosen : Choosing) (said : Lines) (are : AreSaid said) where
   begins_at : AllByRecursion (λ f. Contains (addresses (units_from base 0 (pieces (placed chosen said)))) f.start) (functions base (placed chosen said))
   begins_at =
       let all = placed chosen said in
       let stands = own_places all base chosen 0 no_owner said (all_filled [] said are.allowed are.whole) in
-      let at : addresses_from (base + 0) (pieces all) ≡ addresses (units_from base 0 (pieces all)) = ap (λ n. addresses_from n (pieces all)) (add_zero base) ∙ sym (addresses-units base 0 (pieces all)) in
+      let at : addresses_from (base + 0) (pieces all) ≡ addresses (units_from base 0 (pieces all)) = ap (λ n. addresses_from n (pieces all)) (add-zero base) ∙ sym (addresses-units base 0 (pieces all)) in
       starts_at_units base (addresses (units_from base 0 (pieces all))) all (subst (λ ns. AllByRecursion (Stands base ns) all) at stands)
 
   function_at_place : (i : ℕ) (f : Function) → slice_get (functions base (placed chosen said)) i ≡ Some f

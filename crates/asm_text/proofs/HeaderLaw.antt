@@ -1,13 +1,13 @@
 -- A file whose parts are in order is accepted by the definition of image files.
-use Rattle.std.proofs.Common.{◌≡◌, ℕ, ◌+◌, ◌%◌, ◌^◌, ◌<◌, ◌≤◌, List, [], ◌∷◌, ◌++◌, length, map, All, refl, sym, ap, subst, ◌∙◌, arith, append_assoc}
-use Rattle.std.specs.Prelude.{Some, codes, slice_get}
+use Rattle.std.proofs.Common.{◌≡◌, ℕ, ◌+◌, ◌%◌, ◌^◌, ◌<◌, ◌≤◌, List, [], ◌++◌, length, map, All, refl, sym, ap, subst, ◌∙◌, arith, append_assoc}
+use Rattle.std.specs.Prelude.{codes, slice_get}
 use Rattle.std.specs.Option.{option_map_or}
 use Rattle.std.specs.List.{flat_map, zip}
 use Rattle.byteorder.specs.Endian.{little_bytes}
 use Rattle.byteorder.specs.Numbers.{little_number-reads_back}
 use Rattle.xray_image.specs.Units.{Piece, IsUnits, units_from, places_from}
 use Rattle.xray_image.specs.Container.{magic, version, base_address, code_length, function_count, entry_count, entry_index, number8_at, Parts}
-use Rattle.xray_image.specs.Program.{Program, Trampolines, AreFunctions, EachSled, IsEntryOf, Reaches, BranchesReach, IsAccepted, program_of, sled_of}
+use Rattle.xray_image.specs.Program.{Program, AreFunctions, EachSled, IsEntryOf, Reaches, BranchesReach, IsAccepted, program_of, sled_of}
 use Rattle.asm_text.specs.Programs.{trampolines_at}
 use Rattle.asm_text.specs.Writing.{File, header_bytes, function_bytes, entry_bytes, file_bytes}
 use Rattle.asm_text.proofs.ReadBack.{FileFits, parts_back}

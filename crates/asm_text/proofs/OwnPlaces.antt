@@ -1,5 +1,5 @@
 -- At the place that a line gives, that of an instruction line or a function's start, a unit begins.
-use Rattle.std.proofs.Common.{◌≡◌, ℕ, zero, suc, ◌+◌, ◌%◌, ◌<◌, Bool, true, false, cond, List, [], ◌∷◌, ◌++◌, Some, refl, sym, ap, subst, ◌∙◌, arith, eqb, map, append-nil, add_assoc}
+use Rattle.std.proofs.Common.{◌≡◌, ℕ, zero, suc, ◌+◌, ◌%◌, ◌<◌, Bool, true, false, cond, List, [], ◌∷◌, ◌++◌, Some, refl, sym, ap, subst, ◌∙◌, arith, eqb, map, append-nil, add_assoc, add-zero}
 use Rattle.std.specs.Prelude.{Contains}
 use Rattle.std.specs.List.{flat_map, AllByRecursion}
 use Rattle.std.proofs.lemmas.List.Elements.{Contains-append_left, Contains-append_right}
@@ -21,9 +21,6 @@ Stands base begins p = (own : ℕ) → own_place p ≡ Some own → Contains beg
 stand_behind : (base : ℕ) (xs ys : List ℕ) (lines : List Placed) → AllByRecursion (Stands base ys) lines → AllByRecursion (Stands base (xs ++ ys)) lines
 stand_behind base xs ys [] all = tt
 stand_behind base xs ys (p ∷ lines) all = ((λ own e. Contains-append_right xs ys (base + own) (all.0 own e)), stand_behind base xs ys lines all.1)
-
-add_zero : (n : ℕ) → n + 0 ≡ n
-add_zero n = omega arith
 
 module _ (all : List Placed) (behind : ℕ) where
   abbrev made : List Part → List Piece
@@ -53,7 +50,7 @@ module _ (all : List Placed) (behind : ℕ) where
   operation_first false address place Return = first_address address (piece_of all behind (Fixed (Instruction instrs.Ret))) []
 
   sled_at : (address : ℕ) (sled : Piece) (r : ℕ) → r < 2 → Contains (addresses_from address (made (at_parity r sled))) (address + r)
-  sled_at address sled zero h = (0, omega arith, sym (add_zero address))
+  sled_at address sled zero h = (0, omega arith, sym (add-zero address))
   sled_at address sled (suc zero) h = (1, omega arith, refl)
   sled_at address sled (suc (suc r)) h = absurd (omega arith)
 
@@ -71,12 +68,12 @@ module _ (all : List Placed) (base : ℕ) where
   next_unit : (chosen : Choosing) (place : ℕ) (owner : Owner) (lines : Lines) → 0 < instruction_lines lines → Contains (begins chosen place owner lines) (base + place)
   next_unit chosen place owner [] h = absurd (omega arith)
   next_unit chosen place owner ((number, Base address) ∷ behind) h =
-      subst (λ n. Contains (addresses_from (base + place) (flat_map (line_pieces all) (placed_from chosen n owner behind))) (base + place)) (sym (add_zero place)) (next_unit chosen place owner behind h)
+      subst (λ n. Contains (addresses_from (base + place) (flat_map (line_pieces all) (placed_from chosen n owner behind))) (base + place)) (sym (add-zero place)) (next_unit chosen place owner behind h)
   next_unit chosen place owner ((number, Entry name) ∷ behind) h =
-      subst (λ n. Contains (addresses_from (base + place) (flat_map (line_pieces all) (placed_from chosen n owner behind))) (base + place)) (sym (add_zero place)) (next_unit chosen place owner behind h)
+      subst (λ n. Contains (addresses_from (base + place) (flat_map (line_pieces all) (placed_from chosen n owner behind))) (base + place)) (sym (add-zero place)) (next_unit chosen place owner behind h)
   next_unit chosen place owner ((number, Func name choice) ∷ behind) h = absurd (omega arith)
   next_unit chosen place owner ((number, Label name) ∷ behind) h =
-      subst (λ n. Contains (addresses_from (base + place) (flat_map (line_pieces all) (placed_from chosen n owner behind))) (base + place)) (sym (add_zero place)) (next_unit chosen place owner behind h)
+      subst (λ n. Contains (addresses_from (base + place) (flat_map (line_pieces all) (placed_from chosen n owner behind))) (base + place)) (sym (add-zero place)) (next_unit chosen place owner behind h)
   next_unit chosen place owner ((number, Does operation) ∷ behind) h =
       let xs = parts_of owner.traced place (Does operation) in
       let next = place + widths xs in
@@ -98,7 +95,7 @@ module _ (all : List Placed) (base : ℕ) where
       Contains-append_left (addresses_from (base + place) (map (piece_of all next) xs)) (begins chosen next here behind) (base + (place + place % 2)) (aligned_sled all next base place (JumpSled sled_shift))
   function_stands false chosen place name choice behind h =
       let here = function_at false choice place in
-      subst (λ n. Contains (begins chosen (place + 0) here behind) (base + n)) (add_zero place) (next_unit chosen (place + 0) here behind h)
+      subst (λ n. Contains (begins chosen (place + 0) here behind) (base + n)) (add-zero place) (next_unit chosen (place + 0) here behind h)
 
   own_first : (chosen : Choosing) (place : ℕ) (owner : Owner) (number : ℕ) (s : Statement) (behind : Lines) → IsFilled s behind
       → let here = owner_of chosen place owner s behind in Stands base (line_begins here chosen place s behind) (record { line = number; statement = s; owner = here; place = place })
