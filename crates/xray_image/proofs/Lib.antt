@@ -28,3 +28,4 @@ pub mod Making
 pub mod ImageMade
 pub mod FileRows
 pub mod ReadOnce
+pub mod Summing

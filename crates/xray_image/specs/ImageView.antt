@@ -7,7 +7,7 @@ use Rattle.xray_image.specs.Container.{Function}
 use Rattle.xray_image.specs.Program.{Program, IsAccepted, addresses}
 use Rattle.xray_image.specs.Ids.{sledded_functions, AreNumbersOf}
 use Rattle.xray_image.specs.Index.{IsIndexOf}
-use Rattle.xray_image.specs.UnitTable.{units_in, IsTable}
+use Rattle.xray_image.specs.UnitTable.{units_in, IsSoundTable}
 use Rattle.xray_image.specs.Views.{trampolines_of}
 
 abbrev pub named_function : Named → Function
@@ -31,5 +31,5 @@ pub record IsSound (a : Inside) : Type 0 where
   pub accepted : IsAccepted bytes (program_in a)
   pub index : IsIndexOf (addresses (units_in a.units)) a.index
   pub table : a.units.base ≡ a.base
-  pub sound : IsTable a.units
+  pub sound : IsSoundTable a.units
   pub ids : AreNumbersOf (map (λ f. f.start) (program_in a).functions) (sledded_functions (program_in a)) a.ids.items

@@ -33,7 +33,7 @@ abbrev pub units_in : UnitTable → List Unit
 units_in table = map (unit_at table.base table.code.items) (zip (sums_in table.places) (sums_in table.sleds))
 
 -- each place has its count of sleds, and lies within the code
-pub record IsTable (table : UnitTable) : Type 0 where
+pub record IsSoundTable (table : UnitTable) : Type 0 where
   pub low : table.base < 2 ^ 63
   pub short : length table.code.items < 2 ^ 32
   pub places : IsSound table.places

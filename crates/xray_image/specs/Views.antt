@@ -19,7 +19,7 @@ use Rattle.xray_image.specs.Table.{BeginsAsSled}
 use Rattle.xray_image.specs.Units.{SledPlace, Piece, Instruction, JumpSled, ReturnSled, Align}
 use Rattle.xray_image.specs.declared.parts.MapLine.{MapLine}
 use Rattle.xray_image.specs.declared.parts.FileParts.{FileParts}
-use Rattle.xray_image.specs.UnitTable.{units_in, IsTable}
+use Rattle.xray_image.specs.UnitTable.{units_in, IsSoundTable}
 use Rattle.xray_image.specs.Container.{Function, MapEntry, Parts, version, base_address, code_length, function_count, entry_count, entry_index, number8_at, parts_of}
 
 abbrev pub trampolines_of : Addresses → Trampolines
@@ -72,7 +72,7 @@ places_in u = map place_of u.sleds.items
 
 -- the tables are those of a code up to a place
 pub record AreTablesTo (base : ℕ) (code : List ℕ) (at : ℕ) (u : CodeUnits) : Type 0 where
-  pub sound : IsTable u.units
+  pub sound : IsSoundTable u.units
   pub same_base : u.units.base ≡ base
   pub same_code : u.units.code.items ≡ code
   pub place : u.units.places.total ≡ at

@@ -4,7 +4,7 @@ ghost use Rattle.std.specs.Prelude.{◌≡◌, ◌≤◌, ◌<◌, ◌^◌, ◌+
 ghost use Rattle.xray_image.specs.Units.{sleds_in, places_from};
 ghost use Rattle.xray_image.specs.Reading.{HasUnits, IsReadTo};
 ghost use Rattle.xray_image.specs.Table.{StopsAt};
-ghost use Rattle.xray_image.specs.UnitTable.{unit_at, units_in, IsTable};
+ghost use Rattle.xray_image.specs.UnitTable.{unit_at, units_in, IsSoundTable};
 ghost use Rattle.xray_image.specs.Views.{piece_of, places_in, fault_at, AreTablesTo};
 
 use crate::fault::ImageFault;
@@ -65,7 +65,7 @@ impl CodeUnits {
 
     /// Adds the unit of a length that stands at an address, behind the others.
     fn add(&mut self, address: u64, raw: RawUnit, length: u32) -> Result<(), ImageFault>
-        requires sound { IsTable self.old.units }
+        requires sound { IsSoundTable self.old.units }
         requires length { length ≤ 17 }
         requires within { self.old.units.places.total + length ≤ length self.old.units.code.items }
         requires few { self.old.units.sleds.total + 1 < 2 ^ 32 }
@@ -80,7 +80,7 @@ impl CodeUnits {
             ≡ self.old.units.places.total + length) }
         ensures counted { OnOk result (self.new.units.sleds.total
             ≡ self.old.units.sleds.total + sleds_in (piece_of raw)) }
-        ensures sound { OnOk result (IsTable self.new.units) }
+        ensures sound { OnOk result (IsSoundTable self.new.units) }
         ensures full { IfErr result (λ fault. fault ≡ ImageFault.NoMemory) }
     {
         self.add_sled(address, raw)?;

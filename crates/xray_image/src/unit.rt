@@ -1,7 +1,7 @@
 //! The units of a code, and how they are stored.
 
 ghost use Rattle.std.specs.Prelude.{◌≡◌, ◌≤◌, ◌<◌, ◌+◌, ◌^◌, [], ◌∷◌, ◌++◌, length, slice_get, Some, IfOk, OnOk};
-ghost use Rattle.xray_image.specs.UnitTable.{unit_at, units_in, IsTable};
+ghost use Rattle.xray_image.specs.UnitTable.{unit_at, units_in, IsSoundTable};
 
 use crate::running_sums::RunningSums;
 use crate::unit_reader::what_stands;
@@ -52,7 +52,7 @@ impl UnitTable {
         ensures code { IfOk result (λ table. table.code.items ≡ code.now) }
         ensures place { IfOk result (λ table. table.places.total ≡ 0) }
         ensures sleds { IfOk result (λ table. table.sleds.total ≡ 0) }
-        ensures sound { IfOk result IsTable }
+        ensures sound { IfOk result IsSoundTable }
     {
         Ok(UnitTable {
             base,
@@ -64,7 +64,7 @@ impl UnitTable {
 
     /// Adds the unit that stands behind the others, by its length and how many sleds it is.
     pub(crate) fn push(&mut self, length: u32, sleds: u32) -> Result<(), AllocError>
-        requires sound { IsTable self.old }
+        requires sound { IsSoundTable self.old }
         requires length { length ≤ 17 }
         requires sleds { sleds ≤ 1 }
         requires within { self.old.places.total + length ≤ length self.old.code.items }
@@ -75,7 +75,7 @@ impl UnitTable {
         ensures code { OnOk result (self.new.code ≡ self.old.code) }
         ensures place { OnOk result (self.new.places.total ≡ self.old.places.total + length) }
         ensures sleds { OnOk result (self.new.sleds.total ≡ self.old.sleds.total + sleds) }
-        ensures sound { OnOk result (IsTable self.new) }
+        ensures sound { OnOk result (IsSoundTable self.new) }
     {
         self.places.push(length)?;
         self.sleds.push(sleds)?;
@@ -91,7 +91,7 @@ impl UnitTable {
 
     /// How many units there are.
     pub(crate) fn len(&self) -> usize
-        requires { IsTable self.now }
+        requires { IsSoundTable self.now }
         ensures { result ≡ length (units_in self.now) }
     {
         self.places.len()
@@ -100,7 +100,7 @@ impl UnitTable {
     /// The unit of a number, from 0.
     pub(crate) fn get(&self, number: usize) -> Unit
         requires exists { number < length (units_in self.now) }
-        requires sound { IsTable self.now }
+        requires sound { IsSoundTable self.now }
         ensures { slice_get (units_in self.now) number ≡ Some result }
     {
         let place = self.places.get(number);

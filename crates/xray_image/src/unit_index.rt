@@ -4,7 +4,7 @@ ghost use Rattle.std.specs.Prelude.{◌≡◌, ◌≤◌, ◌<◌, ◌+◌, ◌-
 ghost use Rattle.std.specs.List.Sorted.{IsStrictlyIncreasing};
 ghost use Rattle.xray_image.specs.Program.{addresses};
 ghost use Rattle.xray_image.specs.Index.{AreWithin, IsIndexOf, HasBegun};
-ghost use Rattle.xray_image.specs.UnitTable.{units_in, IsTable};
+ghost use Rattle.xray_image.specs.UnitTable.{units_in, IsSoundTable};
 
 use crate::unit::UnitTable;
 use std::alloc::{AllocError, Global};
@@ -73,7 +73,7 @@ impl UnitIndex {
         requires within { AreWithin base code_length (addresses (units_in units.now)) }
         requires ascending { IsStrictlyIncreasing (addresses (units_in units.now)) }
         requires few { length (units_in units.now) < 2 ^ 32 - 1 }
-        requires sound { IsTable units.now }
+        requires sound { IsSoundTable units.now }
         ensures index { IfOk result (IsIndexOf (addresses (units_in units.now))) }
     {
         let mut index = UnitIndex {
