@@ -29,3 +29,4 @@ pub mod ImageMade
 pub mod FileRows
 pub mod ReadOnce
 pub mod Summing
+pub mod Stored

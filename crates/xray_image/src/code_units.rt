@@ -63,11 +63,11 @@ impl CodeUnits {
         Ok(())
     }
 
-    /// Adds the unit of a length that stands at an address, behind the others.
-    fn add(&mut self, address: u64, raw: RawUnit, length: u32) -> Result<(), ImageFault>
+    /// Adds the unit of a width that stands at an address, behind the others.
+    fn add(&mut self, address: u64, raw: RawUnit, width: u32) -> Result<(), ImageFault>
         requires sound { IsSoundTable self.old.units }
-        requires length { length ≤ 17 }
-        requires within { self.old.units.places.total + length ≤ length self.old.units.code.items }
+        requires width { width ≤ 17 }
+        requires within { self.old.units.places.total + width ≤ length self.old.units.code.items }
         requires few { self.old.units.sleds.total + 1 < 2 ^ 32 }
         ensures units { OnOk result (units_in self.new.units ≡ units_in self.old.units
             ++ unit_at self.old.units.base self.old.units.code.items
@@ -77,14 +77,15 @@ impl CodeUnits {
         ensures base { OnOk result (self.new.units.base ≡ self.old.units.base) }
         ensures code { OnOk result (self.new.units.code ≡ self.old.units.code) }
         ensures place { OnOk result (self.new.units.places.total
-            ≡ self.old.units.places.total + length) }
+            ≡ self.old.units.places.total + width) }
         ensures counted { OnOk result (self.new.units.sleds.total
             ≡ self.old.units.sleds.total + sleds_in (piece_of raw)) }
         ensures sound { OnOk result (IsSoundTable self.new.units) }
         ensures full { IfErr result (λ fault. fault ≡ ImageFault.NoMemory) }
     {
+        let sleds = raw.sleds();
         self.add_sled(address, raw)?;
-        self.units.push(length, raw.sleds())?;
+        self.units.push(width, sleds)?;
         Ok(())
     }
 

@@ -62,22 +62,22 @@ impl UnitTable {
         })
     }
 
-    /// Adds the unit that stands behind the others, by its length and how many sleds it is.
-    pub(crate) fn push(&mut self, length: u32, sleds: u32) -> Result<(), AllocError>
+    /// Adds the unit that stands behind the others, by its width in bytes and how many sleds it is.
+    pub(crate) fn push(&mut self, width: u32, sleds: u32) -> Result<(), AllocError>
         requires sound { IsSoundTable self.old }
-        requires length { length ≤ 17 }
+        requires width { width ≤ 17 }
         requires sleds { sleds ≤ 1 }
-        requires within { self.old.places.total + length ≤ length self.old.code.items }
+        requires within { self.old.places.total + width ≤ length self.old.code.items }
         requires few { self.old.sleds.total + sleds < 2 ^ 32 }
         ensures units { OnOk result (units_in self.new ≡ units_in self.old
             ++ unit_at self.old.base self.old.code.items (self.old.places.total, self.old.sleds.total) ∷ []) }
         ensures base { OnOk result (self.new.base ≡ self.old.base) }
         ensures code { OnOk result (self.new.code ≡ self.old.code) }
-        ensures place { OnOk result (self.new.places.total ≡ self.old.places.total + length) }
+        ensures place { OnOk result (self.new.places.total ≡ self.old.places.total + width) }
         ensures sleds { OnOk result (self.new.sleds.total ≡ self.old.sleds.total + sleds) }
         ensures sound { OnOk result (IsSoundTable self.new) }
     {
-        self.places.push(length)?;
+        self.places.push(width)?;
         self.sleds.push(sleds)?;
         Ok(())
     }

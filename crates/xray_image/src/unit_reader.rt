@@ -47,10 +47,10 @@ pub(crate) enum RawUnit {
 
 impl RawUnit {
     /// How many sleds it is.
-    pub(crate) fn sleds(self) -> u32
-        ensures { result ≡ sleds_in (piece_of self) }
+    pub(crate) fn sleds(&self) -> u32
+        ensures { result ≡ sleds_in (piece_of self.now) }
     {
-        match self {
+        match *self {
             RawUnit::Instruction(_) | RawUnit::Align => 0,
             RawUnit::JumpSled(_) | RawUnit::ReturnSled(_) => 1,
         }
