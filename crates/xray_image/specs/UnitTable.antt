@@ -1,5 +1,5 @@
 -- Units as they are stored.
-use Rattle.std.specs.Prelude.{◌+◌, ℕ, List, map}
+use Rattle.std.specs.Prelude.{◌+◌, ◌^◌, ◌<◌, ℕ, List, map}
 use Rattle.subset_decode.specs.declared.instr.Instr.TheVariants as instrs
 use Rattle.xray_image.specs.declared.unit.What.{What}
 use Rattle.xray_image.specs.declared.unit.What.TheVariants as whats
@@ -27,10 +27,10 @@ whole_what stored.Pad = whats.Pad
 abbrev pub whole_unit : ℕ → StoredUnit → Unit
 whole_unit base unit = record { address = base + unit.place; what = whole_what unit.what }
 
--- what units are
-abbrev pub stored_whats : List StoredUnit → List What
-stored_whats units = map (λ u. whole_what u.what) units
-
 -- the units of a table
 abbrev pub units_in : UnitTable → List Unit
 units_in table = map (whole_unit table.base) table.units.items
+
+-- a table whose units can be read: none of their addresses passes 64 bits
+pub record IsSoundTable (table : UnitTable) : Type 0 where
+  pub low : table.base < 2 ^ 63

@@ -105,13 +105,6 @@ pub(crate) struct StoredUnit {
 }
 
 impl StoredUnit {
-    /// What it is.
-    pub(crate) fn what(self) -> What
-        ensures { result ≡ whole_what self.what }
-    {
-        self.what.whole()
-    }
-
     /// The unit, in a code whose first byte has the address `base`.
     fn whole(self, base: u64) -> Unit
         requires { base < 2 ^ 63 }
@@ -173,13 +166,6 @@ impl UnitTable {
         ensures { result ≡ length (units_in self.now) }
     {
         self.units.len()
-    }
-
-    /// The units as they are stored.
-    pub(crate) fn as_slice(&self) -> &[StoredUnit]
-        ensures { result.now ≡ self.now.units.items }
-    {
-        &self.units
     }
 
     /// The unit of a number, from 0.
