@@ -145,6 +145,6 @@ impl Image {
     pub fn is_first_run(&self) -> bool
         ensures { IsTrue result ↔ IsFirstRun self.now }
     {
-        self.functions.len() == 1 && is_straight_run(self.units.as_slice(), &self.sleds)
+        self.functions.len() == 1 && is_straight_run(&self.units, &self.sleds)
     }
 }
