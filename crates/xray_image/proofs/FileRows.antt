@@ -65,9 +65,6 @@ module _ (bytes : List ℕ) (h : Header) (head : HasHeader bytes) (is : IsHeader
   pub base_low : h.base < 2 ^ 63
   base_low = omega (arith, is.base, head.base_limit)
 
-  pub table_low : (table : UnitTable) → table.base ≡ h.base → table.base < 2 ^ 63
-  table_low table same = omega (arith, same, base_low)
-
   pub functions_few : length p.functions.items < 2 ^ 32
   functions_few = omega (arith, (parts_count bytes (parts_of_view p) there).0, length-map p.functions.items function_of, head.functions_limit)
 
