@@ -12,9 +12,8 @@ use Rattle.xray_image.specs.declared.fault.ImageFault.TheVariants as faults
 use Rattle.xray_image.specs.declared.header.Header.{Header}
 use Rattle.xray_image.specs.declared.parts.FileParts.{FileParts}
 use Rattle.xray_image.specs.declared.unit.Unit.{Unit}
-use Rattle.xray_image.specs.declared.unit.UnitTable.{UnitTable}
 use Rattle.xray_image.specs.Units.{Piece, Instruction, JumpSled, ReturnSled, Align, piece_bytes, SledPlace, units_from, places_from}
-use Rattle.xray_image.specs.Container.{Function, MapEntry, Parts, base_address, code_length, function_count, entry_count, entry_index, number8_at, parts_of}
+use Rattle.xray_image.specs.Container.{Parts, base_address, entry_index, number8_at, parts_of}
 use Rattle.xray_image.specs.Header.{HasHeader}
 use Rattle.xray_image.specs.Index.{AreWithin}
 use Rattle.xray_image.specs.Judging.{IsJudged}

@@ -20,7 +20,7 @@ use Rattle.xray_image.specs.Units.{SledPlace, Piece, Instruction, JumpSled, Retu
 use Rattle.xray_image.specs.declared.parts.MapLine.{MapLine}
 use Rattle.xray_image.specs.declared.parts.FileParts.{FileParts}
 use Rattle.xray_image.specs.UnitTable.{units_in, IsSoundTable}
-use Rattle.xray_image.specs.Container.{Function, MapEntry, Parts, version, base_address, code_length, function_count, entry_count, entry_index, number8_at, parts_of}
+use Rattle.xray_image.specs.Container.{Function, MapEntry, Parts, version, base_address, code_length, function_count, entry_count, entry_index, number8_at}
 
 abbrev pub trampolines_of : Addresses → Trampolines
 trampolines_of t = record { entry = t.entry; exit = t.exit; tail = t.tail }

@@ -1,6 +1,7 @@
 //! The units of a code, and how they are stored.
 
 ghost use Rattle.std.specs.Prelude.{◌≡◌, ◌≤◌, ◌<◌, ◌+◌, ◌^◌, [], ◌∷◌, ◌++◌, length, slice_get, Some, IfOk, OnOk};
+ghost use Rattle.xray_image.specs.Program.{addresses};
 ghost use Rattle.xray_image.specs.UnitTable.{unit_at, units_in, IsSoundTable};
 
 use crate::running_sums::RunningSums;
@@ -95,6 +96,15 @@ impl UnitTable {
         ensures { result ≡ length (units_in self.now) }
     {
         self.places.len()
+    }
+
+    /// The address of the unit of a number, from 0.
+    pub(crate) fn address(&self, number: usize) -> u64
+        requires exists { number < length (units_in self.now) }
+        requires sound { IsSoundTable self.now }
+        ensures { slice_get (addresses (units_in self.now)) number ≡ Some result }
+    {
+        self.base + u64::from(self.places.get(number))
     }
 
     /// The unit of a number, from 0.

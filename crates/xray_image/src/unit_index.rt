@@ -82,8 +82,8 @@ impl UnitIndex {
             steps: vec![in alloc; NO_UNIT; code_length]?,
         };
         for number in 0..units.len() {
-            let unit = units.get(number);
-            index.add((unit.address - base) as usize, number as u32)?;
+            let address = units.address(number);
+            index.add((address - base) as usize, number as u32)?;
         }
         Ok(index)
     }

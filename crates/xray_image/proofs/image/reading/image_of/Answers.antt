@@ -1,10 +1,10 @@
-use Rattle.std.proofs.Common.{◌≡◌, List, map, length, sym, ap, subst, ◌∙◌, arith}
+use Rattle.std.proofs.Common.{◌≡◌, List, map, sym, ap, subst, ◌∙◌}
 use Rattle.std.specs.Prelude.{All, true}
 use Rattle.std.specs.List.{zip}
 use Rattle.xray_image.specs.declared.code_units.SledSpot.{SledSpot}
 use Rattle.xray_image.specs.declared.parts.FunctionEntry.{FunctionEntry}
 use Rattle.xray_image.specs.declared.parts.MapLine.{MapLine}
-use Rattle.xray_image.specs.Program.{Program, is_name_byte, id_of, sled_of, IsAccepted}
+use Rattle.xray_image.specs.Program.{is_name_byte, id_of, sled_of, IsAccepted}
 use Rattle.xray_image.specs.UnitTable.{units_in}
 use Rattle.xray_image.specs.Views.{entry_of, function_of, place_of}
 use Rattle.xray_image.proofs.Entries.{ascend_entries}

@@ -1,10 +1,7 @@
-use Rattle.std.proofs.Common.{List, length, inr, refl, sym, ap, subst, arith}
+use Rattle.std.proofs.Common.{inr, refl, sym, subst, arith}
 use Rattle.std.specs.Prelude.{Ok}
-use Rattle.std.specs.List.Sorted.{IsStrictlyIncreasing}
 use Rattle.std.proofs.lemmas.Result.{err_from_is_err_and}
-use Rattle.xray_image.specs.declared.unit.Unit.{Unit}
-use Rattle.xray_image.specs.Index.{AreWithin}
-use Rattle.xray_image.specs.Program.{Program, addresses}
+use Rattle.xray_image.specs.Program.{Program}
 use Rattle.xray_image.specs.Table.{ReadsAs}
 use Rattle.xray_image.specs.UnitTable.{units_in}
 use Rattle.xray_image.specs.Views.{places_in}

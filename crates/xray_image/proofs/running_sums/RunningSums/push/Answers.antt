@@ -1,5 +1,4 @@
 use Rattle.std.proofs.Common.{◌≡◌, ℕ, ◌-◌, [], ◌∷◌, ◌++◌, length, ap, ◌∙◌, arith}
-use Rattle.std.proofs.Common.{vec_len}
 use Rattle.xray_image.specs.RunningSums.{sums_from}
 use Rattle.xray_image.proofs.Summing.{total_pushed}
 use Rattle.xray_image.proofs.running_sums.RunningSums.push.Goals as goal
