@@ -22,7 +22,7 @@ pub(crate) struct RunningSums {
 }
 
 impl RunningSums {
-    /// No numbers, with room for so many, so that adding them takes no memory and leaves little unused.
+    /// No numbers, with room for so many, so that adding them takes no memory.
     pub(crate) fn with_room(alloc: Global, room: usize) -> Result<RunningSums, AllocError>
         ensures sums { IfOk result (λ sums. sums_in sums ≡ []) }
         ensures total { IfOk result (λ sums. sums.total ≡ 0) }
