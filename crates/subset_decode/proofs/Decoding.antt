@@ -7,7 +7,7 @@ use Rattle.subset_decode.specs.declared.instr.Instr.TheVariants.{Mov, Add, Sub, 
 use Rattle.subset_decode.specs.declared.fault.DecodeFault.{DecodeFault}
 use Rattle.subset_decode.specs.Encoding.{opcode_of, spelling, IsNamed, Begins}
 use Rattle.subset_decode.specs.Refusals.{Refuses, Answers}
-use Rattle.subset_decode.specs.Reading.{Read, instr_at}
+use Rattle.subset_decode.specs.Reading.{◌>>=◌, Read, instr_at, first_instr}
 use Rattle.subset_decode.proofs.Fields.{IsBytes-drop}
 use Rattle.subset_decode.proofs.Refused.{same_answer}
 use Rattle.subset_decode.proofs.Found.{found, refused}
@@ -64,6 +64,16 @@ stands bytes at i rest within fits e =
 pub refuses : (bytes : List ℕ) (at : ℕ) (f : DecodeFault) → FitBytes bytes → ReadsAt bytes at (Err f) → Refuses (drop at bytes) f
 refuses bytes at f fits e =
     refused (drop at bytes) f (IsBytes-drop at bytes (λ k. (fits k).fits)) (ap instr_at (sym (take_rest bytes at)) ∙ e)
+
+-- the same of the first instruction alone
+first_is : (bytes : List ℕ) (at : ℕ) (read : Read Instr) → ReadsAt bytes at read → first_instr (drop at bytes) ≡ (read >>= λ i. Ok i.0)
+first_is bytes at read e = ap (λ (r : Read Instr). r >>= λ i. Ok i.0) (ap instr_at (sym (take_rest bytes at)) ∙ e)
+
+pub first_found : (bytes : List ℕ) (at : ℕ) (i : Instr) (rest : List ℕ) → ReadsAt bytes at (Ok (i, rest)) → first_instr (drop at bytes) ≡ Ok i
+first_found bytes at i rest e = first_is bytes at (Ok (i, rest)) e
+
+pub first_refused : (bytes : List ℕ) (at : ℕ) (f : DecodeFault) → ReadsAt bytes at (Err f) → first_instr (drop at bytes) ≡ Err f
+first_refused bytes at f e = first_is bytes at (Err f) e
 
 -- what `decode` answers
 abbrev pub Answer : Type 0

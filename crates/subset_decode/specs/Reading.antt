@@ -97,6 +97,12 @@ instr_at bytes = do
         Ok (Out port.0, port.1))
       else low_register_at 0 b.0 b.1
 
+-- the first instruction of bytes, or why there is none
+abbrev pub first_instr : List ℕ → Result Instr DecodeFault
+first_instr bytes = do
+  i ← instr_at bytes
+  Ok i.0
+
 -- what a function of the decoder returned, seen by view, is what reading gives
 abbrev pub Gives : {X Y : Type 0} → (X → Y) → Result X DecodeFault → Result Y DecodeFault → Type 0
 Gives view (Ok x) read = read ≡ Ok (view x)

@@ -5,7 +5,7 @@ ghost use Rattle.subset_decode.specs.declared.instr.Instr.{Instr};
 ghost use Rattle.subset_decode.specs.declared.fault.DecodeFault.{DecodeFault};
 ghost use Rattle.subset_decode.specs.Encoding.{spelling, IsNamed, Begins};
 ghost use Rattle.subset_decode.specs.Refusals.{Refuses};
-ghost use Rattle.subset_decode.specs.Reading.{byte_at, field_at, distance_at, register_of, low_register_at, operands_of, arithmetic_at, escaped_at, instr_at, Gives};
+ghost use Rattle.subset_decode.specs.Reading.{byte_at, field_at, distance_at, register_of, low_register_at, operands_of, arithmetic_at, escaped_at, instr_at, first_instr, Gives};
 
 use crate::fault::DecodeFault;
 use crate::instr::Instr;
@@ -176,6 +176,8 @@ pub fn decode(bytes: &[u8], at: usize) -> Result<(Instr, usize), DecodeFault>
     // An instruction that stands there is read.
     ensures only { (i : Instr) → IsNamed i → Begins (spelling i) (drop at bytes.now)
         → result ≡ Ok (i, at + length (spelling i)) }
+    // The answer is computed from the bytes from there on, as their first instruction.
+    ensures computed { Gives (λ x. x.0) result (first_instr (drop at bytes.now)) }
     // A fault that is answered holds there.
     ensures fault { IfErr result (Refuses (drop at bytes.now)) }
     // A fault that holds there is answered.

@@ -12,9 +12,8 @@ use Rattle.xray_image.specs.declared.fault.ImageFault.TheVariants as faults
 use Rattle.xray_image.specs.declared.header.Header.{Header}
 use Rattle.xray_image.specs.declared.parts.FileParts.{FileParts}
 use Rattle.xray_image.specs.declared.unit.Unit.{Unit}
-use Rattle.xray_image.specs.declared.unit.UnitTable.{UnitTable}
 use Rattle.xray_image.specs.Units.{Piece, Instruction, JumpSled, ReturnSled, Align, piece_bytes, SledPlace, units_from, places_from}
-use Rattle.xray_image.specs.Container.{Function, MapEntry, Parts, base_address, code_length, function_count, entry_count, entry_index, number8_at, parts_of}
+use Rattle.xray_image.specs.Container.{Parts, base_address, entry_index, number8_at, parts_of}
 use Rattle.xray_image.specs.Header.{HasHeader}
 use Rattle.xray_image.specs.Index.{AreWithin}
 use Rattle.xray_image.specs.Judging.{IsJudged}
@@ -64,9 +63,6 @@ module _ (bytes : List ℕ) (h : Header) (head : HasHeader bytes) (is : IsHeader
 
   pub base_low : h.base < 2 ^ 63
   base_low = omega (arith, is.base, head.base_limit)
-
-  pub table_low : (table : UnitTable) → table.base ≡ h.base → table.base < 2 ^ 63
-  table_low table same = omega (arith, same, base_low)
 
   pub functions_few : length p.functions.items < 2 ^ 32
   functions_few = omega (arith, (parts_count bytes (parts_of_view p) there).0, length-map p.functions.items function_of, head.functions_limit)

@@ -1,15 +1,14 @@
 -- First runs by their units and sleds.
-use Rattle.std.proofs.Common.{◌≡◌, ℕ, Bool, List, length, map, sym, ap, subst, ◌∙◌}
+use Rattle.std.proofs.Common.{◌≡◌, Bool, List, length, map, sym, ap, subst, ◌∙◌}
 use Rattle.std.specs.Prelude.{◌↔◌, IsTrue}
 use Rattle.std.proofs.lemmas.List.{length-map}
-use Rattle.std.proofs.lemmas.Simd.{map-map}
 use Rattle.xray_image.specs.declared.sled.Sled.{Sled}
-use Rattle.xray_image.specs.declared.unit.StoredUnit.{StoredUnit}
-use Rattle.xray_image.specs.declared.unit.What.{What}
+use Rattle.xray_image.specs.declared.unit.Unit.{Unit}
+use Rattle.xray_image.specs.declared.unit.UnitTable.{UnitTable}
 use Rattle.xray_image.specs.Program.{Program}
 use Rattle.xray_image.specs.FirstRun.{IsFirstRun}
-use Rattle.xray_image.specs.Straight.{whats_of, IsStraightRun}
-use Rattle.xray_image.specs.UnitTable.{whole_unit, stored_whats}
+use Rattle.xray_image.specs.Straight.{whats_of, whats_in, IsStraightRun}
+use Rattle.xray_image.specs.UnitTable.{units_in}
 
 pub straight_run : (program : Program) → IsFirstRun program → IsStraightRun (whats_of program.units) (map (λ s. s.kind) program.sleds)
 straight_run program f = record {
@@ -36,13 +35,11 @@ first_run program run one = record {
 pub two_sleds : (program : Program) → IsFirstRun program → length program.sleds ≡ 2
 two_sleds program f = sym (length-map program.sleds (λ s. s.kind)) ∙ ap length f.kinds
 
--- a test of a program's units as they are stored, and of its sleds, tells whether it is a first run
-pub first_run_told : (program now : Program) (base : ℕ) (units stored : List StoredUnit) (sleds : List Sled) (told : Bool) → program ≡ now → map (whole_unit base) units ≡ program.units → stored ≡ units
-    → sleds ≡ program.sleds → length program.functions ≡ 1
-    → (IsTrue told ↔ IsStraightRun (stored_whats stored) (map (λ s. s.kind) sleds)) → IsTrue told ↔ IsFirstRun now
-first_run_told program now base units stored sleds told same us as_stored ss one tells =
-    let whats : stored_whats stored ≡ whats_of program.units = ap stored_whats as_stored ∙ sym (map-map (λ u. u.what) (whole_unit base) units) ∙ ap whats_of us in
+-- a test of a program's units and of its sleds tells whether it is a first run
+pub first_run_told : (program now : Program) (table : UnitTable) (sleds : List Sled) (told : Bool) → program ≡ now → units_in table ≡ program.units → sleds ≡ program.sleds → length program.functions ≡ 1
+    → (IsTrue told ↔ IsStraightRun (whats_in table) (map (λ s. s.kind) sleds)) → IsTrue told ↔ IsFirstRun now
+first_run_told program now table sleds told same us ss one tells =
     let here : IsTrue told ↔ IsStraightRun (whats_of program.units) (map (λ s. s.kind) program.sleds) =
     subst (λ (x : List Sled). IsTrue told ↔ IsStraightRun (whats_of program.units) (map (λ s. s.kind) x)) ss
-    (subst (λ (x : List What). IsTrue told ↔ IsStraightRun x (map (λ s. s.kind) sleds)) whats tells) in
+    (subst (λ (x : List Unit). IsTrue told ↔ IsStraightRun (whats_of x) (map (λ s. s.kind) sleds)) us tells) in
     subst (λ (p : Program). IsTrue told ↔ IsFirstRun p) same (λ t. first_run program (here.0 t) one, λ f. here.1 (straight_run program f))

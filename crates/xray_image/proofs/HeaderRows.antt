@@ -1,12 +1,12 @@
 -- The rows of the header: which of its fields is the first beyond its limits.
-use Rattle.std.proofs.Common.{◌≡◌, ℕ, ◌+◌, ◌<◌, ◌≤◌, ◌%◌, true, inl, inr, List, [], ◌∷◌, length, Err, refl, sym, subst, ◌∙◌, arith}
+use Rattle.std.proofs.Common.{◌≡◌, ℕ, ◌<◌, ◌≤◌, ◌%◌, true, inl, inr, List, [], ◌∷◌, length, Err, refl, sym, subst, ◌∙◌, arith}
 use Rattle.std.specs.Prelude.{◌⊎◌, codes, nat_eq}
 use Rattle.std.specs.List.{starts_with}
 use Rattle.std.proofs.lemmas.Grind.{common_steps}
 use Rattle.xray_image.specs.declared.fault.ImageFault.TheVariants as faults
 use Rattle.xray_image.specs.declared.fault.Which.TheVariants as limits
 use Rattle.xray_image.specs.declared.header.Header.{Header}
-use Rattle.xray_image.specs.Container.{magic, version, code_length, function_count, entry_count, entry_index, base_address}
+use Rattle.xray_image.specs.Container.{magic, version, code_length, function_count, entry_count, entry_index}
 use Rattle.xray_image.specs.Header.{HasHeader}
 use Rattle.xray_image.specs.Table.{Verdict, ReadsAs, ReadsParts}
 use Rattle.xray_image.specs.Views.{IsHeaderOf}

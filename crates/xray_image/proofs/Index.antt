@@ -1,12 +1,12 @@
 -- The index of the units grows by one.
-use Rattle.std.proofs.Common.{◌≡◌, ◌≢◌, ℕ, zero, suc, ◌+◌, ◌-◌, ◌*◌, ◌/◌, ◌%◌, ◌^◌, ◌<◌, ◌≤◌, List, [], length, get_or, set, refl, sym, ap, subst, ◌∙◌, arith, inl, inr}
+use Rattle.std.proofs.Common.{◌≡◌, ◌≢◌, ℕ, zero, suc, ◌+◌, ◌-◌, ◌*◌, ◌/◌, ◌^◌, ◌<◌, ◌≤◌, List, [], length, get_or, set, sym, ap, subst, ◌∙◌, arith, inl, inr}
 use Rattle.std.specs.Prelude.{Contains, Some, slice_get}
 use Rattle.std.proofs.lemmas.Option.{slice_get_within, get_or_from_slice_get}
 use Rattle.std.specs.List.Sorted.{IsStrictlyIncreasing}
 use Rattle.std.proofs.lemmas.Bool.{cases_eq, cases_lt}
 use Rattle.std.proofs.lemmas.List.Kept.{AllPairs-from_increasing}
 use Rattle.std.proofs.lemmas.List.Elements.{Contains-get_or}
-use Rattle.std.proofs.lemmas.List.{get_or-map, get_or-set_same, get_or-set_other, length-map, length-set}
+use Rattle.std.proofs.lemmas.List.{get_or-map, get_or-set_same, get_or-set_other, length-set}
 use Rattle.std.proofs.Math.Nat.{div-add-mod}
 use Rattle.std.proofs.lemmas.Nat.{mod_below}
 use Rattle.xray_image.specs.declared.unit.Unit.{Unit}
@@ -14,15 +14,10 @@ use Rattle.xray_image.specs.declared.unit_index.UnitIndex.{UnitIndex}
 use Rattle.xray_image.specs.Program.{addresses}
 use Rattle.xray_image.specs.Index.{AreWithin, IsNumbered, IsFirstOf, IsIndexOf, HasBegun, HasFirst}
 
-pub address_of : (units : List Unit) (i : ℕ) (u : Unit) → i < length units → u ≡ get_or units i u → get_or (addresses units) i 0 ≡ u.address
-address_of units i u lt e = get_or-map (λ v. v.address) units i u 0 lt ∙ ap (λ (v : Unit). v.address) (sym e)
-
--- the same where the unit was read
+-- the address of a unit that was read
 pub address_read : (units : List Unit) (i : ℕ) (u : Unit) → slice_get units i ≡ Some u → get_or (addresses units) i 0 ≡ u.address
-address_read units i u found = address_of units i u (slice_get_within units i u found) (sym (get_or_from_slice_get units i u u found))
-
-pub number_within : (units : List Unit) (i : ℕ) (u : Unit) → slice_get units i ≡ Some u → i < length (addresses units)
-number_within units i u found = omega (arith, slice_get_within units i u found, length-map units (λ v. v.address))
+address_read units i u found =
+    get_or-map (λ v. v.address) units i u 0 (slice_get_within units i u found) ∙ ap (λ (v : Unit). v.address) (get_or_from_slice_get units i u u found)
 
 -- a byte lies in its block
 in_block : (k : ℕ) → (128 * (k / 128) ≤ k) × (k < 128 * (k / 128) + 128)

@@ -28,3 +28,5 @@ pub mod Making
 pub mod ImageMade
 pub mod FileRows
 pub mod ReadOnce
+pub mod Summing
+pub mod Stored

@@ -1,20 +1,19 @@
 -- The functions that sleds lie in, in the order of the sleds.
 use Rattle.std.proofs.Common.{◌≡◌, ◌<◌, ◌≤◌, ◌+◌, ℕ, zero, suc, List, [], ◌∷◌, Bool, true, false, length, get_or, map, cond, Option, Some, None, All, refl, sym, ap, subst, ◌∙◌, ◌⊎◌, inl, inr, arith}
-use Rattle.std.specs.Prelude.{slice_get, Contains, nat_le, filter}
+use Rattle.std.specs.Prelude.{Contains, nat_le, filter}
 use Rattle.std.specs.List.{last_or}
 use Rattle.std.specs.List.Sorted.{IsStrictlyIncreasing, IsNonDecreasing, IsNonDecreasingBy}
-use Rattle.std.proofs.lemmas.Bool.{leb-true, leb-false, cases_eq}
+use Rattle.std.proofs.lemmas.Bool.{leb-true, leb-false}
 use Rattle.std.proofs.lemmas.List.{length-map, get_or-map}
-use Rattle.std.proofs.lemmas.List.Elements.{All-get_or, All-from_get_or}
+use Rattle.std.proofs.lemmas.List.Elements.{All-get_or}
 use Rattle.std.proofs.lemmas.Option.{none-some, same_Some, slice_get-get_or}
 use Rattle.std.proofs.lemmas.Simd.{map-map}
-use Rattle.xray_image.specs.declared.code_units.SledSpot.{SledSpot}
 use Rattle.xray_image.specs.declared.parts.FunctionEntry.{FunctionEntry}
 use Rattle.xray_image.specs.declared.parts.MapLine.{MapLine}
 use Rattle.xray_image.specs.Units.{Piece, Instruction, JumpSled, ReturnSled, Align, SledPlace, places_from}
 use Rattle.xray_image.specs.Container.{Function, MapEntry}
 use Rattle.xray_image.specs.Program.{LiesIn, IsEntryOf, EachSled}
-use Rattle.xray_image.specs.Views.{entry_of, function_of, place_of}
+use Rattle.xray_image.specs.Views.{entry_of, function_of}
 use Rattle.xray_image.proofs.Placement.{places_above}
 use Rattle.xray_image.proofs.Numbering.{not_falling}
 

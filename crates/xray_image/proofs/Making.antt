@@ -1,8 +1,8 @@
 -- Making the lists of an image, item by item.
-use Rattle.std.proofs.Common.{◌≡◌, ℕ, ◌+◌, ◌<◌, ◌≤◌, List, [], ◌∷◌, ◌++◌, Bool, length, get_or, take, map, min, not, refl, sym, ap, subst, ◌∙◌, arith}
+use Rattle.std.proofs.Common.{◌≡◌, ℕ, ◌+◌, ◌<◌, ◌≤◌, List, [], ◌∷◌, ◌++◌, length, get_or, take, map, not, sym, ap, subst, ◌∙◌, arith}
 use Rattle.std.specs.Prelude.{◌==◌, All, true}
 use Rattle.std.specs.List.{zip}
-use Rattle.std.proofs.lemmas.List.{map-append, take_more, take_all, length-map, get_or-map, get_or_default}
+use Rattle.std.proofs.lemmas.List.{take_more, take_all, length-map, get_or-map}
 use Rattle.std.proofs.lemmas.List.Elements.{All-get_or}
 use Rattle.std.proofs.lemmas.Slice.Zip.{length-zip, get_or-zip}
 use Rattle.xray_image.specs.declared.code_units.SledSpot.{SledSpot}
@@ -10,8 +10,7 @@ use Rattle.xray_image.specs.declared.parts.FunctionEntry.{FunctionEntry}
 use Rattle.xray_image.specs.declared.parts.MapLine.{MapLine}
 use Rattle.xray_image.specs.declared.sled.Sled.{Sled}
 use Rattle.xray_image.specs.declared.sled.SledKind.{SledKind}
-use Rattle.xray_image.specs.Units.{SledPlace}
-use Rattle.xray_image.specs.Container.{Function, MapEntry}
+use Rattle.xray_image.specs.Container.{Function}
 use Rattle.xray_image.specs.Program.{is_name_byte, id_of, kind_of, sled_of}
 use Rattle.xray_image.specs.Views.{entry_of, function_of, place_of}
 use Rattle.xray_image.proofs.FunctionRows.{zero_function}

@@ -1,5 +1,5 @@
 -- Bytes that begin as a sled, and begin no unit.
-use Rattle.std.proofs.Common.{◌≡◌, ◌≢◌, ℕ, ◌%◌, inl, inr, List, ◌∷◌, get_or, sym, ap, ◌∙◌, arith}
+use Rattle.std.proofs.Common.{◌≡◌, ◌≢◌, ℕ, ◌%◌, List, ◌∷◌, get_or, sym, ap, ◌∙◌, arith}
 use Rattle.subset_decode.specs.Encoding.{Begins}
 use Rattle.xray_image.specs.Units.{Piece, Instruction, JumpSled, ReturnSled, Align, IsSled, nop_bytes, piece_bytes}
 use Rattle.xray_image.specs.Table.{BeginsAsSled, StandsAt}

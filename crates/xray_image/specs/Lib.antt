@@ -14,3 +14,4 @@ pub mod Ids
 pub mod Extract
 pub mod Judging
 pub mod UnitTable
+pub mod RunningSums

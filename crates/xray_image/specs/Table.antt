@@ -7,8 +7,8 @@ use Rattle.xray_image.specs.declared.fault.ImageFault.{ImageFault}
 use Rattle.xray_image.specs.declared.fault.ImageFault.TheVariants as faults
 use Rattle.xray_image.specs.declared.fault.Which.TheVariants as limits
 use Rattle.xray_image.specs.declared.unit.Unit.{Unit}
-use Rattle.xray_image.specs.Units.{Piece, Instruction, JumpSled, ReturnSled, Align, IsPiece, piece_bytes, SledPlace, places_from, units_from}
-use Rattle.xray_image.specs.Container.{Function, MapEntry, Parts, magic, version, base_address, code_length, function_count, entry_count, entry_index, parts_of}
+use Rattle.xray_image.specs.Units.{Piece, Instruction, JumpSled, ReturnSled, Align, IsPiece, piece_bytes, SledPlace, places_from}
+use Rattle.xray_image.specs.Container.{Function, MapEntry, magic, version, base_address, code_length, function_count, entry_count, entry_index, parts_of}
 use Rattle.xray_image.specs.Program.{Program, IsFunction, IsEntryOf, Reaches, BranchReaches, addresses, program_of}
 
 -- what reading a file comes to: the program that it holds, or why it is refused

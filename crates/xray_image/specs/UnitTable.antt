@@ -1,36 +1,42 @@
--- Units as they are stored.
-use Rattle.std.specs.Prelude.{◌+◌, ℕ, List, map}
-use Rattle.subset_decode.specs.declared.instr.Instr.TheVariants as instrs
+-- The units of a code, as they are told by the code and by where they begin.
+use Rattle.std.specs.Prelude.{◌≡◌, ◌<◌, ◌≤◌, ◌+◌, ◌^◌, ◌==◌, ◌||◌, ◌&&◌, ℕ, Bool, false, List, [], ◌∷◌, length, drop, map, slice_index, Result, Ok, Err, if◌then◌else◌}
+use Rattle.std.specs.List.{zip}
+use Rattle.subset_decode.specs.declared.instr.Instr.{Instr}
+use Rattle.subset_decode.specs.declared.fault.DecodeFault.{DecodeFault}
+use Rattle.subset_decode.specs.Reading.{first_instr}
 use Rattle.xray_image.specs.declared.unit.What.{What}
 use Rattle.xray_image.specs.declared.unit.What.TheVariants as whats
 use Rattle.xray_image.specs.declared.unit.Unit.{Unit}
-use Rattle.xray_image.specs.declared.unit.StoredWhat.{StoredWhat}
-use Rattle.xray_image.specs.declared.unit.StoredWhat.TheVariants as stored
-use Rattle.xray_image.specs.declared.unit.StoredUnit.{StoredUnit}
 use Rattle.xray_image.specs.declared.unit.UnitTable.{UnitTable}
+use Rattle.xray_image.specs.RunningSums.{sums_in, IsSound}
 
-abbrev pub whole_what : StoredWhat → What
-whole_what (stored.Mov dst imm) = whats.Plain (instrs.Mov dst imm)
-whole_what (stored.Add dst src) = whats.Plain (instrs.Add dst src)
-whole_what (stored.Sub dst src) = whats.Plain (instrs.Sub dst src)
-whole_what (stored.Push reg) = whats.Plain (instrs.Push reg)
-whole_what (stored.Pop reg) = whats.Plain (instrs.Pop reg)
-whole_what (stored.Call rel) = whats.Plain (instrs.Call rel)
-whole_what (stored.Jmp rel) = whats.Plain (instrs.Jmp rel)
-whole_what (stored.Jnz rel) = whats.Plain (instrs.Jnz rel)
-whole_what stored.Ret = whats.Plain instrs.Ret
-whole_what (stored.Out port) = whats.Plain (instrs.Out port)
-whole_what (stored.Sled number) = whats.Sled number
-whole_what stored.Pad = whats.Pad
+-- bytes begin as a sled
+abbrev pub starts_sled : List ℕ → Bool
+starts_sled [] = false
+starts_sled (b ∷ rest) = (b == 0xEB) || ((b == 0xC3) && (slice_index rest 0 == 0x2E))
 
--- a unit by its place in a code
-abbrev pub whole_unit : ℕ → StoredUnit → Unit
-whole_unit base unit = record { address = base + unit.place; what = whole_what unit.what }
+-- an instruction, or the alignment byte, which is none
+abbrev pub instr_or_pad : Result Instr DecodeFault → What
+instr_or_pad (Ok instr) = whats.Plain instr
+instr_or_pad (Err fault) = whats.Pad
 
--- what units are
-abbrev pub stored_whats : List StoredUnit → List What
-stored_whats units = map (λ u. whole_what u.what) units
+-- what the unit is that stands in front of the bytes, where sleds before it are counted
+abbrev pub what_at : ℕ → List ℕ → What
+what_at sleds bytes = if starts_sled bytes then whats.Sled sleds else instr_or_pad (first_instr bytes)
+
+-- the unit at a place of a code with a base, where sleds before it are counted
+abbrev pub unit_at : ℕ → List ℕ → ℕ × ℕ → Unit
+unit_at base code (place, sleds) = record { address = base + place; what = what_at sleds (drop place code) }
 
 -- the units of a table
 abbrev pub units_in : UnitTable → List Unit
-units_in table = map (whole_unit table.base) table.units.items
+units_in table = map (unit_at table.base table.code.items) (zip (sums_in table.places) (sums_in table.sleds))
+
+-- each place has its count of sleds, and lies within the code
+pub record IsSoundTable (table : UnitTable) : Type 0 where
+  pub low : table.base < 2 ^ 63
+  pub short : length table.code.items < 2 ^ 32
+  pub places : IsSound table.places
+  pub sleds : IsSound table.sleds
+  pub paired : length (sums_in table.places) ≡ length (sums_in table.sleds)
+  pub within : table.places.total ≤ length table.code.items

@@ -1,5 +1,5 @@
 -- What the reader's own structs say, for the contracts of its private functions.
-use Rattle.std.specs.Prelude.{◌≡◌, ℕ, List, [], map, slice_get}
+use Rattle.std.specs.Prelude.{◌≡◌, ℕ, List, [], length, map, slice_get}
 use Rattle.xray_image.specs.declared.header.Header.{Header}
 use Rattle.xray_image.specs.declared.header.Trampolines.{Trampolines as Addresses}
 use Rattle.xray_image.specs.Program.{Trampolines, Program, sled_of}
@@ -19,8 +19,8 @@ use Rattle.xray_image.specs.Table.{BeginsAsSled}
 use Rattle.xray_image.specs.Units.{SledPlace, Piece, Instruction, JumpSled, ReturnSled, Align}
 use Rattle.xray_image.specs.declared.parts.MapLine.{MapLine}
 use Rattle.xray_image.specs.declared.parts.FileParts.{FileParts}
-use Rattle.xray_image.specs.UnitTable.{units_in}
-use Rattle.xray_image.specs.Container.{Function, MapEntry, Parts, version, base_address, code_length, function_count, entry_count, entry_index, number8_at, parts_of}
+use Rattle.xray_image.specs.UnitTable.{units_in, IsSoundTable}
+use Rattle.xray_image.specs.Container.{Function, MapEntry, Parts, version, base_address, code_length, function_count, entry_count, entry_index, number8_at}
 
 abbrev pub trampolines_of : Addresses → Trampolines
 trampolines_of t = record { entry = t.entry; exit = t.exit; tail = t.tail }
@@ -69,6 +69,14 @@ fault_at place (none.Code fault) = faults.Code place fault
 -- the sleds that are found
 abbrev pub places_in : CodeUnits → List SledPlace
 places_in u = map place_of u.sleds.items
+
+-- the tables are those of a code up to a place
+pub record AreTablesTo (base : ℕ) (code : List ℕ) (at : ℕ) (u : CodeUnits) : Type 0 where
+  pub sound : IsSoundTable u.units
+  pub same_base : u.units.base ≡ base
+  pub same_code : u.units.code.items ≡ code
+  pub place : u.units.places.total ≡ at
+  pub sleds : u.units.sleds.total ≡ length u.sleds.items
 
 -- the program that the header, the parts and the units tell
 abbrev pub program_read : Header → FileParts → CodeUnits → Program

@@ -7,7 +7,7 @@ ghost use Rattle.xray_image.specs.declared.unit.Unit.{Unit};
 ghost use Rattle.xray_image.specs.Index.{AreWithin, IsIndexOf};
 ghost use Rattle.xray_image.specs.Program.{addresses, branch_target, BranchReaches};
 ghost use Rattle.xray_image.specs.Reading.{IsFirstFault};
-ghost use Rattle.xray_image.specs.UnitTable.{units_in};
+ghost use Rattle.xray_image.specs.UnitTable.{units_in, IsSoundTable};
 ghost use Rattle.xray_image.specs.Table.{BranchesRightly, place_of_unit};
 
 use crate::fault::ImageFault;
@@ -67,7 +67,7 @@ pub(crate) fn check_branches(
 ) -> Result<(), ImageFault>
     requires index { IsIndexOf (addresses (units_in units.now)) index.now }
     requires base { base < 2 ^ 63 }
-    requires low { units.now.base < 2 ^ 63 }
+    requires sound { IsSoundTable units.now }
     requires within { AreWithin base (2 ^ 32) (addresses (units_in units.now)) }
     ensures right { OnOk result ((i : ℕ) → BranchesRightly (units_in units.now) i) }
     ensures refused { IfErr result (IsFirstFault (BranchesRightly (units_in units.now))

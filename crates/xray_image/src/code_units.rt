@@ -1,20 +1,16 @@
 //! All units of a code, and the sleds among them.
 
 ghost use Rattle.std.specs.Prelude.{◌≡◌, ◌≤◌, ◌<◌, ◌^◌, ◌+◌, ◌⊎◌, [], ◌∷◌, ◌++◌, length, OnOk, IfOk, IfErr};
-ghost use Rattle.xray_image.specs.Units.{what_of, units_from, places_from};
+ghost use Rattle.xray_image.specs.Units.{sleds_in, places_from};
 ghost use Rattle.xray_image.specs.Reading.{HasUnits, IsReadTo};
 ghost use Rattle.xray_image.specs.Table.{StopsAt};
-ghost use Rattle.xray_image.specs.UnitTable.{units_in};
-ghost use Rattle.xray_image.specs.Views.{piece_of, places_in, fault_at};
+ghost use Rattle.xray_image.specs.UnitTable.{unit_at, units_in, IsSoundTable};
+ghost use Rattle.xray_image.specs.Views.{piece_of, places_in, fault_at, AreTablesTo};
 
 use crate::fault::ImageFault;
-use crate::unit::{Unit, UnitTable, What};
+use crate::unit::UnitTable;
 use crate::unit_reader::{NoUnit, RawUnit, read_unit};
 use std::alloc::Global;
-
-/// How long units are on the average, in bytes, where the table of units doesn't grow while they are
-/// read.
-const MEAN_LENGTH: usize = 3;
 
 /// A sled as the code alone tells it.
 #[derive(Clone, Copy)]
@@ -47,56 +43,49 @@ impl NoUnit {
 }
 
 impl CodeUnits {
-    /// Adds a sled, and gives its unit.
-    fn add_sled(&mut self, address: u64, shift: u32, returns: bool) -> Result<What, ImageFault>
-        requires { length self.old.sleds.items < 2 ^ 32 }
-        ensures what { IfOk result (λ what. what ≡ What.Sled (length self.old.sleds.items)) }
-        ensures sleds { OnOk result (self.new.sleds.items ≡ self.old.sleds.items
-            ++ record { address = address; shift = shift; returns = returns } ∷ []) }
+    /// Adds the sled that stands at an address, where the unit there is one.
+    fn add_sled(&mut self, address: u64, raw: RawUnit) -> Result<(), ImageFault>
+        ensures sleds { OnOk result (places_in self.new ≡ places_in self.old
+            ++ places_from address (piece_of raw ∷ [])) }
         ensures units { self.new.units ≡ self.old.units }
         ensures full { IfErr result (λ fault. fault ≡ ImageFault.NoMemory) }
     {
-        let number = self.sleds.len() as u32;
+        let (shift, returns) = match raw {
+            RawUnit::Instruction(_) | RawUnit::Align => return Ok(()),
+            RawUnit::JumpSled(shift) => (shift, false),
+            RawUnit::ReturnSled(shift) => (shift, true),
+        };
         self.sleds.push(SledSpot {
             address,
             shift,
             returns,
         })?;
-        Ok(What::Sled(number))
+        Ok(())
     }
 
-    /// What the unit is. A sled is added.
-    fn classify(&mut self, address: u64, raw: RawUnit) -> Result<What, ImageFault>
-        requires { length self.old.sleds.items < 2 ^ 32 }
-        ensures what { IfOk result (λ what.
-            what ≡ what_of (length self.old.sleds.items) (piece_of raw)) }
-        ensures sleds { OnOk result (places_in self.new ≡ places_in self.old
-            ++ places_from address (piece_of raw ∷ [])) }
-        ensures units { self.new.units ≡ self.old.units }
-        ensures full { IfErr result (λ fault. fault ≡ ImageFault.NoMemory) }
-    {
-        match raw {
-            RawUnit::Instruction(instr) => Ok(What::Plain(instr)),
-            RawUnit::JumpSled(shift) => self.add_sled(address, shift, false),
-            RawUnit::ReturnSled(shift) => self.add_sled(address, shift, true),
-            RawUnit::Align => Ok(What::Pad),
-        }
-    }
-
-    /// Adds the unit at an address.
-    fn add(&mut self, address: u64, raw: RawUnit) -> Result<(), ImageFault>
-        requires sleds { length self.old.sleds.items < 2 ^ 32 }
-        requires above { self.old.units.base ≤ address }
-        requires near { address < self.old.units.base + 2 ^ 32 }
-        ensures base { OnOk result (self.new.units.base ≡ self.old.units.base) }
+    /// Adds the unit of a width that stands at an address, behind the others.
+    fn add(&mut self, address: u64, raw: RawUnit, width: u32) -> Result<(), ImageFault>
+        requires sound { IsSoundTable self.old.units }
+        requires width { width ≤ 17 }
+        requires within { self.old.units.places.total + width ≤ length self.old.units.code.items }
+        requires few { self.old.units.sleds.total + 1 < 2 ^ 32 }
         ensures units { OnOk result (units_in self.new.units ≡ units_in self.old.units
-            ++ units_from address (length self.old.sleds.items) (piece_of raw ∷ [])) }
+            ++ unit_at self.old.units.base self.old.units.code.items
+            (self.old.units.places.total, self.old.units.sleds.total) ∷ []) }
         ensures sleds { OnOk result (places_in self.new ≡ places_in self.old
             ++ places_from address (piece_of raw ∷ [])) }
+        ensures base { OnOk result (self.new.units.base ≡ self.old.units.base) }
+        ensures code { OnOk result (self.new.units.code ≡ self.old.units.code) }
+        ensures place { OnOk result (self.new.units.places.total
+            ≡ self.old.units.places.total + width) }
+        ensures counted { OnOk result (self.new.units.sleds.total
+            ≡ self.old.units.sleds.total + sleds_in (piece_of raw)) }
+        ensures sound { OnOk result (IsSoundTable self.new.units) }
         ensures full { IfErr result (λ fault. fault ≡ ImageFault.NoMemory) }
     {
-        let what = self.classify(address, raw)?;
-        self.units.push(Unit { address, what })?;
+        let sleds = raw.sleds();
+        self.add_sled(address, raw)?;
+        self.units.push(width, sleds)?;
         Ok(())
     }
 
@@ -105,9 +94,9 @@ impl CodeUnits {
         requires base { base < 2 ^ 63 }
         requires code { length code.now < 2 ^ 32 }
         requires left { at < length code.now }
-        requires table { self.old.units.base ≡ base }
+        requires tables { AreTablesTo base code.now at self.old }
         requires read { IsReadTo base code.now at (units_in self.old.units) (places_in self.old) }
-        ensures table { OnOk result (self.new.units.base ≡ base) }
+        ensures tables { IfOk result (λ next. AreTablesTo base code.now next self.new) }
         ensures read { IfOk result (λ next.
             IsReadTo base code.now next (units_in self.new.units) (places_in self.new)) }
         ensures next { IfOk result (λ next. at < next) }
@@ -118,7 +107,7 @@ impl CodeUnits {
         let (_, left) = code.split_at(at);
         match read_unit(address, left) {
             Ok((raw, length)) => {
-                self.add(address, raw)?;
+                self.add(address, raw, length as u32)?;
                 Ok(at + length)
             }
             Err(none) => Err(none.at(at as u32)),
@@ -132,12 +121,12 @@ impl CodeUnits {
         requires code { length code.now < 2 ^ 32 }
         ensures found { IfOk result (λ read.
             HasUnits base code.now (units_in read.units) (places_in read)) }
-        ensures table { IfOk result (λ read. read.units.base ≡ base) }
+        ensures tables { IfOk result (AreTablesTo base code.now (length code.now)) }
         ensures refused { IfErr result (λ fault. (fault ≡ ImageFault.NoMemory)
             ⊎ StopsAt base code.now fault) }
     {
         let mut read = CodeUnits {
-            units: UnitTable::with_room(alloc, base, code.len() / MEAN_LENGTH + 1)?,
+            units: UnitTable::new(alloc, base, code)?,
             sleds: Vec::new(alloc),
         };
         let mut at = 0;

@@ -39,7 +39,6 @@ impl Function {
 pub struct Image {
     base: u64,
     entry: u64,
-    code: Vec<u8>,
     functions: Vec<Function>,
     units: UnitTable,
     sleds: Vec<Sled>,
@@ -86,7 +85,7 @@ impl Image {
     pub fn code(&self) -> &[u8]
         ensures { result.now ≡ self.now.code }
     {
-        &self.code
+        self.units.code()
     }
 
     /// How many functions there are.

@@ -13,6 +13,7 @@ mod ids;
 mod image;
 mod laws;
 mod parts;
+mod running_sums;
 mod sled;
 mod sled_map;
 mod unit;

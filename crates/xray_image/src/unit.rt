@@ -1,10 +1,13 @@
 //! The units of a code, and how they are stored.
 
 ghost use Rattle.std.specs.Prelude.{◌≡◌, ◌≤◌, ◌<◌, ◌+◌, ◌^◌, [], ◌∷◌, ◌++◌, length, slice_get, Some, IfOk, OnOk};
-ghost use Rattle.xray_image.specs.UnitTable.{whole_what, whole_unit, units_in};
+ghost use Rattle.xray_image.specs.Program.{addresses};
+ghost use Rattle.xray_image.specs.UnitTable.{unit_at, units_in, IsSoundTable};
 
+use crate::running_sums::RunningSums;
+use crate::unit_reader::what_stands;
 use std::alloc::{AllocError, Global};
-use subset_decode::{Instr, Reg};
+use subset_decode::Instr;
 
 /// What a unit of the code is.
 #[derive(Clone, Copy, Debug, PartialEq, Eq)]
@@ -26,168 +29,95 @@ pub struct Unit {
     pub what: What,
 }
 
-/// What a unit is, in one enum: the instructions beside sleds and alignment bytes. It takes 8 bytes, where
-/// an `Instr` inside a `What` takes 12.
-#[derive(Clone, Copy, Debug)]
-enum StoredWhat {
-    Mov { dst: Reg, imm: u32 },
-    Add { dst: Reg, src: Reg },
-    Sub { dst: Reg, src: Reg },
-    Push { reg: Reg },
-    Pop { reg: Reg },
-    Call { rel: i32 },
-    Jmp { rel: i32 },
-    Jnz { rel: i32 },
-    Ret,
-    Out { port: u8 },
-    Sled(u32),
-    Pad,
-}
-
-impl StoredWhat {
-    /// An instruction, as it is stored.
-    fn of(instr: Instr) -> StoredWhat
-        ensures { whole_what result ≡ What.Plain instr }
-    {
-        match instr {
-            Instr::Mov { dst, imm } => StoredWhat::Mov { dst, imm },
-            Instr::Add { dst, src } => StoredWhat::Add { dst, src },
-            Instr::Sub { dst, src } => StoredWhat::Sub { dst, src },
-            Instr::Push { reg } => StoredWhat::Push { reg },
-            Instr::Pop { reg } => StoredWhat::Pop { reg },
-            Instr::Call { rel } => StoredWhat::Call { rel },
-            Instr::Jmp { rel } => StoredWhat::Jmp { rel },
-            Instr::Jnz { rel } => StoredWhat::Jnz { rel },
-            Instr::Ret => StoredWhat::Ret,
-            Instr::Out { port } => StoredWhat::Out { port },
-        }
-    }
-
-    /// What a unit is, as it is stored.
-    fn new(what: What) -> StoredWhat
-        ensures { whole_what result ≡ what }
-    {
-        match what {
-            What::Plain(instr) => StoredWhat::of(instr),
-            What::Sled(number) => StoredWhat::Sled(number),
-            What::Pad => StoredWhat::Pad,
-        }
-    }
-
-    /// What the unit is.
-    fn whole(self) -> What
-        ensures { result ≡ whole_what self }
-    {
-        let instr = match self {
-            StoredWhat::Mov { dst, imm } => Instr::Mov { dst, imm },
-            StoredWhat::Add { dst, src } => Instr::Add { dst, src },
-            StoredWhat::Sub { dst, src } => Instr::Sub { dst, src },
-            StoredWhat::Push { reg } => Instr::Push { reg },
-            StoredWhat::Pop { reg } => Instr::Pop { reg },
-            StoredWhat::Call { rel } => Instr::Call { rel },
-            StoredWhat::Jmp { rel } => Instr::Jmp { rel },
-            StoredWhat::Jnz { rel } => Instr::Jnz { rel },
-            StoredWhat::Ret => Instr::Ret,
-            StoredWhat::Out { port } => Instr::Out { port },
-            StoredWhat::Sled(number) => return What::Sled(number),
-            StoredWhat::Pad => return What::Pad,
-        };
-        What::Plain(instr)
-    }
-}
-
-/// A unit as it is stored, in 12 bytes.
-#[derive(Clone, Copy, Debug)]
-pub(crate) struct StoredUnit {
-    /// The place of its first byte in the code, in bytes from the code's start.
-    place: u32,
-    what: StoredWhat,
-}
-
-impl StoredUnit {
-    /// What it is.
-    pub(crate) fn what(self) -> What
-        ensures { result ≡ whole_what self.what }
-    {
-        self.what.whole()
-    }
-
-    /// The unit, in a code whose first byte has the address `base`.
-    fn whole(self, base: u64) -> Unit
-        requires { base < 2 ^ 63 }
-        ensures { result ≡ whole_unit base self }
-    {
-        Unit {
-            address: base + u64::from(self.place),
-            what: self.what.whole(),
-        }
-    }
-}
-
-/// The units of a code, in ascending address.
+/// The units of a code, in ascending address: the code itself, and where they begin. A unit is read
+/// from the code where it is asked for.
 #[derive(Debug, Drop)]
 pub(crate) struct UnitTable {
     /// The address of the code's first byte.
     base: u64,
-    units: Vec<StoredUnit>,
+    code: Vec<u8>,
+    /// The places of the units in the code: each the sum of the lengths before it.
+    places: RunningSums,
+    /// How many sleds stand before each unit.
+    sleds: RunningSums,
 }
 
 impl UnitTable {
-    /// A table without units, for a code whose first byte has the address `base`.
-    pub(crate) fn new(alloc: Global, base: u64) -> UnitTable
-        ensures units { units_in result ≡ [] }
-        ensures base { result.base ≡ base }
-    {
-        UnitTable {
-            base,
-            units: Vec::new(alloc),
-        }
-    }
-
-    /// The same with room for this many units, so that adding them takes no memory and leaves none unused.
-    pub(crate) fn with_room(alloc: Global, base: u64, room: usize) -> Result<UnitTable, AllocError>
+    /// A table without units, for a code whose first byte has the address `base`. It has room for all
+    /// units that so many bytes may be, so that adding them takes no memory.
+    pub(crate) fn new(alloc: Global, base: u64, code: &[u8]) -> Result<UnitTable, AllocError>
+        requires low { base < 2 ^ 63 }
+        requires short { length code.now < 2 ^ 32 }
         ensures units { IfOk result (λ table. units_in table ≡ []) }
         ensures base { IfOk result (λ table. table.base ≡ base) }
+        ensures code { IfOk result (λ table. table.code.items ≡ code.now) }
+        ensures place { IfOk result (λ table. table.places.total ≡ 0) }
+        ensures sleds { IfOk result (λ table. table.sleds.total ≡ 0) }
+        ensures sound { IfOk result IsSoundTable }
     {
         Ok(UnitTable {
             base,
-            units: Vec::with_capacity(alloc, room)?,
+            code: Vec::from_slice(alloc, code)?,
+            places: RunningSums::with_room(alloc, code.len())?,
+            sleds: RunningSums::with_room(alloc, code.len())?,
         })
     }
 
-    /// Adds a unit behind the others.
-    pub(crate) fn push(&mut self, unit: Unit) -> Result<(), AllocError>
-        requires above { self.old.base ≤ unit.address }
-        requires near { unit.address < self.old.base + 2 ^ 32 }
-        ensures units { OnOk result (units_in self.new ≡ units_in self.old ++ unit ∷ []) }
-        ensures base { self.new.base ≡ self.old.base }
+    /// Adds the unit that stands behind the others, by its width in bytes and how many sleds it is.
+    pub(crate) fn push(&mut self, width: u32, sleds: u32) -> Result<(), AllocError>
+        requires sound { IsSoundTable self.old }
+        requires width { width ≤ 17 }
+        requires sleds { sleds ≤ 1 }
+        requires within { self.old.places.total + width ≤ length self.old.code.items }
+        requires few { self.old.sleds.total + sleds < 2 ^ 32 }
+        ensures units { OnOk result (units_in self.new ≡ units_in self.old
+            ++ unit_at self.old.base self.old.code.items (self.old.places.total, self.old.sleds.total) ∷ []) }
+        ensures base { OnOk result (self.new.base ≡ self.old.base) }
+        ensures code { OnOk result (self.new.code ≡ self.old.code) }
+        ensures place { OnOk result (self.new.places.total ≡ self.old.places.total + width) }
+        ensures sleds { OnOk result (self.new.sleds.total ≡ self.old.sleds.total + sleds) }
+        ensures sound { OnOk result (IsSoundTable self.new) }
     {
-        let place = (unit.address - self.base) as u32;
-        let what = StoredWhat::new(unit.what);
-        self.units.push(StoredUnit { place, what })?;
+        self.places.push(width)?;
+        self.sleds.push(sleds)?;
         Ok(())
+    }
+
+    /// The bytes of the code.
+    pub(crate) fn code(&self) -> &[u8]
+        ensures { result.now ≡ self.now.code.items }
+    {
+        &self.code
     }
 
     /// How many units there are.
     pub(crate) fn len(&self) -> usize
+        requires { IsSoundTable self.now }
         ensures { result ≡ length (units_in self.now) }
     {
-        self.units.len()
+        self.places.len()
     }
 
-    /// The units as they are stored.
-    pub(crate) fn as_slice(&self) -> &[StoredUnit]
-        ensures { result.now ≡ self.now.units.items }
+    /// The address of the unit of a number, from 0.
+    pub(crate) fn address(&self, number: usize) -> u64
+        requires exists { number < length (units_in self.now) }
+        requires sound { IsSoundTable self.now }
+        ensures { slice_get (addresses (units_in self.now)) number ≡ Some result }
     {
-        &self.units
+        self.base + u64::from(self.places.get(number))
     }
 
     /// The unit of a number, from 0.
     pub(crate) fn get(&self, number: usize) -> Unit
         requires exists { number < length (units_in self.now) }
-        requires low { self.now.base < 2 ^ 63 }
+        requires sound { IsSoundTable self.now }
         ensures { slice_get (units_in self.now) number ≡ Some result }
     {
-        self.units[number].whole(self.base)
+        let place = self.places.get(number);
+        let (_, bytes) = self.code.split_at(place as usize);
+        Unit {
+            address: self.base + u64::from(place),
+            what: what_stands(bytes, self.sleds.get(number)),
+        }
     }
 }

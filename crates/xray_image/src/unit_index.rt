@@ -4,7 +4,7 @@ ghost use Rattle.std.specs.Prelude.{◌≡◌, ◌≤◌, ◌<◌, ◌+◌, ◌-
 ghost use Rattle.std.specs.List.Sorted.{IsStrictlyIncreasing};
 ghost use Rattle.xray_image.specs.Program.{addresses};
 ghost use Rattle.xray_image.specs.Index.{AreWithin, IsIndexOf, HasBegun};
-ghost use Rattle.xray_image.specs.UnitTable.{units_in};
+ghost use Rattle.xray_image.specs.UnitTable.{units_in, IsSoundTable};
 
 use crate::unit::UnitTable;
 use std::alloc::{AllocError, Global};
@@ -73,7 +73,7 @@ impl UnitIndex {
         requires within { AreWithin base code_length (addresses (units_in units.now)) }
         requires ascending { IsStrictlyIncreasing (addresses (units_in units.now)) }
         requires few { length (units_in units.now) < 2 ^ 32 - 1 }
-        requires low { units.now.base < 2 ^ 63 }
+        requires sound { IsSoundTable units.now }
         ensures index { IfOk result (IsIndexOf (addresses (units_in units.now))) }
     {
         let mut index = UnitIndex {
@@ -82,8 +82,8 @@ impl UnitIndex {
             steps: vec![in alloc; NO_UNIT; code_length]?,
         };
         for number in 0..units.len() {
-            let unit = units.get(number);
-            index.add((unit.address - base) as usize, number as u32)?;
+            let address = units.address(number);
+            index.add((address - base) as usize, number as u32)?;
         }
         Ok(index)
     }

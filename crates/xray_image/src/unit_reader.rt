@@ -2,11 +2,13 @@
 
 ghost use Rattle.std.specs.Prelude.{◌≡◌, ◌≤◌, ◌<◌, ◌+◌, ◌^◌, ◌↔◌, ℕ, List, ◌∷◌, ◌++◌, length, drop, MatchOption, IfSome, IsSome, IsTrue, IfOk, IfErr, OnErr};
 ghost use Rattle.subset_decode.specs.Encoding.{Begins};
-ghost use Rattle.xray_image.specs.Units.{Piece, JumpSled, ReturnSled, piece_bytes, nop_bytes, IsPiece, IsSled};
+ghost use Rattle.xray_image.specs.Units.{Piece, JumpSled, ReturnSled, piece_bytes, nop_bytes, what_of, sleds_in, IsPiece, IsSled};
 ghost use Rattle.xray_image.specs.Table.{BeginsAsSled, StandsAt};
+ghost use Rattle.xray_image.specs.UnitTable.{what_at};
 ghost use Rattle.xray_image.specs.Views.{piece_of, IsNoUnit};
 
 use crate::fields::u32_at;
+use crate::unit::What;
 use subset_decode::{DecodeFault, Instr, decode};
 
 /// The first byte of an entry or tail sled: a short jump.
@@ -41,6 +43,18 @@ pub(crate) enum RawUnit {
     ReturnSled(u32),
     /// The alignment byte.
     Align,
+}
+
+impl RawUnit {
+    /// How many sleds it is.
+    pub(crate) fn sleds(&self) -> u32
+        ensures { result ≡ sleds_in (piece_of self.now) }
+    {
+        match *self {
+            RawUnit::Instruction(_) | RawUnit::Align => 0,
+            RawUnit::JumpSled(_) | RawUnit::ReturnSled(_) => 1,
+        }
+    }
 }
 
 /// Why no unit stands at an address.
@@ -99,6 +113,9 @@ pub(crate) fn read_unit(address: u64, bytes: &[u8]) -> Result<(RawUnit, usize), 
     requires { 0 < length bytes.now }
     ensures found { IfOk result (λ x. StandsAt address bytes.now (piece_of x.0) (drop x.1 bytes.now)) }
     ensures length { IfOk result (λ x. x.1 ≡ length (piece_bytes (piece_of x.0))) }
+    // Behind so many sleds it is what `what_stands` tells.
+    ensures what { IfOk result (λ x. (sleds : ℕ)
+        → what_at sleds bytes.now ≡ what_of sleds (piece_of x.0)) }
     ensures none { OnErr result ((piece : Piece) (rest : List ℕ)
         → StandsAt address bytes.now piece rest → ⊥) }
     ensures why { IfErr result (IsNoUnit bytes.now) }
@@ -118,5 +135,19 @@ pub(crate) fn read_unit(address: u64, bytes: &[u8]) -> Result<(RawUnit, usize), 
     match decode(bytes, 0) {
         Ok((instr, length)) => Ok((RawUnit::Instruction(instr), length)),
         Err(fault) => Err(NoUnit::Code(fault)),
+    }
+}
+
+/// What the unit is that stands where these bytes begin, of which some unit does: with no look at the
+/// nop of a sled, or at its address. What is no sled and no instruction is the alignment byte.
+pub(crate) fn what_stands(bytes: &[u8], sleds: u32) -> What
+    ensures { result ≡ what_at sleds bytes.now }
+{
+    if begins_as_sled(bytes) {
+        return What::Sled(sleds);
+    }
+    match decode(bytes, 0) {
+        Ok((instr, _)) => What::Plain(instr),
+        Err(_) => What::Pad,
     }
 }

@@ -8,7 +8,7 @@ ghost use Rattle.xray_image.specs.Index.{AreWithin, IsIndexOf};
 ghost use Rattle.xray_image.specs.Judging.{IsJudged};
 ghost use Rattle.xray_image.specs.Program.{Program, IsAccepted, addresses, is_name_byte};
 ghost use Rattle.xray_image.specs.Table.{Verdict, ReadsAs, ReadsProgram};
-ghost use Rattle.xray_image.specs.UnitTable.{units_in};
+ghost use Rattle.xray_image.specs.UnitTable.{units_in, IsSoundTable};
 ghost use Rattle.xray_image.specs.Views.{entry_of, function_of, places_in, program_read};
 
 use crate::branches::check_branches;
@@ -35,7 +35,7 @@ fn check_program(
     index: &UnitIndex,
 ) -> Result<(), ImageFault>
     requires index { IsIndexOf (addresses (units_in code.now.units)) index.now }
-    requires low { code.now.units.base < 2 ^ 63 }
+    requires sound { IsSoundTable code.now.units }
     requires base { header.now.base < 2 ^ 63 }
     requires within { AreWithin header.now.base (2 ^ 32) (addresses (units_in code.now.units)) }
     requires functions { length parts.now.functions.items < 2 ^ 32 }
@@ -85,6 +85,8 @@ fn image_of(
     requires ascend { IsNonDecreasingBy (λ place. place.address) (places_in code) }
     requires index { IsIndexOf (addresses (units_in code.units)) index }
     requires table { code.units.base ≡ header.now.base }
+    requires code { code.units.code.items ≡ parts.now.code.now }
+    requires sound { IsSoundTable code.units }
     requires entry { header.now.entry_index < length parts.now.functions.items }
     requires functions { length parts.now.functions.items < 2 ^ 32 }
     requires lines { length parts.now.entries.items < 2 ^ 32 }
@@ -96,7 +98,6 @@ fn image_of(
     Ok(Image {
         base: header.base,
         entry: parts.functions[header.entry_index as usize].start,
-        code: Vec::from_slice(alloc, parts.code)?,
         functions,
         units: code.units,
         sleds,
@@ -144,6 +145,6 @@ impl Image {
     pub fn is_first_run(&self) -> bool
         ensures { IsTrue result ↔ IsFirstRun self.now }
     {
-        self.functions.len() == 1 && is_straight_run(self.units.as_slice(), &self.sleds)
+        self.functions.len() == 1 && is_straight_run(&self.units, &self.sleds)
     }
 }

@@ -1,4 +1,4 @@
-use Rattle.subset_decode.proofs.Decoding.{stands, refuses, decodes_found, decodes_refused}
+use Rattle.subset_decode.proofs.Decoding.{stands, refuses, decodes_found, decodes_refused, first_found, first_refused}
 use Rattle.subset_decode.proofs.reading.decode.Goals as goal
 
 pub overflow_sub-result : goal.overflow_sub-result
@@ -34,3 +34,11 @@ returns-in-Err-clause-fault c =
 pub returns-in-Err-clause-exact : goal.returns-in-Err-clause-exact
 returns-in-Err-clause-exact c =
     (decodes_refused c.args.bytes.now c.args.at c.in-Err.fault (refuses c.args.bytes.now c.args.at c.in-Err.fault c.type_inv.bytes c.in-Err.ensures)).exact
+
+pub returns-in-Ok-clause-computed : goal.returns-in-Ok-clause-computed
+returns-in-Ok-clause-computed c =
+    first_found c.args.bytes.now c.args.at c.in-Ok.instr c.in-Ok.rest.now c.in-Ok.ensures
+
+pub returns-in-Err-clause-computed : goal.returns-in-Err-clause-computed
+returns-in-Err-clause-computed c =
+    first_refused c.args.bytes.now c.args.at c.in-Err.fault c.in-Err.ensures

@@ -1,4 +1,4 @@
-use Rattle.std.proofs.Common.{◌∙◌, subst}
+use Rattle.std.proofs.Common.{subst}
 use Rattle.std.proofs.lemmas.Result.{on_ok_weaker, on_err_weaker}
 use Rattle.xray_io.specs.Text.{sink_of, Gains, Breaks}
 use Rattle.xray_image.proofs.ExtractText.{pieces_line}

@@ -1,4 +1,4 @@
-use Rattle.std.proofs.Common.{Bool, Bor, List, ℕ, map, ap, ◌∙◌}
+use Rattle.std.proofs.Common.{Bor, List, ℕ, map, ap, ◌∙◌}
 use Rattle.std.specs.Prelude.{not}
 use Rattle.xray_image.specs.Judging.{is_among}
 use Rattle.xray_image.proofs.FunctionRows.{among_keys, among_insert}

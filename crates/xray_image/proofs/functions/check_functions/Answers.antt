@@ -1,4 +1,4 @@
-use Rattle.std.proofs.Common.{◌<◌, ℕ, length, map, inr, arith, refl, sym, ◌∙◌, below_more}
+use Rattle.std.proofs.Common.{length, map, inr, arith, refl, sym, ◌∙◌, below_more}
 use Rattle.std.proofs.lemmas.Bool.{false≢true}
 use Rattle.xray_image.specs.Program.{addresses}
 use Rattle.xray_image.specs.Table.{FunctionIsFit}

@@ -1,4 +1,4 @@
-use Rattle.std.proofs.Common.{◌<◌, ◌∙◌, length, get_or, map, arith, refl, ap, below_more}
+use Rattle.std.proofs.Common.{◌<◌, length, get_or, map, arith, refl, below_more}
 use Rattle.std.proofs.lemmas.Bool.{false≢true}
 use Rattle.xray_image.specs.Table.{FitsAt}
 use Rattle.xray_image.specs.Program.{IsEntryOf}

@@ -1,6 +1,10 @@
 use Rattle.std.proofs.Common.{refl}
+use Rattle.xray_image.proofs.Stored.{aligned}
 use Rattle.xray_image.proofs.Stuck.{no_whole}
 use Rattle.xray_image.proofs.unit_reader.read_unit.Goals as goal
+
+pub returns-then-bytes-clause-what : goal.returns-then-bytes-clause-what
+returns-then-bytes-clause-what c = λ sleds. aligned c.args.bytes.now sleds c.if-bytes.true
 
 pub returns-in_default-clause-none : goal.returns-in_default-clause-none
 returns-in_default-clause-none c =

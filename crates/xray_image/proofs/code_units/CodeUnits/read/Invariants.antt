@@ -1,12 +1,12 @@
-use Rattle.std.proofs.Common.{◌≡◌, ◌-◌, length, map}
+use Rattle.std.proofs.Common.{◌-◌, length, map}
 use Rattle.xray_image.specs.Reading.{IsReadTo}
 use Rattle.xray_image.specs.UnitTable.{units_in}
-use Rattle.xray_image.specs.Views.{place_of}
+use Rattle.xray_image.specs.Views.{place_of, AreTablesTo}
 use Rattle.xray_image.proofs.code_units.CodeUnits.read.Given as goal
 
 abbrev pub invariant-loop-at : goal.invariant-loop-at
 invariant-loop-at l = record {
-  table : l.read.units.base ≡ l.base;
+  tables : AreTablesTo l.base l.code l.at l.read;
   read : IsReadTo l.base l.code l.at (units_in l.read.units) (map place_of l.read.sleds.items);
 }
 

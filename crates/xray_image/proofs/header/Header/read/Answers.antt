@@ -1,4 +1,4 @@
-use Rattle.std.proofs.Common.{◌≡◌, ◌<◌, ◌%◌, inl, inr, arith}
+use Rattle.std.proofs.Common.{◌≡◌, ◌<◌, inl, inr, arith}
 use Rattle.std.specs.Prelude.{codes}
 use Rattle.xray_image.specs.Container.{magic}
 use Rattle.xray_image.proofs.HeaderRows.{magic_is, functions_beyond, sleds_beyond, entry_beyond, base_beyond}

@@ -1,6 +1,5 @@
 use Rattle.std.proofs.Common.{ap}
 use Rattle.std.proofs.lemmas.Str.{IsUtf8-from_ascii}
-use Rattle.xray_image.specs.Container.{Function}
 use Rattle.xray_image.proofs.NameText.{name_is_ascii}
 use Rattle.xray_image.proofs.image.Function.new.Goals as goal
 

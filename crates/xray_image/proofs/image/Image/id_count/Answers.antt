@@ -1,4 +1,4 @@
-use Rattle.std.proofs.Common.{◌≡◌, arith, refl, subst, ◌∙◌}
+use Rattle.std.proofs.Common.{◌≡◌, arith, refl, subst}
 use Rattle.xray_image.specs.Program.{Program}
 use Rattle.xray_image.specs.Ids.{id_count}
 use Rattle.xray_image.specs.ImageView.{program_in}

@@ -8,7 +8,7 @@ use Rattle.xray_image.proofs.image.Image.is_first_run.Goals as goal
 
 pub returns-then-len-eq1 : goal.returns-then-len-eq1
 returns-then-len-eq1 c =
-    first_run_told (program_in c.self.inside) c.args.self.now c.self.inside.units.base c.self.inside.units.units.items c.as_slice.result.now c.deref.result.now c.is_straight_run.result c.self.view_is refl c.as_slice.ensures c.deref.ensures.value
+    first_run_told (program_in c.self.inside) c.args.self.now c.self.inside.units c.deref.result.now c.is_straight_run.result c.self.view_is refl c.deref.ensures.value
     (omega (arith, length-map c.self.inside.functions.items named_function, c.len.ensures, c.if-len-eq1.true)) c.is_straight_run.ensures
 
 pub returns-else-len-eq1 : goal.returns-else-len-eq1

@@ -1,10 +1,10 @@
-use Rattle.std.proofs.Common.{◌≡◌, List, map, length, sym, ap, subst, ◌∙◌, arith}
+use Rattle.std.proofs.Common.{◌≡◌, List, map, sym, ap, subst, ◌∙◌}
 use Rattle.std.specs.Prelude.{All, true}
 use Rattle.std.specs.List.{zip}
 use Rattle.xray_image.specs.declared.code_units.SledSpot.{SledSpot}
 use Rattle.xray_image.specs.declared.parts.FunctionEntry.{FunctionEntry}
 use Rattle.xray_image.specs.declared.parts.MapLine.{MapLine}
-use Rattle.xray_image.specs.Program.{Program, is_name_byte, id_of, sled_of, IsAccepted}
+use Rattle.xray_image.specs.Program.{is_name_byte, id_of, sled_of, IsAccepted}
 use Rattle.xray_image.specs.UnitTable.{units_in}
 use Rattle.xray_image.specs.Views.{entry_of, function_of, place_of}
 use Rattle.xray_image.proofs.Entries.{ascend_entries}
@@ -45,13 +45,14 @@ invariant_of-result c =
     ∙ ap (λ (ss : List SledSpot). map (sled_of (map entry_of c.deref-5.result.now)) (zip (map place_of ss) (map entry_of c.deref-5.result.now))) c.deref-4.ensures.value
     ∙ ap (λ (ls : List MapLine). map (sled_of (map entry_of ls)) (zip (map place_of c.args.code.sleds.items) (map entry_of ls))) c.deref-5.ensures.value in
     let named_is = c.in_ok-functions.ensures ∙ ap (map function_of) c.deref.ensures.value in
-    let made = program_made c.args.header.now parts c.args.code c.index.result.now c.in_ok-from_slice.field-0.items c.in_ok-functions.functions.items c.in_ok-sleds.sleds.items
-    c.requires.entry c.index.ensures c.in_ok-from_slice.ensures.items named_is sleds_are in
+    let made = program_made c.args.header.now parts c.args.code c.index.result.now c.args.code.units.code.items c.in_ok-functions.functions.items c.in_ok-sleds.sleds.items
+    c.requires.entry c.index.ensures c.requires.code named_is sleds_are in
     record {
       bytes = c.requires.accepted.0;
       accepted = subst (IsAccepted c.requires.accepted.0) (sym made) c.requires.accepted.1;
       index = c.requires.index;
       table = c.requires.table;
+      sound = c.requires.sound;
       ids = numbers c.args.header.now parts c.args.code c.requires.judged c.deref-2.result.now c.deref-3.result.now c.in_ok-functions.functions.items c.in_ok-sleds.sleds.items c.in_ok-ids.ids.functions.items
           c.deref-2.ensures.value c.deref-3.ensures.value named_is sleds_are c.in_ok-ids.ensures.functions;
     }
@@ -61,5 +62,5 @@ returns c =
     let sleds_are = c.in_ok-sleds.ensures
     ∙ ap (λ (ss : List SledSpot). map (sled_of (map entry_of c.deref-5.result.now)) (zip (map place_of ss) (map entry_of c.deref-5.result.now))) c.deref-4.ensures.value
     ∙ ap (λ (ls : List MapLine). map (sled_of (map entry_of ls)) (zip (map place_of c.args.code.sleds.items) (map entry_of ls))) c.deref-5.ensures.value in
-    program_made c.args.header.now c.args.parts.now c.args.code c.index.result.now c.in_ok-from_slice.field-0.items c.in_ok-functions.functions.items c.in_ok-sleds.sleds.items
-    c.requires.entry c.index.ensures c.in_ok-from_slice.ensures.items (c.in_ok-functions.ensures ∙ ap (map function_of) c.deref.ensures.value) sleds_are
+    program_made c.args.header.now c.args.parts.now c.args.code c.index.result.now c.args.code.units.code.items c.in_ok-functions.functions.items c.in_ok-sleds.sleds.items
+    c.requires.entry c.index.ensures c.requires.code (c.in_ok-functions.ensures ∙ ap (map function_of) c.deref.ensures.value) sleds_are

@@ -1,15 +1,12 @@
-use Rattle.std.proofs.Common.{List, length, inr, refl, sym, ap, subst, arith}
+use Rattle.std.proofs.Common.{inr, refl, sym, subst, arith}
 use Rattle.std.specs.Prelude.{Ok}
-use Rattle.std.specs.List.Sorted.{IsStrictlyIncreasing}
 use Rattle.std.proofs.lemmas.Result.{err_from_is_err_and}
-use Rattle.xray_image.specs.declared.unit.Unit.{Unit}
-use Rattle.xray_image.specs.Index.{AreWithin}
-use Rattle.xray_image.specs.Program.{Program, addresses}
+use Rattle.xray_image.specs.Program.{Program}
 use Rattle.xray_image.specs.Table.{ReadsAs}
 use Rattle.xray_image.specs.UnitTable.{units_in}
 use Rattle.xray_image.specs.Views.{places_in}
 use Rattle.xray_image.proofs.Placement.{has_within, has_ascending, has_few}
-use Rattle.xray_image.proofs.FileRows.{code_few, code_low, table_low, functions_few, entries_few, entry_there, units_stop, spots_few, units_within, spots_ascend, program_stops, program_reads, program_accepted, told_fault}
+use Rattle.xray_image.proofs.FileRows.{code_few, code_low, functions_few, entries_few, entry_there, units_stop, spots_few, units_within, spots_ascend, program_stops, program_reads, program_accepted, told_fault}
 use Rattle.xray_image.proofs.image.reading.read_program.Goals as goal
 
 pub read-requires-3-clause-code : goal.read-requires-3-clause-code
@@ -36,14 +33,6 @@ new-requires-clause-few c =
       has_few c.in_ok-header.header.base c.in_ok-parts.parts.code.now (units_in c.in_ok-code.code.units) (places_in c.in_ok-code.code) c.in_ok-code.ensures.found,
       code_low c.args.bytes.now c.in_ok-header.header c.in_ok-header.ensures.accepted c.in_ok-header.ensures.fields c.in_ok-parts.parts c.in_ok-parts.ensures.found,
     )
-
-pub new-requires-clause-low : goal.new-requires-clause-low
-new-requires-clause-low c =
-    table_low c.args.bytes.now c.in_ok-header.header c.in_ok-header.ensures.accepted c.in_ok-header.ensures.fields c.in_ok-parts.parts c.in_ok-parts.ensures.found c.in_ok-code.code.units c.in_ok-code.ensures.table
-
-pub check_program-requires-clause-low : goal.check_program-requires-clause-low
-check_program-requires-clause-low c =
-    table_low c.args.bytes.now c.in_ok-header.header c.in_ok-header.ensures.accepted c.in_ok-header.ensures.fields c.in_ok-parts.parts c.in_ok-parts.ensures.found c.in_ok-code.code.units c.in_ok-code.ensures.table
 
 pub check_program-requires-clause-within : goal.check_program-requires-clause-within
 check_program-requires-clause-within c =

@@ -1,14 +1,27 @@
-use Rattle.std.proofs.Common.{◌≡◌, ◌<◌, Some, length, refl, sym, ap, ◌∙◌, arith}
-use Rattle.std.specs.Option.{option_map}
-use Rattle.std.proofs.lemmas.List.{length-map}
-use Rattle.std.proofs.lemmas.Option.{slice_get-map, slice_get_read}
-use Rattle.xray_image.specs.UnitTable.{whole_unit}
+use Rattle.std.proofs.Common.{ℕ, ◌+◌, Some, drop, sym, ap, ◌∙◌, arith}
+use Rattle.xray_image.specs.declared.unit.What.{What}
+use Rattle.xray_image.specs.RunningSums.{sums_in}
+use Rattle.xray_image.specs.UnitTable.{what_at}
+use Rattle.xray_image.proofs.Stored.{length-units, unit_read}
 use Rattle.xray_image.proofs.unit.UnitTable.get.Goals as goal
+
+pub get-place-requires-clause-exists : goal.get-place-requires-clause-exists
+get-place-requires-clause-exists c =
+    let table = c.args.self.now in
+    omega (arith, c.requires.exists, length-units table.base table.code.items (sums_in table.places) (sums_in table.sleds) c.requires.sound.paired)
+
+pub get-requires-clause-exists : goal.get-requires-clause-exists
+get-requires-clause-exists c =
+    let table = c.args.self.now in
+    omega (arith, c.requires.exists, length-units table.base table.code.items (sums_in table.places) (sums_in table.sleds) c.requires.sound.paired, c.requires.sound.paired)
 
 pub returns : goal.returns
 returns c =
     let table = c.args.self.now in
-    let i = c.args.number in
-    let within : i < length table.units.items = omega (arith, c.requires.exists, length-map table.units.items (whole_unit table.base)) in
-    let at = slice_get_read table.units.items (length table.units.items) i c.index.result.now refl within c.index.ensures in
-    slice_get-map (whole_unit table.base) table.units.items i ∙ ap (option_map (whole_unit table.base)) at ∙ ap Some (sym c.whole.ensures)
+    let place : ℕ = c.get-place.result in
+    let count : ℕ = c.get.result in
+    let there = unit_read table.base table.code.items (sums_in table.places) (sums_in table.sleds) c.args.number place c.get-place.ensures.sum count c.get.ensures.sum in
+    let what = c.what_stands.ensures ∙ ap (what_at count) (c.split_at.ensures.back ∙ ap (drop place) c.deref.ensures.value) in
+    there
+    ∙ ap (λ (a : ℕ). Some (record { address = table.base + a; what = what_at count (drop place table.code.items) })) (sym c.from.ensures)
+    ∙ ap (λ (w : What). Some (record { address = table.base + c.from.result; what = w })) (sym what)
