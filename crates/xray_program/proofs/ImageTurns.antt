@@ -1,5 +1,5 @@
 -- Images in their turn.
-use Rattle.std.proofs.Common.{◌≡◌, ◌≢◌, ◌⊎◌, ◌≤◌, ℕ, List, length, Result, Ok, Err, inl, inr, refl, sym, subst, codes}
+use Rattle.std.proofs.Common.{◌≡◌, ◌≢◌, ◌⊎◌, ℕ, List, Ok, Err, inl, inr, refl, sym, subst, codes}
 use Rattle.xray_io.specs.Desk.{Entry}
 use Rattle.xray_image.specs.declared.fault.ImageFault.{ImageFault}
 use Rattle.xray_image.specs.declared.fault.ImageFault.TheVariants as faults
@@ -9,7 +9,7 @@ use Rattle.xray_image.specs.Table.{Verdict, ReadsAs}
 use Rattle.xray_program.specs.declared.stop.Stop.{Stop}
 use Rattle.xray_program.specs.declared.stop.Stop.TheVariants as stops
 use Rattle.xray_program.specs.Faults.{fault_text}
-use Rattle.xray_program.specs.Inputs.{RefusesImage, image_form, first_run_form, ReadsFirstRun}
+use Rattle.xray_program.specs.Inputs.{image_form, first_run_form}
 use Rattle.xray_program.specs.Takes.{Gives, GivesBytes, Rejects, Fails, IsImageStop}
 
 -- what a reader of images answers of bytes
@@ -105,7 +105,7 @@ fails_first_run held name before now (stops.Refused n k refusal) fails =
         none = λ other reads. rejects.none other reads.accepted;
       },
     )
-fails_first_run held name before now stops.Unwritten fails = fails
+fails_first_run held name before now (stops.Unwritten n) fails = fails
 fails_first_run held name before now stops.NoMemory fails = fails
 
 -- ---- the stop that a fault comes to
@@ -118,5 +118,5 @@ fails_image held name before now bytes fault result (stops.Unread n) given reade
 fails_image held name before now bytes fault result (stops.TooLong n) given reader is so = absurd so
 fails_image held name before now bytes fault result (stops.Refused n kind refusal) given reader is (same, kinds, refusals, named) =
     (same, rw kinds refl, rw refusals (rejects_image (held name) bytes fault result given reader is named))
-fails_image held name before now bytes fault result stops.Unwritten given reader is so = so
+fails_image held name before now bytes fault result (stops.Unwritten n) given reader is so = so
 fails_image held name before now bytes fault result stops.NoMemory given reader is so = tt

@@ -5,7 +5,7 @@ use Rattle.xray_program.specs.Meaning.{Comes}
 use Rattle.xray_program.specs.Takes.{IsAnswerSoFar, Stops}
 use Rattle.xray_program.specs.Words.{Sim}
 use Rattle.xray_program.proofs.Taking.{answers_result, stops_result, fails_since}
-use Rattle.xray_program.proofs.SimTurns.{ready, stops_at_image, stops_at_script, stops_at_schedule, answers_at_image, answers_at_script, answers_at_schedule, answers_ready, one_thread_turns}
+use Rattle.xray_program.proofs.SimTurns.{ready, stops_at_script, stops_at_schedule, answers_at_image, answers_at_script, answers_at_schedule, answers_ready, one_thread_turns}
 use Rattle.xray_program.proofs.sim.prepare_sim.Goals as goal
 
 pub returns-in_err-program-clause-complete : goal.returns-in_err-program-clause-complete
@@ -49,7 +49,8 @@ returns-in-Ok-clause-ready g c =
     let held = g.D.Desk.held c.args.desk.now in
     let script = rw c.take_first_run.ensures.held at c.in_ok-take_script.ensures.gives in
     let schedule = rw (c.take_script.ensures.held, c.take_first_run.ensures.held) at c.in_ok-turns.ensures.gives in
-    ready (λ name. held name ≡ Absent) held _ _ _ _ _ _ c.in_ok-program.ensures.gives script schedule (rw c.deref.ensures.value at c.in-Ok.ensures.prints)
+    rw c.in-Ok.ensures.alone
+    (ready (λ name. held name ≡ Absent) held _ _ _ _ _ _ c.in_ok-program.ensures.gives script schedule (rw c.deref.ensures.value at c.in-Ok.ensures.prints))
 
 pub returns-in-Ok-clause-complete : goal.returns-in-Ok-clause-complete
 returns-in-Ok-clause-complete g c = λ outcome told meant.
