@@ -1,61 +1,108 @@
 -- What stands behind the statuses of the call.
-use Rattle.std.specs.Prelude.{◌&&◌, if◌then◌else◌, MatchOption}
+use Rattle.std.specs.Prelude.{◌&&◌, if◌then◌else◌, IfErr, MatchOption}
 use Rattle.std.specs.List.{after_first, before_first, list_any}
-use Rattle.std.proofs.Common.{◌≡◌, ◌≢◌, ◌⊎◌, ◌≤◌, length, map, ap, ℕ, Bool, true, false, List, [], ◌∷◌, Option, Some, None, inl, inr, refl, sym, subst, codes, arith}
+use Rattle.std.proofs.Common.{◌≡◌, ◌≢◌, ◌⊎◌, ◌≤◌, length, map, ap, ℕ, Bool, true, false, List, [], ◌∷◌, Option, Some, None, Result, Ok, Err, inl, inr, refl, sym, subst, codes, arith}
 use Rattle.xray_io.specs.Desk.{Entry, Absent, Holds}
 use Rattle.xray_io.specs.Faults.{Rose}
-use Rattle.xray_io.specs.Sink.{Adds, AddsPrefix}
+use Rattle.xray_io.specs.Sink.{Adds}
 use Rattle.xray_program.specs.declared.stop.Stop.{Stop}
 use Rattle.xray_program.specs.declared.stop.Stop.TheVariants as stops
-use Rattle.xray_program.specs.Answers.{LeavesText, CouldNotWrite, Reports, IsSimulated}
-use Rattle.xray_program.specs.Calls.{StopsCall}
+use Rattle.xray_program.specs.Answers.{LeavesAll, Reports, IsAnswer, IsSimulated}
+use Rattle.xray_program.specs.Calls.{StopsCall, StopsJob}
 use Rattle.xray_program.specs.FirstRun.{first_script, SimPrints}
 use Rattle.xray_image.specs.Program.{Program}
 use Rattle.patch_script.specs.declared.command.Command.{Command}
 use Rattle.step_sim.specs.declared.turns.Turns.{Turns}
 use Rattle.xray_program.specs.Inputs.{Form, first_run_form, script_form, schedule_form, ReadsScript}
 use Rattle.xray_program.specs.Meaning.{Outcome, BadLine, Unread, TooLong, Refused, Done, Take, Comes, Means, Says}
-use Rattle.xray_program.specs.Stops.{kind_text, refusal_text, stop_status, stop_line}
+use Rattle.xray_program.specs.Outputs.{AreWhole}
+use Rattle.xray_program.specs.Stops.{answer_of, kind_text, refusal_text, stop_status, stop_line}
+use Rattle.xray_program.specs.Takes.{IsAnswerSoFar}
 use Rattle.xray_program.specs.Words.{Sim, Item, File, Given, files_of, have_only, is_equals, is_name, is_text, items_behind, items_of, reading, sim_with}
 use Rattle.xray_program.specs.Words as words
 
 -- ---- 0 and 4
 
-pub leaves_text : (said : List (List ℕ)) (held : List ℕ → Entry) (command : words.Command) (text : List ℕ)
-    (old new : Option (List ℕ)) → Some command ≡ reading said
-    → Comes (λ name. held name ≡ Absent) held command (Done [] text) → Adds old new text → LeavesText said held old new
-leaves_text said held command text old new says comes adds =
-    record { outputs = []; text = text; meant = rw (← says) comes; out = adds }
+pub leaves_all : (said : List (List ℕ)) (held mid held_now : List ℕ → Entry) (command : words.Command)
+    (outputs : List (List ℕ × List ℕ)) (text : List ℕ) (old new : Option (List ℕ)) → Some command ≡ reading said
+    → mid ≡ held → Comes (λ name. held name ≡ Absent) held command (Done outputs text)
+    → AreWhole outputs mid held_now → Adds old new text → LeavesAll said held held_now old new
+leaves_all said held mid held_now command outputs text old new says same comes whole adds = record {
+  outputs = outputs;
+  text = text;
+  meant = rw (← says) comes;
+  whole = subst (λ (h : List ℕ → Entry). AreWhole outputs h held_now) same whole;
+  out = adds;
+}
 
-pub could_not_write : (said : List (List ℕ)) (held : List ℕ → Entry) (command : words.Command) (text : List ℕ)
-    (before now : ℕ) (old new : Option (List ℕ)) → Some command ≡ reading said
-    → Comes (λ name. held name ≡ Absent) held command (Done [] text) → Rose before now → AddsPrefix old new text
-    → CouldNotWrite said held before now old new
-could_not_write said held command text before now old new says comes rose front =
-    record { outputs = []; text = text; meant = rw (← says) comes; fault = rose; front = front }
+could_not_write : (said : List (List ℕ)) (held held_now : List ℕ → Entry) (command : words.Command)
+    (outputs : List (List ℕ × List ℕ)) (text : List ℕ) (reads_before reads_now writes_before writes_now out_before out_now : ℕ)
+    (old new : Option (List ℕ)) → Some command ≡ reading said
+    → Comes (λ name. held name ≡ Absent) held command (Done outputs text)
+    → (stop : Stop) → StopsJob outputs text held held_now writes_before writes_now out_before out_now old new stop
+    → StopsCall said held held_now reads_before reads_now writes_before writes_now out_before out_now old new stop
+could_not_write said held held_now command outputs text rb rn wb wn ob on old new says comes stops.BadLine stopped = absurd stopped
+could_not_write said held held_now command outputs text rb rn wb wn ob on old new says comes (stops.Unread n) stopped = absurd stopped
+could_not_write said held held_now command outputs text rb rn wb wn ob on old new says comes (stops.TooLong n) stopped = absurd stopped
+could_not_write said held held_now command outputs text rb rn wb wn ob on old new says comes (stops.Refused n kind refusal) stopped = absurd stopped
+could_not_write said held held_now command outputs text rb rn wb wn ob on old new says comes stops.NoMemory stopped = absurd stopped
+could_not_write said held held_now command outputs text rb rn wb wn ob on old new says comes (stops.Unwritten n) stopped =
+    record { outputs = outputs; text = text; meant = rw (← says) comes; failed = stopped }
+
+-- the stop of a job is one of the call
+pub stops_call : {X : Type 0} (said : List (List ℕ)) (held mid held_now : List ℕ → Entry) (command : words.Command)
+    (outputs : List (List ℕ × List ℕ)) (text : List ℕ) (reads_before reads_now writes_before writes_mid writes_now out_before out_now : ℕ)
+    (old new : Option (List ℕ)) (result : Result X Stop) → Some command ≡ reading said → mid ≡ held → writes_mid ≡ writes_before
+    → Comes (λ name. held name ≡ Absent) held command (Done outputs text)
+    → IfErr result (StopsJob outputs text mid held_now writes_mid writes_now out_before out_now old new)
+    → IfErr result (StopsCall said held held_now reads_before reads_now writes_before writes_now out_before out_now old new)
+stops_call said held mid held_now command outputs text rb rn wb wm wn ob on old new (Ok done) says same as comes stopped = tt
+stops_call said held mid held_now command outputs text rb rn wb wm wn ob on old new (Err stop) says same as comes stopped =
+    could_not_write said held held_now command outputs text rb rn wb wn ob on old new says comes stop
+    (subst (λ (w : ℕ). StopsJob outputs text held held_now w wn ob on old new stop) as
+    (subst (λ (h : List ℕ → Entry). StopsJob outputs text h held_now wm wn ob on old new stop) same stopped))
+
+-- a job was begun, so 0 answers what is meant, or 4 where it stops
+pub answers_job : {X : Type 0} (outcome : Outcome) (held held_now : List ℕ → Entry) (outputs : List (List ℕ × List ℕ)) (text : List ℕ)
+    (reads_before reads_mid reads_now writes_before writes_mid writes_now out_before out_now : ℕ) (old new : Option (List ℕ))
+    (result : Result X Stop) → writes_mid ≡ writes_before → IsAnswerSoFar reads_before reads_mid outcome 0
+    → IfErr result (StopsJob outputs text held held_now writes_mid writes_now out_before out_now old new)
+    → IsAnswer outcome reads_before reads_now writes_before writes_now out_before out_now (answer_of result)
+answers_job outcome held held_now outputs text rb rm rn wb wm wn ob on old new (Ok done) as (inl is) stopped = inl is
+answers_job outcome held held_now outputs text rb rm rn wb wm wn ob on old new (Ok done) as (inr (inl wanting)) stopped = absurd (omega arith)
+answers_job outcome held held_now outputs text rb rm rn wb wm wn ob on old new (Ok done) as (inr (inr (unread, rose))) stopped = absurd (omega arith)
+answers_job outcome held held_now outputs text rb rm rn wb wm wn ob on old new (Err stops.BadLine) as so stopped = absurd stopped
+answers_job outcome held held_now outputs text rb rm rn wb wm wn ob on old new (Err (stops.Unread n)) as so stopped = absurd stopped
+answers_job outcome held held_now outputs text rb rm rn wb wm wn ob on old new (Err (stops.TooLong n)) as so stopped = absurd stopped
+answers_job outcome held held_now outputs text rb rm rn wb wm wn ob on old new (Err (stops.Refused n kind refusal)) as so stopped = absurd stopped
+answers_job outcome held held_now outputs text rb rm rn wb wm wn ob on old new (Err stops.NoMemory) as so stopped = absurd stopped
+answers_job outcome held held_now outputs text rb rm rn wb wm wn ob on old new (Err (stops.Unwritten n)) as so (inl (fails, same)) =
+    inr (inr (inr (refl, inl (subst (λ (w : ℕ). Rose w wn) as fails.fault))))
+answers_job outcome held held_now outputs text rb rm rn wb wm wn ob on old new (Err (stops.Unwritten n)) as so (inr fails) =
+    inr (inr (inr (refl, inr fails.fault)))
 
 -- ---- 1 and 2
 
-pub reports : (said : List (List ℕ)) (held : List ℕ → Entry) (reads_before reads_now out_before out_now : ℕ)
+pub reports : (said : List (List ℕ)) (held held_now : List ℕ → Entry) (reads_before reads_now writes_before writes_now out_before out_now : ℕ)
     (old new : Option (List ℕ)) (before now : ℕ) (err_old err_new : Option (List ℕ)) (stop : Stop) (status : ℕ)
-    → StopsCall said held reads_before reads_now out_before out_now old new stop
+    → StopsCall said held held_now reads_before reads_now writes_before writes_now out_before out_now old new stop
     → Says before now err_old err_new (stop_line stop) → status ≡ stop_status stop → (status ≡ 1) ⊎ (status ≡ 2) ⊎ (status ≡ 6)
     → Reports said held status before now err_old err_new
-reports said held rb rn ob on old new before now err_old err_new stops.BadLine status stands says is among =
+reports said held held_now rb rn wb wn ob on old new before now err_old err_new stops.BadLine status stands says is among =
     record { outcome = BadLine; meant = rw stands.0 refl; status_is = sym is; says = says }
-reports said held rb rn ob on old new before now err_old err_new (stops.TooLong n) status stands says is among =
+reports said held held_now rb rn wb wn ob on old new before now err_old err_new (stops.TooLong n) status stands says is among =
     record { outcome = TooLong n.now; meant = stands.0; status_is = sym is; says = says }
-reports said held rb rn ob on old new before now err_old err_new (stops.Refused n kind refusal) status stands says is among =
+reports said held held_now rb rn wb wn ob on old new before now err_old err_new (stops.Refused n kind refusal) status stands says is among =
     record { outcome = Refused n.now (kind_text kind) (refusal_text refusal); meant = stands.0; status_is = sym is; says = says }
-reports said held rb rn ob on old new before now err_old err_new (stops.Unread n) status stands says is (inl one) = absurd (omega arith)
-reports said held rb rn ob on old new before now err_old err_new (stops.Unread n) status stands says is (inr (inl two)) = absurd (omega arith)
-reports said held rb rn ob on old new before now err_old err_new (stops.Unread n) status stands says is (inr (inr six)) = absurd (omega arith)
-reports said held rb rn ob on old new before now err_old err_new stops.Unwritten status stands says is (inl one) = absurd (omega arith)
-reports said held rb rn ob on old new before now err_old err_new stops.Unwritten status stands says is (inr (inl two)) = absurd (omega arith)
-reports said held rb rn ob on old new before now err_old err_new stops.Unwritten status stands says is (inr (inr six)) = absurd (omega arith)
-reports said held rb rn ob on old new before now err_old err_new stops.NoMemory status stands says is (inl one) = absurd (omega arith)
-reports said held rb rn ob on old new before now err_old err_new stops.NoMemory status stands says is (inr (inl two)) = absurd (omega arith)
-reports said held rb rn ob on old new before now err_old err_new stops.NoMemory status stands says is (inr (inr six)) = absurd (omega arith)
+reports said held held_now rb rn wb wn ob on old new before now err_old err_new (stops.Unread n) status stands says is (inl one) = absurd (omega arith)
+reports said held held_now rb rn wb wn ob on old new before now err_old err_new (stops.Unread n) status stands says is (inr (inl two)) = absurd (omega arith)
+reports said held held_now rb rn wb wn ob on old new before now err_old err_new (stops.Unread n) status stands says is (inr (inr six)) = absurd (omega arith)
+reports said held held_now rb rn wb wn ob on old new before now err_old err_new (stops.Unwritten n) status stands says is (inl one) = absurd (omega arith)
+reports said held held_now rb rn wb wn ob on old new before now err_old err_new (stops.Unwritten n) status stands says is (inr (inl two)) = absurd (omega arith)
+reports said held held_now rb rn wb wn ob on old new before now err_old err_new (stops.Unwritten n) status stands says is (inr (inr six)) = absurd (omega arith)
+reports said held held_now rb rn wb wn ob on old new before now err_old err_new stops.NoMemory status stands says is (inl one) = absurd (omega arith)
+reports said held held_now rb rn wb wn ob on old new before now err_old err_new stops.NoMemory status stands says is (inr (inl two)) = absurd (omega arith)
+reports said held held_now rb rn wb wn ob on old new before now err_old err_new stops.NoMemory status stands says is (inr (inr six)) = absurd (omega arith)
 
 -- ---- the headline
 
@@ -156,10 +203,10 @@ all_names [] same = refl
 all_names (word ∷ words) same =
     all_by word words (is_text word (codes "--")) (is_name word) (list_any is_equals word) (all_names words) same
 
-pub simulated : (said : List (List ℕ)) (held : List ℕ → Entry) (old new : Option (List ℕ)) → LeavesText said held old new
+pub simulated : (said : List (List ℕ)) (held held_now : List ℕ → Entry) (old new : Option (List ℕ)) → LeavesAll said held held_now old new
     → (i s c image script schedule : List ℕ) → said ≡ codes "sim" ∷ i ∷ s ∷ c ∷ []
     → held i ≡ Holds image → held s ≡ Holds script → held c ≡ Holds schedule → IsSimulated image script schedule old new
-simulated said held old new leaves i s c image script schedule words image_held script_held schedule_held =
+simulated said held held_now old new leaves i s c image script schedule words image_held script_held schedule_held =
     let items = items_of (i ∷ s ∷ c ∷ []) in
     by_files (have_only [] items) (files_of items) (all_names (i ∷ s ∷ c ∷ [])) (rw words at leaves.meant)
   where

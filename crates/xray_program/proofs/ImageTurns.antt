@@ -105,7 +105,7 @@ fails_first_run held name before now (stops.Refused n k refusal) fails =
         none = λ other reads. rejects.none other reads.accepted;
       },
     )
-fails_first_run held name before now stops.Unwritten fails = fails
+fails_first_run held name before now (stops.Unwritten n) fails = fails
 fails_first_run held name before now stops.NoMemory fails = fails
 
 -- ---- the stop that a fault comes to
@@ -118,5 +118,5 @@ fails_image held name before now bytes fault result (stops.Unread n) given reade
 fails_image held name before now bytes fault result (stops.TooLong n) given reader is so = absurd so
 fails_image held name before now bytes fault result (stops.Refused n kind refusal) given reader is (same, kinds, refusals, named) =
     (same, rw kinds refl, rw refusals (rejects_image (held name) bytes fault result given reader is named))
-fails_image held name before now bytes fault result stops.Unwritten given reader is so = so
+fails_image held name before now bytes fault result (stops.Unwritten n) given reader is so = so
 fails_image held name before now bytes fault result stops.NoMemory given reader is so = tt

@@ -7,6 +7,8 @@ pub mod ItemLemmas
 pub mod Leading
 pub mod MarksText
 pub mod NumberLemmas
+pub mod OutputNames
+pub mod Outputting
 pub mod PlainThreads
 pub mod Schedules
 pub mod Scripting
@@ -18,4 +20,5 @@ pub mod StraightPrints
 pub mod StraightReturns
 pub mod StraightRun
 pub mod Taking
+pub mod TextTurns
 pub mod Turning

@@ -70,7 +70,7 @@ stops_here form held name later before now (stops.Refused n k refusal) fails =
   where
     refused : Refused n.now (kind_text k) (refusal_text refusal) ≡ Refused name form.kind (refusal_text refusal)
     refused = rw (fails.0, fails.1) refl
-stops_here form held name later before now stops.Unwritten fails = fails
+stops_here form held name later before now (stops.Unwritten n) fails = fails
 stops_here form held name later before now stops.NoMemory fails = tt
 
 -- an input in its turn that gives a value, and a stop behind it
@@ -87,7 +87,7 @@ stops_on form held name later value before now (stops.TooLong n) gives stopped =
 stops_on form held name later value before now (stops.Refused n k refusal) gives stopped =
     let absent : List ℕ → Type 0 = λ n. held n ≡ Absent in
     gives_on form absent held name (later absent) value _ gives stopped
-stops_on form held name later value before now stops.Unwritten gives stopped = stopped
+stops_on form held name later value before now (stops.Unwritten n) gives stopped = stopped
 stops_on form held name later value before now stops.NoMemory gives stopped = tt
 
 -- a count that rose has risen since before
@@ -106,7 +106,7 @@ fails_since form held name first before now (stops.Unread n) up fails = (fails.0
     since (inr absent) = inr absent
 fails_since form held name first before now (stops.TooLong n) up fails = fails
 fails_since form held name first before now (stops.Refused n k refusal) up fails = fails
-fails_since form held name first before now stops.Unwritten up fails = fails
+fails_since form held name first before now (stops.Unwritten n) up fails = fails
 fails_since form held name first before now stops.NoMemory up fails = tt
 
 -- what wasn't read whole failed
@@ -116,7 +116,7 @@ fails_unread form held name before now stops.BadLine fails = fails
 fails_unread form held name before now (stops.Unread n) fails = fails
 fails_unread form held name before now (stops.TooLong n) fails = fails
 fails_unread form held name before now (stops.Refused n k refusal) fails = absurd fails
-fails_unread form held name before now stops.Unwritten fails = fails
+fails_unread form held name before now (stops.Unwritten n) fails = fails
 fails_unread form held name before now stops.NoMemory fails = fails
 
 -- ---- completeness: what is meant comes
@@ -154,7 +154,7 @@ pub answers_here : {X : Type 0} (form : Form X) (held : List ℕ → Entry) (nam
     → Take form (λ name. held name ≡ Absent) held name next outcome
     → IsAnswerSoFar before now outcome (stop_status stop)
 answers_here form held name next before now stops.BadLine outcome told fails meant = absurd fails
-answers_here form held name next before now stops.Unwritten outcome told fails meant = absurd fails
+answers_here form held name next before now (stops.Unwritten n) outcome told fails meant = absurd fails
 answers_here form held name next before now stops.NoMemory outcome told fails meant = inr (inl refl)
 answers_here form held name next before now (stops.Unread n) outcome told (is, inl rose) meant = inr (inr (refl, rose))
 answers_here form held name next before now (stops.Unread n) outcome told (is, inr absent) (inl (fails, unread)) =

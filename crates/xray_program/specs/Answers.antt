@@ -1,20 +1,22 @@
 -- What stands behind each status of the top call.
-use Rattle.std.specs.Prelude.{◌≡◌, ◌⊎◌, ℕ, List, [], ◌∷◌, Option, codes}
+use Rattle.std.specs.Prelude.{◌≡◌, ◌⊎◌, ℕ, List, Option}
 use Rattle.xray_io.specs.Desk.{Entry, Absent, Holds}
 use Rattle.xray_io.specs.Faults.{Rose}
-use Rattle.xray_io.specs.Sink.{Adds, AddsPrefix}
+use Rattle.xray_io.specs.Sink.{Adds}
 use Rattle.xray_image.specs.Program.{Program, IsAccepted}
 use Rattle.xray_image.specs.FirstRun.{IsFirstRun}
 use Rattle.step_sim.specs.declared.turns.Turns.{Turns}
 use Rattle.xray_program.specs.FirstRun.{first_script, SimPrints}
 use Rattle.xray_program.specs.Inputs.{ReadsScript, ReadsSchedule}
-use Rattle.xray_program.specs.Meaning.{Outcome, Done, Unread, status_of, line_of, write_fault_line, Means, HadItsTurn, Says}
+use Rattle.xray_program.specs.Meaning.{Outcome, Done, Unread, status_of, line_of, Means, HadItsTurn, Says}
+use Rattle.xray_program.specs.Outputs.{AreWhole, FailsWriting}
 
--- all is done: out has exactly the text that the words mean
-pub record LeavesText (said : List (List ℕ)) (held : List ℕ → Entry) (old new : Option (List ℕ)) : Type 0 where
+-- all is done: each output that the words mean is whole, and out has exactly the text
+pub record LeavesAll (said : List (List ℕ)) (held held_now : List ℕ → Entry) (old new : Option (List ℕ)) : Type 0 where
   pub outputs : List (List ℕ × List ℕ)
   pub text : List ℕ
   pub meant : Means said held (Done outputs text)
+  pub whole : AreWhole outputs held held_now
   pub out : Adds old new text
 
 -- a status that the words mean, with its line on err; err had `before` faults, and has `now`
@@ -31,13 +33,12 @@ pub record CouldNotRead (said : List (List ℕ)) (held : List ℕ → Entry) (re
   pub cause : Rose reads_before reads_now ⊎ (held name ≡ Absent)
   pub says : Says before now old new (line_of (Unread name))
 
--- out failed, and has a front of the text that the words mean
-pub record CouldNotWrite (said : List (List ℕ)) (held : List ℕ → Entry) (out_before out_now : ℕ) (old new : Option (List ℕ)) : Type 0 where
+-- an output of this name that the words mean failed, or out, which is named `output`
+pub record CouldNotWrite (said : List (List ℕ)) (held held_now : List ℕ → Entry) (writes_before writes_now out_before out_now : ℕ) (old new : Option (List ℕ)) (name : List ℕ) : Type 0 where
   pub outputs : List (List ℕ × List ℕ)
   pub text : List ℕ
   pub meant : Means said held (Done outputs text)
-  pub fault : Rose out_before out_now
-  pub front : AddsPrefix old new text
+  pub failed : FailsWriting outputs text held held_now writes_before writes_now out_before out_now old new name
 
 -- the image file, the script and the schedule are of their forms, and out has the state text of
 -- their replay
@@ -53,8 +54,8 @@ pub record IsSimulated (image script schedule : List ℕ) (old new : Option (Lis
   pub out : Adds old new text
 
 -- a status that may come where the words mean an outcome: that outcome's, 5 for want of memory, 3
--- where a read of the desk failed, or 4 where out did
-abbrev pub IsAnswer : Outcome → (reads_before reads_now out_before out_now status : ℕ) → Type 0
-IsAnswer outcome reads_before reads_now out_before out_now status =
-    (status ≡ status_of outcome) ⊎ (status ≡ 5)
-    ⊎ ((status ≡ 3) × Rose reads_before reads_now) ⊎ ((status ≡ 4) × Rose out_before out_now)
+-- where a read of the desk failed, or 4 where a write of the desk or out did
+abbrev pub IsAnswer : Outcome → (reads_before reads_now writes_before writes_now out_before out_now status : ℕ) → Type 0
+IsAnswer outcome reads_before reads_now writes_before writes_now out_before out_now status =
+    (status ≡ status_of outcome) ⊎ (status ≡ 5) ⊎ ((status ≡ 3) × Rose reads_before reads_now)
+    ⊎ ((status ≡ 4) × (Rose writes_before writes_now ⊎ Rose out_before out_now))

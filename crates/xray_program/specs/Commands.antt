@@ -4,7 +4,7 @@ use Rattle.xray_program.specs.declared.items.Item.{Item}
 use Rattle.xray_program.specs.declared.items.Item.TheVariants.{File, Given, Bare}
 use Rattle.xray_program.specs.declared.number_option.NumberOption.{NumberOption}
 use Rattle.xray_program.specs.declared.words.Command.{Command}
-use Rattle.xray_program.specs.declared.words.Command.TheVariants.{Sim, Plain, Extract}
+use Rattle.xray_program.specs.declared.words.Command.TheVariants.{Sim, Plain, Extract, Asm}
 use Rattle.xray_program.specs.Words as words
 
 -- the command, with its files' names as bytes
@@ -12,6 +12,7 @@ abbrev pub command_of : Command → words.Command
 command_of (Sim image script schedule) = words.Sim image.now script.now schedule.now
 command_of (Plain image options) = words.Plain image.now options
 command_of (Extract image) = words.Extract image.now
+command_of (Asm text image threshold) = words.Asm text.now image.now threshold
 
 -- an item, with its texts as bytes
 abbrev pub item_of : Item → words.Item

@@ -1,6 +1,8 @@
--- Refusals of image files in a line on err: the name of each and its values, a space between them.
+-- Refusals of image files and of assembler texts in a line on err: the name of each and its values, a space between them.
 use Rattle.std.specs.Prelude.{ℕ, List, ◌++◌, codes, decimal}
 use Rattle.xray_io.specs.Piece.{piece_text}
+use Rattle.asm_text.specs.declared.fault.AsmFault.{AsmFault}
+use Rattle.asm_text.specs.declared.fault.AsmFault.TheVariants as asm
 use Rattle.subset_decode.specs.declared.fault.DecodeFault.{DecodeFault}
 use Rattle.subset_decode.specs.declared.fault.DecodeFault.TheVariants as decoding
 use Rattle.xray_image.specs.declared.fault.ImageFault.{ImageFault}
@@ -39,6 +41,16 @@ fault_text (faults.Odd number) = codes "Odd " ++ decimal number
 fault_text (faults.Far number) = codes "Far " ++ decimal number
 fault_text (faults.Target place) = codes "Target " ++ decimal place
 fault_text faults.NoMemory = codes "NoMemory"
+
+-- why a text can't be assembled
+abbrev pub asm_fault_text : AsmFault → List ℕ
+asm_fault_text (asm.Syntax line) = codes "Syntax " ++ decimal line
+asm_fault_text (asm.Register line) = codes "Register " ++ decimal line
+asm_fault_text (asm.Range line) = codes "Range " ++ decimal line
+asm_fault_text (asm.Repeat line) = codes "Repeat " ++ decimal line
+asm_fault_text (asm.Limit line) = codes "Limit " ++ decimal line
+asm_fault_text (asm.Label line) = codes "Label " ++ decimal line
+asm_fault_text asm.NoMemory = codes "NoMemory"
 
 -- the text of the words of a refusal
 abbrev pub text_of_words : Words → List ℕ

@@ -1,5 +1,5 @@
 -- The forms of the inputs.
-use Rattle.std.specs.Prelude.{◌≡◌, ◌⊎◌, ◌<◌, ◌≤◌, ◌==◌, Err, ℕ, List, [], ◌∷◌, length, not, Some, codes, map, filter, IsTrue, ⊤}
+use Rattle.std.specs.Prelude.{◌≡◌, ◌⊎◌, ◌<◌, ◌≤◌, ◌==◌, Ok, Err, ℕ, List, [], ◌∷◌, length, not, Some, codes, map, filter, IsTrue, ⊤}
 use Rattle.std.specs.List.{list_all}
 use Rattle.std.specs.Str.Lines.{lines}
 use Rattle.text_lines.specs.Words.{is_clean, words_of}
@@ -8,7 +8,9 @@ use Rattle.xray_image.specs.Program.{Program, IsAccepted}
 use Rattle.xray_image.specs.FirstRun.{IsFirstRun}
 use Rattle.xray_image.specs.declared.fault.ImageFault.{ImageFault}
 use Rattle.xray_image.specs.Table.{ReadsAs}
-use Rattle.xray_program.specs.Faults.{fault_text}
+use Rattle.asm_text.specs.declared.fault.AsmFault.{AsmFault}
+use Rattle.asm_text.specs.Assembling.{Assembles}
+use Rattle.xray_program.specs.Faults.{asm_fault_text, fault_text}
 use Rattle.patch_script.specs.declared.command.Command.{Command}
 use Rattle.step_sim.specs.declared.turns.Turns.{Turns}
 use Rattle.step_sim.specs.declared.turns.Turns.TheVariants.{Thread, Patcher}
@@ -57,6 +59,22 @@ first_run_form = record {
   limit = 4194304;
   Reads = ReadsFirstRun;
   Refuses = RefusesFirstRun;
+}
+
+-- ---- assembler texts
+
+-- an assembler text is refused for its first fault
+abbrev pub RefusesText : ℕ → List ℕ → List ℕ → Type 0
+RefusesText threshold bytes refusal =
+    (fault : AsmFault) × Assembles bytes threshold (Err fault) × (refusal ≡ asm_fault_text fault)
+
+-- the text of `asm`, which reads as the image file that it is assembled to
+abbrev pub text_form : ℕ → Form (List ℕ)
+text_form threshold = record {
+  kind = codes "text";
+  limit = 4194304;
+  Reads = λ bytes file. Assembles bytes threshold (Ok file);
+  Refuses = RefusesText threshold;
 }
 
 -- ---- scripts

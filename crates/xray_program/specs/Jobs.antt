@@ -1,5 +1,5 @@
 -- What is left to do of a command once its inputs were judged.
-use Rattle.std.specs.Prelude.{◌≡◌, ◌+◌, ℕ, List, length, Some, slice_get}
+use Rattle.std.specs.Prelude.{◌≡◌, ◌+◌, ℕ, List, [], ◌∷◌, length, Some, slice_get}
 use Rattle.std.specs.List.{All, flat_map}
 use Rattle.xray_image.specs.Extract.{extract_text}
 use Rattle.xray_image.specs.Program.{Program}
@@ -9,17 +9,25 @@ use Rattle.machine_step.specs.Texts.{plain_text, state_text}
 use Rattle.xray_program.specs.Plain.{limits_of}
 use Rattle.xray_program.specs.declared.words.RunOptions.{RunOptions}
 use Rattle.xray_program.specs.declared.job.Job.{Job}
-use Rattle.xray_program.specs.declared.job.Job.TheVariants.{State, Ends, SledMap}
+use Rattle.xray_program.specs.declared.job.Job.TheVariants.{State, Ends, SledMap, Image}
 
 -- the plain text of a thread that has come to its end
 abbrev pub end_text : PlainEnd → List ℕ
 end_text e = plain_text e.thread e.end (state_of e)
+
+-- the outputs, each a name and its bytes
+unfoldable pub job_outputs : Job → List (List ℕ × List ℕ)
+job_outputs (State end marks) = []
+job_outputs (Ends ends) = []
+job_outputs (SledMap image) = []
+job_outputs (Image name file) = (name.now, file.items) ∷ []
 
 -- the text that out gets
 unfoldable pub job_text : Job → List ℕ
 job_text (State end marks) = state_text end.thread end.end (state_of end) marks.items
 job_text (Ends ends) = flat_map end_text ends.items
 job_text (SledMap image) = extract_text image
+job_text (Image name file) = []
 
 -- the end of a thread tells of all 16 registers
 abbrev pub HasRegisters : PlainEnd → Type 0
@@ -30,6 +38,7 @@ unfoldable pub IsPrintable : Job → Type 0
 IsPrintable (State end marks) = HasRegisters end
 IsPrintable (Ends ends) = All HasRegisters ends.items
 IsPrintable (SledMap image) = Unit {0}
+IsPrintable (Image name file) = Unit {0}
 
 -- the ends of so many threads of a program, in the order of their numbers, from 1 on
 pub record AreEnds (program : Program) (options : RunOptions) (threads : ℕ) (ends : List PlainEnd) : Type 0 where

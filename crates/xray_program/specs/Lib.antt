@@ -4,6 +4,7 @@ pub mod Plain
 pub mod Inputs
 pub mod FirstRun
 pub mod Meaning
+pub mod Outputs
 pub mod Answers
 pub mod Commands
 pub mod Stops

@@ -5,9 +5,9 @@ use Rattle.xray_io.specs.Faults.{Rose}
 use Rattle.xray_io.specs.Sink.{Adds, AddsPrefix}
 use Rattle.xray_image.specs.Extract.{extract_text}
 use Rattle.xray_program.specs.FirstRun.{SimPrints}
-use Rattle.xray_program.specs.Inputs.{Form, image_form, first_run_form, script_form, schedule_form}
+use Rattle.xray_program.specs.Inputs.{Form, image_form, first_run_form, script_form, schedule_form, text_form}
 use Rattle.xray_program.specs.Plain.{PlainPrints}
-use Rattle.xray_program.specs.Words.{Sim, Plain, Extract, reading}
+use Rattle.xray_program.specs.Words.{Sim, Plain, Extract, Asm, reading}
 use Rattle.xray_program.specs.Words as words
 
 -- what comes of a command line: it says no command; an input can't be read; an input has too many
@@ -40,7 +40,7 @@ line_of (TooLong name) = err_line (name ++ codes ": too long")
 line_of (Refused name kind refusal) = err_line (name ++ codes ": " ++ kind ++ codes " " ++ refusal)
 line_of (Done outputs text) = []
 
--- the lines where out can't be written and where memory is wanting
+-- the lines where an output or out can't be written and where memory is wanting
 abbrev pub write_fault_line : List ℕ → List ℕ
 write_fault_line name = err_line (name ++ codes ": write fault")
 
@@ -83,6 +83,8 @@ Comes fails held (Plain image options) =
     (text : List ℕ) × PlainPrints program options text × (outcome ≡ Done [] text))
 Comes fails held (Extract image) =
     Take image_form fails held image (λ program outcome. outcome ≡ Done [] (extract_text program))
+Comes fails held (Asm text image threshold) =
+    Take (text_form threshold) fails held text (λ file outcome. outcome ≡ Done ((image, file) ∷ []) [])
 
 -- what comes of words where `fails` says which names can't be read
 abbrev pub ComesOf : (List ℕ → Type 0) → (List ℕ → Entry) → List (List ℕ) → Outcome → Type 0

@@ -1,10 +1,10 @@
 -- What ends a call before all is done: its status, its line on err, and what stands behind it.
 use Rattle.std.specs.Prelude.{ℕ, List, Result, Ok, Err, codes}
 use Rattle.xray_program.specs.declared.stop.Kind.{Kind}
-use Rattle.xray_program.specs.declared.stop.Kind.TheVariants.{Image, Script, Schedule}
+use Rattle.xray_program.specs.declared.stop.Kind.TheVariants.{Image, Text, Script, Schedule}
 use Rattle.xray_program.specs.declared.refusal.Refusal.{Refusal}
-use Rattle.xray_program.specs.declared.refusal.Refusal.TheVariants.{NotYet, Faulty}
-use Rattle.xray_program.specs.Faults.{fault_text}
+use Rattle.xray_program.specs.declared.refusal.Refusal.TheVariants.{NotYet, Faulty, Unassembled}
+use Rattle.xray_program.specs.Faults.{asm_fault_text, fault_text}
 use Rattle.xray_program.specs.declared.stop.Stop.{Stop}
 use Rattle.xray_program.specs.declared.stop.Stop.TheVariants as stops
 use Rattle.xray_program.specs.Meaning.{BadLine, Unread, TooLong, Refused, line_of, write_fault_line, memory_line}
@@ -12,6 +12,7 @@ use Rattle.xray_program.specs.Meaning.{BadLine, Unread, TooLong, Refused, line_o
 -- the word for a kind of input
 abbrev pub kind_text : Kind → List ℕ
 kind_text Image = codes "image"
+kind_text Text = codes "text"
 kind_text Script = codes "script"
 kind_text Schedule = codes "schedule"
 
@@ -19,6 +20,7 @@ kind_text Schedule = codes "schedule"
 abbrev pub refusal_text : Refusal → List ℕ
 refusal_text NotYet = codes "NotYet"
 refusal_text (Faulty fault) = fault_text fault
+refusal_text (Unassembled fault) = asm_fault_text fault
 
 -- the status
 abbrev pub stop_status : Stop → ℕ
@@ -26,7 +28,7 @@ stop_status stops.BadLine = 1
 stop_status (stops.Refused name kind refusal) = 2
 stop_status (stops.Unread name) = 3
 stop_status (stops.TooLong name) = 6
-stop_status stops.Unwritten = 4
+stop_status (stops.Unwritten name) = 4
 stop_status stops.NoMemory = 5
 
 -- the line on err
@@ -35,7 +37,7 @@ stop_line stops.BadLine = line_of BadLine
 stop_line (stops.Refused name kind refusal) = line_of (Refused name.now (kind_text kind) (refusal_text refusal))
 stop_line (stops.Unread name) = line_of (Unread name.now)
 stop_line (stops.TooLong name) = line_of (TooLong name.now)
-stop_line stops.Unwritten = write_fault_line (codes "output")
+stop_line (stops.Unwritten name) = write_fault_line name.now
 stop_line stops.NoMemory = memory_line
 
 -- the status of a call that went so

@@ -2,10 +2,12 @@
 use Rattle.std.specs.Prelude.{◌≡◌, ◌≢◌, ◌⊎◌, ◌<◌, ◌≤◌, ℕ, List, length, ⊤}
 use Rattle.xray_io.specs.Desk.{Entry, Absent}
 use Rattle.xray_io.specs.Faults.{Rose}
+use Rattle.asm_text.specs.declared.fault.AsmFault.{AsmFault}
+use Rattle.asm_text.specs.declared.fault.AsmFault.TheVariants as asm
 use Rattle.xray_image.specs.declared.fault.ImageFault.{ImageFault}
 use Rattle.xray_image.specs.declared.fault.ImageFault.TheVariants as faults
-use Rattle.xray_program.specs.declared.refusal.Refusal.TheVariants.{Faulty}
-use Rattle.xray_program.specs.declared.stop.Kind.TheVariants.{Image}
+use Rattle.xray_program.specs.declared.refusal.Refusal.TheVariants.{Faulty, Unassembled}
+use Rattle.xray_program.specs.declared.stop.Kind.TheVariants.{Image, Text}
 use Rattle.xray_program.specs.declared.stop.Stop.{Stop}
 use Rattle.xray_program.specs.declared.stop.Stop.TheVariants as stops
 use Rattle.xray_program.specs.Inputs.{Form}
@@ -49,7 +51,7 @@ FailsToRead limit held name before now (stops.Unread n) =
 FailsToRead limit held name before now (stops.TooLong n) =
     (n.now ≡ name) × IsTooLong limit (held name)
 FailsToRead limit held name before now (stops.Refused n k refusal) = ⊥
-FailsToRead limit held name before now stops.Unwritten = ⊥
+FailsToRead limit held name before now (stops.Unwritten n) = ⊥
 FailsToRead limit held name before now stops.NoMemory = ⊤
 
 -- the turn of an input of this form and name ends with a stop: it wasn't read whole, or it may hold
@@ -66,8 +68,18 @@ IsImageStop name fault (stops.Unread n) = ⊥
 IsImageStop name fault (stops.TooLong n) = ⊥
 IsImageStop name fault (stops.Refused n kind refusal) =
     (n.now ≡ name) × (kind ≡ Image) × (refusal ≡ Faulty fault) × (fault ≢ faults.NoMemory)
-IsImageStop name fault stops.Unwritten = ⊥
+IsImageStop name fault (stops.Unwritten n) = ⊥
 IsImageStop name fault stops.NoMemory = fault ≡ faults.NoMemory
+
+-- what an assembler text's fault comes to: want of memory, or a refusal
+abbrev pub IsTextStop : List ℕ → AsmFault → Stop → Type 0
+IsTextStop name fault stops.BadLine = ⊥
+IsTextStop name fault (stops.Unread n) = ⊥
+IsTextStop name fault (stops.TooLong n) = ⊥
+IsTextStop name fault (stops.Refused n kind refusal) =
+    (n.now ≡ name) × (kind ≡ Text) × (refusal ≡ Unassembled fault) × (fault ≢ asm.NoMemory)
+IsTextStop name fault (stops.Unwritten n) = ⊥
+IsTextStop name fault stops.NoMemory = fault ≡ asm.NoMemory
 
 -- A command that comes to M, by which names can't be read, ends with a stop.
 abbrev pub Stops : ((List ℕ → Type 0) → Outcome → Type 0) → (List ℕ → Entry) → ℕ → ℕ → Stop → Type 0
@@ -77,7 +89,7 @@ Stops M held before now (stops.Unread n) =
 Stops M held before now (stops.TooLong n) = M (λ name. held name ≡ Absent) (TooLong n.now)
 Stops M held before now (stops.Refused n kind refusal) =
     M (λ name. held name ≡ Absent) (Refused n.now (kind_text kind) (refusal_text refusal))
-Stops M held before now stops.Unwritten = ⊥
+Stops M held before now (stops.Unwritten n) = ⊥
 Stops M held before now stops.NoMemory = ⊤
 
 -- a status for an outcome before anything is written: its own, that for want of memory, or that for

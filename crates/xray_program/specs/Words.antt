@@ -2,6 +2,7 @@
 use Rattle.std.specs.Prelude.{ℕ, ◌==◌, ◌&&◌, List, [], ◌∷◌, length, Bool, true, false, not, nat_le, nat_eq, if◌then◌else◌, Option, Some, None, codes, map, option_map, slice_index, String, string_bytes}
 use Rattle.std.specs.Cmp.Lexicographic.{pointwise}
 use Rattle.std.specs.List.{after_first, before_first, filter_map, list_all, list_any}
+use Rattle.std.specs.Option.{option_map_or}
 use Rattle.std.specs.Str.{all_ascii_digits}
 use Rattle.std.specs.Str.Parse.{digits_value, without_leading_plus}
 use Rattle.std.specs.declared.alloc.Global.{Global}
@@ -12,6 +13,7 @@ pub data Command : Type 0 where
   Sim : (image script schedule : List ℕ) → Command
   Plain : (image : List ℕ) → (options : RunOptions) → Command
   Extract : (image : List ℕ) → Command
+  Asm : (text image : List ℕ) → (threshold : ℕ) → Command
 
 -- the bytes of each word
 abbrev pub texts : List (String Global) → List (List ℕ)
@@ -143,6 +145,12 @@ run_options items = with_numbers (number_given threads_option items)
         Some (record { threads = threads; fuel = fuel; passings = passings })
     with_numbers _ _ _ = None
 
+-- ---- the option of `asm`
+
+-- how many instruction lines a function has at the least that gets sleds
+abbrev pub threshold_option : NumberOption
+threshold_option = record { name = codes "--threshold"; least = 0; most = 4294967295; default = 1 }
+
 -- ---- the commands
 
 -- `sim` has three files
@@ -168,6 +176,17 @@ plain_of items =
     of_parts (Some options) (Some image) = Some (Plain image options)
     of_parts _ _ = None
 
+-- `asm` has a text, an image of another name, and the threshold
+abbrev pub asm_of : List Item → Option Command
+asm_of items =
+    if have_only (threshold_option.name ∷ []) items
+    then of_parts (number_given threshold_option items) (files_of items) else None
+  where
+    of_parts : Option ℕ → List (List ℕ) → Option Command
+    of_parts (Some threshold) (text ∷ image ∷ []) =
+        if is_text image text then None else Some (Asm text image threshold)
+    of_parts _ _ = None
+
 -- the command that words say, if they say one
 abbrev pub reading : List (List ℕ) → Option Command
 reading [] = None
@@ -175,4 +194,18 @@ reading (command ∷ words) =
     if is_text command (codes "plain") then plain_of (items_of words)
     else if is_text command (codes "extract") then extract_of (items_of words)
     else if is_text command (codes "sim") then sim_of (items_of words)
+    else if is_text command (codes "asm") then asm_of (items_of words)
     else None
+
+-- ---- the outputs
+
+-- the names of a command's outputs
+abbrev pub outputs_of : Command → List (List ℕ)
+outputs_of (Sim image script schedule) = []
+outputs_of (Plain image options) = []
+outputs_of (Extract image) = []
+outputs_of (Asm text image threshold) = image ∷ []
+
+-- the names of the outputs that words ask for
+abbrev pub outputs_named : List (List ℕ) → List (List ℕ)
+outputs_named said = option_map_or outputs_of (reading said) []

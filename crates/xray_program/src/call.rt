@@ -1,15 +1,17 @@
 //! The top call.
-ghost use Rattle.std.specs.Prelude.{◌≡◌, ◌≢◌, ◌⊎◌, ◌↔◌, ◌≤◌, ℕ, [], ◌∷◌, List, None, IfOk, IfErr, OnOk, codes};
+ghost use Rattle.std.specs.Prelude.{◌≡◌, ◌≢◌, ◌⊎◌, ◌↔◌, ◌≤◌, ℕ, [], ◌∷◌, List, None, Contains, IfOk, IfErr, OnOk, codes};
 ghost use Rattle.xray_io.specs.Desk.{Absent, Holds};
-ghost use Rattle.xray_program.specs.Answers.{LeavesText, Reports, CouldNotRead, CouldNotWrite, IsSimulated, IsAnswer};
+ghost use Rattle.xray_program.specs.Answers.{LeavesAll, Reports, CouldNotRead, CouldNotWrite, IsSimulated, IsAnswer};
 ghost use Rattle.xray_program.specs.Calls.{StopsCall};
 ghost use Rattle.xray_program.specs.Commands.{command_of};
-ghost use Rattle.xray_program.specs.Jobs.{job_text, IsPrintable};
+ghost use Rattle.xray_program.specs.Jobs.{job_outputs, job_text, IsPrintable};
 ghost use Rattle.xray_program.specs.Meaning.{Outcome, Done, Comes, Means, Says, TellsAll, memory_line, write_fault_line};
+ghost use Rattle.xray_program.specs.Outputs.{WritesNothing};
 ghost use Rattle.xray_program.specs.Stops.{answer_of};
 ghost use Rattle.xray_program.specs.Takes.{IsAnswerSoFar, Stops};
-ghost use Rattle.xray_program.specs.Words.{reading, texts};
+ghost use Rattle.xray_program.specs.Words.{outputs_named, reading, texts};
 
+use crate::asm::prepare_asm;
 use crate::extract::prepare_extract;
 use crate::job::Job;
 use crate::plain::prepare_plain;
@@ -19,13 +21,15 @@ use crate::words::{Command, read_words};
 use std::alloc::Global;
 use std::sync::Wait;
 use std::thread::Threads;
-use xray_io::{Desk, Gate, Sink, Wall, WriteFault};
+use xray_io::{Desk, Gate, Sink, Wall};
 
 /// Does what `words` say, which don't hold the program's own name, with the files of `desk`. It
 /// answers the program's status: 0 where all is done; 1 where the words say no command; 2 where an
-/// input isn't of its form; 3 where an input can't be read; 4 where `out` fails; 5 where memory
-/// runs out; 6 where an input has more bytes than its limit. On 1 to 6 a line on `err` says so. It
-/// waits for nobody.
+/// input isn't of its form; 3 where an input can't be read; 4 where an output of the command or
+/// `out` fails; 5 where memory runs out; 6 where an input has more bytes than its limit. On 1 to 6
+/// a line on `err` says so. Only on 0 and 4 is anything written to an output or to `out`; on 4 all
+/// that comes before what failed is whole, and nothing behind it is touched. No other name of the
+/// desk changes. It waits for nobody.
 pub fn xray_still<D: Desk, O: Sink, E: Sink>(
     alloc: Global,
     words: &[String],
@@ -37,8 +41,9 @@ pub fn xray_still<D: Desk, O: Sink, E: Sink>(
     // No other status comes.
     ensures status { result ≤ 6 }
 
-    // 0: out got exactly the text that the words mean, and err nothing.
-    ensures done { result ≡ 0 → LeavesText (texts words.now) (D.held desk.old)
+    // 0: the outputs that the words mean hold exactly their bytes, out got exactly the text, and
+    // err nothing.
+    ensures done { result ≡ 0 → LeavesAll (texts words.now) (D.held desk.old) (D.held desk.new)
         (O.written out.old) (O.written out.new) }
     ensures silent { result ≡ 0 → E.written err.new ≡ E.written err.old }
 
@@ -48,25 +53,31 @@ pub fn xray_still<D: Desk, O: Sink, E: Sink>(
         → Reports (texts words.now) (D.held desk.old) result
         (E.faults err.old) (E.faults err.new) (E.written err.old) (E.written err.new) }
 
-    // 3 names an input whose turn had come, 4 the output, and 5 want of memory.
+    // 3 names an input whose turn had come, 4 the output that failed, and 5 want of memory.
     ensures unread { result ≡ 3 → CouldNotRead (texts words.now) (D.held desk.old)
         (D.read_faults desk.old) (D.read_faults desk.new)
         (E.faults err.old) (E.faults err.new) (E.written err.old) (E.written err.new) }
-    ensures unwritten { result ≡ 4 → CouldNotWrite (texts words.now) (D.held desk.old)
-        (O.faults out.old) (O.faults out.new) (O.written out.old) (O.written out.new) }
-    ensures unwritten_line { result ≡ 4 → Says (E.faults err.old) (E.faults err.new)
-        (E.written err.old) (E.written err.new) (write_fault_line (codes "output")) }
+    ensures unwritten { result ≡ 4 → (name : List ℕ)
+        × CouldNotWrite (texts words.now) (D.held desk.old) (D.held desk.new)
+        (D.write_faults desk.old) (D.write_faults desk.new)
+        (O.faults out.old) (O.faults out.new) (O.written out.old) (O.written out.new) name
+        × Says (E.faults err.old) (E.faults err.new)
+        (E.written err.old) (E.written err.new) (write_fault_line name) }
     ensures memory { result ≡ 5 → Says (E.faults err.old) (E.faults err.new)
         (E.written err.old) (E.written err.new) memory_line }
 
-    // What stays the same: out but on 0 and 4, and the desk always.
-    ensures untouched { result ≢ 0 → result ≢ 4 → O.written out.new ≡ O.written out.old }
-    ensures names { D.held desk.new ≡ D.held desk.old }
+    // What stays the same: out and the desk but on 0 and 4, and always each name that is no output
+    // of the command.
+    ensures untouched { result ≢ 0 → result ≢ 4 → WritesNothing (D.held desk.old) (D.held desk.new)
+        (O.written out.old) (O.written out.new) }
+    ensures names { (name : List ℕ) → ¬ Contains (outputs_named (texts words.now)) name
+        → D.held desk.new name ≡ D.held desk.old name }
 
     // What the words mean comes, unless memory runs out or a fault is counted.
     ensures complete { (outcome : Outcome) → TellsAll (D.held desk.old)
         → Means (texts words.now) (D.held desk.old) outcome
         → IsAnswer outcome (D.read_faults desk.old) (D.read_faults desk.new)
+        (D.write_faults desk.old) (D.write_faults desk.new)
         (O.faults out.old) (O.faults out.new) result }
 
     // With status 0 the state text of the replay is on out.
@@ -101,8 +112,9 @@ pub fn xray<T: Threads + Wait + Sync, D: Desk, O: Sink, E: Sink, G: Gate + Sync>
     // No other status comes.
     ensures status { result ≤ 6 }
 
-    // 0: out got exactly the text that the words mean, and err nothing.
-    ensures done { result ≡ 0 → LeavesText (texts words.now) (D.held desk.old)
+    // 0: the outputs that the words mean hold exactly their bytes, out got exactly the text, and
+    // err nothing.
+    ensures done { result ≡ 0 → LeavesAll (texts words.now) (D.held desk.old) (D.held desk.new)
         (O.written out.old) (O.written out.new) }
     ensures silent { result ≡ 0 → E.written err.new ≡ E.written err.old }
 
@@ -112,25 +124,31 @@ pub fn xray<T: Threads + Wait + Sync, D: Desk, O: Sink, E: Sink, G: Gate + Sync>
         → Reports (texts words.now) (D.held desk.old) result
         (E.faults err.old) (E.faults err.new) (E.written err.old) (E.written err.new) }
 
-    // 3 names an input whose turn had come, 4 the output, and 5 want of memory.
+    // 3 names an input whose turn had come, 4 the output that failed, and 5 want of memory.
     ensures unread { result ≡ 3 → CouldNotRead (texts words.now) (D.held desk.old)
         (D.read_faults desk.old) (D.read_faults desk.new)
         (E.faults err.old) (E.faults err.new) (E.written err.old) (E.written err.new) }
-    ensures unwritten { result ≡ 4 → CouldNotWrite (texts words.now) (D.held desk.old)
-        (O.faults out.old) (O.faults out.new) (O.written out.old) (O.written out.new) }
-    ensures unwritten_line { result ≡ 4 → Says (E.faults err.old) (E.faults err.new)
-        (E.written err.old) (E.written err.new) (write_fault_line (codes "output")) }
+    ensures unwritten { result ≡ 4 → (name : List ℕ)
+        × CouldNotWrite (texts words.now) (D.held desk.old) (D.held desk.new)
+        (D.write_faults desk.old) (D.write_faults desk.new)
+        (O.faults out.old) (O.faults out.new) (O.written out.old) (O.written out.new) name
+        × Says (E.faults err.old) (E.faults err.new)
+        (E.written err.old) (E.written err.new) (write_fault_line name) }
     ensures memory { result ≡ 5 → Says (E.faults err.old) (E.faults err.new)
         (E.written err.old) (E.written err.new) memory_line }
 
-    // What stays the same: out but on 0 and 4, and the desk always.
-    ensures untouched { result ≢ 0 → result ≢ 4 → O.written out.new ≡ O.written out.old }
-    ensures names { D.held desk.new ≡ D.held desk.old }
+    // What stays the same: out and the desk but on 0 and 4, and always each name that is no output
+    // of the command.
+    ensures untouched { result ≢ 0 → result ≢ 4 → WritesNothing (D.held desk.old) (D.held desk.new)
+        (O.written out.old) (O.written out.new) }
+    ensures names { (name : List ℕ) → ¬ Contains (outputs_named (texts words.now)) name
+        → D.held desk.new name ≡ D.held desk.old name }
 
     // What the words mean comes, unless memory runs out or a fault is counted.
     ensures complete { (outcome : Outcome) → TellsAll (D.held desk.old)
         → Means (texts words.now) (D.held desk.old) outcome
         → IsAnswer outcome (D.read_faults desk.old) (D.read_faults desk.new)
+        (D.write_faults desk.old) (D.write_faults desk.new)
         (O.faults out.old) (O.faults out.new) result }
 
     // With status 0 the state text of the replay is on out.
@@ -149,31 +167,35 @@ fn perform<'a, D: Desk, O: Sink>(
     desk: &mut D,
     out: &mut O,
 ) -> Result<(), Stop<'a>>
-    ensures done { OnOk result (LeavesText (texts words.now) (D.held desk.old)
+    ensures done { OnOk result (LeavesAll (texts words.now) (D.held desk.old) (D.held desk.new)
         (O.written out.old) (O.written out.new)) }
-    ensures stops { IfErr result (StopsCall (texts words.now) (D.held desk.old)
+    ensures stops { IfErr result (StopsCall (texts words.now) (D.held desk.old) (D.held desk.new)
         (D.read_faults desk.old) (D.read_faults desk.new)
+        (D.write_faults desk.old) (D.write_faults desk.new)
         (O.faults out.old) (O.faults out.new) (O.written out.old) (O.written out.new)) }
     ensures complete { (outcome : Outcome) → TellsAll (D.held desk.old)
         → Means (texts words.now) (D.held desk.old) outcome
         → IsAnswer outcome (D.read_faults desk.old) (D.read_faults desk.new)
+        (D.write_faults desk.old) (D.write_faults desk.new)
         (O.faults out.old) (O.faults out.new) (answer_of result) }
-    ensures held { D.held desk.new ≡ D.held desk.old }
+    ensures names { (name : List ℕ) → ¬ Contains (outputs_named (texts words.now)) name
+        → D.held desk.new name ≡ D.held desk.old name }
 {
     let Some(command) = read_words(words) else {
         return Err(Stop::BadLine);
     };
     let job = prepare(alloc, desk, command)?;
-    match job.deliver(out) {
-        Ok(()) => Ok(()),
-        Err(WriteFault) => Err(Stop::Unwritten),
-    }
+    job.deliver(desk, out)
 }
 
 /// Takes the inputs of a command, and does all of its work but to write its outputs.
-fn prepare<'a, D: Desk>(alloc: Global, desk: &mut D, command: Command<'a>) -> Result<Job, Stop<'a>>
+fn prepare<'a, D: Desk>(
+    alloc: Global,
+    desk: &mut D,
+    command: Command<'a>,
+) -> Result<Job<'a>, Stop<'a>>
     ensures ready { IfOk result (λ job. Comes (λ name. D.held desk.old name ≡ Absent)
-        (D.held desk.old) (command_of command.entry) (Done [] (job_text job))) }
+        (D.held desk.old) (command_of command.entry) (Done (job_outputs job) (job_text job))) }
     ensures printable { IfOk result IsPrintable }
     ensures stops { IfErr result (Stops
         (λ fails. Comes fails (D.held desk.old) (command_of command.entry))
@@ -184,6 +206,7 @@ fn prepare<'a, D: Desk>(alloc: Global, desk: &mut D, command: Command<'a>) -> Re
         → IsAnswerSoFar (D.read_faults desk.old) (D.read_faults desk.new)
         outcome (answer_of result) }
     ensures held { D.held desk.new ≡ D.held desk.old }
+    ensures writes { D.write_faults desk.new ≡ D.write_faults desk.old }
 {
     match command {
         Command::Sim {
@@ -193,5 +216,10 @@ fn prepare<'a, D: Desk>(alloc: Global, desk: &mut D, command: Command<'a>) -> Re
         } => prepare_sim(alloc, desk, image, script, schedule),
         Command::Plain { image, options } => prepare_plain(alloc, desk, image, options),
         Command::Extract { image } => prepare_extract(alloc, desk, image),
+        Command::Asm {
+            text,
+            image,
+            threshold,
+        } => prepare_asm(alloc, desk, text, image, threshold),
     }
 }

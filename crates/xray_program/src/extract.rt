@@ -1,7 +1,7 @@
 //! `extract`: the text of an image's sled map.
-ghost use Rattle.std.specs.Prelude.{◌≡◌, [], IfOk, IfErr};
+ghost use Rattle.std.specs.Prelude.{◌≡◌, IfOk, IfErr};
 ghost use Rattle.xray_io.specs.Desk.{Absent};
-ghost use Rattle.xray_program.specs.Jobs.{job_text, IsPrintable};
+ghost use Rattle.xray_program.specs.Jobs.{job_outputs, job_text, IsPrintable};
 ghost use Rattle.xray_program.specs.Meaning.{Outcome, Done, Comes, TellsAll};
 ghost use Rattle.xray_program.specs.Stops.{answer_of};
 ghost use Rattle.xray_program.specs.Takes.{IsAnswerSoFar, Stops};
@@ -18,9 +18,9 @@ pub(crate) fn prepare_extract<'a, D: Desk>(
     alloc: Global,
     desk: &mut D,
     image: &'a str,
-) -> Result<Job, Stop<'a>>
+) -> Result<Job<'a>, Stop<'a>>
     ensures ready { IfOk result (λ job. Comes (λ name. D.held desk.old name ≡ Absent)
-        (D.held desk.old) (Extract image.now) (Done [] (job_text job))) }
+        (D.held desk.old) (Extract image.now) (Done (job_outputs job) (job_text job))) }
     ensures printable { IfOk result IsPrintable }
     ensures stops { IfErr result (Stops
         (λ fails. Comes fails (D.held desk.old) (Extract image.now))
@@ -31,6 +31,7 @@ pub(crate) fn prepare_extract<'a, D: Desk>(
         → IsAnswerSoFar (D.read_faults desk.old) (D.read_faults desk.new)
         outcome (answer_of result) }
     ensures held { D.held desk.new ≡ D.held desk.old }
+    ensures writes { D.write_faults desk.new ≡ D.write_faults desk.old }
 {
     let program = take_image(alloc, desk, image)?;
     Ok(Job::SledMap(program))

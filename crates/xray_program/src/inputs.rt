@@ -1,14 +1,15 @@
 //! The inputs in their turn: each is read, measured and judged before the next is opened.
 ghost use Rattle.std.specs.Prelude.{◌≡◌, ◌≤◌, IfOk, IfErr, OnOk};
 ghost use Rattle.xray_program.specs.FirstRun.{first_script};
-ghost use Rattle.xray_program.specs.Inputs.{first_run_form, image_form, schedule_form, script_form};
-ghost use Rattle.xray_program.specs.Takes.{Fails, Gives, FailsToRead, GivesBytes, IsImageStop};
+ghost use Rattle.xray_program.specs.Inputs.{first_run_form, image_form, schedule_form, script_form, text_form};
+ghost use Rattle.xray_program.specs.Takes.{Fails, Gives, FailsToRead, GivesBytes, IsImageStop, IsTextStop};
 
 use crate::early::Early;
 use crate::early_schedule::read_schedule;
 use crate::early_script::read_script;
 use crate::refusal::Refusal;
 use crate::stop::{Kind, Stop};
+use asm_text::{AsmFault, assemble};
 use std::alloc::Global;
 use step_sim::Turns;
 use xray_image::{Image, ImageFault, read_image};
@@ -16,6 +17,9 @@ use xray_io::{Desk, ReadError, read_whole};
 
 /// How many bytes an image file has at most.
 const IMAGE_LIMIT: u64 = 4_194_304;
+
+/// How many bytes an assembler text has at most.
+const TEXT_LIMIT: u64 = 4_194_304;
 
 /// How many bytes a script has at most.
 const SCRIPT_LIMIT: u64 = 1_048_576;
@@ -34,6 +38,7 @@ pub(crate) fn take_image<'a, D: Desk>(
         (D.read_faults desk.old) (D.read_faults desk.new)) }
     ensures held { D.held desk.new ≡ D.held desk.old }
     ensures later { D.read_faults desk.old ≤ D.read_faults desk.new }
+    ensures writes { D.write_faults desk.new ≡ D.write_faults desk.old }
 {
     let bytes = take_bytes(alloc, desk, name, IMAGE_LIMIT)?;
     match read_image(alloc, &bytes) {
@@ -56,6 +61,42 @@ fn image_stop(name: &str, fault: ImageFault) -> Stop<'_>
     }
 }
 
+/// Takes an assembler text, and assembles it: the bytes of its image file.
+pub(crate) fn take_text<'a, D: Desk>(
+    alloc: Global,
+    desk: &mut D,
+    name: &'a str,
+    threshold: u32,
+) -> Result<Vec<u8>, Stop<'a>>
+    ensures gives { IfOk result (λ file.
+        Gives (text_form threshold) (D.held desk.old name.now) file.items) }
+    ensures fails { IfErr result (Fails (text_form threshold) (D.held desk.old) name.now
+        (D.read_faults desk.old) (D.read_faults desk.new)) }
+    ensures held { D.held desk.new ≡ D.held desk.old }
+    ensures later { D.read_faults desk.old ≤ D.read_faults desk.new }
+    ensures writes { D.write_faults desk.new ≡ D.write_faults desk.old }
+{
+    let bytes = take_bytes(alloc, desk, name, TEXT_LIMIT)?;
+    match assemble(alloc, &bytes, threshold) {
+        Ok(file) => Ok(file),
+        Err(fault) => Err(text_stop(name, fault)),
+    }
+}
+
+/// What an assembler text's fault comes to.
+fn text_stop(name: &str, fault: AsmFault) -> Stop<'_>
+    ensures { IsTextStop name.now fault result }
+{
+    match fault {
+        AsmFault::NoMemory => Stop::NoMemory,
+        _ => Stop::Refused {
+            name,
+            kind: Kind::Text,
+            refusal: Refusal::Unassembled(fault),
+        },
+    }
+}
+
 /// Takes an image file of the form that `sim` runs.
 pub(crate) fn take_first_run<'a, D: Desk>(
     alloc: Global,
@@ -67,6 +108,7 @@ pub(crate) fn take_first_run<'a, D: Desk>(
         (D.read_faults desk.old) (D.read_faults desk.new)) }
     ensures held { D.held desk.new ≡ D.held desk.old }
     ensures later { D.read_faults desk.old ≤ D.read_faults desk.new }
+    ensures writes { D.write_faults desk.new ≡ D.write_faults desk.old }
 {
     let image = take_image(alloc, desk, name)?;
     if !image.is_first_run() {
@@ -90,6 +132,7 @@ pub(crate) fn take_script<'a, D: Desk>(
         (D.read_faults desk.old) (D.read_faults desk.new)) }
     ensures held { D.held desk.new ≡ D.held desk.old }
     ensures later { D.read_faults desk.old ≤ D.read_faults desk.new }
+    ensures writes { D.write_faults desk.new ≡ D.write_faults desk.old }
 {
     let bytes = take_bytes(alloc, desk, name, SCRIPT_LIMIT)?;
     match read_script(&bytes) {
@@ -115,6 +158,7 @@ pub(crate) fn take_schedule<'a, D: Desk>(
         (D.read_faults desk.old) (D.read_faults desk.new)) }
     ensures held { D.held desk.new ≡ D.held desk.old }
     ensures later { D.read_faults desk.old ≤ D.read_faults desk.new }
+    ensures writes { D.write_faults desk.new ≡ D.write_faults desk.old }
 {
     let bytes = take_bytes(alloc, desk, name, SCHEDULE_LIMIT)?;
     match read_schedule(alloc, &bytes) {
@@ -141,6 +185,7 @@ fn take_bytes<'a, D: Desk>(
         (D.read_faults desk.old) (D.read_faults desk.new)) }
     ensures held { D.held desk.new ≡ D.held desk.old }
     ensures later { D.read_faults desk.old ≤ D.read_faults desk.new }
+    ensures writes { D.write_faults desk.new ≡ D.write_faults desk.old }
 {
     match read_whole(alloc, desk, name, limit) {
         Ok(bytes) => Ok(bytes),

@@ -1,19 +1,26 @@
 //! What is left to do of a command once its inputs were judged and its memory was taken.
-ghost use Rattle.std.specs.Prelude.{OnOk, OnErr};
+ghost use Rattle.std.specs.Prelude.{◌≡◌, ℕ, List, Contains, map, IfErr, OnOk, OnErr};
 ghost use Rattle.std.specs.List.{All, flat_map};
 ghost use Rattle.xray_io.specs.Faults.{Rose};
 ghost use Rattle.xray_io.specs.Sink.{Adds, AddsPrefix};
-ghost use Rattle.xray_program.specs.Jobs.{end_text, job_text, HasRegisters, IsPrintable};
+ghost use Rattle.xray_program.specs.Calls.{StopsJob, StopsOutputs};
+ghost use Rattle.xray_program.specs.Jobs.{end_text, job_outputs, job_text, HasRegisters, IsPrintable};
+ghost use Rattle.xray_program.specs.Outputs.{AreWhole};
 
+use crate::output::write_output;
 use crate::state_text::write_state;
+use crate::stop::Stop;
 use handler_word::Mark;
 use machine_step::{PlainEnd, write_plain};
 use xray_image::{Image, write_extract};
-use xray_io::{Sink, WriteFault};
+use xray_io::{Desk, Sink, WriteFault};
 
-/// What is left to do of a command: to write its outputs.
+/// How err names the standard output.
+const OUT: &str = "output";
+
+/// What is left to do of a command: to write its outputs and its text.
 #[derive(Drop)]
-pub(crate) enum Job {
+pub(crate) enum Job<'a> {
     /// The state text of a thread, and the marks of its passings.
     State {
         /// How the thread ended.
@@ -25,12 +32,65 @@ pub(crate) enum Job {
     Ends(Vec<PlainEnd>),
     /// The text of an image's sled map.
     SledMap(Image),
+    /// An image file.
+    Image {
+        /// The output's name.
+        name: &'a str,
+        /// The file's bytes.
+        file: Vec<u8>,
+    },
 }
 
-impl Job {
+impl<'a> Job<'a> {
+    /// Creates and writes the outputs, each in its turn, and then writes the text on out. Nothing
+    /// is done behind what fails.
+    pub(crate) fn deliver<D: Desk, O: Sink>(
+        &self,
+        desk: &mut D,
+        out: &mut O,
+    ) -> Result<(), Stop<'a>>
+        requires { IsPrintable self.now }
+        ensures whole { OnOk result
+            (AreWhole (job_outputs self.now) (D.held desk.old) (D.held desk.new)) }
+        ensures all { OnOk result
+            (Adds (O.written out.old) (O.written out.new) (job_text self.now)) }
+        ensures stops { IfErr result (StopsJob (job_outputs self.now) (job_text self.now)
+            (D.held desk.old) (D.held desk.new)
+            (D.write_faults desk.old) (D.write_faults desk.new)
+            (O.faults out.old) (O.faults out.new) (O.written out.old) (O.written out.new)) }
+        ensures others { (other : List ℕ)
+            → ¬ Contains (map (λ output. output.0) (job_outputs self.now)) other
+            → D.held desk.new other ≡ D.held desk.old other }
+    {
+        self.write_outputs(desk)?;
+        match self.write_text(out) {
+            Ok(()) => Ok(()),
+            Err(WriteFault) => Err(Stop::Unwritten(OUT)),
+        }
+    }
+
+    /// Creates and writes the outputs, each in its turn.
+    fn write_outputs<D: Desk>(&self, desk: &mut D) -> Result<(), Stop<'a>>
+        ensures whole { OnOk result
+            (AreWhole (job_outputs self.now) (D.held desk.old) (D.held desk.new)) }
+        ensures stops { IfErr result (StopsOutputs (job_outputs self.now)
+            (D.held desk.old) (D.held desk.new)
+            (D.write_faults desk.old) (D.write_faults desk.new)) }
+        ensures others { (other : List ℕ)
+            → ¬ Contains (map (λ output. output.0) (job_outputs self.now)) other
+            → D.held desk.new other ≡ D.held desk.old other }
+    {
+        match self {
+            Job::State { .. } => Ok(()),
+            Job::Ends(_) => Ok(()),
+            Job::SledMap(_) => Ok(()),
+            Job::Image { name, file } => write_output(desk, name, file),
+        }
+    }
+
     /// Writes the text on out.
-    #[tactic(auto, unfolding(crate::specs::Jobs::job_text, crate::specs::Jobs::IsPrintable))]
-    pub(crate) fn deliver<O: Sink>(&self, out: &mut O) -> Result<(), WriteFault>
+    #[tactic(auto, unfolding(crate::specs::Jobs::job_text, crate::specs::Jobs::IsPrintable), using(crate::proofs::Adding::adds_none))]
+    fn write_text<O: Sink>(&self, out: &mut O) -> Result<(), WriteFault>
         requires { IsPrintable self.now }
         ensures all { OnOk result
             (Adds (O.written out.old) (O.written out.new) (job_text self.now)) }
@@ -42,6 +102,7 @@ impl Job {
             Job::State { end, marks } => write_state(out, end, marks),
             Job::Ends(ends) => write_ends(out, ends),
             Job::SledMap(image) => write_extract(image, out),
+            Job::Image { .. } => Ok(()),
         }
     }
 }

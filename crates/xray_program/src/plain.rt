@@ -1,7 +1,7 @@
 //! `plain`: the plain runs of an image's threads.
-ghost use Rattle.std.specs.Prelude.{◌≡◌, [], IfOk, IfErr};
+ghost use Rattle.std.specs.Prelude.{◌≡◌, IfOk, IfErr};
 ghost use Rattle.xray_io.specs.Desk.{Absent};
-ghost use Rattle.xray_program.specs.Jobs.{job_text, AreEnds, IsPrintable};
+ghost use Rattle.xray_program.specs.Jobs.{job_outputs, job_text, AreEnds, IsPrintable};
 ghost use Rattle.xray_program.specs.Meaning.{Outcome, Done, Comes, TellsAll};
 ghost use Rattle.xray_program.specs.Plain.{limits_of};
 ghost use Rattle.xray_program.specs.Stops.{answer_of};
@@ -23,9 +23,9 @@ pub(crate) fn prepare_plain<'a, D: Desk>(
     desk: &mut D,
     image: &'a str,
     options: RunOptions,
-) -> Result<Job, Stop<'a>>
+) -> Result<Job<'a>, Stop<'a>>
     ensures ready { IfOk result (λ job. Comes (λ name. D.held desk.old name ≡ Absent)
-        (D.held desk.old) (Plain image.now options) (Done [] (job_text job))) }
+        (D.held desk.old) (Plain image.now options) (Done (job_outputs job) (job_text job))) }
     ensures printable { IfOk result IsPrintable }
     ensures stops { IfErr result (Stops
         (λ fails. Comes fails (D.held desk.old) (Plain image.now options))
@@ -36,6 +36,7 @@ pub(crate) fn prepare_plain<'a, D: Desk>(
         → IsAnswerSoFar (D.read_faults desk.old) (D.read_faults desk.new)
         outcome (answer_of result) }
     ensures held { D.held desk.new ≡ D.held desk.old }
+    ensures writes { D.write_faults desk.new ≡ D.write_faults desk.old }
 {
     let program = take_image(alloc, desk, image)?;
     match run_threads(alloc, &program, options) {

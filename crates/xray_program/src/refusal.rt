@@ -1,9 +1,10 @@
 //! Why an input is refused, in the words of a line on err.
 ghost use Rattle.std.specs.Prelude.{◌≡◌, ◌++◌, codes, decimal};
 ghost use Rattle.xray_io.specs.Piece.{piece_text};
-ghost use Rattle.xray_program.specs.Faults.{decode_text, fault_text, field_text, text_of_words};
+ghost use Rattle.xray_program.specs.Faults.{asm_fault_text, decode_text, fault_text, field_text, text_of_words};
 ghost use Rattle.xray_program.specs.Stops.{refusal_text};
 
+use asm_text::AsmFault;
 use subset_decode::DecodeFault;
 use xray_image::{ImageFault, Which};
 use xray_io::Piece;
@@ -15,6 +16,8 @@ pub(crate) enum Refusal {
     NotYet,
     /// It is an image file with this fault.
     Faulty(ImageFault),
+    /// It is an assembler text with this fault.
+    Unassembled(AsmFault),
 }
 
 /// The words of a refusal, its name and its values, as the pieces of a text.
@@ -41,6 +44,7 @@ impl Refusal {
         match self {
             Refusal::NotYet => name(b"NotYet"),
             Refusal::Faulty(fault) => fault_words(fault),
+            Refusal::Unassembled(fault) => asm_fault_words(fault),
         }
     }
 }
@@ -63,6 +67,21 @@ fn fault_words(fault: ImageFault) -> Words
         ImageFault::Far(number) => numbered(b"Far ", number),
         ImageFault::Target(place) => numbered(b"Target ", place),
         ImageFault::NoMemory => name(b"NoMemory"),
+    }
+}
+
+/// The words of an assembler text's fault.
+fn asm_fault_words(fault: AsmFault) -> Words
+    ensures { text_of_words result ≡ asm_fault_text fault }
+{
+    match fault {
+        AsmFault::Syntax(line) => numbered(b"Syntax ", line),
+        AsmFault::Register(line) => numbered(b"Register ", line),
+        AsmFault::Range(line) => numbered(b"Range ", line),
+        AsmFault::Repeat(line) => numbered(b"Repeat ", line),
+        AsmFault::Limit(line) => numbered(b"Limit ", line),
+        AsmFault::Label(line) => numbered(b"Label ", line),
+        AsmFault::NoMemory => name(b"NoMemory"),
     }
 }
 

@@ -4,7 +4,7 @@ ghost use Rattle.xray_image.specs.Program.{IsAccepted};
 ghost use Rattle.xray_image.specs.FirstRun.{IsFirstRun};
 ghost use Rattle.xray_io.specs.Desk.{Absent};
 ghost use Rattle.xray_program.specs.FirstRun.{first_script, SimPrints};
-ghost use Rattle.xray_program.specs.Jobs.{job_text, IsPrintable};
+ghost use Rattle.xray_program.specs.Jobs.{job_outputs, job_text, IsPrintable};
 ghost use Rattle.xray_program.specs.Meaning.{Outcome, Done, Comes, TellsAll};
 ghost use Rattle.xray_program.specs.Standing.{AreOfOneThread};
 ghost use Rattle.xray_program.specs.Stops.{answer_of};
@@ -44,9 +44,9 @@ pub(crate) fn prepare_sim<'a, D: Desk>(
     image: &'a str,
     script: &'a str,
     schedule: &'a str,
-) -> Result<Job, Stop<'a>>
+) -> Result<Job<'a>, Stop<'a>>
     ensures ready { IfOk result (λ job. Comes (λ name. D.held desk.old name ≡ Absent)
-        (D.held desk.old) (Sim image.now script.now schedule.now) (Done [] (job_text job))) }
+        (D.held desk.old) (Sim image.now script.now schedule.now) (Done (job_outputs job) (job_text job))) }
     ensures printable { IfOk result IsPrintable }
     ensures stops { IfErr result (Stops
         (λ fails. Comes fails (D.held desk.old) (Sim image.now script.now schedule.now))
@@ -57,6 +57,7 @@ pub(crate) fn prepare_sim<'a, D: Desk>(
         → IsAnswerSoFar (D.read_faults desk.old) (D.read_faults desk.new)
         outcome (answer_of result) }
     ensures held { D.held desk.new ≡ D.held desk.old }
+    ensures writes { D.write_faults desk.new ≡ D.write_faults desk.old }
     ensures later { D.read_faults desk.old ≤ D.read_faults desk.new }
 {
     let program = take_first_run(alloc, desk, image)?;
@@ -69,13 +70,18 @@ pub(crate) fn prepare_sim<'a, D: Desk>(
 }
 
 /// Runs the thread, and replays the schedule over its passings.
-#[tactic(auto, unfolding(crate::specs::Jobs::job_text, crate::specs::Jobs::IsPrintable))]
-fn simulate(alloc: Global, image: &Image, schedule: &[Turns]) -> Result<Job, NoMemory>
+#[tactic(auto, unfolding(crate::specs::Jobs::job_outputs, crate::specs::Jobs::job_text, crate::specs::Jobs::IsPrintable))]
+fn simulate<'a>(
+    alloc: Global,
+    image: &Image,
+    schedule: &[Turns],
+) -> Result<Job<'a>, NoMemory>
     requires form { IsFirstRun image.now }
     requires accepted { (bytes : List ℕ) × IsAccepted bytes image.now }
     requires one_thread { All AreOfOneThread schedule.now }
     ensures prints { IfOk result (λ job.
         SimPrints image.now first_script schedule.now (job_text job)) }
+    ensures alone { IfOk result (λ job. job_outputs job ≡ []) }
     ensures printable { IfOk result IsPrintable }
 {
     one_end();

@@ -18,6 +18,8 @@ const LINE_FEED: Piece = Piece::Bytes(b"\n");
 pub(crate) enum Kind {
     /// An image file.
     Image,
+    /// An assembler text.
+    Text,
     /// A script of the patcher.
     Script,
     /// A schedule of turns.
@@ -31,13 +33,14 @@ impl Kind {
     {
         match self {
             Kind::Image => b"image",
+            Kind::Text => b"text",
             Kind::Script => b"script",
             Kind::Schedule => b"schedule",
         }
     }
 }
 
-/// What ends a call before all is done, with the name of the input that it lies in.
+/// What ends a call before all is done, with the name of the input or output that it lies in.
 #[derive(Clone, Copy, Debug)]
 pub(crate) enum Stop<'a> {
     /// The words say no command.
@@ -55,8 +58,8 @@ pub(crate) enum Stop<'a> {
         /// What is wrong with it.
         refusal: Refusal,
     },
-    /// The standard output failed.
-    Unwritten,
+    /// An output can't be written. The standard output is named `output`.
+    Unwritten(&'a str),
     /// Memory ran out.
     NoMemory,
 }
@@ -70,7 +73,7 @@ impl Stop<'_> {
             Stop::BadLine => 1,
             Stop::Refused { .. } => 2,
             Stop::Unread(_) => 3,
-            Stop::Unwritten => 4,
+            Stop::Unwritten(_) => 4,
             Stop::NoMemory => 5,
             Stop::TooLong(_) => 6,
         }
@@ -109,9 +112,14 @@ impl Stop<'_> {
                 kind,
                 refusal,
             } => say(err, &refused_line(name, *kind, *refusal)),
-            Stop::Unwritten => say(
+            Stop::Unwritten(name) => say(
                 err,
-                &[PROGRAM, Piece::Bytes(b"output: write fault"), LINE_FEED],
+                &[
+                    PROGRAM,
+                    Piece::Bytes(name.as_bytes()),
+                    Piece::Bytes(b": write fault"),
+                    LINE_FEED,
+                ],
             ),
             Stop::NoMemory => say(err, &[PROGRAM, Piece::Bytes(b"out of memory"), LINE_FEED]),
         }

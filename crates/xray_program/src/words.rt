@@ -1,7 +1,7 @@
 //! The words of the command line.
 ghost use Rattle.std.specs.Prelude.{◌≡◌, option_copied, option_map};
 ghost use Rattle.xray_program.specs.Commands.{command_of};
-ghost use Rattle.xray_program.specs.Words.{extract_of, items_of, only_file, plain_of, reading, run_options, sim_of, texts};
+ghost use Rattle.xray_program.specs.Words.{asm_of, extract_of, items_of, only_file, plain_of, reading, run_options, sim_of, texts};
 
 use crate::items::{Items, have_only};
 use crate::number_option::NumberOption;
@@ -14,6 +14,9 @@ const PLAIN: &str = "plain";
 
 /// The word of the command that prints the sled map of an image.
 const EXTRACT: &str = "extract";
+
+/// The word of the command that assembles an image.
+const ASM: &str = "asm";
 
 /// How many threads there are.
 const THREADS: NumberOption = NumberOption {
@@ -37,6 +40,14 @@ const PASSINGS: NumberOption = NumberOption {
     least: 0,
     most: 1_048_576,
     default: 1_048_576,
+};
+
+/// How many instruction lines a function has at the least that gets sleds.
+const THRESHOLD: NumberOption = NumberOption {
+    name: "--threshold",
+    least: 0,
+    most: 4_294_967_295,
+    default: 1,
 };
 
 /// What bounds the threads of a run.
@@ -74,6 +85,15 @@ pub(crate) enum Command<'a> {
         /// The image file.
         image: &'a str,
     },
+    /// Assembles an image.
+    Asm {
+        /// The assembler text.
+        text: &'a str,
+        /// The image file, which is the output.
+        image: &'a str,
+        /// How many instruction lines a function has at the least that gets sleds.
+        threshold: u32,
+    },
 }
 
 /// The command that words say, which don't hold the program's own name; `None` where they say none.
@@ -85,6 +105,7 @@ pub(crate) fn read_words(words: &[String]) -> Option<Command<'_>>
         PLAIN => read_plain(rest),
         EXTRACT => read_extract(rest),
         SIM => read_sim(rest),
+        ASM => read_asm(rest),
         _ => None,
     }
 }
@@ -130,6 +151,27 @@ fn read_sim(words: &[String]) -> Option<Command<'_>>
             script,
             schedule,
         }),
+    }
+}
+
+/// `asm TEXT IMAGE`, with its threshold. The image has another name than the text.
+fn read_asm(words: &[String]) -> Option<Command<'_>>
+    ensures { option_map command_of result ≡ asm_of (items_of (texts words.now)) }
+{
+    if !have_only(&[THRESHOLD.name], words) {
+        return None;
+    }
+    let threshold = THRESHOLD.number_in(words)?;
+    let mut items = Items::new(words);
+    let text = items.next_file()?;
+    let image = items.next_file()?;
+    match items.next_file() {
+        None if image != text => Some(Command::Asm {
+            text,
+            image,
+            threshold: threshold as u32,
+        }),
+        _ => None,
     }
 }
 

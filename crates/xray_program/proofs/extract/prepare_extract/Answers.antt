@@ -3,7 +3,7 @@ use Rattle.xray_io.specs.Desk.{Absent}
 use Rattle.xray_image.specs.Extract.{extract_text}
 use Rattle.xray_image.specs.Program.{Program}
 use Rattle.xray_program.specs.Inputs.{image_form}
-use Rattle.xray_program.specs.Jobs.{job_text, IsPrintable}
+use Rattle.xray_program.specs.Jobs.{job_outputs, job_text, IsPrintable}
 use Rattle.xray_program.specs.Meaning.{Outcome, Done, status_of}
 use Rattle.xray_program.specs.Takes.{IsAnswerSoFar}
 use Rattle.xray_program.proofs.Taking.{gives_on, comes_on, answers_here, answers_result}
@@ -20,7 +20,7 @@ returns-in_err-program-clause-complete g c = λ outcome told meant.
     (answers_here image_form held c.args.image.now Maps _ _ _ outcome (told c.args.image.now) c.in_err-program.ensures.fails meant)
 
 pub returns-clause-ready : goal.returns-clause-ready
-unfolding job_text
+unfolding job_outputs job_text
 returns-clause-ready g c =
     let held = g.D.Desk.held c.args.desk.now in
     gives_on image_form (λ name. held name ≡ Absent) held c.args.image.now Maps _ _ c.in_ok-program.ensures.gives refl

@@ -4,7 +4,7 @@ use Rattle.xray_io.specs.Desk.{Absent}
 use Rattle.xray_image.specs.Program.{Program}
 use Rattle.xray_program.specs.declared.words.RunOptions.{RunOptions}
 use Rattle.xray_program.specs.Inputs.{image_form}
-use Rattle.xray_program.specs.Jobs.{end_text, job_text, IsPrintable}
+use Rattle.xray_program.specs.Jobs.{end_text, job_outputs, job_text, IsPrintable}
 use Rattle.xray_program.specs.Meaning.{Outcome, Done, status_of}
 use Rattle.xray_program.specs.Plain.{PlainPrints}
 use Rattle.xray_program.specs.Takes.{IsAnswerSoFar}
@@ -23,7 +23,7 @@ returns-in_err-program-clause-complete g c = λ outcome told meant.
     (answers_here image_form held c.args.image.now (Prints c.args.options) _ _ _ outcome (told c.args.image.now) c.in_err-program.ensures.fails meant)
 
 pub returns-in-Ok-clause-ready : goal.returns-in-Ok-clause-ready
-unfolding job_text
+unfolding job_outputs job_text
 returns-in-Ok-clause-ready g c =
     let held = g.D.Desk.held c.args.desk.now in
     gives_on image_form (λ name. held name ≡ Absent) held c.args.image.now (Prints c.args.options) _ _ c.in_ok-program.ensures.gives

@@ -49,7 +49,8 @@ returns-in-Ok-clause-ready g c =
     let held = g.D.Desk.held c.args.desk.now in
     let script = rw c.take_first_run.ensures.held at c.in_ok-take_script.ensures.gives in
     let schedule = rw (c.take_script.ensures.held, c.take_first_run.ensures.held) at c.in_ok-turns.ensures.gives in
-    ready (λ name. held name ≡ Absent) held _ _ _ _ _ _ c.in_ok-program.ensures.gives script schedule (rw c.deref.ensures.value at c.in-Ok.ensures.prints)
+    rw c.in-Ok.ensures.alone
+    (ready (λ name. held name ≡ Absent) held _ _ _ _ _ _ c.in_ok-program.ensures.gives script schedule (rw c.deref.ensures.value at c.in-Ok.ensures.prints))
 
 pub returns-in-Ok-clause-complete : goal.returns-in-Ok-clause-complete
 returns-in-Ok-clause-complete g c = λ outcome told meant.

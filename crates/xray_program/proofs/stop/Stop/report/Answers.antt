@@ -15,7 +15,9 @@ returns-in-TooLong g c =
     rw c.in-TooLong.is (simp append_assoc says)
 
 pub returns-in-Unwritten : goal.returns-in-Unwritten
-returns-in-Unwritten g c = rw c.in-Unwritten.is c.say-in-Unwritten.ensures
+returns-in-Unwritten g c =
+    let says = rw c.as_bytes-in-Unwritten.ensures.value at c.say-in-Unwritten.ensures in
+    rw c.in-Unwritten.is (simp append_assoc says)
 
 pub returns-in-NoMemory : goal.returns-in-NoMemory
 returns-in-NoMemory g c = rw c.in-NoMemory.is c.say-in-NoMemory.ensures

@@ -1,0 +1,99 @@
+-- Assembler texts in their turn.
+use Rattle.std.proofs.Common.{◌≡◌, ◌≢◌, ◌⊎◌, ◌<◌, ◌≤◌, ◌+◌, ◌^◌, ℕ, List, [], ◌∷◌, length, Result, Ok, Err, Vec, inl, inr, refl, sym, subst, codes, arith}
+use Rattle.std.specs.declared.alloc.Global.{Global}
+use Rattle.std.specs.List.{slice_split}
+use Rattle.std.specs.Str.Lines.{lines, lines_of_parts}
+use Rattle.std.proofs.lemmas.List.Splits.{length-slice_split}
+use Rattle.xray_io.specs.Desk.{Entry}
+use Rattle.asm_text.specs.declared.fault.AsmFault.{AsmFault}
+use Rattle.asm_text.specs.declared.fault.AsmFault.TheVariants as faults
+use Rattle.asm_text.specs.Assembling.{Assembles, seen}
+use Rattle.xray_program.specs.declared.stop.Stop.{Stop}
+use Rattle.xray_program.specs.declared.stop.Stop.TheVariants as stops
+use Rattle.xray_program.specs.Faults.{asm_fault_text}
+use Rattle.xray_program.specs.Inputs.{text_form}
+use Rattle.xray_program.specs.Takes.{Gives, GivesBytes, Rejects, Fails, IsTextStop}
+
+-- a text has at most one line more than bytes
+lines_of_few : (parts : List (List ℕ)) → length (lines_of_parts parts) ≤ length parts
+lines_of_few [] = omega arith
+lines_of_few ([] ∷ []) = omega arith
+lines_of_few ((x ∷ part) ∷ []) = omega arith
+lines_of_few (part ∷ next ∷ more) = let few = lines_of_few (next ∷ more) in omega arith
+
+-- so those of a text within the limit can be counted
+pub few_lines : (text : List ℕ) → length text ≤ 4194304 → length (lines text) < 2 ^ 32 - 1
+few_lines text within = ?
+
+-- what assembling a text comes to, where memory suffices
+abbrev pub Answer : Type 0
+Answer = Result (Vec ℕ Global) AsmFault
+
+-- what an assembler answers of bytes
+pub record Assembler (bytes : List ℕ) (threshold : ℕ) (result : Answer) : Type 0 where
+  pub reads : (result ≡ Err faults.NoMemory) ⊎ Assembles bytes threshold (seen result)
+  pub exact : (verdict : Result (List ℕ) AsmFault) → Assembles bytes threshold verdict
+      → (result ≡ Err faults.NoMemory) ⊎ (seen result ≡ verdict)
+
+-- a text that was assembled is refused for nothing, and has no other image
+pub gives_text : (threshold : ℕ) (entry : Entry) (bytes : List ℕ) (file : Vec ℕ Global) (result : Answer)
+    → GivesBytes 4194304 entry bytes → Assembler bytes threshold result → result ≡ Ok file
+    → Gives (text_form threshold) entry file.items
+gives_text threshold entry bytes file result given assembler is = record {
+  bytes = bytes;
+  held = given.held;
+  within = given.within;
+  reads = read_so assembler.reads;
+  only = λ other reads. only_one other (assembler.exact (Ok other) reads);
+  unrefused = λ refusal refused. never refused.0 (assembler.exact (Err refused.0) refused.1);
+}
+  where
+    shown : seen result ≡ Ok file.items
+    shown = rw is refl
+
+    read_so : (result ≡ Err faults.NoMemory) ⊎ Assembles bytes threshold (seen result) → Assembles bytes threshold (Ok file.items)
+    read_so (inl wanting) = absurd cc
+    read_so (inr reads) = subst (Assembles bytes threshold) shown reads
+
+    only_one : (other : List ℕ) → (result ≡ Err faults.NoMemory) ⊎ (seen result ≡ Ok other) → other ≡ file.items
+    only_one other (inl wanting) = absurd cc
+    only_one other (inr same) = cc
+
+    never : (fault : AsmFault) → (result ≡ Err faults.NoMemory) ⊎ (seen result ≡ Err fault) → ⊥
+    never fault (inl wanting) = cc
+    never fault (inr same) = cc
+
+-- a text that is refused for a fault
+rejects_text : (threshold : ℕ) (entry : Entry) (bytes : List ℕ) (fault : AsmFault) (result : Answer)
+    → GivesBytes 4194304 entry bytes → Assembler bytes threshold result → result ≡ Err fault → fault ≢ faults.NoMemory
+    → Rejects (text_form threshold) entry (asm_fault_text fault)
+rejects_text threshold entry bytes fault result given assembler is named = record {
+  bytes = bytes;
+  held = given.held;
+  within = given.within;
+  refused = (fault, read_so assembler.reads, refl);
+  none = λ file reads. none file (assembler.exact (Ok file) reads);
+}
+  where
+    shown : seen result ≡ Err fault
+    shown = rw is refl
+
+    read_so : (result ≡ Err faults.NoMemory) ⊎ Assembles bytes threshold (seen result) → Assembles bytes threshold (Err fault)
+    read_so (inl wanting) = absurd (named cc)
+    read_so (inr reads) = subst (Assembles bytes threshold) shown reads
+
+    none : (file : List ℕ) → (result ≡ Err faults.NoMemory) ⊎ (seen result ≡ Ok file) → ⊥
+    none file (inl wanting) = named cc
+    none file (inr same) = cc
+
+-- the stop that a fault comes to
+pub fails_text : (threshold : ℕ) (held : List ℕ → Entry) (name : List ℕ) (before now : ℕ) (bytes : List ℕ) (fault : AsmFault)
+    (result : Answer) (stop : Stop) → GivesBytes 4194304 (held name) bytes → Assembler bytes threshold result → result ≡ Err fault
+    → IsTextStop name fault stop → Fails (text_form threshold) held name before now stop
+fails_text threshold held name before now bytes fault result stops.BadLine given assembler is so = so
+fails_text threshold held name before now bytes fault result (stops.Unread n) given assembler is so = absurd so
+fails_text threshold held name before now bytes fault result (stops.TooLong n) given assembler is so = absurd so
+fails_text threshold held name before now bytes fault result (stops.Refused n kind refusal) given assembler is (same, kinds, refusals, named) =
+    (same, rw kinds refl, rw refusals (rejects_text threshold (held name) bytes fault result given assembler is named))
+fails_text threshold held name before now bytes fault result (stops.Unwritten n) given assembler is so = so
+fails_text threshold held name before now bytes fault result stops.NoMemory given assembler is so = tt
