@@ -1,8 +1,8 @@
 -- What every statement of a text that was read keeps to.
-use Rattle.std.proofs.Common.{◌≡◌, ℕ, zero, suc, ◌%◌, ◌<◌, ◌≤◌, Bool, true, false, cond, not, ◌||◌, ◌&&◌, List, [], ◌∷◌, ◌++◌, length, get_or, Option, Some, None, refl, sym, subst, arith, eqb, ltb, leb}
+use Rattle.std.proofs.Common.{◌≡◌, ℕ, zero, suc, ◌%◌, ◌<◌, ◌≤◌, Bool, true, false, cond, not, ◌&&◌, List, [], ◌∷◌, ◌++◌, length, get_or, Option, Some, None, refl, sym, subst, arith, eqb, ltb, leb}
 use Rattle.std.specs.Prelude.{⊤, is_some, find, Result, Ok, Err, option_map, option_and_then, slice_get, unwrap_or}
 use Rattle.std.specs.List.{list_all, filter_map, cons_option, AllByRecursion}
-use Rattle.std.proofs.lemmas.Bool.{ltb-false, leb-true, eqb-true, eqb-false, and_parts}
+use Rattle.std.proofs.lemmas.Bool.{ltb-false, leb-true, eqb-true, eqb-false, and_parts, or_parts, not-false}
 use Rattle.text_lines.specs.Words.{is_clean, words_of}
 use Rattle.asm_text.specs.declared.fault.AsmFault.{AsmFault}
 use Rattle.asm_text.specs.declared.fault.AsmFault.TheVariants as faults
@@ -54,11 +54,11 @@ SmallRegisters (Go branch name) = ⊤
 SmallRegisters (TailJump name) = ⊤
 SmallRegisters Return = ⊤
 
--- a function's name is short, and registers are among the sixteen
+-- a function's name is a name, and registers are among the sixteen
 abbrev pub IsShort : Statement → Type 0
 IsShort (Base address) = ⊤
 IsShort (Entry name) = ⊤
-IsShort (Func name choice) = length name ≤ 255
+IsShort (Func name choice) = is_name name ≡ true
 IsShort (Label name) = ⊤
 IsShort (Does operation) = SmallRegisters operation
 
@@ -115,14 +115,14 @@ named : (word : List ℕ) (choice : Choice) → SaysShort (option_map (λ n. Fun
 named word choice = by_name (is_name word) refl
   where
     by_name : (t : Bool) → is_name word ≡ t → SaysShort (option_map (λ n. Func n choice) (cond t (Some word) None))
-    by_name true h = name_short word h
+    by_name true h = h
     by_name false h = tt
 
 chosen : (word : List ℕ) (choice : Option Choice) → SaysShort (option_and_then (λ n. option_map (λ c. Func n c) choice) (name_of word))
 chosen word choice = by_name (is_name word) refl
   where
     by_name : (t : Bool) → is_name word ≡ t → SaysShort (option_and_then (λ n. option_map (λ c. Func n c) choice) (cond t (Some word) None))
-    by_name true h = mapped (λ c. Func word c) choice (λ _ _. name_short word h)
+    by_name true h = mapped (λ c. Func word c) choice (λ _ _. h)
     by_name false h = tt
 
 says_short : (keyword : Keyword) (behind : List (List ℕ)) → SaysShort (says keyword behind)
@@ -153,17 +153,10 @@ label_short : (word : List ℕ) (behind : List (List ℕ)) → SaysShort (label_
 label_short word [] = mapped Label (option_and_then name_of (before_end 58 word)) (λ _ _. tt)
 label_short word (next ∷ behind) = tt
 
-line_short : (keyword : Option Keyword) (word : List ℕ) (behind : List (List ℕ)) → SaysShort (line_of keyword word behind)
+-- the statement of a line
+pub line_short : (keyword : Option Keyword) (word : List ℕ) (behind : List (List ℕ)) → SaysShort (line_of keyword word behind)
 line_short None word behind = label_short word behind
 line_short (Some keyword) word behind = says_short keyword behind
-
-or_parts : (a b : Bool) → (a || b) ≡ false → (a ≡ false) × (b ≡ false)
-or_parts true b h = absurd (cc h)
-or_parts false b h = (refl, h)
-
-not_false : (b : Bool) → not b ≡ false → b ≡ true
-not_false true h = refl
-not_false false h = absurd (cc h)
 
 -- a register among the sixteen that isn't reserved can be named
 register_fits : (n : ℕ) → n < 16 → is_reserved n ≡ false → IsRegister n
@@ -202,9 +195,9 @@ operation_fits Return small free narrow = tt
 fits_from : (s : Statement) → IsShort s → names_reserved s ≡ false → is_out_of_range s ≡ false → Fits s
 fits_from (Base address) short free range =
     let parts = or_parts (not (eqb (address % 16) 0)) (ltb 0x7FFF00000000 address) range in
-    (eqb-true (address % 16) 0 (not_false (eqb (address % 16) 0) parts.0), ltb-false 0x7FFF00000000 address parts.1)
+    (eqb-true (address % 16) 0 (not-false (eqb (address % 16) 0) parts.0), ltb-false 0x7FFF00000000 address parts.1)
 fits_from (Entry name) short free range = tt
-fits_from (Func name choice) short free range = short
+fits_from (Func name choice) short free range = name_short name short
 fits_from (Label name) short free range = tt
 fits_from (Does operation) short free range = operation_fits operation short free range
 

@@ -19,6 +19,15 @@ pub mod UnitsLaw
 pub mod Assembled
 pub mod SledMapLaw
 pub mod Owners
-pub mod Soundness
 pub mod ReadBack
 pub mod FileFitting
+pub mod SaidLemmas
+pub mod SaidLines
+pub mod EntryLaw
+pub mod HeaderLaw
+pub mod Addresses
+pub mod OwnPlaces
+pub mod FunctionsLaw
+pub mod BranchesLaw
+pub mod ProgramLaw
+pub mod SledNames

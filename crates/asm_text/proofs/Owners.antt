@@ -26,7 +26,7 @@ last_below o address f fs below =
     ap (λ t. last_or o (map (λ (g : Function). g.start) (cond t (f ∷ filter (λ g. leb g.start address) fs) (filter (λ g. leb g.start address) fs)))) (le-leb f.start address below)
 
 -- a start isn't before its line's place, and a line with a sled is longer than its alignment
-start_from : (chosen : Choosing) (place : ℕ) (owner : Owner) (name : List ℕ) (choice : Choice) (behind : Lines)
+pub start_from : (chosen : Choosing) (place : ℕ) (owner : Owner) (name : List ℕ) (choice : Choice) (behind : Lines)
     → place ≤ (owner_of chosen place owner (Func name choice) behind).start
 start_from chosen place owner name choice behind = by_traced (chosen choice (instruction_lines behind))
   where

@@ -13,7 +13,7 @@ use Rattle.asm_text.specs.declared.statement.Branch.TheVariants as branches
 use Rattle.asm_text.specs.Statements.{Plain, Go, TailJump, Return, Statement, Base, Entry, Func, Label, Does}
 use Rattle.asm_text.specs.Layout.{Lines, Part, Fixed, Jump, Placed, Owner, Choosing, owner_of, no_owner, parts_of, parts_at, aligned, placed_from, placed, widths, sled_shift, piece_of, line_pieces, pieces, sled_kind, entry_in, map_entries, functions}
 use Rattle.asm_text.proofs.Placing.{AllLie, parts_length}
-use Rattle.asm_text.specs.Assembling.{trampolines_at}
+use Rattle.asm_text.specs.Programs.{trampolines_at}
 use Rattle.asm_text.proofs.Owners.{LiesAmong, lines_lie}
 
 -- the sleds of pieces behind others

@@ -1,9 +1,15 @@
 -- How many bytes and sleds the parts of a line have.
-use Rattle.std.proofs.Common.{◌≡◌, ℕ, suc, zero, ◌+◌, ◌%◌, ◌<◌, cond, List, [], ◌∷◌, ◌++◌, length, eqb, arith}
+use Rattle.std.proofs.Common.{◌≡◌, ℕ, suc, zero, ◌+◌, ◌%◌, ◌<◌, Bool, true, false, cond, List, [], ◌∷◌, ◌++◌, length, subst, eqb, ltb, arith, append-nil}
 use Rattle.std.specs.Prelude.{sum_by}
-use Rattle.xray_image.specs.Units.{Piece, Align, piece_bytes, sleds_in}
+use Rattle.std.specs.Int.{w32, to_le_bytes}
+use Rattle.subset_decode.specs.declared.instr.Instr.{Instr}
+use Rattle.subset_decode.specs.declared.instr.Instr.TheVariants as instrs
+use Rattle.subset_decode.specs.Encoding.{spelling, opcode_of}
+use Rattle.xray_image.specs.Units.{Piece, JumpSled, ReturnSled, Align, piece_bytes, sleds_in}
 use Rattle.asm_text.specs.declared.statement.Branch.{Branch}
-use Rattle.asm_text.specs.Layout.{Part, Fixed, Jump, aligned, widths, sleds_of, branch_width}
+use Rattle.asm_text.specs.declared.statement.Branch.TheVariants as branches
+use Rattle.asm_text.specs.Statements.{Operation, Plain, Go, TailJump, Return, Does}
+use Rattle.asm_text.specs.Layout.{Part, Fixed, Jump, parts_of, aligned, widths, sleds_of, sled_shift, branch_width}
 
 -- a sled behind the byte that aligns it, by the parity of its place
 abbrev pub at_parity : ℕ → Piece → List Part
@@ -45,3 +51,42 @@ widths_aligned_branch place sled branch name = widths_before_branch (place % 2) 
 pub sleds_aligned_branch : (place : ℕ) (sled : Piece) (branch : Branch) (name : List ℕ)
     → sum_by sleds_of (aligned place sled ++ Jump branch name ∷ []) ≡ sleds_in sled
 sleds_aligned_branch place sled branch name = sleds_before_branch (place % 2) sled branch name (omega arith)
+
+-- ---- an instruction line has a byte
+
+low_has_byte : (low : Bool) (opcode : ℕ) (rest : List ℕ) → 0 < length (cond low (opcode ∷ []) (0x41 ∷ opcode ∷ []) ++ rest)
+low_has_byte true opcode rest = omega arith
+low_has_byte false opcode rest = omega arith
+
+opcode_has_byte : (opcode reg : ℕ) → 0 < length (opcode_of opcode reg)
+opcode_has_byte opcode reg = subst (λ (x : List ℕ). 0 < length x) (append-nil (opcode_of opcode reg)) (low_has_byte (ltb reg 8) (opcode + reg % 8) [])
+
+instr_has_byte : (instr : Instr) → 0 < length (spelling instr)
+instr_has_byte (instrs.Mov dst imm) = low_has_byte (ltb dst 8) (0xB8 + dst % 8) (to_le_bytes w32 imm)
+instr_has_byte (instrs.Add dst src) = omega arith
+instr_has_byte (instrs.Sub dst src) = omega arith
+instr_has_byte (instrs.Push reg) = opcode_has_byte 0x50 reg
+instr_has_byte (instrs.Pop reg) = opcode_has_byte 0x58 reg
+instr_has_byte (instrs.Call rel) = omega arith
+instr_has_byte (instrs.Jmp rel) = omega arith
+instr_has_byte (instrs.Jnz rel) = omega arith
+instr_has_byte instrs.Ret = omega arith
+instr_has_byte (instrs.Out port) = omega arith
+
+branch_has_byte : (branch : Branch) → 0 < branch_width branch
+branch_has_byte branches.Call = omega arith
+branch_has_byte branches.Jmp = omega arith
+branch_has_byte branches.Jnz = omega arith
+
+plain_width : (place : ℕ) (operation : Operation) → 0 < widths (parts_of false place (Does operation))
+plain_width place (Plain instr) = omega (arith, instr_has_byte instr)
+plain_width place (Go branch name) = omega (arith, branch_has_byte branch)
+plain_width place (TailJump name) = omega arith
+plain_width place Return = omega arith
+
+pub operation_width : (traced : Bool) (place : ℕ) (operation : Operation) → 0 < widths (parts_of traced place (Does operation))
+operation_width true place (Plain instr) = plain_width place (Plain instr)
+operation_width true place (Go branch name) = plain_width place (Go branch name)
+operation_width true place (TailJump name) = omega (arith, widths_aligned_branch place (JumpSled sled_shift) branches.Jmp name)
+operation_width true place Return = omega (arith, widths_aligned place (ReturnSled sled_shift))
+operation_width false place operation = plain_width place operation

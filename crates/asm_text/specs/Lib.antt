@@ -7,6 +7,7 @@ pub mod Layout
 pub mod Refusals
 pub mod Writing
 pub mod Assembling
+pub mod Programs
 pub mod Views
 pub mod NameTables
 pub mod Fits

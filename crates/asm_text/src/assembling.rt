@@ -1,10 +1,11 @@
 //! From a text to its image.
 
-ghost use Rattle.std.specs.Prelude.{◌≡◌, ◌<◌, ◌⊎◌, List, ℕ, length, OnOk, Result};
+ghost use Rattle.std.specs.Prelude.{◌≡◌, ◌<◌, ◌⊎◌, List, ℕ, length, IfOk, Result};
 ghost use Rattle.std.specs.Str.Lines.{lines};
 ghost use Rattle.asm_text.specs.declared.fault.AsmFault.{AsmFault as Fault};
 ghost use Rattle.asm_text.specs.declared.fault.AsmFault.TheVariants.{NoMemory};
-ghost use Rattle.asm_text.specs.Assembling.{Assembles, IsSoundImage, seen};
+ghost use Rattle.asm_text.specs.Assembling.{Assembles, seen};
+ghost use Rattle.asm_text.specs.Programs.{IsProgramOf};
 
 use crate::ending::resolve;
 use crate::fault::AsmFault;
@@ -26,8 +27,9 @@ pub fn assemble(alloc: Global, text: &[u8], threshold: u32) -> Result<Vec<u8>, A
     ensures reads { (result ≡ Err NoMemory) ⊎ Assembles text.now threshold (seen result) }
     ensures exact { (verdict : Result (List ℕ) Fault) → Assembles text.now threshold verdict
         → (result ≡ Err NoMemory) ⊎ (seen result ≡ verdict) }
-    // The code and the sled map of an image are as its reader wants them.
-    ensures sound { OnOk result (IsSoundImage text.now threshold) }
+    // Each file is one that a reader of images accepts, and holds exactly the program that the
+    // text says.
+    ensures accepted { IfOk result (λ file. IsProgramOf text.now threshold file.items) }
 {
     let pass = match read_text(alloc, text) {
         Ok(pass) => pass,

@@ -16,6 +16,7 @@ mod first_pass;
 mod header;
 mod keyword;
 mod laid_text;
+mod laws;
 mod layout;
 mod line;
 mod name_table;
@@ -31,6 +32,7 @@ mod write;
 
 pub use assembling::assemble;
 pub use fault::AsmFault;
+pub use laws::{an_assembled_file_is_accepted, each_sled_is_of_its_function};
 
 #[cfg(test)]
 mod tests;

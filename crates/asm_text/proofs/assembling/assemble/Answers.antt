@@ -7,7 +7,7 @@ use Rattle.asm_text.specs.Laying.{placed_in, lines_of}
 use Rattle.asm_text.specs.LaidTexts.{all_in}
 use Rattle.asm_text.specs.Assembling.{assembled}
 use Rattle.asm_text.proofs.Assembled.{assembled_fault, assembled_file, said_whole}
-use Rattle.asm_text.proofs.Soundness.{sound_image}
+use Rattle.asm_text.proofs.ProgramLaw.{holds_program}
 use Rattle.asm_text.proofs.assembling.assemble.Goals as goal
 use Rattle.asm_text.proofs.assembling.assemble.Goals.{In-Err-resolve, In-Ok-write_file}
 
@@ -41,13 +41,13 @@ returns-in-Ok-write_file-clause-reads c = inr (sym (file_verdict (goal.at.return
 pub returns-in-Ok-write_file-clause-exact : goal.returns-in-Ok-write_file-clause-exact
 returns-in-Ok-write_file-clause-exact c = λ verdict is. inr (sym (file_verdict (goal.at.returns-in-Ok-write_file-clause-exact c).In-Ok-write_file) ∙ sym is)
 
--- the code and the sled map
-pub returns-in-Ok-write_file-clause-sound : goal.returns-in-Ok-write_file-clause-sound
-returns-in-Ok-write_file-clause-sound c =
+-- the program
+pub returns-in-Ok-write_file-clause-accepted : goal.returns-in-Ok-write_file-clause-accepted
+returns-in-Ok-write_file-clause-accepted c =
     let said = lines_in c.in-Ok.pass.entries.items in
     let whole : ends_early said ≡ false = sym (c.end_early.ensures said c.in-Ok.ensures.reads.1.totals) ∙ c.if-end_early.false in
     let found : resolved (lines_of (all_in c.in-Ok-new.laid)) (lines_of (all_in c.in-Ok-new.laid)) ≡ Ok (lines_of (all_in c.in-Ok-new.laid)) = search rules in
-    sound_image c.args.text.now c.args.threshold said
+    holds_program c.args.text.now c.args.threshold said
     (said_whole c.args.text.now c.args.threshold said (all_in c.in-Ok-new.laid) c.in-Ok-new.ensures.lines c.in-Ok.ensures.reads.0 whole found)
-    c.in-Ok.ensures.fit
-    c.in-Ok.pass.totals c.in-Ok.ensures.reads.1.totals c.in-Ok.ensures.reads.1.within
+    c.in-Ok-write_file.file.items
+    (file_verdict (goal.at.returns-in-Ok-write_file-clause-accepted c).In-Ok-write_file)

@@ -1,0 +1,113 @@
+-- The image of a text that is refused nowhere is accepted, with the program that the text says.
+use Rattle.std.proofs.Common.{◌≡◌, ℕ, ◌≤◌, List, [], ◌∷◌, map, refl, sym, ap, subst, ◌∙◌, arith}
+use Rattle.std.specs.Prelude.{Ok, sum_by, slice_get}
+use Rattle.std.specs.Option.{option_map_or}
+use Rattle.std.specs.List.{flat_map, filter_map, zip}
+use Rattle.xray_image.specs.declared.sled.Sled.{Sled}
+use Rattle.xray_image.specs.Container.{MapEntry}
+use Rattle.xray_image.specs.Units.{piece_bytes, units_from, places_from}
+use Rattle.xray_image.specs.Program.{Program, IsAccepted, sled_of}
+use Rattle.asm_text.specs.Layout.{Lines, Placed, Choosing, by_threshold, placed, no_owner, base_of, entry_in_line, all_parts, sleds_of, widths, pieces, functions, map_entries}
+use Rattle.asm_text.specs.Refusals.{◌>>=◌}
+use Rattle.asm_text.specs.Writing.{file_bytes}
+use Rattle.asm_text.specs.Assembling.{said_by, image_of, assembled}
+use Rattle.asm_text.specs.Programs.{sled_said, entry_address, trampolines_at, program_said, IsProgramOf}
+use Rattle.asm_text.proofs.Placing.{all_lie, code_length, functions_count, sleds_count}
+use Rattle.asm_text.proofs.Monotone.{no_more}
+use Rattle.asm_text.proofs.WriteLemmas.{length-functions, length-map_entries}
+use Rattle.asm_text.proofs.ReadBack.{FileFits}
+use Rattle.asm_text.proofs.FileFitting.{image_fits}
+use Rattle.asm_text.proofs.Fitting.{base_aligned, base_fits}
+use Rattle.asm_text.proofs.UnitsLaw.{code_is_units}
+use Rattle.asm_text.proofs.SledMapLaw.{sled_lines, place_for, entry_for, places_by_lines, map_by_lines, even_sleds, map_order, entries_tell, near_sleds}
+use Rattle.asm_text.proofs.SaidLemmas.{said_fits, said_within}
+use Rattle.asm_text.proofs.SaidLines.{are_said}
+use Rattle.asm_text.proofs.EntryLaw.{entry_exists, entry_is}
+use Rattle.asm_text.proofs.HeaderLaw.{program_in, IsInOrder, accepted_file}
+use Rattle.asm_text.proofs.FunctionsLaw.{are_functions}
+use Rattle.asm_text.proofs.BranchesLaw.{branches_reach}
+
+-- a sled as the code and the map tell it is that of its line
+sleds_by_lines : (base : ℕ) (entries : List MapEntry) (lines : List (Placed × ℕ))
+    → map (sled_of entries) (zip (map (place_for base) lines) (map (entry_for base) lines)) ≡ map (sled_said entries) (map (entry_for base) lines)
+sleds_by_lines base entries [] = refl
+sleds_by_lines base entries (line ∷ behind) = ap (λ ss. sled_said entries (entry_for base line) ∷ ss) (sleds_by_lines base entries behind)
+
+sleds_told : (base : ℕ) (chosen : Choosing) (said : Lines) → let es = map_entries base (placed chosen said) in
+    map (sled_of es) (zip (places_from base (pieces (placed chosen said))) es) ≡ map (sled_said es) es
+sleds_told base chosen said =
+    let all = placed chosen said in
+    let es = map_entries base all in
+    let lines = sled_lines all in
+    ap (λ ps. map (sled_of es) (zip ps es)) (places_by_lines base chosen said)
+    ∙ ap (λ xs. map (sled_of es) (zip (map (place_for base) lines) xs)) (map_by_lines base all)
+    ∙ sleds_by_lines base es lines
+    ∙ ap (map (sled_said es)) (sym (map_by_lines base all))
+
+-- what the file holds is what the text says
+same_program : (threshold : ℕ) (said : Lines) → program_in (image_of threshold said) (pieces (placed (by_threshold threshold) said)) ≡ program_said threshold said
+same_program threshold said =
+    let base = base_of said in
+    let chosen = by_threshold threshold in
+    let all = placed chosen said in
+    let es = map_entries base all in
+    let made : ℕ → List Sled → Program = λ entry sleds. record {
+      base = base;
+      entry = entry;
+      code = flat_map piece_bytes (pieces all);
+      functions = functions base all;
+      units = units_from base 0 (pieces all);
+      sleds = sleds;
+      trampolines = trampolines_at base;
+    } in
+    ap (λ o. made (option_map_or (λ f. f.start) o 0) (map (sled_of es) (zip (places_from base (pieces all)) es))) (entry_is (slice_get (filter_map (λ line. entry_in_line line.1) said) 0) (functions base all))
+    ∙ ap (made (entry_address said (functions base all))) (sleds_told base chosen said)
+
+module _ (text : List ℕ) (threshold : ℕ) (said : Lines) (read : said_by text ≡ Ok said) where
+  in_order : IsInOrder (image_of threshold said) (pieces (placed (by_threshold threshold) said))
+  in_order =
+      let fit = said_fits text said read in
+      let within = said_within text said read in
+      let chosen = by_threshold threshold in
+      let base = base_of said in
+      let all = placed chosen said in
+      let few : widths (all_parts chosen said) ≤ 1048576 = omega (arith, (no_more threshold said).0, within.code) in
+      let sleds : sum_by sleds_of (all_parts chosen said) ≤ 4096 = omega (arith, (no_more threshold said).1, within.sleds) in
+      let lie = all_lie chosen 1048576 0 no_owner said (omega (arith, few)) in
+      let each = image_fits base chosen said (base_fits said fit) fit few in
+      let file : FileFits (image_of threshold said) = record {
+        code = omega (arith, code_length all, few);
+        function_count = omega (arith, length-functions base all, functions_count chosen 0 no_owner said, within.functions);
+        entry_count = omega (arith, length-map_entries base all, sleds_count all, sleds);
+        each_function = each.0;
+        each_entry = each.1;
+      } in
+      record {
+        fits = file;
+        base_aligned = base_aligned said fit;
+        base_limit = base_fits said fit;
+        code_limit = omega (arith, code_length all, few);
+        functions_limit = omega (arith, length-functions base all, functions_count chosen 0 no_owner said, within.functions);
+        sleds_limit = omega (arith, length-map_entries base all, sleds_count all, sleds);
+        entry_exists = entry_exists base chosen said (are_said text said read);
+        units = code_is_units chosen said fit few;
+        even_sleds = even_sleds base chosen said (base_aligned said fit);
+        functions = are_functions text threshold said read;
+        map_order = map_order base chosen said;
+        entries = entries_tell base chosen said lie;
+        near = near_sleds base chosen said lie;
+        branches = branches_reach text threshold said read;
+      }
+
+  -- the file of the text is accepted
+  pub accepted_image : IsAccepted (file_bytes (image_of threshold said)) (program_said threshold said)
+  accepted_image =
+      subst (IsAccepted (file_bytes (image_of threshold said))) (same_program threshold said)
+      (accepted_file (image_of threshold said) (pieces (placed (by_threshold threshold) said)) in_order)
+
+  -- the same of a file that is the answer for the text
+  pub holds_program : (file : List ℕ) → assembled text threshold ≡ Ok file → IsProgramOf text threshold file
+  holds_program file is =
+      let made : Ok (file_bytes (image_of threshold said)) ≡ Ok file = sym (ap (λ r. r >>= λ lines. Ok (file_bytes (image_of threshold lines))) read) ∙ is in
+      let same : file_bytes (image_of threshold said) ≡ file = cc made in
+      record { said = said; read = read; accepted = subst (λ bytes. IsAccepted bytes (program_said threshold said)) same accepted_image }

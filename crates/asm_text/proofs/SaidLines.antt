@@ -1,0 +1,133 @@
+-- What is known of the lines of a text that was read to its end.
+use Rattle.std.proofs.Common.{◌≡◌, ℕ, ◌<◌, Bool, true, false, cond, not, ◌||◌, List, [], ◌∷◌, ◌++◌, refl, sym, ap, subst, ◌∙◌, arith, append_assoc, append-nil}
+use Rattle.std.specs.Prelude.{⊤, Ok}
+use Rattle.std.specs.Str.Lines.{lines}
+use Rattle.std.proofs.lemmas.List.Sums.{fold-append}
+use Rattle.std.proofs.lemmas.List.Folds.{list_any-append}
+use Rattle.asm_text.specs.declared.fault.AsmFault.TheVariants as faults
+use Rattle.asm_text.specs.Statements.{Statement, Base, Entry, Func, Label, Does}
+use Rattle.asm_text.specs.Language.{keyword_of, statement_of}
+use Rattle.asm_text.specs.Layout.{Lines, is_function, is_instruction, instruction_lines, defines}
+use Rattle.asm_text.specs.Refusals.{has_function, is_bare, is_misplaced, is_defined, repeats, is_unresolved, resolved}
+use Rattle.asm_text.specs.Assembling.{said_by}
+use Rattle.asm_text.proofs.Fitting.{IsShort, SaysShort, line_short}
+use Rattle.asm_text.proofs.SaidLemmas.{Keeps, not_refused, said_parts, said_keeps}
+use Rattle.std.proofs.lemmas.Bool.{or_parts, not-false}
+
+-- ---- each line behind those before it
+
+-- a statement that may stand behind lines
+pub record IsAllowed (before : Lines) (s : Statement) : Type 0 where
+  pub short : IsShort s
+  pub in_place : is_misplaced before s ≡ false
+  pub new_name : repeats before s ≡ false
+
+-- each line may stand behind those before it
+abbrev pub Allowed : Lines → Lines → Type 0
+Allowed before [] = ⊤
+Allowed before (line ∷ behind) = IsAllowed before line.1 × Allowed (before ++ line ∷ []) behind
+
+allowed-more : (before lines : Lines) (number : ℕ) (s : Statement) → Allowed before lines → IsAllowed (before ++ lines) s → Allowed before (lines ++ (number, s) ∷ [])
+allowed-more before [] number s all h = (subst (λ ls. IsAllowed ls s) (append-nil before) h, tt)
+allowed-more before (line ∷ behind) number s all h =
+    (all.0, allowed-more (before ++ line ∷ []) behind number s all.1 (subst (λ ls. IsAllowed ls s) (sym (append_assoc before (line ∷ []) behind)) h))
+
+-- what the words of a line say
+statement_short : (words : List (List ℕ)) → SaysShort (statement_of words)
+statement_short [] = tt
+statement_short (word ∷ behind) = line_short (keyword_of word) word behind
+
+allowed_keeps : Keeps (Allowed [])
+allowed_keeps before number words s all taken =
+    allowed-more [] before number s all (record { short = subst SaysShort taken.said (statement_short words); in_place = taken.in_place; new_name = taken.fresh })
+
+-- ---- the end of the text
+
+-- no line is unresolved
+abbrev pub Settled : Lines → Lines → Type 0
+Settled lines [] = ⊤
+Settled lines (line ∷ behind) = (is_unresolved lines line.1 behind ≡ false) × Settled lines behind
+
+-- the lines of a text that was read to its end
+pub record AreSaid (said : Lines) : Type 0 where
+  pub allowed : Allowed [] said
+  pub some : has_function said ≡ true
+  pub whole : is_bare said ≡ false
+  pub settled : Settled said said
+
+settled_by : (lines behind said : Lines) → resolved lines behind ≡ Ok said → Settled lines behind
+settled_by lines [] said e = tt
+settled_by lines (line ∷ behind) said e =
+    let row = not_refused (is_unresolved lines line.1 behind) (faults.Label line.0) (resolved lines behind) said e in
+    (row.0, settled_by lines behind said row.1)
+
+-- all lines of a text
+pub are_said : (text : List ℕ) (said : Lines) → said_by text ≡ Ok said → AreSaid said
+are_said text said read =
+    let parts = said_parts text said read in
+    let early = or_parts (not (has_function said)) (is_bare said) parts.whole in
+    record {
+      allowed = said_keeps (Allowed []) allowed_keeps tt text said read;
+      some = not-false (has_function said) early.0;
+      whole = early.1;
+      settled = settled_by said said said parts.named;
+    }
+
+-- ---- one line more
+
+pub is_bare-more : (before : Lines) (line : ℕ × Statement) → is_bare (before ++ line ∷ []) ≡ cond (is_function line.1) true (cond (is_instruction line.1) false (is_bare before))
+is_bare-more before line = fold-append (λ bare line. cond (is_function line.1) true (cond (is_instruction line.1) false bare)) false before (line ∷ [])
+
+or_false : (b : Bool) → (b || false) ≡ b
+or_false true = refl
+or_false false = refl
+
+pub has_function-more : (before : Lines) (line : ℕ × Statement) → has_function (before ++ line ∷ []) ≡ (has_function before || is_function line.1)
+has_function-more before line = list_any-append (λ line. is_function line.1) before (line ∷ []) ∙ ap (λ t. has_function before || t) (or_false (is_function line.1))
+
+pub is_defined-more : (name : List ℕ) (before : Lines) (line : ℕ × Statement) → is_defined name (before ++ line ∷ []) ≡ (is_defined name before || defines name line.1)
+is_defined-more name before line = list_any-append (λ line. defines name line.1) before (line ∷ []) ∙ ap (λ t. is_defined name before || t) (or_false (defines name line.1))
+
+-- ---- instruction lines
+
+-- behind a function an instruction line comes before the next one
+abbrev pub IsFilled : Statement → Lines → Type 0
+IsFilled (Base address) behind = ⊤
+IsFilled (Entry name) behind = ⊤
+IsFilled (Func name choice) behind = 0 < instruction_lines behind
+IsFilled (Label name) behind = ⊤
+IsFilled (Does operation) behind = ⊤
+
+abbrev pub AllFilled : Lines → Type 0
+AllFilled [] = ⊤
+AllFilled (line ∷ behind) = IsFilled line.1 behind × AllFilled behind
+
+whole_behind : (before : Lines) (line : ℕ × Statement) (behind : Lines) → is_bare (before ++ line ∷ behind) ≡ false → is_bare ((before ++ line ∷ []) ++ behind) ≡ false
+whole_behind before line behind whole = subst (λ ls. is_bare ls ≡ false) (sym (append_assoc before (line ∷ []) behind)) whole
+
+-- a function that has no instruction line yet gets one
+line_behind : (before behind : Lines) → Allowed before behind → is_bare (before ++ behind) ≡ false → is_bare before ≡ true → 0 < instruction_lines behind
+line_behind before [] all whole bare =
+    let none : is_bare before ≡ false = subst (λ ls. is_bare ls ≡ false) (append-nil before) whole in absurd (cc (bare, none))
+line_behind before ((number, Base address) ∷ behind) all whole bare =
+    line_behind (before ++ (number, Base address) ∷ []) behind all.1 (whole_behind before (number, Base address) behind whole) (is_bare-more before (number, Base address) ∙ bare)
+line_behind before ((number, Entry name) ∷ behind) all whole bare =
+    line_behind (before ++ (number, Entry name) ∷ []) behind all.1 (whole_behind before (number, Entry name) behind whole) (is_bare-more before (number, Entry name) ∙ bare)
+line_behind before ((number, Func name choice) ∷ behind) all whole bare =
+    let filled : is_bare before ≡ false = all.0.in_place in absurd (cc (bare, filled))
+line_behind before ((number, Label name) ∷ behind) all whole bare =
+    line_behind (before ++ (number, Label name) ∷ []) behind all.1 (whole_behind before (number, Label name) behind whole) (is_bare-more before (number, Label name) ∙ bare)
+line_behind before ((number, Does operation) ∷ behind) all whole bare = omega arith
+
+filled_first : (before : Lines) (number : ℕ) (s : Statement) (behind : Lines) → Allowed (before ++ (number, s) ∷ []) behind → is_bare ((before ++ (number, s) ∷ []) ++ behind) ≡ false → IsFilled s behind
+filled_first before number (Base address) behind all whole = tt
+filled_first before number (Entry name) behind all whole = tt
+filled_first before number (Func name choice) behind all whole = line_behind (before ++ (number, Func name choice) ∷ []) behind all whole (is_bare-more before (number, Func name choice))
+filled_first before number (Label name) behind all whole = tt
+filled_first before number (Does operation) behind all whole = tt
+
+pub all_filled : (before lines : Lines) → Allowed before lines → is_bare (before ++ lines) ≡ false → AllFilled lines
+all_filled before [] all whole = tt
+all_filled before (line ∷ behind) all whole =
+    let rest = whole_behind before line behind whole in
+    (filled_first before line.0 line.1 behind all.1 rest, all_filled (before ++ line ∷ []) behind all.1 rest)
