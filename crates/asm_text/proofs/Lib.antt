@@ -24,7 +24,7 @@ pub mod FileFitting
 pub mod SaidLemmas
 pub mod SaidLines
 pub mod EntryLaw
-pub mod HeaderLaw
+pub mod FileLaw
 pub mod Addresses
 pub mod OwnPlaces
 pub mod FunctionsLaw

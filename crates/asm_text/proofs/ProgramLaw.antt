@@ -23,7 +23,7 @@ use Rattle.asm_text.proofs.SledMapLaw.{sled_lines, place_for, entry_for, places_
 use Rattle.asm_text.proofs.SaidLemmas.{said_fits, said_within}
 use Rattle.asm_text.proofs.SaidLines.{are_said}
 use Rattle.asm_text.proofs.EntryLaw.{entry_exists, entry_is}
-use Rattle.asm_text.proofs.HeaderLaw.{program_in, IsInOrder, accepted_file}
+use Rattle.asm_text.proofs.FileLaw.{program_in, IsInOrder, accepted_file}
 use Rattle.asm_text.proofs.FunctionsLaw.{are_functions}
 use Rattle.asm_text.proofs.BranchesLaw.{branches_reach}
 

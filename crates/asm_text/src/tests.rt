@@ -4,6 +4,7 @@ use super::*;
 use std::alloc::{AllocError, Global};
 use std::test::Fail;
 use text_lines::count_lines;
+use xray_image::read_image;
 
 /// The code of a move, an output and a return.
 const MOVE: &[u8] = &[
@@ -138,6 +139,22 @@ fn threshold_decides_where_the_function_does_not(rt: HostRuntime) -> Result<(), 
     let without = verdict(rt.alloc(), b"fn a\nret", 2)?;
     assert_eq!(rt; without.len(), 75);
     assert_eq!(rt; code(&without), [0xC3].as_slice());
+    Ok(())
+}
+
+#[test]
+fn assembled_file_is_read_back(rt: HostRuntime) -> Result<(), Fail> {
+    // The exit sled of f, main and its tail sled each stand behind an alignment byte.
+    let text = b"entry main\nfn f always\nret\nfn main always\ntailjmp f\n";
+    let file = verdict(rt.alloc(), text, 1)?;
+    let image = read_image(rt.alloc(), &file)?;
+    assert_eq!(rt; image.base(), 4096);
+    assert_eq!(rt; image.entry(), 4120);
+    assert_eq!(rt; image.function_count(), 2);
+    assert_eq!(rt; image.sled_count(), 4);
+    assert_eq!(rt; image.name_of(1), Some("f"));
+    assert_eq!(rt; image.name_of(2), Some("main"));
+    assert_eq!(rt; image.name_of(3), None);
     Ok(())
 }
 

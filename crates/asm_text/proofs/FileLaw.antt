@@ -6,7 +6,7 @@ use Rattle.std.specs.List.{flat_map, zip}
 use Rattle.byteorder.specs.Endian.{little_bytes}
 use Rattle.byteorder.specs.Numbers.{little_number-reads_back}
 use Rattle.xray_image.specs.Units.{Piece, IsUnits, units_from, places_from}
-use Rattle.xray_image.specs.Container.{magic, version, base_address, code_length, function_count, entry_count, entry_index, number8_at, Parts}
+use Rattle.xray_image.specs.Container.{magic, version, base_address, code_length, function_count, entry_count, entry_index, number8_at}
 use Rattle.xray_image.specs.Program.{Program, AreFunctions, EachSled, IsEntryOf, Reaches, BranchesReach, IsAccepted, program_of, sled_of}
 use Rattle.asm_text.specs.Programs.{trampolines_at}
 use Rattle.asm_text.specs.Writing.{File, header_bytes, function_bytes, entry_bytes, file_bytes}
@@ -92,9 +92,6 @@ module _ (f : File) (pieces : List Piece) (ordered : IsInOrder f pieces) where
 
   header : IsReadHeader f (file_bytes f)
   header = header_back f ordered.fits ordered.base_limit small_entry
-
-  parts : Parts
-  parts = record { code = f.code; functions = f.functions; entries = f.entries; rest = [] }
 
   -- what the bytes say
   program_read : program_in f pieces ≡ program_of (file_bytes f) (record { code = f.code; functions = f.functions; entries = f.entries; rest = [] }) pieces
