@@ -1,5 +1,5 @@
 -- What stands behind the statuses of the call.
-use Rattle.std.specs.Prelude.{◌&&◌, if◌then◌else◌, IfErr, MatchOption}
+use Rattle.std.specs.Prelude.{◌&&◌, if◌then◌else◌, IfErr, OnOk, MatchOption}
 use Rattle.std.specs.List.{after_first, before_first, list_any}
 use Rattle.std.proofs.Common.{◌≡◌, ◌≢◌, ◌⊎◌, ◌≤◌, length, map, ap, ℕ, Bool, true, false, List, [], ◌∷◌, Option, Some, None, Result, Ok, Err, inl, inr, refl, sym, subst, codes, arith}
 use Rattle.xray_io.specs.Desk.{Entry, Absent, Holds}
@@ -7,27 +7,27 @@ use Rattle.xray_io.specs.Faults.{Rose}
 use Rattle.xray_io.specs.Sink.{Adds}
 use Rattle.xray_program.specs.declared.stop.Stop.{Stop}
 use Rattle.xray_program.specs.declared.stop.Stop.TheVariants as stops
-use Rattle.xray_program.specs.Answers.{LeavesAll, Reports, IsAnswer, IsSimulated}
+use Rattle.xray_program.specs.Answers.{LeavesAll, Reports, CouldNotRead, CouldNotWrite, IsSimulated}
 use Rattle.xray_program.specs.Calls.{StopsCall, StopsJob}
 use Rattle.xray_program.specs.FirstRun.{first_script, SimPrints}
 use Rattle.xray_image.specs.Program.{Program}
 use Rattle.patch_script.specs.declared.command.Command.{Command}
 use Rattle.step_sim.specs.declared.turns.Turns.{Turns}
 use Rattle.xray_program.specs.Inputs.{Form, first_run_form, script_form, schedule_form, ReadsScript}
-use Rattle.xray_program.specs.Meaning.{Outcome, BadLine, Unread, TooLong, Refused, Done, Take, Comes, Means, Says}
+use Rattle.xray_program.specs.Meaning.{Outcome, BadLine, Unread, TooLong, Refused, Done, Take, Comes, Means, Says, write_fault_line}
 use Rattle.xray_program.specs.Outputs.{AreWhole}
-use Rattle.xray_program.specs.Stops.{answer_of, kind_text, refusal_text, stop_status, stop_line}
-use Rattle.xray_program.specs.Takes.{IsAnswerSoFar}
+use Rattle.xray_program.specs.Stops.{kind_text, refusal_text, stop_status, stop_line}
 use Rattle.xray_program.specs.Words.{Sim, Item, File, Given, files_of, have_only, is_equals, is_name, is_text, items_behind, items_of, reading, sim_with}
 use Rattle.xray_program.specs.Words as words
 
 -- ---- 0 and 4
 
-pub leaves_all : (said : List (List ℕ)) (held mid held_now : List ℕ → Entry) (command : words.Command)
-    (outputs : List (List ℕ × List ℕ)) (text : List ℕ) (old new : Option (List ℕ)) → Some command ≡ reading said
-    → mid ≡ held → Comes (λ name. held name ≡ Absent) held command (Done outputs text)
-    → AreWhole outputs mid held_now → Adds old new text → LeavesAll said held held_now old new
-leaves_all said held mid held_now command outputs text old new says same comes whole adds = record {
+pub leaves_all : {X : Type 0} (said : List (List ℕ)) (held mid held_now : List ℕ → Entry) (command : words.Command)
+    (outputs : List (List ℕ × List ℕ)) (text : List ℕ) (old new : Option (List ℕ)) (result : Result X Stop)
+    → Some command ≡ reading said → mid ≡ held → Comes (λ name. held name ≡ Absent) held command (Done outputs text)
+    → OnOk result (AreWhole outputs mid held_now) → OnOk result (Adds old new text) → OnOk result (LeavesAll said held held_now old new)
+leaves_all said held mid held_now command outputs text old new (Err stop) says same comes whole adds = tt
+leaves_all said held mid held_now command outputs text old new (Ok done) says same comes whole adds = record {
   outputs = outputs;
   text = text;
   meant = rw (← says) comes;
@@ -56,30 +56,11 @@ pub stops_call : {X : Type 0} (said : List (List ℕ)) (held mid held_now : List
     → Comes (λ name. held name ≡ Absent) held command (Done outputs text)
     → IfErr result (StopsJob outputs text mid held_now writes_mid writes_now out_before out_now old new)
     → IfErr result (StopsCall said held held_now reads_before reads_now writes_before writes_now out_before out_now old new)
-stops_call said held mid held_now command outputs text rb rn wb wm wn ob on old new (Ok done) says same as comes stopped = tt
-stops_call said held mid held_now command outputs text rb rn wb wm wn ob on old new (Err stop) says same as comes stopped =
+stops_call said held mid held_now command outputs text rb rn wb wm wn ob on old new (Ok done) says same steady comes stopped = tt
+stops_call said held mid held_now command outputs text rb rn wb wm wn ob on old new (Err stop) says same steady comes stopped =
     could_not_write said held held_now command outputs text rb rn wb wn ob on old new says comes stop
-    (subst (λ (w : ℕ). StopsJob outputs text held held_now w wn ob on old new stop) as
+    (subst (λ (w : ℕ). StopsJob outputs text held held_now w wn ob on old new stop) steady
     (subst (λ (h : List ℕ → Entry). StopsJob outputs text h held_now wm wn ob on old new stop) same stopped))
-
--- a job was begun, so 0 answers what is meant, or 4 where it stops
-pub answers_job : {X : Type 0} (outcome : Outcome) (held held_now : List ℕ → Entry) (outputs : List (List ℕ × List ℕ)) (text : List ℕ)
-    (reads_before reads_mid reads_now writes_before writes_mid writes_now out_before out_now : ℕ) (old new : Option (List ℕ))
-    (result : Result X Stop) → writes_mid ≡ writes_before → IsAnswerSoFar reads_before reads_mid outcome 0
-    → IfErr result (StopsJob outputs text held held_now writes_mid writes_now out_before out_now old new)
-    → IsAnswer outcome reads_before reads_now writes_before writes_now out_before out_now (answer_of result)
-answers_job outcome held held_now outputs text rb rm rn wb wm wn ob on old new (Ok done) as (inl is) stopped = inl is
-answers_job outcome held held_now outputs text rb rm rn wb wm wn ob on old new (Ok done) as (inr (inl wanting)) stopped = absurd (omega arith)
-answers_job outcome held held_now outputs text rb rm rn wb wm wn ob on old new (Ok done) as (inr (inr (unread, rose))) stopped = absurd (omega arith)
-answers_job outcome held held_now outputs text rb rm rn wb wm wn ob on old new (Err stops.BadLine) as so stopped = absurd stopped
-answers_job outcome held held_now outputs text rb rm rn wb wm wn ob on old new (Err (stops.Unread n)) as so stopped = absurd stopped
-answers_job outcome held held_now outputs text rb rm rn wb wm wn ob on old new (Err (stops.TooLong n)) as so stopped = absurd stopped
-answers_job outcome held held_now outputs text rb rm rn wb wm wn ob on old new (Err (stops.Refused n kind refusal)) as so stopped = absurd stopped
-answers_job outcome held held_now outputs text rb rm rn wb wm wn ob on old new (Err stops.NoMemory) as so stopped = absurd stopped
-answers_job outcome held held_now outputs text rb rm rn wb wm wn ob on old new (Err (stops.Unwritten n)) as so (inl (fails, same)) =
-    inr (inr (inr (refl, inl (subst (λ (w : ℕ). Rose w wn) as fails.fault))))
-answers_job outcome held held_now outputs text rb rm rn wb wm wn ob on old new (Err (stops.Unwritten n)) as so (inr fails) =
-    inr (inr (inr (refl, inr fails.fault)))
 
 -- ---- 1 and 2
 
@@ -103,6 +84,34 @@ reports said held held_now rb rn wb wn ob on old new before now err_old err_new 
 reports said held held_now rb rn wb wn ob on old new before now err_old err_new stops.NoMemory status stands says is (inl one) = absurd (omega arith)
 reports said held held_now rb rn wb wn ob on old new before now err_old err_new stops.NoMemory status stands says is (inr (inl two)) = absurd (omega arith)
 reports said held held_now rb rn wb wn ob on old new before now err_old err_new stops.NoMemory status stands says is (inr (inr six)) = absurd (omega arith)
+
+-- ---- 3 and 4
+
+pub unread : (said : List (List ℕ)) (held held_now : List ℕ → Entry) (reads_before reads_now writes_before writes_now out_before out_now : ℕ)
+    (old new : Option (List ℕ)) (before now : ℕ) (err_old err_new : Option (List ℕ)) (stop : Stop) (status : ℕ)
+    → StopsCall said held held_now reads_before reads_now writes_before writes_now out_before out_now old new stop
+    → Says before now err_old err_new (stop_line stop) → status ≡ stop_status stop → status ≡ 3
+    → CouldNotRead said held reads_before reads_now before now err_old err_new
+unread said held held_now rb rn wb wn ob on old new before now err_old err_new stops.BadLine status stands says is three = absurd (omega arith)
+unread said held held_now rb rn wb wn ob on old new before now err_old err_new (stops.TooLong n) status stands says is three = absurd (omega arith)
+unread said held held_now rb rn wb wn ob on old new before now err_old err_new (stops.Refused n kind refusal) status stands says is three = absurd (omega arith)
+unread said held held_now rb rn wb wn ob on old new before now err_old err_new (stops.Unread n) status stands says is three =
+    record { name = n.now; turn = stands.0; cause = stands.1; says = says }
+unread said held held_now rb rn wb wn ob on old new before now err_old err_new (stops.Unwritten n) status stands says is three = absurd (omega arith)
+unread said held held_now rb rn wb wn ob on old new before now err_old err_new stops.NoMemory status stands says is three = absurd (omega arith)
+
+pub unwritten : (said : List (List ℕ)) (held held_now : List ℕ → Entry) (reads_before reads_now writes_before writes_now out_before out_now : ℕ)
+    (old new : Option (List ℕ)) (before now : ℕ) (err_old err_new : Option (List ℕ)) (stop : Stop) (status : ℕ)
+    → StopsCall said held held_now reads_before reads_now writes_before writes_now out_before out_now old new stop
+    → Says before now err_old err_new (stop_line stop) → status ≡ stop_status stop → status ≡ 4
+    → (name : List ℕ) × CouldNotWrite said held held_now writes_before writes_now out_before out_now old new name
+    × Says before now err_old err_new (write_fault_line name)
+unwritten said held held_now rb rn wb wn ob on old new before now err_old err_new stops.BadLine status stands says is four = absurd (omega arith)
+unwritten said held held_now rb rn wb wn ob on old new before now err_old err_new (stops.TooLong n) status stands says is four = absurd (omega arith)
+unwritten said held held_now rb rn wb wn ob on old new before now err_old err_new (stops.Refused n kind refusal) status stands says is four = absurd (omega arith)
+unwritten said held held_now rb rn wb wn ob on old new before now err_old err_new (stops.Unread n) status stands says is four = absurd (omega arith)
+unwritten said held held_now rb rn wb wn ob on old new before now err_old err_new (stops.Unwritten n) status stands says is four = (n.now, stands, says)
+unwritten said held held_now rb rn wb wn ob on old new before now err_old err_new stops.NoMemory status stands says is four = absurd (omega arith)
 
 -- ---- the headline
 

@@ -56,7 +56,7 @@ whole_one name bytes old created new is more =
 
 -- ---- an output that failed, where it is the only one
 
-none_whole : (old new : List ℕ → Entry) → AreWhole [] old new
+pub none_whole : (old new : List ℕ → Entry) → AreWhole [] old new
 none_whole old new = All-nil (λ output. new output.0 ≡ made_to_hold (old output.0) output.1)
 
 none_touched : (old new : List ℕ → Entry) → AreUntouched [] old new

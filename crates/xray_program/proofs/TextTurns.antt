@@ -4,6 +4,8 @@ use Rattle.std.specs.declared.alloc.Global.{Global}
 use Rattle.std.specs.List.{slice_split}
 use Rattle.std.specs.Str.Lines.{lines, lines_of_parts}
 use Rattle.std.proofs.lemmas.List.Splits.{length-slice_split}
+use Rattle.std.proofs.lemmas.List.Sums.{count_by-le-length}
+use Rattle.std.specs.Prelude.{◌==◌}
 use Rattle.xray_io.specs.Desk.{Entry}
 use Rattle.asm_text.specs.declared.fault.AsmFault.{AsmFault}
 use Rattle.asm_text.specs.declared.fault.AsmFault.TheVariants as faults
@@ -18,12 +20,17 @@ use Rattle.xray_program.specs.Takes.{Gives, GivesBytes, Rejects, Fails, IsTextSt
 lines_of_few : (parts : List (List ℕ)) → length (lines_of_parts parts) ≤ length parts
 lines_of_few [] = omega arith
 lines_of_few ([] ∷ []) = omega arith
-lines_of_few ((x ∷ part) ∷ []) = omega arith
+lines_of_few ((x ∷ part) ∷ []) = grind arith
 lines_of_few (part ∷ next ∷ more) = let few = lines_of_few (next ∷ more) in omega arith
 
 -- so those of a text within the limit can be counted
-pub few_lines : (text : List ℕ) → length text ≤ 4194304 → length (lines text) < 2 ^ 32 - 1
-few_lines text within = ?
+pub few_lines : (text : List ℕ) → length text ≤ 4194304 → length (lines text) < 4294967295
+few_lines text within =
+    let parts = slice_split (λ b. b == 10) text in
+    let few = lines_of_few parts in
+    let split = length-slice_split (λ b. b == 10) text in
+    let ends = count_by-le-length (λ b. b == 10) text in
+    omega arith
 
 -- what assembling a text comes to, where memory suffices
 abbrev pub Answer : Type 0

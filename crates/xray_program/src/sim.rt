@@ -71,11 +71,7 @@ pub(crate) fn prepare_sim<'a, D: Desk>(
 
 /// Runs the thread, and replays the schedule over its passings.
 #[tactic(auto, unfolding(crate::specs::Jobs::job_outputs, crate::specs::Jobs::job_text, crate::specs::Jobs::IsPrintable))]
-fn simulate<'a>(
-    alloc: Global,
-    image: &Image,
-    schedule: &[Turns],
-) -> Result<Job<'a>, NoMemory>
+fn simulate<'a>(alloc: Global, image: &Image, schedule: &[Turns]) -> Result<Job<'a>, NoMemory>
     requires form { IsFirstRun image.now }
     requires accepted { (bytes : List ℕ) × IsAccepted bytes image.now }
     requires one_thread { All AreOfOneThread schedule.now }

@@ -14,3 +14,12 @@ returns-in-Plain-clause-ready g c = rw c.in-Plain.is c.prepare_plain.ensures.rea
 
 pub returns-in-Plain-clause-complete : goal.returns-in-Plain-clause-complete
 returns-in-Plain-clause-complete g c = rw c.in-Plain.is c.prepare_plain.ensures.complete
+
+pub returns-in-Asm-clause-ready : goal.returns-in-Asm-clause-ready
+returns-in-Asm-clause-ready g c = rw c.in-Asm.is c.prepare_asm.ensures.ready
+
+pub returns-in-Asm-clause-stops : goal.returns-in-Asm-clause-stops
+returns-in-Asm-clause-stops g c = rw c.in-Asm.is c.prepare_asm.ensures.stops
+
+pub returns-in-Asm-clause-complete : goal.returns-in-Asm-clause-complete
+returns-in-Asm-clause-complete g c = rw c.in-Asm.is c.prepare_asm.ensures.complete
