@@ -1,9 +1,8 @@
 -- What stands behind the statuses of the call.
-use Rattle.std.specs.Prelude.{◌&&◌, if◌then◌else◌, IfErr, OnOk, MatchOption}
+use Rattle.std.specs.Prelude.{if◌then◌else◌, IfErr, OnOk, MatchOption}
 use Rattle.std.specs.List.{after_first, before_first, list_any}
-use Rattle.std.proofs.Common.{◌≡◌, ◌≢◌, ◌⊎◌, ◌≤◌, length, map, ap, ℕ, Bool, true, false, List, [], ◌∷◌, Option, Some, None, Result, Ok, Err, inl, inr, refl, sym, subst, codes, arith}
+use Rattle.std.proofs.Common.{◌≡◌, ◌⊎◌, ◌≤◌, length, map, ap, ℕ, Bool, true, false, List, [], ◌∷◌, Option, Some, None, Result, Ok, Err, inl, inr, refl, sym, subst, codes, arith}
 use Rattle.xray_io.specs.Desk.{Entry, Absent, Holds}
-use Rattle.xray_io.specs.Faults.{Rose}
 use Rattle.xray_io.specs.Sink.{Adds}
 use Rattle.xray_program.specs.declared.stop.Stop.{Stop}
 use Rattle.xray_program.specs.declared.stop.Stop.TheVariants as stops
@@ -14,7 +13,7 @@ use Rattle.xray_image.specs.Program.{Program}
 use Rattle.patch_script.specs.declared.command.Command.{Command}
 use Rattle.step_sim.specs.declared.turns.Turns.{Turns}
 use Rattle.xray_program.specs.Inputs.{Form, first_run_form, script_form, schedule_form, ReadsScript}
-use Rattle.xray_program.specs.Meaning.{Outcome, BadLine, Unread, TooLong, Refused, Done, Take, Comes, Means, Says, write_fault_line}
+use Rattle.xray_program.specs.Meaning.{Outcome, BadLine, TooLong, Refused, Done, Take, Comes, Says, write_fault_line}
 use Rattle.xray_program.specs.Outputs.{AreWhole}
 use Rattle.xray_program.specs.Stops.{kind_text, refusal_text, stop_status, stop_line}
 use Rattle.xray_program.specs.Words.{Sim, Item, File, Given, files_of, have_only, is_equals, is_name, is_text, items_behind, items_of, reading, sim_with}

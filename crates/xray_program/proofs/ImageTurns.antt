@@ -1,5 +1,5 @@
 -- Images in their turn.
-use Rattle.std.proofs.Common.{◌≡◌, ◌≢◌, ◌⊎◌, ◌≤◌, ℕ, List, length, Result, Ok, Err, inl, inr, refl, sym, subst, codes}
+use Rattle.std.proofs.Common.{◌≡◌, ◌≢◌, ◌⊎◌, ℕ, List, Ok, Err, inl, inr, refl, sym, subst, codes}
 use Rattle.xray_io.specs.Desk.{Entry}
 use Rattle.xray_image.specs.declared.fault.ImageFault.{ImageFault}
 use Rattle.xray_image.specs.declared.fault.ImageFault.TheVariants as faults
@@ -9,7 +9,7 @@ use Rattle.xray_image.specs.Table.{Verdict, ReadsAs}
 use Rattle.xray_program.specs.declared.stop.Stop.{Stop}
 use Rattle.xray_program.specs.declared.stop.Stop.TheVariants as stops
 use Rattle.xray_program.specs.Faults.{fault_text}
-use Rattle.xray_program.specs.Inputs.{RefusesImage, image_form, first_run_form, ReadsFirstRun}
+use Rattle.xray_program.specs.Inputs.{image_form, first_run_form}
 use Rattle.xray_program.specs.Takes.{Gives, GivesBytes, Rejects, Fails, IsImageStop}
 
 -- what a reader of images answers of bytes

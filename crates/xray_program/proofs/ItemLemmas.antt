@@ -1,11 +1,10 @@
 -- The words behind a command, item by item.
-use Rattle.std.specs.Prelude.{MatchOption}
 use Rattle.std.proofs.Math.Seq.{drop-cons}
 use Rattle.std.proofs.lemmas.List.{drop_all}
-use Rattle.std.proofs.Common.{◌≡◌, ◌<◌, ◌+◌, ◌∙◌, drop, get_or, add-one, ℕ, ◌≤◌, Bool, ◌||◌, true, false, List, [], ◌∷◌, length, Option, Some, None, Bor, refl, sym, ap, arith, codes, map, eqb, cond}
-use Rattle.std.specs.List.{after_first, before_first, list_any, position_or_len}
+use Rattle.std.proofs.Common.{◌≡◌, ◌<◌, ◌+◌, ◌∙◌, drop, get_or, add-one, ℕ, ◌≤◌, Bool, ◌||◌, true, false, List, [], ◌∷◌, length, Some, None, Bor, refl, arith, codes, map}
+use Rattle.std.specs.List.{list_any, position_or_len}
 use Rattle.std.proofs.lemmas.Str.Pattern.{IsSplitOnceResult, split_once_first}
-use Rattle.xray_program.specs.Words.{Item, File, Given, is_equals, is_name, is_text, items_behind}
+use Rattle.xray_program.specs.Words.{Given, is_equals, is_name, is_text, items_behind}
 
 -- a place below the length is that of an element that passes
 passes_within : {X : Type 0} (p : X → Bool) (xs : List X) → position_or_len p xs < length xs → list_any p xs ≡ true

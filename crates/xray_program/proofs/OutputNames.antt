@@ -1,5 +1,5 @@
 -- The names of the outputs that words mean are those that the words have.
-use Rattle.std.proofs.Common.{◌≡◌, ◌≢◌, ℕ, List, [], ◌∷◌, Contains, map, Some, inl, inr, ap, subst}
+use Rattle.std.proofs.Common.{◌≡◌, ℕ, List, [], ◌∷◌, Contains, map, Some, inl, inr, ap, subst}
 use Rattle.xray_io.specs.Desk.{Entry, Absent}
 use Rattle.patch_script.specs.declared.command.Command.{Command}
 use Rattle.step_sim.specs.declared.turns.Turns.{Turns}

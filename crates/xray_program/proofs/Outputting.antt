@@ -1,6 +1,5 @@
 -- An output that is created and written.
 use Rattle.std.proofs.Common.{◌≡◌, ◌≢◌, ◌≤◌, ◌++◌, ◌∙◌, ℕ, List, [], ◌∷◌, length, take, Contains, option_map, inl, inr, refl, sym, ap, arith}
-use Rattle.std.specs.List.{All}
 use Rattle.std.proofs.lemmas.List.Elements.{All-from_recursion, All-nil}
 use Rattle.xray_io.specs.Desk.{Entry, Untold, Absent, Holds, empty_entry, longer_entry}
 use Rattle.xray_io.specs.DeskFile.{bytes_of}

@@ -1,16 +1,12 @@
 -- Plain runs of threads, and their texts.
-use Rattle.std.proofs.Common.{◌≡◌, ◌≢◌, ◌⊎◌, ◌<◌, ◌≤◌, ◌+◌, ◌++◌, ◌∙◌, ℕ, suc, List, [], ◌∷◌, length, map, take, drop, get_or, Option, option_map, Some, None, zero, inl, inr, refl, sym, ap, subst, arith, add-one, length-append}
-use Rattle.std.specs.List.{All, flat_map, slice_get}
+use Rattle.std.proofs.Common.{◌≡◌, ◌⊎◌, ◌+◌, ◌++◌, ◌∙◌, ℕ, suc, List, [], ◌∷◌, length, map, Option, option_map, Some, None, zero, inl, inr, refl, sym, ap, subst}
+use Rattle.std.specs.List.{flat_map, slice_get}
 use Rattle.std.proofs.lemmas.List.{length-map, length_push}
 use Rattle.std.proofs.lemmas.List.Elements.{All-nil, All-push}
-use Rattle.std.proofs.lemmas.Option.{slice_get-map, slice_get_within}
+use Rattle.std.proofs.lemmas.Option.{slice_get-map}
 use Rattle.xray_image.specs.Program.{Program}
-use Rattle.machine_step.specs.declared.end.End.{End}
 use Rattle.machine_step.specs.declared.plain_end.PlainEnd.{PlainEnd}
-use Rattle.machine_step.specs.PlainEnd.{IsPlainEnd, state_of}
-use Rattle.machine_step.specs.PlainStep.{State}
-use Rattle.machine_step.specs.Texts.{plain_text, state_text}
-use Rattle.handler_word.specs.declared.mark.Mark.{Mark}
+use Rattle.machine_step.specs.PlainEnd.{IsPlainEnd}
 use Rattle.xray_program.specs.declared.words.RunOptions.{RunOptions}
 use Rattle.xray_program.specs.Jobs.{AreEnds, HasRegisters, end_text}
 use Rattle.xray_program.specs.Plain.{IsPlainText, PlainPrints, limits_of}

@@ -1,5 +1,5 @@
 -- The words of the lines that are left to read.
-use Rattle.std.proofs.Common.{◌≡◌, ◌≢◌, ◌==◌, ℕ, ◌+◌, List, [], ◌∷◌, length, map, not, Result, Ok, Err, Bool, false, IsTrue, refl, sym, ap, ◌∙◌, arith}
+use Rattle.std.proofs.Common.{◌≡◌, ◌≢◌, ◌==◌, ℕ, ◌+◌, List, [], ◌∷◌, length, map, not, Result, Ok, Err, Bool, false, IsTrue, refl, ap, arith}
 use Rattle.std.specs.Prelude.{filter, OnErr}
 use Rattle.std.specs.List.{enumerate_from, list_all}
 use Rattle.std.specs.Str.Lines.{lines}

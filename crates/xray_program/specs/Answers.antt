@@ -1,6 +1,6 @@
 -- What stands behind each status of the top call.
 use Rattle.std.specs.Prelude.{◌≡◌, ◌⊎◌, ℕ, List, Option}
-use Rattle.xray_io.specs.Desk.{Entry, Absent, Holds}
+use Rattle.xray_io.specs.Desk.{Entry, Absent}
 use Rattle.xray_io.specs.Faults.{Rose}
 use Rattle.xray_io.specs.Sink.{Adds}
 use Rattle.xray_image.specs.Program.{Program, IsAccepted}

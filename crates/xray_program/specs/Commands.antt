@@ -1,5 +1,4 @@
 -- A command line that was read, as the command that it says.
-use Rattle.std.specs.Prelude.{List, ℕ}
 use Rattle.xray_program.specs.declared.items.Item.{Item}
 use Rattle.xray_program.specs.declared.items.Item.TheVariants.{File, Given, Bare}
 use Rattle.xray_program.specs.declared.number_option.NumberOption.{NumberOption}

@@ -1,7 +1,7 @@
-use Rattle.std.proofs.Common.{◌≡◌, List, ℕ, ◌∷◌, subst, rules, inr, sym}
-use Rattle.std.specs.Prelude.{option_to_list, option_copied, OnErr}
+use Rattle.std.proofs.Common.{◌≡◌, ◌∷◌, subst, rules, inr, sym}
+use Rattle.std.specs.Prelude.{option_to_list, option_copied}
 use Rattle.text_lines.specs.Words.{words_of}
-use Rattle.xray_program.specs.Lines.{GivesNoTurns, SaysNoTurns}
+use Rattle.xray_program.specs.Lines.{SaysNoTurns}
 use Rattle.xray_program.proofs.Spoken.{on_err}
 use Rattle.xray_program.proofs.early_schedule.turns_of.Goals as goal
 

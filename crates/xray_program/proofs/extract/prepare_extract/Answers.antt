@@ -1,4 +1,4 @@
-use Rattle.std.proofs.Common.{◌≡◌, List, ℕ, [], inl, refl, sym, ap}
+use Rattle.std.proofs.Common.{◌≡◌, [], inl, refl, sym, ap}
 use Rattle.xray_io.specs.Desk.{Absent}
 use Rattle.xray_image.specs.Extract.{extract_text}
 use Rattle.xray_image.specs.Program.{Program}

@@ -5,7 +5,7 @@ use Rattle.xray_program.specs.Meaning.{Comes}
 use Rattle.xray_program.specs.Takes.{IsAnswerSoFar, Stops}
 use Rattle.xray_program.specs.Words.{Sim}
 use Rattle.xray_program.proofs.Taking.{answers_result, stops_result, fails_since}
-use Rattle.xray_program.proofs.SimTurns.{ready, stops_at_image, stops_at_script, stops_at_schedule, answers_at_image, answers_at_script, answers_at_schedule, answers_ready, one_thread_turns}
+use Rattle.xray_program.proofs.SimTurns.{ready, stops_at_script, stops_at_schedule, answers_at_image, answers_at_script, answers_at_schedule, answers_ready, one_thread_turns}
 use Rattle.xray_program.proofs.sim.prepare_sim.Goals as goal
 
 pub returns-in_err-program-clause-complete : goal.returns-in_err-program-clause-complete
