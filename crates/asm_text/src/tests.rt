@@ -160,7 +160,7 @@ fn assembled_file_is_read_back(rt: HostRuntime) -> Result<(), Fail> {
 
 #[test]
 fn each_refusal_names_its_line(rt: HostRuntime) {
-    let rows: [(&[u8], AsmFault); 25] = [
+    let rows: [(&[u8], AsmFault); 28] = [
         (b"", AsmFault::Syntax(1)),
         (b"mov eax, 1", AsmFault::Syntax(1)),
         (b"fn a", AsmFault::Syntax(2)),
@@ -174,6 +174,7 @@ fn each_refusal_names_its_line(rt: HostRuntime) {
         (b"fn a\nout 0X1\nret", AsmFault::Syntax(2)),
         (b"fn a\nout 18446744073709551616", AsmFault::Syntax(2)),
         (b"fn 1a\nret", AsmFault::Syntax(1)),
+        (b"fn a\nb: ret", AsmFault::Syntax(2)),
         (b"fn a\nret\r", AsmFault::Syntax(2)),
         (b"mov r10d, 1", AsmFault::Syntax(1)),
         (b"fn a\nmov r10d, 99999999999\nret", AsmFault::Register(2)),
@@ -181,15 +182,31 @@ fn each_refusal_names_its_line(rt: HostRuntime) {
         (b"base 0x1001\nfn a\nret", AsmFault::Range(1)),
         (b"base 0x7FFF00000010\nfn a\nret", AsmFault::Range(1)),
         (b"fn a\nout 256\nret", AsmFault::Range(2)),
+        (b"fn a\nmov eax, 0x100000000\nret", AsmFault::Range(2)),
         (b"fn a\nret\nfn a\nret", AsmFault::Repeat(3)),
         (b"fn a\nret\na:\nret", AsmFault::Repeat(3)),
         (b"fn a\njmp b\nret", AsmFault::Label(2)),
+        (b"fn a\ntailjmp b\nret", AsmFault::Label(2)),
         (b"entry b\nfn a\nb:\nret", AsmFault::Label(1)),
         (b"fn a\njmp b\nret\nb:", AsmFault::Label(4)),
     ];
     for (text, expected) in rows {
         assert_eq!(rt; verdict(rt.alloc(), text, 1).err(), Some(expected));
     }
+}
+
+#[test]
+fn highest_numbers_are_taken(rt: HostRuntime) -> Result<(), Fail> {
+    let text = b"base 0x7FFF00000000\nfn a never\nmov r15d, 4294967295\nout 255\nret\n";
+    let file = verdict(rt.alloc(), text, 1)?;
+    let base = file.get(8..16).ok_or("no base")?;
+    assert_eq!(rt;
+        base,
+        [0x00, 0x00, 0x00, 0x00, 0xFF, 0x7F, 0x00, 0x00].as_slice()
+    );
+    let expected = [0x41, 0xBF, 0xFF, 0xFF, 0xFF, 0xFF, 0xE6, 0xFF, 0xC3];
+    assert_eq!(rt; code(&file), expected.as_slice());
+    Ok(())
 }
 
 #[test]

@@ -16,6 +16,11 @@ impl Trickle {
     pub fn new(desk: MemDesk) -> Self {
         Trickle { desk }
     }
+
+    /// What a name holds.
+    pub fn get(&self, name: &str) -> Option<&[u8]> {
+        self.desk.get(name)
+    }
 }
 
 impl Desk for Trickle {

@@ -6,7 +6,7 @@ use std::test::Fail;
 use std::thread::Threads;
 
 /// The sled map of the image.
-const SLED_MAP: &str = "---\n\
+pub const SLED_MAP: &str = "---\n\
     - { id: 1, address: 0x0000000000001000, function: 0x0000000000001000, kind: function-enter, \
     always-instrument: true, function-name: 'main' }\n\
     - { id: 1, address: 0x0000000000001012, function: 0x0000000000001000, kind: function-exit, \

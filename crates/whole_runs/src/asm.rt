@@ -1,0 +1,309 @@
+//! `asm`, and what the other commands make of the images that it writes.
+use crate::desks::Trickle;
+use crate::plain::SLED_MAP;
+use crate::runs::{IMAGE, Run, SCHEDULE, SCRIPT, STATE, run_words};
+use std::alloc::Global;
+use std::process::Abort;
+use std::sync::Wait;
+use std::test::Fail;
+use std::thread::Threads;
+use xray_io::MemDesk;
+
+/// A move, an output and a return: the text of the image that the other tests have as bytes.
+const STRAIGHT_LINE: &str = "base 0x1000\nfn main always\nmov eax, 65\nout 1\nret\n";
+
+/// An exit sled that needs its alignment byte.
+const ODD_EXIT: &str = "base 0x1000\nfn main always\nout 0\nret\n";
+
+/// A call over an alignment byte.
+const CALL: &str = "base 0x1000\nfn main always\ncall f\nret\nfn f always\nret\n";
+
+/// A tail jump to the next function.
+const TAIL_JUMP: &str = "base 0x1000\nfn a always\ntailjmp b\nfn b always\nret\n";
+
+/// A recursive function behind one without sleds.
+const FIBONACCI: &str = "base 0x1000\nentry main\nfn main never\nmov edi, 20\ncall fib\nret\n\
+    fn fib always\nmov ecx, 0\nadd rdi, rcx\njnz nz\nret\nnz:\nmov ecx, 1\nsub rdi, rcx\n\
+    jnz big\nadd rax, rcx\nret\nbig:\npush rdi\ncall fib\npop rdi\nmov ecx, 1\nsub rdi, rcx\n\
+    call fib\nret\n";
+
+/// Where the code stands in a file.
+const CODE: usize = 64;
+
+/// The code of each text. The bytes are those of the processor's manual, and sleds and places are worked by hand.
+const ODD_EXIT_CODE: &[u8] = &[
+    0xEB, 0x09, 0x66, 0x0F, 0x1F, 0x84, 0x00, 0x00, 0x02, 0x00, 0x00, 0xE6, 0x00, 0x90, //
+    0xC3, 0x2E, 0x66, 0x0F, 0x1F, 0x84, 0x00, 0x00, 0x02, 0x00, 0x00, //
+];
+
+const CALL_CODE: &[u8] = &[
+    0xEB, 0x09, 0x66, 0x0F, 0x1F, 0x84, 0x00, 0x00, 0x02, 0x00, 0x00, //
+    0xE8, 0x0C, 0x00, 0x00, 0x00, //
+    0xC3, 0x2E, 0x66, 0x0F, 0x1F, 0x84, 0x00, 0x00, 0x02, 0x00, 0x00, 0x90, //
+    0xEB, 0x09, 0x66, 0x0F, 0x1F, 0x84, 0x00, 0x00, 0x02, 0x00, 0x00, 0x90, //
+    0xC3, 0x2E, 0x66, 0x0F, 0x1F, 0x84, 0x00, 0x00, 0x02, 0x00, 0x00, //
+];
+
+const TAIL_JUMP_CODE: &[u8] = &[
+    0xEB, 0x09, 0x66, 0x0F, 0x1F, 0x84, 0x00, 0x00, 0x02, 0x00, 0x00, 0x90, //
+    0xEB, 0x09, 0x66, 0x0F, 0x1F, 0x84, 0x00, 0x00, 0x02, 0x00, 0x00, //
+    0xE9, 0x00, 0x00, 0x00, 0x00, //
+    0xEB, 0x09, 0x66, 0x0F, 0x1F, 0x84, 0x00, 0x00, 0x02, 0x00, 0x00, 0x90, //
+    0xC3, 0x2E, 0x66, 0x0F, 0x1F, 0x84, 0x00, 0x00, 0x02, 0x00, 0x00, //
+];
+
+const FIBONACCI_CODE: &[u8] = &[
+    0xBF, 0x14, 0x00, 0x00, 0x00, 0xE8, 0x02, 0x00, 0x00, 0x00, 0xC3, 0x90, //
+    0xEB, 0x09, 0x66, 0x0F, 0x1F, 0x84, 0x00, 0x00, 0x02, 0x00, 0x00, //
+    0xB9, 0x00, 0x00, 0x00, 0x00, 0x48, 0x01, 0xCF, 0x0F, 0x85, 0x0C, 0x00, 0x00, 0x00, 0x90, //
+    0xC3, 0x2E, 0x66, 0x0F, 0x1F, 0x84, 0x00, 0x00, 0x02, 0x00, 0x00, //
+    0xB9, 0x01, 0x00, 0x00, 0x00, 0x48, 0x29, 0xCF, 0x0F, 0x85, 0x0E, 0x00, 0x00, 0x00, //
+    0x48, 0x01, 0xC8, //
+    0xC3, 0x2E, 0x66, 0x0F, 0x1F, 0x84, 0x00, 0x00, 0x02, 0x00, 0x00, //
+    0x57, 0xE8, 0xB9, 0xFF, 0xFF, 0xFF, 0x5F, 0xB9, 0x01, 0x00, 0x00, 0x00, 0x48, 0x29, 0xCF, //
+    0xE8, 0xAB, 0xFF, 0xFF, 0xFF, 0x90, //
+    0xC3, 0x2E, 0x66, 0x0F, 0x1F, 0x84, 0x00, 0x00, 0x02, 0x00, 0x00, //
+];
+
+/// What thread 1 leaves, text by text.
+const ODD_EXIT_END: &str = "thread 1 returned instructions 2 passings 2\n\
+    rax=0 rcx=0 rdx=0 rbx=0 rbp=0 rsi=0 rdi=1 r8=0 r9=0 r11=0 r12=0 r13=0 r14=0 r15=0 zf=0\n\
+    output 00\n";
+
+const CALL_END: &str = "thread 1 returned instructions 3 passings 4\n\
+    rax=0 rcx=0 rdx=0 rbx=0 rbp=0 rsi=0 rdi=1 r8=0 r9=0 r11=0 r12=0 r13=0 r14=0 r15=0 zf=0\n\
+    output -\n";
+
+const TAIL_JUMP_END: &str = "thread 1 returned instructions 2 passings 4\n\
+    rax=0 rcx=0 rdx=0 rbx=0 rbp=0 rsi=0 rdi=1 r8=0 r9=0 r11=0 r12=0 r13=0 r14=0 r15=0 zf=0\n\
+    output -\n";
+
+const FIBONACCI_END: &str = "thread 1 returned instructions 213132 passings 43782\n\
+    rax=1a6d rcx=0 rdx=0 rbx=0 rbp=0 rsi=0 rdi=0 r8=0 r9=0 r11=0 r12=0 r13=0 r14=0 r15=0 zf=1\n\
+    output -\n";
+
+/// The sled maps.
+const ODD_EXIT_MAP: &str = "---\n\
+    - { id: 1, address: 0x0000000000001000, function: 0x0000000000001000, kind: function-enter, \
+    always-instrument: true, function-name: 'main' }\n\
+    - { id: 1, address: 0x000000000000100e, function: 0x0000000000001000, kind: function-exit, \
+    always-instrument: true, function-name: 'main' }\n\
+    ...\n";
+
+const CALL_MAP: &str = "---\n\
+    - { id: 1, address: 0x0000000000001000, function: 0x0000000000001000, kind: function-enter, \
+    always-instrument: true, function-name: 'main' }\n\
+    - { id: 1, address: 0x0000000000001010, function: 0x0000000000001000, kind: function-exit, \
+    always-instrument: true, function-name: 'main' }\n\
+    - { id: 2, address: 0x000000000000101c, function: 0x000000000000101c, kind: function-enter, \
+    always-instrument: true, function-name: 'f' }\n\
+    - { id: 2, address: 0x0000000000001028, function: 0x000000000000101c, kind: function-exit, \
+    always-instrument: true, function-name: 'f' }\n\
+    ...\n";
+
+const TAIL_JUMP_MAP: &str = "---\n\
+    - { id: 1, address: 0x0000000000001000, function: 0x0000000000001000, kind: function-enter, \
+    always-instrument: true, function-name: 'a' }\n\
+    - { id: 1, address: 0x000000000000100c, function: 0x0000000000001000, kind: tail-exit, \
+    always-instrument: true, function-name: 'a' }\n\
+    - { id: 2, address: 0x000000000000101c, function: 0x000000000000101c, kind: function-enter, \
+    always-instrument: true, function-name: 'b' }\n\
+    - { id: 2, address: 0x0000000000001028, function: 0x000000000000101c, kind: function-exit, \
+    always-instrument: true, function-name: 'b' }\n\
+    ...\n";
+
+const FIBONACCI_MAP: &str = "---\n\
+    - { id: 1, address: 0x000000000000100c, function: 0x000000000000100c, kind: function-enter, \
+    always-instrument: true, function-name: 'fib' }\n\
+    - { id: 1, address: 0x0000000000001026, function: 0x000000000000100c, kind: function-exit, \
+    always-instrument: true, function-name: 'fib' }\n\
+    - { id: 1, address: 0x0000000000001042, function: 0x000000000000100c, kind: function-exit, \
+    always-instrument: true, function-name: 'fib' }\n\
+    - { id: 1, address: 0x0000000000001062, function: 0x000000000000100c, kind: function-exit, \
+    always-instrument: true, function-name: 'fib' }\n\
+    ...\n";
+
+/// A desk that holds a text as `t`, and an image of old as `i`.
+fn text_desk(alloc: Global, failing: &[u64], text: &[u8]) -> Result<MemDesk, Fail> {
+    let mut desk = MemDesk::new(alloc, Vec::from_slice(alloc, failing)?);
+    desk.put("t", text)?;
+    desk.put("i", OLD)?;
+    Ok(desk)
+}
+
+/// What the name of the image holds before.
+const OLD: &[u8] = b"old";
+
+/// Checks that words are done over a desk, with this text on out.
+fn assert_done<R: Abort + Threads + Wait + Sync + AllocGlobal>(
+    rt: &R,
+    words: &[&str],
+    desk: &mut MemDesk,
+    text: &str,
+) -> Result<(), Fail> {
+    let run = run_words(rt, words, desk, &[], &[])?;
+    assert_eq!(rt; run.err.as_str(), "");
+    assert_eq!(rt; run.status, 0);
+    assert_eq!(rt; run.out.as_str(), text);
+    Ok(())
+}
+
+/// Checks that a run stopped with a status and a line on err, and printed nothing.
+fn assert_stopped<R: Abort>(rt: &R, run: &Run, status: u8, line: &str) {
+    assert_eq!(rt; run.err.as_str(), line);
+    assert_eq!(rt; run.status, status, "{line}");
+    assert_eq!(rt; run.out.as_str(), "", "{line}");
+}
+
+#[test]
+fn five_texts_become_images_that_run_and_have_their_sleds(rt: HostRuntime) -> Result<(), Fail> {
+    let straight_line = &IMAGE[CODE..CODE + 29];
+    for (text, length, code, end, map) in [
+        (STRAIGHT_LINE, 170, straight_line, STATE, SLED_MAP),
+        (ODD_EXIT, 166, ODD_EXIT_CODE, ODD_EXIT_END, ODD_EXIT_MAP),
+        (CALL, 266, CALL_CODE, CALL_END, CALL_MAP),
+        (TAIL_JUMP, 263, TAIL_JUMP_CODE, TAIL_JUMP_END, TAIL_JUMP_MAP),
+        (FIBONACCI, 326, FIBONACCI_CODE, FIBONACCI_END, FIBONACCI_MAP),
+    ] {
+        let mut desk = text_desk(rt.alloc(), &[], text.as_bytes())?;
+        assert_done(&rt, &["asm", "t", "i"], &mut desk, "")?;
+        let file = desk.get("i").ok_or("no image")?;
+        assert_eq!(rt; file.len(), length, "{text}");
+        assert_eq!(rt;
+            file.get(CODE..CODE + code.len()).ok_or("short")?,
+            code,
+            "{text}"
+        );
+        assert_done(&rt, &["plain", "i"], &mut desk, end)?;
+        assert_done(&rt, &["extract", "i"], &mut desk, map)?;
+    }
+    Ok(())
+}
+
+#[test]
+fn an_assembled_image_is_replayed(rt: HostRuntime) -> Result<(), Fail> {
+    let mut desk = text_desk(rt.alloc(), &[], STRAIGHT_LINE.as_bytes())?;
+    desk.put("s", SCRIPT.as_bytes())?;
+    desk.put("c", SCHEDULE.as_bytes())?;
+    assert_done(&rt, &["asm", "t", "i"], &mut desk, "")?;
+    assert_eq!(rt; desk.get("i").ok_or("no image")?, IMAGE.as_slice());
+    assert_eq!(rt; desk.get("t").ok_or("no text")?, STRAIGHT_LINE.as_bytes());
+    let replayed = format!(in rt.alloc(); "{STATE}marks n1 .1\n")?;
+    assert_done(&rt, &["sim", "i", "s", "c"], &mut desk, &replayed)
+}
+
+#[test]
+fn the_threshold_is_a_number_of_instruction_lines(rt: HostRuntime) -> Result<(), Fail> {
+    for (words, length) in [
+        (&["asm", "t", "i"][..], 161),
+        (&["asm", "t", "--threshold", "0", "i"], 161),
+        (&["asm", "--threshold=+01", "t", "i"], 161),
+        (&["asm", "t", "i", "--threshold", "2"], 75),
+        (&["asm", "--threshold=4294967295", "--", "t", "i"], 75),
+    ] {
+        let mut desk = text_desk(rt.alloc(), &[], b"fn a\nret\n")?;
+        assert_done(&rt, words, &mut desk, "")?;
+        assert_eq!(rt; desk.get("i").ok_or("no image")?.len(), length);
+    }
+    Ok(())
+}
+
+#[test]
+fn a_refused_text_leaves_the_image_that_was_there(rt: HostRuntime) -> Result<(), Fail> {
+    let alloc = rt.alloc();
+    let mut sleds = String::from_str(alloc, "fn a\n")?;
+    for _ in 0..4096 {
+        sleds.push_str("ret\n")?;
+    }
+    for (text, line) in [
+        ("mov eax, 1", "xray: t: text Syntax 1\n"),
+        ("fn a", "xray: t: text Syntax 2\n"),
+        ("fn a\nmov r10d, 1\nret", "xray: t: text Register 2\n"),
+        ("base 0x1001\nfn a\nret", "xray: t: text Range 1\n"),
+        ("fn a\nout 256\nret", "xray: t: text Range 2\n"),
+        ("fn a\nret\nfn a\nret", "xray: t: text Repeat 3\n"),
+        (sleds.as_str(), "xray: t: text Limit 4097\n"),
+        ("fn a\njmp b\nret", "xray: t: text Label 2\n"),
+    ] {
+        let mut desk = text_desk(alloc, &[], text.as_bytes())?;
+        let run = run_words(&rt, &["asm", "t", "i"], &mut desk, &[], &[])?;
+        assert_stopped(&rt, &run, 2, line);
+        assert_eq!(rt; desk.get("i").ok_or("no image")?, OLD, "{line}");
+    }
+    Ok(())
+}
+
+/// The desk's calls are those that read the text byte by byte and find its end, the image's
+/// creation, and those that write it byte by byte.
+#[test]
+fn a_call_of_the_desk_that_fails_leaves_a_front_of_the_image(rt: HostRuntime) -> Result<(), Fail> {
+    let end = STRAIGHT_LINE.len() as u64;
+    let create = end + 1;
+    for (failing, status, line, left) in [
+        (0, 3, "xray: t: read fault\n", OLD),
+        (end, 3, "xray: t: read fault\n", OLD),
+        (create, 4, "xray: i: write fault\n", OLD),
+        (create + 1, 4, "xray: i: write fault\n", &IMAGE[..0]),
+        (create + 101, 4, "xray: i: write fault\n", &IMAGE[..100]),
+        (create + 170, 4, "xray: i: write fault\n", &IMAGE[..169]),
+        (create + 171, 0, "", &IMAGE),
+    ] {
+        let desk = text_desk(rt.alloc(), &[failing], STRAIGHT_LINE.as_bytes())?;
+        let mut trickle = Trickle::new(desk);
+        let run = run_words(&rt, &["asm", "t", "i"], &mut trickle, &[], &[])?;
+        assert_stopped(&rt, &run, status, line);
+        assert_eq!(rt; trickle.get("i").ok_or("no image")?, left, "{failing}");
+    }
+    Ok(())
+}
+
+#[test]
+fn a_text_may_be_as_long_as_its_limit(rt: HostRuntime) -> Result<(), Fail> {
+    let alloc = rt.alloc();
+    let mut text = Vec::from_slice(alloc, b"fn a\nret\n#")?;
+    text.resize(4_194_304, b'-')?;
+    let mut desk = text_desk(alloc, &[], &text)?;
+    assert_done(&rt, &["asm", "t", "i"], &mut desk, "")?;
+    assert_eq!(rt; desk.get("i").ok_or("no image")?.len(), 161);
+    text.push(b'-')?;
+    let mut desk = text_desk(alloc, &[], &text)?;
+    let run = run_words(&rt, &["asm", "t", "i"], &mut desk, &[], &[])?;
+    assert_stopped(&rt, &run, 6, "xray: t: too long\n");
+    assert_eq!(rt; desk.get("i").ok_or("no image")?, OLD);
+    Ok(())
+}
+
+#[test]
+fn a_text_that_is_not_held_begins_no_image(rt: HostRuntime) -> Result<(), Fail> {
+    let mut desk = text_desk(rt.alloc(), &[], CALL.as_bytes())?;
+    let run = run_words(&rt, &["asm", "q", "n"], &mut desk, &[], &[])?;
+    assert_stopped(&rt, &run, 3, "xray: q: read fault\n");
+    assert!(rt; desk.get("n").is_none());
+    assert_done(&rt, &["asm", "t", "n"], &mut desk, "")?;
+    assert_eq!(rt; desk.get("n").ok_or("no image")?.len(), 266);
+    Ok(())
+}
+
+#[test]
+fn words_that_asm_does_not_know_are_a_bad_line(rt: HostRuntime) -> Result<(), Fail> {
+    for words in [
+        &["asm"][..],
+        &["asm", "t"],
+        &["asm", "t", "i", "j"],
+        &["asm", "t", "t"],
+        &["asm", "--", "t", "t"],
+        &["asm", "t", "i", "--threshold"],
+        &["asm", "t", "i", "--threshold", "4294967296"],
+        &["asm", "t", "i", "--threshold", "-1"],
+        &["asm", "t", "i", "--threshold=1", "--threshold=1"],
+        &["asm", "t", "i", "--threads", "1"],
+        &["plain", "i", "--threshold", "1"],
+    ] {
+        let mut desk = text_desk(rt.alloc(), &[], CALL.as_bytes())?;
+        let run = run_words(&rt, words, &mut desk, &[], &[])?;
+        assert_stopped(&rt, &run, 1, "xray: bad command line\n");
+        assert_eq!(rt; desk.get("i").ok_or("no image")?, OLD);
+        assert_eq!(rt; desk.get("t").ok_or("no text")?, CALL.as_bytes());
+    }
+    Ok(())
+}
