@@ -4,12 +4,14 @@ use Rattle.std.proofs.Common.{◌≡◌, ◌≢◌, ◌⊎◌, ◌<◌, ◌≤�
 use Rattle.std.proofs.lemmas.List.{length-replicate}
 use Rattle.xray_io.specs.Desk.{Entry, Untold, Absent, Holds}
 use Rattle.xray_io.specs.Faults.{Rose}
+use Rattle.xray_io.specs.declared.faults.ReadError.{ReadError}
+use Rattle.xray_io.specs.declared.faults.ReadError.TheVariants as reading
 use Rattle.xray_program.specs.declared.stop.Stop.{Stop}
 use Rattle.xray_program.specs.declared.stop.Stop.TheVariants as stops
 use Rattle.xray_program.specs.Inputs.{Form, IsNotYet}
 use Rattle.xray_program.specs.Meaning.{Outcome, Unread, TooLong, Refused, Take, MayHold, status_of}
 use Rattle.xray_program.specs.Stops.{kind_text, refusal_text, stop_status, answer_of}
-use Rattle.xray_program.specs.Takes.{Gives, GivesBytes, IsTooLong, Rejects, FailsToRead, Fails, Stops, IsAnswerSoFar}
+use Rattle.xray_program.specs.Takes.{Gives, GivesBytes, IsTooLong, Rejects, FailsToRead, Fails, IsReadStop, Stops, IsAnswerSoFar}
 
 -- a name with too many bytes may hold bytes that are too many
 pub too_long : (limit : ℕ) (entry : Entry) → entry ≢ Absent
@@ -18,6 +20,18 @@ too_long limit Untold there told =
     record { bytes = replicate (limit + 1) 0; held = tt; long = simp length-replicate (omega arith) }
 too_long limit Absent there told = absurd (there refl)
 too_long limit (Holds bytes) there told = record { bytes = bytes; held = refl; long = told bytes refl }
+
+-- the stop that an error of reading comes to, with what stands behind the error
+pub fails_to_read : (limit : ℕ) (held : List ℕ → Entry) (name : List ℕ) (before now : ℕ) (error : ReadError) (stop : Stop)
+    → (error ≡ reading.TooLong → IsTooLong limit (held name))
+    → (error ≡ reading.ReadFault → Rose before now ⊎ (held name ≡ Absent))
+    → IsReadStop name error stop → FailsToRead limit held name before now stop
+fails_to_read limit held name before now error stops.BadLine long fault so = so
+fails_to_read limit held name before now error (stops.Unread n) long fault (same, is) = (same, fault is)
+fails_to_read limit held name before now error (stops.TooLong n) long fault (same, is) = (same, long is)
+fails_to_read limit held name before now error (stops.Refused n k refusal) long fault so = so
+fails_to_read limit held name before now error (stops.Unwritten n) long fault so = so
+fails_to_read limit held name before now error stops.NoMemory long fault so = tt
 
 -- ---- inputs that are of a form or not yet
 

@@ -2,7 +2,7 @@
 ghost use Rattle.std.specs.Prelude.{◌≡◌, ◌≤◌, IfOk, IfErr, OnOk};
 ghost use Rattle.xray_program.specs.FirstRun.{first_script};
 ghost use Rattle.xray_program.specs.Inputs.{first_run_form, image_form, schedule_form, script_form, text_form};
-ghost use Rattle.xray_program.specs.Takes.{Fails, Gives, FailsToRead, GivesBytes, IsImageStop, IsTextStop};
+ghost use Rattle.xray_program.specs.Takes.{Fails, Gives, FailsToRead, GivesBytes, IsImageStop, IsReadStop, IsTextStop};
 
 use crate::early::Early;
 use crate::early_schedule::read_schedule;
@@ -189,8 +189,17 @@ fn take_bytes<'a, D: Desk>(
 {
     match read_whole(alloc, desk, name, limit) {
         Ok(bytes) => Ok(bytes),
-        Err(ReadError::ReadFault) => Err(Stop::Unread(name)),
-        Err(ReadError::TooLong) => Err(Stop::TooLong(name)),
-        Err(ReadError::NoMemory) => Err(Stop::NoMemory),
+        Err(error) => Err(read_stop(name, error)),
+    }
+}
+
+/// What an error of reading comes to.
+fn read_stop(name: &str, error: ReadError) -> Stop<'_>
+    ensures { IsReadStop name.now error result }
+{
+    match error {
+        ReadError::ReadFault => Stop::Unread(name),
+        ReadError::TooLong => Stop::TooLong(name),
+        ReadError::NoMemory => Stop::NoMemory,
     }
 }
