@@ -1,15 +1,20 @@
 -- An input's turn, and what comes of a command by the turns of its inputs.
-use Rattle.std.specs.Prelude.{⊤, IfErr, IsErrAnd}
+use Rattle.std.specs.Prelude.{⊤, IfErr, IsErrAnd, IsOkAnd}
 use Rattle.std.proofs.Common.{◌≡◌, ◌≢◌, ◌⊎◌, ◌<◌, ◌≤◌, ◌+◌, ◌∙◌, ℕ, List, length, replicate, Result, Ok, Err, inl, inr, refl, sym, ap, arith, subst, codes}
 use Rattle.std.proofs.lemmas.List.{length-replicate}
 use Rattle.xray_io.specs.Desk.{Entry, Untold, Absent, Holds}
 use Rattle.xray_io.specs.Faults.{Rose}
+use Rattle.xray_io.specs.declared.faults.ReadError.{ReadError}
+use Rattle.xray_io.specs.declared.faults.ReadError.TheVariants as reading
+use Rattle.xray_program.specs.declared.early.Early.{Early}
+use Rattle.xray_program.specs.declared.early.Early.TheVariants as early
+use Rattle.xray_program.specs.declared.stop.Kind.{Kind}
 use Rattle.xray_program.specs.declared.stop.Stop.{Stop}
 use Rattle.xray_program.specs.declared.stop.Stop.TheVariants as stops
 use Rattle.xray_program.specs.Inputs.{Form, IsNotYet}
 use Rattle.xray_program.specs.Meaning.{Outcome, Unread, TooLong, Refused, Take, MayHold, status_of}
 use Rattle.xray_program.specs.Stops.{kind_text, refusal_text, stop_status, answer_of}
-use Rattle.xray_program.specs.Takes.{Gives, GivesBytes, IsTooLong, Rejects, FailsToRead, Fails, Stops, IsAnswerSoFar}
+use Rattle.xray_program.specs.Takes.{Gives, GivesBytes, IsTooLong, Rejects, FailsToRead, Fails, IsEarlyStop, IsReadStop, Stops, IsAnswerSoFar}
 
 -- a name with too many bytes may hold bytes that are too many
 pub too_long : (limit : ℕ) (entry : Entry) → entry ≢ Absent
@@ -18,6 +23,18 @@ too_long limit Untold there told =
     record { bytes = replicate (limit + 1) 0; held = tt; long = simp length-replicate (omega arith) }
 too_long limit Absent there told = absurd (there refl)
 too_long limit (Holds bytes) there told = record { bytes = bytes; held = refl; long = told bytes refl }
+
+-- the stop that an error of reading comes to, with what stands behind the error
+pub fails_to_read : (limit : ℕ) (held : List ℕ → Entry) (name : List ℕ) (before now : ℕ) (error : ReadError) (stop : Stop)
+    → (error ≡ reading.TooLong → IsTooLong limit (held name))
+    → (error ≡ reading.ReadFault → Rose before now ⊎ (held name ≡ Absent))
+    → IsReadStop name error stop → FailsToRead limit held name before now stop
+fails_to_read limit held name before now error stops.BadLine long fault so = so
+fails_to_read limit held name before now error (stops.Unread n) long fault (same, is) = (same, fault is)
+fails_to_read limit held name before now error (stops.TooLong n) long fault (same, is) = (same, long is)
+fails_to_read limit held name before now error (stops.Refused n k refusal) long fault so = so
+fails_to_read limit held name before now error (stops.Unwritten n) long fault so = so
+fails_to_read limit held name before now error stops.NoMemory long fault so = tt
 
 -- ---- inputs that are of a form or not yet
 
@@ -45,6 +62,26 @@ rejects_form kind limit Reads entry bytes given none = record {
   refused = (none, refl);
   none = none;
 }
+
+-- the stop of bytes that aren't taken, where they read as none unless memory ran out
+pub fails_early : {X : Type 0} (kind : Kind) (limit : ℕ) (Reads : List ℕ → X → Type 0) (held : List ℕ → Entry) (name : List ℕ)
+    (before now : ℕ) (bytes : List ℕ) (error : Early) (stop : Stop)
+    → GivesBytes limit (held name) bytes → (error ≡ early.NotYet → (value : X) → Reads bytes value → ⊥)
+    → IsEarlyStop name kind error stop
+    → Fails (record { kind = kind_text kind; limit = limit; Reads = Reads; Refuses = IsNotYet Reads }) held name before now stop
+fails_early kind limit Reads held name before now bytes error stops.BadLine given none so = so
+fails_early kind limit Reads held name before now bytes error (stops.Unread n) given none so = absurd so
+fails_early kind limit Reads held name before now bytes error (stops.TooLong n) given none so = absurd so
+fails_early kind limit Reads held name before now bytes error (stops.Refused n k refusal) given none (same, kinds, refusals, is) =
+    (same, ap kind_text kinds, rw refusals (rejects_form (kind_text kind) limit Reads (held name) bytes given (none is)))
+fails_early kind limit Reads held name before now bytes error (stops.Unwritten n) given none so = so
+fails_early kind limit Reads held name before now bytes error stops.NoMemory given none so = tt
+
+-- what is taken, unless memory runs out, isn't refused
+pub not_early : {X : Type 0} (P : X → Type 0) (result : Result X Early) (error : Early)
+    → result ≡ Err error → error ≡ early.NotYet → IsOkAnd result P ⊎ (result ≡ Err early.NoMemory) → ⊥
+not_early P result error is not_yet (inl ok) = rw is at ok
+not_early P result error is not_yet (inr none) = cc
 
 -- ---- what comes of a command by the turns of its inputs
 

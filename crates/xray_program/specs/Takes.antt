@@ -2,11 +2,16 @@
 use Rattle.std.specs.Prelude.{◌≡◌, ◌≢◌, ◌⊎◌, ◌<◌, ◌≤◌, ℕ, List, length, ⊤}
 use Rattle.xray_io.specs.Desk.{Entry, Absent}
 use Rattle.xray_io.specs.Faults.{Rose}
+use Rattle.xray_io.specs.declared.faults.ReadError.{ReadError}
+use Rattle.xray_io.specs.declared.faults.ReadError.TheVariants as reading
 use Rattle.asm_text.specs.declared.fault.AsmFault.{AsmFault}
 use Rattle.asm_text.specs.declared.fault.AsmFault.TheVariants as asm
 use Rattle.xray_image.specs.declared.fault.ImageFault.{ImageFault}
 use Rattle.xray_image.specs.declared.fault.ImageFault.TheVariants as faults
-use Rattle.xray_program.specs.declared.refusal.Refusal.TheVariants.{Faulty, Unassembled}
+use Rattle.xray_program.specs.declared.early.Early.{Early}
+use Rattle.xray_program.specs.declared.early.Early.TheVariants as early
+use Rattle.xray_program.specs.declared.refusal.Refusal.TheVariants.{NotYet, Faulty, Unassembled}
+use Rattle.xray_program.specs.declared.stop.Kind.{Kind}
 use Rattle.xray_program.specs.declared.stop.Kind.TheVariants.{Image, Text}
 use Rattle.xray_program.specs.declared.stop.Stop.{Stop}
 use Rattle.xray_program.specs.declared.stop.Stop.TheVariants as stops
@@ -60,6 +65,25 @@ abbrev pub Fails : {X : Type 0} → Form X → (List ℕ → Entry) → List ℕ
 Fails form held name before now (stops.Refused n k refusal) =
     (n.now ≡ name) × (kind_text k ≡ form.kind) × Rejects form (held name) (refusal_text refusal)
 Fails form held name before now stop = FailsToRead form.limit held name before now stop
+
+-- what an error of reading comes to: an input that can't be read or is too long, or want of memory
+abbrev pub IsReadStop : List ℕ → ReadError → Stop → Type 0
+IsReadStop name error stops.BadLine = ⊥
+IsReadStop name error (stops.Unread n) = (n.now ≡ name) × (error ≡ reading.ReadFault)
+IsReadStop name error (stops.TooLong n) = (n.now ≡ name) × (error ≡ reading.TooLong)
+IsReadStop name error (stops.Refused n kind refusal) = ⊥
+IsReadStop name error (stops.Unwritten n) = ⊥
+IsReadStop name error stops.NoMemory = error ≡ reading.NoMemory
+
+-- what comes to an input of a kind that isn't taken: a refusal, or want of memory
+abbrev pub IsEarlyStop : List ℕ → Kind → Early → Stop → Type 0
+IsEarlyStop name kind error stops.BadLine = ⊥
+IsEarlyStop name kind error (stops.Unread n) = ⊥
+IsEarlyStop name kind error (stops.TooLong n) = ⊥
+IsEarlyStop name kind error (stops.Refused n k refusal) =
+    (n.now ≡ name) × (k ≡ kind) × (refusal ≡ NotYet) × (error ≡ early.NotYet)
+IsEarlyStop name kind error (stops.Unwritten n) = ⊥
+IsEarlyStop name kind error stops.NoMemory = error ≡ early.NoMemory
 
 -- what an image's fault comes to: want of memory, or a refusal
 abbrev pub IsImageStop : List ℕ → ImageFault → Stop → Type 0

@@ -1,7 +1,8 @@
 //! Schedules of one thread.
-ghost use Rattle.std.specs.Prelude.{◌≡◌, ◌⊎◌, ◌≤◌, ◌<◌, ℕ, List, ◌∷◌, ◌++◌, length, IfOk, IsOkAnd, OnErr, option_to_list, option_copied};
+ghost use Rattle.std.specs.Prelude.{◌≡◌, ◌⊎◌, ◌≤◌, ◌<◌, ℕ, List, ◌∷◌, ◌++◌, length, IfOk, IfErr, IsOkAnd, OnErr, option_to_list, option_copied};
 ghost use Rattle.step_sim.specs.declared.turns.Turns.{Turns};
-ghost use Rattle.xray_program.specs.declared.early.Early.TheVariants.{NoMemory};
+ghost use Rattle.std.specs.Str.Lines.{lines};
+ghost use Rattle.xray_program.specs.declared.early.Early.TheVariants.{NoMemory, NotYet};
 ghost use Rattle.xray_program.specs.Inputs.{ReadsSchedule, SaysTurns};
 ghost use Rattle.text_lines.specs.Numbers.{number_of};
 ghost use Rattle.xray_program.specs.Lines.{GivesTurns, GivesNoTurns, SaysNoTurns};
@@ -20,6 +21,7 @@ pub fn read_schedule(alloc: Global, text: &[u8]) -> Result<Vec<Turns>, Early>
     ensures found { IfOk result (λ turns. ReadsSchedule text.now turns.items) }
     ensures complete { (schedule : List Turns) → ReadsSchedule text.now schedule
         → IsOkAnd result (λ turns. turns.items ≡ schedule) ⊎ (result ≡ Err NoMemory) }
+    ensures many { 1048576 < length (lines text.now) → result ≡ Err NotYet }
 {
     if count_lines(text) > LINES_LIMIT {
         return Err(Early::NotYet);
@@ -39,6 +41,7 @@ pub fn read_schedule(alloc: Global, text: &[u8]) -> Result<Vec<Turns>, Early>
 fn turns_of(line: &Line) -> Result<Option<Turns>, Early>
     ensures turns { IfOk result (GivesTurns line.now.bytes.now) }
     ensures refused { OnErr result (GivesNoTurns line.now.bytes.now) }
+    ensures why { IfErr result (λ error. error ≡ NotYet) }
 {
     if !line.is_clean() {
         return Err(Early::NotYet);
@@ -63,6 +66,7 @@ fn turns_of_words(who: &[u8], second: &[u8], third: Option<&[u8]>) -> Result<Tur
         ∷ option_to_list (option_copied third.entry))) }
     ensures refused { OnErr result (SaysNoTurns (who.now ∷ second.now
         ∷ option_to_list (option_copied third.entry))) }
+    ensures why { IfErr result (λ error. error ≡ NotYet) }
 {
     match third {
         Some(third) if who == b"t".as_slice() => {
@@ -85,6 +89,7 @@ fn turns_of_words(who: &[u8], second: &[u8], third: Option<&[u8]>) -> Result<Tur
 fn number(word: &[u8]) -> Result<u32, Early>
     ensures found { IfOk result (λ n. (number_of word.now ≡ Some n) × (0 < n)) }
     ensures refused { OnErr result ((n : ℕ) → number_of word.now ≡ Some n → n ≡ 0) }
+    ensures why { IfErr result (λ error. error ≡ NotYet) }
 {
     match parse_number(word) {
         Some(n) if n > 0 => Ok(n),

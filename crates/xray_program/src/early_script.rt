@@ -1,7 +1,8 @@
 //! Scripts of the one form that is run: `patch`, `go` and `unpatch`, a line each.
-ghost use Rattle.std.specs.Prelude.{◌≡◌, ◌↔◌, ◌≤◌, List, length, IfOk, IsOk, IsTrue, OnOk, OnErr, option_map, slice_get};
+ghost use Rattle.std.specs.Prelude.{◌≡◌, ◌↔◌, ◌≤◌, List, length, IfOk, IfErr, IsOk, IsTrue, OnOk, OnErr, option_map, slice_get};
 ghost use Rattle.text_lines.specs.Words.{is_clean, words_of};
 ghost use Rattle.patch_script.specs.declared.command.Command.{Command};
+ghost use Rattle.xray_program.specs.declared.early.Early.TheVariants.{NotYet};
 ghost use Rattle.xray_program.specs.FirstRun.{first_script};
 ghost use Rattle.xray_program.specs.Inputs.{command_words, ReadsScript};
 ghost use Rattle.xray_program.specs.Lines.{IsWord, IsNoWord};
@@ -15,6 +16,7 @@ pub fn read_script(text: &[u8]) -> Result<(), Early>
     requires { length text.now ≤ 1048576 }
     ensures found { OnOk result (ReadsScript text.now first_script) }
     ensures complete { (script : List Command) → ReadsScript text.now script → IsOk result }
+    ensures why { IfErr result (λ error. error ≡ NotYet) }
 {
     let mut done = 0;
     for line in Lines::new(text) {
@@ -36,6 +38,7 @@ pub fn read_script(text: &[u8]) -> Result<(), Early>
 fn only_word<'a>(line: &Line<'a>) -> Result<Option<&'a [u8]>, Early>
     ensures word { IfOk result (λ word. IsWord line.now.bytes.now (option_map (λ w. w.now) word)) }
     ensures refused { OnErr result (IsNoWord line.now.bytes.now) }
+    ensures why { IfErr result (λ error. error ≡ NotYet) }
 {
     if !line.is_clean() {
         return Err(Early::NotYet);

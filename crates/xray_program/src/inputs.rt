@@ -2,7 +2,7 @@
 ghost use Rattle.std.specs.Prelude.{◌≡◌, ◌≤◌, IfOk, IfErr, OnOk};
 ghost use Rattle.xray_program.specs.FirstRun.{first_script};
 ghost use Rattle.xray_program.specs.Inputs.{first_run_form, image_form, schedule_form, script_form, text_form};
-ghost use Rattle.xray_program.specs.Takes.{Fails, Gives, FailsToRead, GivesBytes, IsImageStop, IsTextStop};
+ghost use Rattle.xray_program.specs.Takes.{Fails, Gives, FailsToRead, GivesBytes, IsEarlyStop, IsImageStop, IsReadStop, IsTextStop};
 
 use crate::early::Early;
 use crate::early_schedule::read_schedule;
@@ -137,12 +137,7 @@ pub(crate) fn take_script<'a, D: Desk>(
     let bytes = take_bytes(alloc, desk, name, SCRIPT_LIMIT)?;
     match read_script(&bytes) {
         Ok(()) => Ok(()),
-        Err(Early::NotYet) => Err(Stop::Refused {
-            name,
-            kind: Kind::Script,
-            refusal: Refusal::NotYet,
-        }),
-        Err(Early::NoMemory) => Err(Stop::NoMemory),
+        Err(error) => Err(early_stop(name, Kind::Script, error)),
     }
 }
 
@@ -163,12 +158,21 @@ pub(crate) fn take_schedule<'a, D: Desk>(
     let bytes = take_bytes(alloc, desk, name, SCHEDULE_LIMIT)?;
     match read_schedule(alloc, &bytes) {
         Ok(turns) => Ok(turns),
-        Err(Early::NotYet) => Err(Stop::Refused {
+        Err(error) => Err(early_stop(name, Kind::Schedule, error)),
+    }
+}
+
+/// What comes to an input of this kind that isn't taken.
+fn early_stop(name: &str, kind: Kind, error: Early) -> Stop<'_>
+    ensures { IsEarlyStop name.now kind error result }
+{
+    match error {
+        Early::NotYet => Stop::Refused {
             name,
-            kind: Kind::Schedule,
+            kind,
             refusal: Refusal::NotYet,
-        }),
-        Err(Early::NoMemory) => Err(Stop::NoMemory),
+        },
+        Early::NoMemory => Stop::NoMemory,
     }
 }
 
@@ -189,8 +193,17 @@ fn take_bytes<'a, D: Desk>(
 {
     match read_whole(alloc, desk, name, limit) {
         Ok(bytes) => Ok(bytes),
-        Err(ReadError::ReadFault) => Err(Stop::Unread(name)),
-        Err(ReadError::TooLong) => Err(Stop::TooLong(name)),
-        Err(ReadError::NoMemory) => Err(Stop::NoMemory),
+        Err(error) => Err(read_stop(name, error)),
+    }
+}
+
+/// What an error of reading comes to.
+fn read_stop(name: &str, error: ReadError) -> Stop<'_>
+    ensures { IsReadStop name.now error result }
+{
+    match error {
+        ReadError::ReadFault => Stop::Unread(name),
+        ReadError::TooLong => Stop::TooLong(name),
+        ReadError::NoMemory => Stop::NoMemory,
     }
 }
