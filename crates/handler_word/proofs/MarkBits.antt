@@ -7,10 +7,16 @@ use Rattle.std.proofs.lemmas.Bool.Decides.{eqb_tells}
 use Rattle.std.proofs.lemmas.Nat.{or_comm, or_shifted}
 use Rattle.std.proofs.Math.Seq.{get_or-append_seam}
 use Rattle.handler_word.specs.Bits.{mark_of, bits_of, marks_from, IsFilledTo}
+use Rattle.handler_word.specs.MarkList.{MarkList}
 
-pub length-marks_from : (bytes : List ℕ) (n count : ℕ) → length (marks_from bytes n count) ≡ count
+length-marks_from : (bytes : List ℕ) (n count : ℕ) → length (marks_from bytes n count) ≡ count
 length-marks_from bytes n zero = refl
 length-marks_from bytes n (suc count) = ap suc (length-marks_from bytes (n + 1) count)
+
+-- how many marks are seen, and how many there may be
+pub seen_counts : (bytes : List ℕ) (len room : ℕ) (seen : MarkList) → record { items = marks_from bytes 0 len; room = room } ≡ seen → (len ≡ length seen.items) × (room ≡ seen.room)
+seen_counts bytes len room seen is =
+    (sym (length-marks_from bytes 0 len) ∙ ap (λ (m : MarkList). length m.items) is, ap (λ (m : MarkList). m.room) is)
 
 -- the mark of a number is that of its bits
 pub mark_there : (bytes : List ℕ) (n count i : ℕ) → i < count → slice_get (marks_from bytes n count) i ≡ Some (mark_of (bits_of bytes (n + i)))

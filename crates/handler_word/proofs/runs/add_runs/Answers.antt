@@ -1,4 +1,4 @@
-use Rattle.std.proofs.Common.{◌≡◌, ◌<◌, ◌+◌, [], ◌∷◌, ◌++◌, List, ℕ, length, drop, sym, ap, ◌∙◌, arith, rules, append_assoc}
+use Rattle.std.proofs.Common.{◌≡◌, ◌<◌, ◌+◌, [], ◌∷◌, ◌++◌, List, ℕ, length, drop, sym, ap, ◌∙◌, arith, rules, append_assoc, zero-add}
 use Rattle.xray_io.specs.Text.{sink_of, Gains, Breaks}
 use Rattle.handler_word.specs.Runs.{runs_of, run_text, runs_text}
 use Rattle.handler_word.proofs.MarkRuns.{HasRunsTo, later_runs, first_and_later, next_and_later}
@@ -11,7 +11,7 @@ returns-in_err-add_run-clause-breaks g c =
     let behind = drop run.length marks in
     let broken : Breaks g.S.Sink.written _ (sink_of c.add_run.new.text) (runs_text marks) =
     c.text_adds_up.ensures.breaks _ _ _ [] (run_text (run.mark, run.length)) (later_runs behind) _ (c.text_adds_up.ensures.nothing _) c.in_err-add_run.ensures.breaks
-    (first_and_later marks (run.mark, run.length) behind ? ?) in
+    (first_and_later marks (run.mark, run.length) behind (omega arith) (rw zero-add at c.run_at-first.ensures.run)) in
     search rules
 
 pub runs-init : goal.runs-init
@@ -19,11 +19,11 @@ runs-init g c =
     let marks = c.args.marks.now.items in
     let run = c.run_at-first.result in
     record {
-      within = ?;
+      within = omega arith;
       has = record {
         given = run_text (run.mark, run.length);
         gains = c.in_ok-add_run.ensures.gains;
-        whole = first_and_later marks (run.mark, run.length) (drop run.length marks) ? ?;
+        whole = first_and_later marks (run.mark, run.length) (drop run.length marks) (omega arith) (rw zero-add at c.run_at-first.ensures.run);
       };
       later = search rules;
       follows = search rules;

@@ -3,19 +3,21 @@ use Rattle.std.specs.Prelude.{slice_get}
 use Rattle.std.proofs.lemmas.Grind.{get_or_default_zero}
 use Rattle.handler_word.specs.Bits.{mark_of, bits_of}
 use Rattle.handler_word.specs.MarkList.{MarkList}
-use Rattle.handler_word.proofs.MarkBits.{length-marks_from, mark_there}
+use Rattle.handler_word.proofs.MarkBits.{seen_counts, mark_there}
 use Rattle.handler_word.proofs.marks.Marks.get.Goals as goal
 
 pub index-byte-requires : goal.index-byte-requires
 index-byte-requires c =
     let a = c.self.inside in
-    omega (arith, a.bytes.ok.0, c.self.invariant.filled.count, ap (λ (m : MarkList). length m.items) c.self.view_is, length-marks_from a.bytes.items 0 a.len)
+    let seen = seen_counts a.bytes.items a.len a.room c.args.self.now c.self.view_is in
+    omega (arith, a.bytes.ok.0, c.self.invariant.filled.count, seen.0)
 
 pub returns : goal.returns
 returns c =
     let a = c.self.inside in
     let n = c.args.n in
-    let below : n < a.len = omega (arith, ap (λ (m : MarkList). length m.items) c.self.view_is, length-marks_from a.bytes.items 0 a.len) in
+    let seen = seen_counts a.bytes.items a.len a.room c.args.self.now c.self.view_is in
+    let below : n < a.len = omega (arith, seen.0) in
     let within : n / 4 < length a.bytes.items = omega (arith, c.self.invariant.filled.count) in
     let read : c.index-byte.result.now ≡ get_or a.bytes.items (n / 4) 0 =
     c.index-byte.ensures ∙ get_or_default_zero a.bytes.items (n / 4) c.index-byte.result.now within in
