@@ -119,8 +119,8 @@ bits_before bytes n bits byte i within is before =
     let read : get_or (set bytes (n / 4) byte) (n / 4) 0 ≡ bits * 2 ^ (n % 4 * 2) + get_or bytes (n / 4) 0 =
     get_or-set_same bytes (n / 4) byte 0 within ∙ is in
     elim (eqb_tells (i / 4) (n / 4)) [
-      inl same ↦ rw (same.1, read) (bits_kept (get_or bytes (n / 4) 0) bits (n % 4) (i % 4) (omega (arith, same.1)) (omega arith))
-    | inr other ↦ ap (λ (b : ℕ). b / 2 ^ (i % 4 * 2) % 4) (get_or-set_other bytes (n / 4) (i / 4) byte 0 other.1)
+      | inl same ↦ rw (same.1, read) (bits_kept (get_or bytes (n / 4) 0) bits (n % 4) (i % 4) (omega (arith, same.1)) (omega arith))
+      | inr other ↦ ap (λ (b : ℕ). b / 2 ^ (i % 4 * 2) % 4) (get_or-set_other bytes (n / 4) (i / 4) byte 0 other.1)
     ]
 
 -- bits more in the last byte

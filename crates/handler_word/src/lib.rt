@@ -9,3 +9,5 @@ pub use mark::Mark;
 pub use marks::Marks;
 pub use runs::{add_runs, write_runs};
 
+#[cfg(test)]
+mod tests;

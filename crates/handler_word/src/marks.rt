@@ -15,6 +15,9 @@ const MARKS_IN_BYTE: u32 = 4;
 /// How many bits a mark has.
 const BITS_OF_MARK: u32 = 2;
 
+/// The bits of the first mark of a byte.
+const FIRST_MARK: u8 = 0b11;
+
 /// The marks of a thread's passings, the first first: two bits each, in room that is taken when it is
 /// made. No other call takes memory.
 #[derive(Debug, Drop)]
@@ -54,7 +57,7 @@ impl Marks {
         })
     }
 
-    /// Adds a mark behind the others.
+    /// Adds a mark behind the others. There has to be room for it: `is_full` tells.
     pub fn add(&mut self, mark: Mark)
         requires { length self.old.items < self.old.room }
         ensures items { self.new.items ≡ self.old.items ++ mark ∷ [] }
@@ -82,7 +85,7 @@ impl Marks {
 
     /// Whether there is no room for another one.
     pub fn is_full(&self) -> bool
-        ensures { IsTrue result ↔ (length self.now.items ≡ self.now.room) }
+        ensures { IsTrue result ↔ (self.now.room ≤ length self.now.items) }
     {
         self.len == self.room
     }
@@ -93,7 +96,7 @@ impl Marks {
         ensures { slice_get self.now.items n ≡ Some result }
     {
         let byte = self.bytes[(n / MARKS_IN_BYTE) as usize];
-        Mark::from_bits((byte >> (n % MARKS_IN_BYTE * BITS_OF_MARK)) % 4)
+        Mark::from_bits((byte >> (n % MARKS_IN_BYTE * BITS_OF_MARK)) & FIRST_MARK)
     }
 
     /// How many of the marks are `Recorded`. It is counted as they come.
@@ -104,10 +107,10 @@ impl Marks {
     }
 }
 
-/// Puts the bits of a mark behind those of the marks before it, which are so many.
+/// Puts the bits of a mark behind those of so many marks.
 fn put_bits(bytes: &mut Vec<u8>, marks: u32, bits: u8)
     requires filled { IsFilledTo bytes.old.items marks }
-    requires room { marks / 4 < vec_capacity bytes.old }
+    requires room { marks / MARKS_IN_BYTE < vec_capacity bytes.old }
     requires small { bits < 4 }
     ensures marks { marks_from bytes.new.items 0 (marks + 1)
         ≡ marks_from bytes.old.items 0 marks ++ mark_of bits ∷ [] }

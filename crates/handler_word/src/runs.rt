@@ -27,7 +27,7 @@ pub fn write_runs<S: Sink>(marks: &Marks, sink: &mut S) -> Result<(), WriteFault
     text.done()
 }
 
-/// Adds the same text to one that goes on.
+/// Adds the runs of marks to a text, as `write_runs` writes them, for one that has more to say.
 pub fn add_runs<S: Sink>(text: &mut Text<S>, marks: &Marks) -> Result<(), WriteFault>
     ensures gains { OnOk result
         (Gains S.written text.old text.new (runs_text marks.now.items)) }

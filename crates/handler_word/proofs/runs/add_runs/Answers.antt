@@ -57,7 +57,7 @@ runs-preserved g c =
         given = has.given ++ text;
         gains = c.text_adds_up.ensures.gains _ c.runs.text _ has.given text has.gains c.in_ok-add_run-2.ensures.gains;
         whole = append_assoc has.given text (later_runs behind)
-          ∙ (ap (λ (t : List ℕ). has.given ++ t) (next_and_later (drop c.runs.end marks) (run.mark, run.length) behind c.run_at-run.ensures.run) ∙ has.whole);
+            ∙ (ap (λ (t : List ℕ). has.given ++ t) (next_and_later (drop c.runs.end marks) (run.mark, run.length) behind c.run_at-run.ensures.run) ∙ has.whole);
       };
       later = search rules;
       follows = g.met.S.Sink.follows_along _ _ _ c.runs.invariant.follows c.in_ok-add_run-2.ensures.follows;

@@ -34,6 +34,6 @@ returns-clause-run c =
     let mark = c.get-mark.result in
     run_there marks c.args.start c.same.end mark c.same.invariant.begun c.same.invariant.same
     (elim c.same-test.branch [
-      then-same-test+else-eq w ↦ ends_before_other marks c.same.end mark w.get.result w.get.ensures (λ alike. same_false the_type _ _ (sym w.eq.ensures ∙ w.if-eq.false) (sym alike))
-    | else-same-test w ↦ ends_with_list marks c.same.end mark (omega arith)
+      | then-same-test+else-eq w ↦ ends_before_other marks c.same.end mark w.get.result w.get.ensures (λ alike. same_false the_type _ _ (sym w.eq.ensures ∙ w.if-eq.false) (sym alike))
+      | else-same-test w ↦ ends_with_list marks c.same.end mark (omega arith)
     ])

@@ -1,6 +1,7 @@
 use Rattle.std.proofs.Common.{◌≡◌, ◌<◌, ◌+◌, ◌/◌, ◌%◌, ◌*◌, ◌^◌, ℕ, length, get_or, Some, sym, ap, ◌∙◌, arith}
 use Rattle.std.specs.Prelude.{slice_get}
 use Rattle.std.proofs.lemmas.Grind.{get_or_default_zero}
+use Rattle.std.proofs.lemmas.Nat.{and_mask}
 use Rattle.handler_word.specs.Bits.{mark_of, bits_of}
 use Rattle.handler_word.specs.MarkList.{MarkList}
 use Rattle.handler_word.proofs.MarkBits.{seen_counts, mark_there}
@@ -23,5 +24,6 @@ returns c =
     c.index-byte.ensures ∙ get_or_default_zero a.bytes.items (n / 4) c.index-byte.result.now within in
     let none : 0 + n ≡ n = omega arith in
     let mark : mark_of (bits_of a.bytes.items (0 + n)) ≡ c.from_bits.result =
-    ap (λ k. mark_of (bits_of a.bytes.items k)) none ∙ (ap (λ (byte : ℕ). mark_of (byte / 2 ^ (n % 4 * 2) % 4)) (sym read) ∙ sym c.from_bits.ensures) in
+    ap (λ k. mark_of (bits_of a.bytes.items k)) none ∙ (ap (λ (byte : ℕ). mark_of (byte / 2 ^ (n % 4 * 2) % 4)) (sym read)
+    ∙ (ap mark_of (sym (and_mask (c.index-byte.result.now / 2 ^ (n % 4 * 2)) 2)) ∙ sym c.from_bits.ensures)) in
     ap (λ (m : MarkList). slice_get m.items n) (sym c.self.view_is) ∙ (mark_there a.bytes.items 0 a.len n below ∙ ap Some mark)
