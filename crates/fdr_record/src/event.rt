@@ -19,6 +19,6 @@ pub struct Event {
     pub func: u32,
     /// What happened.
     pub kind: Kind,
-    /// The time-stamp counter, in cycles.
+    /// The counter at the passing, as a processor's time-stamp counter counts cycles.
     pub tsc: u64,
 }

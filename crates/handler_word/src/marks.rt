@@ -45,7 +45,7 @@ impl Model for Marks {
 }
 
 impl Marks {
-    /// No marks yet, with room for so many.
+    /// No marks yet, with room for so many. `NoMemory` comes where an allocation was refused.
     pub fn new(alloc: Global, room: u32) -> Result<Marks, NoMemory>
         ensures { IfOk result (λ marks. marks ≡ record { items = []; room = room }) }
     {
@@ -90,7 +90,7 @@ impl Marks {
         self.len == self.room
     }
 
-    /// The mark of a number, counted from 0.
+    /// The mark of a passing, counted from 0.
     pub fn get(&self, n: u32) -> Mark
         requires { n < length self.now.items }
         ensures { slice_get self.now.items n ≡ Some result }
