@@ -1,0 +1,4 @@
+pub mod WordValues
+pub mod WordNumbers
+pub mod PatchOrder
+pub mod Places
