@@ -2,3 +2,4 @@ pub mod WordValues
 pub mod WordNumbers
 pub mod PatchOrder
 pub mod Places
+pub mod Allowing

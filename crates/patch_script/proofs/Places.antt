@@ -71,7 +71,7 @@ patched_is_stored trampolines sled Opcode = refl
 patched_is_stored trampolines sled Offset = refl
 
 -- a word of a sled is none of those behind the sleds
-apart : (program : Program) (k : ℕ) (sled : Sled) (part : Part) (word : ℕ) → slice_get program.sleds k ≡ Some sled
+pub apart : (program : Program) (k : ℕ) (sled : Sled) (part : Part) (word : ℕ) → slice_get program.sleds k ≡ Some sled
     → handler_word program ≤ word → word ≡ word_of k part → ⊥
 apart program k sled part word at past same = let below = below_others program k sled part at in omega arith
 

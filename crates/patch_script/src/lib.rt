@@ -6,5 +6,7 @@ mod laws;
 mod micro;
 
 pub use command::Command;
-pub use laws::{a_patched_head_has_patched_parts, each_word_has_a_code_value};
+pub use laws::{
+    a_patched_head_has_patched_parts, each_word_has_a_code_value, what_a_passing_loads_is_allowed,
+};
 pub use micro::Micro;
