@@ -7,3 +7,4 @@ pub mod PlainText
 pub mod Runs
 pub mod SomeEnd
 pub mod Stepping
+pub mod AlongScript
