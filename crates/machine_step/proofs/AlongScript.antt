@@ -30,7 +30,7 @@ pub record Allows (program : Program) (script : List Command) : Type 0 where
 -- ---- loads from the first one on
 
 -- loads of the words that `next` wants behind each other, with the values of places that never fall, from one place up to another
-abbrev Fits : Program → List Command → (List Load → Option ℕ) → ℕ → List Load → ℕ → Type 0
+abbrev pub Fits : Program → List Command → (List Load → Option ℕ) → ℕ → List Load → ℕ → Type 0
 Fits program script next low [] high = low ≤ high
 Fits program script next low (load ∷ loads) high =
     (place : ℕ) × (low ≤ place) × (next [] ≡ Some load.word) × (load.value ≡ code_at program script place load.word)
@@ -55,7 +55,7 @@ fits_more program script next low [] high word fits wanted = (high, fits, wanted
 fits_more program script next low (load ∷ loads) high word (place, le, first, value, rest) wanted =
     (place, le, first, value, fits_more program script (λ more. next (load ∷ more)) place loads high word rest wanted)
 
-along_fits : (program : Program) (script : List Command) (thread : ℕ) (hold : Option ℕ) (sleds : List ℕ) {loads : List Load} {place : ℕ}
+pub along_fits : (program : Program) (script : List Command) (thread : ℕ) (hold : Option ℕ) (sleds : List ℕ) {loads : List Load} {place : ℕ}
     → ReadAlong program script thread hold sleds loads place → Fits program script (next_load program thread hold sleds) 0 loads place
 along_fits program script thread hold sleds (none place) = omega arith
 along_fits program script thread hold sleds (later loads place next up along) =
@@ -77,7 +77,7 @@ fits_same program script next other low (load ∷ loads) high same (place, le, f
 -- ---- the stages of a passing
 
 -- the word that is wanted behind loads that bring a passing so far
-abbrev behind : Reading → (List Load → Option ℕ) → Option ℕ
+abbrev pub behind : Reading → (List Load → Option ℕ) → Option ℕ
 behind (Wants word) next = Some word
 behind (Marked mark loads) next = next loads
 
@@ -92,7 +92,7 @@ allowed_at : (program : Program) (script : List Command) (place w word : ℕ) �
 allowed_at program script place w word same allowed =
     subst (λ (v : ℕ). IsAllowed program v (code_at program script place v)) (same_Some w word same) allowed
 
-by_test : (b : Bool) (M : Bool → Type 0) → (b ≡ true → M true) → (b ≡ false → M false) → M b
+pub by_test : (b : Bool) (M : Bool → Type 0) → (b ≡ true → M true) → (b ≡ false → M false) → M b
 by_test true M at_true at_false = at_true refl
 by_test false M at_true at_false = at_false refl
 
@@ -164,7 +164,7 @@ module _ (program : Program) (script : List Command) (allows : Allows program sc
 
 -- ---- all passings
 
-next_is : (program : Program) (thread : ℕ) (hold : Option ℕ) (number k : ℕ) (sleds : List ℕ) (loads : List Load) (r : Reading)
+pub next_is : (program : Program) (thread : ℕ) (hold : Option ℕ) (number k : ℕ) (sleds : List ℕ) (loads : List Load) (r : Reading)
     → from_start program thread (is_held_at hold number) k loads ≡ r
     → next_from program thread hold number (k ∷ sleds) loads ≡ behind r (next_from program thread hold (number + 1) sleds)
 next_is program thread hold number k sleds loads (Wants word) e = rw e refl

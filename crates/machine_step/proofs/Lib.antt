@@ -8,3 +8,4 @@ pub mod Runs
 pub mod SomeEnd
 pub mod Stepping
 pub mod AlongScript
+pub mod Wholeness
