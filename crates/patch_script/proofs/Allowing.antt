@@ -14,7 +14,7 @@ use Rattle.patch_script.specs.declared.command.Command.{Command}
 use Rattle.patch_script.specs.CodeAt.{code_at}
 use Rattle.patch_script.specs.Patched.{HasPatchedHead}
 use Rattle.patch_script.specs.Values.{IsCodeValue, IsHead}
-use Rattle.patch_script.proofs.Places.{apart, code_values, part_patched}
+use Rattle.patch_script.proofs.PatchedParts.{apart, code_values, part_patched}
 use Rattle.patch_script.proofs.WordNumbers.{same_part, same_sled}
 
 -- each head that a sled may have is one that a passing may load

@@ -1,14 +1,18 @@
 -- The value of one word behind micro steps.
-use Rattle.std.proofs.Common.{◌≡◌, ℕ, ◌≤◌, List, [], ◌∷◌, ◌++◌, Option, Some, None, unwrap_or, refl, sym, ap, ◌∙◌, take, drop}
-use Rattle.std.specs.Prelude.{IfSome}
+use Rattle.std.proofs.Common.{◌≡◌, ℕ, zero, suc, ◌+◌, ◌*◌, ◌<◌, ◌≤◌, List, [], ◌∷◌, ◌++◌, Option, Some, None, unwrap_or, refl, sym, ap, subst, ◌∙◌, inl, inr, take, drop, get_or, set, length, replicate, add-one}
+use Rattle.std.specs.Prelude.{IfSome, slice_get, slice_index}
 use Rattle.std.specs.List.{filter_map, last_or, cons_option, All}
-use Rattle.std.proofs.lemmas.List.{take-append-drop, take-take}
+use Rattle.std.proofs.lemmas.Bool.Decides.{eqb_tells}
+use Rattle.std.proofs.lemmas.List.{take-append-drop, take-take, length-set, get_or-set_same, get_or-set_other}
 use Rattle.std.proofs.lemmas.List.Elements.{All-head, All-tail}
 use Rattle.xray_image.specs.Program.{Program}
+use Rattle.sled_words.specs.Parts.{all_sled_words, initial_words}
 use Rattle.patch_script.specs.declared.command.Command.{Command}
 use Rattle.patch_script.specs.declared.micro.Micro.{Micro}
-use Rattle.patch_script.specs.Micros.{micros}
+use Rattle.patch_script.specs.declared.micro.Micro.TheVariants.{Store, Await, End}
+use Rattle.patch_script.specs.Micros.{micros, micro_at}
 use Rattle.patch_script.specs.CodeAt.{stored_in, initial_value, code_at}
+use Rattle.patch_script.specs.StoredWords.{stored, AreCodeAt}
 
 -- the value of a word behind a step, and behind steps, from a value before
 abbrev pub behind : ℕ → Micro → ℕ → ℕ
@@ -66,3 +70,61 @@ held_has P word (step ∷ steps) value each before =
     let Q : Micro → Type 0 = λ s. IfSome (stored_in word s) P in
     held_has P word steps (behind word step value) (All-tail Q step steps each)
     (behind_has P (stored_in word step) value (All-head Q step steps each) before)
+
+-- one step more
+held_next : (word : ℕ) (steps : List Micro) (place value : ℕ)
+    → held word (take (suc place) steps) value ≡ behind word (unwrap_or (slice_get steps place) End) (held word (take place steps) value)
+held_next word [] zero value = refl
+held_next word [] (suc place) value = refl
+held_next word (step ∷ steps) zero value = refl
+held_next word (step ∷ steps) (suc place) value = held_next word steps place (behind word step value)
+
+pub code_at_next : (program : Program) (script : List Command) (place word : ℕ)
+    → code_at program script (place + 1) word
+    ≡ behind word (micro_at program script place) (code_at program script place word)
+code_at_next program script place word =
+    let steps : List Micro = micros program script in
+    let first : ℕ = initial_value program word in
+    code_at_held program script (place + 1) word ∙ ap (λ n. held word (take n steps) first) (add-one place)
+    ∙ held_next word steps place first ∙ ap (behind word (micro_at program script place)) (sym (code_at_held program script place word))
+
+-- zeros behind a list change no number that is read with 0 for none
+zeros : (n i : ℕ) → ◌≡◌ {A = ℕ} (get_or (replicate n 0) i 0) 0
+zeros zero i = refl
+zeros (suc n) zero = refl
+zeros (suc n) (suc i) = zeros n i
+
+get_or-zeros : (xs : List ℕ) (n i : ℕ) → get_or (xs ++ replicate n 0) i 0 ≡ get_or xs i 0
+get_or-zeros [] n i = zeros n i
+get_or-zeros (x ∷ xs) n zero = refl
+get_or-zeros (x ∷ xs) n (suc i) = get_or-zeros xs n i
+
+pub code_at_first : (program : Program) (script : List Command) (threads : ℕ) → AreCodeAt program script 0 (initial_words program threads)
+code_at_first program script threads word within = get_or-zeros (all_sled_words program) (2 + 2 * threads) word
+
+-- a step changes each word to its value behind the step
+stored_behind : (words : List ℕ) (step : Micro) (word : ℕ) → word < length (stored words step)
+    → slice_index (stored words step) word ≡ behind word step (slice_index words word)
+stored_behind words (Await thread count) word within = refl
+stored_behind words End word within = refl
+stored_behind words (Store w value) word within =
+    let long : word < length words = subst (λ (n : ℕ). word < n) (length-set words w value) within in
+    elim (eqb_tells w word) [
+      | inl t ↦
+          let here : get_or (set words w value) word 0 ≡ value =
+          subst (λ (v : ℕ). get_or (set words v value) word 0 ≡ value) (sym t.1) (get_or-set_same words word value 0 long) in
+          here ∙ rw t.0 refl
+      | inr f ↦ get_or-set_other words w word value 0 (λ e. f.1 (sym e)) ∙ rw f.0 refl
+    ]
+
+stored_within : (words : List ℕ) (step : Micro) (word : ℕ) → word < length (stored words step) → word < length words
+stored_within words (Await thread count) word within = within
+stored_within words End word within = within
+stored_within words (Store w value) word within = subst (λ (n : ℕ). word < n) (length-set words w value) within
+
+pub code_stored : (program : Program) (script : List Command) (place : ℕ) (words : List ℕ) → AreCodeAt program script place words
+    → AreCodeAt program script (place + 1) (stored words (micro_at program script place))
+code_stored program script place words are word within =
+    let step : Micro = micro_at program script place in
+    stored_behind words step word within ∙ ap (behind word step) (are word (stored_within words step word within))
+    ∙ sym (code_at_next program script place word)

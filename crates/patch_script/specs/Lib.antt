@@ -2,3 +2,4 @@ pub mod Micros
 pub mod CodeAt
 pub mod Values
 pub mod Patched
+pub mod StoredWords

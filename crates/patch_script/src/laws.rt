@@ -1,15 +1,18 @@
 //! What follows for the definitions. Each law is the contract of a function that does nothing.
 
-ghost use Rattle.std.specs.Prelude.{◌≡◌, ◌≤◌, ℕ, List, Some, slice_get};
+ghost use Rattle.std.specs.Prelude.{◌≡◌, ◌≤◌, ◌+◌, ℕ, List, Some, slice_get, unwrap_or};
 ghost use Rattle.xray_image.specs.declared.sled.Sled.{Sled};
 ghost use Rattle.xray_image.specs.Program.{Program};
 ghost use Rattle.sled_words.specs.declared.part.Part.{Part};
 ghost use Rattle.sled_words.specs.declared.part.Part.TheVariants.{Head};
 ghost use Rattle.sled_words.specs.Allowed.{IsAllowed};
+ghost use Rattle.sled_words.specs.Parts.{initial_words};
 ghost use Rattle.sled_words.specs.Words.{handler_word, word_of};
 ghost use Rattle.patch_script.specs.declared.command.Command.{Command};
-ghost use Rattle.patch_script.specs.CodeAt.{code_at};
+ghost use Rattle.patch_script.specs.CodeAt.{code_at, stored_in};
+ghost use Rattle.patch_script.specs.Micros.{micro_at};
 ghost use Rattle.patch_script.specs.Patched.{HasPatchedHead, HasPatchedParts};
+ghost use Rattle.patch_script.specs.StoredWords.{AreCodeAt, stored};
 ghost use Rattle.patch_script.specs.Values.{IsCodeValue};
 
 /// Whoever loads a patched head loads behind it what patching stores, however many stores come between
@@ -39,4 +42,17 @@ pub fn what_a_passing_loads_is_allowed()
     ensures other { (program : Program) (script : List Command) (place word : ℕ)
         → handler_word program ≤ word
         → IsAllowed program word (code_at program script place word) }
+{}
+
+/// Stores that are made one by one give the code at each place: at first the words are those before the
+/// script, and a micro step brings each of them to its value at the next place.
+pub fn stores_give_the_code()
+    ensures first { (program : Program) (script : List Command) (threads : ℕ)
+        → AreCodeAt program script 0 (initial_words program threads) }
+    ensures next { (program : Program) (script : List Command) (place : ℕ) (words : List ℕ)
+        → AreCodeAt program script place words
+        → AreCodeAt program script (place + 1) (stored words (micro_at program script place)) }
+    ensures word { (program : Program) (script : List Command) (place word : ℕ)
+        → code_at program script (place + 1) word
+        ≡ unwrap_or (stored_in word (micro_at program script place)) (code_at program script place word) }
 {}

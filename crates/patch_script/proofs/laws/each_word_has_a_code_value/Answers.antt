@@ -1,4 +1,4 @@
-use Rattle.patch_script.proofs.Places.{code_values}
+use Rattle.patch_script.proofs.PatchedParts.{code_values}
 use Rattle.patch_script.proofs.laws.each_word_has_a_code_value.Goals as goal
 
 pub returns : goal.returns
