@@ -9,3 +9,4 @@ pub mod SomeEnd
 pub mod Stepping
 pub mod AlongScript
 pub mod Wholeness
+mod WholeRows
