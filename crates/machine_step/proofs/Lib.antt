@@ -7,6 +7,6 @@ pub mod PlainText
 pub mod Runs
 pub mod SomeEnd
 pub mod Stepping
-pub mod AlongScript
+pub mod AlongCode
 pub mod Wholeness
 mod WholeRows

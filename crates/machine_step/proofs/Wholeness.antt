@@ -11,15 +11,15 @@ use Rattle.xray_image.specs.Program.{Program}
 use Rattle.sled_words.specs.declared.part.Part.{Part}
 use Rattle.sled_words.specs.declared.part.Part.TheVariants.{Head, Id, Opcode, Offset}
 use Rattle.sled_words.specs.Allowed.{IsAllowed, IsAllowedPart}
+use Rattle.sled_words.specs.ChangingCode.{KeepsSleds}
 use Rattle.sled_words.specs.Parts.{patched, patched_head}
 use Rattle.sled_words.specs.Words.{word_of}
-use Rattle.patch_script.specs.declared.command.Command.{Command}
 use Rattle.handler_word.specs.declared.mark.Mark.{Mark}
 use Rattle.handler_word.specs.declared.mark.Mark.TheVariants.{Skipped, NoHandler}
 use Rattle.machine_step.specs.Loads.{Load, Reading, Wants, Marked, from_state, from_handler, from_offset, from_opcode, from_id, from_head, from_release, from_start, is_held_at, next_from, next_load}
 use Rattle.machine_step.specs.Whole.{AreWhole, IsWhole, Loaded, loads_by_passing}
 use Rattle.machine_step.specs.ReadAlong.{ReadAlong}
-use Rattle.machine_step.proofs.AlongScript.{Allows, Fits, along_fits, behind, by_test, loads_allowed, next_is}
+use Rattle.machine_step.proofs.AlongCode.{Fits, along_fits, behind, by_test, loads_allowed, next_is}
 
 -- loads of the words that `next` wants behind each other, each of a value that is allowed
 abbrev Fit : Program → (List Load → Option ℕ) → List Load → Type 0
@@ -288,19 +288,19 @@ pub all_whole : (program : Program) (thread : ℕ) (hold : Option ℕ) (sleds : 
 all_whole program thread hold sleds loads wanted allowed =
     whole_from program thread hold 0 sleds loads (fit_from program (next_load program thread hold sleds) loads wanted allowed)
 
-fit_along : (program : Program) (script : List Command) (next : List Load → Option ℕ) (low : ℕ) (loads : List Load) (high : ℕ)
-    → Fits program script next low loads high → All (λ load. IsAllowed program load.word load.value) loads → Fit program next loads
-fit_along program script next low [] high fits allowed = tt
-fit_along program script next low (load ∷ loads) high (place, le, first, value, rest) allowed =
+fit_along : (program : Program) (code : ℕ → ℕ → ℕ) (next : List Load → Option ℕ) (low : ℕ) (loads : List Load) (high : ℕ)
+    → Fits program code next low loads high → All (λ load. IsAllowed program load.word load.value) loads → Fit program next loads
+fit_along program code next low [] high fits allowed = tt
+fit_along program code next low (load ∷ loads) high (place, le, first, value, rest) allowed =
     let P : Load → Type 0 = λ l. IsAllowed program l.word l.value in (
       first,
       All-head P load loads allowed,
-      fit_along program script (λ more. next (load ∷ more)) place loads high rest (All-tail P load loads allowed),
+      fit_along program code (λ more. next (load ∷ more)) place loads high rest (All-tail P load loads allowed),
     )
 
-pub along_whole : (program : Program) (script : List Command) → Allows program script → (thread : ℕ) (hold : Option ℕ) (sleds : List ℕ)
-    (loads : List Load) (place : ℕ) → ReadAlong program script thread hold sleds loads place → AreWhole program thread hold sleds loads
-along_whole program script allows thread hold sleds loads place along =
+pub along_whole : (program : Program) (code : ℕ → ℕ → ℕ) → KeepsSleds program code → (thread : ℕ) (hold : Option ℕ) (sleds : List ℕ)
+    (loads : List Load) (place : ℕ) → ReadAlong program code thread hold sleds loads place → AreWhole program thread hold sleds loads
+along_whole program code keeps thread hold sleds loads place along =
     whole_from program thread hold 0 sleds loads
-    (fit_along program script (next_load program thread hold sleds) 0 loads place (along_fits program script thread hold sleds along)
-    (loads_allowed program script allows thread hold sleds along))
+    (fit_along program code (next_load program thread hold sleds) 0 loads place (along_fits program code thread hold sleds along)
+    (loads_allowed program code keeps thread hold sleds along))

@@ -8,6 +8,7 @@ use Rattle.xray_image.specs.Program.{Program}
 use Rattle.sled_words.specs.declared.part.Part.{Part}
 use Rattle.sled_words.specs.declared.part.Part.TheVariants.{Head, Id, Opcode, Offset}
 use Rattle.sled_words.specs.Allowed.{IsAllowed, IsAllowedPart, IsUnpatchedHead}
+use Rattle.sled_words.specs.ChangingCode.{KeepsSleds}
 use Rattle.sled_words.specs.Parts.{patched, patched_head}
 use Rattle.sled_words.specs.Words.{word_of, handler_word}
 use Rattle.patch_script.specs.declared.command.Command.{Command}
@@ -44,7 +45,7 @@ allowed_by program word value is behind_head = record {
     by_part k sled Opcode at same = behind_head k sled Opcode at same (λ e. cc)
     by_part k sled Offset at same = behind_head k sled Offset at same (λ e. cc)
 
-pub allowed_head : (program : Program) (script : List Command) (place k : ℕ)
+allowed_head : (program : Program) (script : List Command) (place k : ℕ)
     → IsAllowed program (word_of k Head) (code_at program script place (word_of k Head))
 allowed_head program script place k =
     allowed_by program (word_of k Head) _ (code_values program script place (word_of k Head))
@@ -59,15 +60,22 @@ allowed_behind_head program script p q k part le head other =
     subst (HasPatchedHead program script p) (same_sled k j part a same) head in
     ap (code_at program script q) same ∙ part_patched program script p q j sled a at behind le patched_j)
 
-pub allowed_part : (program : Program) (script : List Command) (p q k : ℕ) (part : Part) → p ≤ q → HasPatchedHead program script p k
+allowed_part : (program : Program) (script : List Command) (p q k : ℕ) (part : Part) → p ≤ q → HasPatchedHead program script p k
     → IsAllowed program (word_of k part) (code_at program script q (word_of k part))
 allowed_part program script p q k Head le head = allowed_head program script q k
 allowed_part program script p q k Id le head = allowed_behind_head program script p q k Id le head (λ e. cc)
 allowed_part program script p q k Opcode le head = allowed_behind_head program script p q k Opcode le head (λ e. cc)
 allowed_part program script p q k Offset le head = allowed_behind_head program script p q k Offset le head (λ e. cc)
 
-pub allowed_others : (program : Program) (script : List Command) (place word : ℕ) → handler_word program ≤ word
+allowed_others : (program : Program) (script : List Command) (place word : ℕ) → handler_word program ≤ word
     → IsAllowed program word (code_at program script place word)
 allowed_others program script place word past =
     allowed_by program word _ (code_values program script place word)
     (λ k sled part at same other. absurd (apart program k sled part word at past same))
+
+pub keeps_sleds : (program : Program) (script : List Command) → KeepsSleds program (code_at program script)
+keeps_sleds program script = record {
+  head = allowed_head program script;
+  part = allowed_part program script;
+  other = allowed_others program script;
+}

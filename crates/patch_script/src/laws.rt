@@ -3,11 +3,8 @@
 ghost use Rattle.std.specs.Prelude.{◌≡◌, ◌≤◌, ◌+◌, ℕ, List, Some, slice_get, unwrap_or};
 ghost use Rattle.xray_image.specs.declared.sled.Sled.{Sled};
 ghost use Rattle.xray_image.specs.Program.{Program};
-ghost use Rattle.sled_words.specs.declared.part.Part.{Part};
-ghost use Rattle.sled_words.specs.declared.part.Part.TheVariants.{Head};
-ghost use Rattle.sled_words.specs.Allowed.{IsAllowed};
+ghost use Rattle.sled_words.specs.ChangingCode.{KeepsSleds};
 ghost use Rattle.sled_words.specs.Parts.{initial_words};
-ghost use Rattle.sled_words.specs.Words.{handler_word, word_of};
 ghost use Rattle.patch_script.specs.declared.command.Command.{Command};
 ghost use Rattle.patch_script.specs.CodeAt.{code_at, stored_in};
 ghost use Rattle.patch_script.specs.Micros.{micro_at};
@@ -30,18 +27,10 @@ pub fn each_word_has_a_code_value()
         → IsCodeValue program word (code_at program script place word) }
 {}
 
-/// What a passing loads is allowed, whatever the script is and wherever the patcher stands: a head, and
-/// the words of the handler, of the log's state and of the threads, always; the other parts of a sled at
-/// each place that isn't before one where its head was loaded patched.
-pub fn what_a_passing_loads_is_allowed()
-    ensures head { (program : Program) (script : List Command) (place k : ℕ)
-        → IsAllowed program (word_of k Head) (code_at program script place (word_of k Head)) }
-    ensures part { (program : Program) (script : List Command) (p q k : ℕ) (part : Part)
-        → p ≤ q → HasPatchedHead program script p k
-        → IsAllowed program (word_of k part) (code_at program script q (word_of k part)) }
-    ensures other { (program : Program) (script : List Command) (place word : ℕ)
-        → handler_word program ≤ word
-        → IsAllowed program word (code_at program script place word) }
+/// Whatever a script stores keeps each sled whole for a thread that passes it: what it loads is allowed,
+/// wherever its loads fall between the stores.
+pub fn each_script_keeps_sleds()
+    ensures { (program : Program) (script : List Command) → KeepsSleds program (code_at program script) }
 {}
 
 /// Stores that are made one by one give the code at each place: at first the words are those before the

@@ -7,7 +7,7 @@ mod micro;
 
 pub use command::Command;
 pub use laws::{
-    a_patched_head_has_patched_parts, each_word_has_a_code_value, stores_give_the_code,
-    what_a_passing_loads_is_allowed,
+    a_patched_head_has_patched_parts, each_script_keeps_sleds, each_word_has_a_code_value,
+    stores_give_the_code,
 };
 pub use micro::Micro;

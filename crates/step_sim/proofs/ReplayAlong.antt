@@ -56,7 +56,7 @@ loads_along cast thread m word some wanted along other some_other =
     let load : Load = record { word = word; value = code_at cast.program cast.script m.place word } in
     let item : List Load = of_thread m.loads thread ++ load ∷ [] in
     let Reads : ℕ → List Load → Type 0 = λ t loads.
-    ReadAlong cast.program cast.script t (hold_of t cast.script) (of_thread cast.passings t) loads m.place in
+    ReadAlong cast.program (code_at cast.program cast.script) t (hold_of t cast.script) (of_thread cast.passings t) loads m.place in
     elim (cases_eq other thread) [
       | inl same ↦ elim (cases_lt (thread - 1) (length m.loads)) [
         | inl within ↦
@@ -105,7 +105,7 @@ pub first_along : (cast : Cast) → IsAlong cast (first_moment cast)
 first_along cast = record {
   along = λ thread some.
       let start : ℕ = start_of cast.program cast.script in
-      subst (λ (loads : List Load). ReadAlong cast.program cast.script thread (hold_of thread cast.script) (of_thread cast.passings thread) loads start)
+      subst (λ (loads : List Load). ReadAlong cast.program (code_at cast.program cast.script) thread (hold_of thread cast.script) (of_thread cast.passings thread) loads start)
       (sym (of_thread_is (first_moment cast).loads thread ∙ no_loads cast.passings (thread - 1)))
       (none start);
   within = front_steps cast.program [] _ cast.script;

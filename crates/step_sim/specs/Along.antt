@@ -1,5 +1,6 @@
 -- The loads of a replay's threads, along its script.
 use Rattle.std.specs.Prelude.{◌<◌, ◌≤◌, ℕ, ⊤}
+use Rattle.patch_script.specs.CodeAt.{code_at}
 use Rattle.patch_script.specs.Micros.{hold_of, total_of}
 use Rattle.machine_step.specs.ReadAlong.{ReadAlong}
 use Rattle.machine_step.specs.Whole.{AreWhole}
@@ -16,7 +17,7 @@ NamesThread (Patcher count) = ⊤
 abbrev pub AllReadAlong : Cast → Moment → Type 0
 AllReadAlong cast moment =
     (thread : ℕ) → 0 < thread
-    → ReadAlong cast.program cast.script thread (hold_of thread cast.script) (of_thread cast.passings thread)
+    → ReadAlong cast.program (code_at cast.program cast.script) thread (hold_of thread cast.script) (of_thread cast.passings thread)
     (of_thread moment.loads thread) moment.place
 
 -- what each moment of a replay keeps: all have read along the script, and the patcher stands within it

@@ -7,7 +7,8 @@ ghost use Rattle.step_sim.specs.declared.turns.Turns.{Turns as Line};
 ghost use Rattle.step_sim.specs.Along.{IsAlong, NamesThread, TearsNoSled};
 ghost use Rattle.step_sim.specs.Replay.{AllRunOut, Cast, Moment, first_moment, patcher_turn, scheduled, thread_turn, wanted_by};
 
-use machine_step::what_is_read_along_a_script_is_allowed;
+use machine_step::what_is_read_along_is_allowed;
+use patch_script::each_script_keeps_sleds;
 
 /// At each moment of a replay each thread has read along the script: at first, and behind each turn of
 /// a thread or of the patcher. So the value of the word that a thread wants next is allowed, and no
@@ -23,7 +24,8 @@ pub fn a_replay_reads_along()
         → IsAllowed cast.program word (code_at cast.program cast.script moment.place word) }
     ensures whole { (cast : Cast) (moment : Moment) → IsAlong cast moment → TearsNoSled cast moment }
 {
-    what_is_read_along_a_script_is_allowed();
+    each_script_keeps_sleds();
+    what_is_read_along_is_allowed();
 }
 
 /// No replay tears a sled, whatever the program, the script and the schedule are: when all threads have
