@@ -7,3 +7,6 @@ pub mod PlainText
 pub mod Runs
 pub mod SomeEnd
 pub mod Stepping
+pub mod AlongCode
+pub mod Wholeness
+mod WholeRows

@@ -1,2 +1,5 @@
 pub mod Micros
 pub mod CodeAt
+pub mod Values
+pub mod Patched
+pub mod StoredWords

@@ -1,0 +1,39 @@
+//! Laws of the moments of a replay, each the contract of a function that does nothing.
+
+ghost use Rattle.std.specs.Prelude.{◌≡◌, ◌<◌, ℕ, List, Some, All, length};
+ghost use Rattle.sled_words.specs.Allowed.{IsAllowed};
+ghost use Rattle.patch_script.specs.CodeAt.{code_at};
+ghost use Rattle.step_sim.specs.declared.turns.Turns.{Turns as Line};
+ghost use Rattle.step_sim.specs.Along.{IsAlong, NamesThread, TearsNoSled};
+ghost use Rattle.step_sim.specs.Replay.{AllRunOut, Cast, Moment, first_moment, patcher_turn, scheduled, thread_turn, wanted_by};
+
+use machine_step::what_is_read_along_is_allowed;
+use patch_script::each_script_keeps_sleds;
+
+/// At each moment of a replay each thread has read along the script: at first, and behind each turn of
+/// a thread or of the patcher. So the value of the word that a thread wants next is allowed, and no
+/// passing has torn its sled.
+pub fn a_replay_reads_along()
+    ensures first { (cast : Cast) → IsAlong cast (first_moment cast) }
+    ensures thread { (cast : Cast) (thread : ℕ) (moment : Moment) → 0 < thread
+        → IsAlong cast moment → IsAlong cast (thread_turn cast thread moment) }
+    ensures patcher { (cast : Cast) (moment : Moment)
+        → IsAlong cast moment → IsAlong cast (patcher_turn cast moment) }
+    ensures allowed { (cast : Cast) (moment : Moment) (thread word : ℕ) → 0 < thread
+        → IsAlong cast moment → wanted_by cast thread moment ≡ Some word
+        → IsAllowed cast.program word (code_at cast.program cast.script moment.place word) }
+    ensures whole { (cast : Cast) (moment : Moment) → IsAlong cast moment → TearsNoSled cast moment }
+{
+    each_script_keeps_sleds();
+    what_is_read_along_is_allowed();
+}
+
+/// No replay tears a sled, whatever the program, the script and the schedule are: when all threads have
+/// run out, each passing of each of them has decoded its sled whole.
+pub fn no_replay_tears_a_sled()
+    ensures { (cast : Cast) (schedule : List Line) (last : Moment) → All NamesThread schedule
+        → AllRunOut cast (length cast.passings) 1 (scheduled cast schedule) last
+        → TearsNoSled cast last }
+{
+    a_replay_reads_along();
+}
