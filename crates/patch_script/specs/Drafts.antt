@@ -40,10 +40,10 @@ Judges draft number command (Ok x) = IsAdmitted draft command
 Judges draft number command (Err fault) = judged (program_of draft) draft.threads (lines_of draft) number command ≡ Err fault
 
 -- the new draft has these lines, for the same image and threads
-pub record HasLines (old : Draft) (lines : Lines) (new : Draft) : Type 0 where
+pub record HasLines (old : Draft) (all : Lines) (new : Draft) : Type 0 where
   pub program : program_of new ≡ program_of old
   pub threads : new.threads ≡ old.threads
-  pub lines : lines_of new ≡ lines
+  pub lines : lines_of new ≡ all
   pub sound : IsDraft new
 
 -- an answer that leaves the lines of a verdict, or tells its refusal, or memory ran out

@@ -42,8 +42,8 @@ NamesFewThreads (commands.Release thread) = thread ≤ 16
 NamesFewThreads _ = Unit {0}
 
 -- a command stands in its place
-pub record IsPlaced (program : Program) (before : List Command) (placed : Placed) : Type 0 where
-  pub before : placed.before ≡ total_of program before
+pub record IsPlaced (program : Program) (earlier : List Command) (placed : Placed) : Type 0 where
+  pub before : placed.before ≡ total_of program earlier
   pub sleds : HasSleds program placed.command placed.sleds
   pub thread : NamesFewThreads placed.command
 

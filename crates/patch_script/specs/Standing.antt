@@ -1,14 +1,15 @@
 -- What the commands so far have done, as it is kept.
-use Rattle.std.specs.Prelude.{◌≡◌, ℕ, zero, suc, Bool, true, false, ◌==◌, List, slice_index_or, Option, Some, None, if◌then◌else◌}
+use Rattle.std.specs.Prelude.{◌≡◌, ℕ, zero, suc, Bool, true, false, ◌==◌, ◌||◌, List, slice_index_or, Option, Some, None, if◌then◌else◌}
 use Rattle.std.specs.List.{list_any}
 use Rattle.patch_script.specs.declared.command.Command.{Command}
+use Rattle.patch_script.specs.declared.command.Command.TheVariants as commands
 use Rattle.patch_script.specs.declared.standing.Hold.{Hold}
 use Rattle.patch_script.specs.declared.standing.Hold.TheVariants.{Free, Held, Released}
 use Rattle.patch_script.specs.declared.standing.Holds.{Holds}
 use Rattle.patch_script.specs.declared.standing.Log.{Log}
 use Rattle.patch_script.specs.declared.standing.Log.TheVariants.{Uninitialized, Initialized, Finalized}
 use Rattle.patch_script.specs.declared.standing.Standing.{Standing}
-use Rattle.patch_script.specs.Micros.{hold_of}
+use Rattle.patch_script.specs.Micros.{is_go, hold_of}
 use Rattle.patch_script.specs.Refusals.{has_go, is_released, is_init, is_finalize}
 
 -- the hold of a thread, by its number from 1
@@ -18,7 +19,7 @@ hold_in holds (suc n) = slice_index_or holds.threads n Free
 
 -- the same where one thread's is another
 abbrev pub with_hold : Holds → ℕ → Hold → ℕ → Hold
-with_hold holds thread hold other = if other == thread then hold else hold_in holds other
+with_hold holds thread hold other = if thread == other then hold else hold_in holds other
 
 -- the passing before which a thread is held
 abbrev pub passing_of : Hold → Option ℕ
@@ -49,6 +50,30 @@ abbrev pub was_finalized : Log → Bool
 was_finalized Uninitialized = false
 was_finalized Initialized = false
 was_finalized Finalized = true
+
+-- a held thread is released
+abbrev pub released_of : Hold → Hold
+released_of Free = Free
+released_of (Held passing) = Released passing
+released_of (Released passing) = Released passing
+
+-- the hold of a thread behind a command
+abbrev pub hold_after : ℕ → Command → Hold → Hold
+hold_after thread (commands.Hold held passing) hold = if held == thread then Held passing else hold
+hold_after thread (commands.Release released) hold = if released == thread then released_of hold else hold
+hold_after thread _ hold = hold
+
+-- the log behind a command
+abbrev pub log_after : Command → Log → Log
+log_after commands.Init log = Initialized
+log_after commands.Finalize log = Finalized
+log_after _ log = log
+
+-- the new standing is the old one with a command
+pub record Follows (old : Standing) (command : Command) (new : Standing) : Type 0 where
+  pub going : new.going ≡ (old.going || is_go command)
+  pub log : new.log ≡ log_after command old.log
+  pub holds : (thread : ℕ) → hold_in new.holds thread ≡ hold_after thread command (hold_in old.holds thread)
 
 -- the holds are those of the commands
 pub record AreHolds (script : List Command) (holds : Holds) : Type 0 where

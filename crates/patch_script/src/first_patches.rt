@@ -1,7 +1,6 @@
 //! Which sleds were patched before.
 
-ghost use Rattle.std.specs.Prelude.{◌≡◌, ◌<◌, ◌≤◌, ◌||◌, ◌^◌, ℕ, List, [], ◌∷◌, ◌++◌, length, IfOk};
-ghost use Rattle.patch_script.specs.declared.command.Command.{Command as Said};
+ghost use Rattle.std.specs.Prelude.{◌≡◌, ◌||◌, [], IfOk};
 ghost use Rattle.patch_script.specs.FirstPatches.{is_before};
 
 use crate::command::Command;
@@ -27,7 +26,7 @@ fn is_before(command: Option<u32>, number: u32) -> bool
 }
 
 impl FirstPatches {
-    ghost use Rattle.patch_script.specs.FirstPatches.{first_in, AreFirst, HasRoom};
+    ghost use Rattle.patch_script.specs.FirstPatches.{first_in, AreFirst, AddsFirst, HasRoom};
 
     /// Of no commands, for an image with so many function ids.
     pub(crate) fn new(alloc: Global, ids: u32) -> Result<FirstPatches, AllocError>
@@ -42,8 +41,7 @@ impl FirstPatches {
     /// Adds the command of a number.
     pub(crate) fn add(&mut self, command: Command, number: u32)
         requires { HasRoom command self.old }
-        ensures { (ids : ℕ) (before : List Said) → AreFirst ids before self.old → number ≡ length before
-            → AreFirst ids (before ++ command ∷ []) self.new }
+        ensures { AddsFirst self.old command number self.new }
     {
         match command {
             Command::Patch => self.all = self.all.or(Some(number)),

@@ -1,6 +1,6 @@
 //! Commands in their places among the micro steps.
 
-ghost use Rattle.std.specs.Prelude.{◌≡◌, ◌<◌, ◌≤◌, ◌+◌, ◌-◌, ◌^◌, ℕ, false, List, [], ◌∷◌, ◌++◌, length, slice_get, Some, IfOk, OnOk};
+ghost use Rattle.std.specs.Prelude.{◌≡◌, ◌<◌, ◌≤◌, ◌+◌, ◌-◌, ◌^◌, ℕ, false, List, [], ◌∷◌, ◌++◌, length, slice_get, Some, None, IfOk, OnOk, if◌then◌else◌};
 ghost use Rattle.xray_image.specs.declared.sled.Sled.{Sled};
 ghost use Rattle.patch_script.specs.Micros.{micro_at, steps_of, patch_sled, unpatch_sled};
 ghost use Rattle.patch_script.specs.Plans.{is_waiting};
@@ -66,14 +66,14 @@ impl Command {
         }
     }
 
-    /// Whether a thread or the patcher may wait at the command.
-    fn is_waiting(self) -> bool
-        ensures { result ≡ is_waiting self }
+    /// The command's line, where a thread or the patcher may wait at it.
+    fn waiting_line(self, line: u32) -> Option<u32>
+        ensures { result ≡ (if is_waiting self then Some line else None) }
     {
-        matches!(
-            self,
-            Command::Hold { .. } | Command::Release { .. } | Command::Await { .. }
-        )
+        match self {
+            Command::Hold { .. } | Command::Release { .. } | Command::Await { .. } => Some(line),
+            _ => None,
+        }
     }
 }
 
@@ -138,12 +138,8 @@ impl PlacedCommands {
         })?;
         self.first_patches.add(command, number);
         self.total += command.step_count(sleds.len());
-        if !going {
-            self.start = self.total;
-        }
-        if command.is_waiting() && self.waits.is_none() {
-            self.waits = Some(line);
-        }
+        self.start = if going { self.start } else { self.total };
+        self.waits = self.waits.or(command.waiting_line(line));
         Ok(())
     }
 

@@ -1,9 +1,10 @@
 //! The sleds that commands patch, and what patching stores in them.
 
-ghost use Rattle.std.specs.Prelude.{◌≡◌, ◌<◌, ◌≤◌, ◌^◌, length, map, IfOk, slice_get, Some};
+ghost use Rattle.std.specs.Prelude.{◌≡◌, ◌<◌, ◌≤◌, ◌^◌, ◌-◌, length, map, IfOk, slice_get, Some};
 ghost use Rattle.std.specs.List.Sorted.{IsNonDecreasingBy};
 ghost use Rattle.xray_image.specs.declared.sled.Sled.{Sled};
 ghost use Rattle.patch_script.specs.Micros.{head_left};
+ghost use Rattle.patch_script.specs.Sleds.{values_of};
 
 use sled_words::{JUMP_HEAD, PATCHED_HEAD, Part, part_value};
 use std::alloc::{AllocError, Global};
@@ -28,7 +29,7 @@ pub(crate) struct SledValues {
 }
 
 impl SledValues {
-    ghost use Rattle.patch_script.specs.Sleds.{values_of, value_in};
+    ghost use Rattle.patch_script.specs.Sleds.{value_in};
 
     /// What there is to know of the sled of a number.
     fn new(image: &Image, number: u32) -> SledValues

@@ -1,10 +1,9 @@
 //! What the commands so far have done.
 
-ghost use Rattle.std.specs.Prelude.{◌≡◌, ◌<◌, ◌≤◌, ℕ, List, [], ◌∷◌, ◌++◌, true, false};
+ghost use Rattle.std.specs.Prelude.{◌≡◌, ◌<◌, ◌≤◌, ℕ, List, [], false};
 ghost use Rattle.std.specs.List.{list_any};
 ghost use Rattle.patch_script.specs.declared.command.Command.{Command as Said};
-ghost use Rattle.patch_script.specs.Micros.{hold_of};
-ghost use Rattle.patch_script.specs.Refusals.{is_misplaced, breaks_hold, breaks_log, waits_for_itself, holds_for_good, names_no_thread, has_go};
+ghost use Rattle.patch_script.specs.Refusals.{is_misplaced, breaks_hold, breaks_log, waits_for_itself, holds_for_good, names_no_thread};
 
 use crate::command::Command;
 
@@ -29,7 +28,7 @@ pub(crate) struct Holds {
 }
 
 impl Holds {
-    ghost use Rattle.patch_script.specs.Standing.{hold_in, with_hold, passing_of, any_held};
+    ghost use Rattle.patch_script.specs.Standing.{hold_in, with_hold, released_of, passing_of, any_held};
 
     /// No thread is held.
     fn new() -> Holds
@@ -60,6 +59,20 @@ impl Holds {
         ensures { (other : ℕ) → hold_in self.new other ≡ with_hold self.old thread hold other }
     {
         self.threads[thread as usize - 1] = hold;
+    }
+
+    /// Releases a thread, where it is held.
+    fn release(&mut self, thread: u32)
+        requires some { 0 < thread }
+        requires few { thread ≤ 16 }
+        ensures { (other : ℕ) → hold_in self.new other
+            ≡ with_hold self.old thread (released_of (hold_in self.old thread)) other }
+    {
+        let released = match self.of(thread) {
+            Hold::Free => Hold::Free,
+            Hold::Held { passing } | Hold::Released { passing } => Hold::Released { passing },
+        };
+        self.set(thread, released);
     }
 
     /// The passing before which a thread is held.
@@ -100,7 +113,7 @@ pub(crate) struct Standing {
 }
 
 impl Standing {
-    ghost use Rattle.patch_script.specs.Standing.{IsStanding};
+    ghost use Rattle.patch_script.specs.Standing.{IsStanding, Follows};
 
     /// Before all commands.
     pub(crate) fn new() -> Standing
@@ -166,25 +179,15 @@ impl Standing {
     /// Takes a command that may follow.
     pub(crate) fn take(&mut self, command: Command)
         requires { names_no_thread 16 command ≡ false }
-        ensures { (before : List Said) → IsStanding before self.old
-            → breaks_hold before command ≡ false → breaks_log before command ≡ false
-            → IsStanding (before ++ command ∷ []) self.new }
+        ensures { Follows self.old command self.new }
     {
         match command {
             Command::Go => self.going = true,
             Command::Init => self.log = Log::Initialized,
             Command::Finalize => self.log = Log::Finalized,
             Command::Hold { thread, passing } => self.holds.set(thread, Hold::Held { passing }),
-            Command::Release { thread } => self.release(thread),
+            Command::Release { thread } => self.holds.release(thread),
             _ => {}
-        }
-    }
-
-    /// Releases a held thread.
-    fn release(&mut self, thread: u32)
-    {
-        if let Hold::Held { passing } = self.holds.of(thread) {
-            self.holds.set(thread, Hold::Released { passing });
         }
     }
 

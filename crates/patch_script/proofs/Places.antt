@@ -1,0 +1,1 @@
+-- Commands in their places.
