@@ -1,7 +1,9 @@
 pub mod Lists
 pub mod Words
 pub mod Holding
-pub mod Firsts
 pub mod Steps
+pub mod Firsts
 pub mod Ranges
 pub mod Places
+pub mod Adding
+pub mod NoEnd

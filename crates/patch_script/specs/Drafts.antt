@@ -1,5 +1,5 @@
 -- The commands that were read so far.
-use Rattle.std.specs.Prelude.{◌≡◌, ◌≤◌, ◌⊎◌, ℕ, false, List, length, Result, Ok, Err}
+use Rattle.std.specs.Prelude.{◌≡◌, ◌≤◌, ◌⊎◌, ℕ, false, Result, Ok, Err}
 use Rattle.xray_image.specs.Program.{Program}
 use Rattle.xray_image.specs.Ids.{id_count}
 use Rattle.patch_script.specs.declared.command.Command.{Command}
@@ -22,7 +22,6 @@ pub record IsDraft (draft : Draft) : Type 0 where
   pub few_threads : draft.threads ≤ 16
   pub ids : draft.ids ≡ id_count (program_of draft)
   pub placed : ArePlaced draft.placed
-  pub few : length (lines_of draft) ≤ 1024
   pub standing : IsStanding (commands_of (lines_of draft)) draft.standing
 
 -- no row refuses the command

@@ -71,6 +71,7 @@ pub record ArePlaced (placed : PlacedCommands) : Type 0 where
   pub waits : placed.waits ≡ waiting_line (lines_in placed)
   pub first : AreFirst (id_count placed.image.value) (commands_of (lines_in placed)) placed.first_patches
   pub few : placed.total ≤ 16384 * length (lines_in placed)
+  pub room : length (lines_in placed) ≤ 1024
 
 -- a command that may be added: its function and its thread exist, and a script has at most 1,024 commands
 pub record MayFollow (placed : PlacedCommands) (command : Command) : Type 0 where

@@ -1,5 +1,4 @@
 -- What a script's fields tell, and what holds of them.
-use Rattle.std.specs.Prelude.{◌≤◌, ℕ, length}
 use Rattle.patch_script.specs.declared.script.Script.TheInside.{Inside}
 use Rattle.patch_script.specs.Placing.{ArePlaced, lines_in}
 use Rattle.patch_script.specs.Plans.{Plan, IsRead}
@@ -14,5 +13,4 @@ plan_in a = record { program = a.placed.image.value; threads = a.threads; lines 
 pub record IsSound (a : Inside) : Type 0 where
   pub read : IsRead (plan_in a)
   pub placed : ArePlaced a.placed
-  pub few : length (lines_in a.placed) ≤ 1024
   pub holds : AreHolds (commands_of (lines_in a.placed)) a.holds
