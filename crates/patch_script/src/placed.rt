@@ -86,14 +86,16 @@ impl PlacedCommands {
         ensures image { IfOk result (λ placed. placed.image.value ≡ image.now) }
         ensures lines { IfOk result (λ placed. lines_in placed ≡ []) }
     {
+        let sleds = sled_values(alloc, image)?;
+        let first_patches = FirstPatches::new(alloc, image.id_count())?;
         Ok(PlacedCommands {
             image: Snapshot::of(image),
             commands: Vec::new(alloc),
             total: 0,
             start: 0,
             waits: None,
-            first_patches: FirstPatches::new(alloc, image.id_count())?,
-            sleds: sled_values(alloc, image)?,
+            first_patches,
+            sleds,
             handler_word: handler_word(image),
         })
     }
@@ -138,9 +140,16 @@ impl PlacedCommands {
         })?;
         self.first_patches.add(command, number);
         self.total += command.step_count(sleds.len());
-        self.start = if going { self.start } else { self.total };
+        self.start = self.start_behind(going);
         self.waits = self.waits.or(command.waiting_line(line));
         Ok(())
+    }
+
+    /// How many micro steps stand before `go`: as many as before where it came before, and all where it didn't.
+    fn start_behind(&self, going: bool) -> u64
+        ensures { result ≡ (if going then self.now.start else self.now.total) }
+    {
+        if going { self.start } else { self.total }
     }
 
     /// The micro step at a place.

@@ -71,8 +71,10 @@ impl SledValues {
 
 /// What there is to know of all sleds, in the order of the map.
 pub(crate) fn sled_values(alloc: Global, image: &Image) -> Result<Vec<SledValues>, AllocError>
-    ensures { IfOk result (λ sleds. sleds.items
+    ensures sleds { IfOk result (λ sleds. sleds.items
         ≡ map (values_of image.now.trampolines) image.now.sleds) }
+    ensures few { length image.now.sleds ≤ 4096 }
+    ensures in_order { IsNonDecreasingBy (λ sled. sled.id) image.now.sleds }
 {
     let count = image.sled_count();
     let mut sleds = Vec::with_capacity(alloc, count as usize)?;

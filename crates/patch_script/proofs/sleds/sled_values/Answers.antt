@@ -3,6 +3,6 @@ use Rattle.patch_script.specs.Sleds.{values_of}
 use Rattle.patch_script.proofs.Places.{take_all}
 use Rattle.patch_script.proofs.sleds.sled_values.Goals as goal
 
-pub returns : goal.returns
-returns c =
-    c.loop-number.invariant ∙ ap (map (values_of c.args.image.now.trampolines)) (take_all c.loop-number.number c.args.image.now.sleds (omega (arith, c.sled_count.ensures.count)))
+pub returns-clause-sleds : goal.returns-clause-sleds
+returns-clause-sleds c =
+    c.loop-number.invariant ∙ ap (map (values_of c.args.image.now.trampolines)) (take_all c.loop-number.number c.args.image.now.sleds (omega (arith, c.sled_count-count.ensures.count)))
