@@ -7,3 +7,4 @@ pub mod Ranges
 pub mod Places
 pub mod Adding
 pub mod NoEnd
+pub mod Finishing

@@ -4,7 +4,7 @@ use Rattle.std.specs.Prelude.{slice_get, nat_le, option_map, unwrap_or}
 use Rattle.std.specs.List.{list_any, flat_map}
 use Rattle.std.specs.List.Sorted.{IsNonDecreasingBy, IsPartitionPoint}
 use Rattle.std.proofs.lemmas.Bool.{cases_lt, leb-true, leb-false, ltb-false, eqb-true}
-use Rattle.std.proofs.lemmas.List.{length-map, get_or-map, length-append}
+use Rattle.std.proofs.lemmas.List.{length-map, get_or-map, map-append}
 use Rattle.std.proofs.lemmas.List.FromFn.{length-enumerate_from}
 use Rattle.std.proofs.lemmas.Option.{none-some, same_Some, slice_get-map, slice_get-get_or, slice_get_within, slice_get_past}
 use Rattle.xray_image.specs.declared.sled.Sled.{Sled}
@@ -250,3 +250,14 @@ function_named program command id values range is are has = record {
     named : (command ≡ commands.PatchFunction id) ⊎ (command ≡ commands.UnpatchFunction id) → sleds_named program command ≡ sleds_of program id
     named (inl is) = ap (sleds_named program) is
     named (inr is) = ap (sleds_named program) is
+
+-- what is kept of one sled more
+pub values_more : (program : Program) (n : ℕ) (values values' : List SledValues) (value : SledValues) → n < length program.sleds
+    → values ≡ map (values_of program.trampolines) (take n program.sleds) → ((sled : Sled) → slice_get program.sleds n ≡ Some sled → value ≡ values_of program.trampolines sled)
+    → values' ≡ values ++ value ∷ [] → values' ≡ map (values_of program.trampolines) (take (n + 1) program.sleds)
+values_more program n values values' value lt are is more =
+    let sled = item_at program.sleds n lt in
+    let next : n + 1 ≡ suc n = omega arith in
+    more ∙ ap (λ vs. vs ++ value ∷ []) are ∙ ap (λ (v : SledValues). map (values_of program.trampolines) (take n program.sleds) ++ v ∷ []) (is sled.0 sled.1)
+    ∙ sym (map-append (values_of program.trampolines) (take n program.sleds) (sled.0 ∷ []))
+    ∙ sym (ap (map (values_of program.trampolines)) (ap (λ m. take m program.sleds) next ∙ take_one_more program.sleds n sled.0 sled.1))

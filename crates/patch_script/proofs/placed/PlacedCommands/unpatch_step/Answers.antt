@@ -5,6 +5,8 @@ use Rattle.std.proofs.lemmas.Option.{get_or_from_slice_get}
 use Rattle.xray_image.specs.declared.sled.SledKind.{SledKind}
 use Rattle.patch_script.specs.declared.micro.Micro.TheVariants.{Store}
 use Rattle.patch_script.specs.declared.sleds.SledValues.{SledValues}
+use Rattle.sled_words.specs.declared.part.Part.TheVariants.{Head}
+use Rattle.sled_words.specs.Words.{word_of}
 use Rattle.patch_script.specs.FirstPatches.{is_before, first_in}
 use Rattle.patch_script.specs.Micros.{head_left}
 use Rattle.patch_script.specs.Placing.{patched_before}
@@ -27,4 +29,4 @@ returns c = λ described at.
     ∙ was_patched placed c.requires.sound c.args.number c.args.sled described at in
     let head : c.unpatched_head.result ≡ head_left described.kind (list_any (λ j. j == c.args.sled) (patched_before placed c.args.number)) =
     c.unpatched_head.ensures ∙ ap (λ (v : SledValues). head_left v.kind c.patch_before-was_patched.result) known ∙ ap (head_left described.kind) patched in
-    ap (λ w. Store w c.unpatched_head.result) c.word_of.ensures ∙ ap (Store _) head
+    ap (λ (w : ℕ). Store w c.unpatched_head.result) c.word_of.ensures ∙ ap (Store (word_of c.args.sled Head)) head
