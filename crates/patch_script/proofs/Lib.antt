@@ -8,3 +8,4 @@ pub mod Places
 pub mod Adding
 pub mod NoEnd
 pub mod Finishing
+mod Rows

@@ -74,4 +74,4 @@ filter_range p [] (suc start) n le before inside behind = absurd (omega arith)
 filter_range p (x ∷ xs) (suc start) n le before inside behind =
     ap (λ b. cond b (x ∷ filter p xs) (filter p xs)) (before 0 x (omega arith))
     ∙ filter_range p xs start n (omega arith) (λ k d lt. before (suc k) d (omega arith)) (λ k d from to. inside (suc k) d (omega arith) (omega arith))
-        (λ k d above lt. behind (suc k) d (omega arith) (omega arith))
+    (λ k d above lt. behind (suc k) d (omega arith) (omega arith))

@@ -213,7 +213,7 @@ module _ (program : Program) (command : Command) (range : SledRange) (has : HasS
       let sled = item_at program.sleds (range.start + step / 4) (patched_within is) in
       ap (λ steps. slice_get steps step) (patching_steps program earlier command is)
       ∙ patching_at program range (sleds_named program command) step (range.start + step / 4) sled.0 micro has.sleds
-          (omega (arith, patching_count command (range.end - range.start) is, within)) refl sled.1 (store sled.0 sled.1)
+      (omega (arith, patching_count command (range.end - range.start) is, within)) refl sled.1 (store sled.0 sled.1)
 
   pub unpatched_step : (earlier : List ℕ) (micro : Micro) → IsUnpatching command
       → ((sled : Sled) → slice_get program.sleds (range.start + step) ≡ Some sled → micro ≡ unpatch_sled earlier (range.start + step, sled))
@@ -222,7 +222,7 @@ module _ (program : Program) (command : Command) (range : SledRange) (has : HasS
       let sled = item_at program.sleds (range.start + step) (unpatched_within is) in
       ap (λ steps. slice_get steps step) (unpatching_steps program earlier command is)
       ∙ unpatching_at program earlier range (sleds_named program command) step (range.start + step) sled.0 micro has.sleds
-          (omega (arith, unpatching_count command (range.end - range.start) is, within)) refl sled.1 (store sled.0 sled.1)
+      (omega (arith, unpatching_count command (range.end - range.start) is, within)) refl sled.1 (store sled.0 sled.1)
 
 -- ---- the sleds of a command
 

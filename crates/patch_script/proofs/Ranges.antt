@@ -95,9 +95,6 @@ id_range sleds id start end start_in end_in low high = record {
   behind = λ k d from lt. leb-false _ id (high.1 k d from lt);
 }
   where
-
-
-
     at_end : (xs : List SledValues) → end < length xs → SledValues
     at_end [] lt = absurd (omega arith)
     at_end (x ∷ xs) lt = x

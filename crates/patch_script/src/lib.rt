@@ -16,6 +16,8 @@ mod reading;
 mod script;
 mod sleds;
 mod standing;
+#[cfg(test)]
+mod tests;
 
 pub use command::Command;
 pub use fault::ScriptFault;

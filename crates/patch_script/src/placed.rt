@@ -184,10 +184,14 @@ impl PlacedCommands {
         ensures { slice_get (steps_of self.now.image.value (patched_before self.now number) placed.command) step ≡ Some result }
     {
         match placed.command {
-            Command::Patch | Command::PatchFunction { .. } =>
-                self.patch_step(placed.sleds.start + (step / 4) as u32, (step % 4) as usize),
-            Command::Unpatch | Command::UnpatchFunction { .. } =>
-                self.unpatch_step(number, placed.sleds.start + step as u32),
+            Command::Patch | Command::PatchFunction { .. } => self.patch_step(
+                placed.sleds.start + (step / 4) as u32,
+                (step % 4) as usize,
+            ),
+            Command::Unpatch | Command::UnpatchFunction { .. } => self.unpatch_step(
+                number,
+                placed.sleds.start + step as u32,
+            ),
             Command::SetHandler => Micro::Store {
                 word: self.handler_word,
                 value: 1,

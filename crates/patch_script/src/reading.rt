@@ -61,8 +61,9 @@ impl Draft {
             → result ≡ names_no_function program command }
     {
         match command {
-            Command::PatchFunction { id } | Command::UnpatchFunction { id } =>
-                is_beyond(self.ids, id),
+            Command::PatchFunction { id } | Command::UnpatchFunction { id } => is_beyond(
+                self.ids, id,
+            ),
             _ => false,
         }
     }
@@ -140,12 +141,7 @@ impl Draft {
 }
 
 /// Reads all lines. The first refusal answers.
-fn read_lines(
-    alloc: Global,
-    text: &[u8],
-    image: &Image,
-    threads: u32,
-) -> Result<Draft, ScriptFault>
+fn read_lines(alloc: Global, text: &[u8], image: &Image, threads: u32) -> Result<Draft, ScriptFault>
     requires threads { threads ≤ MAX_THREADS }
     requires few { length (lines text.now) < u32.MAX }
     ensures { Reads image.now threads result

@@ -64,7 +64,11 @@ impl SledValues {
     {
         match self.kind {
             SledKind::Entry | SledKind::Tail => JUMP_HEAD,
-            SledKind::Exit => if was_patched { RETURN_OVER_PATCH } else { RETURN_HEAD },
+            SledKind::Exit => if was_patched {
+                RETURN_OVER_PATCH
+            } else {
+                RETURN_HEAD
+            },
         }
     }
 }
