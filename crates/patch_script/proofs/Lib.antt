@@ -4,3 +4,14 @@ pub mod PatchOrder
 pub mod PatchedParts
 pub mod Allowing
 mod CodeRows
+pub mod Lists
+pub mod Words
+pub mod Holding
+pub mod Steps
+pub mod Firsts
+pub mod Ranges
+pub mod Places
+pub mod Adding
+pub mod NoEnd
+pub mod Finishing
+mod Rows

@@ -3,3 +3,13 @@ pub mod CodeAt
 pub mod Values
 pub mod Patched
 pub mod StoredWords
+pub mod Language
+pub mod Refusals
+pub mod Plans
+pub mod Operands
+pub mod Sleds
+pub mod FirstPatches
+pub mod Standing
+pub mod Placing
+pub mod Scripts
+pub mod Drafts
