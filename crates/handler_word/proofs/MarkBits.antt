@@ -1,6 +1,6 @@
 -- Marks as bits: what is read of them, and what one more mark changes.
-use Rattle.std.proofs.Common.{◌≡◌, ◌≢◌, ◌<◌, ◌≤◌, ◌+◌, ◌*◌, ◌/◌, ◌%◌, ◌^◌, ℕ, zero, suc, List, [], ◌∷◌, ◌++◌, length, get_or, set, refl, sym, ap, ◌∙◌, inl, inr, arith, add-one, length-append, get_or-set_other, get_or-set_same}
-use Rattle.std.specs.Prelude.{slice_get, slice_set, bit_or, Some, nat_eq}
+use Rattle.std.proofs.Common.{◌≡◌, ◌≢◌, ◌<◌, ◌+◌, ◌*◌, ◌/◌, ◌%◌, ◌^◌, ℕ, zero, suc, List, [], ◌∷◌, ◌++◌, length, get_or, set, refl, sym, ap, ◌∙◌, inl, inr, arith, add-one, length-append, get_or-set_other, get_or-set_same}
+use Rattle.std.specs.Prelude.{slice_get, bit_or, Some}
 use Rattle.std.proofs.lemmas.Grind.{get_or_default_zero}
 use Rattle.std.proofs.lemmas.List.{get_or_append_left, length-set}
 use Rattle.std.proofs.lemmas.Bool.Decides.{eqb_tells}

@@ -1,5 +1,5 @@
 -- What the fields of marks tell, and what holds of them.
-use Rattle.std.specs.Prelude.{◌≡◌, ◌≤◌, ◌+◌, ◌/◌, ℕ, vec_capacity}
+use Rattle.std.specs.Prelude.{◌≡◌, ◌≤◌, ◌+◌, ◌/◌, vec_capacity}
 use Rattle.handler_word.specs.declared.marks.Marks.TheInside.{Inside}
 use Rattle.handler_word.specs.Bits.{marks_from, IsFilledTo}
 use Rattle.handler_word.specs.MarkList.{MarkList, recorded_count}

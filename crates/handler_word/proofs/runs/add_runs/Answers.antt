@@ -1,7 +1,7 @@
-use Rattle.std.proofs.Common.{◌≡◌, ◌<◌, ◌+◌, [], ◌∷◌, ◌++◌, List, ℕ, length, drop, sym, ap, ◌∙◌, arith, rules, append_assoc, zero-add}
-use Rattle.xray_io.specs.Text.{sink_of, Gains, Breaks}
-use Rattle.handler_word.specs.Runs.{runs_of, run_text, runs_text}
-use Rattle.handler_word.proofs.MarkRuns.{HasRunsTo, later_runs, first_and_later, next_and_later}
+use Rattle.std.proofs.Common.{◌≡◌, ◌+◌, [], ◌∷◌, ◌++◌, List, ℕ, drop, ap, ◌∙◌, arith, rules, append_assoc, zero-add}
+use Rattle.xray_io.specs.Text.{sink_of, Breaks}
+use Rattle.handler_word.specs.Runs.{run_text, runs_text}
+use Rattle.handler_word.proofs.MarkRuns.{later_runs, first_and_later, next_and_later}
 use Rattle.handler_word.proofs.runs.add_runs.Goals as goal
 
 pub returns-in_err-add_run-clause-breaks : goal.returns-in_err-add_run-clause-breaks

@@ -1,5 +1,5 @@
 use denote.Enum.Bare.{same_true, same_false}
-use Rattle.std.proofs.Common.{◌≡◌, ◌≢◌, ◌<◌, ◌≤◌, ◌+◌, ◌-◌, ◌∷◌, ◌++◌, length, drop, replicate, Some, refl, sym, ap, ◌∙◌, arith, rules}
+use Rattle.std.proofs.Common.{◌≡◌, ◌+◌, ◌-◌, ◌∷◌, drop, Some, refl, sym, ap, ◌∙◌, arith, rules}
 use Rattle.handler_word.specs.contracts.mark.Mark.{the_type}
 use Rattle.handler_word.specs.declared.mark.Mark.{Mark}
 use Rattle.handler_word.proofs.MarkRuns.{mark_in_front, one_more, ends_before_other, ends_with_list, run_there}
