@@ -1,6 +1,6 @@
 //! The bytes of the code.
 
-ghost use Rattle.std.specs.Prelude.{◌≡◌, ◌≤◌, ◌%◌, ◌++◌, ◌∷◌, ◌==◌, pos, ◌-ℤ◌, OnOk, if◌then◌else◌, length};
+ghost use Rattle.std.specs.Prelude.{◌≡◌, ◌≤◌, ◌*◌, ◌%◌, ◌++◌, ◌∷◌, ◌==◌, pos, ◌-ℤ◌, OnOk, if◌then◌else◌, length};
 ghost use Rattle.std.specs.List.{flat_map};
 ghost use Rattle.subset_decode.specs.Encoding.{spelling};
 ghost use Rattle.xray_image.specs.Units.{piece_bytes};
@@ -15,19 +15,40 @@ use crate::statement::{Branch, Operation, Statement};
 use crate::width::line_width;
 use std::alloc::AllocError;
 use subset_decode::{Instr, encode};
+use xray_image::format::{ALIGNMENT, CODE_LIMIT, JUMP_HEAD, NOP, RETURN_HEAD, SLED_LENGTH};
 
-/// The byte that aligns sleds.
-const ALIGNMENT: u8 = 0x90;
+/// The displacement of the nop in each sled, the lowest byte first: 512, as LLVM's compiler writes it
+/// (`nopw 512(%rax,%rax,1)`).
+const SHIFT: [u8; 4] = [0x00, 0x02, 0x00, 0x00];
 
-/// An entry or tail sled: a jump over the nop of nine bytes that fills it (`xray_x86_64.cpp` of
-/// compiler-rt).
-const JUMP_SLED: [u8; 11] = [
-    0xEB, 0x09, 0x66, 0x0F, 0x1F, 0x84, 0x00, 0x00, 0x02, 0x00, 0x00,
+/// An entry or tail sled: a jump over the nop of nine bytes that fills it.
+const JUMP_SLED: [u8; SLED_LENGTH] = [
+    JUMP_HEAD[0],
+    JUMP_HEAD[1],
+    NOP[0],
+    NOP[1],
+    NOP[2],
+    NOP[3],
+    NOP[4],
+    SHIFT[0],
+    SHIFT[1],
+    SHIFT[2],
+    SHIFT[3],
 ];
 
 /// An exit sled: a return, and the rest of a nop behind it.
-const RETURN_SLED: [u8; 11] = [
-    0xC3, 0x2E, 0x66, 0x0F, 0x1F, 0x84, 0x00, 0x00, 0x02, 0x00, 0x00,
+const RETURN_SLED: [u8; SLED_LENGTH] = [
+    RETURN_HEAD[0],
+    RETURN_HEAD[1],
+    NOP[0],
+    NOP[1],
+    NOP[2],
+    NOP[3],
+    NOP[4],
+    SHIFT[0],
+    SHIFT[1],
+    SHIFT[2],
+    SHIFT[3],
 ];
 
 /// Adds an instruction.
@@ -38,9 +59,9 @@ fn push_instr(out: &mut Vec<u8>, instr: &Instr) -> Result<(), AllocError>
 }
 
 /// Adds a sled at a place, with the alignment byte before it at an odd one.
-fn push_sled(out: &mut Vec<u8>, place: u32, sled: &[u8; 11]) -> Result<(), AllocError>
+fn push_sled(out: &mut Vec<u8>, place: u32, sled: &[u8; SLED_LENGTH]) -> Result<(), AllocError>
     ensures { OnOk result (out.new.items ≡ out.old.items
-        ++ (if place % 2 == 0 then sled.now else 0x90 ∷ sled.now)) }
+        ++ (if place % 2 == 0 then sled.now else ALIGNMENT ∷ sled.now)) }
 {
     if !place.is_multiple_of(2) {
         out.push(ALIGNMENT)?;
@@ -50,8 +71,8 @@ fn push_sled(out: &mut Vec<u8>, place: u32, sled: &[u8; 11]) -> Result<(), Alloc
 
 /// A branch to a target, whose distance counts from the place behind the branch.
 fn branch(branch: Branch, target: u32, behind: u32) -> Instr
-    requires target { target ≤ 1048576 }
-    requires behind { behind ≤ 2097152 }
+    requires target { target ≤ CODE_LIMIT }
+    requires behind { behind ≤ 2 * CODE_LIMIT }
     ensures { result ≡ branch_to branch (pos target -ℤ pos behind) }
 {
     let rel = target as i32 - behind as i32;
@@ -71,7 +92,7 @@ fn push_branch(
     behind: u32,
 ) -> Result<(), AllocError>
     requires text { IsLaidText text.now }
-    requires behind { behind ≤ 2097152 }
+    requires behind { behind ≤ 2 * CODE_LIMIT }
     ensures { OnOk result (out.new.items ≡ out.old.items
         ++ piece_bytes (piece_of (all_in text.now) behind (Jump kind name.now))) }
 {
@@ -86,7 +107,7 @@ fn push_plain(
     behind: u32,
 ) -> Result<(), AllocError>
     requires text { IsLaidText text.now }
-    requires behind { behind ≤ 2097152 }
+    requires behind { behind ≤ 2 * CODE_LIMIT }
     ensures { OnOk result (out.new.items ≡ out.old.items
         ++ parts_bytes (all_in text.now) behind (plain_parts (operation_checked operation.now))) }
 {
@@ -107,7 +128,7 @@ fn push_traced(
     behind: u32,
 ) -> Result<(), AllocError>
     requires text { IsLaidText text.now }
-    requires behind { behind ≤ 2097152 }
+    requires behind { behind ≤ 2 * CODE_LIMIT }
     ensures { OnOk result (out.new.items ≡ out.old.items
         ++ parts_bytes (all_in text.now) behind
         (traced_parts place (operation_checked operation.now))) }
@@ -126,7 +147,7 @@ fn push_traced(
 #[tactic(auto, using(crate::proofs::CodeLemmas::sled_alone))]
 fn push_line(out: &mut Vec<u8>, text: &LaidText, line: &Laid) -> Result<(), AllocError>
     requires text { IsLaidText text.now }
-    requires place { line.now.place ≤ 1048576 }
+    requires place { line.now.place ≤ CODE_LIMIT }
     ensures { OnOk result (out.new.items ≡ out.old.items
         ++ flat_map piece_bytes (line_pieces (all_in text.now) (line_placed line.now))) }
 {

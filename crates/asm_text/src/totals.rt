@@ -6,15 +6,7 @@ ghost use Rattle.asm_text.specs.Views.{statement_said};
 
 use crate::statement::{Choice, Spoken, Statement};
 use crate::width::{line_sleds, line_width};
-
-/// The most functions.
-const FUNCTION_LIMIT: u32 = 1024;
-
-/// The most bytes of code.
-const CODE_LIMIT: u32 = 1_048_576;
-
-/// The most sleds.
-const SLED_LIMIT: u32 = 4096;
+use xray_image::format::{CODE_LIMIT, FUNCTION_LIMIT, SLED_LIMIT};
 
 /// How far the functions have come.
 #[derive(Clone, Copy, Debug, PartialEq, Eq)]

@@ -5,19 +5,8 @@ ghost use Rattle.asm_text.specs.Layout.{widths, sleds_of, parts_of, traced_parts
 ghost use Rattle.asm_text.specs.Views.{statement_said, operation_checked};
 
 use crate::statement::{Branch, Operation, Statement};
-use subset_decode::encode;
-
-/// How long a sled is in bytes.
-pub(crate) const SLED_LENGTH: u32 = 11;
-
-/// How long a `call` or `jmp` is.
-const NEAR_LENGTH: u32 = 5;
-
-/// How long a `jnz` is, whose opcode has two bytes.
-const CONDITIONAL_LENGTH: u32 = 6;
-
-/// How long a `ret` is.
-const RETURN_LENGTH: u32 = 1;
+use subset_decode::{CONDITIONAL_LENGTH, NEAR_LENGTH, RETURN_LENGTH, encode};
+use xray_image::format::SLED_LENGTH;
 
 /// How many bytes a branch has.
 pub(crate) fn branch_width(branch: Branch) -> u32
@@ -32,10 +21,10 @@ pub(crate) fn branch_width(branch: Branch) -> u32
 
 /// How many bytes a sled at a place has, with the alignment byte before it at an odd one.
 fn aligned_width(place: u32) -> u32
-    ensures width { result ≡ place % 2 + 11 }
+    ensures width { result ≡ place % 2 + SLED_LENGTH }
     ensures few { result ≤ 12 }
 {
-    place % 2 + SLED_LENGTH
+    place % 2 + SLED_LENGTH as u32
 }
 
 /// How many bytes an instruction line makes in a function that isn't instrumented.

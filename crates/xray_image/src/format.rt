@@ -29,6 +29,9 @@ pub const BASE_ALIGNMENT: u64 = 16;
 /// The highest base address. All code then lies in the lower half of the address space.
 pub const BASE_LIMIT: u64 = 0x7FFF_0000_0000;
 
+/// The longest name of a function in bytes: a function entry has its length in one byte.
+pub const NAME_LIMIT: usize = 255;
+
 /// How long a sled is in bytes: two of its head, and a nop of nine.
 pub const SLED_LENGTH: usize = 11;
 

@@ -14,11 +14,12 @@ pub enum SledKind {
 }
 
 impl SledKind {
+    ghost use Rattle.xray_image.specs.Kinds.{kind_number};
     ghost use Rattle.xray_image.specs.Program.{kind_of};
 
     /// The number of the kind in an entry of the sled map, which is that of compiler-rt's `XRayEntryType`.
     pub fn number(self) -> u8
-        ensures { kind_of result ≡ self }
+        ensures { result ≡ kind_number self }
     {
         match self {
             SledKind::Entry => 0,
@@ -29,7 +30,8 @@ impl SledKind {
 
     /// The kind of this number. None exactly for numbers above 2.
     pub fn from_number(number: u8) -> Option<SledKind>
-        ensures { MatchOption result (3 ≤ number) (λ kind. (number ≤ 2) × (kind ≡ kind_of number)) }
+        ensures { MatchOption result (3 ≤ number)
+            (λ kind. (number ≡ kind_number kind) × (kind ≡ kind_of number)) }
     {
         match number {
             0 => Some(SledKind::Entry),
