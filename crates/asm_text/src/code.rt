@@ -1,55 +1,25 @@
 //! The bytes of the code.
 
-ghost use Rattle.std.specs.Prelude.{◌≡◌, ◌≤◌, ◌*◌, ◌%◌, ◌++◌, ◌∷◌, ◌==◌, pos, ◌-ℤ◌, OnOk, if◌then◌else◌, length};
+ghost use Rattle.std.specs.Prelude.{◌≡◌, ◌≤◌, ◌*◌, ◌%◌, ◌++◌, ◌∷◌, ◌==◌, pos, ◌-ℤ◌, OnOk, if◌then◌else◌};
 ghost use Rattle.std.specs.List.{flat_map};
 ghost use Rattle.subset_decode.specs.Encoding.{spelling};
-ghost use Rattle.xray_image.specs.Units.{piece_bytes};
-ghost use Rattle.asm_text.specs.Layout.{branch_to, pieces, line_pieces, piece_of, plain_parts, traced_parts, Jump};
+ghost use Rattle.xray_image.specs.Units.{nop_bytes, piece_bytes};
+ghost use Rattle.asm_text.specs.Layout.{sled_shift, branch_to, pieces, line_pieces, piece_of, plain_parts, traced_parts, Jump};
 ghost use Rattle.asm_text.specs.Views.{operation_checked};
 ghost use Rattle.asm_text.specs.Laying.{line_placed, parts_bytes};
 ghost use Rattle.asm_text.specs.LaidTexts.{all_in, IsLaidText};
 
+use crate::fields::push_u32;
 use crate::laid_text::LaidText;
 use crate::layout::Laid;
 use crate::statement::{Branch, Operation, Statement};
 use crate::width::line_width;
 use std::alloc::AllocError;
 use subset_decode::{Instr, encode};
-use xray_image::format::{ALIGNMENT, CODE_LIMIT, JUMP_HEAD, NOP, RETURN_HEAD, SLED_LENGTH};
+use xray_image::format::{ALIGNMENT, CODE_LIMIT, JUMP_HEAD, NOP, RETURN_HEAD};
 
-/// The displacement of the nop in each sled, the lowest byte first: 512, as LLVM's compiler writes it
-/// (`nopw 512(%rax,%rax,1)`).
-const SHIFT: [u8; 4] = [0x00, 0x02, 0x00, 0x00];
-
-/// An entry or tail sled: a jump over the nop of nine bytes that fills it.
-const JUMP_SLED: [u8; SLED_LENGTH] = [
-    JUMP_HEAD[0],
-    JUMP_HEAD[1],
-    NOP[0],
-    NOP[1],
-    NOP[2],
-    NOP[3],
-    NOP[4],
-    SHIFT[0],
-    SHIFT[1],
-    SHIFT[2],
-    SHIFT[3],
-];
-
-/// An exit sled: a return, and the rest of a nop behind it.
-const RETURN_SLED: [u8; SLED_LENGTH] = [
-    RETURN_HEAD[0],
-    RETURN_HEAD[1],
-    NOP[0],
-    NOP[1],
-    NOP[2],
-    NOP[3],
-    NOP[4],
-    SHIFT[0],
-    SHIFT[1],
-    SHIFT[2],
-    SHIFT[3],
-];
+/// The displacement of the nop in each sled, as LLVM's compiler writes it: `nopw 512(%rax,%rax,1)`.
+const SHIFT: u32 = 512;
 
 /// Adds an instruction.
 fn push_instr(out: &mut Vec<u8>, instr: &Instr) -> Result<(), AllocError>
@@ -58,15 +28,24 @@ fn push_instr(out: &mut Vec<u8>, instr: &Instr) -> Result<(), AllocError>
     out.extend_from_slice(encode(instr).as_slice())
 }
 
-/// Adds a sled at a place, with the alignment byte before it at an odd one.
-fn push_sled(out: &mut Vec<u8>, place: u32, sled: &[u8; SLED_LENGTH]) -> Result<(), AllocError>
-    ensures { OnOk result (out.new.items ≡ out.old.items
-        ++ (if place % 2 == 0 then sled.now else ALIGNMENT ∷ sled.now)) }
+/// Adds a sled: its head, and the nop that fills it.
+fn push_filled(out: &mut Vec<u8>, head: &[u8; 2]) -> Result<(), AllocError>
+    ensures { OnOk result (out.new.items ≡ out.old.items ++ (head.now ++ nop_bytes sled_shift)) }
+{
+    out.extend_from_slice(head)?;
+    out.extend_from_slice(&NOP)?;
+    push_u32(out, SHIFT)
+}
+
+/// Adds a sled of a head at a place, with the alignment byte before it at an odd one.
+fn push_sled(out: &mut Vec<u8>, place: u32, head: &[u8; 2]) -> Result<(), AllocError>
+    ensures { let sled = head.now ++ nop_bytes sled_shift in OnOk result (out.new.items
+        ≡ out.old.items ++ (if place % 2 == 0 then sled else ALIGNMENT ∷ sled)) }
 {
     if !place.is_multiple_of(2) {
         out.push(ALIGNMENT)?;
     }
-    out.extend_from_slice(sled)
+    push_filled(out, head)
 }
 
 /// A branch to a target, whose distance counts from the place behind the branch.
@@ -136,10 +115,10 @@ fn push_traced(
     match operation {
         Operation::Plain(_) | Operation::Go { .. } => push_plain(out, text, operation, behind),
         Operation::TailJump { name } => {
-            push_sled(out, place, &JUMP_SLED)?;
+            push_sled(out, place, &JUMP_HEAD)?;
             push_branch(out, text, Branch::Jmp, *name, behind)
         }
-        Operation::Return => push_sled(out, place, &RETURN_SLED),
+        Operation::Return => push_sled(out, place, &RETURN_HEAD),
     }
 }
 
@@ -154,7 +133,7 @@ fn push_line(out: &mut Vec<u8>, text: &LaidText, line: &Laid) -> Result<(), Allo
     let traced = line.owner.traced;
     let behind = line.place + line_width(traced, line.place, &line.statement);
     match &line.statement {
-        Statement::Function { .. } if traced => push_sled(out, line.place, &JUMP_SLED),
+        Statement::Function { .. } if traced => push_sled(out, line.place, &JUMP_HEAD),
         Statement::Does(operation) if traced => {
             push_traced(out, text, line.place, operation, behind)
         }

@@ -1,9 +1,9 @@
 //! The image file.
 
-ghost use Rattle.std.specs.Prelude.{◌≡◌, ◌≤◌, ◌<◌, ◌+◌, ◌++◌, ◌∷◌, ℕ, List, OnOk, length, replicate, if◌then◌else◌};
-ghost use Rattle.std.specs.List.{flat_map, AllByRecursion};
-ghost use Rattle.asm_text.specs.Layout.{functions, map_entries, function_in, entry_in, sled_kind};
-ghost use Rattle.asm_text.specs.Writing.{File, function_bytes, entry_bytes, header_bytes, file_bytes};
+ghost use Rattle.std.specs.Prelude.{◌≡◌, ◌≤◌, ◌++◌, ◌∷◌, OnOk, length, replicate, if◌then◌else◌};
+ghost use Rattle.std.specs.List.{flat_map};
+ghost use Rattle.asm_text.specs.Layout.{functions, map_entries, sled_kind};
+ghost use Rattle.asm_text.specs.Writing.{function_bytes, entry_bytes};
 ghost use Rattle.asm_text.specs.Views.{statement_said};
 ghost use Rattle.asm_text.specs.Laying.{line_placed, placed_in};
 ghost use Rattle.asm_text.specs.Files.{function_line_bytes, sled_line_bytes, HasShortName, AreShortNames};

@@ -1,6 +1,6 @@
 //! Where the lines begin.
 
-ghost use Rattle.std.specs.Prelude.{◌≡◌, ◌≤◌, ◌+◌, ◌%◌, IfOk, length};
+ghost use Rattle.std.specs.Prelude.{◌≡◌, ◌≤◌, IfOk};
 ghost use Rattle.asm_text.specs.Layout.{widths, all_parts, by_threshold, placed, owner_of, instruction_lines};
 ghost use Rattle.asm_text.specs.FirstPass.{lines_in};
 ghost use Rattle.asm_text.specs.Views.{statement_said};

@@ -1,6 +1,6 @@
 //! Where the branches of a code go.
 
-ghost use Rattle.std.specs.Prelude.{◌≡◌, ◌<◌, ◌≤◌, ◌^◌, ◌+◌, ◌↔◌, ℕ, List, length, Contains, IsTrue, IfSome, FitsSigned, OnOk, IfErr};
+ghost use Rattle.std.specs.Prelude.{◌≡◌, ◌<◌, ◌^◌, ◌+◌, ◌↔◌, ℕ, List, length, Contains, IsTrue, IfSome, FitsSigned, OnOk, IfErr};
 ghost use Rattle.std.specs.Int.{w128};
 ghost use Rattle.subset_decode.specs.Encoding.{spelling};
 ghost use Rattle.xray_image.specs.declared.unit.Unit.{Unit};

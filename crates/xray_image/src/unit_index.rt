@@ -49,7 +49,7 @@ impl UnitIndex {
         requires above { (b : ℕ) → b < length self.old.firsts.items
             → slice_index self.old.firsts.items b ≤ number }
         requires near { place / BLOCK < length self.old.firsts.items
-            → number < slice_index self.old.firsts.items (place / BLOCK) + 255 }
+            → number < slice_index self.old.firsts.items (place / BLOCK) + NO_UNIT }
         ensures begun { OnOk result
             (HasBegun self.old.firsts.items self.new.firsts.items (place / BLOCK) number) }
         ensures reaches { OnOk result (place / BLOCK < length self.new.firsts.items) }

@@ -1,8 +1,8 @@
 //! The units of a code, read from its first byte to its last.
 
-ghost use Rattle.std.specs.Prelude.{◌≡◌, ◌≤◌, ◌<◌, ◌+◌, ◌^◌, ◌↔◌, ℕ, List, ◌∷◌, ◌++◌, length, drop, MatchOption, IfSome, IsSome, IsTrue, IfOk, IfErr, OnErr};
+ghost use Rattle.std.specs.Prelude.{◌≡◌, ◌<◌, ◌^◌, ◌↔◌, ℕ, List, ◌++◌, length, drop, MatchOption, IfSome, IsSome, IsTrue, IfOk, IfErr, OnErr};
 ghost use Rattle.subset_decode.specs.Encoding.{Begins};
-ghost use Rattle.xray_image.specs.Units.{Piece, JumpSled, ReturnSled, piece_bytes, nop_bytes, what_of, sleds_in, IsPiece, IsSled};
+ghost use Rattle.xray_image.specs.Units.{Piece, piece_bytes, nop_bytes, what_of, sleds_in, IsPiece, IsSled};
 ghost use Rattle.xray_image.specs.Table.{BeginsAsSled, StandsAt};
 ghost use Rattle.xray_image.specs.UnitTable.{what_at};
 ghost use Rattle.xray_image.specs.Views.{piece_of, IsNoUnit};
