@@ -1,34 +1,25 @@
 //! The bytes of the code.
 
-ghost use Rattle.std.specs.Prelude.{◌≡◌, ◌≤◌, ◌%◌, ◌++◌, ◌∷◌, ◌==◌, pos, ◌-ℤ◌, OnOk, if◌then◌else◌, length};
+ghost use Rattle.std.specs.Prelude.{◌≡◌, ◌≤◌, ◌*◌, ◌%◌, ◌++◌, ◌∷◌, ◌==◌, pos, ◌-ℤ◌, OnOk, if◌then◌else◌};
 ghost use Rattle.std.specs.List.{flat_map};
 ghost use Rattle.subset_decode.specs.Encoding.{spelling};
-ghost use Rattle.xray_image.specs.Units.{piece_bytes};
-ghost use Rattle.asm_text.specs.Layout.{branch_to, pieces, line_pieces, piece_of, plain_parts, traced_parts, Jump};
+ghost use Rattle.xray_image.specs.Units.{nop_bytes, piece_bytes};
+ghost use Rattle.asm_text.specs.Layout.{sled_shift, branch_to, pieces, line_pieces, piece_of, plain_parts, traced_parts, Jump};
 ghost use Rattle.asm_text.specs.Views.{operation_checked};
 ghost use Rattle.asm_text.specs.Laying.{line_placed, parts_bytes};
 ghost use Rattle.asm_text.specs.LaidTexts.{all_in, IsLaidText};
 
+use crate::fields::push_u32;
 use crate::laid_text::LaidText;
 use crate::layout::Laid;
 use crate::statement::{Branch, Operation, Statement};
 use crate::width::line_width;
 use std::alloc::AllocError;
 use subset_decode::{Instr, encode};
+use xray_image::format::{ALIGNMENT, CODE_LIMIT, JUMP_HEAD, NOP, RETURN_HEAD};
 
-/// The byte that aligns sleds.
-const ALIGNMENT: u8 = 0x90;
-
-/// An entry or tail sled: a jump over the nop of nine bytes that fills it (`xray_x86_64.cpp` of
-/// compiler-rt).
-const JUMP_SLED: [u8; 11] = [
-    0xEB, 0x09, 0x66, 0x0F, 0x1F, 0x84, 0x00, 0x00, 0x02, 0x00, 0x00,
-];
-
-/// An exit sled: a return, and the rest of a nop behind it.
-const RETURN_SLED: [u8; 11] = [
-    0xC3, 0x2E, 0x66, 0x0F, 0x1F, 0x84, 0x00, 0x00, 0x02, 0x00, 0x00,
-];
+/// The displacement of the nop in each sled, as LLVM's compiler writes it: `nopw 512(%rax,%rax,1)`.
+const SHIFT: u32 = 512;
 
 /// Adds an instruction.
 fn push_instr(out: &mut Vec<u8>, instr: &Instr) -> Result<(), AllocError>
@@ -37,21 +28,30 @@ fn push_instr(out: &mut Vec<u8>, instr: &Instr) -> Result<(), AllocError>
     out.extend_from_slice(encode(instr).as_slice())
 }
 
-/// Adds a sled at a place, with the alignment byte before it at an odd one.
-fn push_sled(out: &mut Vec<u8>, place: u32, sled: &[u8; 11]) -> Result<(), AllocError>
-    ensures { OnOk result (out.new.items ≡ out.old.items
-        ++ (if place % 2 == 0 then sled.now else 0x90 ∷ sled.now)) }
+/// Adds a sled: its head, and the nop that fills it.
+fn push_filled(out: &mut Vec<u8>, head: &[u8; 2]) -> Result<(), AllocError>
+    ensures { OnOk result (out.new.items ≡ out.old.items ++ (head.now ++ nop_bytes sled_shift)) }
+{
+    out.extend_from_slice(head)?;
+    out.extend_from_slice(&NOP)?;
+    push_u32(out, SHIFT)
+}
+
+/// Adds a sled of a head at a place, with the alignment byte before it at an odd one.
+fn push_sled(out: &mut Vec<u8>, place: u32, head: &[u8; 2]) -> Result<(), AllocError>
+    ensures { let sled = head.now ++ nop_bytes sled_shift in OnOk result (out.new.items
+        ≡ out.old.items ++ (if place % 2 == 0 then sled else ALIGNMENT ∷ sled)) }
 {
     if !place.is_multiple_of(2) {
         out.push(ALIGNMENT)?;
     }
-    out.extend_from_slice(sled)
+    push_filled(out, head)
 }
 
 /// A branch to a target, whose distance counts from the place behind the branch.
 fn branch(branch: Branch, target: u32, behind: u32) -> Instr
-    requires target { target ≤ 1048576 }
-    requires behind { behind ≤ 2097152 }
+    requires target { target ≤ CODE_LIMIT }
+    requires behind { behind ≤ 2 * CODE_LIMIT }
     ensures { result ≡ branch_to branch (pos target -ℤ pos behind) }
 {
     let rel = target as i32 - behind as i32;
@@ -71,7 +71,7 @@ fn push_branch(
     behind: u32,
 ) -> Result<(), AllocError>
     requires text { IsLaidText text.now }
-    requires behind { behind ≤ 2097152 }
+    requires behind { behind ≤ 2 * CODE_LIMIT }
     ensures { OnOk result (out.new.items ≡ out.old.items
         ++ piece_bytes (piece_of (all_in text.now) behind (Jump kind name.now))) }
 {
@@ -86,7 +86,7 @@ fn push_plain(
     behind: u32,
 ) -> Result<(), AllocError>
     requires text { IsLaidText text.now }
-    requires behind { behind ≤ 2097152 }
+    requires behind { behind ≤ 2 * CODE_LIMIT }
     ensures { OnOk result (out.new.items ≡ out.old.items
         ++ parts_bytes (all_in text.now) behind (plain_parts (operation_checked operation.now))) }
 {
@@ -107,7 +107,7 @@ fn push_traced(
     behind: u32,
 ) -> Result<(), AllocError>
     requires text { IsLaidText text.now }
-    requires behind { behind ≤ 2097152 }
+    requires behind { behind ≤ 2 * CODE_LIMIT }
     ensures { OnOk result (out.new.items ≡ out.old.items
         ++ parts_bytes (all_in text.now) behind
         (traced_parts place (operation_checked operation.now))) }
@@ -115,10 +115,10 @@ fn push_traced(
     match operation {
         Operation::Plain(_) | Operation::Go { .. } => push_plain(out, text, operation, behind),
         Operation::TailJump { name } => {
-            push_sled(out, place, &JUMP_SLED)?;
+            push_sled(out, place, &JUMP_HEAD)?;
             push_branch(out, text, Branch::Jmp, *name, behind)
         }
-        Operation::Return => push_sled(out, place, &RETURN_SLED),
+        Operation::Return => push_sled(out, place, &RETURN_HEAD),
     }
 }
 
@@ -126,14 +126,14 @@ fn push_traced(
 #[tactic(auto, using(crate::proofs::CodeLemmas::sled_alone))]
 fn push_line(out: &mut Vec<u8>, text: &LaidText, line: &Laid) -> Result<(), AllocError>
     requires text { IsLaidText text.now }
-    requires place { line.now.place ≤ 1048576 }
+    requires place { line.now.place ≤ CODE_LIMIT }
     ensures { OnOk result (out.new.items ≡ out.old.items
         ++ flat_map piece_bytes (line_pieces (all_in text.now) (line_placed line.now))) }
 {
     let traced = line.owner.traced;
     let behind = line.place + line_width(traced, line.place, &line.statement);
     match &line.statement {
-        Statement::Function { .. } if traced => push_sled(out, line.place, &JUMP_SLED),
+        Statement::Function { .. } if traced => push_sled(out, line.place, &JUMP_HEAD),
         Statement::Does(operation) if traced => {
             push_traced(out, text, line.place, operation, behind)
         }

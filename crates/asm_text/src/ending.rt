@@ -1,6 +1,6 @@
 //! The refusals at the end of the text.
 
-ghost use Rattle.std.specs.Prelude.{◌≡◌, ◌∷◌, ℕ, List, length, MatchResult, Ok, Err};
+ghost use Rattle.std.specs.Prelude.{◌≡◌, ◌∷◌, List, MatchResult, Ok, Err};
 ghost use Rattle.std.specs.List.{list_any};
 ghost use Rattle.asm_text.specs.Layout.{Placed, names_function, next_place};
 ghost use Rattle.asm_text.specs.Refusals.{is_unresolved, resolved};

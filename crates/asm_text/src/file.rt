@@ -1,9 +1,9 @@
 //! The image file.
 
-ghost use Rattle.std.specs.Prelude.{◌≡◌, ◌≤◌, ◌<◌, ◌+◌, ◌++◌, ◌∷◌, ℕ, List, OnOk, length, replicate, if◌then◌else◌};
-ghost use Rattle.std.specs.List.{flat_map, AllByRecursion};
-ghost use Rattle.asm_text.specs.Layout.{functions, map_entries, function_in, entry_in, sled_kind};
-ghost use Rattle.asm_text.specs.Writing.{File, function_bytes, entry_bytes, header_bytes, file_bytes};
+ghost use Rattle.std.specs.Prelude.{◌≡◌, ◌≤◌, ◌++◌, ◌∷◌, OnOk, length, replicate, if◌then◌else◌};
+ghost use Rattle.std.specs.List.{flat_map};
+ghost use Rattle.asm_text.specs.Layout.{functions, map_entries, sled_kind};
+ghost use Rattle.asm_text.specs.Writing.{function_bytes, entry_bytes};
 ghost use Rattle.asm_text.specs.Views.{statement_said};
 ghost use Rattle.asm_text.specs.Laying.{line_placed, placed_in};
 ghost use Rattle.asm_text.specs.Files.{function_line_bytes, sled_line_bytes, HasShortName, AreShortNames};
@@ -12,6 +12,8 @@ use crate::fields::{push_addresses, push_u64};
 use crate::layout::Laid;
 use crate::statement::{Operation, Statement};
 use std::alloc::AllocError;
+use xray_image::SledKind;
+use xray_image::format::{BASE_LIMIT, NAME_LIMIT};
 
 /// How many bytes of padding a map entry has.
 const PADDING: [u8; 13] = [0; 13];
@@ -19,18 +21,9 @@ const PADDING: [u8; 13] = [0; 13];
 /// The version of map entries with absolute addresses.
 const MAP_VERSION: u8 = 0;
 
-/// The kind of an entry sled in the map (`XRayEntryType` of compiler-rt).
-const ENTRY: u8 = 0;
-
-/// The kind of an exit sled.
-const EXIT: u8 = 1;
-
-/// The kind of a tail sled.
-const TAIL: u8 = 2;
-
 /// Adds the entry of a function.
 fn push_function(out: &mut Vec<u8>, start: u64, name: &[u8]) -> Result<(), AllocError>
-    requires { length name.now ≤ 255 }
+    requires { length name.now ≤ NAME_LIMIT }
     ensures { OnOk result (out.new.items ≡ out.old.items
         ++ function_bytes (record { start = start; name = name.now })) }
 {
@@ -41,7 +34,7 @@ fn push_function(out: &mut Vec<u8>, start: u64, name: &[u8]) -> Result<(), Alloc
 
 /// Adds the function that a line begins, if it does.
 fn push_function_line(out: &mut Vec<u8>, base: u64, line: &Laid) -> Result<(), AllocError>
-    requires base { base ≤ 0x7FFF00000000 }
+    requires base { base ≤ BASE_LIMIT }
     requires name { HasShortName (statement_said line.now.statement) }
     ensures { OnOk result (out.new.items ≡ out.old.items
         ++ function_line_bytes base (line_placed line.now)) }
@@ -61,9 +54,9 @@ pub(crate) fn kind_of(statement: &Statement) -> Option<u8>
     ensures { result ≡ sled_kind (statement_said statement.now) }
 {
     match statement {
-        Statement::Function { .. } => Some(ENTRY),
-        Statement::Does(Operation::Return) => Some(EXIT),
-        Statement::Does(Operation::TailJump { .. }) => Some(TAIL),
+        Statement::Function { .. } => Some(SledKind::Entry.number()),
+        Statement::Does(Operation::Return) => Some(SledKind::Exit.number()),
+        Statement::Does(Operation::TailJump { .. }) => Some(SledKind::Tail.number()),
         Statement::Does(Operation::Plain(_) | Operation::Go { .. })
         | Statement::Base(_)
         | Statement::Entry(_)
@@ -103,7 +96,7 @@ fn push_entry(
 
 /// Adds the map entry of a line's sled, if it has one.
 fn push_sled_line(out: &mut Vec<u8>, base: u64, line: &Laid) -> Result<(), AllocError>
-    requires base { base ≤ 0x7FFF00000000 }
+    requires base { base ≤ BASE_LIMIT }
     ensures { OnOk result (out.new.items ≡ out.old.items
         ++ sled_line_bytes base (line_placed line.now)) }
 {
@@ -122,7 +115,7 @@ fn push_sled_line(out: &mut Vec<u8>, base: u64, line: &Laid) -> Result<(), Alloc
 
 /// Adds the entries of all functions.
 pub(crate) fn push_functions(out: &mut Vec<u8>, base: u64, lines: &[Laid]) -> Result<(), AllocError>
-    requires base { base ≤ 0x7FFF00000000 }
+    requires base { base ≤ BASE_LIMIT }
     requires names { AreShortNames lines.now }
     ensures { OnOk result (out.new.items ≡ out.old.items
         ++ flat_map function_bytes (functions base (placed_in lines.now))) }
@@ -135,7 +128,7 @@ pub(crate) fn push_functions(out: &mut Vec<u8>, base: u64, lines: &[Laid]) -> Re
 
 /// Adds the sled map.
 pub(crate) fn push_map(out: &mut Vec<u8>, base: u64, lines: &[Laid]) -> Result<(), AllocError>
-    requires base { base ≤ 0x7FFF00000000 }
+    requires base { base ≤ BASE_LIMIT }
     ensures { OnOk result (out.new.items ≡ out.old.items
         ++ flat_map entry_bytes (map_entries base (placed_in lines.now))) }
 {

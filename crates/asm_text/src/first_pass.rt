@@ -1,6 +1,6 @@
 //! The first pass over the lines, with all refusals but those at the text's end.
 
-ghost use Rattle.std.specs.Prelude.{◌≡◌, ◌<◌, ◌⊎◌, ℕ, List, [], ◌∷◌, ◌++◌, Some, option_copied, OnOk, IfOk, length, vec_len, if◌then◌else◌};
+ghost use Rattle.std.specs.Prelude.{◌≡◌, ◌<◌, ℕ, List, [], ◌∷◌, ◌++◌, Some, option_copied, OnOk, IfOk, length, if◌then◌else◌};
 ghost use Rattle.std.specs.Str.Lines.{lines};
 ghost use Rattle.text_lines.specs.Lines.{numbered_lines};
 ghost use Rattle.asm_text.specs.Refusals.{repeats, with_line, read_lines};

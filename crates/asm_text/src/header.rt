@@ -7,12 +7,7 @@ ghost use Rattle.asm_text.specs.Writing.{header_of, trampolines_of};
 
 use crate::fields::{push_addresses, push_u32, push_u64};
 use std::alloc::AllocError;
-
-/// The first bytes of an image file.
-const MAGIC: [u8; 4] = [0x58, 0x52, 0x49, 0x4D];
-
-/// The version of the container.
-const VERSION: u32 = 1;
+use xray_image::format::{BASE_LIMIT, MAGIC, VERSION};
 
 /// How far behind the base the entry trampoline stands.
 const ENTRY_TRAMPOLINE: u64 = 0x20_0000;
@@ -62,9 +57,9 @@ fn push_pair(out: &mut Vec<u8>, first: u32, second: u32) -> Result<(), AllocErro
 
 /// Adds two addresses at distances behind the base.
 fn push_trampolines(out: &mut Vec<u8>, base: u64, first: u64, second: u64) -> Result<(), AllocError>
-    requires base { base ≤ 0x7FFF00000000 }
-    requires first { first ≤ 0x300000 }
-    requires second { second ≤ 0x300000 }
+    requires base { base ≤ BASE_LIMIT }
+    requires first { first ≤ ARGUMENT_TRAMPOLINE }
+    requires second { second ≤ ARGUMENT_TRAMPOLINE }
     ensures { OnOk result (out.new.items ≡ out.old.items
         ++ (little_bytes 8 (base + first) ++ little_bytes 8 (base + second))) }
 {
@@ -83,7 +78,7 @@ fn push_counts(out: &mut Vec<u8>, header: &Header) -> Result<(), AllocError>
 
 /// Adds the trampolines' addresses.
 fn push_all_trampolines(out: &mut Vec<u8>, base: u64) -> Result<(), AllocError>
-    requires { base ≤ 0x7FFF00000000 }
+    requires { base ≤ BASE_LIMIT }
     ensures { OnOk result (out.new.items ≡ out.old.items
         ++ flat_map (little_bytes 8) (trampolines_of base)) }
 {
@@ -93,7 +88,7 @@ fn push_all_trampolines(out: &mut Vec<u8>, base: u64) -> Result<(), AllocError>
 
 /// Adds the header of 64 bytes.
 pub(crate) fn push_header(out: &mut Vec<u8>, header: &Header) -> Result<(), AllocError>
-    requires { header.now.base ≤ 0x7FFF00000000 }
+    requires { header.now.base ≤ BASE_LIMIT }
     ensures { OnOk result (out.new.items ≡ out.old.items
         ++ header_of header.now.base header.now.code header.now.functions header.now.entries
         header.now.entry) }

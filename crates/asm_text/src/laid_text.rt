@@ -8,6 +8,7 @@ use crate::layout::{Laid, lay_out};
 use crate::name_table::NameTable;
 use crate::targets::{place_of, targets};
 use std::alloc::{AllocError, Global};
+use xray_image::format::CODE_LIMIT;
 
 /// The lines of a text at their places, and where their names lead.
 #[derive(Drop)]
@@ -25,7 +26,7 @@ impl LaidText<'_> {
     pub(crate) fn target_of(&self, name: &[u8]) -> u32
         requires { IsLaidText self.now }
         ensures value { result ≡ unwrap_or (place_of name.now (all_in self.now)) 0 }
-        ensures within { result ≤ 1048576 }
+        ensures within { result ≤ CODE_LIMIT }
     {
         match place_of(&self.names, &self.targets, name) {
             Some(place) => place,

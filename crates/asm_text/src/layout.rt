@@ -1,6 +1,6 @@
 //! Where the lines begin.
 
-ghost use Rattle.std.specs.Prelude.{◌≡◌, ◌≤◌, ◌+◌, ◌%◌, IfOk, length};
+ghost use Rattle.std.specs.Prelude.{◌≡◌, ◌≤◌, IfOk};
 ghost use Rattle.asm_text.specs.Layout.{widths, all_parts, by_threshold, placed, owner_of, instruction_lines};
 ghost use Rattle.asm_text.specs.FirstPass.{lines_in};
 ghost use Rattle.asm_text.specs.Views.{statement_said};
@@ -10,6 +10,7 @@ use crate::first_pass::Entry;
 use crate::statement::{Choice, Statement};
 use crate::width::line_width;
 use std::alloc::{AllocError, Global};
+use xray_image::format::CODE_LIMIT;
 
 /// The function that a line stands in.
 #[derive(Clone, Copy)]
@@ -67,7 +68,7 @@ fn line_owner(
     statement: &Statement,
     behind: &[Entry],
 ) -> Owner
-    requires { place ≤ 1048576 }
+    requires { place ≤ CODE_LIMIT }
     ensures { owner_in result ≡ owner_of (by_threshold threshold) place (owner_in owner)
         (statement_said statement.now) (lines_in behind.now) }
 {
@@ -91,7 +92,7 @@ pub(crate) fn lay_out<'a>(
     threshold: u32,
     entries: &[Entry<'a>],
 ) -> Result<Vec<Laid<'a>>, AllocError>
-    requires { widths (all_parts (by_threshold threshold) (lines_in entries.now)) ≤ 1048576 }
+    requires { widths (all_parts (by_threshold threshold) (lines_in entries.now)) ≤ CODE_LIMIT }
     ensures { IfOk result (λ laid. placed_in laid.items
         ≡ placed (by_threshold threshold) (lines_in entries.now)) }
 {

@@ -1,6 +1,6 @@
 //! A line as what it says.
 
-ghost use Rattle.std.specs.Prelude.{◌≡◌, ◌∷◌, [], option_map, option_and_then, option_copied, IfSome};
+ghost use Rattle.std.specs.Prelude.{◌≡◌, ◌∷◌, [], option_map, option_and_then};
 ghost use Rattle.asm_text.specs.Names.{name_of};
 ghost use Rattle.asm_text.specs.Registers.{register64, before_comma};
 ghost use Rattle.asm_text.specs.Statements.{Go, Does};
@@ -23,7 +23,7 @@ const COMMA: u8 = b',';
 
 /// The words behind a keyword.
 #[derive(Clone, Copy)]
-pub(crate) enum Operands<'a> {
+enum Operands<'a> {
     Zero,
     One(&'a [u8]),
     Two(&'a [u8], &'a [u8]),

@@ -1,6 +1,6 @@
 //! Where the names of a text are defined.
 
-ghost use Rattle.std.specs.Prelude.{◌≡◌, List, ℕ, Option, Some, None, OnOk, option_copied, if◌then◌else◌};
+ghost use Rattle.std.specs.Prelude.{◌≡◌, List, ℕ, Some, None, OnOk, if◌then◌else◌};
 
 use std::alloc::{AllocError, Global};
 use std::collections::HashMap;

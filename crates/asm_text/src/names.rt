@@ -5,21 +5,13 @@ ghost use Rattle.std.specs.List.{list_all};
 ghost use Rattle.xray_image.specs.Program.{is_name_byte};
 ghost use Rattle.asm_text.specs.Names.{is_name, name_of, before_end};
 
-/// How many bytes a name has at most.
-const LONGEST_NAME: usize = 255;
-
-/// Whether a byte may stand in a name: a letter, a digit, or one of `_`, `.` and `$`.
-fn may_name(byte: u8) -> bool
-    ensures { result ≡ is_name_byte byte }
-{
-    byte.is_ascii_alphanumeric() || matches!(byte, b'_' | b'.' | b'$')
-}
+use xray_image::format::{NAME_LIMIT, is_name_byte};
 
 /// Whether each byte of a word may stand in a name.
 fn all_may_name(word: &[u8]) -> bool
     ensures { result ≡ list_all is_name_byte word.now }
 {
-    word.iter().all(|&byte| may_name(byte))
+    word.iter().all(|&byte| is_name_byte(byte))
 }
 
 /// Whether a word is a name, which has 1 to 255 bytes and doesn't begin with a digit.
@@ -27,7 +19,7 @@ fn all_may_name(word: &[u8]) -> bool
 fn is_name(word: &[u8]) -> bool
     ensures { result ≡ is_name word.now }
 {
-    if word.is_empty() || word.len() > LONGEST_NAME || word[0].is_ascii_digit() {
+    if word.is_empty() || word.len() > NAME_LIMIT || word[0].is_ascii_digit() {
         return false;
     }
     all_may_name(word)

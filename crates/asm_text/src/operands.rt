@@ -1,18 +1,13 @@
 //! Whether the operands of a line can stand there.
 
-ghost use Rattle.std.specs.Prelude.{◌≡◌, ◌<◌, ◌^◌, true, false, MatchResult};
+ghost use Rattle.std.specs.Prelude.{◌≡◌, true, false, MatchResult};
 ghost use Rattle.subset_decode.specs.Registers.{is_reserved};
 ghost use Rattle.asm_text.specs.Views.{register_number, statement_said, statement_spoken, operation_checked, operation_written, operation_of, statement_of_spoken, Tells};
 
 use crate::fault::AsmFault;
 use crate::registers::{Register, RegisterWord};
 use crate::statement::{Operation, Plain, Spoken, Statement, Written};
-
-/// The base address is a multiple of this.
-const BASE_ALIGNMENT: u64 = 16;
-
-/// The highest base address.
-const BASE_LIMIT: u64 = 0x7FFF_0000_0000;
+use xray_image::format::{BASE_ALIGNMENT, BASE_LIMIT};
 
 /// The register, or the fault `Register` where it can't be named.
 fn register(line: u32, word: RegisterWord) -> Result<Register, AsmFault>

@@ -3,7 +3,7 @@
 ghost use Rattle.std.specs.Prelude.{◌≡◌, ◌<◌, ◌≤◌, true, false, map, length, position, IfSome, MatchOption};
 ghost use Rattle.subset_decode.specs.Registers.{IsRegister};
 ghost use Rattle.asm_text.specs.Names.{is_text};
-ghost use Rattle.asm_text.specs.Registers.{names32, names64, number_in, register32, register64, reserved};
+ghost use Rattle.asm_text.specs.Registers.{number_in, register32, register64, reserved};
 
 use std::marker::Model;
 use subset_decode::Reg;

@@ -1,6 +1,6 @@
 //! The places that names stand for.
 
-ghost use Rattle.std.specs.Prelude.{◌≡◌, ◌≤◌, List, IfOk, IfSome};
+ghost use Rattle.std.specs.Prelude.{◌≡◌, List, IfOk};
 ghost use Rattle.asm_text.specs.Layout.{Placed, own_place, place_of};
 ghost use Rattle.asm_text.specs.Laying.{line_placed, placed_in, next_places, earlier, ArePlaces};
 

@@ -1,24 +1,16 @@
 //! What the lines so far come to.
 
-ghost use Rattle.std.specs.Prelude.{◌≡◌, ◌||◌, true, false, if◌then◌else◌, is_some};
-ghost use Rattle.asm_text.specs.Layout.{is_function, is_instruction, base_in, entry_in_line};
+ghost use Rattle.std.specs.Prelude.{◌≡◌, ◌||◌, true, false, if◌then◌else◌};
+ghost use Rattle.asm_text.specs.Layout.{is_function, is_instruction};
 ghost use Rattle.asm_text.specs.Views.{statement_said};
 
 use crate::statement::{Choice, Spoken, Statement};
 use crate::width::{line_sleds, line_width};
-
-/// The most functions.
-const FUNCTION_LIMIT: u32 = 1024;
-
-/// The most bytes of code.
-const CODE_LIMIT: u32 = 1_048_576;
-
-/// The most sleds.
-const SLED_LIMIT: u32 = 4096;
+use xray_image::format::{CODE_LIMIT, FUNCTION_LIMIT, SLED_LIMIT};
 
 /// How far the functions have come.
 #[derive(Clone, Copy, Debug, PartialEq, Eq)]
-pub(crate) enum Standing {
+enum Standing {
     /// No function has begun.
     Outside,
     /// The last function has no instruction line yet.
@@ -41,7 +33,7 @@ impl Standing {
     }
 
     /// Whether the last function has no instruction line yet.
-    pub(crate) fn lacks_lines(self) -> bool
+    fn lacks_lines(self) -> bool
         ensures { result ≡ lacks_lines self }
     {
         match self {
@@ -74,10 +66,10 @@ impl Standing {
 #[derive(Clone, Copy)]
 pub(crate) struct Totals {
     /// Whether a line gives the base.
-    pub(crate) has_base: bool,
+    has_base: bool,
     /// Whether a line gives the entry function.
-    pub(crate) has_entry: bool,
-    pub(crate) standing: Standing,
+    has_entry: bool,
+    standing: Standing,
     /// Whether the last function counts as instrumented.
     pub(crate) traced: bool,
     /// How many functions have begun.
@@ -89,7 +81,7 @@ pub(crate) struct Totals {
 }
 
 impl Totals {
-    ghost use Rattle.std.specs.Prelude.{List, ℕ, ◌∷◌, []};
+    ghost use Rattle.std.specs.Prelude.{[]};
     ghost use Rattle.asm_text.specs.Refusals.{is_misplaced, ends_early};
     ghost use Rattle.asm_text.specs.Layout.{Lines};
     ghost use Rattle.asm_text.specs.FirstPass.{traced_after, Follows, IsTotals, IsWithin, totals_exceed};

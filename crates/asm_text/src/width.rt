@@ -1,28 +1,17 @@
 //! How many bytes and sleds a line makes.
 
-ghost use Rattle.std.specs.Prelude.{◌≡◌, ◌≤◌, ◌<◌, ◌^◌, ◌+◌, ◌%◌, ℕ, sum_by};
+ghost use Rattle.std.specs.Prelude.{◌≡◌, ◌≤◌, ◌+◌, ◌%◌, ℕ, sum_by};
 ghost use Rattle.asm_text.specs.Layout.{widths, sleds_of, parts_of, traced_parts, plain_parts, branch_width};
 ghost use Rattle.asm_text.specs.Views.{statement_said, operation_checked};
 
 use crate::statement::{Branch, Operation, Statement};
-use subset_decode::encode;
-
-/// How long a sled is in bytes.
-pub(crate) const SLED_LENGTH: u32 = 11;
-
-/// How long a `call` or `jmp` is.
-const NEAR_LENGTH: u32 = 5;
-
-/// How long a `jnz` is, whose opcode has two bytes.
-const CONDITIONAL_LENGTH: u32 = 6;
-
-/// How long a `ret` is.
-const RETURN_LENGTH: u32 = 1;
+use subset_decode::{CONDITIONAL_LENGTH, LONGEST, NEAR_LENGTH, RETURN_LENGTH, encode};
+use xray_image::format::SLED_LENGTH;
 
 /// How many bytes a branch has.
-pub(crate) fn branch_width(branch: Branch) -> u32
+fn branch_width(branch: Branch) -> u32
     ensures width { result ≡ branch_width branch }
-    ensures few { result ≤ 6 }
+    ensures few { result ≤ CONDITIONAL_LENGTH }
 {
     match branch {
         Branch::Call | Branch::Jmp => NEAR_LENGTH,
@@ -32,16 +21,16 @@ pub(crate) fn branch_width(branch: Branch) -> u32
 
 /// How many bytes a sled at a place has, with the alignment byte before it at an odd one.
 fn aligned_width(place: u32) -> u32
-    ensures width { result ≡ place % 2 + 11 }
-    ensures few { result ≤ 12 }
+    ensures width { result ≡ place % 2 + SLED_LENGTH }
+    ensures few { result ≤ SLED_LENGTH + 1 }
 {
-    place % 2 + SLED_LENGTH
+    place % 2 + SLED_LENGTH as u32
 }
 
 /// How many bytes an instruction line makes in a function that isn't instrumented.
 fn plain_width(operation: &Operation) -> u32
     ensures width { result ≡ widths (plain_parts (operation_checked operation.now)) }
-    ensures few { result ≤ 6 }
+    ensures few { result ≤ LONGEST }
 {
     match operation {
         Operation::Plain(plain) => u32::from(encode(&plain.instr()).len),
@@ -55,7 +44,7 @@ fn plain_width(operation: &Operation) -> u32
 #[tactic(auto, using(crate::proofs::WidthLemmas::widths_aligned, crate::proofs::WidthLemmas::widths_aligned_branch))]
 fn traced_width(place: u32, operation: &Operation) -> u32
     ensures width { result ≡ widths (traced_parts place (operation_checked operation.now)) }
-    ensures few { result ≤ 17 }
+    ensures few { result ≤ SLED_LENGTH + 1 + NEAR_LENGTH }
 {
     match operation {
         Operation::Plain(_) | Operation::Go { .. } => plain_width(operation),
@@ -68,7 +57,7 @@ fn traced_width(place: u32, operation: &Operation) -> u32
 #[tactic(auto, using(crate::proofs::WidthLemmas::widths_aligned))]
 pub(crate) fn line_width(traced: bool, place: u32, statement: &Statement) -> u32
     ensures width { result ≡ widths (parts_of traced place (statement_said statement.now)) }
-    ensures few { result ≤ 17 }
+    ensures few { result ≤ SLED_LENGTH + 1 + NEAR_LENGTH }
 {
     match statement {
         Statement::Function { .. } if traced => aligned_width(place),

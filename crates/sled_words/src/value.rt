@@ -3,33 +3,29 @@ ghost use Rattle.sled_words.specs.Parts.{displacement, part_value, patched, unpa
 ghost use Rattle.xray_image.specs.declared.sled.Sled.{Sled};
 
 use crate::Part;
+use subset_decode::opcodes::{CALL, JMP};
+use xray_image::format::{self, SLED_LENGTH};
 use xray_image::{Image, Sled, SledKind};
-
-/// How many bytes a sled has: its last part ends, and a patched sled's call or jump goes on, so far behind its address.
-const SLED_BYTES: u64 = 11;
 
 /// The head of an entry or tail sled in the file: EB 09, a jump over the nine bytes of the nop behind it
 /// (`Jmp9Seq` of `xray_x86_64.cpp`).
-pub const JUMP_HEAD: u64 = 0x09EB;
+pub const JUMP_HEAD: u64 = format::JUMP_HEAD[0] as u64 | (format::JUMP_HEAD[1] as u64) << 8;
 
 /// The head of an exit sled in the file: C3, which is `ret`, and 2E, the first byte of the nop of ten bytes behind it.
-const RETURN_HEAD: u64 = 0x2EC3;
+const RETURN_HEAD: u64 = format::RETURN_HEAD[0] as u64 | (format::RETURN_HEAD[1] as u64) << 8;
 
 /// The head of a patched sled: 41 BA, of which `mov r10d, imm32` begins (`MovR10Seq` of `xray_x86_64.cpp`). The
 /// function id behind it is the immediate.
 pub const PATCHED_HEAD: u64 = 0xBA41;
 
 /// 66 0F 1F 84, with which the nop behind an unpatched sled's head begins: `nopw disp32(rax, rax)` (Intel SDM vol. 2B).
-const NOP: u64 = 0x841F_0F66;
+const NOP: u64 = format::NOP[0] as u64
+    | (format::NOP[1] as u64) << 8
+    | (format::NOP[2] as u64) << 16
+    | (format::NOP[3] as u64) << 24;
 
 /// 00, which stands between the nop's first four bytes and its displacement: the SIB byte of (rax, rax).
-const NOP_SIB: u64 = 0;
-
-/// `call rel32` (`CallOpCode` of `xray_x86_64.cpp`).
-const CALL: u64 = 0xE8;
-
-/// `jmp rel32` (`JmpOpCode` of `xray_x86_64.cpp`).
-const JUMP: u64 = 0xE9;
+const NOP_SIB: u64 = format::NOP[4] as u64;
 
 /// The value of a part of a sled: as the image file has it, or as patching stores it.
 ///
@@ -69,9 +65,10 @@ fn patched_value(image: &Image, sled: Sled, part: Part) -> u64
     match part {
         Part::Head => PATCHED_HEAD,
         Part::Id => u64::from(sled.id),
+        // `CallOpCode` and `JmpOpCode` of `xray_x86_64.cpp`.
         Part::Opcode => match sled.kind {
-            SledKind::Entry | SledKind::Tail => CALL,
-            SledKind::Exit => JUMP,
+            SledKind::Entry | SledKind::Tail => u64::from(CALL),
+            SledKind::Exit => u64::from(JMP),
         },
         Part::Offset => distance(sled.address, image.trampoline(sled.kind)),
     }
@@ -79,7 +76,7 @@ fn patched_value(image: &Image, sled: Sled, part: Part) -> u64
 
 /// The displacement of a call or a jump that ends a sled: from the sled's end to the target, as 32 bits.
 fn distance(sled_address: u64, target: u64) -> u64
-    ensures { result ≡ displacement (sled_address + 11) target }
+    ensures { result ≡ displacement (sled_address + SLED_LENGTH) target }
 {
-    target.wrapping_sub(sled_address.wrapping_add(SLED_BYTES)) & u64::from(u32::MAX)
+    target.wrapping_sub(sled_address.wrapping_add(SLED_LENGTH as u64)) & u64::from(u32::MAX)
 }

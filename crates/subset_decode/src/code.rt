@@ -6,6 +6,15 @@ ghost use Rattle.subset_decode.specs.declared.code.TheConstants.{LONGEST};
 /// How many bytes the longest encoding has: `mov` into r8 to r15.
 pub const LONGEST: usize = 6;
 
+/// How many bytes `call` and `jmp` have.
+pub const NEAR_LENGTH: u32 = 5;
+
+/// How many bytes `jnz` has, whose opcode has two.
+pub const CONDITIONAL_LENGTH: u32 = 6;
+
+/// How many bytes `ret` has.
+pub const RETURN_LENGTH: u32 = 1;
+
 /// The encoding of one instruction. `as_slice` gives its bytes alone.
 #[derive(Clone, Copy, Debug, PartialEq, Eq)]
 pub struct Code {

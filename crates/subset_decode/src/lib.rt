@@ -7,17 +7,17 @@ mod code;
 mod fault;
 mod instr;
 mod laws;
-mod opcodes;
+pub mod opcodes;
 mod reading;
 mod reg;
 mod writing;
 
-pub use code::{Code, LONGEST};
+pub use code::{CONDITIONAL_LENGTH, Code, LONGEST, NEAR_LENGTH, RETURN_LENGTH};
 pub use fault::DecodeFault;
 pub use instr::Instr;
 pub use laws::{an_encoding_reads_back, no_encoding_begins_another, one_answer, one_instruction};
 pub use reading::decode;
-pub use reg::Reg;
+pub use reg::{REGISTERS, Reg};
 pub use writing::encode;
 
 #[cfg(test)]

@@ -1,6 +1,6 @@
 //! Instructions from bytes.
 
-ghost use Rattle.std.specs.Prelude.{◌≡◌, ◌≤◌, ◌<◌, ◌+◌, ◌^◌, List, length, drop, slice_index, IfOk, IfErr, Ok, Err};
+ghost use Rattle.std.specs.Prelude.{◌≡◌, ◌≤◌, ◌<◌, ◌+◌, length, drop, IfOk, IfErr, Ok, Err};
 ghost use Rattle.subset_decode.specs.declared.instr.Instr.{Instr};
 ghost use Rattle.subset_decode.specs.declared.fault.DecodeFault.{DecodeFault};
 ghost use Rattle.subset_decode.specs.Encoding.{spelling, IsNamed, Begins};

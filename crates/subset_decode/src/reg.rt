@@ -28,7 +28,7 @@ const STACK_POINTER: u8 = 4;
 const SLED_SCRATCH: u8 = 10;
 
 /// How many general registers there are.
-const REGISTERS: u8 = 16;
+pub const REGISTERS: usize = 16;
 
 impl Reg {
     /// The register with this number. None exactly for 4, 10 and numbers above 15.
@@ -36,7 +36,7 @@ impl Reg {
         ensures named { IsSome result ↔ IsRegister n }
         ensures value { IfSome result (λ reg. reg ≡ n) }
     {
-        if n == STACK_POINTER || n == SLED_SCRATCH || n >= REGISTERS {
+        if n == STACK_POINTER || n == SLED_SCRATCH || usize::from(n) >= REGISTERS {
             return None;
         }
         Some(Reg(n))

@@ -1,16 +1,15 @@
 -- The sleds of a function stand side by side: ids never fall in the order of the map.
-use Rattle.std.proofs.Common.{◌≡◌, ℕ, ◌+◌, ◌<◌, ◌≤◌, zero, suc, List, [], ◌∷◌, ◌++◌, ◌==◌, length, take, get_or, map, false, refl, sym, ap, subst, ◌∙◌, arith}
+use Rattle.std.proofs.Common.{◌≡◌, ℕ, ◌+◌, ◌<◌, ◌≤◌, zero, suc, List, [], ◌∷◌, ◌++◌, ◌==◌, length, take, get_or, map, false, refl, sym, ap, ◌∙◌, arith}
 use Rattle.std.specs.List.{zip, position_or_len}
 use Rattle.std.specs.List.Sorted.{IsNonDecreasing, IsNonDecreasingBy}
 use Rattle.std.proofs.lemmas.List.{length-append, length-map, get_or-map}
 use Rattle.std.proofs.lemmas.Option.{slice_get-get_or}
 use Rattle.std.proofs.lemmas.Slice.Zip.{get_or-zip}
 use Rattle.xray_image.specs.declared.sled.Sled.{Sled}
-use Rattle.xray_image.specs.declared.sled.SledKind.TheVariants.{Entry}
 use Rattle.xray_image.specs.Units.{SledPlace, places_from}
 use Rattle.xray_image.specs.Container.{MapEntry, base_address}
-use Rattle.xray_image.specs.Program.{Program, IsAccepted, distinct, id_of, sled_of}
-use Rattle.xray_image.proofs.Acceptance.{as_many, sleds_are, sled_total, entry_total}
+use Rattle.xray_image.specs.Program.{Program, IsAccepted, distinct, sled_of}
+use Rattle.xray_image.proofs.Acceptance.{as_many, sleds_are, entry_total}
 use Rattle.xray_image.proofs.Distinct.{front_first, place_of_number}
 use Rattle.xray_image.proofs.Lying.{lies_in_order, places_ascend}
 use Rattle.xray_image.proofs.Naming.{functions_ascend}

@@ -1,5 +1,6 @@
 pub mod Units
 pub mod Container
+pub mod Kinds
 pub mod Program
 pub mod FirstRun
 pub mod Header

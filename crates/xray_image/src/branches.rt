@@ -1,6 +1,6 @@
 //! Where the branches of a code go.
 
-ghost use Rattle.std.specs.Prelude.{◌≡◌, ◌<◌, ◌≤◌, ◌^◌, ◌+◌, ◌↔◌, ℕ, List, length, Contains, IsTrue, IfSome, FitsSigned, OnOk, IfErr};
+ghost use Rattle.std.specs.Prelude.{◌≡◌, ◌<◌, ◌^◌, ◌+◌, ◌↔◌, ℕ, List, length, Contains, IsTrue, IfSome, FitsSigned, OnOk, IfErr};
 ghost use Rattle.std.specs.Int.{w128};
 ghost use Rattle.subset_decode.specs.Encoding.{spelling};
 ghost use Rattle.xray_image.specs.declared.unit.Unit.{Unit};
@@ -13,13 +13,7 @@ ghost use Rattle.xray_image.specs.Table.{BranchesRightly, place_of_unit};
 use crate::fault::ImageFault;
 use crate::unit::{Unit, UnitTable, What};
 use crate::unit_index::UnitIndex;
-use subset_decode::Instr;
-
-/// How long `call` and `jmp` are in bytes.
-const BRANCH_LENGTH: i128 = 5;
-
-/// How long `jnz` is in bytes.
-const CONDITIONAL_LENGTH: i128 = 6;
+use subset_decode::{CONDITIONAL_LENGTH, Instr, NEAR_LENGTH};
 
 /// Where an instruction at an address goes, as a whole number, if it is a branch: its distance counts
 /// from the address behind it.
@@ -29,8 +23,10 @@ fn target(address: u64, instr: &Instr) -> Option<i128>
 {
     let address = i128::from(address);
     match *instr {
-        Instr::Call { rel } | Instr::Jmp { rel } => Some(address + BRANCH_LENGTH + i128::from(rel)),
-        Instr::Jnz { rel } => Some(address + CONDITIONAL_LENGTH + i128::from(rel)),
+        Instr::Call { rel } | Instr::Jmp { rel } => Some(
+            address + i128::from(NEAR_LENGTH) + i128::from(rel),
+        ),
+        Instr::Jnz { rel } => Some(address + i128::from(CONDITIONAL_LENGTH) + i128::from(rel)),
         Instr::Mov { .. }
         | Instr::Add { .. }
         | Instr::Sub { .. }

@@ -8,6 +8,7 @@ ghost use Rattle.xray_image.specs.UnitTable.{unit_at, units_in, IsSoundTable};
 ghost use Rattle.xray_image.specs.Views.{piece_of, places_in, fault_at, AreTablesTo};
 
 use crate::fault::ImageFault;
+use crate::running_sums::LARGEST_STEP;
 use crate::unit::UnitTable;
 use crate::unit_reader::{NoUnit, RawUnit, read_unit};
 use std::alloc::Global;
@@ -66,7 +67,7 @@ impl CodeUnits {
     /// Adds the unit of a width that stands at an address, behind the others.
     fn add(&mut self, address: u64, raw: RawUnit, width: u32) -> Result<(), ImageFault>
         requires sound { IsSoundTable self.old.units }
-        requires width { width ≤ 17 }
+        requires width { width ≤ LARGEST_STEP }
         requires within { self.old.units.places.total + width ≤ length self.old.units.code.items }
         requires few { self.old.units.sleds.total + 1 < 2 ^ 32 }
         ensures units { OnOk result (units_in self.new.units ≡ units_in self.old.units

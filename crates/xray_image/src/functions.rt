@@ -5,29 +5,23 @@ ghost use Rattle.std.specs.Str.{bytes_eq};
 ghost use Rattle.xray_image.specs.declared.unit.Unit.{Unit};
 ghost use Rattle.xray_image.specs.Index.{IsIndexOf};
 ghost use Rattle.xray_image.specs.Judging.{IsAbove, IsName, StandsBehind, is_among};
-ghost use Rattle.xray_image.specs.Program.{addresses, is_name_byte};
+ghost use Rattle.xray_image.specs.Program.{addresses};
 ghost use Rattle.xray_image.specs.Reading.{IsFirstFault};
 ghost use Rattle.xray_image.specs.Table.{FunctionIsFit};
 ghost use Rattle.xray_image.specs.Views.{function_of};
 
 use crate::fault::ImageFault;
+use crate::format::is_name_byte;
 use crate::parts::FunctionEntry;
 use crate::unit_index::UnitIndex;
 use std::alloc::Global;
 use std::collections::BTreeSet;
 
-/// Whether a byte may stand in a name: a letter, a digit, or one of `_`, `.` and `$`.
-fn may_name(byte: u8) -> bool
-    ensures { result ≡ is_name_byte byte }
-{
-    byte.is_ascii_alphanumeric() || matches!(byte, b'_' | b'.' | b'$')
-}
-
 /// Whether bytes are a name.
 fn is_name(name: &[u8]) -> bool
     ensures { IsTrue result ↔ IsName name.now }
 {
-    !name.is_empty() && name.iter().all(|&byte| may_name(byte))
+    !name.is_empty() && name.iter().all(|&byte| is_name_byte(byte))
 }
 
 /// Whether a function that begins at `start` stands above one that begins at `last`, or at the base

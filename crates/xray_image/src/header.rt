@@ -4,31 +4,11 @@ ghost use Rattle.std.specs.Prelude.{◌≡◌, ◌≤◌, length, OnOk, IfOk, If
 
 use crate::fault::{ImageFault, Which};
 use crate::fields::{u32_at, u64_at};
+use crate::format::{
+    BASE_ALIGNMENT, BASE_LIMIT, CODE_LIMIT, FUNCTION_LIMIT, HEADER_LENGTH, MAGIC, SLED_LIMIT,
+    VERSION,
+};
 use crate::sled::SledKind;
-
-/// How long the header is in bytes. The code stands behind it.
-pub(crate) const HEADER_LENGTH: usize = 64;
-
-/// The first bytes of an image file.
-const MAGIC: [u8; 4] = [0x58, 0x52, 0x49, 0x4D];
-
-/// The version of the container.
-const VERSION: u32 = 1;
-
-/// The longest code in bytes.
-const CODE_LIMIT: u32 = 1_048_576;
-
-/// The most functions.
-const FUNCTION_LIMIT: u32 = 1024;
-
-/// The most entries of the sled map.
-const ENTRY_LIMIT: u32 = 4096;
-
-/// The base address is a multiple of this, so that sleds at even places have even addresses.
-const BASE_ALIGNMENT: u64 = 16;
-
-/// The highest base address. All code then lies in the lower half of the address space.
-const BASE_LIMIT: u64 = 0x7FFF_0000_0000;
 
 /// The addresses of the handlers' trampolines, by the kind of the sleds that call them.
 #[derive(Clone, Copy, Debug)]
@@ -93,7 +73,7 @@ impl Header {
         if header.functions == 0 || header.functions > FUNCTION_LIMIT {
             return Err(ImageFault::Limit(Which::Functions));
         }
-        if header.entries > ENTRY_LIMIT {
+        if header.entries > SLED_LIMIT {
             return Err(ImageFault::Limit(Which::Sleds));
         }
         if header.entry_index >= header.functions {
@@ -107,7 +87,7 @@ impl Header {
 
     /// The fields, each at its place.
     fn fields(bytes: &[u8]) -> Header
-        requires { 64 ≤ length bytes.now }
+        requires { HEADER_LENGTH ≤ length bytes.now }
         ensures { IsHeaderOf bytes.now result }
     {
         Header {

@@ -8,6 +8,7 @@ ghost use Rattle.xray_image.specs.ImageView.{named_function};
 
 mod reading;
 
+use crate::format::SLED_LIMIT;
 use crate::header::Trampolines;
 use crate::sled::{Sled, SledKind};
 use crate::unit::{Unit, UnitTable};
@@ -123,7 +124,7 @@ impl Image {
     /// How many sleds the code has.
     pub fn sled_count(&self) -> u32
         ensures count { result ≡ length self.now.sleds }
-        ensures few { result ≤ 4096 }
+        ensures few { result ≤ SLED_LIMIT }
         // The sleds of a function stand side by side.
         ensures in_order { IsNonDecreasingBy (λ s. s.id) self.now.sleds }
         ensures stand { SledsStand self.now.units self.now.sleds }

@@ -7,6 +7,7 @@ mod extract;
 mod fault;
 mod fields;
 mod first_run;
+pub mod format;
 mod functions;
 mod header;
 mod ids;

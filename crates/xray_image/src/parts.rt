@@ -8,7 +8,8 @@ ghost use Rattle.xray_image.specs.Views.{function_of, entry_of, parts_of_view, I
 
 use crate::fault::ImageFault;
 use crate::fields::u64_at;
-use crate::header::{HEADER_LENGTH, Header};
+use crate::format::HEADER_LENGTH;
+use crate::header::Header;
 use std::alloc::Global;
 
 /// How long a function entry is before its name: the start address and the name's length.
@@ -148,7 +149,7 @@ impl<'a> FileParts<'a> {
         header: &Header,
         bytes: &'a [u8],
     ) -> Result<FileParts<'a>, ImageFault>
-        requires long { 64 ≤ length bytes.now }
+        requires long { HEADER_LENGTH ≤ length bytes.now }
         requires header { IsHeaderOf bytes.now header.now }
         ensures found { IfOk result (λ parts. parts_of bytes.now ≡ Some (parts_of_view parts)) }
         ensures refused { IfErr result (λ fault. (fault ≡ ImageFault.NoMemory)

@@ -5,9 +5,12 @@ ghost use Rattle.xray_image.specs.RunningSums.{sums_in, IsSound, HasBegunBlock};
 
 use std::alloc::{AllocError, Global};
 
-/// How many sums a block has. Numbers are 17 at most, so that the sums of a block are less than 256
-/// apart.
+/// How many sums a block has.
 const BLOCK: usize = 16;
+
+/// The largest number that may be added. With it the last sum of a block is fifteen additions above the
+/// first, 255 at most, so that how far any sum is above the first of its block fits a byte.
+pub(crate) const LARGEST_STEP: u32 = u8::MAX as u32 / (BLOCK as u32 - 1);
 
 /// The sum of the numbers before each of some numbers, in a byte and a quarter: it is the sum at which
 /// its block begins, and what is added since.
@@ -52,7 +55,7 @@ impl RunningSums {
     /// Adds a number behind the others.
     pub(crate) fn push(&mut self, number: u32) -> Result<(), AllocError>
         requires sound { IsSound self.old }
-        requires small { number ≤ 17 }
+        requires small { number ≤ LARGEST_STEP }
         requires fits { self.old.total + number < 2 ^ 32 }
         ensures sums { OnOk result (sums_in self.new ≡ sums_in self.old ++ self.old.total ∷ []) }
         ensures total { OnOk result (self.new.total ≡ self.old.total + number) }

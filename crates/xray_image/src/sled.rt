@@ -1,3 +1,7 @@
+//! Sleds and their kinds.
+
+ghost use Rattle.std.specs.Prelude.{◌≡◌, ◌≤◌, MatchOption};
+
 /// What a sled stands before or in the place of, as the sled map says it.
 #[derive(Clone, Copy, Debug, PartialEq, Eq)]
 pub enum SledKind {
@@ -7,6 +11,35 @@ pub enum SledKind {
     Exit,
     /// Before a tail jump. Map kind 2.
     Tail,
+}
+
+impl SledKind {
+    ghost use Rattle.xray_image.specs.Kinds.{kind_number};
+    ghost use Rattle.xray_image.specs.Program.{kind_of};
+
+    /// The number of the kind in an entry of the sled map, which is that of compiler-rt's `XRayEntryType`.
+    pub fn number(self) -> u8
+        ensures { result ≡ kind_number self }
+    {
+        match self {
+            SledKind::Entry => 0,
+            SledKind::Exit => 1,
+            SledKind::Tail => 2,
+        }
+    }
+
+    /// The kind of this number. None exactly for numbers above 2.
+    pub fn from_number(number: u8) -> Option<SledKind>
+        ensures { MatchOption result (3 ≤ number)
+            (λ kind. (number ≡ kind_number kind) × (kind ≡ kind_of number)) }
+    {
+        match number {
+            0 => Some(SledKind::Entry),
+            1 => Some(SledKind::Exit),
+            2 => Some(SledKind::Tail),
+            _ => None,
+        }
+    }
 }
 
 /// A sled of the code, with what its map entry says.

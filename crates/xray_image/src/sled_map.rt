@@ -11,10 +11,10 @@ ghost use Rattle.xray_image.specs.Views.{function_of, entry_of, place_of, trampo
 
 use crate::code_units::SledSpot;
 use crate::fault::ImageFault;
+use crate::format::SLED_LENGTH;
 use crate::header::Trampolines;
 use crate::parts::{FunctionEntry, MapLine};
 use crate::sled::{Sled, SledKind};
-use crate::unit_reader::SLED_LENGTH;
 use std::alloc::{AllocError, Global};
 
 /// The versions of map entries that are known are those below this.
@@ -58,7 +58,11 @@ fn lies_in(functions: &[FunctionEntry<'_>], address: u64, start: u64) -> bool
 fn may_have_kind(returns: bool, kind: u8) -> bool
     ensures { IsTrue result ↔ KindFits returns kind }
 {
-    matches!((returns, kind), (true, 1) | (false, 0 | 2))
+    match SledKind::from_number(kind) {
+        Some(SledKind::Exit) => returns,
+        Some(SledKind::Entry | SledKind::Tail) => !returns,
+        None => false,
+    }
 }
 
 /// Whether an entry says of a sled what the code says.
@@ -95,21 +99,17 @@ pub(crate) fn check_entries(
     Ok(())
 }
 
-/// The kind of a sled by its number in the map.
+/// The kind of a sled by its number in the map, where that is known.
 fn kind_of(kind: u8) -> SledKind
     ensures { result ≡ kind_of kind }
 {
-    match kind {
-        0 => SledKind::Entry,
-        1 => SledKind::Exit,
-        _ => SledKind::Tail,
-    }
+    SledKind::from_number(kind).unwrap_or(SledKind::Tail)
 }
 
 /// Whether a sled's call or jump reaches a trampoline: the displacement is a whole number that
 /// counts from the sled's end and has to fit 32 bits.
 fn reaches(sled: u64, trampoline: u64) -> bool
-    ensures { IsTrue result ↔ FitsSigned w32 (pos trampoline -ℤ pos (sled + 11)) }
+    ensures { IsTrue result ↔ FitsSigned w32 (pos trampoline -ℤ pos (sled + SLED_LENGTH)) }
 {
     let end = i128::from(sled) + SLED_LENGTH as i128;
     i32::try_from(i128::from(trampoline) - end).is_ok()

@@ -4,7 +4,7 @@ ghost use Rattle.std.specs.Prelude.{◌≡◌, ◌≤◌, ◌<◌, ◌+◌, ◌^
 ghost use Rattle.xray_image.specs.Program.{addresses};
 ghost use Rattle.xray_image.specs.UnitTable.{unit_at, units_in, IsSoundTable};
 
-use crate::running_sums::RunningSums;
+use crate::running_sums::{LARGEST_STEP, RunningSums};
 use crate::unit_reader::what_stands;
 use std::alloc::{AllocError, Global};
 use subset_decode::Instr;
@@ -66,7 +66,7 @@ impl UnitTable {
     /// Adds the unit that stands behind the others, by its width in bytes and how many sleds it is.
     pub(crate) fn push(&mut self, width: u32, sleds: u32) -> Result<(), AllocError>
         requires sound { IsSoundTable self.old }
-        requires width { width ≤ 17 }
+        requires width { width ≤ LARGEST_STEP }
         requires sleds { sleds ≤ 1 }
         requires within { self.old.places.total + width ≤ length self.old.code.items }
         requires few { self.old.sleds.total + sleds < 2 ^ 32 }

@@ -48,13 +48,13 @@ impl UnitIndex {
         requires within { place < length self.old.steps.items }
         requires above { (b : ℕ) → b < length self.old.firsts.items
             → slice_index self.old.firsts.items b ≤ number }
-        requires near { place / 128 < length self.old.firsts.items
-            → number < slice_index self.old.firsts.items (place / 128) + 255 }
+        requires near { place / BLOCK < length self.old.firsts.items
+            → number < slice_index self.old.firsts.items (place / BLOCK) + NO_UNIT }
         ensures begun { OnOk result
-            (HasBegun self.old.firsts.items self.new.firsts.items (place / 128) number) }
-        ensures reaches { OnOk result (place / 128 < length self.new.firsts.items) }
+            (HasBegun self.old.firsts.items self.new.firsts.items (place / BLOCK) number) }
+        ensures reaches { OnOk result (place / BLOCK < length self.new.firsts.items) }
         ensures steps { OnOk result (self.new.steps.items ≡ slice_set self.old.steps.items place
-            (number - slice_index self.new.firsts.items (place / 128))) }
+            (number - slice_index self.new.firsts.items (place / BLOCK))) }
         ensures base { self.new.base ≡ self.old.base }
     {
         let block = place / BLOCK;

@@ -1,36 +1,22 @@
 //! The units of a code, read from its first byte to its last.
 
-ghost use Rattle.std.specs.Prelude.{◌≡◌, ◌≤◌, ◌<◌, ◌+◌, ◌^◌, ◌↔◌, ℕ, List, ◌∷◌, ◌++◌, length, drop, MatchOption, IfSome, IsSome, IsTrue, IfOk, IfErr, OnErr};
+ghost use Rattle.std.specs.Prelude.{◌≡◌, ◌<◌, ◌^◌, ◌↔◌, ℕ, List, ◌++◌, length, drop, MatchOption, IfSome, IsSome, IsTrue, IfOk, IfErr, OnErr};
 ghost use Rattle.subset_decode.specs.Encoding.{Begins};
-ghost use Rattle.xray_image.specs.Units.{Piece, JumpSled, ReturnSled, piece_bytes, nop_bytes, what_of, sleds_in, IsPiece, IsSled};
+ghost use Rattle.xray_image.specs.Units.{Piece, piece_bytes, nop_bytes, what_of, sleds_in, IsPiece, IsSled};
 ghost use Rattle.xray_image.specs.Table.{BeginsAsSled, StandsAt};
 ghost use Rattle.xray_image.specs.UnitTable.{what_at};
 ghost use Rattle.xray_image.specs.Views.{piece_of, IsNoUnit};
 
 use crate::fields::u32_at;
+use crate::format::{ALIGNMENT, JUMP_HEAD, NOP, RETURN_HEAD, SLED_LENGTH};
 use crate::unit::What;
 use subset_decode::{DecodeFault, Instr, decode};
 
-/// The first byte of an entry or tail sled: a short jump.
-const JUMP: [u8; 1] = [0xEB];
-
-/// The first bytes of an entry or tail sled: a jump over the sled's other nine.
-const ENTRY_HEAD: [u8; 2] = [0xEB, 0x09];
-
-/// The first bytes of an exit sled: a return, and the byte that tells it from a return of its own.
-const EXIT_HEAD: [u8; 2] = [0xC3, 0x2E];
-
-/// The nop that fills a sled, up to its displacement (Intel SDM, volume 2, `NOP`).
-const NOP: [u8; 5] = [0x66, 0x0F, 0x1F, 0x84, 0x00];
+/// The byte with which an entry or tail sled begins, and no instruction.
+const JUMP: [u8; 1] = [JUMP_HEAD[0]];
 
 /// How long the displacement of the nop is.
 const SHIFT_LENGTH: usize = 4;
-
-/// How long a sled is in bytes.
-pub(crate) const SLED_LENGTH: usize = 11;
-
-/// The byte that aligns sleds.
-const ALIGNMENT: u8 = 0x90;
 
 /// A unit as its bytes tell it.
 #[derive(Clone, Copy)]
@@ -90,7 +76,7 @@ fn nop_shift(bytes: &[u8]) -> Option<u32>
 fn begins_as_sled(bytes: &[u8]) -> bool
     ensures { IsTrue result ↔ BeginsAsSled bytes.now }
 {
-    behind(bytes, &JUMP).is_some() || behind(bytes, &EXIT_HEAD).is_some()
+    behind(bytes, &JUMP).is_some() || behind(bytes, &RETURN_HEAD).is_some()
 }
 
 /// The sled that the bytes begin with.
@@ -99,11 +85,11 @@ fn whole_sled(bytes: &[u8]) -> Option<RawUnit>
         × Begins (piece_bytes (piece_of raw)) bytes.now) }
     ensures only { (piece : Piece) → IsSled piece → Begins (piece_bytes piece) bytes.now → IsSome result }
 {
-    if let Some(nop) = behind(bytes, &ENTRY_HEAD) {
+    if let Some(nop) = behind(bytes, &JUMP_HEAD) {
         let shift = nop_shift(nop)?;
         return Some(RawUnit::JumpSled(shift));
     }
-    let nop = behind(bytes, &EXIT_HEAD)?;
+    let nop = behind(bytes, &RETURN_HEAD)?;
     let shift = nop_shift(nop)?;
     Some(RawUnit::ReturnSled(shift))
 }

@@ -11,24 +11,24 @@ returns-then-header-eq0-clause-refused c =
     functions_beyond c.args.bytes.now c.fields-header.result c.fields-header.ensures c.if-bytes-lt-HEADER_LENGTH.false begins
     c.if-header-ne-VERSION.false c.if-header-gt-CODE_LIMIT.false c.then-header-eq0.either
 
-pub returns-then-header-gt-ENTRY_LIMIT-clause-refused : goal.returns-then-header-gt-ENTRY_LIMIT-clause-refused
-returns-then-header-gt-ENTRY_LIMIT-clause-refused c =
+pub returns-then-header-gt-SLED_LIMIT-clause-refused : goal.returns-then-header-gt-SLED_LIMIT-clause-refused
+returns-then-header-gt-SLED_LIMIT-clause-refused c =
     let begins : magic c.args.bytes.now ≡ codes "XRIM" = magic_is c.args.bytes.now c.if-not-starts_with.ensures.value in
     let some : 0 < c.fields-header.result.functions = let none = c.if-header-eq0.false in omega arith in
     sleds_beyond c.args.bytes.now c.fields-header.result c.fields-header.ensures c.if-bytes-lt-HEADER_LENGTH.false begins
-    c.if-header-ne-VERSION.false c.if-header-gt-CODE_LIMIT.false (some, c.if-header-gt-FUNCTION_LIMIT.false) c.if-header-gt-ENTRY_LIMIT.true
+    c.if-header-ne-VERSION.false c.if-header-gt-CODE_LIMIT.false (some, c.if-header-gt-FUNCTION_LIMIT.false) c.if-header-gt-SLED_LIMIT.true
 
 pub returns-then-header-clause-refused : goal.returns-then-header-clause-refused
 returns-then-header-clause-refused c =
     let begins : magic c.args.bytes.now ≡ codes "XRIM" = magic_is c.args.bytes.now c.if-not-starts_with.ensures.value in
     let some : 0 < c.fields-header.result.functions = let none = c.if-header-eq0.false in omega arith in
     entry_beyond c.args.bytes.now c.fields-header.result c.fields-header.ensures c.if-bytes-lt-HEADER_LENGTH.false begins
-    c.if-header-ne-VERSION.false c.if-header-gt-CODE_LIMIT.false (some, c.if-header-gt-FUNCTION_LIMIT.false) c.if-header-gt-ENTRY_LIMIT.false c.if-header.true
+    c.if-header-ne-VERSION.false c.if-header-gt-CODE_LIMIT.false (some, c.if-header-gt-FUNCTION_LIMIT.false) c.if-header-gt-SLED_LIMIT.false c.if-header.true
 
 pub returns-then-header-ne0-clause-refused : goal.returns-then-header-ne0-clause-refused
 returns-then-header-ne0-clause-refused c =
     let begins : magic c.args.bytes.now ≡ codes "XRIM" = magic_is c.args.bytes.now c.if-not-starts_with.ensures.value in
     let some : 0 < c.fields-header.result.functions = let none = c.if-header-eq0.false in omega arith in
     base_beyond c.args.bytes.now c.fields-header.result c.fields-header.ensures c.if-bytes-lt-HEADER_LENGTH.false begins
-    c.if-header-ne-VERSION.false c.if-header-gt-CODE_LIMIT.false (some, c.if-header-gt-FUNCTION_LIMIT.false) c.if-header-gt-ENTRY_LIMIT.false c.if-header.false
+    c.if-header-ne-VERSION.false c.if-header-gt-CODE_LIMIT.false (some, c.if-header-gt-FUNCTION_LIMIT.false) c.if-header-gt-SLED_LIMIT.false c.if-header.false
     (elim c.then-header-ne0.branch [ then-header-ne0-via-then-header-ne0 w ↦ inl w.if-header-ne0.true | then-header-ne0-via-else-header-ne0+then-header-gt-BASE_LIMIT w ↦ inr (λ odd. odd w.if-header-ne0.false, w.if-header-gt-BASE_LIMIT.true) ])
