@@ -1,4 +1,4 @@
-// A desk and a sink in memory, which fail at the calls that they are told.
+//! A desk and a sink in memory, which fail at the calls that they are told.
 ghost use Rattle.std.specs.Prelude.{◌≡◌, ◌≢◌, ◌⊎◌, ℕ, ◌+◌, ◌-◌, ◌^◌, ◌≤◌, ◌<◌, ◌↔◌, [], ◌++◌, List, Option, Some, None, length, take, drop, min, option_map, IfOk, IfSome, OnOk, OnErr, IsErr, IsErrOf, IsNone, IsTrue, Contains};
 ghost use Rattle.xray_io.specs.Desk.{Entry, Absent, Holds, empty_entry, longer_entry};
 ghost use Rattle.xray_io.specs.Faults.{Rose};
@@ -8,7 +8,7 @@ use crate::{Desk, Failed, NoMemory, ReadFail, Sink};
 use std::alloc::Global;
 use std::collections::BTreeMap;
 
-// The calls of a device, and which of them are to fail, by their numbers from 0.
+/// The calls of a device, and which of them are to fail, by their numbers from 0.
 #[derive(Drop)]
 struct Calls {
     failing: Vec<u64>,
@@ -16,7 +16,7 @@ struct Calls {
 }
 
 impl Calls {
-    // Counts a call, and answers whether it is to fail.
+    /// Counts a call, and answers whether it is to fail.
     fn is_next_to_fail(&mut self) -> bool
         ensures told { IsTrue result ↔ Contains self.old.failing.items self.old.made }
         ensures counted { self.new.made ≡ min (self.old.made + 1) (2 ^ 64 - 1) }
@@ -28,8 +28,8 @@ impl Calls {
     }
 }
 
-/// A desk in memory. It fails at the calls of `Desk` whose numbers it was made with, and there
-/// alone.
+/// A desk in memory. It fails at the calls of `Desk` whose numbers it was made with. `create` and
+/// `append` also fail where an allocation is refused, which it counts apart.
 #[derive(Drop)]
 pub struct MemDesk {
     alloc: Global,
@@ -99,7 +99,7 @@ impl MemDesk {
         self.refused
     }
 
-    // Puts bytes at the end of what a name holds, and begins a name that isn't held.
+    /// Puts bytes at the end of what a name holds, and begins a name that isn't held.
     fn add(&mut self, name: &str, bytes: &[u8]) -> Result<(), NoMemory>
         ensures added { OnOk result (
             desk_entry self.new name.now ≡ longer_entry (desk_entry self.old name.now) bytes.now) }
@@ -119,7 +119,7 @@ impl MemDesk {
         self.put(name, bytes)
     }
 
-    // Counts a failed write.
+    /// Counts a failed write.
     fn fail(&mut self) -> Failed
         ensures counted { self.new ≡ record self.old {
           write_faults = min (self.old.write_faults + 1) (2 ^ 64 - 1);
@@ -130,7 +130,7 @@ impl MemDesk {
         Failed
     }
 
-    // Counts a write that failed since an allocation was refused.
+    /// Counts a write that failed since an allocation was refused.
     fn refuse(&mut self) -> Failed
         ensures counted { self.new ≡ record self.old {
           write_faults = min (self.old.write_faults + 1) (2 ^ 64 - 1);
@@ -265,8 +265,8 @@ impl Desk for MemDesk {
     }
 }
 
-// Copies the bytes from a place on to the front of the buffer, as far as they and it go, and
-// answers how many.
+/// Copies the bytes from a place on to the front of the buffer, as far as they and it go, and
+/// answers how many.
 fn copy_from(bytes: &[u8], from: u64, buf: &mut [u8]) -> usize
     ensures count { result ≡ min (length bytes.now - from) (length buf.old) }
     ensures copied { take result buf.new ≡ take result (drop from bytes.now) }

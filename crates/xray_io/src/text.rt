@@ -1,4 +1,4 @@
-// Text, gathered on its way to a sink.
+//! Text, gathered on its way to a sink.
 ghost use Rattle.std.specs.Prelude.{◌≡◌, ℕ, ◌+◌, ◌<◌, ◌≤◌, ◌++◌, [], List, length, replicate, Option, OnOk, OnErr};
 ghost use Rattle.std.specs.Fmt.{decimal};
 ghost use Rattle.xray_io.specs.Piece.{piece_text, text_of, hexadecimal};
@@ -35,7 +35,7 @@ impl<'a, S: Sink> Text<'a, S> {
         }
     }
 
-    // Writes what waits.
+    /// Writes what waits.
     fn flush(&mut self) -> Result<(), WriteFault>
         ensures empty { OnOk result (waiting self.new ≡ []) }
         ensures gains { OnOk result (Gains S.written self.old self.new []) }
@@ -51,7 +51,7 @@ impl<'a, S: Sink> Text<'a, S> {
         Ok(())
     }
 
-    // Writes what waits, where there is no room for this many bytes beside it.
+    /// Writes what waits, where there is no room for this many bytes beside it.
     fn make_room(&mut self, len: usize) -> Result<(), WriteFault>
         ensures room { OnOk result (4096 < length (waiting self.new) + len →
             waiting self.new ≡ []) }
@@ -69,7 +69,7 @@ impl<'a, S: Sink> Text<'a, S> {
         Ok(())
     }
 
-    // Keeps bytes that there is room for, and writes bytes that there never is.
+    /// Keeps bytes that there is room for, and writes bytes that there never is.
     fn put(&mut self, bytes: &[u8]) -> Result<(), WriteFault>
         requires room { 4096 < length (waiting self.old) + length bytes.now →
             waiting self.old ≡ [] }
@@ -116,7 +116,7 @@ impl<'a, S: Sink> Text<'a, S> {
         self.bytes(digits.format(n).as_bytes())
     }
 
-    // Adds this many zeros.
+    /// Adds this many zeros.
     fn zeros(&mut self, count: usize) -> Result<(), WriteFault>
         ensures gains { OnOk result (Gains S.written self.old self.new (replicate count ZERO)) }
         ensures breaks { OnErr result
@@ -133,7 +133,8 @@ impl<'a, S: Sink> Text<'a, S> {
         Ok(())
     }
 
-    /// Adds a number in lower-case hexadecimal digits, with zeros in front up to `digits` of them.
+    /// Adds a number in lower-case hexadecimal digits. Where these are fewer than `digits`, zeros stand
+    /// in front of them, so that all are `digits`.
     pub fn hex(&mut self, n: u64, digits: usize) -> Result<(), WriteFault>
         ensures gains { OnOk result (Gains S.written self.old self.new (hexadecimal n digits)) }
         ensures breaks { OnErr result

@@ -1,4 +1,4 @@
-// Bytes that wait to be written, in an array.
+//! Bytes that wait to be written, in an array.
 ghost use Rattle.std.specs.Prelude.{◌≡◌, ℕ, ◌+◌, ◌≤◌, [], ◌++◌, List, length, take};
 
 use std::marker::Model;
