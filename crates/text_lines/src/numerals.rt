@@ -2,8 +2,8 @@
 ghost use Rattle.std.specs.Prelude.{◌≡◌};
 ghost use Rattle.text_lines.specs.Numbers.{number_of};
 
-/// The number that `word` writes in decimal digits, zeros in front or not. `None` where the word has
-/// no byte or another than a digit, such as a sign, and where the number is above `u32::MAX`.
+/// The number that `word` writes in decimal digits, zeros in front or not. `None` where the word
+/// has no byte or another than a digit, such as a sign, and where the number is above `u32::MAX`.
 #[tactic(auto, using(crate::proofs::NumberLemmas::number_of_from_zero, crate::proofs::NumberLemmas::number_after_step))]
 pub fn parse_number(word: &[u8]) -> Option<u32>
     ensures { result ≡ number_of word.now }

@@ -6,8 +6,8 @@ pub trait Gate {
     /// Thread `thread` (from 1) is about to make its passing `passing` (from 0) of a sled.
     fn before(&self, thread: u32, passing: u32);
 
-    /// The patcher is about to make the store at micro step `place` (from 0, among all micro steps).
-    /// The micro steps that await pass no gate.
+    /// The patcher is about to make the store at micro step `place`, counted from 0 among all micro
+    /// steps. Awaits pass no gate.
     fn before_store(&self, place: u64);
 }
 

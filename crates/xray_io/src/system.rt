@@ -1,7 +1,8 @@
 //! The edge to the system: files by name, and the standard streams. Their bytes are not told.
-ghost use Rattle.std.specs.Prelude.{◌≡◌, ℕ, ◌+◌, ◌-◌, ◌^◌, ◌≤◌, ◌<◌, [], length, take, min, string_bytes, None, IfOk, IfSome, OnOk, OnErr};
+ghost use Rattle.std.specs.Prelude.{◌≡◌, ◌+◌, ◌-◌, ◌^◌, ◌≤◌, ◌<◌, [], length, take, min, string_bytes, None, IfOk, IfSome, OnOk, OnErr};
 ghost use Rattle.std.specs.Io.KnownBytes.{Appends};
 ghost use Rattle.xray_io.specs.Desk.{Untold};
+ghost use Rattle.xray_io.specs.Faults.{raised};
 
 use crate::{Desk, Failed, ReadFail, Sink};
 use std::fs::OpenOptions;
@@ -128,7 +129,7 @@ impl<R: Files + AllocGlobal> FileDesk<R> {
     /// Counts a failed write.
     fn fail_write(&mut self) -> Failed
         ensures write_faults { self.new.write_faults
-            ≡ min (self.old.write_faults + 1) (2 ^ 64 - 1) }
+            ≡ raised self.old.write_faults }
         ensures later { self.old.write_faults ≤ self.new.write_faults }
         ensures read_faults { self.new.read_faults ≡ self.old.read_faults }
     {
@@ -248,7 +249,7 @@ fn write_some<W: Write>(to: &mut W, bytes: &[u8], faults: &mut u64) -> Result<us
     ensures taken { IfOk result (λ n.
         Appends (W.contents to.old) (W.contents to.new) (take n bytes.now)) }
     ensures goes_on { IfOk result (λ n. n ≡ 0 → bytes.now ≡ []) }
-    ensures failed { OnErr result (faults.new ≡ min (faults.old + 1) (2 ^ 64 - 1)) }
+    ensures failed { OnErr result (faults.new ≡ raised faults.old) }
     ensures none { OnOk result (faults.new ≡ faults.old) }
     ensures later { faults.old ≤ faults.new }
 {
