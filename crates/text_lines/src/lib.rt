@@ -12,6 +12,6 @@ mod tests;
 mod text;
 mod tokens;
 
-pub use numerals::parse_number;
+pub use numerals::{parse_digits, parse_number};
 pub use text::{Line, Lines, count_lines};
 pub use tokens::Words;
