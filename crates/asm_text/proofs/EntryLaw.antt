@@ -2,10 +2,10 @@
 use Rattle.std.proofs.Common.{◌≡◌, ℕ, ◌+◌, ◌<◌, Bool, true, false, cond, not, ◌||◌, List, [], ◌∷◌, length, suc, Option, Some, None, refl, sym, ap, subst, ◌∙◌, arith}
 use Rattle.std.specs.Prelude.{slice_get}
 use Rattle.std.specs.List.{cons_option, filter_map, list_any, position_or_len}
+use Rattle.std.specs.Str.{bytes_eq}
 use Rattle.std.proofs.lemmas.Bool.{not-false}
 use Rattle.std.proofs.lemmas.List.Folds.{find_at}
 use Rattle.xray_image.specs.Container.{Function}
-use Rattle.asm_text.specs.Names.{is_text}
 use Rattle.asm_text.specs.Statements.{Statement, Base, Entry, Func, Label, Does}
 use Rattle.asm_text.specs.Layout.{Lines, Placed, Owner, Choosing, owner_of, no_owner, parts_of, placed_from, placed, widths, is_function, names_function, functions, function_in, entry_in_line, number_of_function, entry_of}
 use Rattle.asm_text.specs.Refusals.{has_function, is_unresolved}
@@ -31,7 +31,7 @@ some_function base chosen place owner (line ∷ behind) h =
     some_first base p line.1 (functions base (placed_from chosen next here behind)) (has_function behind) h (some_function base chosen next here behind)
 
 named_first : (name : List ℕ) (base : ℕ) (p : Placed) (s : Statement) (fs : List Function)
-    → list_any (λ f. is_text f.name name) (cons_option (function_in base p s) fs) ≡ (names_function name s || list_any (λ f. is_text f.name name) fs)
+    → list_any (λ f. bytes_eq f.name name) (cons_option (function_in base p s) fs) ≡ (names_function name s || list_any (λ f. bytes_eq f.name name) fs)
 named_first name base p (Base address) fs = refl
 named_first name base p (Entry other) fs = refl
 named_first name base p (Func other choice) fs = refl
@@ -40,7 +40,7 @@ named_first name base p (Does operation) fs = refl
 
 -- by its name
 named_function : (name : List ℕ) (base : ℕ) (chosen : Choosing) (place : ℕ) (owner : Owner) (lines : Lines)
-    → list_any (λ f. is_text f.name name) (functions base (placed_from chosen place owner lines)) ≡ list_any (λ line. names_function name line.1) lines
+    → list_any (λ f. bytes_eq f.name name) (functions base (placed_from chosen place owner lines)) ≡ list_any (λ line. names_function name line.1) lines
 named_function name base chosen place owner [] = refl
 named_function name base chosen place owner (line ∷ behind) =
     let here = owner_of chosen place owner line.1 behind in
@@ -86,10 +86,10 @@ entry_exists base chosen said are = by_name (slice_get (filter_map (λ line. ent
     by_name : (o : Option (List ℕ)) → slice_get (filter_map (λ line. entry_in_line line.1) said) 0 ≡ o → number_of_function o (functions base (placed chosen said)) < length (functions base (placed chosen said))
     by_name None is = some_function base chosen 0 no_owner said are.some
     by_name (Some name) is =
-        place_found (λ (f : Function). is_text f.name name) (functions base (placed chosen said))
+        place_found (λ (f : Function). bytes_eq f.name name) (functions base (placed chosen said))
         (named_function name base chosen 0 no_owner said ∙ entry_named said said are.settled name is)
 
 -- the function of that number is the entry function
 pub entry_is : (o : Option (List ℕ)) (all : List Function) → slice_get all (number_of_function o all) ≡ entry_function o all
 entry_is None all = refl
-entry_is (Some name) all = sym (find_at (λ (f : Function). is_text f.name name) all)
+entry_is (Some name) all = sym (find_at (λ (f : Function). bytes_eq f.name name) all)

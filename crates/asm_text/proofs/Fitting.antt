@@ -2,6 +2,7 @@
 use Rattle.std.proofs.Common.{◌≡◌, ℕ, zero, suc, ◌%◌, ◌<◌, ◌≤◌, Bool, true, false, cond, not, ◌&&◌, List, [], ◌∷◌, ◌++◌, length, get_or, Option, Some, None, refl, sym, subst, arith, eqb, ltb, leb}
 use Rattle.std.specs.Prelude.{⊤, is_some, find, Result, Ok, Err, option_map, option_and_then, slice_get, unwrap_or}
 use Rattle.std.specs.List.{list_all, filter_map, cons_option, AllByRecursion}
+use Rattle.std.specs.Str.{bytes_eq}
 use Rattle.std.proofs.lemmas.Bool.{ltb-false, leb-true, eqb-true, eqb-false, and_parts, or_parts, not-false}
 use Rattle.text_lines.specs.Words.{is_clean, words_of}
 use Rattle.asm_text.specs.declared.fault.AsmFault.{AsmFault}
@@ -19,7 +20,7 @@ use Rattle.asm_text.proofs.NameLemmas.{position_within}
 use Rattle.asm_text.specs.declared.statement.Branch.TheVariants as branches
 use Rattle.asm_text.specs.Numbers.{number_of}
 use Rattle.asm_text.specs.Registers.{register32, register64, before_comma, names32, names64, number_in, reserved, either}
-use Rattle.asm_text.specs.Names.{is_text, is_name, is_decimal, name_of, before_end}
+use Rattle.asm_text.specs.Names.{is_name, is_decimal, name_of, before_end}
 use Rattle.asm_text.specs.Statements.{Operation, Plain, Go, TailJump, Return, Statement, Base, Entry, Func, Label, Does}
 use Rattle.asm_text.specs.Language.{says, label_of, line_of, keyword_of, statement_of, choice_of}
 use Rattle.asm_text.specs.declared.layout.Laid.{Laid}
@@ -76,7 +77,7 @@ chained f g (Some x) h = mapped (λ y. f x y) g (λ y e. h x y refl e)
 
 -- the registers that words name are among the sixteen
 position_small : (names : List (List ℕ)) (word : List ℕ) (i : ℕ) → number_in names word ≡ Some i → i < length names
-position_small names word i h = position_within (λ name. is_text name word) names i (sym h)
+position_small names word i h = position_within (λ name. bytes_eq name word) names i (sym h)
 
 reserved_small : (o : Option ℕ) (i : ℕ) → ((n : ℕ) → o ≡ Some n → n < 16) → option_and_then reserved o ≡ Some i → i < 16
 reserved_small None i h e = absurd (cc e)

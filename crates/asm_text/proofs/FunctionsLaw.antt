@@ -2,6 +2,7 @@
 use Rattle.std.proofs.Common.{◌≡◌, ◌≢◌, ℕ, zero, suc, ◌+◌, ◌<◌, ◌≤◌, Bool, true, false, cond, not, ◌||◌, ◌&&◌, List, [], ◌∷◌, ◌++◌, length, get_or, take, Option, Some, None, refl, sym, ap, subst, ◌∙◌, arith, leb, add-zero}
 use Rattle.std.specs.Prelude.{⊤, Ok, All, Contains, slice_get}
 use Rattle.std.specs.List.{list_all, cons_option, last_or, AllByRecursion}
+use Rattle.std.specs.Str.{bytes_eq}
 use Rattle.std.proofs.lemmas.Bool.{and_parts, or_parts, not-false}
 use Rattle.std.proofs.lemmas.List.Elements.{All-from_recursion}
 use Rattle.std.proofs.lemmas.Slice.Eq.{bytes_eq-Decides}
@@ -9,7 +10,7 @@ use Rattle.xray_image.specs.Units.{units_from}
 use Rattle.xray_image.specs.Container.{Function}
 use Rattle.xray_image.specs.Program.{addresses, is_name_byte, BeginsBehind, IsFunction, AreFunctions}
 use Rattle.asm_text.specs.declared.statement.Choice.{Choice}
-use Rattle.asm_text.specs.Names.{is_text, is_name, is_decimal}
+use Rattle.asm_text.specs.Names.{is_name, is_decimal}
 use Rattle.asm_text.specs.Statements.{Statement, Base, Entry, Func, Label, Does}
 use Rattle.asm_text.specs.Layout.{Lines, Placed, Owner, Choosing, by_threshold, is_function, is_instruction, defines, owner_of, no_owner, function_at, instruction_lines, parts_at, placed_from, placed, widths, own_place, pieces, functions, function_in, base_of}
 use Rattle.asm_text.specs.Refusals.{has_function, is_bare, is_defined}
@@ -159,18 +160,18 @@ name_of_bytes name h = All-from_recursion (λ b. is_name_byte b ≡ true) name (
 
 -- a name that is defined is none of the names that aren't
 abbrev pub Knows : List ℕ → Lines → Type 0
-Knows name before = (other : List ℕ) → is_defined other before ≡ false → is_text name other ≡ false
+Knows name before = (other : List ℕ) → is_defined other before ≡ false → bytes_eq name other ≡ false
 
 knows-more : (name : List ℕ) (before : Lines) (line : ℕ × Statement) → Knows name before → Knows name (before ++ line ∷ [])
 knows-more name before line knows other free = knows other (or_parts (is_defined other before) (defines other line.1) (sym (is_defined-more other before line) ∙ free)).0
 
 knows_itself : (before : Lines) (number : ℕ) (name : List ℕ) (choice : Choice) → Knows name (before ++ (number, Func name choice) ∷ [])
 knows_itself before number name choice other free =
-    let here = (or_parts (is_defined other before) (is_text name other || false) (sym (is_defined-more other before (number, Func name choice)) ∙ free)).1 in
-    (or_parts (is_text name other) false here).0
+    let here = (or_parts (is_defined other before) (bytes_eq name other || false) (sym (is_defined-more other before (number, Func name choice)) ∙ free)).1 in
+    (or_parts (bytes_eq name other) false here).0
 
 apart_first : (base : ℕ) (before : Lines) (p : Placed) (s : Statement) (fs : List Function) (name : List ℕ) → IsAllowed before s → Knows name before
-    → AllByRecursion (λ g. is_text name g.name ≡ false) fs → AllByRecursion (λ g. is_text name g.name ≡ false) (cons_option (function_in base p s) fs)
+    → AllByRecursion (λ g. bytes_eq name g.name ≡ false) fs → AllByRecursion (λ g. bytes_eq name g.name ≡ false) (cons_option (function_in base p s) fs)
 apart_first base before p (Base address) fs name may knows rest = rest
 apart_first base before p (Entry other) fs name may knows rest = rest
 apart_first base before p (Func other choice) fs name may knows rest = (knows other may.new_name, rest)
@@ -178,7 +179,7 @@ apart_first base before p (Label other) fs name may knows rest = rest
 apart_first base before p (Does operation) fs name may knows rest = rest
 
 apart : (base : ℕ) (chosen : Choosing) (place : ℕ) (owner : Owner) (before lines : Lines) (name : List ℕ) → Allowed before lines → Knows name before
-    → AllByRecursion (λ g. is_text name g.name ≡ false) (functions base (placed_from chosen place owner lines))
+    → AllByRecursion (λ g. bytes_eq name g.name ≡ false) (functions base (placed_from chosen place owner lines))
 apart base chosen place owner before [] name all knows = tt
 apart base chosen place owner before (line ∷ behind) name all knows =
     let here = owner_of chosen place owner line.1 behind in
@@ -190,10 +191,10 @@ apart base chosen place owner before (line ∷ behind) name all knows =
 -- each name differs from those behind it
 abbrev pub OwnNames : List Function → Type 0
 OwnNames [] = ⊤
-OwnNames (f ∷ fs) = AllByRecursion (λ g. is_text f.name g.name ≡ false) fs × OwnNames fs
+OwnNames (f ∷ fs) = AllByRecursion (λ g. bytes_eq f.name g.name ≡ false) fs × OwnNames fs
 
 own_first : (base : ℕ) (p : Placed) (s : Statement) (fs : List Function)
-    → ((name : List ℕ) (choice : Choice) → s ≡ Func name choice → AllByRecursion (λ g. is_text name g.name ≡ false) fs) → OwnNames fs → OwnNames (cons_option (function_in base p s) fs)
+    → ((name : List ℕ) (choice : Choice) → s ≡ Func name choice → AllByRecursion (λ g. bytes_eq name g.name ≡ false) fs) → OwnNames fs → OwnNames (cons_option (function_in base p s) fs)
 own_first base p (Base address) fs first rest = rest
 own_first base p (Entry name) fs first rest = rest
 own_first base p (Func name choice) fs first rest = (first name choice refl, rest)
@@ -212,8 +213,8 @@ own_names base chosen place owner before (line ∷ behind) all =
     knows_line : (name : List ℕ) (choice : Choice) → line.1 ≡ Func name choice → Knows name (before ++ line ∷ [])
     knows_line name choice is = subst (λ s. Knows name (before ++ (line.0, s) ∷ [])) (sym is) (knows_itself before line.0 name choice)
 
-differ : (f g : Function) → is_text f.name g.name ≡ false → f.name ≢ g.name
-differ f g apart same = let is : is_text f.name g.name ≡ true = (bytes_eq-Decides f.name g.name).1 same in absurd (cc (apart, is))
+differ : (f g : Function) → bytes_eq f.name g.name ≡ false → f.name ≢ g.name
+differ f g apart same = let is : bytes_eq f.name g.name ≡ true = (bytes_eq-Decides f.name g.name).1 same in absurd (cc (apart, is))
 
 each_at : (P : Function → Type 0) (fs : List Function) (i : ℕ) (f : Function) → AllByRecursion P fs → slice_get fs i ≡ Some f → P f
 each_at P [] i f all e = absurd (cc e)
@@ -223,7 +224,7 @@ each_at P (g ∷ fs) (suc i) f all e = each_at P fs i f all.1 e
 own_at : (fs : List Function) (i : ℕ) (f : Function) → OwnNames fs → slice_get fs i ≡ Some f → AllByRecursion (λ g. g.name ≢ f.name) (take i fs)
 own_at [] i f own e = absurd (cc e)
 own_at (g ∷ fs) zero f own e = tt
-own_at (g ∷ fs) (suc i) f own e = (differ g f (each_at (λ x. is_text g.name x.name ≡ false) fs i f own.0 e), own_at fs i f own.1 e)
+own_at (g ∷ fs) (suc i) f own e = (differ g f (each_at (λ x. bytes_eq g.name x.name ≡ false) fs i f own.0 e), own_at fs i f own.1 e)
 
 -- ---- all together
 

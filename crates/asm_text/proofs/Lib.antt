@@ -1,5 +1,4 @@
 mod Rows
-pub mod NumberLemmas
 pub mod NameLemmas
 pub mod WidthLemmas
 pub mod LayoutLemmas

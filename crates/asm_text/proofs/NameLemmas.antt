@@ -2,10 +2,11 @@
 use Rattle.std.proofs.Common.{◌≡◌, ℕ, ◌+◌, ◌<◌, ◌≤◌, get_or, Bool, true, false, cond, not, List, [], ◌∷◌, length, Some, refl, ap, arith, map, Bor}
 use Rattle.std.specs.Prelude.{position, find, option_map}
 use Rattle.std.specs.List.{position_or_len, list_all}
+use Rattle.std.specs.Str.{bytes_eq}
 use Rattle.std.proofs.lemmas.Bool.{le-leb}
 use Rattle.xray_image.specs.Program.{is_name_byte}
 use Rattle.std.proofs.lemmas.List.{length-map}
-use Rattle.asm_text.specs.Names.{is_text, is_decimal, is_name}
+use Rattle.asm_text.specs.Names.{is_decimal, is_name}
 use Rattle.asm_text.specs.Registers.{number_in}
 
 position_or_len-map : {X Y : Type 0} (p : Y → Bool) (f : X → Y) (xs : List X) → position_or_len p (map f xs) ≡ position_or_len (λ x. p (f x)) xs
@@ -13,9 +14,9 @@ position_or_len-map p f [] = refl
 position_or_len-map p f (x ∷ xs) = ap (λ n. cond (not (p (f x))) (1 + n) 0) (position_or_len-map p f xs)
 
 -- the place of a name in a list of references
-pub number_in_map : (names : List (Bor (List ℕ))) (word : List ℕ) → number_in (map (λ name. name.now) names) word ≡ position (λ name. is_text name.now word) names
+pub number_in_map : (names : List (Bor (List ℕ))) (word : List ℕ) → number_in (map (λ name. name.now) names) word ≡ position (λ name. bytes_eq name.now word) names
 number_in_map names word =
-    rw (position_or_len-map (λ name. is_text name word) (λ name. name.now) names, length-map) refl
+    rw (position_or_len-map (λ name. bytes_eq name word) (λ name. name.now) names, length-map) refl
 
 -- a place is within the list
 pub position_within : {X : Type 0} (p : X → Bool) (xs : List X) (i : ℕ) → Some i ≡ position p xs → i < length xs
@@ -23,11 +24,11 @@ position_within p xs i h = grind arith
 
 -- the texts of a table
 pub find_map : {Y : Type 0} (word : List ℕ) (table : List (Bor (List ℕ) × Y))
-    → option_map (λ (e : List ℕ × Y). e.1) (find (λ e. is_text e.0 word) (map (λ (e : Bor (List ℕ) × Y). (e.0.now, e.1)) table)) ≡ option_map (λ (e : Bor (List ℕ) × Y). e.1) (find (λ e. is_text e.0.now word) table)
+    → option_map (λ (e : List ℕ × Y). e.1) (find (λ e. bytes_eq e.0 word) (map (λ (e : Bor (List ℕ) × Y). (e.0.now, e.1)) table)) ≡ option_map (λ (e : Bor (List ℕ) × Y). e.1) (find (λ e. bytes_eq e.0.now word) table)
 find_map word [] = refl
 find_map {Y} word (e ∷ table) =
-    elim (is_text e.0.now word) as (λ t. option_map (λ (e : List ℕ × Y). e.1) (cond t (Some (e.0.now, e.1)) (find (λ e. is_text e.0 word) (map (λ (e : Bor (List ℕ) × Y). (e.0.now, e.1)) table)))
-    ≡ option_map (λ (e : Bor (List ℕ) × Y). e.1) (cond t (Some e) (find (λ e. is_text e.0.now word) table))) [
+    elim (bytes_eq e.0.now word) as (λ t. option_map (λ (e : List ℕ × Y). e.1) (cond t (Some (e.0.now, e.1)) (find (λ e. bytes_eq e.0 word) (map (λ (e : Bor (List ℕ) × Y). (e.0.now, e.1)) table)))
+    ≡ option_map (λ (e : Bor (List ℕ) × Y). e.1) (cond t (Some e) (find (λ e. bytes_eq e.0.now word) table))) [
       | true ↦ refl
       | false ↦ find_map word table
     ]

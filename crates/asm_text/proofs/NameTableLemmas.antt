@@ -1,9 +1,9 @@
 -- The names of one more line.
 use Rattle.std.proofs.Common.{◌≡◌, ℕ, suc, Bool, true, false, cond, ◌||◌, List, [], ◌∷◌, ◌++◌, length, Option, Some, None, refl, sym, ap, subst, ◌∙◌}
 use Rattle.std.specs.Prelude.{is_some, option_map}
+use Rattle.std.specs.Str.{bytes_eq}
 use Rattle.std.proofs.lemmas.Slice.Eq.{bytes_eq-Decides}
 use Rattle.asm_text.specs.declared.name_table.NameTable.{NameTable}
-use Rattle.asm_text.specs.Names.{is_text}
 use Rattle.asm_text.specs.Statements.{Statement, Base, Entry, Func, Label, Does}
 use Rattle.asm_text.specs.Layout.{Lines, defines}
 use Rattle.asm_text.specs.NameTables.{line_named}
@@ -22,7 +22,7 @@ or_false false = refl
 pub defines-named : (q : List ℕ) (statement : Statement) → defines q statement ≡ is_named (name_defined statement) q
 defines-named q (Base address) = refl
 defines-named q (Entry name) = refl
-defines-named q (Func name choice) = or_false (is_text name q)
+defines-named q (Func name choice) = or_false (bytes_eq name q)
 defines-named q (Label name) = refl
 defines-named q (Does operation) = refl
 

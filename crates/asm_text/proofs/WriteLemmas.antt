@@ -2,8 +2,8 @@
 use Rattle.std.proofs.Common.{◌≡◌, ℕ, ◌+◌, ◌%◌, ◌++◌, true, false, cond, not, List, [], ◌∷◌, length, Option, Some, None, refl, sym, ap, ◌∙◌, arith}
 use Rattle.std.specs.Prelude.{slice_get, is_some, option_map}
 use Rattle.std.specs.List.{filter_map, cons_option, position_or_len}
+use Rattle.std.specs.Str.{bytes_eq}
 use Rattle.xray_image.specs.Container.{Function, MapEntry}
-use Rattle.asm_text.specs.Names.{is_text}
 use Rattle.asm_text.specs.Statements.{Statement, Base, Entry, Func, Label, Does}
 use Rattle.asm_text.specs.Layout.{Placed, functions, map_entries, function_in, entry_in, entry_in_line, base_of, sled_kind, pieces, number_of_function}
 use Rattle.asm_text.specs.Laying.{lines_of}
@@ -55,16 +55,16 @@ length-map_entries base (p ∷ behind) =
     ∙ sym (length_cons (entry_in 0 p) (map_entries 0 behind))
 
 position_front : (name : List ℕ) (base : ℕ) (p : Placed) (s : Statement) (fs gs : List Function)
-    → position_or_len (λ f. is_text f.name name) fs ≡ position_or_len (λ f. is_text f.name name) gs
-    → position_or_len (λ f. is_text f.name name) (cons_option (function_in base p s) fs) ≡ position_or_len (λ f. is_text f.name name) (cons_option (function_in 0 p s) gs)
+    → position_or_len (λ f. bytes_eq f.name name) fs ≡ position_or_len (λ f. bytes_eq f.name name) gs
+    → position_or_len (λ f. bytes_eq f.name name) (cons_option (function_in base p s) fs) ≡ position_or_len (λ f. bytes_eq f.name name) (cons_option (function_in 0 p s) gs)
 position_front name base p (Base address) fs gs h = h
 position_front name base p (Entry other) fs gs h = h
-position_front name base p (Func other choice) fs gs h = ap (λ n. cond (not (is_text other name)) (1 + n) 0) h
+position_front name base p (Func other choice) fs gs h = ap (λ n. cond (not (bytes_eq other name)) (1 + n) 0) h
 position_front name base p (Label other) fs gs h = h
 position_front name base p (Does operation) fs gs h = h
 
 pub position-functions : (name : List ℕ) (base : ℕ) (all : List Placed)
-    → position_or_len (λ f. is_text f.name name) (functions base all) ≡ position_or_len (λ f. is_text f.name name) (functions 0 all)
+    → position_or_len (λ f. bytes_eq f.name name) (functions base all) ≡ position_or_len (λ f. bytes_eq f.name name) (functions 0 all)
 position-functions name base [] = refl
 position-functions name base (p ∷ behind) = position_front name base p p.statement (functions base behind) (functions 0 behind) (position-functions name base behind)
 

@@ -1,5 +1,5 @@
 -- The image file of an assembler text.
-use Rattle.std.specs.Prelude.{◌≡◌, ℕ, ◌+◌, List, [], length, Result, Ok, Err, Vec}
+use Rattle.std.specs.Prelude.{ℕ, ◌+◌, List, [], length, Result, Ok, Err, Vec}
 use Rattle.std.specs.declared.alloc.Global.{Global}
 use Rattle.std.specs.List.{flat_map}
 use Rattle.std.specs.Str.Lines.{lines}
@@ -30,10 +30,6 @@ said_by text = read_lines [] (numbered_lines text) >>= λ said. ended (length (l
 -- the image file of a text, or its first refusal
 abbrev pub assembled : List ℕ → ℕ → Result (List ℕ) AsmFault
 assembled text threshold = said_by text >>= λ said. Ok (file_bytes (image_of threshold said))
-
--- what assembling a text comes to
-abbrev pub Assembles : List ℕ → ℕ → Result (List ℕ) AsmFault → Type 0
-Assembles text threshold verdict = verdict ≡ assembled text threshold
 
 -- an answer with the items of its image
 abbrev pub seen : Result (Vec ℕ Global) AsmFault → Result (List ℕ) AsmFault

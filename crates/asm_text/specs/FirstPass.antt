@@ -1,6 +1,7 @@
 -- What the assembler has gathered of the lines so far.
 use Rattle.std.specs.Prelude.{◌≡◌, ℕ, suc, option_map, ◌+◌, ◌≤◌, ◌||◌, Bool, true, false, List, [], ◌∷◌, ◌++◌, map, sum_by, count_by, nat_lt, is_some, if◌then◌else◌, Option, Some, None, Result, Ok, Err, ◌⊎◌}
 use Rattle.std.specs.List.{list_any}
+use Rattle.std.specs.Str.{bytes_eq}
 use Rattle.asm_text.specs.declared.fault.AsmFault.{AsmFault}
 use Rattle.asm_text.specs.declared.fault.AsmFault.TheVariants as faults
 use Rattle.asm_text.specs.declared.totals.Standing.{Standing}
@@ -11,7 +12,6 @@ use Rattle.asm_text.specs.declared.first_pass.Entry.{Entry}
 use Rattle.asm_text.specs.declared.first_pass.FirstPass.{FirstPass}
 use Rattle.asm_text.specs.Statements.{Statement, Base, Entry as EntryLine, Func, Label, Does}
 use Rattle.asm_text.specs.Layout.{Lines, unless_never, is_function, is_instruction, base_in, entry_in_line, defines, widths, sleds_of, parts_of, all_parts, owner_of}
-use Rattle.asm_text.specs.Names.{is_text}
 use Rattle.asm_text.specs.NameTables.{line_named}
 use Rattle.asm_text.specs.Refusals.{has_function, is_bare, exceeds_limits, repeats}
 use Rattle.asm_text.specs.Views.{statement_said}
@@ -109,7 +109,7 @@ taken before number statement =
 -- a name that may be none is another
 abbrev pub is_named : Option (List ℕ) → List ℕ → Bool
 is_named None q = false
-is_named (Some name) q = is_text name q
+is_named (Some name) q = bytes_eq name q
 
 -- the totals of the lines with one more, or the row that refuses it
 abbrev pub Admits : FirstPass → ℕ → Statement → Result Totals AsmFault → Type 0

@@ -1,5 +1,6 @@
 -- The lines of the language: which words say what.
 use Rattle.std.specs.Prelude.{ℕ, List, [], ◌∷◌, Option, Some, None, codes, find, option_map, option_and_then}
+use Rattle.std.specs.Str.{bytes_eq}
 use Rattle.subset_decode.specs.declared.instr.Instr.{Instr}
 use Rattle.subset_decode.specs.declared.instr.Instr.TheVariants as instrs
 use Rattle.asm_text.specs.declared.statement.Choice.{Choice}
@@ -8,13 +9,13 @@ use Rattle.asm_text.specs.declared.statement.Branch.TheVariants as branches
 use Rattle.asm_text.specs.declared.keyword.Keyword.{Keyword}
 use Rattle.asm_text.specs.declared.keyword.Keyword.TheVariants as words
 use Rattle.asm_text.specs.Numbers.{number_of}
-use Rattle.asm_text.specs.Names.{is_text, name_of, before_end}
+use Rattle.asm_text.specs.Names.{name_of, before_end}
 use Rattle.asm_text.specs.Registers.{register32, register64, before_comma}
 use Rattle.asm_text.specs.Statements.{Plain, Go, TailJump, Return, Statement, Base, Entry, Func, Label, Does}
 
 -- what a table has for a word
 abbrev pub in_table : {X : Type 0} → List (List ℕ × X) → List ℕ → Option X
-in_table table word = option_map (λ entry. entry.1) (find (λ entry. is_text entry.0 word) table)
+in_table table word = option_map (λ entry. entry.1) (find (λ entry. bytes_eq entry.0 word) table)
 
 -- the first words of lines, labels apart
 abbrev pub keywords : List (List ℕ × Keyword)

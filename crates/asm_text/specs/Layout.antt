@@ -1,6 +1,7 @@
 -- Where the lines of a text put their units. Places count from the code's first byte.
 use Rattle.std.specs.Prelude.{ℕ, suc, ◌+◌, ◌%◌, ◌||◌, ◌==◌, pos, ◌-ℤ◌, ℤ, Bool, true, false, nat_le, List, [], ◌∷◌, ◌++◌, length, map, sum_by, slice_get, Option, Some, None, option_map, unwrap_or, if◌then◌else◌}
 use Rattle.std.specs.List.{flat_map, filter_map, position_or_len}
+use Rattle.std.specs.Str.{bytes_eq}
 use Rattle.subset_decode.specs.declared.instr.Instr.{Instr}
 use Rattle.subset_decode.specs.declared.instr.Instr.TheVariants as instrs
 use Rattle.xray_image.specs.Units.{Piece, Instruction, JumpSled, ReturnSled, Align, piece_bytes, sleds_in}
@@ -9,7 +10,6 @@ use Rattle.asm_text.specs.declared.statement.Choice.{Choice}
 use Rattle.asm_text.specs.declared.statement.Choice.TheVariants.{ByLength, Always, Never}
 use Rattle.asm_text.specs.declared.statement.Branch.{Branch}
 use Rattle.asm_text.specs.declared.statement.Branch.TheVariants as branches
-use Rattle.asm_text.specs.Names.{is_text}
 use Rattle.asm_text.specs.Statements.{Operation, Plain, Go, TailJump, Return, Statement, Base, Entry, Func, Label, Does}
 
 -- the lines of a text that say something, each with its number
@@ -167,7 +167,7 @@ sleds_of (Jump branch name) = 0
 abbrev pub names_function : List ℕ → Statement → Bool
 names_function name (Base address) = false
 names_function name (Entry other) = false
-names_function name (Func other choice) = is_text other name
+names_function name (Func other choice) = bytes_eq other name
 names_function name (Label other) = false
 names_function name (Does operation) = false
 
@@ -175,7 +175,7 @@ abbrev pub names_label : List ℕ → Statement → Bool
 names_label name (Base address) = false
 names_label name (Entry other) = false
 names_label name (Func other choice) = false
-names_label name (Label other) = is_text other name
+names_label name (Label other) = bytes_eq other name
 names_label name (Does operation) = false
 
 abbrev pub defines : List ℕ → Statement → Bool
@@ -275,7 +275,7 @@ base_of lines = unwrap_or (slice_get (filter_map (λ line. base_in line.1) lines
 
 abbrev pub number_of_function : Option (List ℕ) → List Function → ℕ
 number_of_function None all = 0
-number_of_function (Some name) all = position_or_len (λ f. is_text f.name name) all
+number_of_function (Some name) all = position_or_len (λ f. bytes_eq f.name name) all
 
 abbrev pub entry_of : Lines → List Function → ℕ
 entry_of lines all = number_of_function (slice_get (filter_map (λ line. entry_in_line line.1) lines) 0) all

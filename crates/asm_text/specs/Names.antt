@@ -1,12 +1,7 @@
 -- The names of functions and labels.
-use Rattle.std.specs.Prelude.{ℕ, Bool, ◌&&◌, not, nat_le, ◌==◌, ◌-◌, List, length, take, slice_index, Option, Some, None, if◌then◌else◌, nat_eq}
-use Rattle.std.specs.Cmp.Lexicographic.{pointwise}
+use Rattle.std.specs.Prelude.{ℕ, Bool, ◌&&◌, not, nat_le, ◌==◌, ◌-◌, List, length, take, slice_index, Option, Some, None, if◌then◌else◌}
 use Rattle.std.specs.List.{list_all}
 use Rattle.xray_image.specs.Program.{is_name_byte}
-
--- two texts are the same
-abbrev pub is_text : List ℕ → List ℕ → Bool
-is_text text other = pointwise nat_eq text other
 
 -- a decimal digit
 abbrev pub is_decimal : ℕ → Bool

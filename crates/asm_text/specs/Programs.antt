@@ -2,11 +2,11 @@
 use Rattle.std.specs.Prelude.{◌≡◌, ℕ, ◌+◌, ◌==◌, not, List, map, take, find, slice_get, Option, Some, None, option_map, option_and_then, Ok}
 use Rattle.std.specs.Option.{option_map_or}
 use Rattle.std.specs.List.{flat_map, filter_map, last_or}
+use Rattle.std.specs.Str.{bytes_eq}
 use Rattle.xray_image.specs.declared.sled.Sled.{Sled}
 use Rattle.xray_image.specs.Container.{Function, MapEntry}
 use Rattle.xray_image.specs.Units.{piece_bytes, units_from}
 use Rattle.xray_image.specs.Program.{Program, Trampolines, IsAccepted, id_of, kind_of}
-use Rattle.asm_text.specs.Names.{is_text}
 use Rattle.asm_text.specs.Statements.{Statement, Base, Entry, Func, Label, Does}
 use Rattle.asm_text.specs.Layout.{Lines, by_threshold, placed, pieces, functions, map_entries, entry_in, base_of, entry_in_line, sled_shift}
 use Rattle.asm_text.specs.Assembling.{said_by}
@@ -14,7 +14,7 @@ use Rattle.asm_text.specs.Assembling.{said_by}
 -- the function that an entry line names, or else the first
 abbrev pub entry_function : Option (List ℕ) → List Function → Option Function
 entry_function None all = slice_get all 0
-entry_function (Some name) all = find (λ f. is_text f.name name) all
+entry_function (Some name) all = find (λ f. bytes_eq f.name name) all
 
 -- the address at which threads start: that of the entry function
 abbrev pub entry_address : Lines → List Function → ℕ

@@ -1,7 +1,8 @@
 -- The registers as an assembler text names them.
 use Rattle.std.specs.Prelude.{ℕ, List, [], ◌∷◌, Option, Some, None, codes, option_and_then, position, if◌then◌else◌}
+use Rattle.std.specs.Str.{bytes_eq}
 use Rattle.subset_decode.specs.Registers.{is_reserved}
-use Rattle.asm_text.specs.Names.{is_text, before_end}
+use Rattle.asm_text.specs.Names.{before_end}
 
 -- the registers by number, by the names of their lower halves and of all their 64 bits
 abbrev pub names32 : List (List ℕ)
@@ -16,7 +17,7 @@ names64 =
 
 -- the number of a register by one of the two lists
 abbrev pub number_in : List (List ℕ) → List ℕ → Option ℕ
-number_in names word = position (λ name. is_text name word) names
+number_in names word = position (λ name. bytes_eq name word) names
 
 -- a number that may not be named
 abbrev pub reserved : ℕ → Option ℕ

@@ -1,10 +1,9 @@
 //! From a text to its image.
 
-ghost use Rattle.std.specs.Prelude.{◌≡◌, ◌<◌, ◌⊎◌, List, ℕ, length, IfOk, Result};
+ghost use Rattle.std.specs.Prelude.{◌≡◌, ◌<◌, ◌⊎◌, length, IfOk};
 ghost use Rattle.std.specs.Str.Lines.{lines};
-ghost use Rattle.asm_text.specs.declared.fault.AsmFault.{AsmFault as Fault};
 ghost use Rattle.asm_text.specs.declared.fault.AsmFault.TheVariants.{NoMemory};
-ghost use Rattle.asm_text.specs.Assembling.{Assembles, seen};
+ghost use Rattle.asm_text.specs.Assembling.{assembled, seen};
 ghost use Rattle.asm_text.specs.Programs.{IsProgramOf};
 
 use crate::ending::resolve;
@@ -24,9 +23,7 @@ use text_lines::count_lines;
 /// may come in place of any answer. The lines of the text are counted by `u32`.
 pub fn assemble(alloc: Global, text: &[u8], threshold: u32) -> Result<Vec<u8>, AsmFault>
     requires { length (lines text.now) < u32.MAX }
-    ensures reads { (result ≡ Err NoMemory) ⊎ Assembles text.now threshold (seen result) }
-    ensures exact { (verdict : Result (List ℕ) Fault) → Assembles text.now threshold verdict
-        → (result ≡ Err NoMemory) ⊎ (seen result ≡ verdict) }
+    ensures made { (result ≡ Err NoMemory) ⊎ (seen result ≡ assembled text.now threshold) }
     // Each file is one that a reader of images accepts, and holds exactly the program that the
     // text says.
     ensures accepted { IfOk result (λ file. IsProgramOf text.now threshold file.items) }

@@ -1,7 +1,7 @@
 //! The first words of lines.
 
 ghost use Rattle.std.specs.Prelude.{◌≡◌, option_map, find, map};
-ghost use Rattle.asm_text.specs.Names.{is_text};
+ghost use Rattle.std.specs.Str.{bytes_eq};
 ghost use Rattle.asm_text.specs.Language.{in_table, keyword_of, choice_of};
 
 use crate::statement::Choice;
@@ -45,7 +45,7 @@ const KEYWORDS: [(&[u8], Keyword); 14] = [
 
 /// The keyword of a table's first entry with a word.
 fn keyword_at(table: &[(&[u8], Keyword)], word: &[u8]) -> Option<Keyword>
-    ensures { result ≡ option_map (λ e. e.1) (find (λ e. is_text e.0.now word.now) table.now) }
+    ensures { result ≡ option_map (λ e. e.1) (find (λ e. bytes_eq e.0.now word.now) table.now) }
 {
     let entry = table.iter().find(|entry| entry.0 == word)?;
     Some(entry.1)

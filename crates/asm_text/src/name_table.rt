@@ -13,7 +13,7 @@ pub(crate) struct NameTable<'a> {
 }
 
 impl<'a> NameTable<'a> {
-    ghost use Rattle.asm_text.specs.Names.{is_text};
+    ghost use Rattle.std.specs.Str.{bytes_eq};
     ghost use Rattle.asm_text.specs.NameTables.{line_named};
 
     /// No names.
@@ -35,7 +35,7 @@ impl<'a> NameTable<'a> {
     /// Takes the line that defines a name.
     pub(crate) fn define(&mut self, name: &'a [u8], line: usize) -> Result<(), AllocError>
         ensures { OnOk result ((q : List ℕ) → line_named self.new q
-            ≡ (if is_text name.now q then Some line else line_named self.old q)) }
+            ≡ (if bytes_eq name.now q then Some line else line_named self.old q)) }
     {
         self.lines.insert(name, line)?;
         Ok(())

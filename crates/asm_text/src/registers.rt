@@ -1,8 +1,8 @@
 //! The registers as a text names them.
 
 ghost use Rattle.std.specs.Prelude.{◌≡◌, ◌<◌, ◌≤◌, true, false, map, length, position, IfSome, MatchOption};
+ghost use Rattle.std.specs.Str.{bytes_eq};
 ghost use Rattle.subset_decode.specs.Registers.{IsRegister};
-ghost use Rattle.asm_text.specs.Names.{is_text};
 ghost use Rattle.asm_text.specs.Registers.{number_in, register32, register64, reserved};
 
 use std::marker::Model;
@@ -123,7 +123,7 @@ const NAMES64: [&[u8]; 16] = [
 
 /// The place of a name in a list.
 fn place_in(names: &[&[u8]], word: &[u8]) -> Option<usize>
-    ensures { result ≡ position (λ name. is_text name.now word.now) names.now }
+    ensures { result ≡ position (λ name. bytes_eq name.now word.now) names.now }
 {
     names.iter().position(|name| *name == word)
 }

@@ -1,8 +1,8 @@
 //! The image file of a text whose lines have their places.
 
-ghost use Rattle.std.specs.Prelude.{◌≡◌, ◌≤◌, ◌<◌, ℕ, List, IfOk, length, option_copied, slice_get};
+ghost use Rattle.std.specs.Prelude.{◌≡◌, ◌≤◌, ◌<◌, IfOk, length, option_copied, slice_get};
 ghost use Rattle.std.specs.List.{position_or_len, filter_map};
-ghost use Rattle.asm_text.specs.Names.{is_text};
+ghost use Rattle.std.specs.Str.{bytes_eq};
 ghost use Rattle.asm_text.specs.Layout.{functions, map_entries, base_of, entry_of, entry_in_line};
 ghost use Rattle.asm_text.specs.Writing.{file_bytes};
 ghost use Rattle.asm_text.specs.Laying.{placed_in, lines_of};
@@ -76,7 +76,7 @@ fn count_sleds(lines: &[Laid]) -> u32
 /// The number of the function of a name, from 0.
 fn function_number(lines: &[Laid], name: &[u8]) -> u32
     requires { length (functions 0 (placed_in lines.now)) ≤ 1024 }
-    ensures { result ≡ position_or_len (λ f. is_text f.name name.now)
+    ensures { result ≡ position_or_len (λ f. bytes_eq f.name name.now)
         (functions 0 (placed_in lines.now)) }
 {
     let mut number = 0;

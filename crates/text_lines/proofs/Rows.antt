@@ -3,7 +3,7 @@ use Rattle.std.proofs.Common.{◌≡◌, true, false, [], ◌∷◌, ◌++◌, S
 use Rattle.std.specs.Prelude.{codes}
 use Rattle.text_lines.specs.Lines.{numbered_lines}
 use Rattle.text_lines.specs.Words.{is_clean, words_of}
-use Rattle.text_lines.specs.Numbers.{number_of}
+use Rattle.text_lines.specs.Numbers.{number_of, numeral}
 
 -- "go" CR LF, LF, "p 2": three lines, and the CR is none of the first
 three_lines : numbered_lines (codes "go" ++ 13 ∷ 10 ∷ 10 ∷ codes "p 2") ≡ (1, codes "go") ∷ (2, []) ∷ (3, codes "p 2") ∷ []
@@ -41,3 +41,10 @@ signed = refl
 
 no_digit : number_of [] ≡ None
 no_digit = refl
+
+-- letters of either case are hexadecimal digits
+letters : numeral 16 (codes "0fF") ≡ Some 255
+letters = refl
+
+no_hexadecimal_digit : numeral 16 (codes "fg") ≡ None
+no_hexadecimal_digit = refl

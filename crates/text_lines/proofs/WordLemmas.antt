@@ -76,7 +76,8 @@ in_front : (bytes : List ℕ) → 0 < length bytes → is_in_word (get_or bytes 
 in_front [] some word = absurd (omega arith)
 in_front (b ∷ bytes) some word = subst (λ t. 0 < cond t (1 + position_or_len is_blank bytes) 0) (sym word) (omega arith)
 
--- the first word: `start` is the place of the first byte that is no blank, and `end` that of the first blank behind it
+-- the first word: `start` is the place of the first byte that is no blank, and `end` that of the
+-- first blank behind it
 pub words_some : (bytes : List ℕ) (start : ℕ) → Some start ≡ position is_in_word bytes → (end : Option ℕ) → end ≡ position is_blank (drop start bytes)
     → let rest = drop start bytes in let n = unwrap_or end (length rest) in words_between_blanks bytes ≡ take n rest ∷ words_between_blanks (drop n rest)
 words_some bytes start h end e =

@@ -1,13 +1,23 @@
--- The number that a word writes.
+-- The numbers that words write.
 use Rattle.std.specs.Prelude.{ℕ, Bool, ◌&&◌, not, ◌==◌, nat_le, List, length, Option, Some, None, if◌then◌else◌}
-use Rattle.std.specs.Str.{all_ascii_digits}
+use Rattle.std.specs.Char.{is_digit}
+use Rattle.std.specs.List.{list_all}
 use Rattle.std.specs.Str.Parse.{digits_value}
 
--- the word is decimal digits, at least one; zeros may lead, and no sign may
-abbrev pub is_numeral : List ℕ → Bool
-is_numeral word = not (length word == 0) && all_ascii_digits word
+-- the word is digits of a radix, at least one; zeros may lead, no sign may, and letters of either
+-- case are digits above nine
+abbrev pub is_numeral : ℕ → List ℕ → Bool
+is_numeral radix word = not (length word == 0) && list_all (λ byte. is_digit byte radix) word
 
--- the number that a word writes in decimal, if it is one of at most 4,294,967,295
+-- the number that a word writes in digits of a radix, if it is one of at most `most`
+abbrev pub numeral_within : (radix most : ℕ) → List ℕ → Option ℕ
+numeral_within radix most word =
+    if is_numeral radix word && nat_le (digits_value radix word) most then Some (digits_value radix word) else None
+
+-- the number that a word writes in digits of a radix, if it is one of 64 bits
+abbrev pub numeral : ℕ → List ℕ → Option ℕ
+numeral radix word = numeral_within radix 18446744073709551615 word
+
+-- the number that a word writes in decimal, if it is one of 32 bits
 abbrev pub number_of : List ℕ → Option ℕ
-number_of word =
-    if is_numeral word && nat_le (digits_value 10 word) 4294967295 then Some (digits_value 10 word) else None
+number_of word = numeral_within 10 4294967295 word

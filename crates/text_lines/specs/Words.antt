@@ -10,7 +10,8 @@ begins_comment byte = byte == 35
 abbrev pub is_blank : ℕ → Bool
 is_blank byte = byte == 32 || byte == 9
 
--- the bytes that may stand outside comments: tabs, and the printable ASCII characters from the space to `~`
+-- the bytes that may stand outside comments: tabs, and the printable ASCII characters from the
+-- space to `~`
 abbrev pub is_allowed : ℕ → Bool
 is_allowed byte = byte == 9 || (nat_le 32 byte && nat_le byte 126)
 

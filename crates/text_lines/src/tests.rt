@@ -71,3 +71,20 @@ fn numbers_are_decimal_digits_that_fit(rt: HostRuntime) {
         assert_eq!(rt; parse_number(word), expected);
     }
 }
+
+#[test]
+fn digits_of_a_radix_are_letters_above_nine(rt: HostRuntime) {
+    let rows: [(&[u8], Option<u64>); 8] = [
+        (b"0", Some(0)),
+        (b"ff", Some(255)),
+        (b"00fF", Some(255)),
+        (b"ffffffffffffffff", Some(18_446_744_073_709_551_615)),
+        (b"10000000000000000", None),
+        (b"g", None),
+        (b"0x1", None),
+        (b"", None),
+    ];
+    for (word, expected) in rows {
+        assert_eq!(rt; parse_digits(16, word), expected);
+    }
+}

@@ -37,7 +37,8 @@ impl<'a> Line<'a> {
             .all(|byte| matches!(*byte, b'\t' | b' '..=b'~'))
     }
 
-    /// The words before the line's comment, first to last. In a line that isn't clean they hold its bad bytes.
+    /// The words before the line's comment, first to last. In a line that isn't clean they hold its
+    /// bad bytes.
     pub fn words(&self) -> Words<'a>
         ensures words { result ≡ words_of self.now.bytes.now }
         ensures bound { length result ≤ length self.now.bytes.now }
@@ -56,8 +57,8 @@ impl<'a> Line<'a> {
     }
 }
 
-/// The lines of a text that are left to read: an iterator, which contracts see as the list of these lines, each
-/// with its number.
+/// The lines of a text that are left to read: an iterator, which contracts see as the list of these
+/// lines, each with its number.
 #[derive(Drop)]
 pub struct Lines<'a> {
     rest: &'a [u8],
@@ -76,8 +77,8 @@ impl<'a> Model for Lines<'a> {
 impl<'a> Lines<'a> {
     ghost use Rattle.text_lines.specs.Lines.{numbered_lines};
 
-    /// The lines of `text`, first to last. A text of fewer than `u32::MAX` bytes has so few lines that each of
-    /// their numbers, and the number behind the last, fits a `u32`.
+    /// The lines of `text`, first to last. A text of fewer than `u32::MAX` bytes has so few lines
+    /// that each of their numbers, and the number behind the last, fits a `u32`.
     #[tactic(auto, using(crate::proofs::LineLemmas::length_of_numbered_lines, crate::proofs::LineLemmas::lines_within))]
     pub fn new(text: &'a [u8]) -> Self
         requires { length text.now < u32.MAX }
@@ -90,7 +91,8 @@ impl<'a> Lines<'a> {
         }
     }
 
-    /// The same of a text of any length that has fewer than `u32::MAX` lines.
+    /// The lines of `text`, first to last, where there are fewer than `u32::MAX` of them. The text
+    /// may have any length.
     #[tactic(auto, using(crate::proofs::LineLemmas::length_of_numbered_lines))]
     pub fn with_few_lines(text: &'a [u8]) -> Self
         requires { length (lines text.now) < u32.MAX }

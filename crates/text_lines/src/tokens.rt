@@ -6,7 +6,8 @@ ghost use Rattle.text_lines.specs.Words.{is_blank, words_between_blanks};
 use std::iter::FusedIterator;
 use std::marker::Model;
 
-/// The words of a line that are left to read: an iterator, which contracts see as the list of these words.
+/// The words of a line that are left to read: an iterator, which contracts see as the list of these
+/// words.
 #[derive(Drop)]
 pub struct Words<'a> {
     rest: &'a [u8],

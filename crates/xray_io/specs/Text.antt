@@ -15,7 +15,8 @@ loan_of text = text.sink.ghost_name
 abbrev pub waiting : {S : Type 0} → Text S → List ℕ
 waiting text = text.waiting
 
--- Since its sink was at `start`, the Text was given these bytes: a front was written, the rest waits.
+-- Since its sink was at `start`, the Text was given these bytes: a front was written, the rest
+-- waits.
 pub record Gathers {S : Type 0} (written : S → Option (List ℕ)) (start : Option (List ℕ)) (text : Text S) (given : List ℕ) : Type 0 where
   pub front : List ℕ
   pub told : Adds start (written (sink_of text)) front

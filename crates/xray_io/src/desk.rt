@@ -1,4 +1,4 @@
-// Named inputs and outputs.
+//! Named inputs and outputs.
 ghost use Rattle.std.specs.Prelude.{◌≡◌, ◌≢◌, ℕ, ◌≤◌, ◌<◌, [], List, length, take, drop, IfOk, OnOk, OnErr, IsErrOf};
 ghost use Rattle.xray_io.specs.Desk.{Entry, Absent, Holds, empty_entry, longer_entry};
 ghost use Rattle.xray_io.specs.Faults.{Rose};

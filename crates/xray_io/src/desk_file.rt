@@ -1,4 +1,4 @@
-// A name of a desk as a sink.
+//! A name of a desk as a sink.
 ghost use Rattle.std.specs.Prelude.{◌≡◌};
 
 use crate::{Desk, Failed, Sink};

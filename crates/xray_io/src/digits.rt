@@ -1,4 +1,4 @@
-// Hexadecimal digits.
+//! Hexadecimal digits.
 ghost use Rattle.std.specs.Prelude.{◌≡◌, ◌+◌, ◌<◌, false, length, drop};
 ghost use Rattle.std.specs.Fmt.{digit_glyph, digits};
 

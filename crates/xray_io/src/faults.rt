@@ -1,4 +1,4 @@
-// What a device and the calls over it may answer in place of their result.
+//! What a device and the calls over it may answer in place of their result.
 ghost use Rattle.std.specs.Prelude.{◌≡◌};
 ghost use Rattle.xray_io.specs.declared.faults.ReadError.TheVariants.{NoMemory};
 

@@ -1,12 +1,13 @@
-// Where an order of threads can be set from outside.
+//! Where an order of threads can be set from outside.
 
-/// What a traced thread and the patcher pass before each of their steps. A gate may wait or count;
-/// it answers nothing and changes no result. Threads share it.
+/// What a traced thread passes before each of its passings, and the patcher before each of its
+/// stores. A gate may wait or count; it answers nothing and changes no result. Threads share it.
 pub trait Gate {
     /// Thread `thread` (from 1) is about to make its passing `passing` (from 0) of a sled.
     fn before(&self, thread: u32, passing: u32);
 
-    /// The patcher is about to make micro step `place` (from 0).
+    /// The patcher is about to make the store at micro step `place`, counted from 0 among all micro
+    /// steps. Awaits pass no gate.
     fn before_store(&self, place: u64);
 }
 

@@ -1,4 +1,4 @@
-// Laws of texts, for functions that add to a text by several calls.
+//! Laws of texts, for functions that add to a text by several calls.
 ghost use Rattle.xray_io.specs.Text.{GainsNothing, GainsAddUp, BreaksOnTheWay};
 
 use crate::Sink;

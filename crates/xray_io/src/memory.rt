@@ -1,14 +1,14 @@
-// A desk and a sink in memory, which fail at the calls that they are told.
-ghost use Rattle.std.specs.Prelude.{◌≡◌, ◌≢◌, ◌⊎◌, ℕ, ◌+◌, ◌-◌, ◌^◌, ◌≤◌, ◌<◌, ◌↔◌, [], ◌++◌, List, Option, Some, None, length, take, drop, min, option_map, IfOk, IfSome, OnOk, OnErr, IsErr, IsErrOf, IsNone, IsTrue, Contains};
-ghost use Rattle.xray_io.specs.Desk.{Entry, Absent, Holds, empty_entry, longer_entry};
-ghost use Rattle.xray_io.specs.Faults.{Rose};
+//! A desk and a sink in memory, which fail at the calls that they are told.
+ghost use Rattle.std.specs.Prelude.{◌≡◌, ◌≢◌, ◌⊎◌, ℕ, ◌+◌, ◌-◌, ◌≤◌, ◌<◌, ◌↔◌, [], ◌++◌, List, Option, Some, None, length, take, drop, min, IfOk, IfSome, OnOk, OnErr, IsErr, IsErrOf, IsNone, IsTrue, Contains};
+ghost use Rattle.xray_io.specs.Desk.{Absent, Holds, empty_entry, longer_entry};
+ghost use Rattle.xray_io.specs.Faults.{Rose, raised};
 ghost use Rattle.xray_io.specs.Sink.{Adds};
 
 use crate::{Desk, Failed, NoMemory, ReadFail, Sink};
 use std::alloc::Global;
 use std::collections::BTreeMap;
 
-// The calls of a device, and which of them are to fail, by their numbers from 0.
+/// The calls of a device, and which of them are to fail, by their numbers from 0.
 #[derive(Drop)]
 struct Calls {
     failing: Vec<u64>,
@@ -16,10 +16,10 @@ struct Calls {
 }
 
 impl Calls {
-    // Counts a call, and answers whether it is to fail.
-    fn is_next_to_fail(&mut self) -> bool
+    /// Counts a call, and answers whether it is to fail.
+    fn count_call(&mut self) -> bool
         ensures told { IsTrue result ↔ Contains self.old.failing.items self.old.made }
-        ensures counted { self.new.made ≡ min (self.old.made + 1) (2 ^ 64 - 1) }
+        ensures counted { self.new.made ≡ raised self.old.made }
         ensures failing { self.new.failing ≡ self.old.failing }
     {
         let number = self.made;
@@ -28,8 +28,8 @@ impl Calls {
     }
 }
 
-/// A desk in memory. It fails at the calls of `Desk` whose numbers it was made with, and there
-/// alone.
+/// A desk in memory. It fails at the calls of `Desk` whose numbers it was made with. `create` and
+/// `append` also fail where an allocation is refused, which it counts apart.
 #[derive(Drop)]
 pub struct MemDesk {
     alloc: Global,
@@ -99,7 +99,7 @@ impl MemDesk {
         self.refused
     }
 
-    // Puts bytes at the end of what a name holds, and begins a name that isn't held.
+    /// Puts bytes at the end of what a name holds, and begins a name that isn't held.
     fn add(&mut self, name: &str, bytes: &[u8]) -> Result<(), NoMemory>
         ensures added { OnOk result (
             desk_entry self.new name.now ≡ longer_entry (desk_entry self.old name.now) bytes.now) }
@@ -119,10 +119,10 @@ impl MemDesk {
         self.put(name, bytes)
     }
 
-    // Counts a failed write.
+    /// Counts a failed write.
     fn fail(&mut self) -> Failed
         ensures counted { self.new ≡ record self.old {
-          write_faults = min (self.old.write_faults + 1) (2 ^ 64 - 1);
+          write_faults = raised self.old.write_faults;
         } }
         ensures later { self.old.write_faults ≤ self.new.write_faults }
     {
@@ -130,11 +130,11 @@ impl MemDesk {
         Failed
     }
 
-    // Counts a write that failed since an allocation was refused.
+    /// Counts a write that failed since an allocation was refused.
     fn refuse(&mut self) -> Failed
         ensures counted { self.new ≡ record self.old {
-          write_faults = min (self.old.write_faults + 1) (2 ^ 64 - 1);
-          refused = min (self.old.refused + 1) (2 ^ 64 - 1);
+          write_faults = raised self.old.write_faults;
+          refused = raised self.old.refused;
         } }
         ensures later { self.old.write_faults ≤ self.new.write_faults }
     {
@@ -161,9 +161,9 @@ impl Desk for MemDesk {
         ensures count { IfOk result (λ n. (bytes : List ℕ) →
             desk_entry self.old name.now ≡ Holds bytes →
             n ≡ min (length bytes - from) (length buf.new)) }
-        ensures counted { desk_calls self.new ≡ min (desk_calls self.old + 1) (2 ^ 64 - 1) }
+        ensures counted { desk_calls self.new ≡ raised (desk_calls self.old) }
         ensures fault { IsErrOf result ReadFail.Failed →
-            desk_read_faults self.new ≡ min (desk_read_faults self.old + 1) (2 ^ 64 - 1) }
+            desk_read_faults self.new ≡ raised (desk_read_faults self.old) }
         ensures none { OnOk result (desk_read_faults self.new ≡ desk_read_faults self.old) }
         ensures failing { desk_failing self.new ≡ desk_failing self.old }
         ensures refused { desk_refused self.new ≡ desk_refused self.old }
@@ -185,7 +185,7 @@ impl Desk for MemDesk {
         ensures later { desk_read_faults self.old ≤ desk_read_faults self.new }
         ensures writes { desk_write_faults self.new ≡ desk_write_faults self.old }
     {
-        if self.calls.is_next_to_fail() {
+        if self.calls.count_call() {
             self.read_faults = self.read_faults.saturating_add(1);
             return Err(ReadFail::Failed);
         }
@@ -201,11 +201,11 @@ impl Desk for MemDesk {
         ensures not_asked { Contains (desk_failing self.old) (desk_calls self.old) →
             desk_refused self.new ≡ desk_refused self.old }
         ensures cause { OnErr result (Contains (desk_failing self.old) (desk_calls self.old)
-            ⊎ (desk_refused self.new ≡ min (desk_refused self.old + 1) (2 ^ 64 - 1))) }
+            ⊎ (desk_refused self.new ≡ raised (desk_refused self.old))) }
         ensures not_refused { OnOk result (desk_refused self.new ≡ desk_refused self.old) }
-        ensures counted { desk_calls self.new ≡ min (desk_calls self.old + 1) (2 ^ 64 - 1) }
+        ensures counted { desk_calls self.new ≡ raised (desk_calls self.old) }
         ensures fault { OnErr result (
-            desk_write_faults self.new ≡ min (desk_write_faults self.old + 1) (2 ^ 64 - 1)) }
+            desk_write_faults self.new ≡ raised (desk_write_faults self.old)) }
         ensures no_fault { OnOk result (desk_write_faults self.new ≡ desk_write_faults self.old) }
         ensures failing { desk_failing self.new ≡ desk_failing self.old }
 
@@ -219,7 +219,7 @@ impl Desk for MemDesk {
         ensures later { desk_write_faults self.old ≤ desk_write_faults self.new }
         ensures reads { desk_read_faults self.new ≡ desk_read_faults self.old }
     {
-        if self.calls.is_next_to_fail() {
+        if self.calls.count_call() {
             return Err(self.fail());
         }
         match self.put(name, b"") {
@@ -235,11 +235,11 @@ impl Desk for MemDesk {
         ensures not_asked { Contains (desk_failing self.old) (desk_calls self.old) →
             desk_refused self.new ≡ desk_refused self.old }
         ensures cause { OnErr result (Contains (desk_failing self.old) (desk_calls self.old)
-            ⊎ (desk_refused self.new ≡ min (desk_refused self.old + 1) (2 ^ 64 - 1))) }
+            ⊎ (desk_refused self.new ≡ raised (desk_refused self.old))) }
         ensures not_refused { OnOk result (desk_refused self.new ≡ desk_refused self.old) }
-        ensures counted { desk_calls self.new ≡ min (desk_calls self.old + 1) (2 ^ 64 - 1) }
+        ensures counted { desk_calls self.new ≡ raised (desk_calls self.old) }
         ensures fault { OnErr result (
-            desk_write_faults self.new ≡ min (desk_write_faults self.old + 1) (2 ^ 64 - 1)) }
+            desk_write_faults self.new ≡ raised (desk_write_faults self.old)) }
         ensures no_fault { OnOk result (desk_write_faults self.new ≡ desk_write_faults self.old) }
         ensures failing { desk_failing self.new ≡ desk_failing self.old }
 
@@ -255,7 +255,7 @@ impl Desk for MemDesk {
         ensures later { desk_write_faults self.old ≤ desk_write_faults self.new }
         ensures reads { desk_read_faults self.new ≡ desk_read_faults self.old }
     {
-        if self.calls.is_next_to_fail() {
+        if self.calls.count_call() {
             return Err(self.fail());
         }
         match self.add(name, bytes) {
@@ -265,8 +265,8 @@ impl Desk for MemDesk {
     }
 }
 
-// Copies the bytes from a place on to the front of the buffer, as far as they and it go, and
-// answers how many.
+/// Copies the bytes from a place on to the front of the buffer, as far as they and it go, and
+/// answers how many.
 fn copy_from(bytes: &[u8], from: u64, buf: &mut [u8]) -> usize
     ensures count { result ≡ min (length bytes.now - from) (length buf.old) }
     ensures copied { take result buf.new ≡ take result (drop from bytes.now) }
@@ -340,13 +340,13 @@ impl Sink for MemSink {
         ensures not_asked { Contains (sink_failing self.old) (sink_calls self.old) →
             sink_refused self.new ≡ sink_refused self.old }
         ensures cause { OnErr result (Contains (sink_failing self.old) (sink_calls self.old)
-            ⊎ (sink_refused self.new ≡ min (sink_refused self.old + 1) (2 ^ 64 - 1))) }
+            ⊎ (sink_refused self.new ≡ raised (sink_refused self.old))) }
         ensures not_refused { OnOk result (sink_refused self.new ≡ sink_refused self.old) }
         ensures all { OnOk result (sink_bytes self.new ≡ sink_bytes self.old ++ bytes.now) }
         ensures none { OnErr result (sink_bytes self.new ≡ sink_bytes self.old) }
-        ensures counted { sink_calls self.new ≡ min (sink_calls self.old + 1) (2 ^ 64 - 1) }
+        ensures counted { sink_calls self.new ≡ raised (sink_calls self.old) }
         ensures fault { OnErr result (
-            sink_faults self.new ≡ min (sink_faults self.old + 1) (2 ^ 64 - 1)) }
+            sink_faults self.new ≡ raised (sink_faults self.old)) }
         ensures no_fault { OnOk result (sink_faults self.new ≡ sink_faults self.old) }
         ensures failing { sink_failing self.new ≡ sink_failing self.old }
 
@@ -359,7 +359,7 @@ impl Sink for MemSink {
         ensures later { sink_faults self.old ≤ sink_faults self.new }
         ensures follows { Unit {0} }
     {
-        if self.calls.is_next_to_fail() {
+        if self.calls.count_call() {
             self.faults = self.faults.saturating_add(1);
             return Err(Failed);
         }

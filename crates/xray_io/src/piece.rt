@@ -1,4 +1,4 @@
-// The parts of a text.
+//! The parts of a text.
 
 /// A part of a text that is printed without taking memory.
 #[derive(Debug, Clone, Copy, PartialEq, Eq)]
@@ -7,6 +7,7 @@ pub enum Piece<'a> {
     Bytes(&'a [u8]),
     /// A number in decimal digits, without leading zeros.
     Number(u128),
-    /// A number in lower-case hexadecimal digits, with zeros in front up to `digits` of them.
+    /// A number in lower-case hexadecimal digits. Where these are fewer than `digits`, zeros stand
+    /// in front of them, so that all are `digits`.
     Hex { number: u64, digits: usize },
 }

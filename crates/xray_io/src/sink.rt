@@ -1,4 +1,4 @@
-// Outputs.
+//! Outputs.
 ghost use Rattle.std.specs.Prelude.{◌≡◌, ℕ, ◌≤◌, [], List, length, take, Option, IfOk, OnErr};
 ghost use Rattle.xray_io.specs.Faults.{Rose};
 ghost use Rattle.xray_io.specs.Sink.{Adds};

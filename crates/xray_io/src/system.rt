@@ -1,7 +1,8 @@
-// The edge to the system: files by name, and the standard streams. Their bytes are not told.
-ghost use Rattle.std.specs.Prelude.{◌≡◌, ℕ, ◌+◌, ◌-◌, ◌^◌, ◌≤◌, ◌<◌, [], length, take, min, string_bytes, None, IfOk, IfSome, OnOk, OnErr};
+//! The edge to the system: files by name, and the standard streams. Their bytes are not told.
+ghost use Rattle.std.specs.Prelude.{◌≡◌, ◌+◌, ◌-◌, ◌^◌, ◌≤◌, ◌<◌, [], length, take, min, string_bytes, None, IfOk, IfSome, OnOk, OnErr};
 ghost use Rattle.std.specs.Io.KnownBytes.{Appends};
 ghost use Rattle.xray_io.specs.Desk.{Untold};
+ghost use Rattle.xray_io.specs.Faults.{raised};
 
 use crate::{Desk, Failed, ReadFail, Sink};
 use std::fs::OpenOptions;
@@ -22,14 +23,14 @@ pub struct FileDesk<R: Files> {
     write_faults: u64,
 }
 
-// A file that was written up to its end.
+/// A file that was written up to its end.
 #[derive(Drop)]
 struct Written<F> {
     name: String,
     file: F,
 }
 
-// A file that was read up to a place.
+/// A file that was read up to a place.
 #[derive(Drop)]
 struct Opened<F> {
     name: String,
@@ -64,7 +65,7 @@ impl<R: Files + AllocGlobal> FileDesk<R> {
         Ok(Opened { name, file, place })
     }
 
-    // The file at this place: the one that was read last, where it is there, or else opened.
+    /// The file at this place: the one that was read last, where it is there, or else opened.
     fn take_opened(&mut self, name: &str, place: u64) -> io::Result<Opened<R::File>>
         ensures name { IfOk result (λ opened. string_bytes opened.name ≡ name.now) }
         ensures place { IfOk result (λ opened. opened.place ≡ place) }
@@ -92,7 +93,7 @@ impl<R: Files + AllocGlobal> FileDesk<R> {
         Ok(count)
     }
 
-    // Makes a file hold no bytes.
+    /// Makes a file hold no bytes.
     fn create_file(&self, name: &str) -> io::Result<Written<R::File>>
         ensures name { IfOk result (λ written. string_bytes written.name ≡ name.now) }
     {
@@ -101,7 +102,7 @@ impl<R: Files + AllocGlobal> FileDesk<R> {
         Ok(Written { name, file })
     }
 
-    // Opens a file at its end, and begins one that isn't there.
+    /// Opens a file at its end, and begins one that isn't there.
     fn open_end(&self, name: &str) -> io::Result<Written<R::File>>
         ensures name { IfOk result (λ written. string_bytes written.name ≡ name.now) }
     {
@@ -113,7 +114,7 @@ impl<R: Files + AllocGlobal> FileDesk<R> {
         Ok(Written { name, file })
     }
 
-    // The file at its end: the one that was written last, or else opened.
+    /// The file at its end: the one that was written last, or else opened.
     fn take_written(&mut self, name: &str) -> io::Result<Written<R::File>>
         ensures name { IfOk result (λ written. string_bytes written.name ≡ name.now) }
         ensures read_faults { self.new.read_faults ≡ self.old.read_faults }
@@ -125,10 +126,10 @@ impl<R: Files + AllocGlobal> FileDesk<R> {
         }
     }
 
-    // Counts a failed write.
+    /// Counts a failed write.
     fn fail_write(&mut self) -> Failed
         ensures write_faults { self.new.write_faults
-            ≡ min (self.old.write_faults + 1) (2 ^ 64 - 1) }
+            ≡ raised self.old.write_faults }
         ensures later { self.old.write_faults ≤ self.new.write_faults }
         ensures read_faults { self.new.read_faults ≡ self.old.read_faults }
     {
@@ -242,13 +243,13 @@ impl<P: Print> Sink for ErrSink<P> {
     ghost follows_along = { λ _ _ _ _ _. tt };
 }
 
-// Writes a front of the bytes. An error is a fault, and so is a write that took none of them.
+/// Writes a front of the bytes. An error is a fault, and so is a write that took none of them.
 fn write_some<W: Write>(to: &mut W, bytes: &[u8], faults: &mut u64) -> Result<usize, Failed>
     ensures within { IfOk result (λ n. n ≤ length bytes.now) }
     ensures taken { IfOk result (λ n.
         Appends (W.contents to.old) (W.contents to.new) (take n bytes.now)) }
     ensures goes_on { IfOk result (λ n. n ≡ 0 → bytes.now ≡ []) }
-    ensures failed { OnErr result (faults.new ≡ min (faults.old + 1) (2 ^ 64 - 1)) }
+    ensures failed { OnErr result (faults.new ≡ raised faults.old) }
     ensures none { OnOk result (faults.new ≡ faults.old) }
     ensures later { faults.old ≤ faults.new }
 {

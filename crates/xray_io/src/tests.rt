@@ -1,4 +1,4 @@
-// What no clause says: that calls succeed, the printed digits, and the edge to the system.
+//! What no clause says: that calls succeed, the printed digits, and the edge to the system.
 ghost use Rattle.std.specs.Prelude.{◌^◌, None};
 ghost use Rattle.xray_io.specs.Desk.{Untold};
 
@@ -300,8 +300,8 @@ fn numbers_are_printed_in_their_digits(rt: HostRuntime) -> Result<(), Fail> {
     Ok(())
 }
 
-// Parts around the 4,096 bytes that a text gathers: the whole, and what stands after the second
-// write failed.
+/// Parts around the 4,096 bytes that a text gathers: the whole, and what stands after the second
+/// write failed.
 #[test]
 fn a_long_text_is_whole_or_a_front_of_it(rt: HostRuntime) -> Result<(), Fail> {
     let alloc = rt.alloc();

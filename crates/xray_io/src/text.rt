@@ -1,13 +1,16 @@
-// Text, gathered on its way to a sink.
-ghost use Rattle.std.specs.Prelude.{◌≡◌, ℕ, ◌+◌, ◌<◌, ◌≤◌, ◌++◌, [], List, length, replicate, Option, OnOk, OnErr};
+//! Text, gathered on its way to a sink.
+ghost use Rattle.std.specs.Prelude.{◌≡◌, ℕ, ◌+◌, ◌<◌, ◌≤◌, [], List, length, replicate, Option, OnOk, OnErr};
 ghost use Rattle.std.specs.Fmt.{decimal};
 ghost use Rattle.xray_io.specs.Piece.{piece_text, text_of, hexadecimal};
 ghost use Rattle.xray_io.specs.Faults.{Rose};
 ghost use Rattle.xray_io.specs.Sink.{Adds, AddsPrefix};
 
 use crate::digits::{MOST_DIGITS, ZERO, put_digits};
-use crate::waiting::Waiting;
+use crate::waiting::{ROOM, Waiting};
 use crate::{Piece, Sink, WriteFault, write_all};
+
+/// The zeros that stand in front of a number, as many as one call adds.
+const ZEROS: [u8; MOST_DIGITS] = [ZERO; MOST_DIGITS];
 
 /// Text on its way to a sink. It is gathered in an array, so that the sink gets few writes and no
 /// memory is taken. After the last part, `done` writes what still waits; a `Text` that is
@@ -35,7 +38,7 @@ impl<'a, S: Sink> Text<'a, S> {
         }
     }
 
-    // Writes what waits.
+    /// Writes what waits.
     fn flush(&mut self) -> Result<(), WriteFault>
         ensures empty { OnOk result (waiting self.new ≡ []) }
         ensures gains { OnOk result (Gains S.written self.old self.new []) }
@@ -51,9 +54,9 @@ impl<'a, S: Sink> Text<'a, S> {
         Ok(())
     }
 
-    // Writes what waits, where there is no room for this many bytes beside it.
+    /// Writes what waits, where there is no room for this many bytes beside it.
     fn make_room(&mut self, len: usize) -> Result<(), WriteFault>
-        ensures room { OnOk result (4096 < length (waiting self.new) + len →
+        ensures room { OnOk result (ROOM < length (waiting self.new) + len →
             waiting self.new ≡ []) }
         ensures gains { OnOk result (Gains S.written self.old self.new []) }
         ensures breaks { OnErr result (Breaks S.written self.old (sink_of self.new) []) }
@@ -69,9 +72,9 @@ impl<'a, S: Sink> Text<'a, S> {
         Ok(())
     }
 
-    // Keeps bytes that there is room for, and writes bytes that there never is.
+    /// Keeps bytes that there is room for, and writes bytes that there never is.
     fn put(&mut self, bytes: &[u8]) -> Result<(), WriteFault>
-        requires room { 4096 < length (waiting self.old) + length bytes.now →
+        requires room { ROOM < length (waiting self.old) + length bytes.now →
             waiting self.old ≡ [] }
         ensures gains { OnOk result (Gains S.written self.old self.new bytes.now) }
         ensures breaks { OnErr result (Breaks S.written self.old (sink_of self.new) bytes.now) }
@@ -116,7 +119,7 @@ impl<'a, S: Sink> Text<'a, S> {
         self.bytes(digits.format(n).as_bytes())
     }
 
-    // Adds this many zeros.
+    /// Adds this many zeros, several at a time.
     fn zeros(&mut self, count: usize) -> Result<(), WriteFault>
         ensures gains { OnOk result (Gains S.written self.old self.new (replicate count ZERO)) }
         ensures breaks { OnErr result
@@ -127,13 +130,17 @@ impl<'a, S: Sink> Text<'a, S> {
         ensures follows { S.follows (sink_of self.old) (sink_of self.new) }
         ensures loan { loan_of self.new ≡ loan_of self.old }
     {
-        for done in 0..count {
-            self.bytes(&[ZERO])?;
+        let mut left = count;
+        'zeros: while left > 0 {
+            let some = left.min(ZEROS.len());
+            self.bytes(&ZEROS[..some])?;
+            left -= some;
         }
         Ok(())
     }
 
-    /// Adds a number in lower-case hexadecimal digits, with zeros in front up to `digits` of them.
+    /// Adds a number in lower-case hexadecimal digits. Where these are fewer than `digits`, zeros
+    /// stand in front of them, so that all are `digits`.
     pub fn hex(&mut self, n: u64, digits: usize) -> Result<(), WriteFault>
         ensures gains { OnOk result (Gains S.written self.old self.new (hexadecimal n digits)) }
         ensures breaks { OnErr result

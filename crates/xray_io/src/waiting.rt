@@ -1,10 +1,10 @@
-// Bytes that wait to be written, in an array.
-ghost use Rattle.std.specs.Prelude.{◌≡◌, ℕ, ◌+◌, ◌≤◌, [], ◌++◌, List, length, take};
+//! Bytes that wait to be written, in an array.
+ghost use Rattle.std.specs.Prelude.{◌≡◌, ◌+◌, ◌≤◌, [], ◌++◌, length};
 
 use std::marker::Model;
 
 /// How many bytes may wait.
-const ROOM: usize = 4096;
+pub const ROOM: usize = 4096;
 
 #[derive(Drop)]
 pub struct Waiting {
@@ -13,11 +13,14 @@ pub struct Waiting {
 }
 
 impl Model for Waiting {
+    ghost use Rattle.std.specs.Prelude.{◌≤◌, ℕ, List, take};
+    ghost use Rattle.xray_io.specs.declared.waiting.TheConstants.{ROOM};
+
     ghost Value = { List ℕ };
 
     ghost view = { λ waiting. take waiting.len waiting.bytes };
 
-    ghost invariant = { λ waiting. waiting.len ≤ 4096 };
+    ghost invariant = { λ waiting. waiting.len ≤ ROOM };
 }
 
 impl Waiting {
@@ -40,14 +43,14 @@ impl Waiting {
 
     /// How many more there is room for.
     pub fn room(&self) -> usize
-        ensures { result + length self.now ≡ 4096 }
+        ensures { result + length self.now ≡ ROOM }
     {
         ROOM - self.len
     }
 
     /// Adds bytes that there is room for.
     pub fn add(&mut self, more: &[u8])
-        requires { length self.old + length more.now ≤ 4096 }
+        requires { length self.old + length more.now ≤ ROOM }
         ensures { self.new ≡ self.old ++ more.now }
     {
         let end = self.len + more.len();

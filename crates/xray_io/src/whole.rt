@@ -1,4 +1,4 @@
-// A whole input, and a whole output.
+//! A whole input, and a whole output.
 ghost use Rattle.std.specs.Prelude.{◌≡◌, ◌≢◌, ◌⊎◌, ℕ, ◌+◌, ◌≤◌, ◌<◌, [], List, length, IfOk, OnOk, OnErr, IsErrOf};
 ghost use Rattle.xray_io.specs.Desk.{Absent, Holds, IsFront};
 ghost use Rattle.xray_io.specs.Faults.{Rose};
@@ -44,7 +44,7 @@ pub fn read_whole<D: Desk>(
     read_on(desk, name, limit, Vec::new(alloc), &mut piece)
 }
 
-// Reads to the end of the name, a piece at a time.
+/// Reads to the end of the name, a piece at a time.
 #[tactic(auto, using(crate::proofs::Reading::front_all, crate::proofs::Reading::front_short))]
 fn read_on<D: Desk>(
     desk: &mut D,
@@ -79,8 +79,8 @@ fn read_on<D: Desk>(
     Err(ReadError::TooLong)
 }
 
-// Reads on behind the bytes that were read, and adds what it got. It answers how many that was:
-// none is the end.
+/// Reads on behind the bytes that were read, and adds what it got. It answers how many that was:
+/// none is the end.
 #[tactic(auto, using(crate::proofs::Reading::front_more))]
 fn add_piece<D: Desk>(
     desk: &mut D,

@@ -1,5 +1,5 @@
 -- Assembler texts in their turn.
-use Rattle.std.proofs.Common.{◌≡◌, ◌≢◌, ◌⊎◌, ◌<◌, ◌≤◌, ℕ, List, [], ◌∷◌, length, Result, Ok, Err, Vec, inl, inr, refl, subst, arith}
+use Rattle.std.proofs.Common.{◌≡◌, ◌≢◌, ◌⊎◌, ◌<◌, ◌≤◌, ℕ, List, [], ◌∷◌, length, Result, Ok, Err, Vec, inl, inr, refl, sym, ap, ◌∙◌, arith}
 use Rattle.std.specs.declared.alloc.Global.{Global}
 use Rattle.std.specs.List.{slice_split}
 use Rattle.std.specs.Str.Lines.{lines, lines_of_parts}
@@ -9,7 +9,7 @@ use Rattle.std.specs.Prelude.{◌==◌}
 use Rattle.xray_io.specs.Desk.{Entry}
 use Rattle.asm_text.specs.declared.fault.AsmFault.{AsmFault}
 use Rattle.asm_text.specs.declared.fault.AsmFault.TheVariants as faults
-use Rattle.asm_text.specs.Assembling.{Assembles, seen}
+use Rattle.asm_text.specs.Assembling.{assembled, seen}
 use Rattle.xray_program.specs.declared.stop.Stop.{Stop}
 use Rattle.xray_program.specs.declared.stop.Stop.TheVariants as stops
 use Rattle.xray_program.specs.Faults.{asm_fault_text}
@@ -36,62 +36,50 @@ few_lines text within =
 abbrev pub Answer : Type 0
 Answer = Result (Vec ℕ Global) AsmFault
 
--- what an assembler answers of bytes
-pub record Assembler (bytes : List ℕ) (threshold : ℕ) (result : Answer) : Type 0 where
-  pub reads : (result ≡ Err faults.NoMemory) ⊎ Assembles bytes threshold (seen result)
-  pub exact : (verdict : Result (List ℕ) AsmFault) → Assembles bytes threshold verdict
-      → (result ≡ Err faults.NoMemory) ⊎ (seen result ≡ verdict)
+-- what an assembler answers of bytes: what they are assembled to, where memory suffices
+abbrev pub Assembler : List ℕ → ℕ → Answer → Type 0
+Assembler bytes threshold result = (result ≡ Err faults.NoMemory) ⊎ (seen result ≡ assembled bytes threshold)
+
+-- an image that was answered
+file_made : (threshold : ℕ) (bytes : List ℕ) (file : Vec ℕ Global) (result : Answer)
+    → Assembler bytes threshold result → result ≡ Ok file → assembled bytes threshold ≡ Ok file.items
+file_made threshold bytes file result (inl wanting) is = absurd cc
+file_made threshold bytes file result (inr made) is = sym made ∙ ap seen is
+
+-- a fault that was answered
+fault_made : (threshold : ℕ) (bytes : List ℕ) (fault : AsmFault) (result : Answer)
+    → Assembler bytes threshold result → result ≡ Err fault → fault ≢ faults.NoMemory → assembled bytes threshold ≡ Err fault
+fault_made threshold bytes fault result (inl wanting) is named = absurd (named cc)
+fault_made threshold bytes fault result (inr made) is named = sym made ∙ ap seen is
 
 -- a text that was assembled is refused for nothing, and has no other image
 pub gives_text : (threshold : ℕ) (entry : Entry) (bytes : List ℕ) (file : Vec ℕ Global) (result : Answer)
     → GivesBytes 4194304 entry bytes → Assembler bytes threshold result → result ≡ Ok file
     → Gives (text_form threshold) entry file.items
-gives_text threshold entry bytes file result given assembler is = record {
-  bytes = bytes;
-  held = given.held;
-  within = given.within;
-  reads = read_so assembler.reads;
-  only = λ other reads. only_one other (assembler.exact (Ok other) reads);
-  unrefused = λ refusal refused. never refused.0 (assembler.exact (Err refused.0) refused.1);
-}
-  where
-    shown : seen result ≡ Ok file.items
-    shown = rw is refl
-
-    read_so : (result ≡ Err faults.NoMemory) ⊎ Assembles bytes threshold (seen result) → Assembles bytes threshold (Ok file.items)
-    read_so (inl wanting) = absurd cc
-    read_so (inr reads) = subst (Assembles bytes threshold) shown reads
-
-    only_one : (other : List ℕ) → (result ≡ Err faults.NoMemory) ⊎ (seen result ≡ Ok other) → other ≡ file.items
-    only_one other (inl wanting) = absurd cc
-    only_one other (inr same) = cc
-
-    never : (fault : AsmFault) → (result ≡ Err faults.NoMemory) ⊎ (seen result ≡ Err fault) → ⊥
-    never fault (inl wanting) = cc
-    never fault (inr same) = cc
+gives_text threshold entry bytes file result given assembler is =
+    let made = file_made threshold bytes file result assembler is in
+    record {
+      bytes = bytes;
+      held = given.held;
+      within = given.within;
+      reads = made;
+      only = λ other reads. cc (made, reads);
+      unrefused = λ refusal refused. cc (made, refused.1);
+    }
 
 -- a text that is refused for a fault
 rejects_text : (threshold : ℕ) (entry : Entry) (bytes : List ℕ) (fault : AsmFault) (result : Answer)
     → GivesBytes 4194304 entry bytes → Assembler bytes threshold result → result ≡ Err fault → fault ≢ faults.NoMemory
     → Rejects (text_form threshold) entry (asm_fault_text fault)
-rejects_text threshold entry bytes fault result given assembler is named = record {
-  bytes = bytes;
-  held = given.held;
-  within = given.within;
-  refused = (fault, read_so assembler.reads, refl);
-  none = λ file reads. none file (assembler.exact (Ok file) reads);
-}
-  where
-    shown : seen result ≡ Err fault
-    shown = rw is refl
-
-    read_so : (result ≡ Err faults.NoMemory) ⊎ Assembles bytes threshold (seen result) → Assembles bytes threshold (Err fault)
-    read_so (inl wanting) = absurd (named cc)
-    read_so (inr reads) = subst (Assembles bytes threshold) shown reads
-
-    none : (file : List ℕ) → (result ≡ Err faults.NoMemory) ⊎ (seen result ≡ Ok file) → ⊥
-    none file (inl wanting) = named cc
-    none file (inr same) = cc
+rejects_text threshold entry bytes fault result given assembler is named =
+    let made = fault_made threshold bytes fault result assembler is named in
+    record {
+      bytes = bytes;
+      held = given.held;
+      within = given.within;
+      refused = (fault, made, refl);
+      none = λ file reads. cc (made, reads);
+    }
 
 -- the stop that a fault comes to
 pub fails_text : (threshold : ℕ) (held : List ℕ → Entry) (name : List ℕ) (before now : ℕ) (bytes : List ℕ) (fault : AsmFault)

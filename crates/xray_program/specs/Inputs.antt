@@ -9,7 +9,7 @@ use Rattle.xray_image.specs.FirstRun.{IsFirstRun}
 use Rattle.xray_image.specs.declared.fault.ImageFault.{ImageFault}
 use Rattle.xray_image.specs.Table.{ReadsAs}
 use Rattle.asm_text.specs.declared.fault.AsmFault.{AsmFault}
-use Rattle.asm_text.specs.Assembling.{Assembles}
+use Rattle.asm_text.specs.Assembling.{assembled}
 use Rattle.xray_program.specs.Faults.{asm_fault_text, fault_text}
 use Rattle.patch_script.specs.declared.command.Command.{Command}
 use Rattle.step_sim.specs.declared.turns.Turns.{Turns}
@@ -66,14 +66,14 @@ first_run_form = record {
 -- an assembler text is refused for its first fault
 abbrev pub RefusesText : ℕ → List ℕ → List ℕ → Type 0
 RefusesText threshold bytes refusal =
-    (fault : AsmFault) × Assembles bytes threshold (Err fault) × (refusal ≡ asm_fault_text fault)
+    (fault : AsmFault) × (assembled bytes threshold ≡ Err fault) × (refusal ≡ asm_fault_text fault)
 
 -- the text of `asm`, which reads as the image file that it is assembled to
 abbrev pub text_form : ℕ → Form (List ℕ)
 text_form threshold = record {
   kind = codes "text";
   limit = 4194304;
-  Reads = λ bytes file. Assembles bytes threshold (Ok file);
+  Reads = λ bytes file. assembled bytes threshold ≡ Ok file;
   Refuses = RefusesText threshold;
 }
 

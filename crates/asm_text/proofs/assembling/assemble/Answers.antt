@@ -29,17 +29,11 @@ file_verdict c =
     assembled_file c.args.text.now c.args.threshold said (all_in c.in-Ok-new.laid) c.in-Ok-new.ensures.lines c.in-Ok.ensures.reads.0 whole found
     ∙ ap (λ bytes. Ok bytes) (sym c.in-Ok-write_file.ensures)
 
-pub returns-in-Err-resolve-clause-reads : goal.returns-in-Err-resolve-clause-reads
-returns-in-Err-resolve-clause-reads c = inr (sym (fault_verdict (goal.at.returns-in-Err-resolve-clause-reads c).In-Err-resolve))
+pub returns-in-Err-resolve-clause-made : goal.returns-in-Err-resolve-clause-made
+returns-in-Err-resolve-clause-made c = inr (sym (fault_verdict (goal.at.returns-in-Err-resolve-clause-made c).In-Err-resolve))
 
-pub returns-in-Err-resolve-clause-exact : goal.returns-in-Err-resolve-clause-exact
-returns-in-Err-resolve-clause-exact c = λ verdict is. inr (sym (fault_verdict (goal.at.returns-in-Err-resolve-clause-exact c).In-Err-resolve) ∙ sym is)
-
-pub returns-in-Ok-write_file-clause-reads : goal.returns-in-Ok-write_file-clause-reads
-returns-in-Ok-write_file-clause-reads c = inr (sym (file_verdict (goal.at.returns-in-Ok-write_file-clause-reads c).In-Ok-write_file))
-
-pub returns-in-Ok-write_file-clause-exact : goal.returns-in-Ok-write_file-clause-exact
-returns-in-Ok-write_file-clause-exact c = λ verdict is. inr (sym (file_verdict (goal.at.returns-in-Ok-write_file-clause-exact c).In-Ok-write_file) ∙ sym is)
+pub returns-in-Ok-write_file-clause-made : goal.returns-in-Ok-write_file-clause-made
+returns-in-Ok-write_file-clause-made c = inr (sym (file_verdict (goal.at.returns-in-Ok-write_file-clause-made c).In-Ok-write_file))
 
 -- the program
 pub returns-in-Ok-write_file-clause-accepted : goal.returns-in-Ok-write_file-clause-accepted

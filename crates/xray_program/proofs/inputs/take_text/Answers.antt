@@ -1,4 +1,4 @@
-use Rattle.xray_program.proofs.TextTurns.{Assembler, few_lines, gives_text, fails_text}
+use Rattle.xray_program.proofs.TextTurns.{few_lines, gives_text, fails_text}
 use Rattle.xray_program.proofs.inputs.take_text.Goals as goal
 
 pub assemble-requires : goal.assemble-requires
@@ -9,13 +9,9 @@ assemble-requires g c =
 pub returns-in-Ok-clause-gives : goal.returns-in-Ok-clause-gives
 returns-in-Ok-clause-gives g c =
     let given = rw (← c.deref.ensures.value) at c.in_ok-bytes.ensures.gives in
-    let assembler : Assembler c.deref.result.now c.args.threshold c.assemble.result =
-    record { reads = c.assemble.ensures.reads; exact = c.assemble.ensures.exact } in
-    gives_text c.args.threshold _ _ _ _ given assembler c.in-Ok.is
+    gives_text c.args.threshold _ _ _ _ given c.assemble.ensures.made c.in-Ok.is
 
 pub returns-clause-fails : goal.returns-clause-fails
 returns-clause-fails g c =
     let given = rw (← c.deref.ensures.value) at c.in_ok-bytes.ensures.gives in
-    let assembler : Assembler c.deref.result.now c.args.threshold c.assemble.result =
-    record { reads = c.assemble.ensures.reads; exact = c.assemble.ensures.exact } in
-    fails_text c.args.threshold (g.D.Desk.held c.args.desk.now) c.args.name.now _ _ _ _ _ _ given assembler c.in-Err.is c.text_stop.ensures
+    fails_text c.args.threshold (g.D.Desk.held c.args.desk.now) c.args.name.now _ _ _ _ _ _ given c.assemble.ensures.made c.in-Err.is c.text_stop.ensures
