@@ -1,6 +1,13 @@
-//! Replays: a stated order of loads and stores.
+//! Schedules, and replays: a stated order of loads and stores.
 #![tactic(auto)]
 
+mod fault;
+mod line;
+mod schedule;
+#[cfg(test)]
+mod tests;
 mod turns;
 
+pub use fault::ScheduleFault;
+pub use schedule::{Schedule, read_schedule};
 pub use turns::Turns;
