@@ -1,2 +1,4 @@
 pub mod Replay
 pub mod Along
+pub mod Schedules
+pub mod Readings

@@ -59,7 +59,7 @@ fn an_input_that_is_not_of_the_form_is_refused_in_its_turn(rt: HostRuntime) -> R
         &IMAGE,
         SCRIPT,
         "t 1",
-        "xray: c: schedule NotYet\n",
+        "xray: c: schedule Syntax 1\n",
         "isc",
     )?;
     assert_refused(
@@ -67,7 +67,7 @@ fn an_input_that_is_not_of_the_form_is_refused_in_its_turn(rt: HostRuntime) -> R
         &IMAGE,
         SCRIPT,
         "t 2 1",
-        "xray: c: schedule NotYet\n",
+        "xray: c: schedule Thread 1\n",
         "isc",
     )
 }

@@ -142,12 +142,12 @@ simulated_by : (held : List ℕ → Entry) (i s c image script schedule : List �
 simulated_by held i s c image script schedule outputs text old new image_held script_held schedule_held comes adds =
     let absent : List ℕ → Type 0 = λ name. held name ≡ Absent in
     let first = went_on first_run_form absent held i
-    (λ program. Take script_form absent held s (λ commands. Take schedule_form absent held c (Printing program commands)))
+    (λ program. Take script_form absent held s (λ commands. Take (schedule_form 1) absent held c (Printing program commands)))
     outputs text image image_held comes in
     let second = went_on script_form absent held s
-    (λ commands. Take schedule_form absent held c (Printing first.value commands))
+    (λ commands. Take (schedule_form 1) absent held c (Printing first.value commands))
     outputs text script script_held first.next in
-    let third = went_on schedule_form absent held c
+    let third = went_on (schedule_form 1) absent held c
     (Printing first.value second.value) outputs text schedule schedule_held second.next in
     let printed = third.next in
     let is : text ≡ printed.0 = done_alike outputs [] text printed.0 printed.2 in

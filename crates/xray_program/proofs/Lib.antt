@@ -10,7 +10,7 @@ pub mod NumberLemmas
 pub mod OutputNames
 pub mod Outputting
 pub mod PlainThreads
-pub mod Schedules
+pub mod ScheduleTurns
 pub mod Scripting
 pub mod Scripts
 pub mod SimTurns

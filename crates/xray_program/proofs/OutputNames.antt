@@ -43,11 +43,11 @@ outputs_are_named : (fails : List ℕ → Type 0) (held : List ℕ → Entry) (c
     → names_of outputs ≡ outputs_of command
 outputs_are_named fails held (Sim i s c) outputs text comes =
     let first = done_with first_run_form fails held i
-    (λ program. Take script_form fails held s (λ commands. Take schedule_form fails held c (Printing program commands)))
+    (λ program. Take script_form fails held s (λ commands. Take (schedule_form 1) fails held c (Printing program commands)))
     outputs text comes in
     let second = done_with script_form fails held s
-    (λ commands. Take schedule_form fails held c (Printing first.0 commands)) outputs text first.1 in
-    let third = done_with schedule_form fails held c (Printing first.0 second.0) outputs text second.1 in
+    (λ commands. Take (schedule_form 1) fails held c (Printing first.0 commands)) outputs text first.1 in
+    let third = done_with (schedule_form 1) fails held c (Printing first.0 second.0) outputs text second.1 in
     named_alike outputs [] text third.1.0 third.1.2
 outputs_are_named fails held (Plain i options) outputs text comes =
     let first = done_with image_form fails held i (Plainly options) outputs text comes in

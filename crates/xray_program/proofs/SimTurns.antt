@@ -1,5 +1,5 @@
 -- What comes of `sim` by the turns of its three inputs.
-use Rattle.std.specs.List.{All, AllByRecursion}
+use Rattle.std.specs.List.{All}
 use Rattle.std.proofs.Common.{◌≡◌, ◌<◌, ℕ, List, [], ◌∷◌, length, inl, refl, sym, ap, arith}
 use Rattle.std.proofs.lemmas.List.{length-map}
 use Rattle.std.proofs.lemmas.List.Elements.{All-from_recursion}
@@ -7,13 +7,11 @@ use Rattle.xray_io.specs.Desk.{Entry, Absent}
 use Rattle.xray_image.specs.Program.{Program}
 use Rattle.patch_script.specs.declared.command.Command.{Command}
 use Rattle.step_sim.specs.declared.turns.Turns.{Turns}
-use Rattle.step_sim.specs.declared.turns.Turns.TheVariants.{Thread, Patcher}
 use Rattle.xray_image.specs.FirstRun.{IsFirstRun}
 use Rattle.xray_program.specs.declared.stop.Stop.{Stop}
 use Rattle.xray_program.specs.FirstRun.{first_script, SimPrints}
-use Rattle.xray_program.specs.Inputs.{first_run_form, script_form, schedule_form, ReadsSchedule, SayAll, spoken_lines}
+use Rattle.xray_program.specs.Inputs.{first_run_form, script_form, schedule_form}
 use Rattle.xray_program.specs.Meaning.{Outcome, Done, Comes, Take, TellsAll, status_of}
-use Rattle.xray_program.specs.Standing.{AreOfOneThread}
 use Rattle.xray_program.specs.Stops.{stop_status}
 use Rattle.xray_program.specs.Takes.{Gives, Fails, Stops, IsAnswerSoFar}
 use Rattle.xray_program.specs.Words.{Sim}
@@ -25,7 +23,7 @@ Prints program commands turns outcome = (text : List ℕ) × SimPrints program c
 
 -- what comes of a script
 abbrev AfterScript : (List ℕ → Entry) → List ℕ → (List ℕ → Type 0) → Program → List Command → Outcome → Type 0
-AfterScript held c fails program commands = Take schedule_form fails held c (Prints program commands)
+AfterScript held c fails program commands = Take (schedule_form 1) fails held c (Prints program commands)
 
 -- what comes of an image
 abbrev AfterImage : (List ℕ → Entry) → List ℕ → List ℕ → (List ℕ → Type 0) → Program → Outcome → Type 0
@@ -34,12 +32,12 @@ AfterImage held s c fails program = Take script_form fails held s (AfterScript h
 -- all three inputs gave a value
 pub ready : (fails : List ℕ → Type 0) (held : List ℕ → Entry) (i s c : List ℕ) (program : Program) (turns : List Turns)
     (text : List ℕ) → Gives first_run_form (held i) program → Gives script_form (held s) first_script
-    → Gives schedule_form (held c) turns → SimPrints program first_script turns text
+    → Gives (schedule_form 1) (held c) turns → SimPrints program first_script turns text
     → Comes fails held (Sim i s c) (Done [] text)
 ready fails held i s c program turns text image script schedule prints =
     gives_on first_run_form fails held i (AfterImage held s c fails) program (Done [] text) image
     (gives_on script_form fails held s (AfterScript held c fails program) first_script (Done [] text) script
-    (gives_on schedule_form fails held c (Prints program first_script) turns (Done [] text) schedule
+    (gives_on (schedule_form 1) fails held c (Prints program first_script) turns (Done [] text) schedule
     (text, prints, refl)))
 
 -- the first of them stopped the call, the second, or the third
@@ -58,12 +56,12 @@ stops_at_script held i s c program before now stop image fails =
 
 pub stops_at_schedule : (held : List ℕ → Entry) (i s c : List ℕ) (program : Program) (before now : ℕ) (stop : Stop)
     → Gives first_run_form (held i) program → Gives script_form (held s) first_script
-    → Fails schedule_form held c before now stop
+    → Fails (schedule_form 1) held c before now stop
     → Stops (λ fails. Comes fails held (Sim i s c)) held before now stop
 stops_at_schedule held i s c program before now stop image script fails =
     stops_on first_run_form held i (AfterImage held s c) program before now stop image
     (stops_on script_form held s (λ fails. AfterScript held c fails program) first_script before now stop script
-    (stops_here schedule_form held c (λ fails. Prints program first_script) before now stop fails))
+    (stops_here (schedule_form 1) held c (λ fails. Prints program first_script) before now stop fails))
 
 -- what is meant, by how far the inputs gave values
 meant_script : (held : List ℕ → Entry) (i s c : List ℕ) (program : Program) (outcome : Outcome) → TellsAll held
@@ -96,37 +94,23 @@ answers_at_script held i s c program before now stop outcome told image fails me
 
 pub answers_at_schedule : (held : List ℕ → Entry) (i s c : List ℕ) (program : Program) (before now : ℕ) (stop : Stop)
     (outcome : Outcome) → TellsAll held → Gives first_run_form (held i) program → Gives script_form (held s) first_script
-    → Fails schedule_form held c before now stop
+    → Fails (schedule_form 1) held c before now stop
     → Comes (λ name. held name ≡ Absent) held (Sim i s c) outcome → IsAnswerSoFar before now outcome (stop_status stop)
 answers_at_schedule held i s c program before now stop outcome told image script fails meant =
-    answers_here schedule_form held c (Prints program first_script) before now stop outcome (told c) fails
+    answers_here (schedule_form 1) held c (Prints program first_script) before now stop outcome (told c) fails
     (meant_schedule held i s c program outcome told image script meant)
 
 -- all inputs gave values, so the status 0 answers what is meant
 pub answers_ready : (held : List ℕ → Entry) (i s c : List ℕ) (program : Program) (turns : List Turns) (before now : ℕ)
     (outcome : Outcome) → TellsAll held → Gives first_run_form (held i) program → Gives script_form (held s) first_script
-    → Gives schedule_form (held c) turns
+    → Gives (schedule_form 1) (held c) turns
     → Comes (λ name. held name ≡ Absent) held (Sim i s c) outcome → IsAnswerSoFar before now outcome 0
 answers_ready held i s c program turns before now outcome told image script schedule meant =
-    let comes = comes_on schedule_form held c (Prints program first_script) turns outcome (told c) schedule
+    let comes = comes_on (schedule_form 1) held c (Prints program first_script) turns outcome (told c) schedule
     (meant_schedule held i s c program outcome told image script meant) in
     inl (sym (ap status_of comes.2))
 
 -- ---- what the replay asks of the inputs
-
--- the turns of a schedule are the patcher's and thread 1's
-one_thread_all : (spoken : List (List (List ℕ))) (schedule : List Turns) → SayAll spoken schedule
-    → AllByRecursion AreOfOneThread schedule
-one_thread_all [] [] say = tt
-one_thread_all [] (turns ∷ schedule) say = absurd say
-one_thread_all (words ∷ spoken) [] say = absurd say
-one_thread_all (words ∷ spoken) (Thread thread count ∷ schedule) (says, rest) =
-    (says.5, one_thread_all spoken schedule rest)
-one_thread_all (words ∷ spoken) (Patcher count ∷ schedule) (says, rest) = (tt, one_thread_all spoken schedule rest)
-
-pub one_thread_turns : (bytes : List ℕ) (schedule : List Turns) → ReadsSchedule bytes schedule → All AreOfOneThread schedule
-one_thread_turns bytes schedule reads =
-    All-from_recursion AreOfOneThread schedule (one_thread_all (spoken_lines bytes) schedule reads.turns)
 
 -- an image of the form has two sleds
 two_sleds : (program : Program) → IsFirstRun program → length program.sleds ≡ 2

@@ -1,6 +1,6 @@
 -- The words of the lines that are left to read.
-use Rattle.std.proofs.Common.{◌≡◌, ◌≢◌, ◌==◌, ℕ, ◌+◌, List, [], ◌∷◌, length, map, not, Result, Ok, Err, Bool, false, IsTrue, refl, ap, arith}
-use Rattle.std.specs.Prelude.{filter, OnErr}
+use Rattle.std.proofs.Common.{◌≡◌, ◌≢◌, ◌==◌, ℕ, ◌+◌, List, [], ◌∷◌, length, map, not, Bool, false, IsTrue, refl, ap, arith}
+use Rattle.std.specs.Prelude.{filter}
 use Rattle.std.specs.List.{enumerate_from, list_all}
 use Rattle.std.specs.Str.Lines.{lines}
 use Rattle.std.proofs.lemmas.Bool.Decides.{nat_tests}
@@ -27,17 +27,9 @@ keep_words : (words : List (List ℕ)) (more : List (List (List ℕ))) → words
 keep_words [] more some = absurd (some refl)
 keep_words (word ∷ words) more some = grind (arith, nat_tests)
 
-drop_words : (words : List (List ℕ)) (more : List (List (List ℕ))) → words ≡ []
-    → filter (λ ws. not (length ws == 0)) (words ∷ more) ≡ filter (λ ws. not (length ws == 0)) more
-drop_words [] more none = refl
-drop_words (word ∷ words) more none = absurd cc
-
--- a line with words in front, and one without
+-- a line with words in front
 pub spoken-some : (line : List ℕ) (rest : List (List ℕ)) → words_of line ≢ [] → spoken (line ∷ rest) ≡ words_of line ∷ spoken rest
 spoken-some line rest some = keep_words (words_of line) (map words_of rest) some
-
-pub spoken-none : (line : List ℕ) (rest : List (List ℕ)) → words_of line ≡ [] → spoken (line ∷ rest) ≡ spoken rest
-spoken-none line rest none = drop_words (words_of line) (map words_of rest) none
 
 -- before the first line is read, all lines are left
 pub spoken_at_first : (text : List ℕ) (left : List (ℕ × List ℕ)) → left ≡ numbered_lines text → spoken_lines text ≡ spoken (lines_left left)
@@ -47,16 +39,6 @@ pub clean_at_first : (text : List ℕ) (left : List (ℕ × List ℕ)) → left 
     → list_all is_clean (lines text) ≡ list_all is_clean (lines_left left)
 clean_at_first text left e = rw (e, lines_left-enumerate_from 1 (lines text)) refl
 
--- what holds anyway holds of an error
-pub on_err : {A E P : Type 0} (r : Result A E) → P → OnErr r P
-on_err (Ok x) p = tt
-on_err (Err e) p = p
-
--- a clean line in front changes nothing
-pub clean_behind : (line : List ℕ) (left : List (ℕ × List ℕ)) (all : Bool) → IsTrue (is_clean line) → all ≡ list_all is_clean (line ∷ lines_left left)
-    → all ≡ list_all is_clean (lines_left left)
-clean_behind line left all clean e = grind (arith, common_steps)
-
--- and one that isn't clean makes all unclean
+-- a line in front that isn't clean makes all unclean
 pub unclean : (line : List ℕ) (left : List (ℕ × List ℕ)) (all : Bool) → is_clean line ≡ false → all ≡ list_all is_clean (line ∷ lines_left left) → IsTrue all → ⊥
 unclean line left all dirty e clean = grind (arith, common_steps)

@@ -1,20 +1,17 @@
 -- An input's turn, and what comes of a command by the turns of its inputs.
-use Rattle.std.specs.Prelude.{⊤, IfErr, IsErrAnd, IsOkAnd}
+use Rattle.std.specs.Prelude.{⊤, IfErr, IsErrAnd}
 use Rattle.std.proofs.Common.{◌≡◌, ◌≢◌, ◌⊎◌, ◌<◌, ◌≤◌, ◌+◌, ◌∙◌, ℕ, List, length, replicate, Result, Ok, Err, inl, inr, refl, sym, ap, arith, subst, codes}
 use Rattle.std.proofs.lemmas.List.{length-replicate}
 use Rattle.xray_io.specs.Desk.{Entry, Untold, Absent, Holds}
 use Rattle.xray_io.specs.Faults.{Rose}
 use Rattle.xray_io.specs.declared.faults.ReadError.{ReadError}
 use Rattle.xray_io.specs.declared.faults.ReadError.TheVariants as reading
-use Rattle.xray_program.specs.declared.early.Early.{Early}
-use Rattle.xray_program.specs.declared.early.Early.TheVariants as early
-use Rattle.xray_program.specs.declared.stop.Kind.{Kind}
 use Rattle.xray_program.specs.declared.stop.Stop.{Stop}
 use Rattle.xray_program.specs.declared.stop.Stop.TheVariants as stops
 use Rattle.xray_program.specs.Inputs.{Form, IsNotYet}
 use Rattle.xray_program.specs.Meaning.{Outcome, Unread, TooLong, Refused, Take, MayHold, status_of}
 use Rattle.xray_program.specs.Stops.{kind_text, refusal_text, stop_status, answer_of}
-use Rattle.xray_program.specs.Takes.{Gives, GivesBytes, IsTooLong, Rejects, FailsToRead, Fails, IsEarlyStop, IsReadStop, Stops, IsAnswerSoFar}
+use Rattle.xray_program.specs.Takes.{Gives, GivesBytes, IsTooLong, Rejects, FailsToRead, Fails, IsReadStop, Stops, IsAnswerSoFar}
 
 -- a name with too many bytes may hold bytes that are too many
 pub too_long : (limit : ℕ) (entry : Entry) → entry ≢ Absent
@@ -38,19 +35,6 @@ fails_to_read limit held name before now error stops.NoMemory long fault so = tt
 
 -- ---- inputs that are of a form or not yet
 
--- bytes that read as a value aren't refused as reading as none
-pub gives_form : {X : Type 0} (kind : List ℕ) (limit : ℕ) (Reads : List ℕ → X → Type 0) (entry : Entry) (bytes : List ℕ) (value : X)
-    → GivesBytes limit entry bytes → Reads bytes value → ((other : X) → Reads bytes other → other ≡ value)
-    → Gives (record { kind = kind; limit = limit; Reads = Reads; Refuses = IsNotYet Reads }) entry value
-gives_form kind limit Reads entry bytes value given reads only = record {
-  bytes = bytes;
-  held = given.held;
-  within = given.within;
-  reads = reads;
-  only = only;
-  unrefused = λ refusal refused. refused.0 value reads;
-}
-
 -- bytes that read as none
 pub rejects_form : {X : Type 0} (kind : List ℕ) (limit : ℕ) (Reads : List ℕ → X → Type 0) (entry : Entry) (bytes : List ℕ)
     → GivesBytes limit entry bytes → ((value : X) → Reads bytes value → ⊥)
@@ -62,26 +46,6 @@ rejects_form kind limit Reads entry bytes given none = record {
   refused = (none, refl);
   none = none;
 }
-
--- the stop of bytes that aren't taken, where they read as none unless memory ran out
-pub fails_early : {X : Type 0} (kind : Kind) (limit : ℕ) (Reads : List ℕ → X → Type 0) (held : List ℕ → Entry) (name : List ℕ)
-    (before now : ℕ) (bytes : List ℕ) (error : Early) (stop : Stop)
-    → GivesBytes limit (held name) bytes → (error ≡ early.NotYet → (value : X) → Reads bytes value → ⊥)
-    → IsEarlyStop name kind error stop
-    → Fails (record { kind = kind_text kind; limit = limit; Reads = Reads; Refuses = IsNotYet Reads }) held name before now stop
-fails_early kind limit Reads held name before now bytes error stops.BadLine given none so = so
-fails_early kind limit Reads held name before now bytes error (stops.Unread n) given none so = absurd so
-fails_early kind limit Reads held name before now bytes error (stops.TooLong n) given none so = absurd so
-fails_early kind limit Reads held name before now bytes error (stops.Refused n k refusal) given none (same, kinds, refusals, is) =
-    (same, ap kind_text kinds, rw refusals (rejects_form (kind_text kind) limit Reads (held name) bytes given (none is)))
-fails_early kind limit Reads held name before now bytes error (stops.Unwritten n) given none so = so
-fails_early kind limit Reads held name before now bytes error stops.NoMemory given none so = tt
-
--- what is taken, unless memory runs out, isn't refused
-pub not_early : {X : Type 0} (P : X → Type 0) (result : Result X Early) (error : Early)
-    → result ≡ Err error → error ≡ early.NotYet → IsOkAnd result P ⊎ (result ≡ Err early.NoMemory) → ⊥
-not_early P result error is not_yet (inl ok) = rw is at ok
-not_early P result error is not_yet (inr none) = cc
 
 -- ---- what comes of a command by the turns of its inputs
 

@@ -18,7 +18,8 @@ use Rattle.xray_program.specs.declared.replay.patcher.Patcher.{Patcher}
 use Rattle.xray_program.specs.declared.replay.thread.Thread.{Thread}
 use Rattle.xray_program.specs.FirstRun.{first_script, one_thread}
 use Rattle.xray_program.specs.Passing.{GoesOn, WantsWord, loads_before}
-use Rattle.xray_program.specs.Standing.{AreOfOneThread, IsPatcherAt, IsThreadAt, LeadTo, StandAt}
+use Rattle.step_sim.specs.Schedules.{AreTurnsOf}
+use Rattle.xray_program.specs.Standing.{IsPatcherAt, IsThreadAt, LeadTo, StandAt}
 use Rattle.xray_program.proofs.Leading.{leads_on, leads_to_mark}
 
 -- ---- turns in general
@@ -243,18 +244,19 @@ abbrev cast_of : Program → List ℕ → Cast
 cast_of program passed = one_thread program first_script passed
 
 pub thread_line : (program : Program) (passed : List ℕ) (m : Moment) (line : Turns) (number count : ℕ) (patcher : Patcher) (old new : Thread)
-    → line ≡ turns_of.Thread number count → AreOfOneThread line → StandAt program passed m patcher old
+    → line ≡ turns_of.Thread number count → AreTurnsOf 1 line → StandAt program passed m patcher old
     → IsThreadAt program passed (turns count (thread_of program passed) m) new
     → StandAt program passed (line_turns (cast_of program passed) m line) patcher new
 thread_line program passed m line number count patcher old new e one stand at =
-    let one' : number ≡ 1 = subst AreOfOneThread e one in
+    let one' : AreTurnsOf 1 (turns_of.Thread number count) = subst (AreTurnsOf 1) e one in
+    let is_one : number ≡ 1 = omega (arith, one'.0, one'.1) in
     let place = turns_place program passed count m in
     let there : StandAt program passed (turns count (thread_of program passed) m) patcher new = record {
       patcher_at = subst (λ (q : ℕ). IsPatcherAt program q patcher) (sym place) stand.patcher_at;
       thread_at = at;
       within = subst (λ (q : ℕ). q ≤ total_of program first_script) (sym place) stand.within;
     } in
-    let numbered = subst (λ (k : ℕ). StandAt program passed (turns count (thread_turn (cast_of program passed) k) m) patcher new) (sym one') there in
+    let numbered = subst (λ (k : ℕ). StandAt program passed (turns count (thread_turn (cast_of program passed) k) m) patcher new) (sym is_one) there in
     subst (λ (l : Turns). StandAt program passed (line_turns (cast_of program passed) m l) patcher new) (sym e) numbered
 
 pub patcher_line : (program : Program) (passed : List ℕ) (m : Moment) (line : Turns) (count : ℕ) (old new : Patcher) (thread : Thread)

@@ -48,7 +48,7 @@ pub record IsSimulated (image script schedule : List ℕ) (old new : Option (Lis
   pub form : IsFirstRun program
   pub commands : ReadsScript script first_script
   pub turns : List Turns
-  pub lines : ReadsSchedule schedule turns
+  pub lines : ReadsSchedule 1 schedule turns
   pub text : List ℕ
   pub prints : SimPrints program first_script turns text
   pub out : Adds old new text

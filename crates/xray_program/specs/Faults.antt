@@ -1,8 +1,10 @@
--- Refusals of image files and of assembler texts in a line on err: the name of each and its values, a space between them.
+-- Refusals of image files, of assembler texts and of schedules in a line on err: the name of each and its values, a space between them.
 use Rattle.std.specs.Prelude.{ℕ, List, ◌++◌, codes, decimal}
 use Rattle.xray_io.specs.Piece.{piece_text}
 use Rattle.asm_text.specs.declared.fault.AsmFault.{AsmFault}
 use Rattle.asm_text.specs.declared.fault.AsmFault.TheVariants as asm
+use Rattle.step_sim.specs.declared.fault.ScheduleFault.{ScheduleFault}
+use Rattle.step_sim.specs.declared.fault.ScheduleFault.TheVariants as scheduling
 use Rattle.subset_decode.specs.declared.fault.DecodeFault.{DecodeFault}
 use Rattle.subset_decode.specs.declared.fault.DecodeFault.TheVariants as decoding
 use Rattle.xray_image.specs.declared.fault.ImageFault.{ImageFault}
@@ -51,6 +53,13 @@ asm_fault_text (asm.Repeat line) = codes "Repeat " ++ decimal line
 asm_fault_text (asm.Limit line) = codes "Limit " ++ decimal line
 asm_fault_text (asm.Label line) = codes "Label " ++ decimal line
 asm_fault_text asm.NoMemory = codes "NoMemory"
+
+-- why a text is no schedule
+abbrev pub schedule_fault_text : ScheduleFault → List ℕ
+schedule_fault_text (scheduling.Syntax line) = codes "Syntax " ++ decimal line
+schedule_fault_text (scheduling.Thread line) = codes "Thread " ++ decimal line
+schedule_fault_text scheduling.Limit = codes "Limit"
+schedule_fault_text scheduling.NoMemory = codes "NoMemory"
 
 -- the text of the words of a refusal
 abbrev pub text_of_words : Words → List ℕ

@@ -1,19 +1,19 @@
 -- The forms of the inputs.
-use Rattle.std.specs.Prelude.{◌≡◌, ◌⊎◌, ◌<◌, ◌≤◌, ◌==◌, Ok, Err, ℕ, List, [], ◌∷◌, length, not, Some, codes, map, filter, IsTrue, ⊤}
+use Rattle.std.specs.Prelude.{◌≡◌, ◌⊎◌, ◌==◌, Ok, Err, ℕ, List, [], ◌∷◌, length, not, codes, map, filter, IsTrue}
 use Rattle.std.specs.List.{list_all}
 use Rattle.std.specs.Str.Lines.{lines}
 use Rattle.text_lines.specs.Words.{is_clean, words_of}
-use Rattle.text_lines.specs.Numbers.{number_of}
 use Rattle.xray_image.specs.Program.{Program, IsAccepted}
 use Rattle.xray_image.specs.FirstRun.{IsFirstRun}
 use Rattle.xray_image.specs.declared.fault.ImageFault.{ImageFault}
 use Rattle.xray_image.specs.Table.{ReadsAs}
 use Rattle.asm_text.specs.declared.fault.AsmFault.{AsmFault}
 use Rattle.asm_text.specs.Assembling.{assembled}
-use Rattle.xray_program.specs.Faults.{asm_fault_text, fault_text}
+use Rattle.xray_program.specs.Faults.{asm_fault_text, fault_text, schedule_fault_text}
 use Rattle.patch_script.specs.declared.command.Command.{Command}
 use Rattle.step_sim.specs.declared.turns.Turns.{Turns}
-use Rattle.step_sim.specs.declared.turns.Turns.TheVariants.{Thread, Patcher}
+use Rattle.step_sim.specs.declared.fault.ScheduleFault.{ScheduleFault}
+use Rattle.step_sim.specs.Schedules.{schedule_of}
 use Rattle.xray_program.specs.FirstRun.{first_script}
 
 -- A kind of input: how a line on err names it, how many bytes it has at the most, what its bytes
@@ -109,32 +109,20 @@ script_form = record {
 
 -- ---- schedules
 
--- the words of a line that gives turns: t 1 K, or p K, with K from 1 on
-abbrev pub SaysTurns : List (List ℕ) → Turns → Type 0
-SaysTurns words (Thread thread count) =
-    (t k : List ℕ) × (words ≡ codes "t" ∷ t ∷ k ∷ [])
-    × (number_of t ≡ Some thread) × (number_of k ≡ Some count) × (thread ≡ 1) × (0 < count)
-SaysTurns words (Patcher count) =
-    (k : List ℕ) × (words ≡ codes "p" ∷ k ∷ []) × (number_of k ≡ Some count) × (0 < count)
+-- the turns that a text gives to so many threads and to the patcher
+abbrev pub ReadsSchedule : ℕ → List ℕ → List Turns → Type 0
+ReadsSchedule threads bytes turns = schedule_of threads bytes ≡ Ok turns
 
--- each line that has words gives the turns of the same number
-abbrev pub SayAll : List (List (List ℕ)) → List Turns → Type 0
-SayAll [] [] = ⊤
-SayAll [] (turns ∷ schedule) = ⊥
-SayAll (words ∷ spoken) [] = ⊥
-SayAll (words ∷ spoken) (turns ∷ schedule) = SaysTurns words turns × SayAll spoken schedule
+-- a schedule is refused for its first fault
+abbrev pub RefusesSchedule : ℕ → List ℕ → List ℕ → Type 0
+RefusesSchedule threads bytes refusal =
+    (fault : ScheduleFault) × (schedule_of threads bytes ≡ Err fault) × (refusal ≡ schedule_fault_text fault)
 
--- a schedule of at most 1,048,576 lines, each with words giving turns
-pub record ReadsSchedule (bytes : List ℕ) (schedule : List Turns) : Type 0 where
-  pub lines_limit : length (lines bytes) ≤ 1048576
-  pub clean : IsTrue (list_all is_clean (lines bytes))
-  pub turns : SayAll (spoken_lines bytes) schedule
-
--- the schedule of `sim`
-abbrev pub schedule_form : Form (List Turns)
-schedule_form = record {
+-- the schedule of `sim`, for so many threads
+abbrev pub schedule_form : ℕ → Form (List Turns)
+schedule_form threads = record {
   kind = codes "schedule";
   limit = 16777216;
-  Reads = ReadsSchedule;
-  Refuses = IsNotYet ReadsSchedule;
+  Reads = ReadsSchedule threads;
+  Refuses = RefusesSchedule threads;
 }

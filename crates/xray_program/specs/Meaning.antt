@@ -76,7 +76,7 @@ abbrev pub Comes : (List ℕ → Type 0) → (List ℕ → Entry) → words.Comm
 Comes fails held (Sim image script schedule) =
     Take first_run_form fails held image (λ program.
     Take script_form fails held script (λ commands.
-    Take schedule_form fails held schedule (λ turns outcome.
+    Take (schedule_form 1) fails held schedule (λ turns outcome.
     (text : List ℕ) × SimPrints program commands turns text × (outcome ≡ Done [] text))))
 Comes fails held (Plain image options) =
     Take image_form fails held image (λ program outcome.

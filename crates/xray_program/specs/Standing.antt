@@ -1,6 +1,6 @@
 -- Where the patcher and the thread of a replay stand: at a place of the script, and behind a list
 -- of loads.
-use Rattle.std.specs.Prelude.{◌≡◌, ◌≤◌, ◌+◌, ◌*◌, ℕ, List, [], ◌∷◌, ◌++◌, length, min, take, None, ⊤}
+use Rattle.std.specs.Prelude.{◌≡◌, ◌≤◌, ◌+◌, ◌*◌, ℕ, List, [], ◌∷◌, ◌++◌, length, min, take, None}
 use Rattle.xray_image.specs.Program.{Program}
 use Rattle.sled_words.specs.Parts.{initial_words}
 use Rattle.sled_words.specs.Words.{handler_word}
@@ -8,7 +8,6 @@ use Rattle.patch_script.specs.Micros.{micros, total_of}
 use Rattle.machine_step.specs.Loads.{Load, marks_from, next_from}
 use Rattle.handler_word.specs.declared.mark.Mark.{Mark}
 use Rattle.step_sim.specs.declared.turns.Turns.{Turns}
-use Rattle.step_sim.specs.declared.turns.Turns.TheVariants as turns_of
 use Rattle.step_sim.specs.Replay.{Moment, RunsOut, line_turns, thread_turn, turns}
 use Rattle.xray_program.specs.declared.replay.patcher.Patcher.{Patcher}
 use Rattle.xray_program.specs.declared.replay.thread.Thread.{Thread}
@@ -45,11 +44,6 @@ pub record StandAt (program : Program) (sleds : List ℕ) (moment : Moment) (pat
   pub patcher_at : IsPatcherAt program moment.place patcher
   pub thread_at : IsThreadAt program sleds moment thread
   pub within : moment.place ≤ total_of program first_script
-
--- turns of thread 1, or of the patcher
-abbrev pub AreOfOneThread : Turns → Type 0
-AreOfOneThread (turns_of.Thread thread count) = thread ≡ 1
-AreOfOneThread (turns_of.Patcher count) = ⊤
 
 -- from wherever the patcher stands, so many micro steps lead it on, or those that are left
 abbrev pub MakesSteps : ℕ → Patcher → Patcher → Type 0

@@ -8,11 +8,10 @@ use Rattle.asm_text.specs.declared.fault.AsmFault.{AsmFault}
 use Rattle.asm_text.specs.declared.fault.AsmFault.TheVariants as asm
 use Rattle.xray_image.specs.declared.fault.ImageFault.{ImageFault}
 use Rattle.xray_image.specs.declared.fault.ImageFault.TheVariants as faults
-use Rattle.xray_program.specs.declared.early.Early.{Early}
-use Rattle.xray_program.specs.declared.early.Early.TheVariants as early
-use Rattle.xray_program.specs.declared.refusal.Refusal.TheVariants.{NotYet, Faulty, Unassembled}
-use Rattle.xray_program.specs.declared.stop.Kind.{Kind}
-use Rattle.xray_program.specs.declared.stop.Kind.TheVariants.{Image, Text}
+use Rattle.step_sim.specs.declared.fault.ScheduleFault.{ScheduleFault}
+use Rattle.step_sim.specs.declared.fault.ScheduleFault.TheVariants as scheduling
+use Rattle.xray_program.specs.declared.refusal.Refusal.TheVariants.{Faulty, Unassembled, Unscheduled}
+use Rattle.xray_program.specs.declared.stop.Kind.TheVariants.{Image, Text, Schedule}
 use Rattle.xray_program.specs.declared.stop.Stop.{Stop}
 use Rattle.xray_program.specs.declared.stop.Stop.TheVariants as stops
 use Rattle.xray_program.specs.Inputs.{Form}
@@ -75,16 +74,6 @@ IsReadStop name error (stops.Refused n kind refusal) = ⊥
 IsReadStop name error (stops.Unwritten n) = ⊥
 IsReadStop name error stops.NoMemory = error ≡ reading.NoMemory
 
--- what comes to an input of a kind that isn't taken: a refusal, or want of memory
-abbrev pub IsEarlyStop : List ℕ → Kind → Early → Stop → Type 0
-IsEarlyStop name kind error stops.BadLine = ⊥
-IsEarlyStop name kind error (stops.Unread n) = ⊥
-IsEarlyStop name kind error (stops.TooLong n) = ⊥
-IsEarlyStop name kind error (stops.Refused n k refusal) =
-    (n.now ≡ name) × (k ≡ kind) × (refusal ≡ NotYet) × (error ≡ early.NotYet)
-IsEarlyStop name kind error (stops.Unwritten n) = ⊥
-IsEarlyStop name kind error stops.NoMemory = error ≡ early.NoMemory
-
 -- what an image's fault comes to: want of memory, or a refusal
 abbrev pub IsImageStop : List ℕ → ImageFault → Stop → Type 0
 IsImageStop name fault stops.BadLine = ⊥
@@ -104,6 +93,16 @@ IsTextStop name fault (stops.Refused n kind refusal) =
     (n.now ≡ name) × (kind ≡ Text) × (refusal ≡ Unassembled fault) × (fault ≢ asm.NoMemory)
 IsTextStop name fault (stops.Unwritten n) = ⊥
 IsTextStop name fault stops.NoMemory = fault ≡ asm.NoMemory
+
+-- what a schedule's fault comes to: want of memory, or a refusal
+abbrev pub IsScheduleStop : List ℕ → ScheduleFault → Stop → Type 0
+IsScheduleStop name fault stops.BadLine = ⊥
+IsScheduleStop name fault (stops.Unread n) = ⊥
+IsScheduleStop name fault (stops.TooLong n) = ⊥
+IsScheduleStop name fault (stops.Refused n kind refusal) =
+    (n.now ≡ name) × (kind ≡ Schedule) × (refusal ≡ Unscheduled fault) × (fault ≢ scheduling.NoMemory)
+IsScheduleStop name fault (stops.Unwritten n) = ⊥
+IsScheduleStop name fault stops.NoMemory = fault ≡ scheduling.NoMemory
 
 -- A command that comes to M, by which names can't be read, ends with a stop.
 abbrev pub Stops : ((List ℕ → Type 0) → Outcome → Type 0) → (List ℕ → Entry) → ℕ → ℕ → Stop → Type 0

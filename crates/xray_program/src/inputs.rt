@@ -1,17 +1,16 @@
 //! The inputs in their turn: each is read, measured and judged before the next is opened.
-ghost use Rattle.std.specs.Prelude.{◌≡◌, ◌≤◌, IfOk, IfErr, OnOk};
+ghost use Rattle.std.specs.Prelude.{◌≡◌, ◌≤◌, All, IfOk, IfErr, OnOk};
+ghost use Rattle.step_sim.specs.Schedules.{AreTurnsOf};
 ghost use Rattle.xray_program.specs.FirstRun.{first_script};
 ghost use Rattle.xray_program.specs.Inputs.{first_run_form, image_form, schedule_form, script_form, text_form};
-ghost use Rattle.xray_program.specs.Takes.{Fails, Gives, FailsToRead, GivesBytes, IsEarlyStop, IsImageStop, IsReadStop, IsTextStop};
+ghost use Rattle.xray_program.specs.Takes.{Fails, Gives, FailsToRead, GivesBytes, IsImageStop, IsReadStop, IsScheduleStop, IsTextStop};
 
-use crate::early::Early;
-use crate::early_schedule::read_schedule;
-use crate::early_script::read_script;
+use crate::early_script::{NotYet, read_script};
 use crate::refusal::Refusal;
 use crate::stop::{Kind, Stop};
 use asm_text::{AsmFault, assemble};
 use std::alloc::Global;
-use step_sim::Turns;
+use step_sim::{Schedule, ScheduleFault, read_schedule};
 use xray_image::{Image, ImageFault, read_image};
 use xray_io::{Desk, ReadError, read_whole};
 
@@ -137,42 +136,48 @@ pub(crate) fn take_script<'a, D: Desk>(
     let bytes = take_bytes(alloc, desk, name, SCRIPT_LIMIT)?;
     match read_script(&bytes) {
         Ok(()) => Ok(()),
-        Err(error) => Err(early_stop(name, Kind::Script, error)),
+        Err(NotYet) => Err(Stop::Refused {
+            name,
+            kind: Kind::Script,
+            refusal: Refusal::NotYet,
+        }),
     }
 }
 
-/// Takes a schedule.
+/// Takes a schedule for so many threads.
 pub(crate) fn take_schedule<'a, D: Desk>(
     alloc: Global,
     desk: &mut D,
     name: &'a str,
-) -> Result<Vec<Turns>, Stop<'a>>
-    ensures gives { IfOk result (λ turns.
-        Gives schedule_form (D.held desk.old name.now) turns.items) }
-    ensures fails { IfErr result (Fails schedule_form (D.held desk.old) name.now
+    threads: u32,
+) -> Result<Schedule, Stop<'a>>
+    requires { (1 ≤ threads) × (threads ≤ 16) }
+    ensures gives { IfOk result (Gives (schedule_form threads) (D.held desk.old name.now)) }
+    ensures fails { IfErr result (Fails (schedule_form threads) (D.held desk.old) name.now
         (D.read_faults desk.old) (D.read_faults desk.new)) }
+    ensures within { IfOk result (All (AreTurnsOf threads)) }
     ensures held { D.held desk.new ≡ D.held desk.old }
     ensures later { D.read_faults desk.old ≤ D.read_faults desk.new }
     ensures writes { D.write_faults desk.new ≡ D.write_faults desk.old }
 {
     let bytes = take_bytes(alloc, desk, name, SCHEDULE_LIMIT)?;
-    match read_schedule(alloc, &bytes) {
-        Ok(turns) => Ok(turns),
-        Err(error) => Err(early_stop(name, Kind::Schedule, error)),
+    match read_schedule(alloc, &bytes, threads) {
+        Ok(schedule) => Ok(schedule),
+        Err(fault) => Err(schedule_stop(name, fault)),
     }
 }
 
-/// What comes to an input of this kind that isn't taken.
-fn early_stop(name: &str, kind: Kind, error: Early) -> Stop<'_>
-    ensures { IsEarlyStop name.now kind error result }
+/// What a schedule's fault comes to.
+fn schedule_stop(name: &str, fault: ScheduleFault) -> Stop<'_>
+    ensures { IsScheduleStop name.now fault result }
 {
-    match error {
-        Early::NotYet => Stop::Refused {
+    match fault {
+        ScheduleFault::NoMemory => Stop::NoMemory,
+        _ => Stop::Refused {
             name,
-            kind,
-            refusal: Refusal::NotYet,
+            kind: Kind::Schedule,
+            refusal: Refusal::Unscheduled(fault),
         },
-        Early::NoMemory => Stop::NoMemory,
     }
 }
 

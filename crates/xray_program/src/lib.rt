@@ -13,8 +13,6 @@
 
 mod asm;
 mod call;
-mod early;
-mod early_schedule;
 mod early_script;
 mod extract;
 mod inputs;

@@ -1,10 +1,11 @@
 //! Why an input is refused, in the words of a line on err.
 ghost use Rattle.std.specs.Prelude.{◌≡◌, ◌++◌, codes, decimal};
 ghost use Rattle.xray_io.specs.Piece.{piece_text};
-ghost use Rattle.xray_program.specs.Faults.{asm_fault_text, decode_text, fault_text, field_text, text_of_words};
+ghost use Rattle.xray_program.specs.Faults.{asm_fault_text, decode_text, fault_text, field_text, schedule_fault_text, text_of_words};
 ghost use Rattle.xray_program.specs.Stops.{refusal_text};
 
 use asm_text::AsmFault;
+use step_sim::ScheduleFault;
 use subset_decode::DecodeFault;
 use xray_image::{ImageFault, Which};
 use xray_io::Piece;
@@ -18,6 +19,8 @@ pub(crate) enum Refusal {
     Faulty(ImageFault),
     /// It is an assembler text with this fault.
     Unassembled(AsmFault),
+    /// It is a schedule with this fault.
+    Unscheduled(ScheduleFault),
 }
 
 /// The words of a refusal, its name and its values, as the pieces of a text.
@@ -45,6 +48,7 @@ impl Refusal {
             Refusal::NotYet => name(b"NotYet"),
             Refusal::Faulty(fault) => fault_words(fault),
             Refusal::Unassembled(fault) => asm_fault_words(fault),
+            Refusal::Unscheduled(fault) => schedule_fault_words(fault),
         }
     }
 }
@@ -82,6 +86,18 @@ fn asm_fault_words(fault: AsmFault) -> Words
         AsmFault::Limit(line) => numbered(b"Limit ", line),
         AsmFault::Label(line) => numbered(b"Label ", line),
         AsmFault::NoMemory => name(b"NoMemory"),
+    }
+}
+
+/// The words of a schedule's fault.
+fn schedule_fault_words(fault: ScheduleFault) -> Words
+    ensures { text_of_words result ≡ schedule_fault_text fault }
+{
+    match fault {
+        ScheduleFault::Syntax(line) => numbered(b"Syntax ", line),
+        ScheduleFault::Thread(line) => numbered(b"Thread ", line),
+        ScheduleFault::Limit => name(b"Limit"),
+        ScheduleFault::NoMemory => name(b"NoMemory"),
     }
 }
 

@@ -2,8 +2,9 @@
 //! unpatches it behind it.
 ghost use Rattle.std.specs.Prelude.{◌≡◌, ◌<◌, ◌+◌, ◌^◌, ◌∷◌, [], All, IfOk, length, vec_len};
 ghost use Rattle.step_sim.specs.Replay.{Replay};
+ghost use Rattle.step_sim.specs.Schedules.{AreTurnsOf};
 ghost use Rattle.xray_program.specs.FirstRun.{first_script, one_thread};
-ghost use Rattle.xray_program.specs.Standing.{AreOfOneThread, TakeTurns};
+ghost use Rattle.xray_program.specs.Standing.{TakeTurns};
 
 mod passing;
 mod patcher;
@@ -30,7 +31,7 @@ pub fn replay(
 ) -> Result<Vec<Mark>, NoMemory>
     requires few { length image.now.sleds < 2 ^ 30 }
     requires exist { All (λ k. k < length image.now.sleds) passings.now }
-    requires one_thread { All AreOfOneThread schedule.now }
+    requires one_thread { All (AreTurnsOf 1) schedule.now }
     ensures { IfOk result (λ marks. Replay (one_thread image.now first_script passings.now)
         schedule.now (marks.items ∷ [])) }
 {
@@ -46,7 +47,7 @@ pub fn replay(
 /// Takes the turns of a line.
 fn take_turns(patcher: &mut Patcher, thread: &mut Thread, turns: Turns)
     requires words { thread.old.handler_word + 1 < vec_len patcher.old.words }
-    requires one_thread { AreOfOneThread turns }
+    requires one_thread { AreTurnsOf 1 turns }
     ensures at { TakeTurns turns patcher.old thread.old patcher.new thread.new }
     ensures words { (thread.new.handler_word ≡ thread.old.handler_word)
         × (vec_len patcher.new.words ≡ vec_len patcher.old.words) }

@@ -3,10 +3,10 @@ ghost use Rattle.std.specs.Prelude.{◌≡◌, ◌≤◌, ℕ, [], All, List, If
 ghost use Rattle.xray_image.specs.Program.{IsAccepted};
 ghost use Rattle.xray_image.specs.FirstRun.{IsFirstRun};
 ghost use Rattle.xray_io.specs.Desk.{Absent};
+ghost use Rattle.step_sim.specs.Schedules.{AreTurnsOf};
 ghost use Rattle.xray_program.specs.FirstRun.{first_script, SimPrints};
 ghost use Rattle.xray_program.specs.Jobs.{job_outputs, job_text, IsPrintable};
 ghost use Rattle.xray_program.specs.Meaning.{Outcome, Done, Comes, TellsAll};
-ghost use Rattle.xray_program.specs.Standing.{AreOfOneThread};
 ghost use Rattle.xray_program.specs.Stops.{answer_of};
 ghost use Rattle.xray_program.specs.Takes.{IsAnswerSoFar, Stops};
 ghost use Rattle.xray_program.specs.Words.{Sim};
@@ -20,6 +20,9 @@ use std::alloc::Global;
 use step_sim::Turns;
 use xray_image::Image;
 use xray_io::{Desk, NoMemory};
+
+/// How many threads there are.
+const THREADS: u32 = 1;
 
 /// The number of the one thread.
 const THREAD: u32 = 1;
@@ -62,8 +65,8 @@ pub(crate) fn prepare_sim<'a, D: Desk>(
 {
     let program = take_first_run(alloc, desk, image)?;
     take_script(alloc, desk, script)?;
-    let turns = take_schedule(alloc, desk, schedule)?;
-    match simulate(alloc, &program, &turns) {
+    let turns = take_schedule(alloc, desk, schedule, THREADS)?;
+    match simulate(alloc, &program, turns.lines()) {
         Ok(job) => Ok(job),
         Err(NoMemory) => Err(Stop::NoMemory),
     }
@@ -74,7 +77,7 @@ pub(crate) fn prepare_sim<'a, D: Desk>(
 fn simulate<'a>(alloc: Global, image: &Image, schedule: &[Turns]) -> Result<Job<'a>, NoMemory>
     requires form { IsFirstRun image.now }
     requires accepted { (bytes : List ℕ) × IsAccepted bytes image.now }
-    requires one_thread { All AreOfOneThread schedule.now }
+    requires one_thread { All (AreTurnsOf 1) schedule.now }
     ensures prints { IfOk result (λ job.
         SimPrints image.now first_script schedule.now (job_text job)) }
     ensures alone { IfOk result (λ job. job_outputs job ≡ []) }

@@ -5,7 +5,7 @@ use Rattle.xray_program.specs.Meaning.{Comes}
 use Rattle.xray_program.specs.Takes.{IsAnswerSoFar, Stops}
 use Rattle.xray_program.specs.Words.{Sim}
 use Rattle.xray_program.proofs.Taking.{answers_result, stops_result, fails_since}
-use Rattle.xray_program.proofs.SimTurns.{ready, stops_at_script, stops_at_schedule, answers_at_image, answers_at_script, answers_at_schedule, answers_ready, one_thread_turns}
+use Rattle.xray_program.proofs.SimTurns.{ready, stops_at_script, stops_at_schedule, answers_at_image, answers_at_script, answers_at_schedule, answers_ready}
 use Rattle.xray_program.proofs.sim.prepare_sim.Goals as goal
 
 pub returns-in_err-program-clause-complete : goal.returns-in_err-program-clause-complete
@@ -34,7 +34,7 @@ returns-in_err-turns-clause-stops g c =
     let script = rw c.take_first_run.ensures.held at c.in_ok-take_script.ensures.gives in
     let fails = rw (c.take_script.ensures.held, c.take_first_run.ensures.held) at c.in_err-turns.ensures.fails in
     stops_result (Stops (λ fails. Comes fails held (Sim c.args.image.now c.args.script.now c.args.schedule.now)) held _ _) _ _ c.from_residual-in_err-turns.ensures.1
-    (stops_at_schedule held _ _ _ _ _ _ _ c.in_ok-program.ensures.gives script (fails_since schedule_form held _ _ _ _ _ (omega arith) fails))
+    (stops_at_schedule held _ _ _ _ _ _ _ c.in_ok-program.ensures.gives script (fails_since (schedule_form 1) held _ _ _ _ _ (omega arith) fails))
 
 pub returns-in_err-turns-clause-complete : goal.returns-in_err-turns-clause-complete
 returns-in_err-turns-clause-complete g c = λ outcome told meant.
@@ -42,7 +42,7 @@ returns-in_err-turns-clause-complete g c = λ outcome told meant.
     let script = rw c.take_first_run.ensures.held at c.in_ok-take_script.ensures.gives in
     let fails = rw (c.take_script.ensures.held, c.take_first_run.ensures.held) at c.in_err-turns.ensures.fails in
     answers_result (IsAnswerSoFar _ _ outcome) _ _ c.from_residual-in_err-turns.ensures.1
-    (answers_at_schedule held _ _ _ _ _ _ _ outcome told c.in_ok-program.ensures.gives script (fails_since schedule_form held _ _ _ _ _ (omega arith) fails) meant)
+    (answers_at_schedule held _ _ _ _ _ _ _ outcome told c.in_ok-program.ensures.gives script (fails_since (schedule_form 1) held _ _ _ _ _ (omega arith) fails) meant)
 
 pub returns-in-Ok-clause-ready : goal.returns-in-Ok-clause-ready
 returns-in-Ok-clause-ready g c =
@@ -50,7 +50,7 @@ returns-in-Ok-clause-ready g c =
     let script = rw c.take_first_run.ensures.held at c.in_ok-take_script.ensures.gives in
     let schedule = rw (c.take_script.ensures.held, c.take_first_run.ensures.held) at c.in_ok-turns.ensures.gives in
     rw c.in-Ok.ensures.alone
-    (ready (λ name. held name ≡ Absent) held _ _ _ _ _ _ c.in_ok-program.ensures.gives script schedule (rw c.deref.ensures.value at c.in-Ok.ensures.prints))
+    (ready (λ name. held name ≡ Absent) held _ _ _ _ _ _ c.in_ok-program.ensures.gives script schedule (rw c.lines.ensures at c.in-Ok.ensures.prints))
 
 pub returns-in-Ok-clause-complete : goal.returns-in-Ok-clause-complete
 returns-in-Ok-clause-complete g c = λ outcome told meant.
@@ -60,6 +60,4 @@ returns-in-Ok-clause-complete g c = λ outcome told meant.
     answers_ready held _ _ _ _ _ _ _ outcome told c.in_ok-program.ensures.gives script schedule meant
 
 pub simulate-requires-clause-one_thread : goal.simulate-requires-clause-one_thread
-simulate-requires-clause-one_thread g c =
-    let given = c.in_ok-turns.ensures.gives in
-    rw c.deref.ensures.value (one_thread_turns given.bytes _ given.reads)
+simulate-requires-clause-one_thread g c = rw c.lines.ensures c.in_ok-turns.ensures.within

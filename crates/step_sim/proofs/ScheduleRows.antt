@@ -1,0 +1,74 @@
+-- Small texts, worked by hand: the schedules that they are, and why others are none.
+use Rattle.std.proofs.Common.{◌≡◌, ℕ, List, [], ◌∷◌, ◌++◌, refl}
+use Rattle.std.specs.Prelude.{codes, Ok, Err}
+use Rattle.step_sim.specs.declared.fault.ScheduleFault.TheVariants as faults
+use Rattle.step_sim.specs.declared.turns.Turns.TheVariants.{Thread, Patcher}
+use Rattle.step_sim.specs.Schedules.{schedule_of}
+
+-- lines of ASCII text
+abbrev text : List (List ℕ) → List ℕ
+text [] = []
+text (line ∷ lines) = line ++ 10 ∷ text lines
+
+-- ---- schedules
+
+no_line : schedule_of 1 [] ≡ Ok []
+no_line = refl
+
+in_order : schedule_of 1 (text (codes "t 1 1" ∷ codes "p 2" ∷ [])) ≡ Ok (Thread 1 1 ∷ Patcher 2 ∷ [])
+in_order = refl
+
+-- lines without words give no turns, and the last line may lack its line feed
+skipped : schedule_of 1 (text (codes "# a load" ∷ [] ∷ codes "t 1 1 # then all" ∷ codes "  " ∷ []) ++ codes "p 4294967295") ≡ Ok (Thread 1 1 ∷ Patcher 4294967295 ∷ [])
+skipped = refl
+
+-- blanks are spaces and tabs, a carriage return before the line feed is none of the line, and zeros may lead
+blanks : schedule_of 1 (codes " t" ++ 9 ∷ codes "01  5 " ++ 13 ∷ 10 ∷ []) ≡ Ok (Thread 1 5 ∷ [])
+blanks = refl
+
+last_thread : schedule_of 16 (codes "t 16 3") ≡ Ok (Thread 16 3 ∷ [])
+last_thread = refl
+
+-- ---- lines that are none of a schedule
+
+no_steps : schedule_of 1 (codes "p 0") ≡ Err (faults.Syntax 1)
+no_steps = refl
+
+word_missing : schedule_of 1 (codes "t 1") ≡ Err (faults.Syntax 1)
+word_missing = refl
+
+word_too_many : schedule_of 1 (codes "p 1 1") ≡ Err (faults.Syntax 1)
+word_too_many = refl
+
+unknown_word : schedule_of 1 (codes "tt 1 1") ≡ Err (faults.Syntax 1)
+unknown_word = refl
+
+signed : schedule_of 1 (codes "p +1") ≡ Err (faults.Syntax 1)
+signed = refl
+
+too_large : schedule_of 1 (codes "p 4294967296") ≡ Err (faults.Syntax 1)
+too_large = refl
+
+-- the byte 127 outside a comment
+bad_byte : schedule_of 1 (text (codes "# none" ∷ (codes "p 1 " ++ 127 ∷ []) ∷ [])) ≡ Err (faults.Syntax 2)
+bad_byte = refl
+
+-- ---- lines that name no thread
+
+thread_above : schedule_of 1 (codes "t 2 1") ≡ Err (faults.Thread 1)
+thread_above = refl
+
+thread_zero : schedule_of 16 (codes "t 0 1") ≡ Err (faults.Thread 1)
+thread_zero = refl
+
+-- a word that is no number is no thread
+thread_word : schedule_of 16 (codes "t x 1") ≡ Err (faults.Thread 1)
+thread_word = refl
+
+-- ---- the first refusal is told
+
+syntax_first : schedule_of 16 (codes "t x 0") ≡ Err (faults.Syntax 1)
+syntax_first = refl
+
+first_line : schedule_of 1 (text (codes "p 1" ∷ codes "t 2 1" ∷ codes "p 0" ∷ [])) ≡ Err (faults.Thread 2)
+first_line = refl

@@ -1,0 +1,110 @@
+-- Schedules as texts: what their lines say, and what is wrong with them.
+use Rattle.std.specs.Prelude.{ℕ, ◌&&◌, ◌≤◌, Bool, true, false, nat_eq, nat_le, List, [], ◌∷◌, ◌++◌, length, Option, Some, None, Result, Ok, Err, codes, if◌then◌else◌}
+use Rattle.std.specs.Cmp.Lexicographic.{pointwise}
+use Rattle.std.specs.List.{flat_map}
+use Rattle.std.specs.Str.Lines.{lines}
+use Rattle.text_lines.specs.Lines.{numbered_lines}
+use Rattle.text_lines.specs.Numbers.{number_of}
+use Rattle.text_lines.specs.Words.{is_clean, words_of}
+use Rattle.step_sim.specs.declared.fault.ScheduleFault.{ScheduleFault}
+use Rattle.step_sim.specs.declared.fault.ScheduleFault.TheVariants as faults
+use Rattle.step_sim.specs.declared.line.Said.{Said}
+use Rattle.step_sim.specs.declared.line.Said.TheVariants.{Nothing, Loads, Steps, Unknown}
+use Rattle.step_sim.specs.declared.turns.Turns.{Turns}
+use Rattle.step_sim.specs.declared.turns.Turns.TheVariants.{Thread, Patcher}
+
+-- ---- what a line says
+
+-- behind `t`: the thread T and its loads K
+abbrev pub loads_of : List (List ℕ) → Said
+loads_of (thread ∷ count ∷ []) = Loads (number_of thread) (number_of count)
+loads_of words = Unknown
+
+-- behind `p`: the patcher's micro steps K
+abbrev pub steps_of : List (List ℕ) → Said
+steps_of (count ∷ []) = Steps (number_of count)
+steps_of words = Unknown
+
+-- two words are the same
+abbrev pub is_word : List ℕ → List ℕ → Bool
+is_word word other = pointwise nat_eq word other
+
+-- what words say: `t T K`, or `p K`
+abbrev pub said_by : List (List ℕ) → Said
+said_by [] = Nothing
+said_by (who ∷ behind) =
+    if is_word who (codes "t") then loads_of behind else if is_word who (codes "p") then steps_of behind else Unknown
+
+-- the turns of a line, if it gives any
+abbrev pub turns_said : Said → List Turns
+turns_said (Loads (Some thread) (Some count)) = Thread thread count ∷ []
+turns_said (Steps (Some count)) = Patcher count ∷ []
+turns_said said = []
+
+abbrev pub line_turns : ℕ × List ℕ → List Turns
+line_turns (number, line) = turns_said (said_by (words_of line))
+
+-- ---- what is wrong with a line
+
+-- K is a number from 1 on
+abbrev pub is_count : Option ℕ → Bool
+is_count None = false
+is_count (Some count) = nat_le 1 count
+
+-- T is the number of a thread
+abbrev pub is_thread : ℕ → Option ℕ → Bool
+is_thread threads None = false
+is_thread threads (Some thread) = nat_le 1 thread && nat_le thread threads
+
+-- the words have the form of a line of a schedule, and K is a count
+abbrev pub is_well_formed : Said → Bool
+is_well_formed Nothing = true
+is_well_formed (Loads thread count) = is_count count
+is_well_formed (Steps count) = is_count count
+is_well_formed Unknown = false
+
+-- no thread is named, or one that there is
+abbrev pub names_threads : ℕ → Said → Bool
+names_threads threads Nothing = true
+names_threads threads (Loads thread count) = is_thread threads thread
+names_threads threads (Steps count) = true
+names_threads threads Unknown = true
+
+-- this fault, unless the test holds
+abbrev pub unless : Bool → ScheduleFault → List ScheduleFault
+unless holds fault = if holds then [] else fault ∷ []
+
+-- what is wrong with what a line says: Syntax stands before Thread
+abbrev pub said_faults : ℕ → ℕ → Said → List ScheduleFault
+said_faults threads number said =
+    unless (is_well_formed said) (faults.Syntax number) ++ unless (names_threads threads said) (faults.Thread number)
+
+-- all that is wrong with a line: a bad byte, and what it says
+abbrev pub line_faults : ℕ → ℕ × List ℕ → List ScheduleFault
+line_faults threads (number, line) =
+    unless (is_clean line) (faults.Syntax number) ++ said_faults threads number (said_by (words_of line))
+
+-- ---- a text
+
+-- all that is wrong with a text: that it has more than 1,048,576 lines, and then what is wrong with each line
+abbrev pub faults_of : ℕ → List ℕ → List ScheduleFault
+faults_of threads text =
+    unless (nat_le (length (lines text)) 1048576) faults.Limit ++ flat_map (line_faults threads) (numbered_lines text)
+
+-- the turns of all lines, in order
+abbrev pub turns_of : List ℕ → List Turns
+turns_of text = flat_map line_turns (numbered_lines text)
+
+-- these turns where nothing is wrong, and else the first fault
+abbrev pub decided : List ScheduleFault → List Turns → Result (List Turns) ScheduleFault
+decided [] turns = Ok turns
+decided (fault ∷ later) turns = Err fault
+
+-- the schedule of a text, or its first fault
+abbrev pub schedule_of : ℕ → List ℕ → Result (List Turns) ScheduleFault
+schedule_of threads text = decided (faults_of threads text) (turns_of text)
+
+-- turns that a schedule may give to so many threads: one at least, of one of the threads or of the patcher
+abbrev pub AreTurnsOf : ℕ → Turns → Type 0
+AreTurnsOf threads (Thread thread count) = (1 ≤ thread) × (thread ≤ threads) × (1 ≤ count)
+AreTurnsOf threads (Patcher count) = 1 ≤ count

@@ -1,0 +1,109 @@
+//! A line of a schedule, as the turns that it gives.
+
+ghost use Rattle.std.specs.Prelude.{◌≡◌, IfOk, IfSome};
+ghost use Rattle.step_sim.specs.Schedules.{decided, line_faults, line_turns, loads_of, said_by, said_faults, steps_of, turns_said, AreTurnsOf};
+ghost use Rattle.step_sim.specs.Readings.{listed};
+
+use crate::fault::ScheduleFault;
+use crate::turns::Turns;
+use text_lines::{Line, Words, parse_number};
+
+/// What the words of a line say. A number is `None` where its word is none.
+#[derive(Clone, Copy)]
+pub(crate) enum Said {
+    /// There are no words.
+    Nothing,
+    /// `t T K`: a thread makes loads.
+    Loads {
+        /// T, the number of the thread.
+        thread: Option<u32>,
+        /// K, how many loads.
+        count: Option<u32>,
+    },
+    /// `p K`: the patcher makes micro steps.
+    Steps {
+        /// K, how many micro steps.
+        count: Option<u32>,
+    },
+    /// The words are none of a schedule.
+    Unknown,
+}
+
+/// What the words behind `t` say.
+fn loads_of(mut words: Words) -> Said
+    ensures { result ≡ loads_of words.entry }
+{
+    let thread = words.next();
+    let count = words.next();
+    match (thread, count, words.next()) {
+        (Some(thread), Some(count), None) => Said::Loads {
+            thread: parse_number(thread),
+            count: parse_number(count),
+        },
+        _ => Said::Unknown,
+    }
+}
+
+/// What the words behind `p` say.
+fn steps_of(mut words: Words) -> Said
+    ensures { result ≡ steps_of words.entry }
+{
+    let count = words.next();
+    match (count, words.next()) {
+        (Some(count), None) => Said::Steps {
+            count: parse_number(count),
+        },
+        _ => Said::Unknown,
+    }
+}
+
+/// What the words of a line say.
+fn said_by(mut words: Words) -> Said
+    ensures { result ≡ said_by words.entry }
+{
+    let Some(who) = words.next() else {
+        return Said::Nothing;
+    };
+    if who == b"t".as_slice() {
+        loads_of(words)
+    } else if who == b"p".as_slice() {
+        steps_of(words)
+    } else {
+        Said::Unknown
+    }
+}
+
+/// The turns that a line gives which says this, or the first refusal that applies.
+fn judged(said: Said, number: u32, threads: u32) -> Result<Option<Turns>, ScheduleFault>
+    ensures reads { listed result ≡ decided (said_faults threads number said) (turns_said said) }
+    ensures within { IfOk result (λ turns. IfSome turns (AreTurnsOf threads)) }
+{
+    match said {
+        Said::Nothing => Ok(None),
+        Said::Loads {
+            thread,
+            count: Some(count),
+        } if count > 0 => match thread {
+            Some(thread) if thread > 0 && thread <= threads => {
+                Ok(Some(Turns::Thread { thread, count }))
+            }
+            _ => Err(ScheduleFault::Thread(number)),
+        },
+        Said::Steps { count: Some(count) } if count > 0 => Ok(Some(Turns::Patcher { count })),
+        _ => Err(ScheduleFault::Syntax(number)),
+    }
+}
+
+/// The turns that a line gives; none where it has no words. The first refusal of the line where one
+/// applies.
+pub(crate) fn read_line(line: &Line, threads: u32) -> Result<Option<Turns>, ScheduleFault>
+    ensures reads { listed result
+        ≡ decided (line_faults threads (line.now.number, line.now.bytes.now))
+        (line_turns (line.now.number, line.now.bytes.now)) }
+    ensures within { IfOk result (λ turns. IfSome turns (AreTurnsOf threads)) }
+{
+    if !line.is_clean() {
+        return Err(ScheduleFault::Syntax(line.number));
+    }
+    judged(said_by(line.words()), line.number, threads)
+}

@@ -1,0 +1,65 @@
+//! Schedules, and the texts that they are read from.
+
+ghost use Rattle.std.specs.Prelude.{◌≡◌, ◌≤◌, ◌⊎◌, All, IfOk};
+ghost use Rattle.step_sim.specs.declared.fault.ScheduleFault.TheVariants.{NoMemory};
+ghost use Rattle.step_sim.specs.Schedules.{schedule_of, AreTurnsOf};
+
+use crate::fault::ScheduleFault;
+use crate::line::read_line;
+use crate::turns::Turns;
+use std::alloc::Global;
+use std::marker::Model;
+use text_lines::{Lines, count_lines};
+
+/// How many lines the text of a schedule has at the most.
+const LINES_LIMIT: usize = 1_048_576;
+
+/// A stated order of loads and stores: whose turns come when. Contracts see it as the list of the
+/// turns, in order.
+#[derive(Debug, Drop)]
+pub struct Schedule {
+    lines: Vec<Turns>,
+}
+
+impl Model for Schedule {
+    ghost use Rattle.std.specs.Prelude.{List};
+    ghost use Rattle.step_sim.specs.declared.turns.Turns.{Turns};
+
+    ghost Value = { List Turns };
+
+    ghost view = { λ s. s.lines.items };
+}
+
+impl Schedule {
+    /// The turns, first to last: those of each line of the text that has words.
+    pub fn lines(&self) -> &[Turns]
+        ensures { result.now ≡ self.now }
+    {
+        &self.lines
+    }
+}
+
+/// The schedule that a text gives to so many threads, which are numbered from 1. A line `t T K` lets
+/// thread T make K loads, a line `p K` lets the patcher make K micro steps, with K from 1 to
+/// 4,294,967,295; a line without words is skipped.
+///
+/// A text that is no schedule is refused by its first fault, as `ScheduleFault` tells; `NoMemory` may
+/// come in place of any answer. Memory is taken once: 12 bytes for each line of the text.
+pub fn read_schedule(alloc: Global, text: &[u8], threads: u32) -> Result<Schedule, ScheduleFault>
+    requires { (1 ≤ threads) × (threads ≤ 16) }
+    ensures reads { (result ≡ Err NoMemory) ⊎ (result ≡ schedule_of threads text.now) }
+    // What a replay on so many threads asks of its schedule.
+    ensures within { IfOk result (All (AreTurnsOf threads)) }
+{
+    let count = count_lines(text);
+    if count > LINES_LIMIT {
+        return Err(ScheduleFault::Limit);
+    }
+    let mut lines = Vec::with_capacity(alloc, count)?;
+    for line in Lines::with_few_lines(text) {
+        if let Some(turns) = read_line(&line, threads)? {
+            lines.push(turns)?;
+        }
+    }
+    Ok(Schedule { lines })
+}
