@@ -1,3 +1,4 @@
 mod Rows
 pub mod ReplayAlong
 mod ScheduleRows
+pub mod OneReplay
