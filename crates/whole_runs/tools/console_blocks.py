@@ -1,7 +1,8 @@
 #!/usr/bin/env python3
 """Runs the console blocks of the documents, and says where the program prints something else than they show.
 
-usage: console_blocks.py [PROGRAM]      PROGRAM: the built program, crates/xray/out/xray if left out
+usage: crates/whole_runs/tools/console_blocks.py [PROGRAM]
+    PROGRAM: the built program, crates/xray/out/xray if left out
 
 In a block ```console a line that begins with `$ ` is a command, and the lines behind it are what it prints, on standard
 output and standard error, up to the next command. Each document has one shell, so that a command finds the files and the

@@ -1,7 +1,7 @@
 #!/usr/bin/env python3
 """Compares `xray` with a model of it on random inputs and command lines, and says where they differ.
 
-usage: random_runs.py [PROGRAM] [--runs N] [--seed N] [--jobs N]
+usage: crates/whole_runs/tools/random_runs.py [PROGRAM] [--runs N] [--seed N] [--jobs N]
     PROGRAM: the built program, crates/xray/out/xray if left out
     --runs: how many runs, 1000 if left out
     --seed: what all is drawn by, 1 if left out
