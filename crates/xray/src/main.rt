@@ -4,15 +4,17 @@
 use std::process::ExitCode;
 use std::time::{SystemTime, UNIX_EPOCH};
 use std::{env, io};
-use xray_io::{ErrSink, FileDesk, OpenGate, OutSink, Wall};
+use xray_io::{ErrSink, FileDesk, OpenGate, OutSink, Wall, write_all};
 use xray_program::xray;
 
 /// Does what the words of the command line say, over files and the standard streams, and ends with the status.
 ///
-/// Words that aren't UTF-8 say no command, and neither do words that can't be had.
+/// Words that aren't UTF-8 say no command. Where there is no memory for the words, that is told as
+/// `xray` tells want of memory.
 fn main(rt: HostRuntime) -> ExitCode {
     let words = match words_behind_name(&rt) {
         Ok(words) => words,
+        Err(error) if error.kind() == io::ErrorKind::OutOfMemory => return out_of_memory(&rt),
         Err(_) => Vec::new(rt.alloc()),
     };
     let status = xray(
@@ -32,6 +34,15 @@ fn words_behind_name(rt: &HostRuntime) -> io::Result<Vec<String>> {
     let words = env::args(rt)?.skip(1).collect(rt.alloc())?;
     Ok(words)
 }
+
+/// Tells that memory ran out. Nobody hears of it where err fails.
+fn out_of_memory(rt: &HostRuntime) -> ExitCode {
+    let _ = write_all(&mut ErrSink::new(rt.stderr()), b"xray: out of memory\n");
+    ExitCode::from(OUT_OF_MEMORY)
+}
+
+/// The status where memory runs out.
+const OUT_OF_MEMORY: u8 = 5;
 
 /// The time of the clock; the epoch where there is no clock, or where it stands before the epoch.
 fn wall_time(rt: &HostRuntime) -> Wall {

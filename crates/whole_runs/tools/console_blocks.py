@@ -1,0 +1,111 @@
+#!/usr/bin/env python3
+"""Runs the console blocks of the documents, and says where the program prints something else than they show.
+
+usage: crates/whole_runs/tools/console_blocks.py [PROGRAM]
+    PROGRAM: the built program, crates/xray/out/xray if left out
+
+In a block ```console a line that begins with `$ ` is a command, and the lines behind it are what it prints, on standard
+output and standard error, up to the next command. Each document has one shell, so that a command finds the files and the
+folder that those before it left. The tour of README.md begins at the top of a copy of the examples; the other documents
+begin in a folder with the files of examples/first-run and examples/asm. A difference is told with its document and line,
+and then the status is 1.
+"""
+import argparse
+import dataclasses
+import pathlib
+import shutil
+import subprocess
+import sys
+import tempfile
+
+ROOT = next(folder for folder in pathlib.Path(__file__).resolve().parents if (folder / "crates.txt").is_file())
+TOUR = "README.md"
+MANUALS = ["docs/COMMANDS.md", "docs/FORMATS.md"]
+EXAMPLES = ["first-run", "asm"]
+# What the shell prints behind each command, on a line of its own.
+MARK = "---- console_blocks: done ----"
+
+
+@dataclasses.dataclass
+class Step:
+    """A command of a block, the line that it stands on, and what the document shows below it."""
+
+    line: int
+    command: str
+    shown: str
+
+
+def steps_of(document):
+    """The commands of a document's console blocks, in order."""
+    steps = []
+    in_block = False
+    for number, line in enumerate(document.read_text(encoding="utf-8").splitlines(), start=1):
+        if line.startswith("```"):
+            in_block = line == "```console"
+        elif in_block and line.startswith("$ "):
+            steps.append(Step(number, line[2:], ""))
+        elif in_block:
+            steps[-1].shown += line + "\n"
+    return steps
+
+
+def printed(steps, folder, program_folder):
+    """What each of the commands prints, all of them run by one shell."""
+    script = "".join(f"{step.command}\nprintf '\\n%s\\n' '{MARK}'\n" for step in steps)
+    environment = {"PATH": f"{program_folder}:/usr/bin:/bin", "LC_ALL": "C"}
+    done = subprocess.run(
+        ["bash"], input=script.encode(), cwd=folder, env=environment, stdout=subprocess.PIPE, stderr=subprocess.STDOUT
+    )
+    return done.stdout.decode(errors="replace").split(f"\n{MARK}\n")[:-1]
+
+
+def prepared(folder, name, program):
+    """The folder that a document begins in, and the one that has the program."""
+    shutil.copytree(ROOT / "examples", folder / "examples")
+    program_folder = folder / "crates/xray/out"
+    program_folder.mkdir(parents=True)
+    (program_folder / "xray").symlink_to(program)
+    if name == TOUR:
+        return folder, program_folder
+    together = folder / "together"
+    together.mkdir()
+    for example in EXAMPLES:
+        for file in (ROOT / "examples" / example).iterdir():
+            shutil.copy(file, together)
+    return together, program_folder
+
+
+def differences(name, program):
+    """How many commands a document has, and a text for each that prints something else."""
+    steps = steps_of(ROOT / name)
+    with tempfile.TemporaryDirectory(prefix="console_blocks.") as folder_name:
+        outputs = printed(steps, *prepared(pathlib.Path(folder_name), name, program))
+    told = [
+        f"{name}:{step.line}: $ {step.command}\nshown:\n{step.shown}printed:\n{output}"
+        for step, output in zip(steps, outputs)
+        if output != step.shown
+    ]
+    if len(outputs) < len(steps):
+        told.append(f"{name}:{steps[len(outputs)].line}: the shell ended before this command\n")
+    return len(steps), told
+
+
+def main():
+    parser = argparse.ArgumentParser(description="Runs the console blocks of the documents.")
+    parser.add_argument("program", nargs="?", type=pathlib.Path, default=ROOT / "crates/xray/out/xray", metavar="PROGRAM")
+    program = parser.parse_args().program.resolve()
+    if not program.is_file():
+        parser.error(f"there is no program {program}")
+    count, told = 0, []
+    for name in [TOUR, *MANUALS]:
+        steps, differing = differences(name, program)
+        count += steps
+        told += differing
+    for text in told:
+        print(text)
+    print(f"{count} commands, {len(told)} differ from what the documents show")
+    sys.exit(1 if told else 0)
+
+
+if __name__ == "__main__":
+    main()

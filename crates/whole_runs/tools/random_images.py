@@ -1,0 +1,371 @@
+"""Random image files for comparisons with the model: of random assembler texts, of random units, of the form that `sim`
+runs, and damaged in all the ways in which an image is refused.
+"""
+import dataclasses
+import importlib.util
+import pathlib
+import struct
+import sys
+
+import xray_model as model
+
+ROOT = next(folder for folder in pathlib.Path(__file__).resolve().parents if (folder / "crates.txt").is_file())
+
+
+def loaded(path):
+    """A Python file as a module."""
+    spec = importlib.util.spec_from_file_location(path.stem, path)
+    module = importlib.util.module_from_spec(spec)
+    sys.modules[path.stem] = module
+    spec.loader.exec_module(module)
+    return module
+
+
+texts = loaded(ROOT / "crates/asm_text/tools/random_texts.py")
+
+# ---- An image file as its parts, of which each may be damaged
+
+ENTRY_SLED = bytes.fromhex("EB09660F1F8400")
+EXIT_SLED = bytes.fromhex("C32E660F1F8400")
+PLAIN_REGISTERS = [number for number in range(16) if number not in model.RESERVED]
+
+
+@dataclasses.dataclass
+class Draft:
+    """The parts of an image file; the counts are those of the parts, but for what `counts` adds to them."""
+
+    base: int
+    code: bytearray
+    functions: list  # [start, name]
+    entries: list  # [address, function, kind, always, version, padding]
+    entry: int = 0
+    trampolines: list = dataclasses.field(default_factory=list)
+    magic: bytes = b"XRIM"
+    version: int = 1
+    counts: list = dataclasses.field(default_factory=lambda: [0, 0, 0])
+
+    def file(self):
+        sizes = [len(self.code), len(self.functions), len(self.entries)]
+        counts = [(size + more) % (1 << 32) for size, more in zip(sizes, self.counts)]
+        addresses = [address % (1 << 64) for address in self.trampolines]
+        header = self.magic + struct.pack(
+            "<IQIIII4Q", self.version % (1 << 32), self.base % (1 << 64), *counts, self.entry % (1 << 32), *addresses
+        )
+        named = b"".join(struct.pack("<QB", start % (1 << 64), len(name)) + name for start, name in self.functions)
+        mapped = b"".join(
+            struct.pack("<QQBBB", address % (1 << 64), function % (1 << 64), kind, always, version) + padding
+            for address, function, kind, always, version, padding in self.entries
+        )
+        return header + bytes(self.code) + named + mapped
+
+
+def draft_of(file):
+    """The parts of an image file without a fault."""
+    _, version, base, length, functions, sleds, entry, *trampolines = struct.unpack_from("<4sIQIIII4Q", file)
+    at = model.HEADER_LENGTH + length
+    draft = Draft(base, bytearray(file[model.HEADER_LENGTH : at]), [], [], entry, list(trampolines), version=version)
+    for _ in range(functions):
+        start, count = struct.unpack_from("<QB", file, at)
+        draft.functions.append([start, file[at + 9 : at + 9 + count]])
+        at += 9 + count
+    for _ in range(sleds):
+        draft.entries.append([*struct.unpack_from("<QQBBB", file, at), file[at + 19 : at + 32]])
+        at += model.ENTRY_LENGTH
+    return draft
+
+
+def assembled_draft(draw):
+    """The image of a random assembler text without a fault."""
+    while True:
+        text = texts.written(draw, texts.program(draw))
+        try:
+            return draft_of(texts.assembled(text, draw.choice([0, 1, 2, 4])))
+        except texts.Refused:
+            continue
+
+
+def number_32(draw):
+    return draw.choice([0, 1, 65, 255, 256, 0x7FFFFFFF, 0x80000000, 0xFFFFFFFF, draw.randrange(1 << 32)])
+
+
+def straight(draw, registers=PLAIN_REGISTERS):
+    """The bytes of an instruction that is no branch."""
+    one, two = draw.choice(registers), draw.choice(registers)
+    high = b"\x41" if one >= 8 else b""
+    sum_prefix = 0x48 + 4 * (two >= 8) + (one >= 8)
+    operands = 0xC0 + 8 * (two % 8) + one % 8
+    return draw.choice(
+        [
+            high + bytes([0xB8 + one % 8]) + struct.pack("<I", number_32(draw)),
+            bytes([sum_prefix, draw.choice([0x01, 0x29]), operands]),
+            high + bytes([0x50 + one % 8]),
+            high + bytes([0x58 + one % 8]),
+            bytes([0xE6, draw.randrange(256)]),
+        ]
+    )
+
+
+BRANCHES = [b"\xE8", b"\xE9", b"\x0F\x85"]
+
+
+class Units:
+    """Random units, one behind the other, with what has to be told of them: places, ends of branches, and sleds."""
+
+    def __init__(self, draw, base):
+        self.draw = draw
+        self.base = base
+        self.code = bytearray()
+        self.places = []
+        self.branches = []
+        self.sleds = []  # (place, kind)
+        self.few = draw.sample(PLAIN_REGISTERS, 3)
+
+    def add(self, unit):
+        self.places.append(len(self.code))
+        self.code += unit
+
+    def add_any(self):
+        draw = self.draw
+        match draw.choice(["straight", "straight", "straight", "branch", "sled", "sled", "ret", "align", "address"]):
+            case "straight":
+                self.add(straight(draw, draw.choice([self.few, PLAIN_REGISTERS])))
+            case "branch":
+                self.add(draw.choice(BRANCHES) + bytes(4))
+                self.branches.append(len(self.code))
+            case "sled":
+                self.add_sled()
+            case "ret":
+                self.add(b"\xC3")
+            case "align":
+                self.add(b"\x90")
+            case "address":
+                self.add_address()
+
+    def add_sled(self):
+        if len(self.code) % 2 == 1:
+            self.add(b"\x90")
+        kind = self.draw.choice([0, 0, 1, 1, 2])
+        displacement = self.draw.choice([bytes.fromhex("00020000"), self.draw.randbytes(4)])
+        self.add((EXIT_SLED if kind == 1 else ENTRY_SLED) + displacement)
+        self.sleds.append((self.places[-1], kind))
+
+    def add_address(self):
+        """A push of an address for a `ret`, perhaps of no unit."""
+        target = self.base + self.draw.choice([*self.places, self.draw.randrange(len(self.code) + 9)])
+        register = self.draw.choice([0, 1, 2, 3])
+        self.add(bytes([0xB8 + register]) + struct.pack("<I", target % (1 << 32)))
+        self.add(bytes([0x50 + register]))
+
+    def aim_branches(self):
+        for end in self.branches:
+            struct.pack_into("<i", self.code, end - 4, self.draw.choice(self.places) - end)
+
+
+def units_draft(draw):
+    """Random units, so that there are branches and sleds which no text has."""
+    base = 16 * texts.up_to(draw, model.BASE_LIMIT // 16)
+    units = Units(draw, base)
+    for _ in range(draw.randint(1, 25)):
+        units.add_any()
+    units.aim_branches()
+    others = units.places[1:]
+    starts = [0, *sorted(draw.sample(others, min(len(others), draw.randint(0, 3))))]
+    names = draw.sample(texts.NAMES + ["1", "9x"], len(starts))
+    functions = [[base + start, name.encode()] for start, name in zip(starts, names)]
+    entries = []
+    for place, kind in units.sleds:
+        function = max(start for start in starts if start <= place)
+        version, always = draw.choice([0, 1]), draw.choice([0, 1, 1, 2, 255])
+        padding = draw.choice([bytes(13), draw.randbytes(13)])
+        entries.append([base + place, base + function, kind, always, version, padding])
+    trampolines = [base + 0x200000 + 16 * kind for kind in range(3)] + [draw.randrange(1 << 64)]
+    return Draft(base, units.code, functions, entries, draw.randrange(len(functions)), trampolines)
+
+
+def replayed_draft(draw):
+    """An image of the form that `sim` runs, or nearly so."""
+    base = 16 * texts.up_to(draw, model.BASE_LIMIT // 16)
+    code = bytearray(ENTRY_SLED + draw.randbytes(4))
+    for _ in range(draw.randint(0, 8)):
+        register = draw.choice(PLAIN_REGISTERS)
+        high = b"\x41" if register >= 8 else b""
+        move = high + bytes([0xB8 + register % 8]) + struct.pack("<I", number_32(draw))
+        code += draw.choice([move, bytes([0xE6, draw.randrange(256)])])
+    if draw.random() < 0.08:
+        code += straight(draw)
+    if len(code) % 2 == 1:
+        code += b"\x90"
+    elif draw.random() < 0.05:
+        code += b"\x90\x90"
+    second = len(code)
+    code += EXIT_SLED + draw.randbytes(4)
+    if draw.random() < 0.05:
+        code += draw.choice([b"\x90", b"\x50", b"\xC3"])
+    kind = draw.choice([0, 0, 0, 2])
+    rows = [(0, kind), (second, 1)]
+    functions = [[base, draw.choice([b"main", b"f", b"n" * 255])]]
+    if draw.random() < 0.05:
+        functions.append([base + second, b"second"])
+    entries = [
+        [base + place, functions[-1][0] if place else base, kind, draw.choice([0, 1]), draw.choice([0, 1]), bytes(13)]
+        for place, kind in rows
+    ]
+    trampolines = [base + 0x200000 + 16 * number for number in range(4)]
+    return Draft(base, code, functions, entries, draw.randrange(len(functions)), trampolines)
+
+
+# ---- Damages
+
+
+def near(draw, value):
+    return value + draw.choice([-16, -2, -1, 1, 1, 2, 16])
+
+
+def other_header(draw, draft):
+    match draw.randrange(9):
+        case 0:
+            draft.magic = draw.choice([b"XRIN", b"xrim", b"\0\0\0\0", b"MIRX"])
+        case 1:
+            draft.version = draw.choice([0, 2, 0x100, 0xFFFFFFFF])
+        case 2:
+            draft.base = draw.choice([near(draw, draft.base), 0x7FFF00000010, 0x7FFF00000000, 8, 0, (1 << 64) - 16])
+        case 3:
+            length = len(draft.code)
+            draft.counts[0] = draw.choice([-1, 1, 8, 1_048_576 - length, 1_048_577 - length, -(1 << 31)])
+        case 4:
+            functions = len(draft.functions)
+            least, most = -functions, (1 << 32) - 1 - functions
+            draft.counts[1] = draw.choice([least, -1, 1, 1024 - functions, 1025 - functions, most])
+        case 5:
+            sleds = len(draft.entries)
+            draft.counts[2] = draw.choice([-1, 1, 4096 - sleds, 4097 - sleds, (1 << 32) - 1 - sleds])
+        case 6:
+            draft.entry = draw.choice([len(draft.functions), len(draft.functions) - 1, 0xFFFFFFFF])
+        case 7:
+            # All that is said by addresses moves with the base.
+            by = draw.choice([8, 16, -draft.base, model.BASE_LIMIT - draft.base])
+            draft.base += by
+            draft.functions = [[start + by, name] for start, name in draft.functions]
+            draft.entries = [[address + by, function + by, *rest] for address, function, *rest in draft.entries]
+            draft.trampolines = [address + by for address in draft.trampolines]
+        case 8:
+            draft.trampolines[draw.randrange(4)] = draw.randrange(1 << 64)
+
+
+def far_trampoline(draw, draft):
+    """A trampoline at the edge of what one of the sleds reaches, or one past it."""
+    if draft.entries:
+        address, _, kind, *_ = draw.choice([draft.entries[0], draft.entries[-1], draw.choice(draft.entries)])
+        edge = draw.choice([-(1 << 31), -(1 << 31) - 1, (1 << 31) - 1, 1 << 31])
+        if 0 <= address + 11 + edge < 1 << 64:
+            draft.trampolines[kind % 4] = address + 11 + edge
+
+
+def other_code(draw, draft):
+    if not draft.code:
+        return
+    at = draw.randrange(len(draft.code))
+    odd = draw.choice([0xEB, 0xC3, 0x2E, 0x90, 0x41, 0x48, 0x4D, 0x0F, 0x85, 0xBC, 0x54, 0x01, 0xE8, draw.randrange(256)])
+    match draw.randrange(4):
+        case 0:
+            draft.code[at] = odd
+        case 1:
+            draft.code.insert(at, odd)
+        case 2:
+            del draft.code[at]
+        case 3:
+            del draft.code[at:]
+
+
+ENDS = [
+    "41", "48", "48 01", "0F", "BC", "54", "41 BA", "E6", "E8 00 00 00", "C3", "C3 2E", "EB", "EB 09 66 0F 1F 84",
+    "C3 2E 66 0F 1F 84 00 00 00 00", "48 01 C4", "49 01 D2", "4C 29 D4", "48 01 05", "4A 01 C0", "0F 84", "90",
+]  # fmt: skip
+
+
+def other_end(draw, draft):
+    """Bytes behind the code's last unit."""
+    draft.code += bytes.fromhex(draw.choice(ENDS))
+
+
+# Names with a byte that no name has, many of them next to bytes that one may have; the last is a name.
+WRONG_NAMES = [b"", b"a b", b"a-b", b"a\x80", b"'", b"a\0", b"@", b"`", b"[", b"/", b":", b"{", b"1"]
+
+
+def other_function(draw, draft):
+    function = draw.choice(draft.functions)
+    match draw.randrange(6):
+        case 0:
+            function[0] = near(draw, function[0])
+        case 1:
+            function[0] = draw.choice(draft.functions)[0]
+        case 2:
+            function[1] = draw.choice(WRONG_NAMES)
+        case 3:
+            function[1] = draw.choice(draft.functions)[1]
+        case 4:
+            draft.functions.append([draft.base + len(draft.code), b"end"])
+        case 5:
+            draft.functions.reverse()
+
+
+def other_entry(draw, draft):
+    if not draft.entries:
+        draft.entries.append([draft.base, draft.base, 0, 1, 0, bytes(13)])
+        return
+    at = draw.randrange(len(draft.entries))
+    entry = draft.entries[at]
+    match draw.randrange(8):
+        case 0:
+            entry[0] = near(draw, entry[0])
+        case 1:
+            entry[1] = draw.choice([near(draw, entry[1]), *[start for start, _ in draft.functions]])
+        case 2:
+            entry[2] = draw.choice([0, 1, 2, 3, 4, 255])
+        case 3:
+            entry[4] = draw.choice([0, 1, 2, 3, 255])
+        case 4:
+            del draft.entries[at]
+        case 5:
+            draft.entries.insert(at, list(entry))
+        case 6:
+            draft.entries.reverse()
+        case 7:
+            entry[5] = draw.randbytes(13)
+            entry[3] = draw.randrange(256)
+
+
+def other_branch(draw, draft):
+    """A distance a little further, or to the code's ends."""
+    places = [at for at, byte in enumerate(draft.code) if byte in (0xE8, 0xE9, 0x85) and at + 5 <= len(draft.code)]
+    if places:
+        at = draw.choice(places) + 1
+        (old,) = struct.unpack_from("<i", draft.code, at)
+        ends = [-(at + 4), -(at + 5), len(draft.code) - at - 4, 1 << 30, -(1 << 31), (1 << 31) - 1]
+        new = draw.choice([near(draw, old), near(draw, old), *ends])
+        struct.pack_into("<I", draft.code, at, new % (1 << 32))
+
+
+PARTS = [
+    other_header, far_trampoline, other_code, other_code, other_end, other_function, other_entry, other_entry, other_branch,
+]  # fmt: skip
+
+
+def other_file(draw, file):
+    """A file that is cut or longer, or has another byte."""
+    anywhere = draw.randint(0, len(file))
+    at = draw.choice([0, 4, 63, 64, len(file) - 1, len(file) - 32, anywhere, anywhere])
+    at = max(0, min(at, len(file)))
+    byte = draw.randbytes(1)
+    inside = [file[:at], file[:at] + byte + file[at + 1 :], file[:at] + byte + file[at:]]
+    return draw.choice([*inside, file + byte, file + bytes(32)])
+
+
+def random_image(draw, kinds, damaged_share):
+    draft = draw.choice(kinds)(draw)
+    is_damaged = draw.random() < damaged_share
+    if is_damaged:
+        for damage in draw.choices(PARTS, k=draw.choice([0, 1, 1, 1, 2])):
+            damage(draw, draft)
+    file = draft.file()
+    return other_file(draw, file) if is_damaged and draw.random() < 0.2 else file
