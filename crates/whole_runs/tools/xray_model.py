@@ -453,18 +453,20 @@ def turns_of(text):
     """A schedule as its turns: who goes on, and by how much."""
     lines = word_lines(text)
     if len(lines) > LINE_LIMIT:
-        raise Refused("NotYet")
+        raise Refused("Limit")
     turns = []
-    for words in lines:
+    for line, words in enumerate(lines, start=1):
         match words:
             case []:
                 continue
-            case ["t", thread, count] if number_of(thread) == 1 and number_of(count) >= 1:
+            case ["t", thread, count] if number_of(count) >= 1:
+                if number_of(thread) != 1:
+                    raise Refused("Thread", line)
                 turns.append(("thread", number_of(count)))
             case ["p", count] if number_of(count) >= 1:
                 turns.append(("patcher", number_of(count)))
             case _:
-                raise Refused("NotYet")
+                raise Refused("Syntax", line)
     return turns
 
 
