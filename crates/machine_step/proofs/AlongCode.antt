@@ -1,6 +1,6 @@
 -- Whatever a thread loads along code that keeps sleds whole is allowed.
-use Rattle.std.proofs.Common.{◌≡◌, ℕ, ◌+◌, ◌≤◌, List, [], ◌∷◌, ◌++◌, Bool, true, false, Option, Some, refl, sym, ap, subst, ◌∙◌, arith}
-use Rattle.std.specs.Prelude.{◌==◌, if◌then◌else◌}
+use Rattle.std.proofs.Common.{zero, suc, ◌≡◌, ℕ, ◌+◌, ◌≤◌, List, [], ◌∷◌, ◌++◌, Bool, true, false, Option, Some, refl, sym, ap, subst, ◌∙◌, arith}
+use Rattle.std.specs.Prelude.{◌==◌, if◌then◌else◌, slice_get, take}
 use Rattle.std.specs.List.{All}
 use Rattle.std.proofs.lemmas.Bool.{eqb-true}
 use Rattle.std.proofs.lemmas.Option.{same_Some}
@@ -189,3 +189,17 @@ loads_allowed program code keeps thread hold sleds (loaded loads place word alon
     All-push (λ (load : Load). IsAllowed program load.word load.value) loads (record { word = word; value = code place word })
     (loads_allowed program code keeps thread hold sleds along)
     (next_allowed program code keeps thread hold sleds loads place word along wanted)
+
+fits_in_order : (program : Program) (code : ℕ → ℕ → ℕ) (next : List Load → Option ℕ) (low : ℕ) (loads : List Load) (high : ℕ)
+    → Fits program code next low loads high → (i : ℕ) (load : Load) → slice_get loads i ≡ Some load → next (take i loads) ≡ Some load.word
+fits_in_order program code next low [] high fits i load at = cc
+fits_in_order program code next low (first ∷ loads) high (place, le, wanted, value, rest) zero load at =
+    wanted ∙ ap (λ (l : Load). Some l.word) (same_Some first load at)
+fits_in_order program code next low (first ∷ loads) high (place, le, wanted, value, rest) (suc i) load at =
+    fits_in_order program code (λ more. next (first ∷ more)) place loads high rest i load at
+
+pub along_in_order : (program : Program) (code : ℕ → ℕ → ℕ) (thread : ℕ) (hold : Option ℕ) (sleds : List ℕ) (loads : List Load) (place : ℕ)
+    → ReadAlong program code thread hold sleds loads place → (i : ℕ) (load : Load) → slice_get loads i ≡ Some load
+    → next_load program thread hold sleds (take i loads) ≡ Some load.word
+along_in_order program code thread hold sleds loads place along =
+    fits_in_order program code (next_load program thread hold sleds) 0 loads place (along_fits program code thread hold sleds along)

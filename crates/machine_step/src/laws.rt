@@ -35,6 +35,12 @@ pub fn some_end()
 /// it has loaded is allowed, and so is the next one; and each passing decodes its sled whole. Nothing is
 /// asked of the thread or of the sleds that it passes.
 pub fn what_is_read_along_is_allowed()
+    // Each load is of the word that the loads before it leave to be loaded next.
+    ensures in_order { (program : Program) (code : ℕ → ℕ → ℕ) (thread : ℕ) (hold : Option ℕ) (sleds : List ℕ)
+        (loads : List Load) (place : ℕ)
+        → ReadAlong program code thread hold sleds loads place
+        → (i : ℕ) (load : Load) → slice_get loads i ≡ Some load
+        → next_load program thread hold sleds (take i loads) ≡ Some load.word }
     ensures loaded { (program : Program) (code : ℕ → ℕ → ℕ) (thread : ℕ) (hold : Option ℕ) (sleds : List ℕ)
         (loads : List Load) (place : ℕ) → KeepsSleds program code
         → ReadAlong program code thread hold sleds loads place
