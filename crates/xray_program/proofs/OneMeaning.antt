@@ -2,7 +2,7 @@
 use Rattle.std.proofs.Common.{◌≡◌, ◌≢◌, ◌⊎◌, ◌<◌, ◌≤◌, ◌+◌, ◌∙◌, ◌↔◌, ℕ, zero, suc, List, [], ◌∷◌, length, map, Option, Some, None, Result, Ok, Err, inl, inr, refl, sym, ap, arith, subst, codes}
 use Rattle.std.specs.Prelude.{MatchOption}
 use Rattle.std.specs.List.{flat_map, slice_get}
-use Rattle.asm_text.specs.declared.fault.AsmFault.{AsmFault}
+use Rattle.asm_text.specs.Assembling.{assembled}
 use Rattle.handler_word.specs.declared.mark.Mark.{Mark}
 use Rattle.machine_step.specs.declared.end.End.{End}
 use Rattle.machine_step.specs.declared.limits.Limits.{Limits}
@@ -11,19 +11,19 @@ use Rattle.machine_step.specs.Texts.{plain_text, state_text}
 use Rattle.patch_script.specs.declared.command.Command.{Command as ScriptCommand}
 use Rattle.step_sim.specs.declared.turns.Turns.{Turns}
 use Rattle.step_sim.specs.Replay.{Cast, Replay}
+use Rattle.step_sim.specs.Schedules.{schedule_of}
 use Rattle.xray_image.specs.FirstRun.{IsFirstRun}
 use Rattle.xray_image.specs.Extract.{extract_text}
 use Rattle.xray_image.specs.Program.{Program, IsAccepted}
 use Rattle.xray_image.specs.Table.{Verdict, ReadsAs}
 use Rattle.xray_io.specs.Desk.{Entry, Untold, Absent, Holds}
-use Rattle.xray_program.specs.Faults.{asm_fault_text, fault_text}
+use Rattle.xray_program.specs.Faults.{asm_fault_text, fault_text, schedule_fault_text}
 use Rattle.xray_program.specs.FirstRun.{default_limits, one_thread, SimPrints}
-use Rattle.xray_program.specs.Inputs.{Form, image_form, first_run_form, script_form, schedule_form, text_form, SayAll, spoken_lines}
+use Rattle.xray_program.specs.Inputs.{Form, image_form, first_run_form, script_form, schedule_form, text_form}
 use Rattle.xray_program.specs.Meaning.{Outcome, BadLine, Unread, Refused, Done, Take, Comes, Means, MayHold, TellsAll}
 use Rattle.xray_program.specs.Plain.{IsPlainText, PlainPrints, limits_of}
 use Rattle.xray_program.specs.Words.{Command, Sim, Plain, Extract, Asm, reading}
 use Rattle.xray_program.specs.declared.words.RunOptions.{RunOptions}
-use Rattle.xray_program.proofs.Schedules.{says_one}
 use Rattle.xray_program.proofs.StraightPrints.{OneEnd}
 
 -- ---- inputs in their turn
@@ -121,34 +121,34 @@ script_decided = record {
   not_both = λ bytes a r x y. y.0 a x;
 }
 
-say_one : (spoken : List (List (List ℕ))) (a b : List Turns) → SayAll spoken a → SayAll spoken b → a ≡ b
-say_one [] [] [] x y = refl
-say_one [] [] (u ∷ b) x y = absurd y
-say_one [] (t ∷ a) b x y = absurd x
-say_one (words ∷ spoken) [] b x y = absurd x
-say_one (words ∷ spoken) (t ∷ a) [] x y = absurd y
-say_one (words ∷ spoken) (t ∷ a) (u ∷ b) (x, xs) (y, ys) =
-    ap (λ v. v ∷ a) (says_one words t u x y) ∙ ap (λ vs. u ∷ vs) (say_one spoken a b xs ys)
-
-schedule_decided : IsDecided schedule_form
-schedule_decided = record {
-  one = λ bytes a b x y. say_one (spoken_lines bytes) a b x.turns y.turns;
-  why = λ bytes r s x y. x.1 ∙ sym y.1;
-  not_both = λ bytes a r x y. y.0 a x;
-}
-
-text_decided : (threshold : ℕ) → IsDecided (text_form threshold)
-text_decided threshold = record {
-  one = λ bytes a b x y. cc;
-  why = λ bytes r s x y. reason r s x.0 y.0 (x.1 ∙ sym y.1) x.2 y.2;
-  not_both = λ bytes a r x y. never a y.0 (x ∙ sym y.1);
+-- a form is decided where a function gives the value that bytes read as, or the fault that they are refused for
+of_answers : {X F : Type 0} (kind : List ℕ) (limit : ℕ) (answer : List ℕ → Result X F) (say : F → List ℕ)
+    → IsDecided (record {
+        kind = kind;
+        limit = limit;
+        Reads = λ bytes value. answer bytes ≡ Ok value;
+        Refuses = λ bytes refusal. (fault : F) × (answer bytes ≡ Err fault) × (refusal ≡ say fault);
+      })
+of_answers {X} {F} kind limit answer say = record {
+  one = λ bytes a b x y. same_value a b (sym x ∙ y);
+  why = λ bytes r s x y. x.2 ∙ ap say (same_fault x.0 y.0 (sym x.1 ∙ y.1)) ∙ sym y.2;
+  not_both = λ bytes a r x y. never a y.0 (sym x ∙ y.1);
 }
   where
-    reason : (r s : List ℕ) (f g : AsmFault) → (let v : Result (List ℕ) AsmFault = Err f in let w : Result (List ℕ) AsmFault = Err g in v ≡ w) → r ≡ asm_fault_text f → s ≡ asm_fault_text g → r ≡ s
-    reason r s f g e x y = let same : f ≡ g = cc in x ∙ ap asm_fault_text same ∙ sym y
+    same_value : (a b : X) → (let v : Result X F = Ok a in let w : Result X F = Ok b in v ≡ w) → a ≡ b
+    same_value a b e = cc
 
-    never : (a : List ℕ) (f : AsmFault) → (let v : Result (List ℕ) AsmFault = Ok a in let w : Result (List ℕ) AsmFault = Err f in v ≡ w) → ⊥
+    same_fault : (f g : F) → (let v : Result X F = Err f in let w : Result X F = Err g in v ≡ w) → f ≡ g
+    same_fault f g e = cc
+
+    never : (a : X) (f : F) → (let v : Result X F = Ok a in let w : Result X F = Err f in v ≡ w) → ⊥
     never a f e = cc
+
+schedule_decided : (threads : ℕ) → IsDecided (schedule_form threads)
+schedule_decided threads = of_answers (codes "schedule") 16777216 (schedule_of threads) schedule_fault_text
+
+text_decided : (threshold : ℕ) → IsDecided (text_form threshold)
+text_decided threshold = of_answers (codes "text") 4194304 (λ bytes. assembled bytes threshold) asm_fault_text
 
 -- ---- the texts
 
@@ -194,7 +194,7 @@ abbrev Prints : Program → List ScriptCommand → List Turns → Outcome → Ty
 Prints program commands turns outcome = (text : List ℕ) × SimPrints program commands turns text × (outcome ≡ Done [] text)
 
 abbrev AfterScript : (List ℕ → Entry) → List ℕ → Program → List ScriptCommand → Outcome → Type 0
-AfterScript held c program commands = Take schedule_form (λ name. held name ≡ Absent) held c (Prints program commands)
+AfterScript held c program commands = Take (schedule_form 1) (λ name. held name ≡ Absent) held c (Prints program commands)
 
 abbrev AfterImage : (List ℕ → Entry) → List ℕ → List ℕ → Program → Outcome → Type 0
 AfterImage held s c program = Take script_form (λ name. held name ≡ Absent) held s (AfterScript held c program)
@@ -211,7 +211,7 @@ one_print one_end one_replay bytes program commands turns a b accepted (x, p, is
 one_after_script : OneEnd → OneReplay → (held : List ℕ → Entry) (c bytes : List ℕ) (program : Program) (commands : List ScriptCommand) (a b : Outcome)
     → TellsAll held → IsAccepted bytes program → AfterScript held c program commands a → AfterScript held c program commands b → a ≡ b
 one_after_script one_end one_replay held c bytes program commands a b told accepted x y =
-    one_take schedule_form schedule_decided held c (Prints program commands) a b (told c)
+    one_take (schedule_form 1) (schedule_decided 1) held c (Prints program commands) a b (told c)
     (λ _ turns _ p q. one_print one_end one_replay bytes program commands turns a b accepted p q) x y
 
 one_after_image : OneEnd → OneReplay → (held : List ℕ → Entry) (s c bytes : List ℕ) (program : Program) (a b : Outcome)
