@@ -1,2 +1,3 @@
 mod Rows
 mod ScheduleRows
+pub mod OneReplay

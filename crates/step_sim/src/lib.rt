@@ -2,6 +2,7 @@
 #![tactic(auto)]
 
 mod fault;
+mod laws;
 mod line;
 mod schedule;
 #[cfg(test)]
@@ -9,5 +10,6 @@ mod tests;
 mod turns;
 
 pub use fault::ScheduleFault;
+pub use laws::one_replay;
 pub use schedule::{Schedule, read_schedule};
 pub use turns::Turns;

@@ -1,7 +1,6 @@
 -- What stands behind the statuses of the call.
-use Rattle.std.specs.Prelude.{if◌then◌else◌, IfErr, OnOk, MatchOption}
-use Rattle.std.specs.List.{after_first, before_first, list_any}
-use Rattle.std.proofs.Common.{◌≡◌, ◌⊎◌, ◌≤◌, length, map, ap, ℕ, Bool, true, false, List, [], ◌∷◌, Option, Some, None, Result, Ok, Err, inl, inr, refl, sym, subst, codes, arith}
+use Rattle.std.specs.Prelude.{IfErr, OnOk}
+use Rattle.std.proofs.Common.{◌≡◌, ◌⊎◌, ℕ, List, [], Option, Some, Result, Ok, Err, inl, inr, refl, sym, subst, arith}
 use Rattle.xray_io.specs.Desk.{Entry, Absent, Holds}
 use Rattle.xray_io.specs.Sink.{Adds}
 use Rattle.xray_program.specs.declared.stop.Stop.{Stop}
@@ -167,69 +166,9 @@ simulated_by held i s c image script schedule outputs text old new image_held sc
     done_alike : (one other : List (List ℕ × List ℕ)) (text text' : List ℕ) → Done one text ≡ Done other text' → text ≡ text'
     done_alike one other text text' is = cc
 
--- file names are themselves
-files_of_files : (words : List (List ℕ)) → files_of (map File words) ≡ words
-files_of_files [] = refl
-files_of_files (word ∷ words) = ap (λ (ws : List (List ℕ)). word ∷ ws) (files_of_files words)
-
--- the items of words of which the first is no separator where `all` is false, no file name where `name` is, and has no =
--- where `equals` is
-abbrev items_by : List ℕ → List (List ℕ) → (all name equals : Bool) → List Item
-items_by word words all name equals =
-    if all then map File words
-    else if name then File word ∷ items_behind None words
-    else if equals then Given (before_first is_equals word) (after_first is_equals word) ∷ items_behind None words
-    else items_behind (Some word) words
-
-few_by : (word : List ℕ) (words : List (List ℕ)) (all name equals : Bool) → length (files_of (items_behind None words)) ≤ length words
-    → length (files_of (items_behind (Some word) words)) ≤ length words → length (files_of (items_by word words all name equals)) ≤ length (word ∷ words)
-few_by word words true name equals few fewer = let same = ap length (files_of_files words) in omega arith
-few_by word words false true equals few fewer = omega arith
-few_by word words false false true few fewer = omega arith
-few_by word words false false false few fewer = omega arith
-
--- words have no more file names than there are words
-few_names : (waiting : Option (List ℕ)) (words : List (List ℕ)) → length (files_of (items_behind waiting words)) ≤ length words
-few_names None [] = omega arith
-few_names (Some option) [] = omega arith
-few_names (Some option) (value ∷ words) = let few = few_names None words in omega arith
-few_names None (word ∷ words) =
-    few_by word words (is_text word (codes "--")) (is_name word) (list_any is_equals word) (few_names None words) (few_names (Some word) words)
-
-all_by : (word : List ℕ) (words : List (List ℕ)) (all name equals : Bool)
-    → (length (files_of (items_behind None words)) ≡ length words → files_of (items_behind None words) ≡ words)
-    → length (files_of (items_by word words all name equals)) ≡ length (word ∷ words)
-    → files_of (items_by word words all name equals) ≡ word ∷ words
-all_by word words true name equals rest same = absurd (let alike = ap length (files_of_files words) in omega arith)
-all_by word words false true equals rest same = ap (λ (ws : List (List ℕ)). word ∷ ws) (rest (omega arith))
-all_by word words false false true rest same = absurd (let few = few_names None words in omega arith)
-all_by word words false false false rest same = absurd (let few = few_names (Some word) words in omega arith)
-
--- and where they have as many, they are file names alone
-all_names : (words : List (List ℕ)) → length (files_of (items_of words)) ≡ length words → files_of (items_of words) ≡ words
-all_names [] same = refl
-all_names (word ∷ words) same =
-    all_by word words (is_text word (codes "--")) (is_name word) (list_any is_equals word) (all_names words) same
-
 pub simulated : (said : List (List ℕ)) (held held_now : List ℕ → Entry) (old new : Option (List ℕ)) → LeavesAll said held held_now old new
-    → (i s c image script schedule : List ℕ) → said ≡ codes "sim" ∷ i ∷ s ∷ c ∷ []
+    → (i s c image script schedule : List ℕ) → reading said ≡ Some (Sim i s c)
     → held i ≡ Holds image → held s ≡ Holds script → held c ≡ Holds schedule → IsSimulated image script schedule old new
 simulated said held held_now old new leaves i s c image script schedule words image_held script_held schedule_held =
-    let items = items_of (i ∷ s ∷ c ∷ []) in
-    by_files (have_only [] items) (files_of items) (all_names (i ∷ s ∷ c ∷ [])) (rw words at leaves.meant)
-  where
-    by_files : (only : Bool) (files : List (List ℕ)) → (length files ≡ 3 → files ≡ i ∷ s ∷ c ∷ [])
-        → MatchOption (if only then sim_with files else None) (Done leaves.outputs leaves.text ≡ BadLine)
-        (λ command. Comes (λ name. held name ≡ Absent) held command (Done leaves.outputs leaves.text))
-        → IsSimulated image script schedule old new
-    by_files false files same meant = absurd cc
-    by_files true [] same meant = absurd cc
-    by_files true (a ∷ []) same meant = absurd cc
-    by_files true (a ∷ b ∷ []) same meant = absurd cc
-    by_files true (a ∷ b ∷ d ∷ []) same meant =
-        let is = same refl in
-        let first : a ≡ i = cc in
-        let second : b ≡ s = cc in
-        let third : d ≡ c = cc in
-        simulated_by held a b d image script schedule leaves.outputs leaves.text old new (rw first image_held) (rw second script_held) (rw third schedule_held) meant leaves.out
-    by_files true (a ∷ b ∷ d ∷ e ∷ more) same meant = absurd cc
+    simulated_by held i s c image script schedule leaves.outputs leaves.text old new image_held script_held schedule_held
+    (rw words at leaves.meant) leaves.out

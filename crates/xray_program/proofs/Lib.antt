@@ -22,3 +22,4 @@ pub mod StraightRun
 pub mod Taking
 pub mod TextTurns
 pub mod Turning
+pub mod OneMeaning

@@ -1,5 +1,5 @@
 //! The top call.
-ghost use Rattle.std.specs.Prelude.{◌≡◌, ◌≢◌, ◌⊎◌, ◌↔◌, ◌≤◌, ℕ, [], ◌∷◌, List, None, Contains, IfOk, IfErr, OnOk, codes};
+ghost use Rattle.std.specs.Prelude.{◌≡◌, ◌≢◌, ◌⊎◌, ◌↔◌, ◌≤◌, ℕ, [], ◌∷◌, List, None, Some, Contains, IfOk, IfErr, OnOk, codes};
 ghost use Rattle.xray_io.specs.Desk.{Absent, Holds};
 ghost use Rattle.xray_program.specs.Answers.{LeavesAll, Reports, CouldNotRead, CouldNotWrite, IsSimulated, IsAnswer};
 ghost use Rattle.xray_program.specs.Calls.{StopsCall};
@@ -9,7 +9,7 @@ ghost use Rattle.xray_program.specs.Meaning.{Outcome, Done, Comes, Means, Says, 
 ghost use Rattle.xray_program.specs.Outputs.{WritesNothing};
 ghost use Rattle.xray_program.specs.Stops.{answer_of};
 ghost use Rattle.xray_program.specs.Takes.{IsAnswerSoFar, Stops};
-ghost use Rattle.xray_program.specs.Words.{outputs_named, reading, texts};
+ghost use Rattle.xray_program.specs.Words.{Sim, outputs_named, reading, texts};
 
 use crate::asm::prepare_asm;
 use crate::extract::prepare_extract;
@@ -82,7 +82,7 @@ pub fn xray_still<D: Desk, O: Sink, E: Sink>(
 
     // With status 0 the state text of the replay is on out.
     ensures headline { result ≡ 0 → (i s c image script schedule : List ℕ)
-        → texts words.now ≡ codes "sim" ∷ i ∷ s ∷ c ∷ [] → D.held desk.old i ≡ Holds image
+        → reading (texts words.now) ≡ Some (Sim i s c) → D.held desk.old i ≡ Holds image
         → D.held desk.old s ≡ Holds script → D.held desk.old c ≡ Holds schedule
         → IsSimulated image script schedule (O.written out.old) (O.written out.new) }
 {
@@ -153,7 +153,7 @@ pub fn xray<T: Threads + Wait + Sync, D: Desk, O: Sink, E: Sink, G: Gate + Sync>
 
     // With status 0 the state text of the replay is on out.
     ensures headline { result ≡ 0 → (i s c image script schedule : List ℕ)
-        → texts words.now ≡ codes "sim" ∷ i ∷ s ∷ c ∷ [] → D.held desk.old i ≡ Holds image
+        → reading (texts words.now) ≡ Some (Sim i s c) → D.held desk.old i ≡ Holds image
         → D.held desk.old s ≡ Holds script → D.held desk.old c ≡ Holds schedule
         → IsSimulated image script schedule (O.written out.old) (O.written out.new) }
 {

@@ -18,6 +18,7 @@ mod extract;
 mod inputs;
 mod items;
 mod job;
+mod laws;
 mod number_option;
 mod output;
 mod plain;
@@ -29,3 +30,4 @@ mod stop;
 mod words;
 
 pub use call::{xray, xray_still};
+pub use laws::one_meaning;

@@ -1,0 +1,19 @@
+//! Laws of what the program means, each the contract of a function that does nothing.
+ghost use Rattle.std.specs.Prelude.{◌≡◌, ℕ, List};
+ghost use Rattle.xray_io.specs.Desk.{Entry};
+ghost use Rattle.xray_program.specs.Meaning.{Outcome, Means, TellsAll};
+
+use machine_step::one_end;
+use step_sim::one_replay;
+use xray_image::one_verdict;
+
+/// Words mean one thing over a desk that tells of every name: one status, one line on err, or the
+/// same outputs and the same text.
+pub fn one_meaning()
+    ensures { (said : List (List ℕ)) (held : List ℕ → Entry) (one other : Outcome)
+        → TellsAll held → Means said held one → Means said held other → one ≡ other }
+{
+    one_verdict();
+    one_end();
+    one_replay();
+}
