@@ -1,7 +1,6 @@
 -- What stands behind the statuses of the call.
-use Rattle.std.specs.Prelude.{if◌then◌else◌, IfErr, OnOk, MatchOption}
-use Rattle.std.specs.List.{after_first, before_first, list_any}
-use Rattle.std.proofs.Common.{◌≡◌, ◌⊎◌, ◌≤◌, length, map, ap, ℕ, Bool, true, false, List, [], ◌∷◌, Option, Some, None, Result, Ok, Err, inl, inr, refl, sym, subst, codes, arith}
+use Rattle.std.specs.Prelude.{IfErr, OnOk}
+use Rattle.std.proofs.Common.{◌≡◌, ◌⊎◌, ℕ, List, [], Option, Some, Result, Ok, Err, inl, inr, refl, sym, subst, arith}
 use Rattle.xray_io.specs.Desk.{Entry, Absent, Holds}
 use Rattle.xray_io.specs.Sink.{Adds}
 use Rattle.xray_program.specs.declared.stop.Stop.{Stop}

@@ -1,13 +1,10 @@
 -- Words mean one thing over a desk that tells of every name.
-use Rattle.std.proofs.Common.{◌≡◌, ◌≢◌, ◌⊎◌, ◌<◌, ◌≤◌, ◌+◌, ◌∙◌, ◌↔◌, ℕ, zero, suc, List, [], ◌∷◌, length, map, Option, Some, None, Result, Ok, Err, inl, inr, refl, sym, ap, arith, subst, codes}
+use Rattle.std.proofs.Common.{◌≡◌, ◌≢◌, ◌<◌, ◌≤◌, ◌+◌, ◌∙◌, ◌↔◌, ℕ, zero, suc, List, [], ◌∷◌, length, map, Option, Some, None, Result, Ok, Err, inl, inr, refl, sym, ap, arith, subst, codes}
 use Rattle.std.specs.Prelude.{MatchOption}
 use Rattle.std.specs.List.{flat_map, slice_get}
 use Rattle.asm_text.specs.Assembling.{assembled}
 use Rattle.handler_word.specs.declared.mark.Mark.{Mark}
-use Rattle.machine_step.specs.declared.end.End.{End}
-use Rattle.machine_step.specs.declared.limits.Limits.{Limits}
-use Rattle.machine_step.specs.PlainStep.{State, Passing, PlainRun}
-use Rattle.machine_step.specs.Texts.{plain_text, state_text}
+use Rattle.machine_step.specs.PlainStep.{Passing}
 use Rattle.patch_script.specs.declared.command.Command.{Command as ScriptCommand}
 use Rattle.step_sim.specs.declared.turns.Turns.{Turns}
 use Rattle.step_sim.specs.Replay.{Cast, Replay}
@@ -20,7 +17,7 @@ use Rattle.xray_io.specs.Desk.{Entry, Untold, Absent, Holds}
 use Rattle.xray_program.specs.Faults.{asm_fault_text, fault_text, schedule_fault_text}
 use Rattle.xray_program.specs.FirstRun.{default_limits, one_thread, SimPrints}
 use Rattle.xray_program.specs.Inputs.{Form, image_form, first_run_form, script_form, schedule_form, text_form}
-use Rattle.xray_program.specs.Meaning.{Outcome, BadLine, Unread, Refused, Done, Take, Comes, Means, MayHold, TellsAll}
+use Rattle.xray_program.specs.Meaning.{Outcome, BadLine, Refused, Done, Take, Comes, Means, MayHold, TellsAll}
 use Rattle.xray_program.specs.Plain.{IsPlainText, PlainPrints, limits_of}
 use Rattle.xray_program.specs.Words.{Command, Sim, Plain, Extract, Asm, reading}
 use Rattle.xray_program.specs.declared.words.RunOptions.{RunOptions}

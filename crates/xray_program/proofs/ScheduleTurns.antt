@@ -22,14 +22,14 @@ answers_schedule threads bytes result (inl wanting) named = absurd (named wantin
 answers_schedule threads bytes result (inr same) named = sym same
 
 -- a verdict is not two
-one_schedule : (verdict : Result (List Turns) ScheduleFault) (turns other : List Turns) → verdict ≡ Ok turns → verdict ≡ Ok other → other ≡ turns
+pub one_schedule : (verdict : Result (List Turns) ScheduleFault) (turns other : List Turns) → verdict ≡ Ok turns → verdict ≡ Ok other → other ≡ turns
 one_schedule verdict turns other is reads = cc
 
-one_verdict : (verdict : Result (List Turns) ScheduleFault) (turns : List Turns) (fault : ScheduleFault) → verdict ≡ Ok turns → verdict ≡ Err fault → ⊥
+pub one_verdict : (verdict : Result (List Turns) ScheduleFault) (turns : List Turns) (fault : ScheduleFault) → verdict ≡ Ok turns → verdict ≡ Err fault → ⊥
 one_verdict verdict turns fault reads refused = cc
 
-one_fault : (verdict : Result (List Turns) ScheduleFault) (fault other : ScheduleFault) → verdict ≡ Err fault → verdict ≡ Err other → fault ≢ other → ⊥
-one_fault verdict fault other is also named = named cc
+pub one_fault : (verdict : Result (List Turns) ScheduleFault) (fault other : ScheduleFault) → verdict ≡ Err fault → verdict ≡ Err other → fault ≡ other
+one_fault verdict fault other is also = cc
 
 -- a schedule that was read is the one that its bytes are
 pub gives_schedule : (threads : ℕ) (entry : Entry) (bytes : List ℕ) (turns : List Turns) (result : Result (List Turns) ScheduleFault)
@@ -65,7 +65,7 @@ fails_schedule threads held name before now bytes fault result stops.BadLine giv
 fails_schedule threads held name before now bytes fault result (stops.Unread n) given answers is so = absurd so
 fails_schedule threads held name before now bytes fault result (stops.TooLong n) given answers is so = absurd so
 fails_schedule threads held name before now bytes fault result (stops.Refused n kind refusal) given answers is (same, kinds, refusals, named) =
-    let read = answers_schedule threads bytes result answers (λ wanting. one_fault result fault faults.NoMemory is wanting named) ∙ is in
+    let read = answers_schedule threads bytes result answers (λ wanting. named (one_fault result fault faults.NoMemory is wanting)) ∙ is in
     (same, rw kinds refl, rw refusals (rejects_schedule threads (held name) bytes fault given read))
 fails_schedule threads held name before now bytes fault result (stops.Unwritten n) given answers is so = so
 fails_schedule threads held name before now bytes fault result stops.NoMemory given answers is so = tt
