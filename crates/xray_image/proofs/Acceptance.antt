@@ -67,11 +67,17 @@ zip_at {A = A} (v ∷ xs) (y ∷ ys) (suc k) x len e = zip_at xs ys k x (omega a
 -- ---- every accepted program
 
 module _ (bytes : List ℕ) (program : Program) (a : IsAccepted bytes program) where
-  as_many : length a.parts.entries ≡ length (places_from (base_address bytes) a.pieces)
+  pub as_many : length a.parts.entries ≡ length (places_from (base_address bytes) a.pieces)
   as_many = sym (length-map a.parts.entries (λ e. e.sled)) ∙ ap length a.map_order ∙ length-map (places_from (base_address bytes) a.pieces) (λ p. p.address)
 
-  sleds_are : program.sleds ≡ map (sled_of a.parts.entries) (zip (places_from (base_address bytes) a.pieces) a.parts.entries)
+  pub sleds_are : program.sleds ≡ map (sled_of a.parts.entries) (zip (places_from (base_address bytes) a.pieces) a.parts.entries)
   sleds_are = ap (λ (p : Program). p.sleds) a.holds
+
+  -- as many sleds as entries
+  pub entry_total : length program.sleds ≡ length a.parts.entries
+  entry_total =
+      let zipped = zip (places_from (base_address bytes) a.pieces) a.parts.entries in
+      omega (arith, ap length sleds_are, length-map zipped (sled_of a.parts.entries), length-zip (places_from (base_address bytes) a.pieces) a.parts.entries, as_many)
 
   pub sled_total : length program.sleds ≡ entry_count bytes
   sled_total =

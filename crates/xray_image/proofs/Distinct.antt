@@ -20,7 +20,7 @@ either : (b : Bool) (x y u v : List ℕ) → (m : List ℕ) × (x ≡ u ++ m) �
 either true x y u v p q = p
 either false x y u v p q = q
 
-front_first : (seen xs ys : List ℕ) → (m : List ℕ) × (distinct seen (xs ++ ys) ≡ distinct seen xs ++ m)
+pub front_first : (seen xs ys : List ℕ) → (m : List ℕ) × (distinct seen (xs ++ ys) ≡ distinct seen xs ++ m)
 front_first seen [] ys = (distinct seen ys, refl)
 front_first seen (x ∷ xs) ys =
     let rest = front_first (x ∷ seen) xs ys in

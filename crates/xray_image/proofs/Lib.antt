@@ -17,6 +17,7 @@ pub mod Naming
 pub mod NameText
 pub mod ExtractText
 pub mod Lying
+pub mod SideBySide
 pub mod Branching
 pub mod Entries
 pub mod FunctionRows

@@ -1,6 +1,7 @@
 //! An image that was read, and what it tells.
 
 ghost use Rattle.std.specs.Prelude.{◌≡◌, ◌<◌, ◌≤◌, ◌↔◌, List, ℕ, length, true, Some, slice_get, All, Contains, MatchOption, IsSome, IfOk};
+ghost use Rattle.std.specs.List.Sorted.{IsNonDecreasingBy};
 ghost use Rattle.std.specs.Option.{option_map};
 ghost use Rattle.xray_image.specs.Program.{is_name_byte};
 ghost use Rattle.xray_image.specs.ImageView.{named_function};
@@ -122,6 +123,9 @@ impl Image {
     /// How many sleds the code has.
     pub fn sled_count(&self) -> u32
         ensures count { result ≡ length self.now.sleds }
+        ensures few { result ≤ 4096 }
+        // The sleds of a function stand side by side.
+        ensures in_order { IsNonDecreasingBy (λ s. s.id) self.now.sleds }
         ensures stand { SledsStand self.now.units self.now.sleds }
     {
         self.sleds.len() as u32
