@@ -1,2 +1,12 @@
 pub mod Micros
 pub mod CodeAt
+pub mod Language
+pub mod Refusals
+pub mod Plans
+pub mod Operands
+pub mod Sleds
+pub mod FirstPatches
+pub mod Standing
+pub mod Placing
+pub mod Scripts
+pub mod Drafts

@@ -1,6 +1,6 @@
 -- What the commands of a script mean: a list of stores and awaits.
-use Rattle.std.specs.Prelude.{ℕ, zero, suc, ◌+◌, List, [], ◌∷◌, ◌++◌, length, Bool, true, false, ◌==◌, not, if◌then◌else◌, map, filter, take_while, slice_get, Option, Some, None}
-use Rattle.std.specs.Option.{option_map_or}
+use Rattle.std.specs.Prelude.{ℕ, List, [], ◌∷◌, ◌++◌, length, Bool, true, false, ◌==◌, not, if◌then◌else◌, map, filter, take_while, slice_get, unwrap_or, Option, Some, None}
+use Rattle.std.specs.Option.{option_or}
 use Rattle.std.specs.List.{flat_map, list_any, enumerate_from}
 use Rattle.xray_image.specs.declared.sled.Sled.{Sled}
 use Rattle.xray_image.specs.declared.sled.SledKind.{SledKind}
@@ -12,7 +12,7 @@ use Rattle.sled_words.specs.Parts.{patched}
 use Rattle.patch_script.specs.declared.command.Command.{Command}
 use Rattle.patch_script.specs.declared.command.Command.TheVariants as commands
 use Rattle.patch_script.specs.declared.micro.Micro.{Micro}
-use Rattle.patch_script.specs.declared.micro.Micro.TheVariants.{Store, Await}
+use Rattle.patch_script.specs.declared.micro.Micro.TheVariants.{Store, Await, End}
 
 -- a sled and its number
 abbrev pub Numbered : Type 0
@@ -92,6 +92,10 @@ start_of program script = length (micros program (take_while (λ c. not (is_go c
 abbrev pub total_of : Program → List Command → ℕ
 total_of program script = length (micros program script)
 
+-- the micro step at a place, and the end behind them all
+abbrev pub micro_at : Program → List Command → ℕ → Micro
+micro_at program script place = unwrap_or (slice_get (micros program script) place) End
+
 -- the passing before which a script holds a thread
 abbrev pub hold_by : ℕ → Command → Option ℕ
 hold_by thread (commands.Hold held passing) = if held == thread then Some passing else None
@@ -99,8 +103,4 @@ hold_by thread _ = None
 
 abbrev pub hold_of : ℕ → List Command → Option ℕ
 hold_of thread [] = None
-hold_of thread (command ∷ rest) = first_some (hold_by thread command) (hold_of thread rest)
-  where
-    first_some : Option ℕ → Option ℕ → Option ℕ
-    first_some (Some n) other = Some n
-    first_some None other = other
+hold_of thread (command ∷ rest) = option_or (hold_by thread command) (hold_of thread rest)

@@ -1,8 +1,26 @@
-//! Patch scripts: what their commands mean as stores.
+//! Patch scripts: which texts are scripts, and what their commands mean as stores.
+//!
+//! `line` reads a line as a command, `standing` keeps what the commands so far have done, by which `reading` refuses
+//! the first line that may not follow, and `placed` gives each command its place among the micro steps. The micro steps
+//! of a script aren't stored: a script may have some sixteen million of them, and each is found by its place.
 #![tactic(auto)]
 
 mod command;
+mod fault;
+mod first_patches;
+mod keyword;
+mod line;
 mod micro;
+mod placed;
+mod reading;
+mod script;
+mod sleds;
+mod standing;
+#[cfg(test)]
+mod tests;
 
 pub use command::Command;
+pub use fault::ScriptFault;
 pub use micro::Micro;
+pub use reading::read_script;
+pub use script::Script;

@@ -1,0 +1,14 @@
+pub mod Lists
+pub mod Words
+pub mod Holding
+pub mod Steps
+pub mod Firsts
+pub mod Ranges
+pub mod Places
+pub mod Adding
+pub mod NoEnd
+pub mod Finishing
+pub mod Orderly
+pub mod Within
+pub mod Before
+mod Rows

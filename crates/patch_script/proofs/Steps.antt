@@ -1,0 +1,155 @@
+-- Micro steps by their commands.
+use Rattle.std.proofs.Common.{◌≡◌, ℕ, ◌+◌, ◌≤◌, zero, suc, List, [], ◌∷◌, ◌++◌, ◌||◌, Bool, true, false, cond, not, length, take, drop, Some, None, refl, sym, ap, subst, ◌∙◌, inl, inr, arith, append_assoc}
+use Rattle.std.specs.Prelude.{slice_get, take_while, find, option_map}
+use Rattle.std.specs.Option.{option_or}
+use Rattle.std.proofs.lemmas.Bool.{cases_Bool}
+use Rattle.std.proofs.lemmas.List.{append-nil, length-append, length-map, take-append-drop}
+use Rattle.std.proofs.lemmas.List.Sums.{take_while-cons}
+use Rattle.std.proofs.lemmas.Option.{slice_get_within}
+use Rattle.xray_image.specs.Program.{Program}
+use Rattle.patch_script.specs.declared.command.Command.{Command}
+use Rattle.patch_script.specs.declared.command.Command.TheVariants as commands
+use Rattle.patch_script.specs.declared.micro.Micro.{Micro}
+use Rattle.patch_script.specs.Micros.{Numbered, all_sleds, sleds_of, patches, numbers, patch_sled, unpatch_sled, steps_of, micros_behind, micros, total_of, start_of, is_go}
+use Rattle.patch_script.specs.Plans.{is_waiting, waiting_line}
+use Rattle.patch_script.specs.Placing.{patched_by, step_count}
+use Rattle.patch_script.specs.Refusals.{Lines, has_go}
+use Rattle.patch_script.specs.Sleds.{sleds_named}
+use Rattle.patch_script.proofs.Lists.{four_each, split_at, slice_get-append_left, slice_get-append_right}
+
+pub micros_behind-append : (program : Program) (earlier : List ℕ) (xs ys : List Command)
+    → micros_behind program earlier (xs ++ ys) ≡ micros_behind program earlier xs ++ micros_behind program (earlier ++ patched_by program xs) ys
+micros_behind-append program earlier [] ys = ap (λ e. micros_behind program e ys) (sym (append-nil earlier))
+micros_behind-append program earlier (x ∷ xs) ys =
+    let here = steps_of program earlier x in
+    let more = earlier ++ numbers (patches program x) in
+    ap (λ steps. here ++ steps) (micros_behind-append program more xs ys)
+    ∙ sym (append_assoc here (micros_behind program more xs) (micros_behind program (more ++ patched_by program xs) ys))
+    ∙ ap (λ e. (here ++ micros_behind program more xs) ++ micros_behind program e ys) (append_assoc earlier (numbers (patches program x)) (patched_by program xs))
+
+fours : (program : Program) (s : Numbered) → length (patch_sled program s) ≡ 4
+fours program s = refl
+
+-- ---- how many
+
+pub length-steps : (program : Program) (earlier : List ℕ) (command : Command) → length (steps_of program earlier command) ≡ step_count command (length (sleds_named program command))
+length-steps program earlier commands.Patch = four_each (patch_sled program) (all_sleds program) (fours program)
+length-steps program earlier commands.Unpatch = length-map (all_sleds program) (unpatch_sled earlier)
+length-steps program earlier (commands.PatchFunction id) = four_each (patch_sled program) (sleds_of program id) (fours program)
+length-steps program earlier (commands.UnpatchFunction id) = length-map (sleds_of program id) (unpatch_sled earlier)
+length-steps program earlier command = refl
+
+pub total_more : (program : Program) (script : List Command) (command : Command)
+    → total_of program (script ++ command ∷ []) ≡ total_of program script + step_count command (length (sleds_named program command))
+total_more program script command =
+    ap length (micros_behind-append program [] script (command ∷ []))
+    ∙ length-append (micros program script) (steps_of program (patched_by program script) command ++ [])
+    ∙ ap (λ steps. total_of program script + length steps) (append-nil (steps_of program (patched_by program script) command))
+    ∙ ap (λ n. total_of program script + n) (length-steps program (patched_by program script) command)
+
+pub total_grows : (program : Program) (xs ys : List Command) → total_of program xs ≤ total_of program (xs ++ ys)
+total_grows program xs ys =
+    omega (arith, ap length (micros_behind-append program [] xs ys), length-append (micros program xs) (micros_behind program (patched_by program xs) ys))
+
+take_front : (xs : List Command) (i j : ℕ) → i ≤ j → (m : List Command) × (take j xs ≡ take i xs ++ m)
+take_front xs zero j le = (take j xs, refl)
+take_front xs (suc i) zero le = absurd (omega arith)
+take_front [] (suc i) (suc j) le = ([], refl)
+take_front (x ∷ xs) (suc i) (suc j) le = let rest = take_front xs i j (omega arith) in (rest.0, ap (λ t. x ∷ t) rest.1)
+
+pub total_in_order : (program : Program) (script : List Command) (i j : ℕ) → i ≤ j → total_of program (take i script) ≤ total_of program (take j script)
+total_in_order program script i j le =
+    let more = take_front script i j le in
+    omega (arith, ap (total_of program) more.1, total_grows program (take i script) more.0)
+
+pub total_part : (program : Program) (script : List Command) (i : ℕ) → total_of program (take i script) ≤ total_of program script
+total_part program script i = omega (arith, ap (total_of program) (take-append-drop i script), total_grows program (take i script) (drop i script))
+
+-- ---- a step of a command
+
+pub step_at : (program : Program) (script : List Command) (i : ℕ) (command : Command) (n : ℕ) (micro : Micro) → slice_get script i ≡ Some command
+    → slice_get (steps_of program (patched_by program (take i script)) command) n ≡ Some micro → slice_get (micros program script) (total_of program (take i script) + n) ≡ Some micro
+step_at program script i command n micro at step =
+    let front = take i script in
+    let here = steps_of program (patched_by program front) command in
+    let behind = micros_behind program (patched_by program front ++ numbers (patches program command)) (drop (suc i) script) in
+    let whole : micros program script ≡ micros program front ++ (here ++ behind) =
+    ap (micros program) (split_at script i command at) ∙ micros_behind-append program [] front (command ∷ drop (suc i) script) in
+    ap (λ steps. slice_get steps (total_of program front + n)) whole
+    ∙ slice_get-append_right (micros program front) (here ++ behind) n
+    ∙ slice_get-append_left here behind n (slice_get_within here n micro step)
+    ∙ step
+
+-- ---- before go
+
+abbrev pub stays : Command → Bool
+stays command = not (is_go command)
+
+pub front-cons : (x : Command) (xs : List Command) → take_while stays (x ∷ xs) ≡ cond (not (is_go x)) (x ∷ take_while stays xs) []
+front-cons x xs = take_while-cons stays x xs
+
+started : (xs ys : List Command) → has_go xs ≡ true → take_while stays (xs ++ ys) ≡ take_while stays xs
+started [] ys go = absurd cc
+started (x ∷ xs) ys go = elim (cases_Bool (is_go x)) [
+  | inl so ↦
+      front-cons x (xs ++ ys) ∙ ap (λ b. cond (not b) (x ∷ take_while stays (xs ++ ys)) []) so
+      ∙ sym (front-cons x xs ∙ ap (λ b. cond (not b) (x ∷ take_while stays xs) []) so)
+  | inr isnt ↦
+      front-cons x (xs ++ ys) ∙ ap (λ t. cond (not (is_go x)) (x ∷ t) []) (started xs ys (sym (ap (λ b. b || has_go xs) isnt) ∙ go))
+      ∙ sym (front-cons x xs)
+]
+
+or_parts : (a b : Bool) → (a || b) ≡ false → (a ≡ false) × (b ≡ false)
+or_parts true b h = cc
+or_parts false b h = (refl, h)
+
+not_started : (xs ys : List Command) → has_go xs ≡ false → take_while stays (xs ++ ys) ≡ xs ++ take_while stays ys
+not_started [] ys none = refl
+not_started (x ∷ xs) ys none =
+    let parts = or_parts (is_go x) (has_go xs) none in
+    front-cons x (xs ++ ys)
+    ∙ ap (λ b. cond (not b) (x ∷ take_while stays (xs ++ ys)) []) parts.0 ∙ ap (λ t. x ∷ t) (not_started xs ys parts.1)
+
+alone : (program : Program) (script : List Command) (command : Command)
+    → total_of program (script ++ cond (not (is_go command)) (command ∷ []) []) ≡ total_of program (script ++ command ∷ [])
+alone program script commands.Go = ap (total_of program) (append-nil script) ∙ sym (total_more program script commands.Go ∙ omega arith)
+alone program script command = refl
+
+pub start_more : (program : Program) (script : List Command) (command : Command)
+    → start_of program (script ++ command ∷ []) ≡ cond (has_go script) (start_of program script) (total_of program (script ++ command ∷ []))
+start_more program script command = elim (cases_Bool (has_go script)) [
+  | inl so ↦
+      ap (total_of program) (started script (command ∷ []) so)
+      ∙ sym (ap (λ b. cond b (start_of program script) (total_of program (script ++ command ∷ []))) so)
+  | inr isnt ↦
+      ap (total_of program) (not_started script (command ∷ []) isnt ∙ ap (λ t. script ++ t) (front-cons command [])) ∙ alone program script command
+      ∙ sym (ap (λ b. cond b (start_of program script) (total_of program (script ++ command ∷ []))) isnt)
+]
+
+pub whole_front : (xs : List Command) → (m : List Command) × (xs ≡ take_while stays xs ++ m)
+whole_front [] = ([], refl)
+whole_front (x ∷ xs) =
+    let rest = whole_front xs in
+    subst (λ (t : List Command). (m : List Command) × (x ∷ xs ≡ t ++ m)) (sym (front-cons x xs))
+    (elim (is_go x) as (λ b. (m : List Command) × (x ∷ xs ≡ cond (not b) (x ∷ take_while stays xs) [] ++ m)) [
+      | true ↦ (x ∷ xs, refl)
+      | false ↦ (rest.0, ap (λ t. x ∷ t) rest.1)
+    ])
+
+pub start_within : (program : Program) (script : List Command) → start_of program script ≤ total_of program script
+start_within program script =
+    let more = whole_front script in
+    omega (arith, ap (total_of program) more.1, total_grows program (take_while stays script) more.0)
+
+-- ---- the first line at which somebody may wait
+
+pub waiting_more : (lines : Lines) (line : ℕ) (command : Command)
+    → waiting_line (lines ++ (line, command) ∷ []) ≡ option_or (waiting_line lines) (cond (is_waiting command) (Some line) None)
+waiting_more [] line command =
+    elim (is_waiting command) as (λ b. option_map (λ (l : ℕ × Command). l.0) (cond b (Some (line, command)) None) ≡ option_or None (cond b (Some line) None)) [ true ↦ refl | false ↦ refl ]
+waiting_more (l ∷ ls) line command =
+    elim (is_waiting l.1) as (λ b. option_map (λ (l : ℕ × Command). l.0) (cond b (Some l) (find (λ l. is_waiting l.1) (ls ++ (line, command) ∷ [])))
+    ≡ option_or (option_map (λ (l : ℕ × Command). l.0) (cond b (Some l) (find (λ l. is_waiting l.1) ls))) (cond (is_waiting command) (Some line) None)) [
+      | true ↦ refl
+      | false ↦ waiting_more ls line command
+    ]

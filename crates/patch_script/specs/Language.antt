@@ -1,0 +1,57 @@
+-- The lines of scripts: which words say which command.
+use Rattle.std.specs.Prelude.{ℕ, Bool, List, [], ◌∷◌, Option, Some, None, codes, find, option_map, option_and_then, nat_eq}
+use Rattle.std.specs.Cmp.Lexicographic.{pointwise}
+use Rattle.text_lines.specs.Numbers.{number_of}
+use Rattle.patch_script.specs.declared.command.Command.{Command}
+use Rattle.patch_script.specs.declared.command.Command.TheVariants as commands
+use Rattle.patch_script.specs.declared.keyword.Keyword.{Keyword}
+use Rattle.patch_script.specs.declared.keyword.Keyword.TheVariants as words
+
+-- two words are the same
+abbrev pub is_word : List ℕ → List ℕ → Bool
+is_word word other = pointwise nat_eq word other
+
+-- the first words of commands
+abbrev pub keywords : List (List ℕ × Keyword)
+keywords =
+    (codes "patch", words.Patch) ∷ (codes "unpatch", words.Unpatch)
+    ∷ (codes "patch_function", words.PatchFunction) ∷ (codes "unpatch_function", words.UnpatchFunction)
+    ∷ (codes "set_handler", words.SetHandler) ∷ (codes "remove_handler", words.RemoveHandler)
+    ∷ (codes "init", words.Init) ∷ (codes "finalize", words.Finalize)
+    ∷ (codes "hold", words.Hold) ∷ (codes "go", words.Go)
+    ∷ (codes "release", words.Release) ∷ (codes "await", words.Await) ∷ []
+
+-- what a table has for a word
+abbrev pub in_table : List (List ℕ × Keyword) → List ℕ → Option Keyword
+in_table table word = option_map (λ entry. entry.1) (find (λ entry. is_word entry.0 word) table)
+
+abbrev pub keyword_of : List ℕ → Option Keyword
+keyword_of word = in_table keywords word
+
+-- a command on one number, and on two
+abbrev pub on_one : (ℕ → Command) → List ℕ → Option Command
+on_one command word = option_map command (number_of word)
+
+abbrev pub on_two : (ℕ → ℕ → Command) → List ℕ → List ℕ → Option Command
+on_two command first second = option_and_then (λ n. option_map (command n) (number_of second)) (number_of first)
+
+-- the command that a keyword is with the words behind it
+abbrev pub says : Keyword → List (List ℕ) → Option Command
+says words.Patch [] = Some commands.Patch
+says words.Unpatch [] = Some commands.Unpatch
+says words.PatchFunction (id ∷ []) = on_one commands.PatchFunction id
+says words.UnpatchFunction (id ∷ []) = on_one commands.UnpatchFunction id
+says words.SetHandler [] = Some commands.SetHandler
+says words.RemoveHandler [] = Some commands.RemoveHandler
+says words.Init [] = Some commands.Init
+says words.Finalize [] = Some commands.Finalize
+says words.Hold (thread ∷ passing ∷ []) = on_two commands.Hold thread passing
+says words.Go [] = Some commands.Go
+says words.Release (thread ∷ []) = on_one commands.Release thread
+says words.Await (thread ∷ count ∷ []) = on_two commands.Await thread count
+says keyword behind = None
+
+-- the command that the words of a line are
+abbrev pub command_of : List (List ℕ) → Option Command
+command_of [] = None
+command_of (word ∷ behind) = option_and_then (λ keyword. says keyword behind) (keyword_of word)

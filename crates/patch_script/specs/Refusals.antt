@@ -1,0 +1,148 @@
+-- The refusals of scripts, in the order in which they are looked for: line by line, on one line in the order of its
+-- rows, and then at the end of the text. Each row is a condition on the commands before the line.
+use Rattle.std.specs.Prelude.{◌≡◌, ℕ, ◌||◌, ◌&&◌, ◌==◌, Bool, true, false, not, nat_lt, nat_le, List, [], ◌∷◌, ◌++◌, length, map, Option, Some, None, is_some, Result, Ok, Err, if◌then◌else◌}
+use Rattle.std.specs.Option.{option_map_or}
+use Rattle.std.specs.List.{list_any}
+use Rattle.text_lines.specs.Words.{is_clean, words_of}
+use Rattle.xray_image.specs.Program.{Program}
+use Rattle.xray_image.specs.Ids.{id_count}
+use Rattle.patch_script.specs.declared.command.Command.{Command}
+use Rattle.patch_script.specs.declared.command.Command.TheVariants as commands
+use Rattle.patch_script.specs.declared.fault.ScriptFault.{ScriptFault}
+use Rattle.patch_script.specs.declared.fault.ScriptFault.TheVariants.{Limit, Syntax, Function, Thread, Go, Hold, Log, SelfWait}
+use Rattle.patch_script.specs.Micros.{is_go, hold_of}
+use Rattle.patch_script.specs.Language.{command_of}
+
+-- the commands of a script, each with the number of its line
+abbrev pub Lines : Type 0
+Lines = List (ℕ × Command)
+
+abbrev pub commands_of : Lines → List Command
+commands_of lines = map (λ line. line.1) lines
+
+-- ---- what the commands so far have done
+
+abbrev pub has_go : List Command → Bool
+has_go before = list_any is_go before
+
+abbrev pub is_held : ℕ → List Command → Bool
+is_held thread before = is_some (hold_of thread before)
+
+abbrev pub releases : ℕ → Command → Bool
+releases thread (commands.Release released) = released == thread
+releases thread _ = false
+
+abbrev pub is_released : ℕ → List Command → Bool
+is_released thread before = list_any (releases thread) before
+
+abbrev pub is_init : Command → Bool
+is_init commands.Init = true
+is_init _ = false
+
+abbrev pub is_finalize : Command → Bool
+is_finalize commands.Finalize = true
+is_finalize _ = false
+
+-- ---- the rows of a line, by the commands before it
+
+-- ids and threads count from 1
+abbrev pub is_beyond : ℕ → ℕ → Bool
+is_beyond count number = number == 0 || nat_lt count number
+
+abbrev pub names_no_function : Program → Command → Bool
+names_no_function program (commands.PatchFunction id) = is_beyond (id_count program) id
+names_no_function program (commands.UnpatchFunction id) = is_beyond (id_count program) id
+names_no_function program _ = false
+
+abbrev pub names_no_thread : ℕ → Command → Bool
+names_no_thread threads (commands.Hold thread passing) = is_beyond threads thread
+names_no_thread threads (commands.Release thread) = is_beyond threads thread
+names_no_thread threads (commands.Await thread count) = is_beyond threads thread
+names_no_thread threads _ = false
+
+-- threads are held before they start, and released and awaited behind that; they start once
+abbrev pub is_misplaced : List Command → Command → Bool
+is_misplaced before commands.Go = has_go before
+is_misplaced before (commands.Hold thread passing) = has_go before
+is_misplaced before (commands.Release thread) = not (has_go before)
+is_misplaced before (commands.Await thread count) = not (has_go before)
+is_misplaced before _ = false
+
+-- a thread is held once, and a held thread is released once
+abbrev pub breaks_hold : List Command → Command → Bool
+breaks_hold before (commands.Hold thread passing) = is_held thread before
+breaks_hold before (commands.Release thread) = not (is_held thread before) || is_released thread before
+breaks_hold before _ = false
+
+-- the log is initialized once, and finalized once behind that
+abbrev pub breaks_log : List Command → Command → Bool
+breaks_log before commands.Init = list_any is_init before
+breaks_log before commands.Finalize = not (list_any is_init before) || list_any is_finalize before
+breaks_log before _ = false
+
+-- a thread that is still held before a passing makes no more passings than the ones before that
+abbrev pub waits_for_itself : List Command → Command → Bool
+waits_for_itself before (commands.Await thread count) =
+    option_map_or (λ passing. nat_lt passing count) (hold_of thread before) false && not (is_released thread before)
+waits_for_itself before _ = false
+
+-- no row refuses a command behind those before it
+pub record IsAdmitted (program : Program) (threads : ℕ) (before : List Command) (command : Command) : Type 0 where
+  pub function : names_no_function program command ≡ false
+  pub thread : names_no_thread threads command ≡ false
+  pub place : is_misplaced before command ≡ false
+  pub hold : breaks_hold before command ≡ false
+  pub log : breaks_log before command ≡ false
+  pub wait : waits_for_itself before command ≡ false
+
+-- the lines with one more, or the first row of its refusals that applies
+abbrev pub judged : Program → ℕ → Lines → ℕ → Command → Result Lines ScriptFault
+judged program threads before number command =
+    if names_no_function program command then Err (Function number)
+    else if names_no_thread threads command then Err (Thread number)
+    else if is_misplaced (commands_of before) command then Err (Go number)
+    else if breaks_hold (commands_of before) command then Err (Hold number)
+    else if breaks_log (commands_of before) command then Err (Log number)
+    else if waits_for_itself (commands_of before) command then Err (SelfWait number)
+    else Ok (before ++ (number, command) ∷ [])
+
+-- words that are no command are refused before that
+abbrev pub spoken : Program → ℕ → Lines → ℕ → Option Command → Result Lines ScriptFault
+spoken program threads before number None = Err (Syntax number)
+spoken program threads before number (Some command) = judged program threads before number command
+
+-- the command of a line, which has to be clean
+abbrev pub command_in : List ℕ → Option Command
+command_in line = if is_clean line then command_of (words_of line) else None
+
+-- a line without words is skipped, and a 1,025th with words is refused first of all
+abbrev pub with_line : Program → ℕ → Lines → ℕ × List ℕ → Result Lines ScriptFault
+with_line program threads before (number, line) =
+    if length (words_of line) == 0 then Ok before
+    else if nat_le 1024 (length before) then Err (Limit number)
+    else spoken program threads before number (command_in line)
+
+infixl 10 ◌>>=◌
+abbrev pub ◌>>=◌ : {A B : Type 0} → Result A ScriptFault → (A → Result B ScriptFault) → Result B ScriptFault
+(Ok x) >>= f = f x
+(Err e) >>= f = Err e
+
+-- the commands of all lines, behind those before them, or the first refusal
+abbrev pub read_lines : Program → ℕ → Lines → List (ℕ × List ℕ) → Result Lines ScriptFault
+read_lines program threads before [] = Ok before
+read_lines program threads before (line ∷ behind) =
+    with_line program threads before line >>= λ lines. read_lines program threads lines behind
+
+-- ---- the rows at the end of the text
+
+-- a command holds a thread that no command releases
+abbrev pub holds_for_good : List Command → Command → Bool
+holds_for_good script (commands.Hold thread passing) = not (is_released thread script)
+holds_for_good script _ = false
+
+-- what is missing at the end is told with the number behind the last line
+abbrev pub ended : ℕ → Lines → Result Lines ScriptFault
+ended number lines =
+    if not (has_go (commands_of lines)) then Err (Go number)
+    else if list_any (holds_for_good (commands_of lines)) (commands_of lines) then Err (Hold number)
+    else Ok lines

@@ -1,0 +1,70 @@
+//! Which sleds were patched before.
+
+ghost use Rattle.std.specs.Prelude.{◌≡◌, ◌||◌, [], IfOk};
+ghost use Rattle.patch_script.specs.FirstPatches.{is_before};
+
+use crate::command::Command;
+use std::alloc::{AllocError, Global};
+
+/// The numbers, counted from 0, of the first commands that patch sleds.
+#[derive(Debug, Drop)]
+pub(crate) struct FirstPatches {
+    /// That of the first `patch`.
+    all: Option<u32>,
+    /// For each function id, from id 1 on, that of its first `patch_function`.
+    by_id: Vec<Option<u32>>,
+}
+
+/// Whether a command comes before that of a number.
+fn is_before(command: Option<u32>, number: u32) -> bool
+    ensures { result ≡ is_before command number }
+{
+    match command {
+        Some(first) => first < number,
+        None => false,
+    }
+}
+
+impl FirstPatches {
+    ghost use Rattle.patch_script.specs.FirstPatches.{first_in, AreFirst, AddsFirst, HasRoom};
+
+    /// Of no commands, for an image with so many function ids.
+    pub(crate) fn new(alloc: Global, ids: u32) -> Result<FirstPatches, AllocError>
+        ensures { IfOk result (λ first. AreFirst ids [] first) }
+    {
+        Ok(FirstPatches {
+            all: None,
+            by_id: vec![in alloc; None; ids as usize]?,
+        })
+    }
+
+    /// Adds the command of a number.
+    pub(crate) fn add(&mut self, command: Command, number: u32)
+        requires { HasRoom command self.old }
+        ensures { AddsFirst self.old command number self.new }
+    {
+        match command {
+            Command::Patch => self.all = self.all.or(Some(number)),
+            Command::PatchFunction { id } => {
+                let first = &mut self.by_id[id as usize - 1];
+                *first = first.or(Some(number));
+            }
+            _ => {}
+        }
+    }
+
+    /// Whether a command before that of the number patches the sleds of a function.
+    pub(crate) fn patch_before(&self, id: u32, number: u32) -> bool
+        ensures { result ≡ (is_before self.now.all number || is_before (first_in self.now.by_id.items id) number) }
+    {
+        is_before(self.all, number) || is_before(self.of_function(id), number)
+    }
+
+    /// The first `patch_function` of a function. `None` where there is no such function.
+    fn of_function(&self, id: u32) -> Option<u32>
+        ensures { result ≡ first_in self.now.by_id.items id }
+    {
+        let place = id.checked_sub(1)?;
+        *self.by_id.get(place as usize)?
+    }
+}

@@ -1,0 +1,249 @@
+//! Commands in their places among the micro steps.
+
+ghost use Rattle.std.specs.Prelude.{◌≡◌, ◌<◌, ◌≤◌, ◌+◌, ◌-◌, ◌^◌, ℕ, false, List, [], ◌∷◌, ◌++◌, length, slice_get, Some, None, IfOk, OnOk, if◌then◌else◌};
+ghost use Rattle.xray_image.specs.declared.sled.Sled.{Sled};
+ghost use Rattle.patch_script.specs.Micros.{micro_at, steps_of, patch_sled, unpatch_sled};
+ghost use Rattle.patch_script.specs.Plans.{is_waiting};
+ghost use Rattle.patch_script.specs.Refusals.{commands_of, has_go};
+ghost use Rattle.patch_script.specs.Sleds.{HasSleds};
+
+use crate::command::Command;
+use crate::first_patches::FirstPatches;
+use crate::micro::Micro;
+use crate::sleds::{SledRange, SledValues, sled_values};
+use sled_words::{Part, handler_word, word_of};
+use std::alloc::{AllocError, Global};
+use std::snapshot::Snapshot;
+use xray_image::Image;
+
+/// The parts of a sled in the order in which patching stores them.
+const PATCH_ORDER: [Part; 4] = [Part::Id, Part::Opcode, Part::Offset, Part::Head];
+
+/// A command in its place.
+#[derive(Clone, Copy, Debug)]
+pub(crate) struct Placed {
+    /// The number of its line, from 1.
+    pub(crate) line: u32,
+    pub(crate) command: Command,
+    /// The sleds that it patches or unpatches.
+    sleds: SledRange,
+    /// How many micro steps stand before it.
+    before: u64,
+}
+
+/// Commands in their places, with what tells their micro steps.
+#[derive(Drop)]
+pub(crate) struct PlacedCommands {
+    /// The image, for contracts alone.
+    pub(crate) image: Snapshot<Image>,
+    pub(crate) commands: Vec<Placed>,
+    /// How many micro steps they are.
+    pub(crate) total: u64,
+    /// How many of them stand before `go`, or of all where it isn't there.
+    pub(crate) start: u64,
+    /// The line of the first command at which somebody may wait.
+    pub(crate) waits: Option<u32>,
+    first_patches: FirstPatches,
+    sleds: Vec<SledValues>,
+    /// The word of the handler, and the first behind those of the sleds.
+    handler_word: u32,
+}
+
+impl Command {
+    ghost use Rattle.patch_script.specs.Placing.{step_count};
+
+    /// How many micro steps a command is that patches or unpatches so many sleds.
+    fn step_count(self, sleds: u32) -> u64
+        ensures { result ≡ step_count self sleds }
+    {
+        match self {
+            Command::Patch | Command::PatchFunction { .. } => 4 * u64::from(sleds),
+            Command::Unpatch | Command::UnpatchFunction { .. } => u64::from(sleds),
+            Command::SetHandler | Command::RemoveHandler => 1,
+            Command::Init | Command::Finalize => 2,
+            Command::Hold { .. } | Command::Go => 0,
+            Command::Release { .. } | Command::Await { .. } => 1,
+        }
+    }
+
+    /// The command's line, where a thread or the patcher may wait at it.
+    fn waiting_line(self, line: u32) -> Option<u32>
+        ensures { result ≡ (if is_waiting self then Some line else None) }
+    {
+        match self {
+            Command::Hold { .. } | Command::Release { .. } | Command::Await { .. } => Some(line),
+            _ => None,
+        }
+    }
+}
+
+impl PlacedCommands {
+    ghost use Rattle.patch_script.specs.Placing.{ArePlaced, MayFollow, lines_in, IsAt, step_count, patched_before};
+
+    /// No commands.
+    pub(crate) fn new(alloc: Global, image: &Image) -> Result<PlacedCommands, AllocError>
+        ensures sound { IfOk result ArePlaced }
+        ensures image { IfOk result (λ placed. placed.image.value ≡ image.now) }
+        ensures lines { IfOk result (λ placed. lines_in placed ≡ []) }
+    {
+        let sleds = sled_values(alloc, image)?;
+        let first_patches = FirstPatches::new(alloc, image.id_count())?;
+        Ok(PlacedCommands {
+            image: Snapshot::of(image),
+            commands: Vec::new(alloc),
+            total: 0,
+            start: 0,
+            waits: None,
+            first_patches,
+            sleds,
+            handler_word: handler_word(image),
+        })
+    }
+
+    /// The sleds that a command patches or unpatches.
+    fn sleds_of(&self, command: Command) -> SledRange
+        requires { ArePlaced self.now }
+        ensures { HasSleds self.now.image.value command result }
+    {
+        match command {
+            Command::Patch | Command::Unpatch => SledRange {
+                start: 0,
+                end: self.sleds.len() as u32,
+            },
+            Command::PatchFunction { id } | Command::UnpatchFunction { id } =>
+                SledRange::of_function(&self.sleds, id),
+            _ => SledRange::none(),
+        }
+    }
+
+    /// Adds a command of a line. `going` says whether a `go` came before.
+    pub(crate) fn push(
+        &mut self,
+        line: u32,
+        command: Command,
+        going: bool,
+    ) -> Result<(), AllocError>
+        requires sound { ArePlaced self.old }
+        requires follows { MayFollow self.old command }
+        requires going { going ≡ has_go (commands_of (lines_in self.old)) }
+        ensures sound { OnOk result (ArePlaced self.new) }
+        ensures image { OnOk result (self.new.image.value ≡ self.old.image.value) }
+        ensures lines { OnOk result (lines_in self.new ≡ lines_in self.old ++ (line, command) ∷ []) }
+    {
+        let sleds = self.sleds_of(command);
+        let number = self.commands.len() as u32;
+        self.commands.push(Placed {
+            line,
+            command,
+            sleds,
+            before: self.total,
+        })?;
+        self.first_patches.add(command, number);
+        self.total += command.step_count(sleds.len());
+        self.start = self.start_behind(going);
+        self.waits = self.waits.or(command.waiting_line(line));
+        Ok(())
+    }
+
+    /// How many micro steps stand before `go`: as many as before where it came before, and all where it didn't.
+    fn start_behind(&self, going: bool) -> u64
+        ensures { result ≡ (if going then self.now.start else self.now.total) }
+    {
+        if going { self.start } else { self.total }
+    }
+
+    /// The micro step at a place.
+    pub(crate) fn micro(&self, place: u64) -> Micro
+        requires { ArePlaced self.now }
+        ensures { result ≡ micro_at self.now.image.value (commands_of (lines_in self.now)) place }
+    {
+        if place >= self.total {
+            return Micro::End;
+        }
+        let number = self.number_at(place);
+        let placed = self.commands[number];
+        self.step(number as u32, placed, place - placed.before)
+    }
+
+    /// The number of the command whose micro steps the one at a place is among.
+    fn number_at(&self, place: u64) -> usize
+        requires sound { ArePlaced self.now }
+        requires within { place < self.now.total }
+        ensures { IsAt self.now place result }
+    {
+        self.commands
+            .partition_point(|placed| placed.before <= place)
+            - 1
+    }
+
+    /// A step of the command of a number.
+    fn step(&self, number: u32, placed: Placed, step: u64) -> Micro
+        requires sound { ArePlaced self.now }
+        requires placed { slice_get self.now.commands.items number ≡ Some placed }
+        requires within { step < step_count placed.command (placed.sleds.end - placed.sleds.start) }
+        ensures { slice_get (steps_of self.now.image.value (patched_before self.now number) placed.command) step ≡ Some result }
+    {
+        match placed.command {
+            Command::Patch | Command::PatchFunction { .. } => self.patch_step(
+                placed.sleds.start + (step / 4) as u32,
+                (step % 4) as usize,
+            ),
+            Command::Unpatch | Command::UnpatchFunction { .. } => self.unpatch_step(
+                number,
+                placed.sleds.start + step as u32,
+            ),
+            Command::SetHandler => Micro::Store {
+                word: self.handler_word,
+                value: 1,
+            },
+            Command::RemoveHandler => Micro::Store {
+                word: self.handler_word,
+                value: 0,
+            },
+            Command::Init => Micro::Store {
+                word: self.handler_word + 1,
+                value: step + 1,
+            },
+            Command::Finalize => Micro::Store {
+                word: self.handler_word + 1,
+                value: step + 3,
+            },
+            Command::Release { thread } => Micro::Store {
+                word: self.handler_word + 1 + thread,
+                value: 1,
+            },
+            Command::Await { thread, count } => Micro::Await { thread, count },
+            Command::Hold { .. } | Command::Go => Micro::End,
+        }
+    }
+
+    /// A store that patches a sled, of the part of a number in the order of patching.
+    fn patch_step(&self, sled: u32, part: usize) -> Micro
+        requires sound { ArePlaced self.now }
+        requires sled { sled < length self.now.image.value.sleds }
+        requires part { part < 4 }
+        ensures { (described : Sled) → slice_get self.now.image.value.sleds sled ≡ Some described
+            → slice_get (patch_sled self.now.image.value (sled, described)) part ≡ Some result }
+    {
+        let part = PATCH_ORDER[part];
+        Micro::Store {
+            word: word_of(sled, part),
+            value: self.sleds[sled as usize].patched(part),
+        }
+    }
+
+    /// The store by which the command of a number unpatches a sled.
+    fn unpatch_step(&self, number: u32, sled: u32) -> Micro
+        requires sound { ArePlaced self.now }
+        requires sled { sled < length self.now.image.value.sleds }
+        ensures { (described : Sled) → slice_get self.now.image.value.sleds sled ≡ Some described
+            → result ≡ unpatch_sled (patched_before self.now number) (sled, described) }
+    {
+        let values = self.sleds[sled as usize];
+        let was_patched = self.first_patches.patch_before(values.id, number);
+        Micro::Store {
+            word: word_of(sled, Part::Head),
+            value: values.unpatched_head(was_patched),
+        }
+    }
+}

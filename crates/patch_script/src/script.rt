@@ -1,0 +1,99 @@
+//! A script that was read, and what it tells.
+
+ghost use Rattle.std.specs.Prelude.{◌≡◌, ◌<◌, ◌≤◌, ◌↔◌, ℕ};
+ghost use Rattle.patch_script.specs.Micros.{start_of, total_of, micro_at, hold_of};
+ghost use Rattle.patch_script.specs.Refusals.{commands_of};
+ghost use Rattle.patch_script.specs.Plans.{IsRead, IsOrderly, IsStore, IsWithin, waiting_line};
+
+use crate::micro::Micro;
+use crate::placed::PlacedCommands;
+use crate::reading::Draft;
+use crate::standing::Holds;
+use std::marker::Model;
+
+/// A patch script that was read for an image and a number of threads. Contracts see it as its commands with their
+/// lines, the image's program and the number of threads.
+///
+/// Its commands come to micro steps: single stores, and waits for a thread. They are numbered from 0 in the order in
+/// which the patcher makes them.
+#[derive(Drop)]
+pub struct Script {
+    threads: u32,
+    placed: PlacedCommands,
+    holds: Holds,
+}
+
+impl Model for Script {
+    ghost use Rattle.patch_script.specs.Plans.{Plan};
+
+    ghost Value = { Plan };
+
+    ghost use Rattle.patch_script.specs.Scripts.{plan_in, IsSound};
+
+    ghost view = { plan_in };
+
+    ghost invariant = { IsSound };
+}
+
+impl Script {
+    ghost use Rattle.patch_script.specs.Drafts.{IsWhole, plan_of_draft};
+
+    /// The script of all commands of a text.
+    pub(crate) fn of_draft(draft: Draft) -> Script
+        requires { IsWhole draft }
+        ensures { result ≡ plan_of_draft draft }
+    {
+        Script {
+            threads: draft.threads,
+            placed: draft.placed,
+            holds: draft.standing.holds,
+        }
+    }
+
+    /// How many micro steps stand before `go`, where the threads start.
+    pub fn start(&self) -> u64
+        ensures start { result ≡ start_of self.now.program (commands_of self.now.lines) }
+        ensures within { result ≤ total_of self.now.program (commands_of self.now.lines) }
+        // The threads start behind stores alone.
+        ensures stores { (place : ℕ) → place < result
+            → IsStore (micro_at self.now.program (commands_of self.now.lines) place) }
+        // A script is what some text says, and its commands follow each other as they may.
+        ensures read { IsRead self.now }
+        ensures orderly { IsOrderly self.now }
+    {
+        self.placed.start
+    }
+
+    /// How many micro steps there are, at most 16,777,216.
+    pub fn total(&self) -> u64
+        ensures total { result ≡ total_of self.now.program (commands_of self.now.lines) }
+        ensures few { result ≤ 16777216 }
+    {
+        self.placed.total
+    }
+
+    /// The micro step of a number, counted from 0. `End` exactly where there are no more than so many. It is found by a
+    /// binary search among the commands.
+    pub fn micro(&self, p: u64) -> Micro
+        ensures micro { result ≡ micro_at self.now.program (commands_of self.now.lines) p }
+        ensures within { IsWithin self.now result }
+        ensures end { (result ≡ Micro.End) ↔ (total_of self.now.program (commands_of self.now.lines) ≤ p) }
+    {
+        self.placed.micro(p)
+    }
+
+    /// The passing, counted from 0, before which the script holds a thread. `None` exactly where it doesn't hold it.
+    pub fn hold_of(&self, thread: u32) -> Option<u32>
+        ensures { result ≡ hold_of thread (commands_of self.now.lines) }
+    {
+        self.holds.passing_of(thread)
+    }
+
+    /// The line of the first `hold`, `release` or `await`, at which a thread or the patcher may wait. `None` exactly where
+    /// there is none.
+    pub fn waits(&self) -> Option<u32>
+        ensures { result ≡ waiting_line self.now.lines }
+    {
+        self.placed.waits
+    }
+}

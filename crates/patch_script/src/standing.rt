@@ -1,0 +1,201 @@
+//! What the commands so far have done.
+
+ghost use Rattle.std.specs.Prelude.{◌≡◌, ◌<◌, ◌≤◌, ℕ, List, [], false};
+ghost use Rattle.std.specs.List.{list_any};
+ghost use Rattle.patch_script.specs.declared.command.Command.{Command as Said};
+ghost use Rattle.patch_script.specs.Refusals.{is_misplaced, breaks_hold, breaks_log, waits_for_itself, holds_for_good, names_no_thread};
+
+use crate::command::Command;
+
+/// The most threads that a script may name.
+const THREADS: usize = 16;
+
+/// Whether a thread waits at a passing.
+#[derive(Clone, Copy, Debug, PartialEq, Eq)]
+pub(crate) enum Hold {
+    /// No command holds the thread.
+    Free,
+    /// The thread is held before a passing, and not released.
+    Held { passing: u32 },
+    /// The thread is held before a passing, until a command that came releases it.
+    Released { passing: u32 },
+}
+
+/// The holds of all threads.
+#[derive(Clone, Copy, Debug)]
+pub(crate) struct Holds {
+    threads: [Hold; THREADS],
+}
+
+impl Holds {
+    ghost use Rattle.patch_script.specs.Standing.{hold_in, with_hold, released_of, passing_of, any_held};
+
+    /// No thread is held.
+    fn new() -> Holds
+        ensures { (thread : ℕ) → hold_in result thread ≡ Hold.Free }
+    {
+        Holds {
+            threads: [Hold::Free; THREADS],
+        }
+    }
+
+    /// The hold of a thread. `Free` where there is no such thread.
+    pub(crate) fn of(&self, thread: u32) -> Hold
+        ensures { result ≡ hold_in self.now thread }
+    {
+        let Some(place) = thread.checked_sub(1) else {
+            return Hold::Free;
+        };
+        match self.threads.get(place as usize) {
+            Some(hold) => *hold,
+            None => Hold::Free,
+        }
+    }
+
+    /// Sets the hold of a thread.
+    fn set(&mut self, thread: u32, hold: Hold)
+        requires some { 0 < thread }
+        requires few { thread ≤ 16 }
+        ensures { (other : ℕ) → hold_in self.new other ≡ with_hold self.old thread hold other }
+    {
+        self.threads[thread as usize - 1] = hold;
+    }
+
+    /// Releases a thread, where it is held.
+    fn release(&mut self, thread: u32)
+        requires some { 0 < thread }
+        requires few { thread ≤ 16 }
+        ensures { (other : ℕ) → hold_in self.new other
+            ≡ with_hold self.old thread (released_of (hold_in self.old thread)) other }
+    {
+        let released = match self.of(thread) {
+            Hold::Free => Hold::Free,
+            Hold::Held { passing } | Hold::Released { passing } => Hold::Released { passing },
+        };
+        self.set(thread, released);
+    }
+
+    /// The passing before which a thread is held.
+    pub(crate) fn passing_of(&self, thread: u32) -> Option<u32>
+        ensures { result ≡ passing_of (hold_in self.now thread) }
+    {
+        match self.of(thread) {
+            Hold::Free => None,
+            Hold::Held { passing } | Hold::Released { passing } => Some(passing),
+        }
+    }
+
+    /// Whether a thread is held that isn't released.
+    fn any_held(&self) -> bool
+        ensures { result ≡ any_held self.now }
+    {
+        self.threads
+            .iter()
+            .any(|hold| matches!(hold, Hold::Held { .. }))
+    }
+}
+
+/// In which state the log is.
+#[derive(Clone, Copy, Debug, PartialEq, Eq)]
+pub(crate) enum Log {
+    Uninitialized,
+    Initialized,
+    Finalized,
+}
+
+/// What the commands so far have done.
+#[derive(Clone, Copy, Debug)]
+pub(crate) struct Standing {
+    /// Whether the threads have started.
+    pub(crate) going: bool,
+    log: Log,
+    pub(crate) holds: Holds,
+}
+
+impl Standing {
+    ghost use Rattle.patch_script.specs.Standing.{IsStanding, Follows};
+
+    /// Before all commands.
+    pub(crate) fn new() -> Standing
+        ensures { IsStanding [] result }
+    {
+        Standing {
+            going: false,
+            log: Log::Uninitialized,
+            holds: Holds::new(),
+        }
+    }
+
+    /// Whether a command stands on the wrong side of `go`.
+    pub(crate) fn misplaces(&self, command: Command) -> bool
+        ensures { (before : List Said) → IsStanding before self.now
+            → result ≡ is_misplaced before command }
+    {
+        match command {
+            Command::Go | Command::Hold { .. } => self.going,
+            Command::Release { .. } | Command::Await { .. } => !self.going,
+            _ => false,
+        }
+    }
+
+    /// Whether a command holds a held thread, or releases one that isn't held or was released.
+    pub(crate) fn breaks_hold(&self, command: Command) -> bool
+        ensures { (before : List Said) → IsStanding before self.now
+            → result ≡ breaks_hold before command }
+    {
+        match command {
+            Command::Hold { thread, .. } => self.holds.of(thread) != Hold::Free,
+            Command::Release { thread } => !matches!(self.holds.of(thread), Hold::Held { .. }),
+            _ => false,
+        }
+    }
+
+    /// Whether a command can't follow in the log's state.
+    pub(crate) fn breaks_log(&self, command: Command) -> bool
+        ensures { (before : List Said) → IsStanding before self.now
+            → result ≡ breaks_log before command }
+    {
+        match command {
+            Command::Init => self.log != Log::Uninitialized,
+            Command::Finalize => self.log != Log::Initialized,
+            _ => false,
+        }
+    }
+
+    /// Whether a command awaits passings of a held thread behind the one where it is held.
+    pub(crate) fn waits_for_itself(&self, command: Command) -> bool
+        ensures { (before : List Said) → IsStanding before self.now
+            → result ≡ waits_for_itself before command }
+    {
+        match command {
+            Command::Await { thread, count } => match self.holds.of(thread) {
+                Hold::Held { passing } => passing < count,
+                Hold::Free | Hold::Released { .. } => false,
+            },
+            _ => false,
+        }
+    }
+
+    /// Takes a command that may follow.
+    pub(crate) fn take(&mut self, command: Command)
+        requires { names_no_thread 16 command ≡ false }
+        ensures { Follows self.old command self.new }
+    {
+        match command {
+            Command::Go => self.going = true,
+            Command::Init => self.log = Log::Initialized,
+            Command::Finalize => self.log = Log::Finalized,
+            Command::Hold { thread, passing } => self.holds.set(thread, Hold::Held { passing }),
+            Command::Release { thread } => self.holds.release(thread),
+            _ => {}
+        }
+    }
+
+    /// Whether a thread is held for good.
+    pub(crate) fn holds_for_good(&self) -> bool
+        ensures { (script : List Said) → IsStanding script self.now
+            → result ≡ list_any (holds_for_good script) script }
+    {
+        self.holds.any_held()
+    }
+}

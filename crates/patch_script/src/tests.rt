@@ -1,0 +1,137 @@
+//! Scripts for one small image: which are refused and where, and the micro steps of those that aren't.
+
+use super::*;
+use std::alloc::Global;
+use std::test::Fail;
+use text_lines::count_lines;
+use xray_image::{Image, read_image};
+
+/// A function `main` that outputs an A: an entry sled at 0x1000, `mov eax, 0x41`, `out 1, al` and an exit sled at 0x1012.
+const OUTPUTS_AN_A: [u8; 170] = [
+    // magic, version, base 0x1000
+    0x58, 0x52, 0x49, 0x4D, 1, 0, 0, 0, 0x00, 0x10, 0, 0, 0, 0, 0, 0,
+    // 29 bytes of code, 1 function, 2 map entries, entry function 0
+    29, 0, 0, 0, 1, 0, 0, 0, 2, 0, 0, 0, 0, 0, 0, 0,
+    // trampolines 0x201000, 0x201010, 0x201020, 0x201030
+    0x00, 0x10, 0x20, 0, 0, 0, 0, 0, 0x10, 0x10, 0x20, 0, 0, 0, 0, 0, 0x20, 0x10, 0x20, 0, 0, 0, 0,
+    0, 0x30, 0x10, 0x20, 0, 0, 0, 0, 0,
+    // the code
+    0xEB, 0x09, 0x66, 0x0F, 0x1F, 0x84, 0x00, 0x00, 0x02, 0x00, 0x00, 0xB8, 0x41, 0, 0, 0, 0xE6,
+    0x01, 0xC3, 0x2E, 0x66, 0x0F, 0x1F, 0x84, 0x00, 0x00, 0x02, 0x00, 0x00,
+    // the function
+    0x00, 0x10, 0, 0, 0, 0, 0, 0, 4, 0x6D, 0x61, 0x69, 0x6E,
+    // the map: an entry sled at 0x1000 and an exit sled at 0x1012, both always instrumented, version 0
+    0x00, 0x10, 0, 0, 0, 0, 0, 0, 0x00, 0x10, 0, 0, 0, 0, 0, 0, 0, 1, 0, 0, 0, 0, 0, 0, 0, 0, 0, 0,
+    0, 0, 0, 0, 0x12, 0x10, 0, 0, 0, 0, 0, 0, 0x00, 0x10, 0, 0, 0, 0, 0, 0, 1, 1, 0, 0, 0, 0, 0, 0,
+    0, 0, 0, 0, 0, 0, 0, 0,
+];
+
+/// The script of a text that has fewer lines than 2,000, for one thread.
+fn script_of(alloc: Global, text: &[u8], image: &Image) -> Result<Script, ScriptFault> {
+    if count_lines(text) > 2_000 {
+        return Err(ScriptFault::NoMemory);
+    }
+    read_script(alloc, text, image, 1)
+}
+
+/// Why the text is no script.
+fn fault_of(alloc: Global, text: &[u8], image: &Image) -> Option<ScriptFault> {
+    match script_of(alloc, text, image) {
+        Ok(_) => None,
+        Err(fault) => Some(fault),
+    }
+}
+
+/// The micro step of a store.
+fn store(word: u32, value: u64) -> Micro {
+    Micro::Store { word, value }
+}
+
+#[test]
+fn the_first_fault_of_a_script_is_told(rt: HostRuntime) -> Result<(), Fail> {
+    let image = read_image(rt.alloc(), &OUTPUTS_AN_A)?;
+    let rows: [(&[u8], Option<ScriptFault>); 17] = [
+        (b"", Some(ScriptFault::Go(1))),
+        (b"go\ngo\n", Some(ScriptFault::Go(2))),
+        (b"patch_function 2\ngo\n", Some(ScriptFault::Function(1))),
+        (b"go\nrelease 2\n", Some(ScriptFault::Thread(2))),
+        (b"go\nrelease 1\n", Some(ScriptFault::Hold(2))),
+        (b"hold 1 0\nhold 1 0\ngo\n", Some(ScriptFault::Hold(2))),
+        (b"hold 1 0\ngo\n", Some(ScriptFault::Hold(3))),
+        (b"init\ninit\ngo\n", Some(ScriptFault::Log(2))),
+        (b"finalize\ngo\n", Some(ScriptFault::Log(1))),
+        (b"patch 1\n", Some(ScriptFault::Syntax(1))),
+        (b"patch_function 0", Some(ScriptFault::Function(1))),
+        (b"patch\xFF\n", Some(ScriptFault::Syntax(1))),
+        (
+            b"hold 1 3\ngo\nawait 1 5\nrelease 1\n",
+            Some(ScriptFault::SelfWait(3)),
+        ),
+        (b"hold 1 3\ngo\nawait 1 3\nrelease 1\n", None),
+        (b"hold 1 3\ngo\nrelease 1\nawait 1 5\n", None),
+        (b"init\ngo\nfinalize\n", None),
+        (b"# traced\n\n patch_function 01\t# main\r\ngo", None),
+    ];
+    for (text, expected) in rows {
+        assert_eq!(rt; fault_of(rt.alloc(), text, &image), expected);
+    }
+    Ok(())
+}
+
+#[test]
+fn a_script_has_at_most_1024_commands(rt: HostRuntime) -> Result<(), Fail> {
+    let image = read_image(rt.alloc(), &OUTPUTS_AN_A)?;
+    let mut text = Vec::new(rt.alloc());
+    for _ in 0..1023 {
+        text.extend_from_slice(b"patch\n")?;
+    }
+    text.extend_from_slice(b"go\n# and no more\n")?;
+    let script = script_of(rt.alloc(), &text, &image)?;
+    assert_eq!(rt; script.total(), 8184);
+    text.extend_from_slice(b"what\n")?;
+    assert_eq!(rt;
+        fault_of(rt.alloc(), &text, &image),
+        Some(ScriptFault::Limit(1026))
+    );
+    Ok(())
+}
+
+#[test]
+fn micro_steps_are_found_by_their_places(rt: HostRuntime) -> Result<(), Fail> {
+    let image = read_image(rt.alloc(), &OUTPUTS_AN_A)?;
+    let text =
+        b"unpatch\nhold 1 2\npatch\nset_handler\ninit\ngo\nawait 1 2\nrelease 1\nunpatch_function 1\n";
+    let script = script_of(rt.alloc(), text, &image)?;
+    let steps = [
+        store(0, 0x09EB),
+        store(4, 0x2EC3),
+        store(1, 1),
+        store(2, 0xE8),
+        store(3, 0x1F_FFF5),
+        store(0, 0xBA41),
+        store(5, 1),
+        store(6, 0xE9),
+        store(7, 0x1F_FFF3),
+        store(4, 0xBA41),
+        store(8, 1),
+        store(9, 1),
+        store(9, 2),
+        Micro::Await {
+            thread: 1,
+            count: 2,
+        },
+        store(10, 1),
+        store(0, 0x09EB),
+        store(4, 0xBAC3),
+        Micro::End,
+    ];
+    for (place, expected) in steps.iter().enumerate() {
+        assert_eq!(rt; script.micro(place as u64), *expected);
+    }
+    assert_eq!(rt; script.start(), 13);
+    assert_eq!(rt; script.total(), 17);
+    assert_eq!(rt; script.hold_of(1), Some(2));
+    assert_eq!(rt; script.hold_of(2), None);
+    assert_eq!(rt; script.waits(), Some(2));
+    Ok(())
+}
