@@ -1,12 +1,11 @@
 -- One command more in its place.
-use Rattle.std.proofs.Common.{◌≡◌, ℕ, ◌+◌, ◌*◌, ◌-◌, ◌<◌, ◌≤◌, zero, suc, List, [], ◌∷◌, ◌++◌, Bool, true, false, cond, length, take, get_or, map, Option, Some, None, refl, sym, ap, subst, ◌∙◌, inl, inr, arith}
+use Rattle.std.proofs.Common.{◌≡◌, ℕ, ◌+◌, ◌-◌, ◌≤◌, List, [], ◌∷◌, ◌++◌, Bool, false, cond, length, take, map, Option, Some, None, sym, ap, subst, ◌∙◌, inl, inr, arith}
 use Rattle.std.specs.Prelude.{slice_get, Vec}
 use Rattle.std.specs.Option.{option_or}
 use Rattle.std.specs.declared.alloc.Global.{Global}
 use Rattle.std.proofs.lemmas.Bool.{cases_lt}
 use Rattle.std.proofs.lemmas.List.{map-append, length-append, take-append-le}
 use Rattle.std.proofs.lemmas.Option.{same_Some, slice_get_within}
-use Rattle.xray_image.specs.Program.{Program}
 use Rattle.xray_image.specs.Ids.{id_count}
 use Rattle.patch_script.specs.declared.command.Command.{Command}
 use Rattle.patch_script.specs.declared.command.Command.TheVariants as commands
@@ -16,9 +15,9 @@ use Rattle.patch_script.specs.declared.placed.PlacedCommands.{PlacedCommands}
 use Rattle.patch_script.specs.declared.sleds.SledRange.{SledRange}
 use Rattle.patch_script.specs.FirstPatches.{AreFirst, AddsFirst}
 use Rattle.patch_script.specs.Micros.{total_of, start_of}
-use Rattle.patch_script.specs.Placing.{step_count, line_in, lines_in, NamesFewThreads, IsPlaced, IsOfImage, ArePlaced, MayFollow}
+use Rattle.patch_script.specs.Placing.{step_count, line_in, lines_in, NamesFewThreads, IsPlaced, ArePlaced, MayFollow}
 use Rattle.patch_script.specs.Plans.{is_waiting, waiting_line}
-use Rattle.patch_script.specs.Refusals.{commands_of, has_go, is_beyond, names_no_thread}
+use Rattle.patch_script.specs.Refusals.{commands_of, has_go, names_no_thread}
 use Rattle.patch_script.specs.Sleds.{sleds_named, HasSleds}
 use Rattle.patch_script.proofs.Firsts.{first_more}
 use Rattle.patch_script.proofs.Lists.{slice_get-append_left, slice_get-append_right}

@@ -1,8 +1,7 @@
 -- The first commands that patch sleds, and whether they come before a command.
-use Rattle.std.proofs.Common.{◌≡◌, ℕ, ◌+◌, ◌<◌, ◌≤◌, zero, suc, List, [], ◌∷◌, ◌++◌, ◌||◌, Bool, true, false, cond, length, take, get_or, Option, Some, None, refl, sym, ap, subst, ◌∙◌, ◌==◌, inl, inr, arith, ltb}
-use Rattle.std.specs.Prelude.{option_map, map, filter, slice_get}
-use Rattle.std.specs.Option.{option_or}
-use Rattle.std.specs.List.{list_any, flat_map, enumerate_from}
+use Rattle.std.proofs.Common.{◌≡◌, ℕ, ◌+◌, ◌<◌, zero, suc, List, [], ◌∷◌, ◌++◌, ◌||◌, Bool, true, false, cond, length, take, Option, Some, None, refl, sym, ap, ◌∙◌, ◌==◌, inl, inr, arith}
+use Rattle.std.specs.Prelude.{option_map, filter, slice_get}
+use Rattle.std.specs.List.{list_any, enumerate_from}
 use Rattle.std.proofs.lemmas.Bool.{cases_Bool, lt-ltb, le-ltb, cases_lt, eqb-true, eq-eqb, ne_eqb}
 use Rattle.std.proofs.lemmas.List.Folds.{list_any-append}
 use Rattle.std.proofs.lemmas.Option.{none-some, same_Some}
@@ -11,8 +10,8 @@ use Rattle.xray_image.specs.Program.{Program}
 use Rattle.patch_script.specs.declared.command.Command.{Command}
 use Rattle.patch_script.specs.declared.command.Command.TheVariants as commands
 use Rattle.patch_script.specs.declared.first_patches.FirstPatches.{FirstPatches}
-use Rattle.patch_script.specs.FirstPatches.{patches_all, patches_function, first_in, first_number, AreFirst, or_number, AddsFirst, is_before}
-use Rattle.patch_script.specs.Micros.{Numbered, all_sleds, sleds_of, patches, numbers}
+use Rattle.patch_script.specs.FirstPatches.{patches_all, patches_function, first_number, AreFirst, or_number, AddsFirst, is_before}
+use Rattle.patch_script.specs.Micros.{all_sleds, sleds_of, patches, numbers}
 use Rattle.patch_script.specs.Placing.{patched_by}
 
 -- ---- one command more

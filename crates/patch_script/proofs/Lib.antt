@@ -14,4 +14,7 @@ pub mod Places
 pub mod Adding
 pub mod NoEnd
 pub mod Finishing
+pub mod Orderly
+pub mod Within
+pub mod Before
 mod Rows

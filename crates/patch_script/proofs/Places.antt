@@ -1,33 +1,31 @@
 -- Commands in their places.
-use Rattle.std.proofs.Common.{◌≡◌, ℕ, ◌+◌, ◌*◌, ◌-◌, ◌/◌, ◌%◌, ◌<◌, ◌≤◌, zero, suc, List, [], ◌∷◌, ◌++◌, ◌||◌, Bool, true, false, cond, length, take, drop, get_or, map, Option, Some, None, refl, sym, ap, subst, ◌∙◌, ◌==◌, ◌⊎◌, inl, inr, arith}
+use Rattle.std.proofs.Common.{◌≡◌, ℕ, ◌+◌, ◌*◌, ◌-◌, ◌/◌, ◌%◌, ◌<◌, ◌≤◌, zero, suc, List, [], ◌∷◌, ◌++◌, ◌||◌, true, false, length, take, get_or, map, Some, refl, sym, ap, ◌∙◌, ◌==◌, ◌⊎◌, inl, inr, arith}
 use Rattle.std.specs.Prelude.{slice_get, nat_le, option_map, unwrap_or}
 use Rattle.std.specs.List.{list_any, flat_map}
 use Rattle.std.specs.List.Sorted.{IsNonDecreasingBy, IsPartitionPoint}
-use Rattle.std.proofs.lemmas.Bool.{cases_lt, leb-true, leb-false, ltb-false, eqb-true}
+use Rattle.std.proofs.lemmas.Bool.{cases_lt, leb-true, leb-false}
 use Rattle.std.proofs.lemmas.List.{length-map, get_or-map, map-append}
 use Rattle.std.proofs.lemmas.List.FromFn.{length-enumerate_from}
-use Rattle.std.proofs.lemmas.Option.{none-some, same_Some, slice_get-map, slice_get-get_or, slice_get_within, slice_get_past}
+use Rattle.std.proofs.lemmas.Option.{slice_get-map, slice_get-get_or, slice_get_within, slice_get_past}
 use Rattle.xray_image.specs.declared.sled.Sled.{Sled}
 use Rattle.xray_image.specs.Program.{Program}
-use Rattle.xray_image.specs.Ids.{id_count}
 use Rattle.patch_script.specs.declared.command.Command.{Command}
 use Rattle.patch_script.specs.declared.command.Command.TheVariants as commands
-use Rattle.patch_script.specs.declared.first_patches.FirstPatches.{FirstPatches}
 use Rattle.patch_script.specs.declared.micro.Micro.{Micro}
 use Rattle.patch_script.specs.declared.micro.Micro.TheVariants.{End}
 use Rattle.patch_script.specs.declared.placed.Placed.{Placed}
 use Rattle.patch_script.specs.declared.placed.PlacedCommands.{PlacedCommands}
 use Rattle.patch_script.specs.declared.sleds.SledRange.{SledRange}
 use Rattle.patch_script.specs.declared.sleds.SledValues.{SledValues}
-use Rattle.patch_script.specs.FirstPatches.{HasRoom, is_before, first_in, first_number, patches_all, patches_function}
+use Rattle.patch_script.specs.FirstPatches.{is_before, first_in, first_number, patches_all, patches_function}
 use Rattle.patch_script.specs.Micros.{all_sleds, sleds_of, patch_sled, unpatch_sled, steps_of, micros, micro_at, total_of}
-use Rattle.patch_script.specs.Placing.{step_count, line_in, lines_in, NamesFewThreads, IsPlaced, patched_before, IsOfImage, ArePlaced, MayFollow, IsAt}
-use Rattle.patch_script.specs.Refusals.{commands_of, is_beyond, names_no_function, names_no_thread}
+use Rattle.patch_script.specs.Placing.{step_count, line_in, lines_in, patched_before, ArePlaced, IsAt}
+use Rattle.patch_script.specs.Refusals.{commands_of}
 use Rattle.patch_script.specs.Sleds.{values_of, HasId, sleds_named, in_range, HasSleds}
 use Rattle.patch_script.proofs.Firsts.{is_before-first, patched_before-is}
 use Rattle.patch_script.proofs.Lists.{take_one_more}
 use Rattle.patch_script.proofs.Ranges.{range_length, function_range, patching_at, unpatching_at}
-use Rattle.patch_script.proofs.Steps.{length-steps, total_more, total_in_order, total_part, step_at}
+use Rattle.patch_script.proofs.Steps.{total_more, total_in_order, step_at}
 
 pub take_all : {X : Type 0} (n : ℕ) (xs : List X) → length xs ≤ n → take n xs ≡ xs
 take_all zero [] le = refl

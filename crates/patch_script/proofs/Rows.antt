@@ -1,7 +1,6 @@
 -- Small scripts, worked by hand: what the definitions of `specs/` make of them.
-use Rattle.std.proofs.Common.{◌≡◌, ℕ, true, List, [], ◌∷◌, ◌++◌, Some, None, refl}
+use Rattle.std.proofs.Common.{◌≡◌, ℕ, true, List, [], ◌∷◌, ◌++◌, Some, refl}
 use Rattle.std.specs.Prelude.{codes, replicate, Result, Ok, Err}
-use Rattle.text_lines.specs.Lines.{numbered_lines}
 use Rattle.xray_image.specs.declared.sled.Sled.{Sled}
 use Rattle.xray_image.specs.declared.sled.SledKind.{SledKind}
 use Rattle.xray_image.specs.declared.sled.SledKind.TheVariants.{Entry, Exit}

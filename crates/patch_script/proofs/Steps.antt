@@ -1,8 +1,7 @@
 -- Micro steps by their commands.
-use Rattle.std.proofs.Common.{◌≡◌, ℕ, ◌+◌, ◌*◌, ◌-◌, ◌<◌, ◌≤◌, zero, suc, List, [], ◌∷◌, ◌++◌, ◌||◌, Bool, true, false, cond, not, length, take, drop, get_or, Option, Some, None, refl, sym, ap, subst, ◌∙◌, inl, inr, arith, append_assoc}
+use Rattle.std.proofs.Common.{◌≡◌, ℕ, ◌+◌, ◌≤◌, zero, suc, List, [], ◌∷◌, ◌++◌, ◌||◌, Bool, true, false, cond, not, length, take, drop, Some, None, refl, sym, ap, subst, ◌∙◌, inl, inr, arith, append_assoc}
 use Rattle.std.specs.Prelude.{slice_get, take_while, find, option_map}
 use Rattle.std.specs.Option.{option_or}
-use Rattle.std.specs.List.{list_any, flat_map}
 use Rattle.std.proofs.lemmas.Bool.{cases_Bool}
 use Rattle.std.proofs.lemmas.List.{append-nil, length-append, length-map, take-append-drop}
 use Rattle.std.proofs.lemmas.List.Sums.{take_while-cons}
@@ -18,7 +17,7 @@ use Rattle.patch_script.specs.Refusals.{Lines, has_go}
 use Rattle.patch_script.specs.Sleds.{sleds_named}
 use Rattle.patch_script.proofs.Lists.{four_each, split_at, slice_get-append_left, slice_get-append_right}
 
-micros_behind-append : (program : Program) (earlier : List ℕ) (xs ys : List Command)
+pub micros_behind-append : (program : Program) (earlier : List ℕ) (xs ys : List Command)
     → micros_behind program earlier (xs ++ ys) ≡ micros_behind program earlier xs ++ micros_behind program (earlier ++ patched_by program xs) ys
 micros_behind-append program earlier [] ys = ap (λ e. micros_behind program e ys) (sym (append-nil earlier))
 micros_behind-append program earlier (x ∷ xs) ys =
@@ -83,10 +82,10 @@ step_at program script i command n micro at step =
 
 -- ---- before go
 
-abbrev stays : Command → Bool
+abbrev pub stays : Command → Bool
 stays command = not (is_go command)
 
-front-cons : (x : Command) (xs : List Command) → take_while stays (x ∷ xs) ≡ cond (not (is_go x)) (x ∷ take_while stays xs) []
+pub front-cons : (x : Command) (xs : List Command) → take_while stays (x ∷ xs) ≡ cond (not (is_go x)) (x ∷ take_while stays xs) []
 front-cons x xs = take_while-cons stays x xs
 
 started : (xs ys : List Command) → has_go xs ≡ true → take_while stays (xs ++ ys) ≡ take_while stays xs
@@ -127,7 +126,7 @@ start_more program script command = elim (cases_Bool (has_go script)) [
       ∙ sym (ap (λ b. cond b (start_of program script) (total_of program (script ++ command ∷ []))) isnt)
 ]
 
-whole_front : (xs : List Command) → (m : List Command) × (xs ≡ take_while stays xs ++ m)
+pub whole_front : (xs : List Command) → (m : List Command) × (xs ≡ take_while stays xs ++ m)
 whole_front [] = ([], refl)
 whole_front (x ∷ xs) =
     let rest = whole_front xs in

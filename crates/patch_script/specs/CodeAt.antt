@@ -1,5 +1,5 @@
 -- The code at a place: what the words hold behind the first micro steps of a script.
-use Rattle.std.specs.Prelude.{ℕ, List, [], ◌∷◌, Option, Some, None, ◌==◌, if◌then◌else◌, unwrap_or, take, slice_index}
+use Rattle.std.specs.Prelude.{ℕ, List, Option, Some, None, ◌==◌, if◌then◌else◌, unwrap_or, take, slice_index}
 use Rattle.std.specs.List.{filter_map, last_or}
 use Rattle.xray_image.specs.Program.{Program}
 use Rattle.sled_words.specs.Parts.{all_sled_words}

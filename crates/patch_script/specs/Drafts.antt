@@ -1,5 +1,5 @@
 -- The commands that were read so far.
-use Rattle.std.specs.Prelude.{◌≡◌, ◌≤◌, ◌⊎◌, ℕ, false, Result, Ok, Err}
+use Rattle.std.specs.Prelude.{◌≡◌, ◌≤◌, ◌⊎◌, ℕ, Result, Ok, Err}
 use Rattle.xray_image.specs.Program.{Program}
 use Rattle.xray_image.specs.Ids.{id_count}
 use Rattle.patch_script.specs.declared.command.Command.{Command}
@@ -8,7 +8,7 @@ use Rattle.patch_script.specs.declared.fault.ScriptFault.TheVariants as faults
 use Rattle.patch_script.specs.declared.reading.Draft.{Draft}
 use Rattle.patch_script.specs.Placing.{ArePlaced, lines_in}
 use Rattle.patch_script.specs.Plans.{Plan, IsRead}
-use Rattle.patch_script.specs.Refusals.{Lines, commands_of, names_no_function, names_no_thread, is_misplaced, breaks_hold, breaks_log, waits_for_itself, judged, with_line}
+use Rattle.patch_script.specs.Refusals.{Lines, commands_of, IsAdmitted, judged}
 use Rattle.patch_script.specs.Standing.{IsStanding}
 
 abbrev pub program_of : Draft → Program
@@ -25,17 +25,12 @@ pub record IsDraft (draft : Draft) : Type 0 where
   pub standing : IsStanding (commands_of (lines_of draft)) draft.standing
 
 -- no row refuses the command
-pub record IsAdmitted (draft : Draft) (command : Command) : Type 0 where
-  pub function : names_no_function (program_of draft) command ≡ false
-  pub thread : names_no_thread draft.threads command ≡ false
-  pub place : is_misplaced (commands_of (lines_of draft)) command ≡ false
-  pub hold : breaks_hold (commands_of (lines_of draft)) command ≡ false
-  pub log : breaks_log (commands_of (lines_of draft)) command ≡ false
-  pub wait : waits_for_itself (commands_of (lines_of draft)) command ≡ false
+abbrev pub MayFollow : Draft → Command → Type 0
+MayFollow draft command = IsAdmitted (program_of draft) draft.threads (commands_of (lines_of draft)) command
 
 -- the command is admitted, or its first refusal is told
 abbrev pub Judges : {X : Type 0} → Draft → ℕ → Command → Result X ScriptFault → Type 0
-Judges draft number command (Ok x) = IsAdmitted draft command
+Judges draft number command (Ok x) = MayFollow draft command
 Judges draft number command (Err fault) = judged (program_of draft) draft.threads (lines_of draft) number command ≡ Err fault
 
 -- the new draft has these lines, for the same image and threads

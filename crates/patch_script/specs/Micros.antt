@@ -1,5 +1,5 @@
 -- What the commands of a script mean: a list of stores and awaits.
-use Rattle.std.specs.Prelude.{ℕ, zero, suc, ◌+◌, List, [], ◌∷◌, ◌++◌, length, Bool, true, false, ◌==◌, not, if◌then◌else◌, map, filter, take_while, slice_get, unwrap_or, Option, Some, None}
+use Rattle.std.specs.Prelude.{ℕ, List, [], ◌∷◌, ◌++◌, length, Bool, true, false, ◌==◌, not, if◌then◌else◌, map, filter, take_while, slice_get, unwrap_or, Option, Some, None}
 use Rattle.std.specs.Option.{option_or}
 use Rattle.std.specs.List.{flat_map, list_any, enumerate_from}
 use Rattle.xray_image.specs.declared.sled.Sled.{Sled}

@@ -1,12 +1,16 @@
 -- The script of a text.
-use Rattle.std.specs.Prelude.{◌≡◌, ℕ, ◌+◌, List, [], length, Bool, true, false, Result, Ok, Err, Option, find, option_map}
+use Rattle.std.specs.Prelude.{◌≡◌, ◌<◌, ◌≤◌, ℕ, ◌+◌, List, [], length, take, slice_get, Bool, true, false, Result, Ok, Option, Some, find, option_map}
+use Rattle.std.specs.List.{list_any}
 use Rattle.std.specs.Str.Lines.{lines}
 use Rattle.text_lines.specs.Lines.{numbered_lines}
 use Rattle.xray_image.specs.Program.{Program}
+use Rattle.sled_words.specs.Words.{word_count}
 use Rattle.patch_script.specs.declared.command.Command.{Command}
 use Rattle.patch_script.specs.declared.command.Command.TheVariants as commands
 use Rattle.patch_script.specs.declared.fault.ScriptFault.{ScriptFault}
-use Rattle.patch_script.specs.Refusals.{Lines, read_lines, ended, ◌>>=◌}
+use Rattle.patch_script.specs.declared.micro.Micro.{Micro}
+use Rattle.patch_script.specs.declared.micro.Micro.TheVariants.{Store, Await, End}
+use Rattle.patch_script.specs.Refusals.{Lines, commands_of, has_go, holds_for_good, IsAdmitted, read_lines, ended, ◌>>=◌}
 
 -- what contracts see of a `Script`: its commands with their lines, and what they are for
 pub record Plan : Type 0 where
@@ -38,3 +42,23 @@ waiting_line lines = option_map (λ line. line.0) (find (λ line. is_waiting lin
 -- some text has the script
 abbrev pub IsRead : Plan → Type 0
 IsRead plan = (text : List ℕ) × (plan_of plan.program plan.threads text ≡ Ok plan)
+
+-- each command of the script may stand behind those before it, and nothing is missing at the end
+pub record IsOrderly (plan : Plan) : Type 0 where
+  pub admitted : (i : ℕ) (line : ℕ × Command) → slice_get plan.lines i ≡ Some line
+      → IsAdmitted plan.program plan.threads (take i (commands_of plan.lines)) line.1
+  pub goes : has_go (commands_of plan.lines) ≡ true
+  pub released : list_any (holds_for_good (commands_of plan.lines)) (commands_of plan.lines) ≡ false
+  pub few : length plan.lines ≤ 1024
+
+-- the word that a micro step stores in is one of the words for so many threads, and the thread that it waits for is one
+-- of them
+abbrev pub IsWithin : Plan → Micro → Type 0
+IsWithin plan (Store word value) = word < word_count plan.program plan.threads
+IsWithin plan (Await thread count) = (0 < thread) × (thread ≤ plan.threads)
+IsWithin plan End = Unit {0}
+
+abbrev pub IsStore : Micro → Type 0
+IsStore (Store word value) = Unit {0}
+IsStore (Await thread count) = ⊥
+IsStore End = ⊥

@@ -1,6 +1,6 @@
 -- The refusals of scripts, in the order in which they are looked for: line by line, on one line in the order of its
 -- rows, and then at the end of the text. Each row is a condition on the commands before the line.
-use Rattle.std.specs.Prelude.{ℕ, ◌||◌, ◌&&◌, ◌==◌, Bool, true, false, not, nat_lt, nat_le, List, [], ◌∷◌, ◌++◌, length, map, Option, Some, None, is_some, Result, Ok, Err, if◌then◌else◌}
+use Rattle.std.specs.Prelude.{◌≡◌, ℕ, ◌||◌, ◌&&◌, ◌==◌, Bool, true, false, not, nat_lt, nat_le, List, [], ◌∷◌, ◌++◌, length, map, Option, Some, None, is_some, Result, Ok, Err, if◌then◌else◌}
 use Rattle.std.specs.Option.{option_map_or}
 use Rattle.std.specs.List.{list_any}
 use Rattle.text_lines.specs.Words.{is_clean, words_of}
@@ -85,6 +85,15 @@ abbrev pub waits_for_itself : List Command → Command → Bool
 waits_for_itself before (commands.Await thread count) =
     option_map_or (λ passing. nat_lt passing count) (hold_of thread before) false && not (is_released thread before)
 waits_for_itself before _ = false
+
+-- no row refuses a command behind those before it
+pub record IsAdmitted (program : Program) (threads : ℕ) (before : List Command) (command : Command) : Type 0 where
+  pub function : names_no_function program command ≡ false
+  pub thread : names_no_thread threads command ≡ false
+  pub place : is_misplaced before command ≡ false
+  pub hold : breaks_hold before command ≡ false
+  pub log : breaks_log before command ≡ false
+  pub wait : waits_for_itself before command ≡ false
 
 -- the lines with one more, or the first row of its refusals that applies
 abbrev pub judged : Program → ℕ → Lines → ℕ → Command → Result Lines ScriptFault

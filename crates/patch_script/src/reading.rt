@@ -7,7 +7,7 @@ ghost use Rattle.xray_image.specs.Program.{Program};
 ghost use Rattle.xray_image.specs.Ids.{id_count};
 ghost use Rattle.patch_script.specs.Refusals.{is_beyond, names_no_function, names_no_thread, with_line, read_lines};
 ghost use Rattle.patch_script.specs.Plans.{plan_of};
-ghost use Rattle.patch_script.specs.Drafts.{program_of, lines_of, IsDraft, IsAdmitted, Judges, HasLines, Takes, Reads};
+ghost use Rattle.patch_script.specs.Drafts.{program_of, lines_of, IsDraft, MayFollow, Judges, HasLines, Takes, Reads};
 
 use crate::command::Command;
 use crate::fault::ScriptFault;
@@ -109,7 +109,7 @@ impl Draft {
     /// Adds a command that may follow.
     fn push(&mut self, line: u32, command: Command) -> Result<(), AllocError>
         requires sound { IsDraft self.old }
-        requires admitted { IsAdmitted self.old command }
+        requires admitted { MayFollow self.old command }
         requires room { length (lines_of self.old) < 1024 }
         ensures { OnOk result (HasLines self.old (lines_of self.old ++ (line, command) ∷ []) self.new) }
     {

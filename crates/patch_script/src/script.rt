@@ -1,9 +1,9 @@
 //! A script that was read, and what it tells.
 
-ghost use Rattle.std.specs.Prelude.{◌≡◌, ◌≤◌, ◌↔◌};
+ghost use Rattle.std.specs.Prelude.{◌≡◌, ◌<◌, ◌≤◌, ◌↔◌, ℕ};
 ghost use Rattle.patch_script.specs.Micros.{start_of, total_of, micro_at, hold_of};
 ghost use Rattle.patch_script.specs.Refusals.{commands_of};
-ghost use Rattle.patch_script.specs.Plans.{IsRead, waiting_line};
+ghost use Rattle.patch_script.specs.Plans.{IsRead, IsOrderly, IsStore, IsWithin, waiting_line};
 
 use crate::micro::Micro;
 use crate::placed::PlacedCommands;
@@ -54,8 +54,12 @@ impl Script {
     pub fn start(&self) -> u64
         ensures start { result ≡ start_of self.now.program (commands_of self.now.lines) }
         ensures within { result ≤ total_of self.now.program (commands_of self.now.lines) }
-        // A script is what some text says.
+        // The threads start behind stores alone.
+        ensures stores { (place : ℕ) → place < result
+            → IsStore (micro_at self.now.program (commands_of self.now.lines) place) }
+        // A script is what some text says, and its commands follow each other as they may.
         ensures read { IsRead self.now }
+        ensures orderly { IsOrderly self.now }
     {
         self.placed.start
     }
@@ -72,6 +76,7 @@ impl Script {
     /// binary search among the commands.
     pub fn micro(&self, p: u64) -> Micro
         ensures micro { result ≡ micro_at self.now.program (commands_of self.now.lines) p }
+        ensures within { IsWithin self.now result }
         ensures end { (result ≡ Micro.End) ↔ (total_of self.now.program (commands_of self.now.lines) ≤ p) }
     {
         self.placed.micro(p)

@@ -1,4 +1,4 @@
-use Rattle.std.proofs.Common.{◌≡◌, ◌+◌, cond, length, ap, sym, subst, ◌∙◌, arith, Some, None, ℕ, refl}
+use Rattle.std.proofs.Common.{◌≡◌, ◌+◌, length, ap, subst, ◌∙◌, arith}
 use Rattle.std.specs.Option.{option_or}
 use Rattle.patch_script.specs.FirstPatches.{AddsFirst}
 use Rattle.patch_script.specs.Placing.{step_count}

@@ -1,7 +1,5 @@
-use Rattle.std.proofs.Common.{List, sym, subst, ap, length, map, ◌∙◌, arith}
-use Rattle.std.specs.List.Sorted.{IsNonDecreasingBy}
+use Rattle.std.proofs.Common.{ap, length, ◌∙◌, arith}
 use Rattle.std.proofs.lemmas.List.{length-map}
-use Rattle.patch_script.specs.declared.sleds.SledValues.{SledValues}
 use Rattle.patch_script.specs.Sleds.{values_of}
 use Rattle.patch_script.proofs.Places.{values_in_order, all_named, function_named}
 use Rattle.patch_script.proofs.placed.PlacedCommands.sleds_of.Goals as goal

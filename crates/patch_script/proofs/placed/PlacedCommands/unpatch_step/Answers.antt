@@ -1,8 +1,7 @@
-use Rattle.std.proofs.Common.{◌≡◌, ◌==◌, ◌||◌, Bool, ℕ, length, sym, ap, ◌∙◌, arith, get_or}
+use Rattle.std.proofs.Common.{◌≡◌, ◌==◌, ◌||◌, ℕ, ap, ◌∙◌, get_or}
 use Rattle.std.specs.List.{list_any}
-use Rattle.std.proofs.lemmas.List.{length-map, get_or-map}
+use Rattle.std.proofs.lemmas.List.{get_or-map}
 use Rattle.std.proofs.lemmas.Option.{get_or_from_slice_get}
-use Rattle.xray_image.specs.declared.sled.SledKind.{SledKind}
 use Rattle.patch_script.specs.declared.micro.Micro.TheVariants.{Store}
 use Rattle.patch_script.specs.declared.sleds.SledValues.{SledValues}
 use Rattle.sled_words.specs.declared.part.Part.TheVariants.{Head}

@@ -1,9 +1,8 @@
-use Rattle.std.proofs.Common.{◌≡◌, ℕ, List, [], ◌∷◌, ◌++◌, refl, sym, ap, subst, ◌∙◌, map}
+use Rattle.std.proofs.Common.{◌≡◌, ℕ, List, [], ◌∷◌, ◌++◌, refl, sym, ap, subst, ◌∙◌}
 use Rattle.std.proofs.lemmas.List.{map-append}
-use Rattle.xray_image.specs.Program.{Program}
 use Rattle.xray_image.specs.Ids.{id_count}
 use Rattle.patch_script.specs.declared.command.Command.{Command}
-use Rattle.patch_script.specs.Drafts.{lines_of, program_of}
+use Rattle.patch_script.specs.Drafts.{lines_of}
 use Rattle.patch_script.specs.Placing.{lines_in}
 use Rattle.patch_script.specs.Refusals.{commands_of}
 use Rattle.patch_script.specs.Standing.{IsStanding}
