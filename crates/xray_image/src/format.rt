@@ -5,6 +5,8 @@
 ghost use Rattle.std.specs.Prelude.{◌≡◌};
 ghost use Rattle.xray_image.specs.Program.{is_name_byte};
 
+use subset_decode::opcodes::RET;
+
 /// The first bytes of an image file: `XRIM`.
 pub const MAGIC: [u8; 4] = [0x58, 0x52, 0x49, 0x4D];
 
@@ -40,7 +42,7 @@ pub const SLED_LENGTH: usize = 11;
 pub const JUMP_HEAD: [u8; 2] = [0xEB, 0x09];
 
 /// The head of an exit sled: a return, and the byte that tells it from a return of its own.
-pub const RETURN_HEAD: [u8; 2] = [0xC3, 0x2E];
+pub const RETURN_HEAD: [u8; 2] = [RET, 0x2E];
 
 /// The nop that fills a sled, up to its displacement of four bytes: `nopw disp32(rax, rax)` (Intel SDM,
 /// volume 2, `NOP`).
