@@ -117,16 +117,18 @@ module _ (f : File) (pieces : List Piece) (ordered : IsInOrder f pieces) where
   accepted_file =
       let back = sym header.base in
       record {
-        has_header = header.whole;
-        magic_bytes = header.begins;
-        first_version = header.first;
-        code_limit = omega (arith, header.code, ordered.code_limit);
-        some_function = omega (arith, header.functions, ordered.entry_exists);
-        functions_limit = omega (arith, header.functions, ordered.functions_limit);
-        sleds_limit = omega (arith, header.entries, ordered.sleds_limit);
-        entry_exists = omega (arith, header.entry, header.functions, ordered.entry_exists);
-        base_aligned = subst (λ n. n % 16 ≡ 0) back ordered.base_aligned;
-        base_limit = subst (λ n. n ≤ 0x7FFF00000000) back ordered.base_limit;
+        header = record {
+          has_header = header.whole;
+          magic_bytes = header.begins;
+          first_version = header.first;
+          code_limit = omega (arith, header.code, ordered.code_limit);
+          some_function = omega (arith, header.functions, ordered.entry_exists);
+          functions_limit = omega (arith, header.functions, ordered.functions_limit);
+          sleds_limit = omega (arith, header.entries, ordered.sleds_limit);
+          entry_exists = omega (arith, header.entry, header.functions, ordered.entry_exists);
+          base_aligned = subst (λ n. n % 16 ≡ 0) back ordered.base_aligned;
+          base_limit = subst (λ n. n ≤ 0x7FFF00000000) back ordered.base_limit;
+        };
         parts = record { code = f.code; functions = f.functions; entries = f.entries; rest = [] };
         reaches = parts_back f ordered.fits;
         nothing_behind = refl;

@@ -64,7 +64,7 @@ low_address bytes program accepted i u found =
     ap length (sym accepted.units.whole ∙ code_is bytes accepted.parts accepted.reaches) in
     let units : program.units ≡ units_from (base_address bytes) 0 accepted.pieces = ap (λ (p : Program). p.units) accepted.holds in
     let within = unit_within (base_address bytes) 0 accepted.pieces i u (subst (λ us. slice_get us i ≡ Some u) units found) in
-    omega (arith, length-take (code_length bytes) (drop 64 bytes), accepted.code_limit, accepted.base_limit)
+    omega (arith, length-take (code_length bytes) (drop 64 bytes), accepted.header.code_limit, accepted.header.base_limit)
 
 -- ---- sleds
 

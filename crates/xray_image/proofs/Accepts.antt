@@ -90,16 +90,16 @@ module _ (bytes : List ℕ) (program : Program) (a : IsAccepted bytes program) w
   rows_of_file : ReadsAs bytes (Ok program)
   rows_of_file =
       inr (
-        a.has_header,
+        a.header.has_header,
         inr (
-          a.magic_bytes,
+          a.header.magic_bytes,
           inr (
-            a.first_version,
+            a.header.first_version,
             inr (
-              a.code_limit,
+              a.header.code_limit,
               inr (
-                (a.some_function, a.functions_limit),
-                inr (a.sleds_limit, inr (a.entry_exists, inr ((a.base_aligned, a.base_limit), rows_of_parts))),
+                (a.header.some_function, a.header.functions_limit),
+                inr (a.header.sleds_limit, inr (a.header.entry_exists, inr ((a.header.base_aligned, a.header.base_limit), rows_of_parts))),
               ),
             ),
           ),
@@ -189,16 +189,18 @@ accepted_from bytes program r =
     let made = program_of bytes parts.0 units.0 in
     let rows = program_rows parts.0.entries places made program units.2 in
     record {
-      has_header = header.0;
-      magic_bytes = magic.0;
-      first_version = version.0;
-      code_limit = code.0;
-      some_function = functions.0.0;
-      functions_limit = functions.0.1;
-      sleds_limit = sleds.0;
-      entry_exists = entry.0;
-      base_aligned = base.0.0;
-      base_limit = base.0.1;
+      header = record {
+        has_header = header.0;
+        magic_bytes = magic.0;
+        first_version = version.0;
+        code_limit = code.0;
+        some_function = functions.0.0;
+        functions_limit = functions.0.1;
+        sleds_limit = sleds.0;
+        entry_exists = entry.0;
+        base_aligned = base.0.0;
+        base_limit = base.0.1;
+      };
       parts = parts.0;
       reaches = parts.1;
       nothing_behind = rest.0;

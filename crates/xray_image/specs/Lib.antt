@@ -1,9 +1,9 @@
 pub mod Units
 pub mod Container
 pub mod Kinds
+pub mod Header
 pub mod Program
 pub mod FirstRun
-pub mod Header
 pub mod Reading
 pub mod Views
 pub mod Index

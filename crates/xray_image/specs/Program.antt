@@ -1,5 +1,5 @@
 -- What an accepted image file holds, and which files are accepted.
-use Rattle.std.specs.Prelude.{◌≡◌, ◌≢◌, ◌<◌, ◌≤◌, ◌+◌, ◌%◌, ◌+ℤ◌, ◌-ℤ◌, ◌||◌, ◌&&◌, ◌⊎◌, ℕ, ℤ, pos, zero, suc, List, [], ◌∷◌, length, take, Bool, true, false, not, nat_le, ◌==◌, if◌then◌else◌, Option, Some, None, codes, map, filter, All, Contains, slice_get, IfSome, FitsSigned}
+use Rattle.std.specs.Prelude.{◌≡◌, ◌≢◌, ◌<◌, ◌+◌, ◌%◌, ◌+ℤ◌, ◌-ℤ◌, ◌||◌, ◌&&◌, ◌⊎◌, ℕ, ℤ, pos, zero, suc, List, [], ◌∷◌, length, take, Bool, true, false, not, nat_le, ◌==◌, if◌then◌else◌, Option, Some, None, map, filter, All, Contains, slice_get, IfSome, FitsSigned}
 use Rattle.std.specs.Int.{w32}
 use Rattle.std.specs.Option.{option_map_or}
 use Rattle.std.specs.List.{zip, last_or, list_any, position_or_len}
@@ -12,7 +12,8 @@ use Rattle.xray_image.specs.declared.sled.SledKind.TheVariants.{Entry, Exit, Tai
 use Rattle.xray_image.specs.declared.unit.Unit.{Unit}
 use Rattle.xray_image.specs.declared.unit.What.TheVariants.{Plain}
 use Rattle.xray_image.specs.Units.{Piece, IsUnits, units_from, SledPlace, places_from}
-use Rattle.xray_image.specs.Container.{Function, MapEntry, Parts, magic, version, base_address, code_length, function_count, entry_count, entry_index, number8_at, parts_of}
+use Rattle.xray_image.specs.Container.{Function, MapEntry, Parts, base_address, entry_index, number8_at, parts_of}
+use Rattle.xray_image.specs.Header.{HasHeader}
 
 -- the handlers' trampolines by the kind of the sleds that call them
 pub record Trampolines : Type 0 where
@@ -163,16 +164,7 @@ program_of bytes parts pieces = record {
 
 -- The bytes are an image file that is accepted, and the program is what it holds.
 pub record IsAccepted (bytes : List ℕ) (program : Program) : Type 0 where
-  pub has_header : 64 ≤ length bytes
-  pub magic_bytes : magic bytes ≡ codes "XRIM"
-  pub first_version : version bytes ≡ 1
-  pub code_limit : code_length bytes ≤ 1048576
-  pub some_function : 0 < function_count bytes
-  pub functions_limit : function_count bytes ≤ 1024
-  pub sleds_limit : entry_count bytes ≤ 4096
-  pub entry_exists : entry_index bytes < function_count bytes
-  pub base_aligned : base_address bytes % 16 ≡ 0
-  pub base_limit : base_address bytes ≤ 0x7FFF00000000
+  pub header : HasHeader bytes
   pub parts : Parts
   pub reaches : parts_of bytes ≡ Some parts
   pub nothing_behind : parts.rest ≡ []

@@ -93,7 +93,7 @@ few_pieces bytes program accepted =
     let parts = says_parts bytes accepted.parts accepted.reaches in
     let code : length (flat_map piece_bytes accepted.pieces) ≡ length (take (code_length bytes) (drop 64 bytes)) =
     ap length (sym accepted.units.whole ∙ parts.code_is) in
-    omega (arith, bytes_of_pieces accepted.pieces, length-take (code_length bytes) (drop 64 bytes), accepted.code_limit)
+    omega (arith, bytes_of_pieces accepted.pieces, length-take (code_length bytes) (drop 64 bytes), accepted.header.code_limit)
 
 only_function : (base : ℕ) (units : List Unit) (functions : List Function) (i : ℕ)
     → AreFunctions base units functions → length functions ≡ 1 → i < length functions
@@ -110,6 +110,6 @@ entry_at_base bytes program accepted one =
     let functions : length accepted.parts.functions ≡ 1 = sym (ap (λ (p : Program). length p.functions) accepted.holds) ∙ one in
     let counted = several_length function_at (function_count bytes) (drop (64 + code_length bytes) bytes) parts.found parts.functions_found in
     let within : entry_index bytes < length accepted.parts.functions =
-    omega (arith, accepted.entry_exists, counted, ap length parts.functions_are) in
+    omega (arith, accepted.header.entry_exists, counted, ap length parts.functions_are) in
     ap (λ (p : Program). p.entry) accepted.holds
     ∙ only_function (base_address bytes) program.units accepted.parts.functions (entry_index bytes) accepted.functions functions within

@@ -8,4 +8,4 @@ pub overflow_cast-result : goal.overflow_cast-result
 overflow_cast-result c =
     let sound = c.self.invariant in
     let functions = c.self.inside.functions in
-    omega (arith, function_total sound.bytes (program_in c.self.inside) sound.accepted, length-map functions.items named_function, sound.accepted.functions_limit, functions.ok.0, c.len.ensures)
+    omega (arith, function_total sound.bytes (program_in c.self.inside) sound.accepted, length-map functions.items named_function, sound.accepted.header.functions_limit, functions.ok.0, c.len.ensures)

@@ -12,7 +12,7 @@ overflow_cast-result c =
     let inside = c.self.inside in
     let program = program_in inside in
     let few = numbers_few program inside.functions.items inside.ids.items refl (accepted_ascend sound.bytes program sound.accepted) sound.ids in
-    omega (arith, sled_total sound.bytes program sound.accepted, sound.accepted.sleds_limit, inside.ids.ok.0, c.len.ensures, few.1)
+    omega (arith, sled_total sound.bytes program sound.accepted, sound.accepted.header.sleds_limit, inside.ids.ok.0, c.len.ensures, few.1)
 
 pub returns : goal.returns
 returns c =

@@ -10,7 +10,7 @@ use Rattle.xray_image.proofs.image.Image.sled_count.Goals as goal
 pub overflow_cast-result : goal.overflow_cast-result
 overflow_cast-result c =
     let sound = c.self.invariant in
-    omega (arith, sled_total sound.bytes (program_in c.self.inside) sound.accepted, sound.accepted.sleds_limit, c.self.inside.sleds.ok.0, c.len.ensures)
+    omega (arith, sled_total sound.bytes (program_in c.self.inside) sound.accepted, sound.accepted.header.sleds_limit, c.self.inside.sleds.ok.0, c.len.ensures)
 
 pub returns-clause-stand : goal.returns-clause-stand
 returns-clause-stand c =
@@ -20,7 +20,7 @@ returns-clause-stand c =
 pub returns-clause-few : goal.returns-clause-few
 returns-clause-few c =
     let sound = c.self.invariant in
-    omega (arith, sled_total sound.bytes (program_in c.self.inside) sound.accepted, sound.accepted.sleds_limit, c.self.inside.sleds.ok.0, c.len.ensures)
+    omega (arith, sled_total sound.bytes (program_in c.self.inside) sound.accepted, sound.accepted.header.sleds_limit, c.self.inside.sleds.ok.0, c.len.ensures)
 
 pub returns-clause-in_order : goal.returns-clause-in_order
 returns-clause-in_order c =
