@@ -15,7 +15,7 @@ use Rattle.xray_program.specs.Inputs.{Form, first_run_form, script_form, schedul
 use Rattle.xray_program.specs.Meaning.{Outcome, BadLine, TooLong, Refused, Done, Take, Comes, Says, write_fault_line}
 use Rattle.xray_program.specs.Outputs.{AreWhole}
 use Rattle.xray_program.specs.Stops.{kind_text, refusal_text, stop_status, stop_line}
-use Rattle.xray_program.specs.Words.{Sim, Item, File, Given, files_of, have_only, is_equals, is_name, is_text, items_behind, items_of, reading, sim_with}
+use Rattle.xray_program.specs.Words.{Sim, Item, File, Given, files_of, have_only, is_equals, is_name, items_behind, items_of, reading, sim_with}
 use Rattle.xray_program.specs.Words as words
 
 -- ---- 0 and 4

@@ -1,9 +1,8 @@
 -- What the words of the command line say.
-use Rattle.std.specs.Prelude.{ℕ, ◌==◌, ◌&&◌, List, [], ◌∷◌, length, Bool, true, false, not, nat_le, nat_eq, if◌then◌else◌, Option, Some, None, codes, map, option_map, slice_index, String, string_bytes}
-use Rattle.std.specs.Cmp.Lexicographic.{pointwise}
+use Rattle.std.specs.Prelude.{ℕ, ◌==◌, ◌&&◌, List, [], ◌∷◌, length, Bool, true, false, not, nat_le, if◌then◌else◌, Option, Some, None, codes, map, option_map, slice_index, String, string_bytes}
 use Rattle.std.specs.List.{after_first, before_first, filter_map, list_all, list_any}
 use Rattle.std.specs.Option.{option_map_or}
-use Rattle.std.specs.Str.{all_ascii_digits}
+use Rattle.std.specs.Str.{all_ascii_digits, bytes_eq}
 use Rattle.std.specs.Str.Parse.{digits_value, without_leading_plus}
 use Rattle.std.specs.declared.alloc.Global.{Global}
 use Rattle.xray_program.specs.declared.words.RunOptions.{RunOptions}
@@ -18,10 +17,6 @@ pub data Command : Type 0 where
 -- the bytes of each word
 abbrev pub texts : List (String Global) → List (List ℕ)
 texts words = map string_bytes words
-
--- two texts are the same
-abbrev pub is_text : List ℕ → List ℕ → Bool
-is_text text other = pointwise nat_eq text other
 
 -- ---- the words behind the command
 
@@ -46,7 +41,7 @@ items_behind None [] = []
 items_behind (Some option) [] = Bare option ∷ []
 items_behind (Some option) (value ∷ words) = Given option value ∷ items_behind None words
 items_behind None (word ∷ words) =
-    if is_text word (codes "--") then map File words
+    if bytes_eq word (codes "--") then map File words
     else if is_name word then File word ∷ items_behind None words
     else if list_any is_equals word
     then Given (before_first is_equals word) (after_first is_equals word) ∷ items_behind None words
@@ -77,7 +72,7 @@ only_file items = only (files_of items)
 -- the value that an item gives an option, where it gives it one
 abbrev pub value_of : List ℕ → Item → Option (List ℕ)
 value_of option (File name) = None
-value_of option (Given other value) = if is_text other option then Some value else None
+value_of option (Given other value) = if bytes_eq other option then Some value else None
 value_of option (Bare other) = None
 
 -- the values that items give an option
@@ -87,7 +82,7 @@ values_of option items = filter_map (value_of option) items
 -- an item is a file name, or one of these options with a value
 abbrev pub is_among : List (List ℕ) → Item → Bool
 is_among options (File name) = true
-is_among options (Given option value) = list_any (is_text option) options
+is_among options (Given option value) = list_any (bytes_eq option) options
 is_among options (Bare option) = false
 
 -- each item is
@@ -184,17 +179,17 @@ asm_of items =
   where
     of_parts : Option ℕ → List (List ℕ) → Option Command
     of_parts (Some threshold) (text ∷ image ∷ []) =
-        if is_text image text then None else Some (Asm text image threshold)
+        if bytes_eq image text then None else Some (Asm text image threshold)
     of_parts _ _ = None
 
 -- the command that words say, if they say one
 abbrev pub reading : List (List ℕ) → Option Command
 reading [] = None
 reading (command ∷ words) =
-    if is_text command (codes "plain") then plain_of (items_of words)
-    else if is_text command (codes "extract") then extract_of (items_of words)
-    else if is_text command (codes "sim") then sim_of (items_of words)
-    else if is_text command (codes "asm") then asm_of (items_of words)
+    if bytes_eq command (codes "plain") then plain_of (items_of words)
+    else if bytes_eq command (codes "extract") then extract_of (items_of words)
+    else if bytes_eq command (codes "sim") then sim_of (items_of words)
+    else if bytes_eq command (codes "asm") then asm_of (items_of words)
     else None
 
 -- ---- the outputs

@@ -1,8 +1,9 @@
 //! The words behind a command, as options and file names.
 ghost use Rattle.std.specs.Prelude.{◌≡◌, [], ◌∷◌, IfNone, IfSome, Some, codes, false, map, option_copied};
 ghost use Rattle.std.specs.List.{list_any};
+ghost use Rattle.std.specs.Str.{bytes_eq};
 ghost use Rattle.xray_program.specs.Commands.{item_of};
-ghost use Rattle.xray_program.specs.Words.{File, files_of, have_only, is_among, is_name, items_behind, is_text, items_of, texts, value_of, values_of};
+ghost use Rattle.xray_program.specs.Words.{File, files_of, have_only, is_among, is_name, items_behind, items_of, texts, value_of, values_of};
 
 use std::iter::FusedIterator;
 use std::marker::Model;
@@ -62,6 +63,7 @@ impl<'a> Item<'a> {
 #[derive(Drop)]
 pub(crate) struct Items<'a> {
     words: &'a [String],
+    /// Whether a word `--` stood before: all words behind it are file names.
     names_only: bool,
 }
 
@@ -182,7 +184,7 @@ fn split_item(words: &[String]) -> Option<(Item<'_>, Items<'_>)>
 
 /// The item that a word other than the separator begins, and the items behind it.
 fn split_word<'a>(word: &'a str, rest: &'a [String]) -> (Item<'a>, Items<'a>)
-    requires { is_text word.now (codes "--") ≡ false }
+    requires { bytes_eq word.now (codes "--") ≡ false }
     ensures { items_of (word.now ∷ texts rest.now) ≡ item_of result.0 ∷ result.1 }
 {
     if is_file_name(word) {
@@ -206,7 +208,7 @@ fn split_value<'a>(option: &'a str, words: &'a [String]) -> (Item<'a>, Items<'a>
 
 /// Whether a text is one of these.
 fn is_one_of(text: &str, texts: &[&str]) -> bool
-    ensures { result ≡ list_any (is_text text.now) (map (λ t. t.now) texts.now) }
+    ensures { result ≡ list_any (bytes_eq text.now) (map (λ t. t.now) texts.now) }
 {
     for one in texts {
         if text == *one {
