@@ -4,6 +4,10 @@ pub mod OneEnd
 pub mod OutputText
 pub mod Places
 pub mod PlainText
+pub mod Loading
+pub mod OnCourse
+pub mod ToSled
+pub mod Passing
 pub mod Runs
 pub mod SomeEnd
 pub mod Stepping

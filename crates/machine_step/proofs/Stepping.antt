@@ -192,7 +192,7 @@ abbrev pub MadeAt : Program → Limits → ℕ → State → Option ℕ → List
 MadeAt program limits thread s None made = made ≡ []
 MadeAt program limits thread s (Some k) made = MadeBy program limits thread s k (s.passings == limits.passings) made
 
-instruction_at_none : (units : List Unit) (behind : ℕ) (instr : Instr) (step : Step) → IsStepOfInstruction units behind instr step
+pub instruction_at_none : (units : List Unit) (behind : ℕ) (instr : Instr) (step : Step) → IsStepOfInstruction units behind instr step
     → sled_at step ≡ None
 instruction_at_none units behind (Mov dst imm) step is = ap sled_at is
 instruction_at_none units behind (Add dst src) step is = ap sled_at is
@@ -205,7 +205,7 @@ instruction_at_none units behind (Jnz rel) step (target, there, is) = ap sled_at
 instruction_at_none units behind Ret step is = ap sled_at is
 instruction_at_none units behind (Out port) step is = ap sled_at is
 
-sled_at_some : (k : ℕ) (kind : SledKind) → sled_at (step_of_sled k kind) ≡ Some k
+pub sled_at_some : (k : ℕ) (kind : SledKind) → sled_at (step_of_sled k kind) ≡ Some k
 sled_at_some k kinds.Entry = refl
 sled_at_some k kinds.Exit = refl
 sled_at_some k kinds.Tail = refl

@@ -1,7 +1,7 @@
 -- What contracts see of a `Cpu`: a traced thread, and what its loads make of it.
-use Rattle.std.specs.Prelude.{◌≡◌, ◌+◌, ◌-◌, ◌*◌, ◌%◌, ◌==◌, ◌++◌, ℕ, List, [], ◌∷◌, length, map, take, All, Bool, Option, Some, None, slice_get, IsSome, nat_lt, if◌then◌else◌}
+use Rattle.std.specs.Prelude.{◌≡◌, ◌+◌, ◌-◌, ◌*◌, ◌++◌, ℕ, List, [], ◌∷◌, length, map, take, All, Bool, Option, Some, None, slice_get, IsSome, nat_le, if◌then◌else◌}
 use Rattle.xray_image.specs.Program.{Program}
-use Rattle.sled_words.specs.Words.{handler_word, state_word, release_word}
+use Rattle.sled_words.specs.Words.{state_word, release_word}
 use Rattle.sled_words.specs.Allowed.{IsAllowed}
 use Rattle.handler_word.specs.declared.mark.Mark.{Mark}
 use Rattle.machine_step.specs.declared.limits.Limits.{Limits}
@@ -156,16 +156,12 @@ pub record IsKept (t : Traced) (value : ℕ) : Type 0 where
   pub word : t.want ≡ Loads (release_word t.program t.thread)
   pub unset : value ≡ 0
 
--- at most how many loads and gates one passing has before it where it wants this
+-- How far a thread is from its end, where it wants this: a gate, a release word, and then words of rising numbers, up to the state
 abbrev pub steps_left : Program → Want → ℕ
-steps_left program (Gate passing) = 8
-steps_left program (Loads word) =
-    if nat_lt word (handler_word program) then 6 - word % 4
-    else if word == handler_word program then 2
-    else if word == state_word program then 1
-    else 7
+steps_left program (Gate passing) = state_word program + 3
+steps_left program (Loads word) = if nat_le word (state_word program) then state_word program + 1 - word else state_word program + 2
 steps_left program (Done end) = 0
 
--- and all passings up to the limit
+-- with all passings up to the limit: each gate, and each load that doesn't keep it, brings it nearer
 abbrev pub loads_left : Traced → ℕ
-loads_left t = 8 * (t.limits.passings - length t.marks) + steps_left t.program t.want
+loads_left t = (state_word t.program + 3) * (t.limits.passings - length t.marks) + steps_left t.program t.want

@@ -3,14 +3,14 @@
 ghost use Rattle.std.specs.Prelude.{◌≡◌, ◌<◌, ℕ, List};
 ghost use Rattle.xray_image.specs.Program.{IsAccepted};
 ghost use Rattle.machine_step.specs.Machine.{IsWithin};
-ghost use Rattle.machine_step.specs.Standing.{IsAtSled, PassesTo, RunsOnTo};
+ghost use Rattle.machine_step.specs.Standing.{IsAtSled, PassesTo, RunsOnTo, due_sled};
 ghost use Rattle.machine_step.specs.Steps.{AreStepsOf, IsPlaceOf};
 
 use crate::end::End;
 use crate::limits::Limits;
 use crate::machine::Machine;
 use crate::stage::Stage;
-use crate::step::Way;
+use crate::step::{Step, Way};
 use crate::steps::{Steps, place_of};
 use xray_image::Image;
 
@@ -49,9 +49,7 @@ pub(crate) fn run_to_sled(
     let mut place = start;
     'steps: loop {
         let step = steps.at(place);
-        if let Some(sled) = step.sled()
-            && machine.passings < limits.passings
-        {
+        if let Some(sled) = due_sled(machine, step, limits) {
             return Stand::Gate { place, sled };
         }
         match machine.step(step, place, limits) {
@@ -60,6 +58,17 @@ pub(crate) fn run_to_sled(
             Way::Ends(end) => return Stand::Ended { end },
         }
     }
+}
+
+/// The sled of a step, where there is one and a passing is left for it.
+#[inline]
+fn due_sled(machine: &Machine, step: &Step, limits: Limits) -> Option<u32>
+    ensures { result ≡ due_sled limits machine.now step.now }
+{
+    if machine.passings == limits.passings {
+        return None;
+    }
+    step.sled()
 }
 
 /// Lets a machine that stands before a sled pass it, and run on to the next one or to its end.
