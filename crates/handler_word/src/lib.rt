@@ -1,6 +1,13 @@
-//! Marks: what the passings of a thread met.
+//! Marks: what the passings of a thread met, two bits each, and the text of their runs.
 #![tactic(auto)]
 
 mod mark;
+mod marks;
+mod runs;
 
 pub use mark::Mark;
+pub use marks::Marks;
+pub use runs::{add_runs, write_runs};
+
+#[cfg(test)]
+mod tests;

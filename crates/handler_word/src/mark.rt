@@ -1,3 +1,7 @@
+//! What a passing met.
+
+ghost use Rattle.std.specs.Prelude.{◌≡◌, ◌<◌};
+
 /// What a passing of a sled met.
 #[derive(Clone, Copy, Debug, PartialEq, Eq)]
 pub enum Mark {
@@ -9,4 +13,37 @@ pub enum Mark {
     NotLogging,
     /// One event was recorded. Printed `+`.
     Recorded,
+}
+
+impl Mark {
+    ghost use Rattle.handler_word.specs.Bits.{mark_of};
+    ghost use Rattle.handler_word.specs.MarkList.{is_recorded};
+
+    /// Whether the passing recorded an event.
+    pub(crate) fn is_recorded(self) -> bool
+        ensures { result ≡ is_recorded self }
+    {
+        matches!(self, Mark::Recorded)
+    }
+
+    /// The two bits that it is kept in.
+    pub(crate) fn bits(self) -> u8
+        ensures small { result < 4 }
+        ensures mark { mark_of result ≡ self }
+    {
+        self as u8
+    }
+
+    /// The mark that two bits are kept for.
+    pub(crate) fn from_bits(bits: u8) -> Mark
+        requires { bits < 4 }
+        ensures { result ≡ mark_of bits }
+    {
+        match bits {
+            0 => Mark::Skipped,
+            1 => Mark::NoHandler,
+            2 => Mark::NotLogging,
+            _ => Mark::Recorded,
+        }
+    }
 }

@@ -1,0 +1,126 @@
+//! The marks of a thread.
+
+ghost use Rattle.std.specs.Prelude.{◌≡◌, ◌<◌, ◌≤◌, ◌↔◌, ◌+◌, ◌/◌, [], ◌∷◌, ◌++◌, length, slice_get, vec_capacity, Some, IsTrue, IfOk};
+ghost use Rattle.handler_word.specs.Bits.{mark_of, marks_from, IsFilledTo};
+ghost use Rattle.handler_word.specs.MarkList.{recorded_count};
+
+use crate::Mark;
+use std::alloc::Global;
+use std::marker::Model;
+use xray_io::NoMemory;
+
+/// How many marks a byte has.
+const MARKS_IN_BYTE: u32 = 4;
+
+/// How many bits a mark has.
+const BITS_OF_MARK: u32 = 2;
+
+/// The bits of the first mark of a byte.
+const FIRST_MARK: u8 = 0b11;
+
+/// The marks of a thread's passings, the first first: two bits each, in room that is taken when it is
+/// made. No other call takes memory.
+#[derive(Debug, Drop)]
+pub struct Marks {
+    /// Four marks a byte, the first in its lowest bits.
+    bytes: Vec<u8>,
+    /// How many marks there are.
+    len: u32,
+    /// How many of them are `Recorded`.
+    recorded: u32,
+    /// How many marks there may be.
+    room: u32,
+}
+
+impl Model for Marks {
+    ghost use Rattle.handler_word.specs.MarkList.{MarkList};
+
+    ghost Value = { MarkList };
+
+    ghost use Rattle.handler_word.specs.Marks.{marks_in, IsPacked};
+
+    ghost view = { marks_in };
+
+    ghost invariant = { IsPacked };
+}
+
+impl Marks {
+    /// No marks yet, with room for so many.
+    pub fn new(alloc: Global, room: u32) -> Result<Marks, NoMemory>
+        ensures { IfOk result (λ marks. marks ≡ record { items = []; room = room }) }
+    {
+        Ok(Marks {
+            bytes: Vec::with_capacity(alloc, room.div_ceil(MARKS_IN_BYTE) as usize)?,
+            len: 0,
+            recorded: 0,
+            room,
+        })
+    }
+
+    /// Adds a mark behind the others. There has to be room for it: `is_full` tells.
+    pub fn add(&mut self, mark: Mark)
+        requires { length self.old.items < self.old.room }
+        ensures items { self.new.items ≡ self.old.items ++ mark ∷ [] }
+        ensures room { self.new.room ≡ self.old.room }
+    {
+        put_bits(&mut self.bytes, self.len, mark.bits());
+        self.len += 1;
+        self.recorded += u32::from(mark.is_recorded());
+    }
+
+    /// How many marks there are.
+    pub fn len(&self) -> u32
+        ensures count { result ≡ length self.now.items }
+        ensures within { result ≤ self.now.room }
+    {
+        self.len
+    }
+
+    /// Whether there are none.
+    pub fn is_empty(&self) -> bool
+        ensures { IsTrue result ↔ (self.now.items ≡ []) }
+    {
+        self.len == 0
+    }
+
+    /// Whether there is no room for another one.
+    pub fn is_full(&self) -> bool
+        ensures { IsTrue result ↔ (self.now.room ≤ length self.now.items) }
+    {
+        self.len == self.room
+    }
+
+    /// The mark of a number, counted from 0.
+    pub fn get(&self, n: u32) -> Mark
+        requires { n < length self.now.items }
+        ensures { slice_get self.now.items n ≡ Some result }
+    {
+        let byte = self.bytes[(n / MARKS_IN_BYTE) as usize];
+        Mark::from_bits((byte >> (n % MARKS_IN_BYTE * BITS_OF_MARK)) & FIRST_MARK)
+    }
+
+    /// How many of the marks are `Recorded`. It is counted as they come.
+    pub fn recorded(&self) -> u32
+        ensures { result ≡ recorded_count self.now.items }
+    {
+        self.recorded
+    }
+}
+
+/// Puts the bits of a mark behind those of so many marks.
+fn put_bits(bytes: &mut Vec<u8>, marks: u32, bits: u8)
+    requires filled { IsFilledTo bytes.old.items marks }
+    requires room { marks / MARKS_IN_BYTE < vec_capacity bytes.old }
+    requires small { bits < 4 }
+    ensures marks { marks_from bytes.new.items 0 (marks + 1)
+        ≡ marks_from bytes.old.items 0 marks ++ mark_of bits ∷ [] }
+    ensures filled { IsFilledTo bytes.new.items (marks + 1) }
+    ensures room { vec_capacity bytes.new ≡ vec_capacity bytes.old }
+{
+    let place = marks % MARKS_IN_BYTE;
+    if place == 0 {
+        bytes.push_reserved(bits);
+    } else {
+        bytes[(marks / MARKS_IN_BYTE) as usize] |= bits << (place * BITS_OF_MARK);
+    }
+}
