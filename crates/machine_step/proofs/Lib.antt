@@ -11,3 +11,5 @@ pub mod Passing
 pub mod Runs
 pub mod SomeEnd
 pub mod Stepping
+pub mod AlongScript
+pub mod Wholeness

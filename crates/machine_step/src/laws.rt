@@ -1,9 +1,17 @@
-//! Laws of the plain machine, each the contract of a function that does nothing.
-ghost use Rattle.std.specs.Prelude.{◌≡◌, ℕ, List};
+//! Laws of the plain machine and of its loads, each the contract of a function that does nothing.
+ghost use Rattle.std.specs.Prelude.{◌≡◌, ℕ, List, Option, Some, All, slice_get, take};
 ghost use Rattle.xray_image.specs.Program.{Program, IsAccepted};
+ghost use Rattle.sled_words.specs.Allowed.{IsAllowed};
+ghost use Rattle.patch_script.specs.declared.command.Command.{Command};
+ghost use Rattle.patch_script.specs.CodeAt.{code_at};
 ghost use Rattle.machine_step.specs.declared.limits.Limits.{Limits};
 ghost use Rattle.machine_step.specs.declared.end.End.{End};
 ghost use Rattle.machine_step.specs.PlainStep.{State, Passing, PlainRun};
+ghost use Rattle.machine_step.specs.Loads.{Load, next_load};
+ghost use Rattle.machine_step.specs.ReadAlong.{ReadAlong};
+ghost use Rattle.machine_step.specs.Whole.{AreWhole};
+
+use patch_script::what_a_passing_loads_is_allowed;
 
 /// A thread of an accepted image reaches one end: all plain runs of it have the same passings, the
 /// same end and the same last state, so what is printed of a plain run is a function of the image,
@@ -24,4 +32,35 @@ pub fn some_end()
         → IsAccepted bytes program
         → (passed : List Passing) × (end : End) × (last : State)
         × PlainRun program limits thread passed end last }
+{}
+
+/// However the loads of a thread fall between the stores of a script, each value that it has loaded is
+/// allowed, and so is the next one; and each passing decodes its sled whole. Nothing is asked of the
+/// script, of the thread or of the sleds that it passes.
+pub fn what_is_read_along_a_script_is_allowed()
+    ensures loaded { (program : Program) (script : List Command) (thread : ℕ) (hold : Option ℕ) (sleds : List ℕ)
+        (loads : List Load) (place : ℕ)
+        → ReadAlong program script thread hold sleds loads place
+        → All (λ load. IsAllowed program load.word load.value) loads }
+    ensures next { (program : Program) (script : List Command) (thread : ℕ) (hold : Option ℕ) (sleds : List ℕ)
+        (loads : List Load) (place word : ℕ)
+        → ReadAlong program script thread hold sleds loads place
+        → next_load program thread hold sleds loads ≡ Some word
+        → IsAllowed program word (code_at program script place word) }
+    ensures whole { (program : Program) (script : List Command) (thread : ℕ) (hold : Option ℕ) (sleds : List ℕ)
+        (loads : List Load) (place : ℕ)
+        → ReadAlong program script thread hold sleds loads place
+        → AreWhole program thread hold sleds loads }
+{
+    what_a_passing_loads_is_allowed();
+}
+
+/// Loads of the words that a thread wants behind each other, each of a value that is allowed, tear no
+/// sled: each passing decodes its sled whole, wherever the values come from.
+pub fn allowed_loads_are_whole()
+    ensures { (program : Program) (thread : ℕ) (hold : Option ℕ) (sleds : List ℕ) (loads : List Load)
+        → ((i : ℕ) (load : Load) → slice_get loads i ≡ Some load
+        → next_load program thread hold sleds (take i loads) ≡ Some load.word)
+        → All (λ load. IsAllowed program load.word load.value) loads
+        → AreWhole program thread hold sleds loads }
 {}

@@ -23,7 +23,9 @@ mod want;
 
 pub use cpu::Cpu;
 pub use end::End;
-pub use laws::{one_end, some_end};
+pub use laws::{
+    allowed_loads_are_whole, one_end, some_end, what_is_read_along_a_script_is_allowed,
+};
 pub use limits::Limits;
 pub use plain_end::PlainEnd;
 pub use plain_text::write_plain;

@@ -1,2 +1,4 @@
 pub mod Micros
 pub mod CodeAt
+pub mod Values
+pub mod Patched

@@ -1,0 +1,73 @@
+-- What a passing may load is what the code at a place allows it to.
+use Rattle.std.proofs.Common.{◌≡◌, ◌≢◌, ℕ, ◌≤◌, List, Some, refl, sym, ap, subst, ◌∙◌, inl, inr, arith}
+use Rattle.std.specs.Prelude.{slice_get, ◌⊎◌}
+use Rattle.xray_image.specs.declared.sled.Sled.{Sled}
+use Rattle.xray_image.specs.declared.sled.SledKind.{SledKind}
+use Rattle.xray_image.specs.declared.sled.SledKind.TheVariants.{Entry, Exit, Tail}
+use Rattle.xray_image.specs.Program.{Program}
+use Rattle.sled_words.specs.declared.part.Part.{Part}
+use Rattle.sled_words.specs.declared.part.Part.TheVariants.{Head, Id, Opcode, Offset}
+use Rattle.sled_words.specs.Allowed.{IsAllowed, IsAllowedPart, IsUnpatchedHead}
+use Rattle.sled_words.specs.Parts.{patched, patched_head}
+use Rattle.sled_words.specs.Words.{word_of, handler_word}
+use Rattle.patch_script.specs.declared.command.Command.{Command}
+use Rattle.patch_script.specs.CodeAt.{code_at}
+use Rattle.patch_script.specs.Patched.{HasPatchedHead}
+use Rattle.patch_script.specs.Values.{IsCodeValue, IsHead}
+use Rattle.patch_script.proofs.Places.{apart, code_values, part_patched}
+use Rattle.patch_script.proofs.WordNumbers.{same_part, same_sled}
+
+-- each head that a sled may have is one that a passing may load
+head_allowed : (kind : SledKind) (head : ℕ) → IsHead kind head → (head ≡ patched_head) ⊎ IsUnpatchedHead kind head
+head_allowed Entry head is = is
+head_allowed Tail head is = is
+head_allowed Exit head (inl e) = inl e
+head_allowed Exit head (inr (inl e)) = inr (subst (IsUnpatchedHead Exit) (sym e) (omega arith, refl))
+head_allowed Exit head (inr (inr e)) = inr (subst (IsUnpatchedHead Exit) (sym e) (omega arith, refl))
+
+-- a value that a word may have is allowed where, in a part behind a head, it is what patching stores
+allowed_by : (program : Program) (word value : ℕ) → IsCodeValue program word value
+    → ((k : ℕ) (sled : Sled) (part : Part) → slice_get program.sleds k ≡ Some sled → word ≡ word_of k part → part ≢ Head
+    → value ≡ patched program.trampolines sled part)
+    → IsAllowed program word value
+allowed_by program word value is behind_head = record {
+  part = by_part;
+  handler = is.handler;
+  state = is.state;
+  release = is.release;
+}
+  where
+    by_part : (k : ℕ) (sled : Sled) (part : Part) → slice_get program.sleds k ≡ Some sled → word ≡ word_of k part
+        → IsAllowedPart program.trampolines sled part value
+    by_part k sled Head at same = head_allowed sled.kind value (is.part k sled Head at same)
+    by_part k sled Id at same = behind_head k sled Id at same (λ e. cc)
+    by_part k sled Opcode at same = behind_head k sled Opcode at same (λ e. cc)
+    by_part k sled Offset at same = behind_head k sled Offset at same (λ e. cc)
+
+pub allowed_head : (program : Program) (script : List Command) (place k : ℕ)
+    → IsAllowed program (word_of k Head) (code_at program script place (word_of k Head))
+allowed_head program script place k =
+    allowed_by program (word_of k Head) _ (code_values program script place (word_of k Head))
+    (λ j sled part at same other. absurd (other (sym (same_part k j Head part same))))
+
+allowed_behind_head : (program : Program) (script : List Command) (p q k : ℕ) (part : Part) → p ≤ q → HasPatchedHead program script p k
+    → part ≢ Head → IsAllowed program (word_of k part) (code_at program script q (word_of k part))
+allowed_behind_head program script p q k part le head other =
+    allowed_by program (word_of k part) _ (code_values program script q (word_of k part))
+    (λ j sled a at same behind.
+    let patched_j : HasPatchedHead program script p j =
+    subst (HasPatchedHead program script p) (same_sled k j part a same) head in
+    ap (code_at program script q) same ∙ part_patched program script p q j sled a at behind le patched_j)
+
+pub allowed_part : (program : Program) (script : List Command) (p q k : ℕ) (part : Part) → p ≤ q → HasPatchedHead program script p k
+    → IsAllowed program (word_of k part) (code_at program script q (word_of k part))
+allowed_part program script p q k Head le head = allowed_head program script q k
+allowed_part program script p q k Id le head = allowed_behind_head program script p q k Id le head (λ e. cc)
+allowed_part program script p q k Opcode le head = allowed_behind_head program script p q k Opcode le head (λ e. cc)
+allowed_part program script p q k Offset le head = allowed_behind_head program script p q k Offset le head (λ e. cc)
+
+pub allowed_others : (program : Program) (script : List Command) (place word : ℕ) → handler_word program ≤ word
+    → IsAllowed program word (code_at program script place word)
+allowed_others program script place word past =
+    allowed_by program word _ (code_values program script place word)
+    (λ k sled part at same other. absurd (apart program k sled part word at past same))

@@ -1,0 +1,32 @@
+-- The values that the words may have while a script is run.
+use Rattle.std.specs.Prelude.{◌≡◌, ◌<◌, ◌≤◌, ◌⊎◌, ℕ, slice_get, Some}
+use Rattle.xray_image.specs.declared.sled.Sled.{Sled}
+use Rattle.xray_image.specs.declared.sled.SledKind.{SledKind}
+use Rattle.xray_image.specs.declared.sled.SledKind.TheVariants.{Entry, Exit, Tail}
+use Rattle.xray_image.specs.Program.{Program, Trampolines}
+use Rattle.sled_words.specs.declared.part.Part.{Part}
+use Rattle.sled_words.specs.declared.part.Part.TheVariants.{Head, Id, Opcode, Offset}
+use Rattle.sled_words.specs.Words.{word_of, handler_word, state_word, release_word}
+use Rattle.sled_words.specs.Parts.{patched, unpatched}
+
+-- the heads that a sled may have: patched, or a jump over the sled; at an exit sled a return, as the file has it or as
+-- unpatching leaves it
+abbrev pub IsHead : SledKind → ℕ → Type 0
+IsHead Entry head = (head ≡ 0xBA41) ⊎ (head ≡ 0x09EB)
+IsHead Tail head = (head ≡ 0xBA41) ⊎ (head ≡ 0x09EB)
+IsHead Exit head = (head ≡ 0xBA41) ⊎ ((head ≡ 0x2EC3) ⊎ (head ≡ 0xBAC3))
+
+-- the values that a part of a sled may have: a head; or what the file has, or what patching stores
+abbrev pub IsPartValue : Trampolines → Sled → Part → ℕ → Type 0
+IsPartValue trampolines sled Head value = IsHead sled.kind value
+IsPartValue trampolines sled Id value = (value ≡ unpatched sled Id) ⊎ (value ≡ patched trampolines sled Id)
+IsPartValue trampolines sled Opcode value = (value ≡ unpatched sled Opcode) ⊎ (value ≡ patched trampolines sled Opcode)
+IsPartValue trampolines sled Offset value = (value ≡ unpatched sled Offset) ⊎ (value ≡ patched trampolines sled Offset)
+
+-- the values that a word may have while a script is run
+pub record IsCodeValue (program : Program) (word value : ℕ) : Type 0 where
+  pub part : (k : ℕ) (sled : Sled) (part : Part) → slice_get program.sleds k ≡ Some sled → word ≡ word_of k part
+      → IsPartValue program.trampolines sled part value
+  pub handler : word ≡ handler_word program → value ≤ 1
+  pub state : word ≡ state_word program → value ≤ 4
+  pub release : (thread : ℕ) → 0 < thread → word ≡ release_word program thread → value ≤ 1
