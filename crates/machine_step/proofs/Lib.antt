@@ -8,6 +8,10 @@ pub mod Loading
 pub mod OnCourse
 pub mod ToSled
 pub mod Passing
+pub mod WordsAt
+pub mod FewSleds
+pub mod Tracing
+pub mod Opening
 pub mod Runs
 pub mod SomeEnd
 pub mod Stepping

@@ -1,7 +1,8 @@
 -- What contracts see of a `Cpu`: a traced thread, and what its loads make of it.
-use Rattle.std.specs.Prelude.{◌≡◌, ◌+◌, ◌-◌, ◌*◌, ◌++◌, ℕ, List, [], ◌∷◌, length, map, take, All, Bool, Option, Some, None, slice_get, IsSome, nat_le, if◌then◌else◌}
+use Rattle.std.specs.Prelude.{◌≡◌, ◌+◌, ◌-◌, ◌*◌, ◌++◌, ℕ, List, [], ◌∷◌, length, map, take, All, Bool, Option, Some, None, slice_get, nat_le, if◌then◌else◌}
 use Rattle.xray_image.specs.Program.{Program}
-use Rattle.sled_words.specs.Words.{state_word, release_word}
+use Rattle.sled_words.specs.declared.part.Part.TheVariants.{Head}
+use Rattle.sled_words.specs.Words.{word_of, state_word, release_word}
 use Rattle.sled_words.specs.Allowed.{IsAllowed}
 use Rattle.handler_word.specs.declared.mark.Mark.{Mark}
 use Rattle.machine_step.specs.declared.limits.Limits.{Limits}
@@ -10,7 +11,7 @@ use Rattle.machine_step.specs.declared.want.Want.{Want}
 use Rattle.machine_step.specs.declared.want.Want.TheVariants.{Gate, Load as Loads, Done}
 use Rattle.machine_step.specs.PlainStep.{State, Passing, PlainRun}
 use Rattle.machine_step.specs.Course.{ComesTo}
-use Rattle.machine_step.specs.Loads.{Load, marks_of, next_load}
+use Rattle.machine_step.specs.Loads.{Load, is_held_at, marks_of, next_load}
 
 -- a traced thread: whose it is, what its instructions have made, the marks of its passings, and what it wants
 pub record Traced : Type 0 where
@@ -82,12 +83,6 @@ StandsAs t (Done end) = IsAtEnd t end
 
 -- ---- what it wants
 
--- it wants to be let into its next passing, the word that it loads next, or nothing where it loads none: then it has its end
-abbrev pub IsWant : List Mark → Option ℕ → End → Want → Type 0
-IsWant marks next end (Gate passing) = (passing ≡ length marks) × IsSome next
-IsWant marks next end (Loads word) = next ≡ Some word
-IsWant marks next end (Done e) = (next ≡ None) × (e ≡ end)
-
 -- it wants to be let into a passing
 abbrev pub IsGate : Want → Type 0
 IsGate (Gate passing) = Unit {0}
@@ -121,6 +116,24 @@ sleds_of passed = map (λ p. p.sled) passed
 abbrev pub wanted_behind : Traced → List Passing → List Load → Option ℕ
 wanted_behind t passed loads = next_load t.program t.thread t.hold (sleds_of passed) loads
 
+-- the word with which the next passing begins, at this sled
+abbrev pub first_word : Traced → ℕ → ℕ
+first_word t sled =
+    if is_held_at t.hold (length t.marks) then release_word t.program t.thread else word_of sled Head
+
+-- the next passing begins: its first word is the next one
+pub record BeginsPassing (t : Traced) (passed : List Passing) (next : Option ℕ) : Type 0 where
+  pub passing : Passing
+  pub found : slice_get passed (length t.marks) ≡ Some passing
+  pub first : next ≡ Some (first_word t passing.sled)
+
+-- It wants to be let into its next passing, which then begins; or the word that it loads next; or nothing where it loads none: it
+-- has its end.
+abbrev pub IsWant : Traced → List Passing → Option ℕ → End → Want → Type 0
+IsWant t passed next end (Gate passing) = (passing ≡ length t.marks) × BeginsPassing t passed next
+IsWant t passed next end (Loads word) = next ≡ Some word
+IsWant t passed next end (Done e) = (next ≡ None) × (e ≡ end)
+
 -- The thread, whose plain run has these passings, was given these loads: each of the word that it wanted behind those before it,
 -- and of a value that is allowed there. They leave its marks, and what it wants.
 pub record HasLoaded (t : Traced) (passed : List Passing) (loads : List Load) : Type 0 where
@@ -130,7 +143,7 @@ pub record HasLoaded (t : Traced) (passed : List Passing) (loads : List Load) : 
   pub wanted : (i : ℕ) (load : Load) → slice_get loads i ≡ Some load → wanted_behind t passed (take i loads) ≡ Some load.word
   pub allowed : All (λ load. IsAllowed t.program load.word load.value) loads
   pub marks : t.marks ≡ marks_of t.program t.thread t.hold (sleds_of passed) loads
-  pub wants : IsWant t.marks (wanted_behind t passed loads) end t.want
+  pub wants : IsWant t passed (wanted_behind t passed loads) end t.want
 
 -- a value may be given to a thread: it wants a word, and the value is allowed there
 abbrev pub Allows : Traced → Want → ℕ → Type 0
