@@ -12,6 +12,9 @@ pub mod WordsAt
 pub mod FewSleds
 pub mod Tracing
 pub mod Opening
+pub mod Giving
+pub mod LoadFacts
+pub mod GiveClauses
 pub mod Runs
 pub mod SomeEnd
 pub mod Stepping

@@ -101,12 +101,12 @@ same_split (first ∷ xs) [] x y xs' ys' long same = absurd (omega arith)
 same_split (first ∷ xs) (other ∷ ys) x y xs' ys' long same =
     let rest : xs ++ x ∷ xs' ≡ ys ++ y ∷ ys' = cc in same_split xs ys x y xs' ys' (omega arith) rest
 
-sleds_split : (passed : List Passing) (next : Passing) (later : List Passing)
+pub sleds_split : (passed : List Passing) (next : Passing) (later : List Passing)
     → sleds_of (passed ++ next ∷ later) ≡ sleds_of passed ++ next.sled ∷ sleds_of later
 sleds_split [] next later = refl
 sleds_split (first ∷ passed) next later = ap (λ ks. first.sled ∷ ks) (sleds_split passed next later)
 
-sleds_length : (passed : List Passing) → length (sleds_of passed) ≡ length passed
+pub sleds_length : (passed : List Passing) → length (sleds_of passed) ≡ length passed
 sleds_length [] = refl
 sleds_length (first ∷ passed) = ap suc (sleds_length passed)
 
