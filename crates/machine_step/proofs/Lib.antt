@@ -16,6 +16,7 @@ pub mod Giving
 pub mod LoadFacts
 pub mod GiveClauses
 pub mod Beginning
+pub mod Faulted
 pub mod Runs
 pub mod SomeEnd
 pub mod Stepping

@@ -7,6 +7,7 @@ pub mod Events
 pub mod Traced
 pub mod Whole
 pub mod Texts
+pub mod EndedText
 pub mod Machine
 pub mod Steps
 pub mod Stages

@@ -204,6 +204,13 @@ impl<'a> Cpu<'a> {
         self.machine.registers.all()[usize::from(n)]
     }
 
+    /// The values of all general registers, by their numbers.
+    pub(crate) fn registers(&self) -> &[u64; REGISTERS]
+        ensures { result.now ≡ self.now.registers }
+    {
+        self.machine.registers.all()
+    }
+
     /// Whether the last `add` or `sub` gave 0; false before the first of them.
     pub fn zf(&self) -> bool
         ensures { result ≡ self.now.zero_flag }

@@ -17,6 +17,7 @@ mod stack;
 mod stage;
 mod stamp;
 mod stand;
+mod state_text;
 mod step;
 mod steps;
 mod want;
@@ -32,6 +33,7 @@ pub use plain_text::write_plain;
 pub use registers::REGISTERS;
 pub use running::plain_run;
 pub use setup::Setup;
+pub use state_text::write_state;
 pub use want::Want;
 
 #[cfg(test)]
