@@ -44,8 +44,7 @@ stands_begun a begun (Gate place k) (there, at, (n, reached)) =
     let program = a.image.now in
     let count : a.machine.passings ≡ 0 + 0 = way_count program a.limits a.thread n (opening program a.thread) (state_at there a.machine) [] reached in
     let next = at_passing program (are_in_order begun.bytes program begun.accepted) a.limits a.thread there place k a.machine at.step begun.within
-    at.placed at.is_step at.due in
-    (
+    at.placed at.is_step at.due in (
       record {
         address = there;
         at = at;

@@ -169,8 +169,7 @@ stands_behind a sound place k at m ms made within whole (Gate place' k') (there,
     way_count program a.limits a.thread way.0 (opening program a.thread) (state_at there m) (at.passed ++ made ∷ []) way.1 in
     let long = length-append at.passed (made ∷ []) in
     let next = at_passing program (are_in_order sound.bytes program sound.accepted) a.limits a.thread there place' k' m at'.step within
-    at'.placed at'.is_step at'.due in
-    (
+    at'.placed at'.is_step at'.due in (
       record {
         address = there;
         at = at';
@@ -188,8 +187,7 @@ stands_behind a sound place k at m ms made within whole (Ended end) (there, (n, 
     at.passed (made ∷ []) end at.comes.reached run in
     let count : m.passings ≡ 0 + length (at.passed ++ made ∷ []) =
     run_count program a.limits a.thread way.0 (opening program a.thread) (state_at there m) (at.passed ++ made ∷ []) end way.1 in
-    let long = length-append at.passed (made ∷ []) in
-    (
+    let long = length-append at.passed (made ∷ []) in (
       record {
         address = there;
         passed = at.passed ++ made ∷ [];

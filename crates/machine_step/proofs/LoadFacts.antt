@@ -156,8 +156,8 @@ recorded_more (p ∷ passed) next later [] mark long = absurd (omega arith)
 recorded_more (p ∷ passed) next later (m ∷ ms) mark long =
     recorded_first p (passed ++ next ∷ later) m (is_recorded m) (ms ++ mark ∷ []) refl
     ∙ (if_front (is_recorded m) (event_of p) (recorded (passed ++ next ∷ later) (ms ++ mark ∷ [])) (recorded (passed ++ next ∷ later) ms)
-      (if is_recorded mark then event_of next ∷ [] else []) (recorded_more passed next later ms mark (omega arith))
-      ∙ sym (ap (λ es. es ++ (if is_recorded mark then event_of next ∷ [] else [])) (recorded_first p (passed ++ next ∷ later) m (is_recorded m) ms refl)))
+    (if is_recorded mark then event_of next ∷ [] else []) (recorded_more passed next later ms mark (omega arith))
+    ∙ sym (ap (λ es. es ++ (if is_recorded mark then event_of next ∷ [] else [])) (recorded_first p (passed ++ next ∷ later) m (is_recorded m) ms refl)))
 
 pub events_more : (a : Inside) (sound : IsSound a) (place k : ℕ) (at : IsAtPassing a place k) (ms : List Mark) (mark : Mark) (answer : Option Event)
     → ms ≡ a.marks.items ++ mark ∷ []
@@ -174,9 +174,9 @@ events_more a sound place k at ms mark answer more answered all end last run =
     ∙ ap (λ (p : Passing). if is_recorded mark then event_of p ∷ [] else []) (sym before.next_is)) in
     ap (recorded all) more
     ∙ (ap (λ (ps : List Passing). recorded ps (a.marks.items ++ mark ∷ [])) on.is
-      ∙ (recorded_more at.passed at.next on.later a.marks.items mark long
-        ∙ (sym (ap (λ (ps : List Passing). recorded ps a.marks.items ++ (if is_recorded mark then event_of at.next ∷ [] else [])) on.is)
-          ∙ ap (λ es. recorded all a.marks.items ++ es) (sym events))))
+    ∙ (recorded_more at.passed at.next on.later a.marks.items mark long
+    ∙ (sym (ap (λ (ps : List Passing). recorded ps a.marks.items ++ (if is_recorded mark then event_of at.next ∷ [] else [])) on.is)
+    ∙ ap (λ es. recorded all a.marks.items ++ es) (sym events))))
 
 -- ---- the marks
 

@@ -48,7 +48,7 @@ pub runs_behind : (program : Program) (limits : Limits) (thread n n' : ℕ) (s t
 runs_behind program limits thread zero n' s t last passed later end (none, same) run = (
   n',
   subst (λ (ps : List Passing). RunsTo program limits thread n' s (ps ++ later) end last) (sym none)
-  (subst (λ (x : State). RunsTo program limits thread n' x later end last) same run),
+      (subst (λ (x : State). RunsTo program limits thread n' x later end last) same run),
 )
 runs_behind program limits thread (suc n) n' s t last passed later end (first, rest, mid, step, reached, joined) run =
     let behind = runs_behind program limits thread n n' mid t last rest later end reached run in (
@@ -70,7 +70,7 @@ pub reaches_behind : (program : Program) (limits : Limits) (thread n n' : ℕ) (
 reaches_behind program limits thread zero n' s t u passed later (none, same) way = (
   n',
   subst (λ (ps : List Passing). Reaches program limits thread n' s (ps ++ later) u) (sym none)
-  (subst (λ (x : State). Reaches program limits thread n' x later u) same way),
+      (subst (λ (x : State). Reaches program limits thread n' x later u) same way),
 )
 reaches_behind program limits thread (suc n) n' s t u passed later (first, rest, mid, step, reached, joined) way =
     let behind = reaches_behind program limits thread n n' mid t u rest later reached way in (

@@ -93,20 +93,24 @@ pub on_to : (program : Program) (limits : Limits) (thread address place next : �
     → ((there : ℕ) → IsPlaceOf program.units there next → RunsBy program limits thread there after [] stand last)
     → (made : Passing) × RunsBy program limits thread address m (made ∷ []) stand last
 on_to program limits thread address place next m after last stand by runs =
-    let there = by.leads in
-    (by.made, run_on program limits thread address there.0 m after last by.made stand
-    (subst (λ (n : Next). PlainStep program limits thread (state_at address m) (by.made ∷ []) n) there.2 by.passes)
-    (runs there.0 there.1))
+    let there = by.leads in (
+      by.made,
+      run_on program limits thread address there.0 m after last by.made stand
+          (subst (λ (n : Next). PlainStep program limits thread (state_at address m) (by.made ∷ []) n) there.2 by.passes)
+          (runs there.0 there.1),
+    )
 
 pub on_back : (program : Program) (limits : Limits) (thread address place back next : ℕ) (m after last : Machine) (stand : Stand)
     → (by : PassesBy program limits thread address place m after (Back back)) → IsPlaceOf program.units back next
     → ((there : ℕ) → IsPlaceOf program.units there next → RunsBy program limits thread there after [] stand last)
     → (made : Passing) × RunsBy program limits thread address m (made ∷ []) stand last
 on_back program limits thread address place back next m after last stand by placed runs =
-    let there = by.leads in
-    (by.made, run_on program limits thread address back m after last by.made stand
-    (subst (λ (n : Next). PlainStep program limits thread (state_at address m) (by.made ∷ []) n) there.0 by.passes)
-    (runs back placed))
+    let there = by.leads in (
+      by.made,
+      run_on program limits thread address back m after last by.made stand
+          (subst (λ (n : Next). PlainStep program limits thread (state_at address m) (by.made ∷ []) n) there.0 by.passes)
+          (runs back placed),
+    )
 
 pub on_end : (program : Program) (limits : Limits) (thread address place : ℕ) (m after : Machine) (end : End)
     → (by : PassesBy program limits thread address place m after (Stops end))

@@ -262,17 +262,24 @@ unit_steps : (program : Program) (limits : Limits) (place address : ℕ) (m : Ma
     → UnitSteps program limits place address m what step
 unit_steps program limits place address m (whats.Plain instr) step next within is = record {
   next = fuelled limits (state_at address m) (does (state_at address m) (address + length (spelling instr)) instr);
-  plain = λ thread. ([], (refl, refl), made_none program limits thread (state_at address m) (sled_at step)
-      (instruction_at_none program.units (address + length (spelling instr)) instr step is));
+  plain = λ thread. (
+    [],
+    (refl, refl),
+    made_none program limits thread (state_at address m) (sled_at step)
+        (instruction_at_none program.units (address + length (spelling instr)) instr step is),
+  );
   leads = instruction_leads program.units limits place (address + length (spelling instr)) address m instr step next within is;
 }
 unit_steps program limits place address m (whats.Sled k) step next within (sled, found, is) =
     let passes = sled_leads program limits place address k m sled (m.passings == limits.passings) found next within refl in
     record {
       next = passes.next;
-      plain = λ thread. let made = passes.passes thread in (made.0, made.1,
-          subst (λ (o : Option ℕ). MadeAt program limits thread (state_at address m) o made.0)
-          (sym (ap sled_at is ∙ sled_at_some k sled.kind)) made.2);
+      plain = λ thread. let made = passes.passes thread in (
+        made.0,
+        made.1,
+        subst (λ (o : Option ℕ). MadeAt program limits thread (state_at address m) o made.0)
+            (sym (ap sled_at is ∙ sled_at_some k sled.kind)) made.2,
+      );
       leads = subst (λ (t : Taken). Leads program.units limits place m t passes.next)
           (stepping_sled limits place k m sled.kind ∙ ap (stepping limits place m) (sym is)) passes.leads;
     }
@@ -312,8 +319,11 @@ step_nowhere : (program : Program) (limits : Limits) (place address : ℕ) (m : 
     → StepsTo program limits place address m step
 step_nowhere program limits place address m step none is = record {
   next = Ends ends.BadTarget (state_at address m);
-  plain = λ thread. ([], inl (λ u among at. none (subst (λ a. Contains (addresses program.units) a) at (contains_address program.units u among)), refl, refl),
-      made_none program limits thread (state_at address m) (sled_at step) (ap sled_at is));
+  plain = λ thread. (
+    [],
+    inl (λ u among at. none (subst (λ a. Contains (addresses program.units) a) at (contains_address program.units u among)), refl, refl),
+    made_none program limits thread (state_at address m) (sled_at step) (ap sled_at is),
+  );
   leads = by_step program.units limits place m step steps.Nowhere _ is (address, refl);
 }
 

@@ -72,9 +72,11 @@ step_quiet : (program : Program) (limits : Limits) (thread address there : ℕ) 
     → (n : ℕ) × Reaches program limits thread n (state_at address first) [] (state_at there m)
     → (next : ℕ) → PlainStep program limits thread (state_at there m) made (Goes (state_at next after)) → made ≡ []
     → (n : ℕ) × Reaches program limits thread n (state_at address first) [] (state_at next after)
-step_quiet program limits thread address there first m after made (n, reached) next step none =
-    (suc n, reaches_more program limits thread n (state_at address first) (state_at there m) (state_at next after) [] []
-    reached (subst (λ (ps : List Passing). PlainStep program limits thread (state_at there m) ps (Goes (state_at next after))) none step))
+step_quiet program limits thread address there first m after made (n, reached) next step none = (
+  suc n,
+  reaches_more program limits thread n (state_at address first) (state_at there m) (state_at next after) [] []
+      reached (subst (λ (ps : List Passing). PlainStep program limits thread (state_at there m) ps (Goes (state_at next after))) none step),
+)
 
 pub way_to : (program : Program) → AreInOrder program → (limits : Limits) (start : ℕ) (first : Machine) (place : ℕ) (m : Machine) (step : Step)
     → OnWay program limits start first place m → IsStepAt program place step → IsWithin limits m → due_sled limits m step ≡ None
@@ -85,12 +87,15 @@ way_to program ordered limits start first place m step way is within quietly nex
       let here = way.on address placed in
       let steps = step_at_place program ordered limits place here.0 m step here.1 is within in
       let by_way = subst (λ (w : Way). LeadsBy program.units limits place m w (stepping limits place m step).left steps.next) (sym way_is) steps.leads in
-      let leads = subst (λ (a : Machine). LeadsBy program.units limits place m (To next) a steps.next) (sym left) by_way in
-      (leads.0, leads.1, λ thread.
-      let plain = steps.plain thread in
-      step_quiet program limits thread address here.0 first m after plain.0 (here.2 thread) leads.0
-      (subst (λ (n : Next). PlainStep program limits thread (state_at here.0 m) plain.0 n) leads.2 plain.1)
-      (quiet program limits thread (state_at here.0 m) (sled_at step) plain.0 quietly plain.2));
+      let leads = subst (λ (a : Machine). LeadsBy program.units limits place m (To next) a steps.next) (sym left) by_way in (
+        leads.0,
+        leads.1,
+        λ thread.
+            let plain = steps.plain thread in
+            step_quiet program limits thread address here.0 first m after plain.0 (here.2 thread) leads.0
+            (subst (λ (n : Next). PlainStep program limits thread (state_at here.0 m) plain.0 n) leads.2 plain.1)
+            (quiet program limits thread (state_at here.0 m) (sled_at step) plain.0 quietly plain.2),
+      );
 }
 
 pub way_back : (program : Program) → AreInOrder program → (limits : Limits) (start : ℕ) (first : Machine) (place : ℕ) (m : Machine) (step : Step)
@@ -103,12 +108,15 @@ way_back program ordered limits start first place m step way is within quietly b
       let here = way.on address placed in
       let steps = step_at_place program ordered limits place here.0 m step here.1 is within in
       let by_way = subst (λ (w : Way). LeadsBy program.units limits place m w (stepping limits place m step).left steps.next) (sym way_is) steps.leads in
-      let leads = subst (λ (a : Machine). LeadsBy program.units limits place m (Back back) a steps.next) (sym left) by_way in
-      (back, there, λ thread.
-      let plain = steps.plain thread in
-      step_quiet program limits thread address here.0 first m after plain.0 (here.2 thread) back
-      (subst (λ (n : Next). PlainStep program limits thread (state_at here.0 m) plain.0 n) leads.0 plain.1)
-      (quiet program limits thread (state_at here.0 m) (sled_at step) plain.0 quietly plain.2));
+      let leads = subst (λ (a : Machine). LeadsBy program.units limits place m (Back back) a steps.next) (sym left) by_way in (
+        back,
+        there,
+        λ thread.
+            let plain = steps.plain thread in
+            step_quiet program limits thread address here.0 first m after plain.0 (here.2 thread) back
+            (subst (λ (n : Next). PlainStep program limits thread (state_at here.0 m) plain.0 n) leads.0 plain.1)
+            (quiet program limits thread (state_at here.0 m) (sled_at step) plain.0 quietly plain.2),
+      );
 }
 
 -- the step at its place ends the run
@@ -124,10 +132,12 @@ way_ends program ordered limits start first place m step way is within quietly e
     let leads = subst (λ (a : Machine). LeadsBy program.units limits place m (Stops end) a steps.next) (sym left) by_way in
     let plain = steps.plain thread in
     let none = quiet program limits thread (state_at here.0 m) (sled_at step) plain.0 quietly plain.2 in
-    let reached = here.2 thread in
-    (leads.0, runs_behind program limits thread reached.0 zero (state_at address first) (state_at here.0 m) (state_at leads.0 after) [] [] end reached.1
-    (subst (λ (ps : List Passing). PlainStep program limits thread (state_at here.0 m) ps (Ends end (state_at leads.0 after))) none
-    (subst (λ (n : Next). PlainStep program limits thread (state_at here.0 m) plain.0 n) leads.1 plain.1)))
+    let reached = here.2 thread in (
+      leads.0,
+      runs_behind program limits thread reached.0 zero (state_at address first) (state_at here.0 m) (state_at leads.0 after) [] [] end reached.1
+          (subst (λ (ps : List Passing). PlainStep program limits thread (state_at here.0 m) ps (Ends end (state_at leads.0 after))) none
+          (subst (λ (n : Next). PlainStep program limits thread (state_at here.0 m) plain.0 n) leads.1 plain.1)),
+    )
 
 -- what is left to do falls with each step
 pub falls_to : (program : Program) → AreInOrder program → (limits : Limits) (start : ℕ) (first : Machine) (place : ℕ) (m : Machine) (step : Step)

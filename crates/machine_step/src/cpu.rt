@@ -181,7 +181,13 @@ impl<'a> Cpu<'a> {
                 None
             }
             Next::Ends(mark) => {
-                let event = event_at(self.image.sled(sled), self.thread, &self.machine, self.limits, mark);
+                let event = event_at(
+                    self.image.sled(sled),
+                    self.thread,
+                    &self.machine,
+                    self.limits,
+                    mark,
+                );
                 self.marks.add(mark);
                 self.stand = pass_sled(
                     &mut self.machine,

@@ -19,7 +19,10 @@ use xray_image::Image;
 pub(crate) enum Stand {
     /// Before a sled that it has a passing for; `place` is the sled's place among the steps, and
     /// `sled` its number in the map.
-    Gate { place: usize, sled: u32 },
+    Gate {
+        place: usize,
+        sled: u32,
+    },
     /// In the passing of that sled, before a load.
     Loading {
         place: usize,
@@ -27,7 +30,9 @@ pub(crate) enum Stand {
         stage: Stage,
     },
     /// At its end.
-    Ended { end: End },
+    Ended {
+        end: End,
+    },
 }
 
 /// Runs a machine from a place to the next sled that it has a passing for, or to its end.
