@@ -18,7 +18,7 @@ event_kind sleds.Tail = events.TailExit
 
 -- the event of a passing
 abbrev pub event_of : Passing → Event
-event_of p = record { cpu = p.cpu; func = p.function; kind = event_kind p.kind; tsc = p.counter }
+event_of p = record { cpu = p.cpu; func = p.id; kind = event_kind p.kind; tsc = p.counter }
 
 -- the events of passings with these marks: of those that were recorded, in order
 abbrev pub recorded : List Passing → List Mark → List Event

@@ -1,5 +1,5 @@
 -- The words that a passing loads, and the mark where its loads stop.
-use Rattle.std.specs.Prelude.{ℕ, ◌+◌, List, [], ◌∷◌, Bool, true, false, ◌==◌, if◌then◌else◌, Option, Some, None}
+use Rattle.std.specs.Prelude.{◌≡◌, ℕ, ◌+◌, List, [], ◌∷◌, take, slice_get, Bool, true, false, ◌==◌, if◌then◌else◌, Option, Some, None}
 use Rattle.xray_image.specs.Program.{Program}
 use Rattle.sled_words.specs.declared.part.Part.TheVariants.{Head, Id, Opcode, Offset}
 use Rattle.sled_words.specs.Words.{word_of, handler_word, state_word, release_word}
@@ -89,3 +89,9 @@ marks_of program thread hold sleds loads = marks_from program thread hold 0 sled
 
 abbrev pub next_load : Program → ℕ → Option ℕ → List ℕ → List Load → Option ℕ
 next_load program thread hold sleds loads = next_from program thread hold 0 sleds loads
+
+-- each load is of the word that the loads before it leave to be loaded next
+abbrev pub AreWanted : Program → ℕ → Option ℕ → List ℕ → List Load → Type 0
+AreWanted program thread hold sleds loads =
+    (i : ℕ) (load : Load) → slice_get loads i ≡ Some load
+    → next_load program thread hold sleds (take i loads) ≡ Some load.word

@@ -111,7 +111,7 @@ behind_passing limits s kinds.Exit = fuelled limits s (returns s s.stack)
 -- a passing of a sled: of which, with the stamp that its event has
 pub record Passing : Type 0 where
   pub sled : ℕ
-  pub function : ℕ
+  pub id : ℕ
   pub kind : SledKind
   pub cpu : ℕ
   pub counter : ℕ
@@ -119,7 +119,7 @@ pub record Passing : Type 0 where
 abbrev pub passing_at : Limits → ℕ → State → ℕ → Sled → Passing
 passing_at limits thread s k sled = record {
   sled = k;
-  function = sled.id;
+  id = sled.id;
   kind = sled.kind;
   cpu = (thread + s.passings / limits.migrate) % limits.cpus;
   counter = (limits.tsc + limits.tick * s.instructions) % 2 ^ 64;

@@ -1,5 +1,5 @@
 -- What contracts see of a `Cpu`: a traced thread, and what its loads make of it.
-use Rattle.std.specs.Prelude.{◌≡◌, ◌+◌, ◌-◌, ◌*◌, ◌++◌, ℕ, List, [], ◌∷◌, length, map, take, All, Bool, Option, Some, None, slice_get, nat_le, if◌then◌else◌}
+use Rattle.std.specs.Prelude.{◌≡◌, ◌+◌, ◌-◌, ◌*◌, ◌++◌, ℕ, List, [], ◌∷◌, length, map, All, Bool, Option, Some, None, slice_get, nat_le, if◌then◌else◌}
 use Rattle.xray_image.specs.Program.{Program}
 use Rattle.sled_words.specs.declared.part.Part.TheVariants.{Head}
 use Rattle.sled_words.specs.Words.{word_of, state_word, release_word}
@@ -11,7 +11,7 @@ use Rattle.machine_step.specs.declared.want.Want.{Want}
 use Rattle.machine_step.specs.declared.want.Want.TheVariants.{Gate, Load as Loads, Done}
 use Rattle.machine_step.specs.PlainStep.{State, Passing, PlainRun}
 use Rattle.machine_step.specs.Course.{ComesTo}
-use Rattle.machine_step.specs.Loads.{Load, is_held_at, marks_of, next_load}
+use Rattle.machine_step.specs.Loads.{AreWanted, Load, is_held_at, marks_of, next_load}
 
 -- a traced thread: whose it is, what its instructions have made, the marks of its passings, and what it wants
 pub record Traced : Type 0 where
@@ -140,7 +140,7 @@ pub record HasLoaded (t : Traced) (passed : List Passing) (loads : List Load) : 
   pub end : End
   pub last : State
   pub run : PlainRun t.program t.limits t.thread passed end last
-  pub wanted : (i : ℕ) (load : Load) → slice_get loads i ≡ Some load → wanted_behind t passed (take i loads) ≡ Some load.word
+  pub wanted : AreWanted t.program t.thread t.hold (sleds_of passed) loads
   pub allowed : All (λ load. IsAllowed t.program load.word load.value) loads
   pub marks : t.marks ≡ marks_of t.program t.thread t.hold (sleds_of passed) loads
   pub wants : IsWant t passed (wanted_behind t passed loads) end t.want

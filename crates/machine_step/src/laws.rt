@@ -1,12 +1,12 @@
 //! Laws of the plain machine and of its loads, each the contract of a function that does nothing.
-ghost use Rattle.std.specs.Prelude.{◌≡◌, ℕ, List, Option, Some, All, slice_get, take};
+ghost use Rattle.std.specs.Prelude.{◌≡◌, ℕ, List, Option, Some, All};
 ghost use Rattle.xray_image.specs.Program.{Program, IsAccepted};
 ghost use Rattle.sled_words.specs.Allowed.{IsAllowed};
 ghost use Rattle.sled_words.specs.ChangingCode.{KeepsSleds};
 ghost use Rattle.machine_step.specs.declared.limits.Limits.{Limits};
 ghost use Rattle.machine_step.specs.declared.end.End.{End};
 ghost use Rattle.machine_step.specs.PlainStep.{State, Passing, PlainRun};
-ghost use Rattle.machine_step.specs.Loads.{Load, next_load};
+ghost use Rattle.machine_step.specs.Loads.{AreWanted, Load, next_load};
 ghost use Rattle.machine_step.specs.ReadAlong.{ReadAlong};
 ghost use Rattle.machine_step.specs.Whole.{AreWhole};
 
@@ -35,12 +35,10 @@ pub fn some_end()
 /// it has loaded is allowed, and so is the next one; and each passing decodes its sled whole. Nothing is
 /// asked of the thread or of the sleds that it passes.
 pub fn what_is_read_along_is_allowed()
-    // Each load is of the word that the loads before it leave to be loaded next.
-    ensures in_order { (program : Program) (code : ℕ → ℕ → ℕ) (thread : ℕ) (hold : Option ℕ) (sleds : List ℕ)
+    ensures wanted { (program : Program) (code : ℕ → ℕ → ℕ) (thread : ℕ) (hold : Option ℕ) (sleds : List ℕ)
         (loads : List Load) (place : ℕ)
         → ReadAlong program code thread hold sleds loads place
-        → (i : ℕ) (load : Load) → slice_get loads i ≡ Some load
-        → next_load program thread hold sleds (take i loads) ≡ Some load.word }
+        → AreWanted program thread hold sleds loads }
     ensures loaded { (program : Program) (code : ℕ → ℕ → ℕ) (thread : ℕ) (hold : Option ℕ) (sleds : List ℕ)
         (loads : List Load) (place : ℕ) → KeepsSleds program code
         → ReadAlong program code thread hold sleds loads place
@@ -60,8 +58,7 @@ pub fn what_is_read_along_is_allowed()
 /// sled: each passing decodes its sled whole, wherever the values come from.
 pub fn allowed_loads_are_whole()
     ensures { (program : Program) (thread : ℕ) (hold : Option ℕ) (sleds : List ℕ) (loads : List Load)
-        → ((i : ℕ) (load : Load) → slice_get loads i ≡ Some load
-        → next_load program thread hold sleds (take i loads) ≡ Some load.word)
+        → AreWanted program thread hold sleds loads
         → All (λ load. IsAllowed program load.word load.value) loads
         → AreWhole program thread hold sleds loads }
 {}
