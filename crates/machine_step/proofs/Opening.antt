@@ -5,6 +5,7 @@ use Rattle.std.proofs.lemmas.Bool.{eqb-true}
 use Rattle.std.proofs.lemmas.Option.{slice_get_within}
 use Rattle.xray_image.specs.declared.sled.Sled.{Sled}
 use Rattle.xray_image.specs.Program.{Program}
+use Rattle.sled_words.specs.Words.{progress_word}
 use Rattle.machine_step.specs.declared.cpu.Cpu.TheInside.{Inside}
 use Rattle.machine_step.specs.declared.end.End.{End}
 use Rattle.machine_step.specs.declared.stage.Stage.{Stage}
@@ -17,7 +18,7 @@ use Rattle.machine_step.specs.PlainStep.{Passing}
 use Rattle.machine_step.specs.Inside.{traced, want_at, IsAtPassing, IsPastEnd, IsSound, IsStageOf, StandsSo}
 use Rattle.machine_step.specs.Loads.{Load, is_held_at}
 use Rattle.machine_step.specs.Stages.{AllowsAt, word_at, first_stage, stage_by}
-use Rattle.machine_step.specs.Traced.{Allows, HasLoaded, IsWant, StandsAs, wanted_behind}
+use Rattle.machine_step.specs.Traced.{Allows, HasLoaded, IsLoadable, IsWant, StandsAs, wanted_behind}
 use Rattle.machine_step.proofs.Tracing.{before_of, begins_at, stands_before, stands_past}
 use Rattle.machine_step.proofs.WordsAt.{allowed_at, allows_at}
 
@@ -118,3 +119,26 @@ allows_by a sound place k stage value is answer allows =
       λ true. allowed_at a.image.now a.thread k value before.sled stage sound.some_thread before.found (here.0 true),
       λ allowed. here.1 (allows_at a.image.now a.thread k value before.sled stage sound.some_thread before.found allowed),
     )
+
+-- ---- the word that it wants
+
+-- the words of a passing stand before the progress words
+word_within : (program : Program) (thread threads k : ℕ) (stage : Stage) → k < length program.sleds → thread ≤ threads
+    → word_at program thread k stage < progress_word program threads 1
+word_within program thread threads k stages.Release within no_more = omega arith
+word_within program thread threads k stages.Head within no_more = omega arith
+word_within program thread threads k stages.Id within no_more = omega arith
+word_within program thread threads k stages.Opcode within no_more = omega arith
+word_within program thread threads k stages.Offset within no_more = omega arith
+word_within program thread threads k stages.Handler within no_more = omega arith
+word_within program thread threads k stages.State within no_more = omega arith
+
+loadable : (a : Inside) → IsSound a → (stand : Stand) → StandsSo a stand
+    → IsLoadable (traced a) (want_at a.image.now a.thread a.machine.passings stand)
+loadable a sound (Gate place k) at = tt
+loadable a sound (Loading place k stage) (at, held) =
+    word_within a.image.now a.thread a.threads k stage (sled_within a sound place k at) sound.no_more
+loadable a sound (Ended end) past = tt
+
+pub loadable_now : (a : Inside) → IsSound a → IsLoadable (traced a) (traced a).want
+loadable_now a sound = loadable a sound a.stand sound.stands

@@ -1,8 +1,8 @@
 -- What contracts see of a `Cpu`: a traced thread, and what its loads make of it.
-use Rattle.std.specs.Prelude.{◌≡◌, ◌+◌, ◌-◌, ◌*◌, ◌++◌, ℕ, List, [], ◌∷◌, length, map, All, Bool, Option, Some, None, slice_get, nat_le, if◌then◌else◌}
+use Rattle.std.specs.Prelude.{◌≡◌, ◌<◌, ◌+◌, ◌-◌, ◌*◌, ◌++◌, ℕ, List, [], ◌∷◌, length, map, All, Bool, Option, Some, None, slice_get, nat_le, if◌then◌else◌}
 use Rattle.xray_image.specs.Program.{Program}
 use Rattle.sled_words.specs.declared.part.Part.TheVariants.{Head}
-use Rattle.sled_words.specs.Words.{word_of, state_word, release_word}
+use Rattle.sled_words.specs.Words.{word_of, state_word, release_word, progress_word}
 use Rattle.sled_words.specs.Allowed.{IsAllowed}
 use Rattle.handler_word.specs.declared.mark.Mark.{Mark}
 use Rattle.machine_step.specs.declared.limits.Limits.{Limits}
@@ -100,6 +100,12 @@ abbrev pub IsDone : Want → Type 0
 IsDone (Gate passing) = ⊥
 IsDone (Loads word) = ⊥
 IsDone (Done end) = Unit {0}
+
+-- a word that it wants is one of those before the threads' progress words
+abbrev pub IsLoadable : Traced → Want → Type 0
+IsLoadable t (Gate passing) = Unit {0}
+IsLoadable t (Loads word) = word < progress_word t.program t.threads 1
+IsLoadable t (Done end) = Unit {0}
 
 -- it has made no passing yet, and is in none
 pub record IsFresh (t : Traced) : Type 0 where

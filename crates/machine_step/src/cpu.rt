@@ -60,7 +60,7 @@ impl<'a> Model for Cpu<'a> {
 }
 
 impl<'a> Cpu<'a> {
-    ghost use Rattle.machine_step.specs.Traced.{Allows, HasLoaded, IsDone, IsFresh, IsGate, IsKept, IsLoad, IsSameThread, IsThreadOf, MarksAdded, StandsAs, load_of, loads_left};
+    ghost use Rattle.machine_step.specs.Traced.{Allows, HasLoaded, IsDone, IsFresh, IsGate, IsKept, IsLoad, IsLoadable, IsSameThread, IsThreadOf, MarksAdded, StandsAs, load_of, loads_left};
 
     /// A thread before its first load: it has run to its first sled, or to its end where it comes to
     /// none. Threads count from 1; `hold` is the passing before which the script holds it.
@@ -110,6 +110,7 @@ impl<'a> Cpu<'a> {
         ensures want { result ≡ self.now.want }
         // Before a passing it is where its plain run comes to it, and at its end where that ends.
         ensures stands { StandsAs self.now self.now.want }
+        ensures word { IsLoadable self.now self.now.want }
     {
         match self.stand {
             Stand::Gate { .. } => Want::Gate(self.machine.passings),

@@ -1,7 +1,7 @@
 use Rattle.std.proofs.Common.{arith, subst}
-use Rattle.machine_step.specs.Traced.{StandsAs, Traced}
+use Rattle.machine_step.specs.Traced.{IsLoadable, StandsAs, Traced}
 use Rattle.machine_step.proofs.FewSleds.{few_sleds}
-use Rattle.machine_step.proofs.Opening.{loading_at, sled_within, stands_now}
+use Rattle.machine_step.proofs.Opening.{loadable_now, loading_at, sled_within, stands_now}
 use Rattle.machine_step.proofs.cpu.Cpu.want.Goals as goal
 
 pub word_at-requires-clause-exists : goal.word_at-requires-clause-exists
@@ -26,3 +26,15 @@ returns-in-Loading-clause-stands c =
 pub returns-in-Ended-clause-stands : goal.returns-in-Ended-clause-stands
 returns-in-Ended-clause-stands c =
     subst (λ (t : Traced). StandsAs t t.want) c.self.view_is (stands_now c.self.inside c.self.invariant)
+
+pub returns-in-Gate-clause-word : goal.returns-in-Gate-clause-word
+returns-in-Gate-clause-word c =
+    subst (λ (t : Traced). IsLoadable t t.want) c.self.view_is (loadable_now c.self.inside c.self.invariant)
+
+pub returns-in-Loading-clause-word : goal.returns-in-Loading-clause-word
+returns-in-Loading-clause-word c =
+    subst (λ (t : Traced). IsLoadable t t.want) c.self.view_is (loadable_now c.self.inside c.self.invariant)
+
+pub returns-in-Ended-clause-word : goal.returns-in-Ended-clause-word
+returns-in-Ended-clause-word c =
+    subst (λ (t : Traced). IsLoadable t t.want) c.self.view_is (loadable_now c.self.inside c.self.invariant)
