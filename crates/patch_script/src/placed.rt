@@ -181,7 +181,9 @@ impl PlacedCommands {
         requires sound { ArePlaced self.now }
         requires placed { slice_get self.now.commands.items number ≡ Some placed }
         requires within { step < step_count placed.command (placed.sleds.end - placed.sleds.start) }
-        ensures { slice_get (steps_of self.now.image.value (patched_before self.now number) placed.command) step ≡ Some result }
+        ensures { slice_get
+            (steps_of self.now.image.value (patched_before self.now number) placed.command) step
+            ≡ Some result }
     {
         match placed.command {
             Command::Patch | Command::PatchFunction { .. } => self.patch_step(

@@ -39,9 +39,9 @@ impl Schedule {
     }
 }
 
-/// The schedule that a text gives to so many threads, which are numbered from 1. A line `t T K` lets
-/// thread T make K loads, a line `p K` lets the patcher make K micro steps, with K from 1 to
-/// 4,294,967,295; a line without words is skipped.
+/// The schedule that a text gives to so many threads, which are numbered from 1. A line `t T K` is K
+/// turns of thread T, each a load, and a line `p K` is K turns of the patcher, each a micro step. K is
+/// at least 1 and fits 32 bits. A line without words is skipped.
 ///
 /// A text that is no schedule is refused by its first fault, as `ScheduleFault` tells; `NoMemory` may
 /// come in place of any answer. Memory is taken once: 12 bytes for each line of the text.
