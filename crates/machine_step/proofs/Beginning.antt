@@ -1,19 +1,17 @@
 -- A traced thread before its first load.
-use Rattle.std.proofs.Common.{◌≡◌, ℕ, ◌+◌, ◌<◌, ◌≤◌, List, [], ◌∷◌, length, Option, Some, None, refl, sym, ap, ◌∙◌, subst, arith}
-use Rattle.std.specs.Prelude.{slice_get, All}
+use Rattle.std.proofs.Common.{◌≡◌, ℕ, ◌+◌, ◌<◌, ◌≤◌, List, [], length, refl, sym, ap, ◌∙◌, arith}
+use Rattle.std.specs.Prelude.{All}
 use Rattle.xray_image.specs.Program.{Program, IsAccepted}
 use Rattle.sled_words.specs.Allowed.{IsAllowed}
 use Rattle.machine_step.specs.declared.cpu.Cpu.TheInside.{Inside}
 use Rattle.machine_step.specs.declared.end.End.{End}
-use Rattle.machine_step.specs.declared.limits.Limits.{Limits}
-use Rattle.machine_step.specs.declared.machine.Machine.{Machine}
 use Rattle.machine_step.specs.declared.stand.Stand.{Stand}
 use Rattle.machine_step.specs.declared.stand.Stand.TheVariants.{Gate, Loading, Ended}
 use Rattle.machine_step.specs.PlainStep.{State, Passing, PlainRun, opening, passing_at}
 use Rattle.machine_step.specs.Inside.{traced, want_at, IsSound, StandsSo}
 use Rattle.machine_step.specs.Loads.{Load, next_from}
 use Rattle.machine_step.specs.Machine.{state_at, first_machine, IsWithin}
-use Rattle.machine_step.specs.Standing.{RunsBy, RunsOnTo}
+use Rattle.machine_step.specs.Standing.{RunsBy}
 use Rattle.machine_step.specs.Steps.{AreStepsOf}
 use Rattle.machine_step.specs.Traced.{HasLoaded, IsFresh, IsLoad, sleds_of, wanted_behind}
 use Rattle.machine_step.proofs.Accepted.{are_in_order}

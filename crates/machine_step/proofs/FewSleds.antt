@@ -65,4 +65,4 @@ few_sleds bytes program accepted =
     ap (λ (p : Program). length p.sleds) accepted.holds ∙ length-map (zip places entries) (sled_of entries) in
     let zipped = length-zip places entries in
     let count = entries_are bytes accepted.parts accepted.reaches in
-    omega (arith, accepted.sleds_limit)
+    omega (arith, accepted.header.sleds_limit)

@@ -1,5 +1,5 @@
 -- What giving a value to a traced thread leaves, as the contract says it.
-use Rattle.std.proofs.Common.{◌≡◌, ◌==◌, ℕ, Bool, true, false, List, [], ◌∷◌, ◌++◌, length, Option, Some, None, refl, sym, ap, ◌∙◌, subst, arith}
+use Rattle.std.proofs.Common.{◌≡◌, ◌==◌, ℕ, Bool, true, false, List, [], ◌∷◌, ◌++◌, Option, Some, None, refl, sym, ap, ◌∙◌, subst}
 use Rattle.std.specs.Prelude.{if◌then◌else◌, slice_get}
 use Rattle.fdr_record.specs.declared.event.Event.{Event}
 use Rattle.xray_image.specs.declared.sled.Sled.{Sled}
@@ -15,8 +15,7 @@ use Rattle.machine_step.specs.declared.stage.Next.TheVariants.{Loads, Ends}
 use Rattle.machine_step.specs.declared.stage.Stage.{Stage}
 use Rattle.machine_step.specs.declared.stage.Stage.TheVariants as stages
 use Rattle.machine_step.specs.declared.stand.Stand.{Stand}
-use Rattle.machine_step.specs.declared.stand.Stand.TheVariants.{Gate, Loading, Ended}
-use Rattle.machine_step.specs.declared.want.Want.{Want}
+use Rattle.machine_step.specs.declared.stand.Stand.TheVariants.{Loading}
 use Rattle.machine_step.specs.Events.{event_of, events_in, recorded}
 use Rattle.machine_step.specs.Inside.{traced, want_at, IsAtPassing, IsSound, IsStageOf, StandsSo}
 use Rattle.machine_step.specs.Loads.{Load}
@@ -24,39 +23,39 @@ use Rattle.machine_step.specs.Machine.{state_at, IsWithin}
 use Rattle.machine_step.specs.PlainStep.{State, Passing, PlainRun, passing_at}
 use Rattle.machine_step.specs.Stages.{word_at, behind_load}
 use Rattle.machine_step.specs.Standing.{IsAtSled, PassesTo}
-use Rattle.machine_step.specs.Traced.{Traced, Allows, HasLoaded, load_of}
+use Rattle.machine_step.specs.Traced.{Allows, HasLoaded, load_of}
 use Rattle.machine_step.proofs.Giving.{Ending, IsBetween, passed_on, goes_on_loads, ends_loads, is_between}
 use Rattle.machine_step.proofs.LoadFacts.{events_more}
-use Rattle.machine_step.proofs.Opening.{loading_at, standing}
+use Rattle.machine_step.proofs.Opening.{standing}
 use Rattle.machine_step.proofs.Tracing.{before_of}
 
 -- the value is allowed of the word of its stage
-allowed_here : (a : Inside) (place k : ℕ) (stage : Stage) (value : ℕ) → a.stand ≡ Loading place k stage → Allows (traced a) (traced a).want value
-    → IsAllowed a.image.now (word_at a.image.now a.thread k stage) value
-allowed_here a place k stage value is allows =
+allowed_here : (a : Inside) (place k : ℕ) (at_stage : Stage) (value : ℕ) → a.stand ≡ Loading place k at_stage → Allows (traced a) (traced a).want value
+    → IsAllowed a.image.now (word_at a.image.now a.thread k at_stage) value
+allowed_here a place k at_stage value is allows =
     subst (λ (s : Stand). Allows (traced a) (want_at a.image.now a.thread a.machine.passings s) value) is allows
 
-load_here : (a : Inside) (place k : ℕ) (stage : Stage) (value : ℕ) → a.stand ≡ Loading place k stage
-    → load_of (want_at a.image.now a.thread a.machine.passings (Loading place k stage)) value ≡ load_of (traced a).want value
-load_here a place k stage value is =
+load_here : (a : Inside) (place k : ℕ) (at_stage : Stage) (value : ℕ) → a.stand ≡ Loading place k at_stage
+    → load_of (want_at a.image.now a.thread a.machine.passings (Loading place k at_stage)) value ≡ load_of (traced a).want value
+load_here a place k at_stage value is =
     ap (λ (s : Stand). load_of (want_at a.image.now a.thread a.machine.passings s) value) (sym is)
 
-pub clause_goes_on : (a : Inside) → IsSound a → (place k : ℕ) (stage next : Stage) (value : ℕ) → a.stand ≡ Loading place k stage
-    → behind_load stage value ≡ Loads next → Allows (traced a) (traced a).want value
+pub clause_goes_on : (a : Inside) → IsSound a → (place k : ℕ) (at_stage next : Stage) (value : ℕ) → a.stand ≡ Loading place k at_stage
+    → behind_load at_stage value ≡ Loads next → Allows (traced a) (traced a).want value
     → (all : List Passing) (loads : List Load) → HasLoaded (traced a) all loads
     → HasLoaded (traced (standing a (Loading place k next))) all (loads ++ load_of (traced a).want value)
-clause_goes_on a sound place k stage next value is behind allows all loads has =
-    subst (λ (ls : List Load). HasLoaded (traced (standing a (Loading place k next))) all (loads ++ ls)) (load_here a place k stage value is)
-    (goes_on_loads a sound place k stage next value is behind (allowed_here a place k stage value is allows) all loads has)
+clause_goes_on a sound place k at_stage next value is behind allows all loads has =
+    subst (λ (ls : List Load). HasLoaded (traced (standing a (Loading place k next))) all (loads ++ ls)) (load_here a place k at_stage value is)
+    (goes_on_loads a sound place k at_stage next value is behind (allowed_here a place k at_stage value is allows) all loads has)
 
-pub clause_ends : (a : Inside) → IsSound a → (place k : ℕ) (stage : Stage) (value : ℕ) → (is : a.stand ≡ Loading place k stage) (mark : Mark)
-    → behind_load stage value ≡ Ends mark → Allows (traced a) (traced a).want value
+pub clause_ends : (a : Inside) → IsSound a → (place k : ℕ) (at_stage : Stage) (value : ℕ) → (is : a.stand ≡ Loading place k at_stage) (mark : Mark)
+    → behind_load at_stage value ≡ Ends mark → Allows (traced a) (traced a).want value
     → (m : Machine) (ms : MarkList) (stand : Stand) (at : IsAtPassing a place k) → Ending a m ms stand at.address mark
     → (all : List Passing) (loads : List Load) → HasLoaded (traced a) all loads
     → HasLoaded (traced (passed_on a m ms stand)) all (loads ++ load_of (traced a).want value)
-clause_ends a sound place k stage value is mark behind allows m ms stand at ending all loads has =
-    subst (λ (ls : List Load). HasLoaded (traced (passed_on a m ms stand)) all (loads ++ ls)) (load_here a place k stage value is)
-    (ends_loads a sound place k stage value is mark behind (allowed_here a place k stage value is allows) m ms stand at ending all loads has)
+clause_ends a sound place k at_stage value is mark behind allows m ms stand at ending all loads has =
+    subst (λ (ls : List Load). HasLoaded (traced (passed_on a m ms stand)) all (loads ++ ls)) (load_here a place k at_stage value is)
+    (ends_loads a sound place k at_stage value is mark behind (allowed_here a place k at_stage value is allows) m ms stand at ending all loads has)
 
 -- the passing ended so
 pub ending_of : (a : Inside) (place k : ℕ) (at : IsAtPassing a place k) (m : Machine) (ms : MarkList) (stand : Stand) (mark : Mark)
@@ -89,7 +88,7 @@ clause_events a sound place k at ms mark answer sled more found answered =
     one s t is = cc
 
 -- a release word is loaded again behind a release word alone
-only_behind : (stage : Stage) (value : ℕ) → behind_load stage value ≡ Loads stages.Release → stage ≡ stages.Release
+only_behind : (at_stage : Stage) (value : ℕ) → behind_load at_stage value ≡ Loads stages.Release → at_stage ≡ stages.Release
 only_behind stages.Release value behind = refl
 only_behind stages.Head value behind = by (value == patched_head) behind
   where
@@ -106,9 +105,9 @@ only_behind stages.Handler value behind = by (value == 0) behind
     by false is = absurd cc
 only_behind stages.State value behind = absurd cc
 
-pub stage_behind : (hold : Option ℕ) (passing : ℕ) (stage next : Stage) (value : ℕ) → behind_load stage value ≡ Loads next
-    → IsStageOf hold passing stage → IsStageOf hold passing next
-stage_behind hold passing stage next value behind held same = held (only_behind stage value (behind ∙ ap Loads same))
+pub stage_behind : (hold : Option ℕ) (passing : ℕ) (at_stage next : Stage) (value : ℕ) → behind_load at_stage value ≡ Loads next
+    → IsStageOf hold passing at_stage → IsStageOf hold passing next
+stage_behind hold passing at_stage next value behind held same = held (only_behind at_stage value (behind ∙ ap Loads same))
 
-pub held_at : (a : Inside) → IsSound a → (place k : ℕ) (stage : Stage) → a.stand ≡ Loading place k stage → IsStageOf a.hold a.machine.passings stage
-held_at a sound place k stage is = (subst (StandsSo a) is sound.stands).1
+pub held_at : (a : Inside) → IsSound a → (place k : ℕ) (at_stage : Stage) → a.stand ≡ Loading place k at_stage → IsStageOf a.hold a.machine.passings at_stage
+held_at a sound place k at_stage is = (subst (StandsSo a) is sound.stands).1

@@ -1,17 +1,12 @@
 -- A load of a traced thread, and its passing's end.
-use Rattle.std.proofs.Common.{◌≡◌, ◌≢◌, ℕ, zero, suc, ◌+◌, ◌-◌, ◌*◌, ◌<◌, ◌≤◌, ◌==◌, Bool, true, false, List, [], ◌∷◌, ◌++◌, length, map, take, Option, Some, None, refl, sym, ap, ◌∙◌, subst, inl, inr, append-nil, append_assoc, length-append, arith}
-use Rattle.std.specs.Prelude.{◌⊎◌, ◌↔◌, if◌then◌else◌, slice_get, slice_index_or, All, IsSome, nat_le}
-use Rattle.std.proofs.lemmas.Bool.{le-leb, eqb-true}
+use Rattle.std.proofs.Common.{◌≡◌, ℕ, zero, suc, ◌+◌, List, [], ◌∷◌, ◌++◌, length, take, Option, Some, refl, sym, ap, ◌∙◌, subst, inl, inr, append_assoc, length-append, arith}
+use Rattle.std.specs.Prelude.{◌⊎◌, slice_get, All}
 use Rattle.std.proofs.lemmas.List.Elements.{All-append}
 use Rattle.std.proofs.lemmas.Option.{slice_get_within}
-use Rattle.std.proofs.Math.Nat.{mul-suc}
 use Rattle.xray_image.specs.Program.{Program}
-use Rattle.sled_words.specs.Words.{state_word, release_word}
-use Rattle.sled_words.specs.Parts.{patched_head}
 use Rattle.sled_words.specs.Allowed.{IsAllowed}
 use Rattle.handler_word.specs.declared.mark.Mark.{Mark}
-use Rattle.handler_word.specs.declared.mark.Mark.TheVariants as marks
-use Rattle.handler_word.specs.MarkList.{MarkList, is_recorded}
+use Rattle.handler_word.specs.MarkList.{MarkList}
 use Rattle.machine_step.specs.declared.limits.Limits.{Limits}
 use Rattle.machine_step.specs.declared.cpu.Cpu.TheInside.{Inside}
 use Rattle.machine_step.specs.declared.end.End.{End}
@@ -19,23 +14,19 @@ use Rattle.machine_step.specs.declared.machine.Machine.{Machine}
 use Rattle.machine_step.specs.declared.stage.Next.{Next}
 use Rattle.machine_step.specs.declared.stage.Next.TheVariants.{Loads, Ends}
 use Rattle.machine_step.specs.declared.stage.Stage.{Stage}
-use Rattle.machine_step.specs.declared.stage.Stage.TheVariants as stages
 use Rattle.machine_step.specs.declared.stand.Stand.{Stand}
 use Rattle.machine_step.specs.declared.stand.Stand.TheVariants.{Gate, Loading, Ended}
-use Rattle.machine_step.specs.declared.want.Want.{Want}
-use Rattle.machine_step.specs.declared.want.Want.TheVariants as wants
 use Rattle.machine_step.specs.PlainStep.{State, Passing, PlainRun, opening, passing_at}
-use Rattle.machine_step.specs.Course.{ComesTo}
-use Rattle.machine_step.specs.Inside.{traced, want_at, IsAtPassing, IsPastEnd, IsSound, IsStageOf, StandsSo}
-use Rattle.machine_step.specs.Loads.{Load, marks_of, next_from, next_load}
+use Rattle.machine_step.specs.Inside.{traced, want_at, IsAtPassing, IsSound, StandsSo}
+use Rattle.machine_step.specs.Loads.{Load, marks_of, next_from}
 use Rattle.machine_step.specs.Machine.{state_at, IsWithin}
 use Rattle.machine_step.specs.Stages.{word_at, first_stage, behind_load}
-use Rattle.machine_step.specs.Standing.{RunsBy, PassesTo}
-use Rattle.machine_step.specs.Traced.{Traced, BeginsPassing, HasLoaded, IsKept, IsWant, MarksAdded, load_of, loads_left, steps_left, sleds_of, wanted_behind, first_word}
+use Rattle.machine_step.specs.Standing.{RunsBy}
+use Rattle.machine_step.specs.Traced.{Traced, HasLoaded, IsWant, sleds_of, wanted_behind}
 use Rattle.machine_step.proofs.Accepted.{are_in_order}
 use Rattle.machine_step.proofs.OneUnit.{accepted_units}
 use Rattle.machine_step.proofs.OneEnd.{same_run}
-use Rattle.machine_step.proofs.Loading.{Adds, InPassing, in_passing, first_next}
+use Rattle.machine_step.proofs.Loading.{Adds, in_passing, first_next}
 use Rattle.machine_step.proofs.OnCourse.{reaches_behind, runs_behind, way_count, run_count}
 use Rattle.machine_step.proofs.Opening.{loading_at, standing}
 use Rattle.machine_step.proofs.ToSled.{at_passing}
@@ -45,25 +36,25 @@ use Rattle.machine_step.proofs.WordsAt.{same_stage}
 -- ---- what a load adds
 
 -- in the passing that the thread is in, a load adds what it leads to
-pub record LoadsHere (a : Inside) (k : ℕ) (stage : Stage) (passed : List Passing) (next : Passing) (all : List Passing) (loads : List Load) : Type 0 where
+pub record LoadsHere (a : Inside) (k : ℕ) (at_stage : Stage) (passed : List Passing) (next : Passing) (all : List Passing) (loads : List Load) : Type 0 where
   pub later : List Passing
   pub goes_on : all ≡ passed ++ next ∷ later
   pub adds : (load : Load) → Adds a.image.now a.thread a.hold 0 k (sleds_of later) a.marks.items
       (marks_of a.image.now a.thread a.hold (sleds_of all) (loads ++ load ∷ []))
-      (wanted_behind (traced a) all (loads ++ load ∷ [])) (behind_load stage load.value)
+      (wanted_behind (traced a) all (loads ++ load ∷ [])) (behind_load at_stage load.value)
 
-wanted_word : (a : Inside) (place k : ℕ) (stage : Stage) → a.stand ≡ Loading place k stage → (all : List Passing) (loads : List Load)
-    → (has : HasLoaded (traced a) all loads) → wanted_behind (traced a) all loads ≡ Some (word_at a.image.now a.thread k stage)
-wanted_word a place k stage is all loads has =
+wanted_word : (a : Inside) (place k : ℕ) (at_stage : Stage) → a.stand ≡ Loading place k at_stage → (all : List Passing) (loads : List Load)
+    → (has : HasLoaded (traced a) all loads) → wanted_behind (traced a) all loads ≡ Some (word_at a.image.now a.thread k at_stage)
+wanted_word a place k at_stage is all loads has =
     subst (λ (s : Stand). IsWant (traced a) all (wanted_behind (traced a) all loads) has.end (want_at a.image.now a.thread a.machine.passings s)) is has.wants
 
-pub loads_here : (a : Inside) → IsSound a → (place k : ℕ) (stage : Stage) → a.stand ≡ Loading place k stage → (at : IsAtPassing a place k)
+pub loads_here : (a : Inside) → IsSound a → (place k : ℕ) (at_stage : Stage) → a.stand ≡ Loading place k at_stage → (at : IsAtPassing a place k)
     → (all : List Passing) (loads : List Load) → HasLoaded (traced a) all loads
-    → LoadsHere a k stage at.passed at.next all loads
-loads_here a sound place k stage is at all loads has =
+    → LoadsHere a k at_stage at.passed at.next all loads
+loads_here a sound place k at_stage is at all loads has =
     let before = before_of a sound place k at in
     let on = goes_on_by a sound place k at all has.end has.last has.run in
-    let here = in_passing a.image.now a.thread a.hold 0 (sleds_of all) loads (word_at a.image.now a.thread k stage) (wanted_word a place k stage is all loads has) in
+    let here = in_passing a.image.now a.thread a.hold 0 (sleds_of all) loads (word_at a.image.now a.thread k at_stage) (wanted_word a place k at_stage is all loads has) in
     let within = slice_get_within a.image.now.sleds k before.sled before.found in
     let next_sled : at.next.sled ≡ k = ap (λ (p : Passing). p.sled) before.next_is in
     let long : length here.before ≡ length (sleds_of at.passed) =
@@ -71,7 +62,7 @@ loads_here a sound place k stage is at all loads has =
     let split = same_split here.before (sleds_of at.passed) here.sled at.next.sled here.rest (sleds_of on.later) long
     (sym here.passed ∙ (ap sleds_of on.is ∙ sleds_split at.passed at.next on.later)) in
     let sled : here.sled ≡ k = split.0 ∙ next_sled in
-    let same : stage ≡ here.at = same_stage a.image.now a.thread k stage here.at within sound.some_thread
+    let same : at_stage ≡ here.at = same_stage a.image.now a.thread k at_stage here.at within sound.some_thread
     (here.word_is ∙ ap (λ j. word_at a.image.now a.thread j here.at) sled) in
     record {
       later = on.later;
@@ -124,21 +115,21 @@ allowed_more program loads load allowed is =
 
 -- ---- a passing that goes on
 
-pub goes_on_loads : (a : Inside) → IsSound a → (place k : ℕ) (stage next : Stage) (value : ℕ) → a.stand ≡ Loading place k stage
-    → behind_load stage value ≡ Loads next → IsAllowed a.image.now (word_at a.image.now a.thread k stage) value
+pub goes_on_loads : (a : Inside) → IsSound a → (place k : ℕ) (at_stage next : Stage) (value : ℕ) → a.stand ≡ Loading place k at_stage
+    → behind_load at_stage value ≡ Loads next → IsAllowed a.image.now (word_at a.image.now a.thread k at_stage) value
     → (all : List Passing) (loads : List Load) → HasLoaded (traced a) all loads
-    → HasLoaded (traced (standing a (Loading place k next))) all (loads ++ record { word = word_at a.image.now a.thread k stage; value = value } ∷ [])
-goes_on_loads a sound place k stage next value is behind allowed all loads has =
-    let at = loading_at a sound place k stage is in
-    let load : Load = record { word = word_at a.image.now a.thread k stage; value = value } in
-    let here = loads_here a sound place k stage is at all loads has in
+    → HasLoaded (traced (standing a (Loading place k next))) all (loads ++ record { word = word_at a.image.now a.thread k at_stage; value = value } ∷ [])
+goes_on_loads a sound place k at_stage next value is behind allowed all loads has =
+    let at = loading_at a sound place k at_stage is in
+    let load : Load = record { word = word_at a.image.now a.thread k at_stage; value = value } in
+    let here = loads_here a sound place k at_stage is at all loads has in
     let adds = subst (λ (n : Next). Adds a.image.now a.thread a.hold 0 k (sleds_of here.later) a.marks.items
     (marks_of a.image.now a.thread a.hold (sleds_of all) (loads ++ load ∷ [])) (wanted_behind (traced a) all (loads ++ load ∷ [])) n) behind (here.adds load) in
     record {
       end = has.end;
       last = has.last;
       run = has.run;
-      wanted = wanted_more (traced a) all loads load has.wanted (wanted_word a place k stage is all loads has);
+      wanted = wanted_more (traced a) all loads load has.wanted (wanted_word a place k at_stage is all loads has);
       allowed = allowed_more a.image.now loads load has.allowed allowed;
       marks = sym adds.0;
       wants = adds.1;
@@ -180,7 +171,7 @@ stands_behind a sound place k at m ms made within whole (Gate place' k') (there,
       },
       omega (arith, at.count),
     )
-stands_behind a sound place k at m ms made within whole (Loading place' k' stage) run = absurd run
+stands_behind a sound place k at m ms made within whole (Loading place' k' at_stage) run = absurd run
 stands_behind a sound place k at m ms made within whole (Ended end) (there, (n, run)) =
     let program = a.image.now in
     let way = runs_behind program a.limits a.thread at.comes.steps n (opening program a.thread) (state_at at.address a.machine) (state_at there m)
@@ -273,14 +264,14 @@ wants_at b sound passed rest all end last wanted run is long wants (Ended e) pas
       sym same.ends,
     )
 
-pub ends_loads : (a : Inside) → IsSound a → (place k : ℕ) (stage : Stage) (value : ℕ) (is : a.stand ≡ Loading place k stage) (mark : Mark)
-    → behind_load stage value ≡ Ends mark → IsAllowed a.image.now (word_at a.image.now a.thread k stage) value
+pub ends_loads : (a : Inside) → IsSound a → (place k : ℕ) (at_stage : Stage) (value : ℕ) (is : a.stand ≡ Loading place k at_stage) (mark : Mark)
+    → behind_load at_stage value ≡ Ends mark → IsAllowed a.image.now (word_at a.image.now a.thread k at_stage) value
     → (m : Machine) (ms : MarkList) (stand : Stand) → (at : IsAtPassing a place k) → Ending a m ms stand at.address mark
     → (all : List Passing) (loads : List Load) → HasLoaded (traced a) all loads
-    → HasLoaded (traced (passed_on a m ms stand)) all (loads ++ record { word = word_at a.image.now a.thread k stage; value = value } ∷ [])
-ends_loads a sound place k stage value is mark behind allowed m ms stand at ending all loads has =
-    let load : Load = record { word = word_at a.image.now a.thread k stage; value = value } in
-    let here = loads_here a sound place k stage is at all loads has in
+    → HasLoaded (traced (passed_on a m ms stand)) all (loads ++ record { word = word_at a.image.now a.thread k at_stage; value = value } ∷ [])
+ends_loads a sound place k at_stage value is mark behind allowed m ms stand at ending all loads has =
+    let load : Load = record { word = word_at a.image.now a.thread k at_stage; value = value } in
+    let here = loads_here a sound place k at_stage is at all loads has in
     let adds = subst (λ (n : Next). Adds a.image.now a.thread a.hold 0 k (sleds_of here.later) a.marks.items
     (marks_of a.image.now a.thread a.hold (sleds_of all) (loads ++ load ∷ [])) (wanted_behind (traced a) all (loads ++ load ∷ [])) n) behind (here.adds load) in
     let after = sound_behind a sound place k at m ms stand mark ending in
@@ -292,7 +283,7 @@ ends_loads a sound place k stage value is mark behind allowed m ms stand at endi
       end = has.end;
       last = has.last;
       run = has.run;
-      wanted = wanted_more (traced a) all loads load has.wanted (wanted_word a place k stage is all loads has);
+      wanted = wanted_more (traced a) all loads load has.wanted (wanted_word a place k at_stage is all loads has);
       allowed = allowed_more a.image.now loads load has.allowed allowed;
       marks = ending.items ∙ sym adds.0;
       wants = wants_at (passed_on a m ms stand) after (at.passed ++ at.next ∷ []) here.later all has.end has.last

@@ -1,7 +1,6 @@
 -- What a value that is loaded tells: which event comes, whether it keeps the thread, and how much nearer its end is.
-use Rattle.std.proofs.Common.{◌≡◌, ◌≢◌, ℕ, zero, suc, ◌+◌, ◌-◌, ◌*◌, ◌<◌, ◌≤◌, ◌==◌, Bool, true, false, List, [], ◌∷◌, ◌++◌, length, map, filter, Option, Some, None, refl, sym, ap, ◌∙◌, subst, inl, inr, length-append, arith}
-use Rattle.std.specs.Prelude.{◌↔◌, if◌then◌else◌, slice_get, IsSome, nat_le}
-use Rattle.std.specs.List.{zip}
+use Rattle.std.proofs.Common.{◌≡◌, ℕ, suc, ◌+◌, ◌-◌, ◌*◌, ◌<◌, ◌≤◌, ◌==◌, Bool, true, false, List, [], ◌∷◌, ◌++◌, length, Option, Some, None, refl, sym, ap, ◌∙◌, subst, length-append, arith}
+use Rattle.std.specs.Prelude.{◌↔◌, if◌then◌else◌, IsSome, nat_le}
 use Rattle.std.proofs.lemmas.Bool.{le-leb, leb-true, eqb-true}
 use Rattle.std.proofs.lemmas.Option.{slice_get_within}
 use Rattle.std.proofs.Math.Nat.{mul-suc}
@@ -15,21 +14,19 @@ use Rattle.handler_word.specs.MarkList.{MarkList, is_recorded}
 use Rattle.machine_step.specs.declared.cpu.Cpu.TheInside.{Inside}
 use Rattle.machine_step.specs.declared.end.End.{End}
 use Rattle.machine_step.specs.declared.machine.Machine.{Machine}
-use Rattle.machine_step.specs.declared.stage.Next.{Next}
 use Rattle.machine_step.specs.declared.stage.Next.TheVariants.{Loads, Ends}
 use Rattle.machine_step.specs.declared.stage.Stage.{Stage}
 use Rattle.machine_step.specs.declared.stage.Stage.TheVariants as stages
 use Rattle.machine_step.specs.declared.stand.Stand.{Stand}
 use Rattle.machine_step.specs.declared.stand.Stand.TheVariants.{Gate, Loading, Ended}
-use Rattle.machine_step.specs.declared.want.Want.{Want}
 use Rattle.machine_step.specs.declared.want.Want.TheVariants as wants
 use Rattle.machine_step.specs.Events.{event_of, events_in, recorded}
 use Rattle.machine_step.specs.Inside.{traced, want_at, IsAtPassing, IsSound, StandsSo}
 use Rattle.machine_step.specs.Machine.{state_at}
 use Rattle.machine_step.specs.PlainStep.{State, Passing, PlainRun, passing_at}
 use Rattle.machine_step.specs.Stages.{word_at, behind_load}
-use Rattle.machine_step.specs.Traced.{Traced, IsKept, MarksAdded, loads_left, steps_left}
-use Rattle.machine_step.proofs.Giving.{Ending, IsBetween, passed_on}
+use Rattle.machine_step.specs.Traced.{IsKept, MarksAdded, loads_left, steps_left}
+use Rattle.machine_step.proofs.Giving.{IsBetween, passed_on}
 use Rattle.machine_step.proofs.Opening.{loading_at, standing}
 use Rattle.machine_step.proofs.Tracing.{before_of, goes_on_by}
 use Rattle.machine_step.proofs.WordsAt.{same_stage}
@@ -56,8 +53,8 @@ state_is : (value : ℕ) (b : Bool) (mark : Mark) → (value == 2) ≡ b → is_
 state_is value true mark is recorded same = eqb-true value 2 is
 state_is value false mark is recorded same = let marks : marks.NotLogging ≡ mark = cc in absurd (cc (ap is_recorded marks))
 
-recorded_behind : (stage : Stage) (value : ℕ) (mark : Mark) → behind_load stage value ≡ Ends mark → is_recorded mark ≡ true
-    → (stage ≡ stages.State) × (value ≡ 2)
+recorded_behind : (at_stage : Stage) (value : ℕ) (mark : Mark) → behind_load at_stage value ≡ Ends mark → is_recorded mark ≡ true
+    → (at_stage ≡ stages.State) × (value ≡ 2)
 recorded_behind stages.Release value mark is recorded = absurd (loads_or_loads (value == 0) stages.Release stages.Head mark is)
 recorded_behind stages.Head value mark is recorded = absurd (loads_or_unrecorded (value == patched_head) stages.Id mark marks.Skipped refl recorded is)
 recorded_behind stages.Id value mark is recorded = absurd cc
@@ -73,46 +70,46 @@ recorded_at value mark two is =
     let same : marks.Recorded ≡ mark = cc in ap is_recorded (sym same)
 
 -- the stage of the state word
-at_state : (a : Inside) → IsSound a → (place k : ℕ) (stage : Stage) → a.stand ≡ Loading place k stage
-    → (traced a).want ≡ wants.Load (state_word a.image.now) → stage ≡ stages.State
-at_state a sound place k stage is wanted =
-    let before = before_of a sound place k (loading_at a sound place k stage is) in
+at_state : (a : Inside) → IsSound a → (place k : ℕ) (at_stage : Stage) → a.stand ≡ Loading place k at_stage
+    → (traced a).want ≡ wants.Load (state_word a.image.now) → at_stage ≡ stages.State
+at_state a sound place k at_stage is wanted =
+    let before = before_of a sound place k (loading_at a sound place k at_stage is) in
     let within = slice_get_within a.image.now.sleds k before.sled before.found in
-    let by_stand : want_at a.image.now a.thread a.machine.passings (Loading place k stage) ≡ wants.Load (state_word a.image.now) =
+    let by_stand : want_at a.image.now a.thread a.machine.passings (Loading place k at_stage) ≡ wants.Load (state_word a.image.now) =
     ap (want_at a.image.now a.thread a.machine.passings) (sym is) ∙ wanted in
-    let words : word_at a.image.now a.thread k stage ≡ state_word a.image.now = cc in
-    same_stage a.image.now a.thread k stage stages.State within sound.some_thread words
+    let words : word_at a.image.now a.thread k at_stage ≡ state_word a.image.now = cc in
+    same_stage a.image.now a.thread k at_stage stages.State within sound.some_thread words
 
-wants_state : (a : Inside) (place k : ℕ) (stage : Stage) → a.stand ≡ Loading place k stage → stage ≡ stages.State
+wants_state : (a : Inside) (place k : ℕ) (at_stage : Stage) → a.stand ≡ Loading place k at_stage → at_stage ≡ stages.State
     → (traced a).want ≡ wants.Load (state_word a.image.now)
-wants_state a place k stage is same =
+wants_state a place k at_stage is same =
     ap (want_at a.image.now a.thread a.machine.passings) (is ∙ ap (Loading place k) same)
 
 some_if : (b : Bool) (event : Event) → IsSome (if b then Some event else None) → b ≡ true
 some_if true event is = refl
 some_if false event is = absurd cc
 
-pub some_at_end : (a : Inside) → IsSound a → (place k : ℕ) (stage : Stage) (value : ℕ) (mark : Mark) (event : Event) (answer : Option Event)
-    → a.stand ≡ Loading place k stage → behind_load stage value ≡ Ends mark → answer ≡ (if is_recorded mark then Some event else None)
+pub some_at_end : (a : Inside) → IsSound a → (place k : ℕ) (at_stage : Stage) (value : ℕ) (mark : Mark) (event : Event) (answer : Option Event)
+    → a.stand ≡ Loading place k at_stage → behind_load at_stage value ≡ Ends mark → answer ≡ (if is_recorded mark then Some event else None)
     → IsSome answer ↔ ((traced a).want ≡ wants.Load (state_word a.image.now)) × (value ≡ 2)
-some_at_end a sound place k stage value mark event answer is behind answered = (
+some_at_end a sound place k at_stage value mark event answer is behind answered = (
   λ some.
-      let here = recorded_behind stage value mark behind
+      let here = recorded_behind at_stage value mark behind
       (some_if (is_recorded mark) event (subst (λ (o : Option Event). IsSome o) answered some)) in
-      (wants_state a place k stage is here.0, here.1),
+      (wants_state a place k at_stage is here.0, here.1),
   λ (wanted, two).
-      let at = at_state a sound place k stage is wanted in
+      let at = at_state a sound place k at_stage is wanted in
       let recorded = recorded_at value mark two (ap (λ (s : Stage). behind_load s value) (sym at) ∙ behind) in
       subst (λ (o : Option Event). IsSome o) (sym (answered ∙ ap (λ b. if b then Some event else None) recorded)) refl,
 )
 
-pub some_goes_on : (a : Inside) → IsSound a → (place k : ℕ) (stage next : Stage) (value : ℕ) (answer : Option Event)
-    → a.stand ≡ Loading place k stage → behind_load stage value ≡ Loads next → answer ≡ None
+pub some_goes_on : (a : Inside) → IsSound a → (place k : ℕ) (at_stage next : Stage) (value : ℕ) (answer : Option Event)
+    → a.stand ≡ Loading place k at_stage → behind_load at_stage value ≡ Loads next → answer ≡ None
     → IsSome answer ↔ ((traced a).want ≡ wants.Load (state_word a.image.now)) × (value ≡ 2)
-some_goes_on a sound place k stage next value answer is behind none = (
+some_goes_on a sound place k at_stage next value answer is behind none = (
   λ some. absurd (no_event answer none some),
   λ (wanted, two).
-      let at = at_state a sound place k stage is wanted in
+      let at = at_state a sound place k at_stage is wanted in
       let other : behind_load stages.State value ≡ Loads next = ap (λ (s : Stage). behind_load s value) (sym at) ∙ behind in
       absurd cc,
 )
@@ -189,30 +186,30 @@ marks_added program thread made old new mark is (Ended end) between = (mark, is)
 -- ---- a value that keeps the thread
 
 -- it is a release word of 0
-release_at : (a : Inside) → IsSound a → (place k : ℕ) (stage : Stage) → a.stand ≡ Loading place k stage
-    → (traced a).want ≡ wants.Load (release_word a.image.now a.thread) → stage ≡ stages.Release
-release_at a sound place k stage is wanted =
-    let before = before_of a sound place k (loading_at a sound place k stage is) in
+release_at : (a : Inside) → IsSound a → (place k : ℕ) (at_stage : Stage) → a.stand ≡ Loading place k at_stage
+    → (traced a).want ≡ wants.Load (release_word a.image.now a.thread) → at_stage ≡ stages.Release
+release_at a sound place k at_stage is wanted =
+    let before = before_of a sound place k (loading_at a sound place k at_stage is) in
     let within = slice_get_within a.image.now.sleds k before.sled before.found in
-    let by_stand : want_at a.image.now a.thread a.machine.passings (Loading place k stage) ≡ wants.Load (release_word a.image.now a.thread) =
+    let by_stand : want_at a.image.now a.thread a.machine.passings (Loading place k at_stage) ≡ wants.Load (release_word a.image.now a.thread) =
     ap (want_at a.image.now a.thread a.machine.passings) (sym is) ∙ wanted in
-    let words : word_at a.image.now a.thread k stage ≡ release_word a.image.now a.thread = cc in
-    same_stage a.image.now a.thread k stage stages.Release within sound.some_thread words
+    let words : word_at a.image.now a.thread k at_stage ≡ release_word a.image.now a.thread = cc in
+    same_stage a.image.now a.thread k at_stage stages.Release within sound.some_thread words
 
-pub kept_same : (a : Inside) → IsSound a → (place k : ℕ) (stage next : Stage) (value : ℕ) → a.stand ≡ Loading place k stage
-    → behind_load stage value ≡ Loads next → IsKept (traced a) value → traced (standing a (Loading place k next)) ≡ traced a
-kept_same a sound place k stage next value is behind kept =
-    let at = release_at a sound place k stage is kept.word in
+pub kept_same : (a : Inside) → IsSound a → (place k : ℕ) (at_stage next : Stage) (value : ℕ) → a.stand ≡ Loading place k at_stage
+    → behind_load at_stage value ≡ Loads next → IsKept (traced a) value → traced (standing a (Loading place k next)) ≡ traced a
+kept_same a sound place k at_stage next value is behind kept =
+    let at = release_at a sound place k at_stage is kept.word in
     let by_value : behind_load stages.Release 0 ≡ Loads next =
     sym (ap (behind_load stages.Release) kept.unset) ∙ (ap (λ (s : Stage). behind_load s value) (sym at) ∙ behind) in
     let same : stages.Release ≡ next = cc in
     let stands : Loading place k next ≡ a.stand = ap (Loading place k) (sym same ∙ sym at) ∙ sym is in
     ap (λ (s : Stand). traced (standing a s)) stands
 
-pub kept_not : (a : Inside) → IsSound a → (place k : ℕ) (stage : Stage) (value : ℕ) (mark : Mark) → a.stand ≡ Loading place k stage
-    → behind_load stage value ≡ Ends mark → IsKept (traced a) value → ⊥
-kept_not a sound place k stage value mark is behind kept =
-    let at = release_at a sound place k stage is kept.word in
+pub kept_not : (a : Inside) → IsSound a → (place k : ℕ) (at_stage : Stage) (value : ℕ) (mark : Mark) → a.stand ≡ Loading place k at_stage
+    → behind_load at_stage value ≡ Ends mark → IsKept (traced a) value → ⊥
+kept_not a sound place k at_stage value mark is behind kept =
+    let at = release_at a sound place k at_stage is kept.word in
     let by_value : behind_load stages.Release 0 ≡ Ends mark =
     sym (ap (behind_load stages.Release) kept.unset) ∙ (ap (λ (s : Stage). behind_load s value) (sym at) ∙ behind) in
     cc
@@ -237,8 +234,8 @@ high_word : (program : Program) (word : ℕ) (b : Bool) → state_word program <
 high_word program word true high is = let low = leb-true word (state_word program) is in absurd (omega arith)
 high_word program word false high is = rw is refl
 
-steps_left_at : (program : Program) (thread k : ℕ) (stage : Stage) → k < length program.sleds → 0 < thread
-    → steps_left program (wants.Load (word_at program thread k stage)) ≡ left_at program thread k stage
+steps_left_at : (program : Program) (thread k : ℕ) (at_stage : Stage) → k < length program.sleds → 0 < thread
+    → steps_left program (wants.Load (word_at program thread k at_stage)) ≡ left_at program thread k at_stage
 steps_left_at program thread k stages.Release within some =
     high_word program (release_word program thread) (nat_le (release_word program thread) (state_word program)) (omega arith) refl
 steps_left_at program thread k stages.Head within some = low_word program (word_at program thread k stages.Head) (omega arith)
@@ -249,9 +246,9 @@ steps_left_at program thread k stages.Handler within some = low_word program (wo
 steps_left_at program thread k stages.State within some = low_word program (word_at program thread k stages.State) (omega arith)
 
 -- a load that goes on comes to a nearer stage, but for a release word of 0
-next_left : (program : Program) (thread k : ℕ) (stage next : Stage) (value : ℕ) → k < length program.sleds → 0 < thread
-    → behind_load stage value ≡ Loads next → ((stage ≡ stages.Release) × (value ≡ 0) → ⊥)
-    → left_at program thread k next < left_at program thread k stage
+next_left : (program : Program) (thread k : ℕ) (at_stage next : Stage) (value : ℕ) → k < length program.sleds → 0 < thread
+    → behind_load at_stage value ≡ Loads next → ((at_stage ≡ stages.Release) × (value ≡ 0) → ⊥)
+    → left_at program thread k next < left_at program thread k at_stage
 next_left program thread k stages.Release next value within some behind free = by_value (value == 0) refl behind
   where
     by_value : (b : Bool) → (value == 0) ≡ b → (if b then Loads stages.Release else Loads stages.Head) ≡ Loads next
@@ -278,27 +275,27 @@ next_left program thread k stages.Handler next value within some behind free = b
     by_value false same = let at : stages.State ≡ next = cc in subst (λ (s : Stage). left_at program thread k s < left_at program thread k stages.Handler) at (omega arith)
 next_left program thread k stages.State next value within some behind free = absurd cc
 
-pub nearer_on : (a : Inside) → IsSound a → (place k : ℕ) (stage next : Stage) (value : ℕ) → a.stand ≡ Loading place k stage
-    → behind_load stage value ≡ Loads next → (IsKept (traced a) value → ⊥)
+pub nearer_on : (a : Inside) → IsSound a → (place k : ℕ) (at_stage next : Stage) (value : ℕ) → a.stand ≡ Loading place k at_stage
+    → behind_load at_stage value ≡ Loads next → (IsKept (traced a) value → ⊥)
     → loads_left (traced (standing a (Loading place k next))) < loads_left (traced a)
-nearer_on a sound place k stage next value is behind free =
+nearer_on a sound place k at_stage next value is behind free =
     let program = a.image.now in
-    let before = before_of a sound place k (loading_at a sound place k stage is) in
+    let before = before_of a sound place k (loading_at a sound place k at_stage is) in
     let within = slice_get_within program.sleds k before.sled before.found in
     let held = (subst (StandsSo a) is sound.stands).1 in
-    let not_kept : (stage ≡ stages.Release) × (value ≡ 0) → ⊥ = λ here. free (record {
+    let not_kept : (at_stage ≡ stages.Release) × (value ≡ 0) → ⊥ = λ here. free (record {
       held = held here.0 ∙ ap Some (sym sound.made);
       word = ap (want_at program a.thread a.machine.passings) (is ∙ ap (Loading place k) here.0);
       unset = here.1;
     }) in
-    let less = next_left program a.thread k stage next value within sound.some_thread behind not_kept in
+    let less = next_left program a.thread k at_stage next value within sound.some_thread behind not_kept in
     let new = steps_left_at program a.thread k next within sound.some_thread in
-    let old : steps_left program (traced a).want ≡ left_at program a.thread k stage =
-    ap (λ (s : Stand). steps_left program (want_at program a.thread a.machine.passings s)) is ∙ steps_left_at program a.thread k stage within sound.some_thread in
+    let old : steps_left program (traced a).want ≡ left_at program a.thread k at_stage =
+    ap (λ (s : Stand). steps_left program (want_at program a.thread a.machine.passings s)) is ∙ steps_left_at program a.thread k at_stage within sound.some_thread in
     omega arith
 
 -- each stage has a load before it
-some_left : (program : Program) (thread k : ℕ) (stage : Stage) → k < length program.sleds → 0 < left_at program thread k stage
+some_left : (program : Program) (thread k : ℕ) (at_stage : Stage) → k < length program.sleds → 0 < left_at program thread k at_stage
 some_left program thread k stages.Release within = omega arith
 some_left program thread k stages.Head within = omega arith
 some_left program thread k stages.Id within = omega arith
@@ -317,17 +314,17 @@ one_fewer : (each left old new at : ℕ) → new ≤ each → 0 < at → left �
 one_fewer each left old new at below some more =
     let product : each * left ≡ each * old + each = ap (λ x. each * x) more ∙ mul-suc each old in omega arith
 
-pub nearer_end : (a : Inside) → IsSound a → (place k : ℕ) (stage : Stage) → a.stand ≡ Loading place k stage
+pub nearer_end : (a : Inside) → IsSound a → (place k : ℕ) (at_stage : Stage) → a.stand ≡ Loading place k at_stage
     → (m : Machine) (ms : MarkList) (stand : Stand) (mark : Mark) → ms.items ≡ a.marks.items ++ mark ∷ [] → IsBetween stand
     → loads_left (traced (passed_on a m ms stand)) < loads_left (traced a)
-nearer_end a sound place k stage is m ms stand mark more between =
+nearer_end a sound place k at_stage is m ms stand mark more between =
     let program = a.image.now in
-    let before = before_of a sound place k (loading_at a sound place k stage is) in
+    let before = before_of a sound place k (loading_at a sound place k at_stage is) in
     let within = slice_get_within program.sleds k before.sled before.found in
     let long : length ms.items ≡ length a.marks.items + 1 = ap length more ∙ length-append a.marks.items (mark ∷ []) in
-    let old : steps_left program (traced a).want ≡ left_at program a.thread k stage =
-    ap (λ (s : Stand). steps_left program (want_at program a.thread a.machine.passings s)) is ∙ steps_left_at program a.thread k stage within sound.some_thread in
-    let some = some_left program a.thread k stage within in
+    let old : steps_left program (traced a).want ≡ left_at program a.thread k at_stage =
+    ap (λ (s : Stand). steps_left program (want_at program a.thread a.machine.passings s)) is ∙ steps_left_at program a.thread k at_stage within sound.some_thread in
+    let some = some_left program a.thread k at_stage within in
     one_fewer (state_word program + 3) (a.limits.passings - length a.marks.items) (a.limits.passings - length ms.items)
     (steps_left program (want_at program a.thread m.passings stand)) (steps_left program (traced a).want)
     (between_left program a.thread m.passings stand between) (omega arith)

@@ -1,10 +1,9 @@
 -- Steps on the way of a plain run.
-use Rattle.std.proofs.Common.{◌≡◌, ℕ, zero, suc, ◌+◌, ◌==◌, Bool, true, false, List, [], ◌∷◌, ◌++◌, length, Some, refl, sym, ap, ◌∙◌, subst, inl, inr, append-nil, append_assoc, length-append, arith, MatchBool}
-use Rattle.std.specs.Prelude.{◌^◌, ◌-◌, ◌%◌, if◌then◌else◌, slice_get}
+use Rattle.std.proofs.Common.{◌≡◌, ℕ, zero, suc, ◌+◌, ◌==◌, Bool, true, false, List, [], ◌∷◌, ◌++◌, length, refl, sym, ap, ◌∙◌, subst, inl, inr, append-nil, append_assoc, length-append, arith}
+use Rattle.std.specs.Prelude.{if◌then◌else◌}
 use Rattle.subset_decode.specs.declared.instr.Instr.{Instr}
 use Rattle.subset_decode.specs.declared.instr.Instr.TheVariants.{Mov, Add, Sub, Push, Pop, Call, Jmp, Jnz, Ret, Out}
 use Rattle.subset_decode.specs.Encoding.{spelling}
-use Rattle.xray_image.specs.declared.sled.Sled.{Sled}
 use Rattle.xray_image.specs.declared.sled.SledKind.{SledKind}
 use Rattle.xray_image.specs.declared.sled.SledKind.TheVariants as kinds
 use Rattle.xray_image.specs.declared.unit.What.{What}
@@ -13,7 +12,7 @@ use Rattle.xray_image.specs.Program.{Program}
 use Rattle.machine_step.specs.declared.limits.Limits.{Limits}
 use Rattle.machine_step.specs.declared.end.End.{End}
 use Rattle.machine_step.specs.declared.end.End.TheVariants as ends
-use Rattle.machine_step.specs.PlainStep.{State, Next, Goes, Ends, Passing, PlainStep, PlainRun, RunsTo, UnitStep, opening, passing_at, behind_passing, does, fuelled, returns, popped, pushed, stack_limit, output_limit, register}
+use Rattle.machine_step.specs.PlainStep.{State, Next, Goes, Ends, Passing, PlainStep, PlainRun, RunsTo, UnitStep, opening, behind_passing, does, returns, popped, stack_limit, output_limit}
 use Rattle.machine_step.specs.Course.{Reaches, ComesTo}
 use Rattle.machine_step.proofs.OneUnit.{OneUnit}
 use Rattle.machine_step.proofs.OneEnd.{Passes, same_step}

@@ -1,5 +1,5 @@
 -- A machine that passes a sled.
-use Rattle.std.proofs.Common.{◌≡◌, ℕ, suc, ◌+◌, ◌==◌, Bool, true, false, List, [], ◌∷◌, length, Option, Some, None, refl, sym, ap, ◌∙◌, subst, arith}
+use Rattle.std.proofs.Common.{◌≡◌, ℕ, suc, ◌+◌, ◌==◌, [], ◌∷◌, length, Option, Some, None, refl, sym, ap, ◌∙◌, subst}
 use Rattle.std.specs.Prelude.{if◌then◌else◌, slice_get, MatchOption}
 use Rattle.subset_decode.specs.Encoding.{spelling}
 use Rattle.xray_image.specs.declared.unit.Unit.{Unit}
@@ -15,12 +15,12 @@ use Rattle.machine_step.specs.declared.step.Way.TheVariants.{To, Back, Ends as S
 use Rattle.machine_step.specs.declared.machine.Machine.{Machine}
 use Rattle.machine_step.specs.declared.stand.Stand.{Stand}
 use Rattle.machine_step.specs.declared.stand.Stand.TheVariants.{Gate, Loading, Ended}
-use Rattle.machine_step.specs.PlainStep.{Goes, Ends, Next, Passing, PlainStep, passing_at}
+use Rattle.machine_step.specs.PlainStep.{Goes, Next, Passing, PlainStep, passing_at}
 use Rattle.machine_step.specs.Machine.{state_at, IsWithin, stepping}
 use Rattle.machine_step.specs.Standing.{due_sled, IsAtSled, RunsBy}
 use Rattle.machine_step.specs.Steps.{IsPlaceOf, IsStepOf, IsStepAt, sled_at}
 use Rattle.machine_step.proofs.Stepping.{AreInOrder, LeadsBy, instruction_at_none, sled_at_some}
-use Rattle.machine_step.proofs.ToSled.{AtPassing, at_passing}
+use Rattle.machine_step.proofs.ToSled.{at_passing}
 
 -- ---- the sled at a place is one
 

@@ -1,5 +1,5 @@
 -- A machine on its way from one sled to the next.
-use Rattle.std.proofs.Common.{◌≡◌, ℕ, zero, suc, ◌+◌, ◌<◌, ◌==◌, Bool, true, false, List, [], ◌∷◌, ◌++◌, length, Option, Some, None, refl, sym, ap, ◌∙◌, subst, inl, inr, arith}
+use Rattle.std.proofs.Common.{◌≡◌, ℕ, zero, suc, ◌+◌, ◌<◌, ◌==◌, Bool, true, false, List, [], ◌∷◌, length, Option, Some, None, refl, sym, subst, inl}
 use Rattle.std.specs.Prelude.{if◌then◌else◌, slice_get}
 use Rattle.xray_image.specs.declared.sled.Sled.{Sled}
 use Rattle.xray_image.specs.Program.{Program}
@@ -17,7 +17,7 @@ use Rattle.machine_step.specs.Steps.{IsPlaceOf, IsStepAt, sled_at}
 use Rattle.machine_step.proofs.OnCourse.{reaches_more, runs_behind}
 use Rattle.machine_step.proofs.Places.{place_within}
 use Rattle.machine_step.proofs.Runs.{measure, measure_falls}
-use Rattle.machine_step.proofs.Stepping.{left_of, Nearer, LeadsBy, AreInOrder, StepsTo, MadeAt, MadeBy, step_at_place}
+use Rattle.machine_step.proofs.Stepping.{LeadsBy, AreInOrder, MadeAt, MadeBy, step_at_place}
 
 -- ---- what a step makes
 

@@ -1,29 +1,22 @@
 -- A traced thread on its plain run.
-use Rattle.std.proofs.Common.{◌≡◌, ◌≢◌, ℕ, zero, suc, ◌+◌, ◌<◌, ◌≤◌, ◌==◌, Bool, true, false, List, [], ◌∷◌, ◌++◌, length, map, take, Option, Some, None, refl, sym, ap, ◌∙◌, subst, append-nil, append_assoc, length-append, arith}
-use Rattle.std.specs.Prelude.{if◌then◌else◌, slice_get, All}
-use Rattle.std.proofs.lemmas.Bool.{eqb-true, eqb-false}
-use Rattle.std.proofs.lemmas.Option.{slice_get_within}
+use Rattle.std.proofs.Common.{◌≡◌, ℕ, suc, ◌<◌, ◌==◌, Bool, true, false, List, [], ◌∷◌, ◌++◌, length, Option, Some, None, refl, sym, ap, ◌∙◌, subst, arith}
+use Rattle.std.specs.Prelude.{if◌then◌else◌, slice_get}
+use Rattle.std.proofs.lemmas.Bool.{eqb-false}
 use Rattle.xray_image.specs.declared.sled.Sled.{Sled}
-use Rattle.xray_image.specs.Program.{Program, IsAccepted}
-use Rattle.machine_step.specs.declared.limits.Limits.{Limits}
+use Rattle.xray_image.specs.Program.{Program}
 use Rattle.machine_step.specs.declared.end.End.{End}
 use Rattle.machine_step.specs.declared.cpu.Cpu.TheInside.{Inside}
-use Rattle.machine_step.specs.declared.machine.Machine.{Machine}
-use Rattle.machine_step.specs.declared.stage.Stage.{Stage}
-use Rattle.machine_step.specs.declared.stage.Stage.TheVariants as stages
-use Rattle.machine_step.specs.PlainStep.{State, Next, Passing, PlainStep, PlainRun, opening, passing_at}
-use Rattle.machine_step.specs.Course.{ComesTo, Reaches}
-use Rattle.machine_step.specs.Inside.{traced, want_at, IsAtPassing, IsPastEnd, IsSound}
-use Rattle.machine_step.specs.Loads.{Load, is_held_at, marks_of, next_load}
-use Rattle.machine_step.specs.Machine.{state_at, IsWithin}
+use Rattle.machine_step.specs.PlainStep.{State, Passing, PlainRun, passing_at}
+use Rattle.machine_step.specs.Course.{ComesTo}
+use Rattle.machine_step.specs.Inside.{traced, IsAtPassing, IsPastEnd, IsSound}
+use Rattle.machine_step.specs.Loads.{is_held_at}
+use Rattle.machine_step.specs.Machine.{state_at}
 use Rattle.machine_step.specs.Stages.{word_at, first_stage, stage_by}
-use Rattle.machine_step.specs.Standing.{due_sled, IsAtSled}
-use Rattle.machine_step.specs.Steps.{IsStepAt}
-use Rattle.machine_step.specs.Traced.{Traced, IsBeforePassing, IsAtEnd, BeginsPassing, HasLoaded, sleds_of, wanted_behind, first_word}
+use Rattle.machine_step.specs.Traced.{IsBeforePassing, IsAtEnd, BeginsPassing, sleds_of, first_word}
 use Rattle.machine_step.specs.Traced.{state_at as traced_at}
 use Rattle.machine_step.proofs.Accepted.{are_in_order}
 use Rattle.machine_step.proofs.OneUnit.{accepted_units}
-use Rattle.machine_step.proofs.OneEnd.{same_step, same_run}
+use Rattle.machine_step.proofs.OneEnd.{same_step}
 use Rattle.machine_step.proofs.OnCourse.{GoesOnBy, next_of_run}
 use Rattle.machine_step.proofs.ToSled.{at_passing}
 

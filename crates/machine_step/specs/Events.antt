@@ -1,5 +1,5 @@
 -- The events that a thread records.
-use Rattle.std.specs.Prelude.{ℕ, List, [], ◌∷◌, map, filter, Option, Some, None}
+use Rattle.std.specs.Prelude.{List, [], ◌∷◌, map, filter, Option, Some, None}
 use Rattle.std.specs.List.{zip}
 use Rattle.fdr_record.specs.declared.event.Event.{Event}
 use Rattle.fdr_record.specs.declared.event.Kind.{Kind}

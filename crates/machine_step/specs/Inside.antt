@@ -1,5 +1,5 @@
 -- What the fields of a `Cpu` tell, and what holds of them.
-use Rattle.std.specs.Prelude.{◌≡◌, ◌<◌, ◌≤◌, ℕ, List, length, Option, Some, None}
+use Rattle.std.specs.Prelude.{◌≡◌, ◌<◌, ◌≤◌, ℕ, List, length, Option, Some}
 use Rattle.xray_image.specs.Program.{Program, IsAccepted}
 use Rattle.machine_step.specs.declared.cpu.Cpu.TheInside.{Inside}
 use Rattle.machine_step.specs.declared.end.End.{End}
@@ -9,7 +9,7 @@ use Rattle.machine_step.specs.declared.stand.Stand.{Stand}
 use Rattle.machine_step.specs.declared.stand.Stand.TheVariants.{Gate, Loading, Ended}
 use Rattle.machine_step.specs.declared.want.Want.{Want}
 use Rattle.machine_step.specs.declared.want.Want.TheVariants as wants
-use Rattle.machine_step.specs.PlainStep.{State, Passing, PlainRun}
+use Rattle.machine_step.specs.PlainStep.{Passing, PlainRun}
 use Rattle.machine_step.specs.Course.{ComesTo}
 use Rattle.machine_step.specs.Machine.{state_at, IsWithin}
 use Rattle.machine_step.specs.Stages.{word_at}

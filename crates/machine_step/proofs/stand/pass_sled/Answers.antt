@@ -1,4 +1,4 @@
-use Rattle.std.proofs.Common.{length, arith}
+use Rattle.std.proofs.Common.{arith}
 use Rattle.machine_step.proofs.Accepted.{are_in_order}
 use Rattle.machine_step.proofs.Passing.{passes_by, on_to, on_back, on_end}
 use Rattle.machine_step.proofs.Places.{place_within}

@@ -1,4 +1,4 @@
-use Rattle.std.proofs.Common.{◌++◌, [], sym, subst, refl, rules}
+use Rattle.std.proofs.Common.{[], subst, refl, rules}
 use Rattle.std.proofs.lemmas.List.{append-nil}
 use Rattle.std.proofs.lemmas.Result.{on_ok_weaker, on_err_weaker}
 use Rattle.xray_io.specs.Text.{sink_of, Gains, Breaks}

@@ -1,4 +1,4 @@
-use Rattle.std.proofs.Common.{◌≡◌, ◌<◌, ◌++◌, ℕ, List, Option, Some, None, refl, sym, subst, arith}
+use Rattle.std.proofs.Common.{◌≡◌, ◌<◌, ◌++◌, List, Option, None, refl, sym, subst, arith}
 use Rattle.std.specs.Prelude.{◌↔◌, IsSome}
 use Rattle.fdr_record.specs.declared.event.Event.{Event}
 use Rattle.sled_words.specs.Words.{state_word}
