@@ -4,6 +4,17 @@ pub mod OneEnd
 pub mod OutputText
 pub mod Places
 pub mod PlainText
+pub mod Loading
+pub mod OnCourse
+pub mod ToSled
+pub mod Passing
+pub mod WordsAt
+pub mod FewSleds
+pub mod Tracing
+pub mod Opening
+pub mod Giving
+pub mod LoadFacts
+pub mod GiveClauses
 pub mod Runs
 pub mod SomeEnd
 pub mod Stepping

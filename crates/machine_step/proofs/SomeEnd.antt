@@ -48,7 +48,7 @@ what_step : (program : Program) (address : ℕ) (what : What)
     → (step : Step) × IsStepOf program address what step
 what_step program address (whats.Plain instr) sleds = instruction_step program.units (address + length (spelling instr)) instr
 what_step program address (whats.Sled k) sleds =
-    let sled = sleds k refl in (step_of_sled sled.0.kind, (sled.0, sled.1, refl))
+    let sled = sleds k refl in (step_of_sled k sled.0.kind, (sled.0, sled.1, refl))
 what_step program address whats.Pad sleds = (steps.Pad, refl)
 
 -- the sled of each number that units name
@@ -157,8 +157,8 @@ step_within limits place m steps.Ret within =
 step_within limits place m steps.Out within =
     fuelled_within limits m (acting limits place m steps.Out) within
     (putting_within limits (place + 1) m within)
-step_within limits place m steps.Passing within = passing_within limits m (staying (place + 1)) within (λ after is. is)
-step_within limits place m steps.Leaving within = passing_within limits m (leaving limits) within
+step_within limits place m (steps.Passing sled) within = passing_within limits m (staying (place + 1)) within (λ after is. is)
+step_within limits place m (steps.Leaving sled) within = passing_within limits m (leaving limits) within
     (λ after is. fuelled_within limits after (returning after after.stack) is (returning_within limits after after.stack is))
 step_within limits place m steps.Pad within = within
 step_within limits place m steps.Nowhere within = within

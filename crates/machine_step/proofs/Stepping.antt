@@ -21,9 +21,9 @@ use Rattle.machine_step.specs.declared.step.Step.TheVariants as steps
 use Rattle.machine_step.specs.declared.step.Way.{Way}
 use Rattle.machine_step.specs.declared.step.Way.TheVariants.{To, Back, Ends as Stops}
 use Rattle.machine_step.specs.declared.machine.Machine.{Machine}
-use Rattle.machine_step.specs.PlainStep.{Next, Goes, Ends, Passing, PlainStep, UnitStep, does, pushed, popped, returns, fuelled, branched, passing_at, behind_passing, stack_limit, output_limit}
+use Rattle.machine_step.specs.PlainStep.{State, Next, Goes, Ends, Passing, PlainStep, UnitStep, does, pushed, popped, returns, fuelled, branched, passing_at, behind_passing, stack_limit, output_limit}
 use Rattle.machine_step.specs.Machine.{state_at, IsWithin, Taken, ending, staying, pushing, popping, returning, putting, leaving, stepping}
-use Rattle.machine_step.specs.Steps.{IsPlaceOf, IsStepOfInstruction, IsStepOf, IsStepAt, step_of_sled}
+use Rattle.machine_step.specs.Steps.{IsPlaceOf, IsStepOfInstruction, IsStepOf, IsStepAt, step_of_sled, sled_at}
 use Rattle.machine_step.proofs.OneEnd.{Passes}
 use Rattle.machine_step.proofs.Places.{found_contains, contains_address, found_address}
 
@@ -179,10 +179,47 @@ behind_leads units limits place address before m kinds.Exit next within fewer =
     leads_on units limits place before m _ _ _ fewer
     (fuel_leads units limits place address m _ _ (return_leads units limits place address m m.stack within))
 
+-- ---- the passings that a step makes
+
+-- at a sled: none where all are made, or else its own
+abbrev pub MadeBy : Program → Limits → ℕ → State → ℕ → Bool → List Passing → Type 0
+MadeBy program limits thread s k true made = made ≡ []
+MadeBy program limits thread s k false made =
+    (sled : Sled) × (slice_get program.sleds k ≡ Some sled) × (made ≡ passing_at limits thread s k sled ∷ [])
+
+-- elsewhere none
+abbrev pub MadeAt : Program → Limits → ℕ → State → Option ℕ → List Passing → Type 0
+MadeAt program limits thread s None made = made ≡ []
+MadeAt program limits thread s (Some k) made = MadeBy program limits thread s k (s.passings == limits.passings) made
+
+pub instruction_at_none : (units : List Unit) (behind : ℕ) (instr : Instr) (step : Step) → IsStepOfInstruction units behind instr step
+    → sled_at step ≡ None
+instruction_at_none units behind (Mov dst imm) step is = ap sled_at is
+instruction_at_none units behind (Add dst src) step is = ap sled_at is
+instruction_at_none units behind (Sub dst src) step is = ap sled_at is
+instruction_at_none units behind (Push reg) step is = ap sled_at is
+instruction_at_none units behind (Pop reg) step is = ap sled_at is
+instruction_at_none units behind (Call rel) step (target, there, is) = ap sled_at is
+instruction_at_none units behind (Jmp rel) step (target, there, is) = ap sled_at is
+instruction_at_none units behind (Jnz rel) step (target, there, is) = ap sled_at is
+instruction_at_none units behind Ret step is = ap sled_at is
+instruction_at_none units behind (Out port) step is = ap sled_at is
+
+pub sled_at_some : (k : ℕ) (kind : SledKind) → sled_at (step_of_sled k kind) ≡ Some k
+sled_at_some k kinds.Entry = refl
+sled_at_some k kinds.Exit = refl
+sled_at_some k kinds.Tail = refl
+
+made_none : (program : Program) (limits : Limits) (thread : ℕ) (s : State) (at : Option ℕ) → at ≡ None
+    → MadeAt program limits thread s at []
+made_none program limits thread s at is =
+    subst (λ (o : Option ℕ). MadeAt program limits thread s o []) (sym is) refl
+
 -- where a sled's step leads, and that it makes a passing
 pub record PassesTo (program : Program) (limits : Limits) (place address k : ℕ) (m : Machine) (spent : Bool) (taken : Taken) : Type 0 where
   pub next : Next
   pub passes : (thread : ℕ) → (made : List Passing) × Passes program limits thread (state_at address m) k spent made next
+      × MadeBy program limits thread (state_at address m) k spent made
   pub leads : Leads program.units limits place m taken next
 
 sled_leads : (program : Program) (limits : Limits) (place address k : ℕ) (m : Machine) (sled : Sled) (spent : Bool)
@@ -192,7 +229,7 @@ sled_leads : (program : Program) (limits : Limits) (place address k : ℕ) (m : 
     (if spent then ending ends.Passings m else behind_sled limits place (record m { passings = m.passings + 1 }) sled.kind)
 sled_leads program limits place address k m sled true found next within is = record {
   next = Ends ends.Passings (state_at address m);
-  passes = λ thread. ([], (refl, refl));
+  passes = λ thread. ([], (refl, refl), refl);
   leads = (address, refl);
 }
 sled_leads program limits place address k m sled false found next within is =
@@ -201,22 +238,23 @@ sled_leads program limits place address k m sled false found next within is =
     let still : IsWithin limits after = record { fuel = within.fuel; passings = omega arith } in
     record {
       next = behind_passing limits (state_at address after) sled.kind;
-      passes = λ thread. (passing_at limits thread (state_at address m) k sled ∷ [], (sled, found, refl, refl));
+      passes = λ thread. (passing_at limits thread (state_at address m) k sled ∷ [], (sled, found, refl, refl), (sled, found, refl));
       leads = behind_leads program.units limits place address m after sled.kind next still (passes limits m within some);
     }
 
 -- both forms of a sled's step are one
-stepping_sled : (limits : Limits) (place : ℕ) (m : Machine) (kind : SledKind)
+stepping_sled : (limits : Limits) (place k : ℕ) (m : Machine) (kind : SledKind)
     → (if m.passings == limits.passings then ending ends.Passings m else behind_sled limits place (record m { passings = m.passings + 1 }) kind)
-    ≡ stepping limits place m (step_of_sled kind)
-stepping_sled limits place m kinds.Entry = refl
-stepping_sled limits place m kinds.Tail = refl
-stepping_sled limits place m kinds.Exit = refl
+    ≡ stepping limits place m (step_of_sled k kind)
+stepping_sled limits place k m kinds.Entry = refl
+stepping_sled limits place k m kinds.Tail = refl
+stepping_sled limits place k m kinds.Exit = refl
 
 -- the step of a unit at an address, and that of the machine
 pub record UnitSteps (program : Program) (limits : Limits) (place address : ℕ) (m : Machine) (what : What) (step : Step) : Type 0 where
   pub next : Next
   pub plain : (thread : ℕ) → (made : List Passing) × UnitStep program limits thread (state_at address m) what made next
+      × MadeAt program limits thread (state_at address m) (sled_at step) made
   pub leads : Leads program.units limits place m (stepping limits place m step) next
 
 unit_steps : (program : Program) (limits : Limits) (place address : ℕ) (m : Machine) (what : What) (step : Step)
@@ -224,20 +262,23 @@ unit_steps : (program : Program) (limits : Limits) (place address : ℕ) (m : Ma
     → UnitSteps program limits place address m what step
 unit_steps program limits place address m (whats.Plain instr) step next within is = record {
   next = fuelled limits (state_at address m) (does (state_at address m) (address + length (spelling instr)) instr);
-  plain = λ thread. ([], (refl, refl));
+  plain = λ thread. ([], (refl, refl), made_none program limits thread (state_at address m) (sled_at step)
+      (instruction_at_none program.units (address + length (spelling instr)) instr step is));
   leads = instruction_leads program.units limits place (address + length (spelling instr)) address m instr step next within is;
 }
 unit_steps program limits place address m (whats.Sled k) step next within (sled, found, is) =
     let passes = sled_leads program limits place address k m sled (m.passings == limits.passings) found next within refl in
     record {
       next = passes.next;
-      plain = passes.passes;
+      plain = λ thread. let made = passes.passes thread in (made.0, made.1,
+          subst (λ (o : Option ℕ). MadeAt program limits thread (state_at address m) o made.0)
+          (sym (ap sled_at is ∙ sled_at_some k sled.kind)) made.2);
       leads = subst (λ (t : Taken). Leads program.units limits place m t passes.next)
-          (stepping_sled limits place m sled.kind ∙ ap (stepping limits place m) (sym is)) passes.leads;
+          (stepping_sled limits place k m sled.kind ∙ ap (stepping limits place m) (sym is)) passes.leads;
     }
 unit_steps program limits place address m whats.Pad step next within is = record {
   next = Goes (state_at (address + 1) m);
-  plain = λ thread. ([], (refl, refl));
+  plain = λ thread. ([], (refl, refl), made_none program limits thread (state_at address m) (sled_at step) (ap sled_at is));
   leads = by_step program.units limits place m step steps.Pad _ is (address + 1, next, refl, inr (refl, refl));
 }
 
@@ -245,6 +286,7 @@ unit_steps program limits place address m whats.Pad step next within is = record
 pub record StepsTo (program : Program) (limits : Limits) (place address : ℕ) (m : Machine) (step : Step) : Type 0 where
   pub next : Next
   pub plain : (thread : ℕ) → (made : List Passing) × PlainStep program limits thread (state_at address m) made next
+      × MadeAt program limits thread (state_at address m) (sled_at step) made
   pub leads : Leads program.units limits place m (stepping limits place m step) next
 
 -- the place behind a unit is that of the address behind it
@@ -261,7 +303,7 @@ step_at_unit program ordered limits place m u step found is within =
     let steps = unit_steps program limits place u.address m u.what step (ordered.behind place u found) within of in
     record {
       next = steps.next;
-      plain = λ thread. ((steps.plain thread).0, inr (u, found_contains program.units place u found, refl, (steps.plain thread).1));
+      plain = λ thread. ((steps.plain thread).0, inr (u, found_contains program.units place u found, refl, (steps.plain thread).1), (steps.plain thread).2);
       leads = steps.leads;
     }
 
@@ -270,7 +312,8 @@ step_nowhere : (program : Program) (limits : Limits) (place address : ℕ) (m : 
     → StepsTo program limits place address m step
 step_nowhere program limits place address m step none is = record {
   next = Ends ends.BadTarget (state_at address m);
-  plain = λ thread. ([], inl (λ u among at. none (subst (λ a. Contains (addresses program.units) a) at (contains_address program.units u among)), refl, refl));
+  plain = λ thread. ([], inl (λ u among at. none (subst (λ a. Contains (addresses program.units) a) at (contains_address program.units u among)), refl, refl),
+      made_none program limits thread (state_at address m) (sled_at step) (ap sled_at is));
   leads = by_step program.units limits place m step steps.Nowhere _ is (address, refl);
 }
 

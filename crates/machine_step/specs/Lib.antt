@@ -1,8 +1,14 @@
 pub mod PlainStep
+pub mod Course
 pub mod PlainEnd
 pub mod Loads
 pub mod ReadAlong
+pub mod Events
+pub mod Traced
 pub mod Whole
 pub mod Texts
 pub mod Machine
 pub mod Steps
+pub mod Stages
+pub mod Standing
+pub mod Inside

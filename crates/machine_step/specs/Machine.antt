@@ -111,8 +111,8 @@ acting limits place m (steps.Jmp target) = going target m
 acting limits place m (steps.Jnz target) = going (if m.zero_flag then place + 1 else target) m
 acting limits place m steps.Ret = returning m m.stack
 acting limits place m steps.Out = putting (place + 1) m
-acting limits place m steps.Passing = passing limits m (staying (place + 1))
-acting limits place m steps.Leaving = passing limits m (leaving limits)
+acting limits place m (steps.Passing sled) = passing limits m (staying (place + 1))
+acting limits place m (steps.Leaving sled) = passing limits m (leaving limits)
 acting limits place m steps.Pad = staying (place + 1) m
 acting limits place m steps.Nowhere = ending ends.BadTarget m
 

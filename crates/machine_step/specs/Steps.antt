@@ -1,5 +1,5 @@
 -- The steps that stand for a program's units, for the contracts of private functions.
-use Rattle.std.specs.Prelude.{◌≡◌, ◌+◌, ◌⊎◌, ℕ, Bool, true, false, List, length, Some, slice_get, Contains, MatchOption}
+use Rattle.std.specs.Prelude.{◌≡◌, ◌+◌, ◌⊎◌, ℕ, Bool, true, false, List, length, Option, Some, None, slice_get, Contains, MatchOption}
 use Rattle.subset_decode.specs.declared.instr.Instr.{Instr}
 use Rattle.subset_decode.specs.declared.instr.Instr.TheVariants.{Mov, Add, Sub, Push, Pop, Call, Jmp, Jnz, Ret, Out}
 use Rattle.subset_decode.specs.Encoding.{spelling}
@@ -36,18 +36,18 @@ IsStepOfInstruction units behind (Jnz rel) step =
 IsStepOfInstruction units behind Ret step = step ≡ steps.Ret
 IsStepOfInstruction units behind (Out port) step = step ≡ steps.Out
 
--- the step of a sled
-abbrev pub step_of_sled : SledKind → Step
-step_of_sled kinds.Entry = steps.Passing
-step_of_sled kinds.Exit = steps.Leaving
-step_of_sled kinds.Tail = steps.Passing
+-- the step of a sled, by its number and its kind
+abbrev pub step_of_sled : ℕ → SledKind → Step
+step_of_sled k kinds.Entry = steps.Passing k
+step_of_sled k kinds.Exit = steps.Leaving k
+step_of_sled k kinds.Tail = steps.Passing k
 
 -- the step of what stands at an address
 abbrev pub IsStepOf : Program → ℕ → What → Step → Type 0
 IsStepOf program address (whats.Plain instr) step =
     IsStepOfInstruction program.units (address + length (spelling instr)) instr step
 IsStepOf program address (whats.Sled k) step =
-    (sled : Sled) × (slice_get program.sleds k ≡ Some sled) × (step ≡ step_of_sled sled.kind)
+    (sled : Sled) × (slice_get program.sleds k ≡ Some sled) × (step ≡ step_of_sled k sled.kind)
 IsStepOf program address whats.Pad step = step ≡ steps.Pad
 
 -- the step at a place: of the unit with this number, or none behind the last
@@ -72,7 +72,24 @@ wants_fuel (steps.Jmp target) = true
 wants_fuel (steps.Jnz target) = true
 wants_fuel steps.Ret = true
 wants_fuel steps.Out = true
-wants_fuel steps.Passing = false
-wants_fuel steps.Leaving = false
+wants_fuel (steps.Passing sled) = false
+wants_fuel (steps.Leaving sled) = false
 wants_fuel steps.Pad = false
 wants_fuel steps.Nowhere = false
+
+-- the number of the sled that a step passes
+abbrev pub sled_at : Step → Option ℕ
+sled_at (steps.Mov dst imm) = None
+sled_at (steps.Add dst src) = None
+sled_at (steps.Sub dst src) = None
+sled_at (steps.Push reg) = None
+sled_at (steps.Pop reg) = None
+sled_at (steps.Call target back) = None
+sled_at (steps.Jmp target) = None
+sled_at (steps.Jnz target) = None
+sled_at steps.Ret = None
+sled_at steps.Out = None
+sled_at (steps.Passing sled) = Some sled
+sled_at (steps.Leaving sled) = Some sled
+sled_at steps.Pad = None
+sled_at steps.Nowhere = None

@@ -1,6 +1,8 @@
 //! The machine: what a thread does, step by step.
 #![tactic(auto)]
 
+mod allowed;
+mod cpu;
 mod end;
 mod laws;
 mod limits;
@@ -10,10 +12,16 @@ mod plain_end;
 mod plain_text;
 mod registers;
 mod running;
+mod setup;
 mod stack;
+mod stage;
+mod stamp;
+mod stand;
 mod step;
 mod steps;
+mod want;
 
+pub use cpu::Cpu;
 pub use end::End;
 pub use laws::{allowed_loads_are_whole, one_end, some_end, what_is_read_along_is_allowed};
 pub use limits::Limits;
@@ -21,6 +29,8 @@ pub use plain_end::PlainEnd;
 pub use plain_text::write_plain;
 pub use registers::REGISTERS;
 pub use running::plain_run;
+pub use setup::Setup;
+pub use want::Want;
 
 #[cfg(test)]
 mod tests;

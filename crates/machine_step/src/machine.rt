@@ -105,8 +105,8 @@ impl Machine {
             }
             Step::Ret => self.go_back(),
             Step::Out => self.put(place + 1),
-            Step::Passing => self.pass(place + 1, limits),
-            Step::Leaving => self.leave(limits),
+            Step::Passing { .. } => self.pass(place + 1, limits),
+            Step::Leaving { .. } => self.leave(limits),
             Step::Pad => Way::To(place + 1),
             Step::Nowhere => Way::Ends(End::BadTarget),
         }

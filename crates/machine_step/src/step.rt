@@ -1,7 +1,7 @@
 //! The units of an image as the machine takes them: with all that its steps need at hand.
 
 ghost use Rattle.std.specs.Prelude.{◌≡◌};
-ghost use Rattle.machine_step.specs.Steps.{wants_fuel};
+ghost use Rattle.machine_step.specs.Steps.{sled_at, wants_fuel};
 
 use crate::end::End;
 use subset_decode::Reg;
@@ -21,10 +21,10 @@ pub(crate) enum Step {
     Jnz { target: u32 },
     Ret,
     Out,
-    /// A sled that does nothing: of an entry or before a tail jump.
-    Passing,
-    /// A sled that returns: of an exit.
-    Leaving,
+    /// A sled that does nothing: of an entry or before a tail jump. `sled` is its number in the map.
+    Passing { sled: u32 },
+    /// A sled that returns: of an exit. `sled` is its number in the map.
+    Leaving { sled: u32 },
     /// The alignment byte.
     Pad,
     /// No unit: the place of all addresses at which no unit begins.
@@ -40,8 +40,19 @@ impl Step {
     {
         !matches!(
             *self,
-            Step::Passing | Step::Leaving | Step::Pad | Step::Nowhere
+            Step::Passing { .. } | Step::Leaving { .. } | Step::Pad | Step::Nowhere
         )
+    }
+
+    /// The number of the sled, where it is one.
+    #[inline]
+    pub(crate) fn sled(&self) -> Option<u32>
+        ensures { result ≡ sled_at self.now }
+    {
+        match *self {
+            Step::Passing { sled } | Step::Leaving { sled } => Some(sled),
+            _ => None,
+        }
     }
 }
 

@@ -88,13 +88,13 @@ fn step_of_instruction(image: &Image, behind: u64, instr: Instr) -> Step
     }
 }
 
-/// The step of a sled.
-fn step_of_sled(kind: SledKind) -> Step
-    ensures { result ≡ step_of_sled kind }
+/// The step of the sled of a number, which is of this kind.
+fn step_of_sled(sled: u32, kind: SledKind) -> Step
+    ensures { result ≡ step_of_sled sled kind }
 {
     match kind {
-        SledKind::Entry | SledKind::Tail => Step::Passing,
-        SledKind::Exit => Step::Leaving,
+        SledKind::Entry | SledKind::Tail => Step::Passing { sled },
+        SledKind::Exit => Step::Leaving { sled },
     }
 }
 
@@ -122,7 +122,7 @@ fn step_of(image: &Image, unit: Unit) -> Step
         }
         What::Sled(k) => {
             let sled = image.sled(k);
-            step_of_sled(sled.kind)
+            step_of_sled(k, sled.kind)
         }
         What::Pad => Step::Pad,
     }

@@ -1,0 +1,114 @@
+-- What giving a value to a traced thread leaves, as the contract says it.
+use Rattle.std.proofs.Common.{◌≡◌, ◌==◌, ℕ, Bool, true, false, List, [], ◌∷◌, ◌++◌, length, Option, Some, None, refl, sym, ap, ◌∙◌, subst, arith}
+use Rattle.std.specs.Prelude.{if◌then◌else◌, slice_get}
+use Rattle.fdr_record.specs.declared.event.Event.{Event}
+use Rattle.xray_image.specs.declared.sled.Sled.{Sled}
+use Rattle.sled_words.specs.Parts.{patched_head}
+use Rattle.sled_words.specs.Allowed.{IsAllowed}
+use Rattle.handler_word.specs.declared.mark.Mark.{Mark}
+use Rattle.handler_word.specs.declared.mark.Mark.TheVariants as marks
+use Rattle.handler_word.specs.MarkList.{MarkList, is_recorded}
+use Rattle.machine_step.specs.declared.cpu.Cpu.TheInside.{Inside}
+use Rattle.machine_step.specs.declared.end.End.{End}
+use Rattle.machine_step.specs.declared.machine.Machine.{Machine}
+use Rattle.machine_step.specs.declared.stage.Next.TheVariants.{Loads, Ends}
+use Rattle.machine_step.specs.declared.stage.Stage.{Stage}
+use Rattle.machine_step.specs.declared.stage.Stage.TheVariants as stages
+use Rattle.machine_step.specs.declared.stand.Stand.{Stand}
+use Rattle.machine_step.specs.declared.stand.Stand.TheVariants.{Gate, Loading, Ended}
+use Rattle.machine_step.specs.declared.want.Want.{Want}
+use Rattle.machine_step.specs.Events.{event_of, events_in, recorded}
+use Rattle.machine_step.specs.Inside.{traced, want_at, IsAtPassing, IsSound, IsStageOf, StandsSo}
+use Rattle.machine_step.specs.Loads.{Load}
+use Rattle.machine_step.specs.Machine.{state_at, IsWithin}
+use Rattle.machine_step.specs.PlainStep.{State, Passing, PlainRun, passing_at}
+use Rattle.machine_step.specs.Stages.{word_at, behind_load}
+use Rattle.machine_step.specs.Standing.{IsAtSled, PassesTo}
+use Rattle.machine_step.specs.Traced.{Traced, Allows, HasLoaded, load_of}
+use Rattle.machine_step.proofs.Giving.{Ending, IsBetween, passed_on, goes_on_loads, ends_loads, is_between}
+use Rattle.machine_step.proofs.LoadFacts.{events_more}
+use Rattle.machine_step.proofs.Opening.{loading_at, standing}
+use Rattle.machine_step.proofs.Tracing.{before_of}
+
+-- the value is allowed of the word of its stage
+allowed_here : (a : Inside) (place k : ℕ) (stage : Stage) (value : ℕ) → a.stand ≡ Loading place k stage → Allows (traced a) (traced a).want value
+    → IsAllowed a.image.now (word_at a.image.now a.thread k stage) value
+allowed_here a place k stage value is allows =
+    subst (λ (s : Stand). Allows (traced a) (want_at a.image.now a.thread a.machine.passings s) value) is allows
+
+load_here : (a : Inside) (place k : ℕ) (stage : Stage) (value : ℕ) → a.stand ≡ Loading place k stage
+    → load_of (want_at a.image.now a.thread a.machine.passings (Loading place k stage)) value ≡ load_of (traced a).want value
+load_here a place k stage value is =
+    ap (λ (s : Stand). load_of (want_at a.image.now a.thread a.machine.passings s) value) (sym is)
+
+pub clause_goes_on : (a : Inside) → IsSound a → (place k : ℕ) (stage next : Stage) (value : ℕ) → a.stand ≡ Loading place k stage
+    → behind_load stage value ≡ Loads next → Allows (traced a) (traced a).want value
+    → (all : List Passing) (loads : List Load) → HasLoaded (traced a) all loads
+    → HasLoaded (traced (standing a (Loading place k next))) all (loads ++ load_of (traced a).want value)
+clause_goes_on a sound place k stage next value is behind allows all loads has =
+    subst (λ (ls : List Load). HasLoaded (traced (standing a (Loading place k next))) all (loads ++ ls)) (load_here a place k stage value is)
+    (goes_on_loads a sound place k stage next value is behind (allowed_here a place k stage value is allows) all loads has)
+
+pub clause_ends : (a : Inside) → IsSound a → (place k : ℕ) (stage : Stage) (value : ℕ) → (is : a.stand ≡ Loading place k stage) (mark : Mark)
+    → behind_load stage value ≡ Ends mark → Allows (traced a) (traced a).want value
+    → (m : Machine) (ms : MarkList) (stand : Stand) (at : IsAtPassing a place k) → Ending a m ms stand at.address mark
+    → (all : List Passing) (loads : List Load) → HasLoaded (traced a) all loads
+    → HasLoaded (traced (passed_on a m ms stand)) all (loads ++ load_of (traced a).want value)
+clause_ends a sound place k stage value is mark behind allows m ms stand at ending all loads has =
+    subst (λ (ls : List Load). HasLoaded (traced (passed_on a m ms stand)) all (loads ++ ls)) (load_here a place k stage value is)
+    (ends_loads a sound place k stage value is mark behind (allowed_here a place k stage value is allows) m ms stand at ending all loads has)
+
+-- the passing ended so
+pub ending_of : (a : Inside) (place k : ℕ) (at : IsAtPassing a place k) (m : Machine) (ms : MarkList) (stand : Stand) (mark : Mark)
+    → IsWithin a.limits m → ms.items ≡ a.marks.items ++ mark ∷ [] → ms.room ≡ a.marks.room
+    → ((address j : ℕ) → IsAtSled a.image.now a.limits address place j a.machine → PassesTo a.image.now a.limits address a.machine stand m)
+    → Ending a m ms stand at.address mark
+ending_of a place k at m ms stand mark within items room passes =
+    let passing = passes at.address k at.at a.thread in
+    record { within = within; items = items; room = room; made = passing.0; runs = passing.1 }
+
+pub between_of : (a : Inside) (place k : ℕ) (at : IsAtPassing a place k) (m : Machine) (ms : MarkList) (stand : Stand) (mark : Mark)
+    → Ending a m ms stand at.address mark → IsBetween stand
+between_of a place k at m ms stand mark ending =
+    is_between a.image.now a.limits a.thread at.address a.machine m (ending.made ∷ []) stand ending.runs
+
+-- the events with that of the passing
+pub clause_events : (a : Inside) → IsSound a → (place k : ℕ) → IsAtPassing a place k → (ms : List Mark) (mark : Mark) (answer : Option Event) (sled : Sled)
+    → ms ≡ a.marks.items ++ mark ∷ [] → slice_get a.image.now.sleds k ≡ Some sled
+    → ((address j : ℕ) → answer ≡ (if is_recorded mark then Some (event_of (passing_at a.limits a.thread (state_at address a.machine) j sled)) else None))
+    → (all : List Passing) (end : End) (last : State) → PlainRun a.image.now a.limits a.thread all end last
+    → recorded all ms ≡ recorded all a.marks.items ++ events_in answer
+clause_events a sound place k at ms mark answer sled more found answered =
+    let before = before_of a sound place k at in
+    let same : sled ≡ before.sled = one sled before.sled (sym found ∙ before.found) in
+    events_more a sound place k at ms mark answer more (λ address j.
+    answered address j
+    ∙ ap (λ (s : Sled). if is_recorded mark then Some (event_of (passing_at a.limits a.thread (state_at address a.machine) j s)) else None) same)
+  where
+    one : (s t : Sled) → Some s ≡ Some t → s ≡ t
+    one s t is = cc
+
+-- a release word is loaded again behind a release word alone
+only_behind : (stage : Stage) (value : ℕ) → behind_load stage value ≡ Loads stages.Release → stage ≡ stages.Release
+only_behind stages.Release value behind = refl
+only_behind stages.Head value behind = by (value == patched_head) behind
+  where
+    by : (b : Bool) → (if b then Loads stages.Id else Ends marks.Skipped) ≡ Loads stages.Release → stages.Head ≡ stages.Release
+    by true is = absurd cc
+    by false is = absurd cc
+only_behind stages.Id value behind = absurd cc
+only_behind stages.Opcode value behind = absurd cc
+only_behind stages.Offset value behind = absurd cc
+only_behind stages.Handler value behind = by (value == 0) behind
+  where
+    by : (b : Bool) → (if b then Ends marks.NoHandler else Loads stages.State) ≡ Loads stages.Release → stages.Handler ≡ stages.Release
+    by true is = absurd cc
+    by false is = absurd cc
+only_behind stages.State value behind = absurd cc
+
+pub stage_behind : (hold : Option ℕ) (passing : ℕ) (stage next : Stage) (value : ℕ) → behind_load stage value ≡ Loads next
+    → IsStageOf hold passing stage → IsStageOf hold passing next
+stage_behind hold passing stage next value behind held same = held (only_behind stage value (behind ∙ ap Loads same))
+
+pub held_at : (a : Inside) → IsSound a → (place k : ℕ) (stage : Stage) → a.stand ≡ Loading place k stage → IsStageOf a.hold a.machine.passings stage
+held_at a sound place k stage is = (subst (StandsSo a) is sound.stands).1

@@ -1,0 +1,306 @@
+-- A load of a traced thread, and its passing's end.
+use Rattle.std.proofs.Common.{◌≡◌, ◌≢◌, ℕ, zero, suc, ◌+◌, ◌-◌, ◌*◌, ◌<◌, ◌≤◌, ◌==◌, Bool, true, false, List, [], ◌∷◌, ◌++◌, length, map, take, Option, Some, None, refl, sym, ap, ◌∙◌, subst, inl, inr, append-nil, append_assoc, length-append, arith}
+use Rattle.std.specs.Prelude.{◌⊎◌, ◌↔◌, if◌then◌else◌, slice_get, slice_index_or, All, IsSome, nat_le}
+use Rattle.std.proofs.lemmas.Bool.{le-leb, eqb-true}
+use Rattle.std.proofs.lemmas.List.Elements.{All-append}
+use Rattle.std.proofs.lemmas.Option.{slice_get_within}
+use Rattle.std.proofs.Math.Nat.{mul-suc}
+use Rattle.xray_image.specs.Program.{Program}
+use Rattle.sled_words.specs.Words.{state_word, release_word}
+use Rattle.sled_words.specs.Parts.{patched_head}
+use Rattle.sled_words.specs.Allowed.{IsAllowed}
+use Rattle.handler_word.specs.declared.mark.Mark.{Mark}
+use Rattle.handler_word.specs.declared.mark.Mark.TheVariants as marks
+use Rattle.handler_word.specs.MarkList.{MarkList, is_recorded}
+use Rattle.machine_step.specs.declared.limits.Limits.{Limits}
+use Rattle.machine_step.specs.declared.cpu.Cpu.TheInside.{Inside}
+use Rattle.machine_step.specs.declared.end.End.{End}
+use Rattle.machine_step.specs.declared.machine.Machine.{Machine}
+use Rattle.machine_step.specs.declared.stage.Next.{Next}
+use Rattle.machine_step.specs.declared.stage.Next.TheVariants.{Loads, Ends}
+use Rattle.machine_step.specs.declared.stage.Stage.{Stage}
+use Rattle.machine_step.specs.declared.stage.Stage.TheVariants as stages
+use Rattle.machine_step.specs.declared.stand.Stand.{Stand}
+use Rattle.machine_step.specs.declared.stand.Stand.TheVariants.{Gate, Loading, Ended}
+use Rattle.machine_step.specs.declared.want.Want.{Want}
+use Rattle.machine_step.specs.declared.want.Want.TheVariants as wants
+use Rattle.machine_step.specs.PlainStep.{State, Passing, PlainRun, opening, passing_at}
+use Rattle.machine_step.specs.Course.{ComesTo}
+use Rattle.machine_step.specs.Inside.{traced, want_at, IsAtPassing, IsPastEnd, IsSound, IsStageOf, StandsSo}
+use Rattle.machine_step.specs.Loads.{Load, marks_of, next_from, next_load}
+use Rattle.machine_step.specs.Machine.{state_at, IsWithin}
+use Rattle.machine_step.specs.Stages.{word_at, first_stage, behind_load}
+use Rattle.machine_step.specs.Standing.{RunsBy, PassesTo}
+use Rattle.machine_step.specs.Traced.{Traced, BeginsPassing, HasLoaded, IsKept, IsWant, MarksAdded, load_of, loads_left, steps_left, sleds_of, wanted_behind, first_word}
+use Rattle.machine_step.proofs.Accepted.{are_in_order}
+use Rattle.machine_step.proofs.OneUnit.{accepted_units}
+use Rattle.machine_step.proofs.OneEnd.{same_run}
+use Rattle.machine_step.proofs.Loading.{Adds, InPassing, in_passing, first_next}
+use Rattle.machine_step.proofs.OnCourse.{reaches_behind, runs_behind, way_count, run_count}
+use Rattle.machine_step.proofs.Opening.{loading_at, standing}
+use Rattle.machine_step.proofs.ToSled.{at_passing}
+use Rattle.machine_step.proofs.Tracing.{before_of, found_behind, same_split, sleds_split, sleds_length, goes_on_by, first_word_is}
+use Rattle.machine_step.proofs.WordsAt.{same_stage}
+
+-- ---- what a load adds
+
+-- in the passing that the thread is in, a load adds what it leads to
+pub record LoadsHere (a : Inside) (k : ℕ) (stage : Stage) (passed : List Passing) (next : Passing) (all : List Passing) (loads : List Load) : Type 0 where
+  pub later : List Passing
+  pub goes_on : all ≡ passed ++ next ∷ later
+  pub adds : (load : Load) → Adds a.image.now a.thread a.hold 0 k (sleds_of later) a.marks.items
+      (marks_of a.image.now a.thread a.hold (sleds_of all) (loads ++ load ∷ []))
+      (wanted_behind (traced a) all (loads ++ load ∷ [])) (behind_load stage load.value)
+
+wanted_word : (a : Inside) (place k : ℕ) (stage : Stage) → a.stand ≡ Loading place k stage → (all : List Passing) (loads : List Load)
+    → (has : HasLoaded (traced a) all loads) → wanted_behind (traced a) all loads ≡ Some (word_at a.image.now a.thread k stage)
+wanted_word a place k stage is all loads has =
+    subst (λ (s : Stand). IsWant (traced a) all (wanted_behind (traced a) all loads) has.end (want_at a.image.now a.thread a.machine.passings s)) is has.wants
+
+pub loads_here : (a : Inside) → IsSound a → (place k : ℕ) (stage : Stage) → a.stand ≡ Loading place k stage → (at : IsAtPassing a place k)
+    → (all : List Passing) (loads : List Load) → HasLoaded (traced a) all loads
+    → LoadsHere a k stage at.passed at.next all loads
+loads_here a sound place k stage is at all loads has =
+    let before = before_of a sound place k at in
+    let on = goes_on_by a sound place k at all has.end has.last has.run in
+    let here = in_passing a.image.now a.thread a.hold 0 (sleds_of all) loads (word_at a.image.now a.thread k stage) (wanted_word a place k stage is all loads has) in
+    let within = slice_get_within a.image.now.sleds k before.sled before.found in
+    let next_sled : at.next.sled ≡ k = ap (λ (p : Passing). p.sled) before.next_is in
+    let long : length here.before ≡ length (sleds_of at.passed) =
+    here.count ∙ (sym (ap length has.marks) ∙ (sound.made ∙ (sym at.count ∙ sym (sleds_length at.passed)))) in
+    let split = same_split here.before (sleds_of at.passed) here.sled at.next.sled here.rest (sleds_of on.later) long
+    (sym here.passed ∙ (ap sleds_of on.is ∙ sleds_split at.passed at.next on.later)) in
+    let sled : here.sled ≡ k = split.0 ∙ next_sled in
+    let same : stage ≡ here.at = same_stage a.image.now a.thread k stage here.at within sound.some_thread
+    (here.word_is ∙ ap (λ j. word_at a.image.now a.thread j here.at) sled) in
+    record {
+      later = on.later;
+      goes_on = on.is;
+      adds = λ load.
+          let all_marks = marks_of a.image.now a.thread a.hold (sleds_of all) (loads ++ load ∷ []) in
+          let wanted = wanted_behind (traced a) all (loads ++ load ∷ []) in
+          subst (λ (s : Stage). Adds a.image.now a.thread a.hold 0 k (sleds_of on.later) a.marks.items all_marks wanted (behind_load s load.value)) (sym same)
+          (subst (λ j. Adds a.image.now a.thread a.hold 0 j (sleds_of on.later) a.marks.items all_marks wanted (behind_load here.at load.value)) sled
+          (subst (λ (ks : List ℕ). Adds a.image.now a.thread a.hold 0 here.sled ks a.marks.items all_marks wanted (behind_load here.at load.value)) split.1
+          (subst (λ (ms : List Mark). Adds a.image.now a.thread a.hold 0 here.sled here.rest ms all_marks wanted (behind_load here.at load.value)) (sym has.marks)
+          (here.adds load))));
+    }
+
+-- ---- the loads with one more
+
+got_more : {X : Type 0} (xs : List X) (x : X) (i : ℕ) (y : X) → slice_get (xs ++ x ∷ []) i ≡ Some y
+    → ((slice_get xs i ≡ Some y) × (take i (xs ++ x ∷ []) ≡ take i xs)) ⊎ ((x ≡ y) × (take i (xs ++ x ∷ []) ≡ xs))
+got_more [] x zero y found = inr (cc, refl)
+got_more [] x (suc i) y found = absurd cc
+got_more (first ∷ xs) x zero y found = inl (found, refl)
+got_more {X} (first ∷ xs) x (suc i) y found = later (got_more xs x i y found)
+  where
+    later : ((slice_get xs i ≡ Some y) × (take i (xs ++ x ∷ []) ≡ take i xs)) ⊎ ((x ≡ y) × (take i (xs ++ x ∷ []) ≡ xs))
+        → ((slice_get (first ∷ xs) (suc i) ≡ Some y) × (take (suc i) (first ∷ xs ++ x ∷ []) ≡ take (suc i) (first ∷ xs)))
+        ⊎ ((x ≡ y) × (take (suc i) (first ∷ xs ++ x ∷ []) ≡ first ∷ xs))
+    later (inl (before, same)) = inl (before, ap (λ (zs : List X). first ∷ zs) same)
+    later (inr (last, same)) = inr (last, ap (λ (zs : List X). first ∷ zs) same)
+
+wanted_more : (t : Traced) (all : List Passing) (loads : List Load) (load : Load)
+    → ((i : ℕ) (l : Load) → slice_get loads i ≡ Some l → wanted_behind t all (take i loads) ≡ Some l.word)
+    → wanted_behind t all loads ≡ Some load.word
+    → (i : ℕ) (l : Load) → slice_get (loads ++ load ∷ []) i ≡ Some l → wanted_behind t all (take i (loads ++ load ∷ [])) ≡ Some l.word
+wanted_more t all loads load wanted next i l found = by (got_more loads load i l found)
+  where
+    by : ((slice_get loads i ≡ Some l) × (take i (loads ++ load ∷ []) ≡ take i loads)) ⊎ ((load ≡ l) × (take i (loads ++ load ∷ []) ≡ loads))
+        → wanted_behind t all (take i (loads ++ load ∷ [])) ≡ Some l.word
+    by (inl (before, same)) = ap (wanted_behind t all) same ∙ wanted i l before
+    by (inr (last, same)) = ap (wanted_behind t all) same ∙ (next ∙ ap (λ (x : Load). Some x.word) last)
+
+all_one : {X : Type 0} (P : X → Type 0) (x : X) → P x → All P (x ∷ [])
+all_one P x p zero d below = p
+all_one P x p (suc k) d below = absurd (omega arith)
+
+allowed_more : (program : Program) (loads : List Load) (load : Load) → All (λ (l : Load). IsAllowed program l.word l.value) loads
+    → IsAllowed program load.word load.value → All (λ (l : Load). IsAllowed program l.word l.value) (loads ++ load ∷ [])
+allowed_more program loads load allowed is =
+    All-append (λ (l : Load). IsAllowed program l.word l.value) loads (load ∷ []) allowed
+    (all_one (λ (l : Load). IsAllowed program l.word l.value) load is)
+
+-- ---- a passing that goes on
+
+pub goes_on_loads : (a : Inside) → IsSound a → (place k : ℕ) (stage next : Stage) (value : ℕ) → a.stand ≡ Loading place k stage
+    → behind_load stage value ≡ Loads next → IsAllowed a.image.now (word_at a.image.now a.thread k stage) value
+    → (all : List Passing) (loads : List Load) → HasLoaded (traced a) all loads
+    → HasLoaded (traced (standing a (Loading place k next))) all (loads ++ record { word = word_at a.image.now a.thread k stage; value = value } ∷ [])
+goes_on_loads a sound place k stage next value is behind allowed all loads has =
+    let at = loading_at a sound place k stage is in
+    let load : Load = record { word = word_at a.image.now a.thread k stage; value = value } in
+    let here = loads_here a sound place k stage is at all loads has in
+    let adds = subst (λ (n : Next). Adds a.image.now a.thread a.hold 0 k (sleds_of here.later) a.marks.items
+    (marks_of a.image.now a.thread a.hold (sleds_of all) (loads ++ load ∷ [])) (wanted_behind (traced a) all (loads ++ load ∷ [])) n) behind (here.adds load) in
+    record {
+      end = has.end;
+      last = has.last;
+      run = has.run;
+      wanted = wanted_more (traced a) all loads load has.wanted (wanted_word a place k stage is all loads has);
+      allowed = allowed_more a.image.now loads load has.allowed allowed;
+      marks = sym adds.0;
+      wants = adds.1;
+    }
+
+-- ---- a passing that ends
+
+-- its fields behind the passing
+abbrev pub passed_on : Inside → Machine → MarkList → Stand → Inside
+passed_on a m ms stand = record a { machine = m; marks = ms; stand = stand }
+
+-- how the passing ended
+pub record Ending (a : Inside) (m : Machine) (ms : MarkList) (stand : Stand) (address : ℕ) (mark : Mark) : Type 0 where
+  pub within : IsWithin a.limits m
+  pub items : ms.items ≡ a.marks.items ++ mark ∷ []
+  pub room : ms.room ≡ a.marks.room
+  pub made : Passing
+  pub runs : RunsBy a.image.now a.limits a.thread address a.machine (made ∷ []) stand m
+
+stands_behind : (a : Inside) → IsSound a → (place k : ℕ) (at : IsAtPassing a place k) (m : Machine) (ms : MarkList) (made : Passing)
+    → IsWithin a.limits m → (whole stand : Stand) → RunsBy a.image.now a.limits a.thread at.address a.machine (made ∷ []) stand m
+    → StandsSo (passed_on a m ms whole) stand × (m.passings ≡ a.machine.passings + 1)
+stands_behind a sound place k at m ms made within whole (Gate place' k') (there, at', (n, reached)) =
+    let program = a.image.now in
+    let way = reaches_behind program a.limits a.thread at.comes.steps n (opening program a.thread) (state_at at.address a.machine) (state_at there m)
+    at.passed (made ∷ []) at.comes.reached reached in
+    let count : m.passings ≡ 0 + length (at.passed ++ made ∷ []) =
+    way_count program a.limits a.thread way.0 (opening program a.thread) (state_at there m) (at.passed ++ made ∷ []) way.1 in
+    let long = length-append at.passed (made ∷ []) in
+    let next = at_passing program (are_in_order sound.bytes program sound.accepted) a.limits a.thread there place' k' m at'.step within
+    at'.placed at'.is_step at'.due in
+    (
+      record {
+        address = there;
+        at = at';
+        passed = at.passed ++ made ∷ [];
+        next = passing_at a.limits a.thread (state_at there m) k' next.sled;
+        count = omega (arith);
+        comes = record { steps = way.0; reached = way.1; behind = next.next; passes = next.passes };
+      },
+      omega (arith, at.count),
+    )
+stands_behind a sound place k at m ms made within whole (Loading place' k' stage) run = absurd run
+stands_behind a sound place k at m ms made within whole (Ended end) (there, (n, run)) =
+    let program = a.image.now in
+    let way = runs_behind program a.limits a.thread at.comes.steps n (opening program a.thread) (state_at at.address a.machine) (state_at there m)
+    at.passed (made ∷ []) end at.comes.reached run in
+    let count : m.passings ≡ 0 + length (at.passed ++ made ∷ []) =
+    run_count program a.limits a.thread way.0 (opening program a.thread) (state_at there m) (at.passed ++ made ∷ []) end way.1 in
+    let long = length-append at.passed (made ∷ []) in
+    (
+      record {
+        address = there;
+        passed = at.passed ++ made ∷ [];
+        count = omega (arith);
+        run = way;
+      },
+      omega (arith, at.count),
+    )
+
+pub sound_behind : (a : Inside) → IsSound a → (place k : ℕ) (at : IsAtPassing a place k) (m : Machine) (ms : MarkList) (stand : Stand) (mark : Mark)
+    → Ending a m ms stand at.address mark → IsSound (passed_on a m ms stand)
+sound_behind a sound place k at m ms stand mark ending =
+    let stands = stands_behind a sound place k at m ms ending.made ending.within stand stand ending.runs in
+    let long : length ms.items ≡ length a.marks.items + 1 = ap length ending.items ∙ length-append a.marks.items (mark ∷ []) in
+    record {
+      bytes = sound.bytes;
+      accepted = sound.accepted;
+      steps = sound.steps;
+      within = ending.within;
+      cpus = sound.cpus;
+      migrate = sound.migrate;
+      some_thread = sound.some_thread;
+      no_more = sound.no_more;
+      few = sound.few;
+      room = ending.room ∙ sound.room;
+      made = omega (arith, stands.1, sound.made);
+      stands = stands.0;
+    }
+
+-- what stands behind the first list and one more is the rest of the other
+split_next : {X : Type 0} (xs ys : List X) (x y : X) (xs' ys' : List X) → length ys ≡ length xs + 1 → xs ++ x ∷ xs' ≡ ys ++ y ∷ ys'
+    → xs' ≡ y ∷ ys'
+split_next [] [] x y xs' ys' long same = absurd (omega arith)
+split_next [] (first ∷ []) x y xs' ys' long same = cc
+split_next [] (first ∷ second ∷ ys) x y xs' ys' long same = absurd (omega arith)
+split_next (first ∷ xs) [] x y xs' ys' long same = absurd (omega arith)
+split_next (first ∷ xs) (other ∷ ys) x y xs' ys' long same =
+    let rest : xs ++ x ∷ xs' ≡ ys ++ y ∷ ys' = cc in split_next xs ys x y xs' ys' (omega arith) rest
+
+no_more : {X : Type 0} (xs : List X) → length xs ≡ 0 → xs ≡ []
+no_more [] long = refl
+no_more (x ∷ xs) long = absurd (omega arith)
+
+-- behind a passing the thread stands before another, or has ended
+abbrev pub IsBetween : Stand → Type 0
+IsBetween (Gate place k) = Unit {0}
+IsBetween (Loading place k at) = ⊥
+IsBetween (Ended end) = Unit {0}
+
+pub is_between : (program : Program) (limits : Limits) (thread address : ℕ) (before after : Machine) (passed : List Passing) (stand : Stand)
+    → RunsBy program limits thread address before passed stand after → IsBetween stand
+is_between program limits thread address before after passed (Gate place k) run = tt
+is_between program limits thread address before after passed (Loading place k at) run = run
+is_between program limits thread address before after passed (Ended end) run = tt
+
+-- what it wants there
+wants_behind : (b : Inside) → IsSound b → (passed : List Passing) (next : Passing) (later all : List Passing) (end : End) (last : State) (wanted : Option ℕ)
+    → PlainRun b.image.now b.limits b.thread all end last → all ≡ passed ++ next ∷ later → length b.marks.items ≡ length passed + 1
+    → wanted ≡ next_from b.image.now b.thread b.hold (length b.marks.items) (sleds_of later) []
+    → (stand : Stand) → StandsSo b stand → IsBetween stand
+    → IsWant (traced b) all wanted end (want_at b.image.now b.thread b.machine.passings stand)
+wants_behind b sound passed next later all end last wanted run is long wants (Gate place k) at between =
+    let on = goes_on_by b sound place k at all end last run in
+    let more : length at.passed ≡ length passed + 1 = at.count ∙ (sym sound.made ∙ long) in
+    let rest = split_next passed at.passed next at.next later on.later more (sym is ∙ on.is) in
+    let here : length b.marks.items ≡ length at.passed = sound.made ∙ sym at.count in (
+      sym sound.made,
+      record {
+        passing = at.next;
+        found = ap (slice_get all) here ∙ (ap (λ (ps : List Passing). slice_get ps (length at.passed)) on.is ∙ found_behind at.passed at.next on.later);
+        first = wants
+            ∙ (ap (λ (ps : List Passing). next_from b.image.now b.thread b.hold (length b.marks.items) (sleds_of ps) []) rest
+            ∙ (first_next b.image.now b.thread b.hold (length b.marks.items) at.next.sled (sleds_of on.later)
+            ∙ (ap (λ n. Some (word_at b.image.now b.thread at.next.sled (first_stage b.hold n))) sound.made
+            ∙ sym (ap Some (first_word_is b sound at.next.sled)))));
+      },
+    )
+wants_behind b sound passed next later all end last wanted run is long wants (Loading place k at) so between = absurd between
+wants_behind b sound passed next later all end last wanted run is long wants (Ended e) past between =
+    let same = same_run b.image.now (accepted_units sound.bytes b.image.now sound.accepted) b.limits b.thread run.0 past.run.0
+    (opening b.image.now b.thread) all past.passed end e last (state_at past.address b.machine) run.1 past.run.1 in
+    let count : length all ≡ length passed + 1 = ap length same.passings ∙ (past.count ∙ (sym sound.made ∙ long)) in
+    let both : length all ≡ length passed + length (next ∷ later) = ap length is ∙ length-append passed (next ∷ later) in
+    let none : later ≡ [] = no_more later (omega arith) in (
+      wants ∙ ap (λ (ps : List Passing). next_from b.image.now b.thread b.hold (length b.marks.items) (sleds_of ps) []) none,
+      sym same.ends,
+    )
+
+pub ends_loads : (a : Inside) → IsSound a → (place k : ℕ) (stage : Stage) (value : ℕ) (is : a.stand ≡ Loading place k stage) (mark : Mark)
+    → behind_load stage value ≡ Ends mark → IsAllowed a.image.now (word_at a.image.now a.thread k stage) value
+    → (m : Machine) (ms : MarkList) (stand : Stand) → (at : IsAtPassing a place k) → Ending a m ms stand at.address mark
+    → (all : List Passing) (loads : List Load) → HasLoaded (traced a) all loads
+    → HasLoaded (traced (passed_on a m ms stand)) all (loads ++ record { word = word_at a.image.now a.thread k stage; value = value } ∷ [])
+ends_loads a sound place k stage value is mark behind allowed m ms stand at ending all loads has =
+    let load : Load = record { word = word_at a.image.now a.thread k stage; value = value } in
+    let here = loads_here a sound place k stage is at all loads has in
+    let adds = subst (λ (n : Next). Adds a.image.now a.thread a.hold 0 k (sleds_of here.later) a.marks.items
+    (marks_of a.image.now a.thread a.hold (sleds_of all) (loads ++ load ∷ [])) (wanted_behind (traced a) all (loads ++ load ∷ [])) n) behind (here.adds load) in
+    let after = sound_behind a sound place k at m ms stand mark ending in
+    let long : length ms.items ≡ length a.marks.items + 1 = ap length ending.items ∙ length-append a.marks.items (mark ∷ []) in
+    let here_long : length a.marks.items ≡ length at.passed = sound.made ∙ sym at.count in
+    let number : 0 + length a.marks.items + 1 ≡ length ms.items = omega arith in
+    record {
+      end = has.end;
+      last = has.last;
+      run = has.run;
+      wanted = wanted_more (traced a) all loads load has.wanted (wanted_word a place k stage is all loads has);
+      allowed = allowed_more a.image.now loads load has.allowed allowed;
+      marks = ending.items ∙ sym adds.0;
+      wants = wants_behind (passed_on a m ms stand) after at.passed at.next here.later all has.end has.last
+          (wanted_behind (traced a) all (loads ++ load ∷ [])) has.run here.goes_on (omega arith)
+          (adds.1 ∙ ap (λ n. next_from a.image.now a.thread a.hold n (sleds_of here.later) []) number)
+          stand after.stands (is_between a.image.now a.limits a.thread at.address a.machine m (ending.made ∷ []) stand ending.runs);
+    }

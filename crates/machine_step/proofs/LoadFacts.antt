@@ -1,0 +1,334 @@
+-- What a value that is loaded tells: which event comes, whether it keeps the thread, and how much nearer its end is.
+use Rattle.std.proofs.Common.{◌≡◌, ◌≢◌, ℕ, zero, suc, ◌+◌, ◌-◌, ◌*◌, ◌<◌, ◌≤◌, ◌==◌, Bool, true, false, List, [], ◌∷◌, ◌++◌, length, map, filter, Option, Some, None, refl, sym, ap, ◌∙◌, subst, inl, inr, length-append, arith}
+use Rattle.std.specs.Prelude.{◌↔◌, if◌then◌else◌, slice_get, IsSome, nat_le}
+use Rattle.std.specs.List.{zip}
+use Rattle.std.proofs.lemmas.Bool.{le-leb, leb-true, eqb-true}
+use Rattle.std.proofs.lemmas.Option.{slice_get_within}
+use Rattle.std.proofs.Math.Nat.{mul-suc}
+use Rattle.fdr_record.specs.declared.event.Event.{Event}
+use Rattle.xray_image.specs.Program.{Program}
+use Rattle.sled_words.specs.Words.{state_word, release_word}
+use Rattle.sled_words.specs.Parts.{patched_head}
+use Rattle.handler_word.specs.declared.mark.Mark.{Mark}
+use Rattle.handler_word.specs.declared.mark.Mark.TheVariants as marks
+use Rattle.handler_word.specs.MarkList.{MarkList, is_recorded}
+use Rattle.machine_step.specs.declared.cpu.Cpu.TheInside.{Inside}
+use Rattle.machine_step.specs.declared.end.End.{End}
+use Rattle.machine_step.specs.declared.machine.Machine.{Machine}
+use Rattle.machine_step.specs.declared.stage.Next.{Next}
+use Rattle.machine_step.specs.declared.stage.Next.TheVariants.{Loads, Ends}
+use Rattle.machine_step.specs.declared.stage.Stage.{Stage}
+use Rattle.machine_step.specs.declared.stage.Stage.TheVariants as stages
+use Rattle.machine_step.specs.declared.stand.Stand.{Stand}
+use Rattle.machine_step.specs.declared.stand.Stand.TheVariants.{Gate, Loading, Ended}
+use Rattle.machine_step.specs.declared.want.Want.{Want}
+use Rattle.machine_step.specs.declared.want.Want.TheVariants as wants
+use Rattle.machine_step.specs.Events.{event_of, events_in, recorded}
+use Rattle.machine_step.specs.Inside.{traced, want_at, IsAtPassing, IsSound, StandsSo}
+use Rattle.machine_step.specs.Machine.{state_at}
+use Rattle.machine_step.specs.PlainStep.{State, Passing, PlainRun, passing_at}
+use Rattle.machine_step.specs.Stages.{word_at, behind_load}
+use Rattle.machine_step.specs.Traced.{Traced, IsKept, MarksAdded, loads_left, steps_left}
+use Rattle.machine_step.proofs.Giving.{Ending, IsBetween, passed_on}
+use Rattle.machine_step.proofs.Opening.{loading_at, standing}
+use Rattle.machine_step.proofs.Tracing.{before_of, goes_on_by}
+use Rattle.machine_step.proofs.WordsAt.{same_stage}
+
+-- ---- which event comes
+
+-- no passing is recorded but behind a state of 2
+loads_or_loads : (b : Bool) (x y : Stage) (mark : Mark) → (if b then Loads x else Loads y) ≡ Ends mark → ⊥
+loads_or_loads true x y mark is = cc
+loads_or_loads false x y mark is = cc
+
+loads_or_unrecorded : (b : Bool) (x : Stage) (mark other : Mark) → is_recorded other ≡ false → is_recorded mark ≡ true
+    → (if b then Loads x else Ends other) ≡ Ends mark → ⊥
+loads_or_unrecorded true x mark other not is same = cc
+loads_or_unrecorded false x mark other not is same = let marks : other ≡ mark = cc in cc (ap is_recorded marks)
+
+unrecorded_or_loads : (b : Bool) (x : Stage) (mark other : Mark) → is_recorded other ≡ false → is_recorded mark ≡ true
+    → (if b then Ends other else Loads x) ≡ Ends mark → ⊥
+unrecorded_or_loads true x mark other not is same = let marks : other ≡ mark = cc in cc (ap is_recorded marks)
+unrecorded_or_loads false x mark other not is same = cc
+
+state_is : (value : ℕ) (b : Bool) (mark : Mark) → (value == 2) ≡ b → is_recorded mark ≡ true
+    → Ends (if b then marks.Recorded else marks.NotLogging) ≡ Ends mark → value ≡ 2
+state_is value true mark is recorded same = eqb-true value 2 is
+state_is value false mark is recorded same = let marks : marks.NotLogging ≡ mark = cc in absurd (cc (ap is_recorded marks))
+
+recorded_behind : (stage : Stage) (value : ℕ) (mark : Mark) → behind_load stage value ≡ Ends mark → is_recorded mark ≡ true
+    → (stage ≡ stages.State) × (value ≡ 2)
+recorded_behind stages.Release value mark is recorded = absurd (loads_or_loads (value == 0) stages.Release stages.Head mark is)
+recorded_behind stages.Head value mark is recorded = absurd (loads_or_unrecorded (value == patched_head) stages.Id mark marks.Skipped refl recorded is)
+recorded_behind stages.Id value mark is recorded = absurd cc
+recorded_behind stages.Opcode value mark is recorded = absurd cc
+recorded_behind stages.Offset value mark is recorded = absurd cc
+recorded_behind stages.Handler value mark is recorded = absurd (unrecorded_or_loads (value == 0) stages.State mark marks.NoHandler refl recorded is)
+recorded_behind stages.State value mark is recorded = (refl, state_is value (value == 2) mark refl recorded is)
+
+-- and there it is
+recorded_at : (value : ℕ) (mark : Mark) → value ≡ 2 → behind_load stages.State value ≡ Ends mark → is_recorded mark ≡ true
+recorded_at value mark two is =
+    let at : behind_load stages.State 2 ≡ Ends mark = ap (behind_load stages.State) (sym two) ∙ is in
+    let same : marks.Recorded ≡ mark = cc in ap is_recorded (sym same)
+
+-- the stage of the state word
+at_state : (a : Inside) → IsSound a → (place k : ℕ) (stage : Stage) → a.stand ≡ Loading place k stage
+    → (traced a).want ≡ wants.Load (state_word a.image.now) → stage ≡ stages.State
+at_state a sound place k stage is wanted =
+    let before = before_of a sound place k (loading_at a sound place k stage is) in
+    let within = slice_get_within a.image.now.sleds k before.sled before.found in
+    let by_stand : want_at a.image.now a.thread a.machine.passings (Loading place k stage) ≡ wants.Load (state_word a.image.now) =
+    ap (want_at a.image.now a.thread a.machine.passings) (sym is) ∙ wanted in
+    let words : word_at a.image.now a.thread k stage ≡ state_word a.image.now = cc in
+    same_stage a.image.now a.thread k stage stages.State within sound.some_thread words
+
+wants_state : (a : Inside) (place k : ℕ) (stage : Stage) → a.stand ≡ Loading place k stage → stage ≡ stages.State
+    → (traced a).want ≡ wants.Load (state_word a.image.now)
+wants_state a place k stage is same =
+    ap (want_at a.image.now a.thread a.machine.passings) (is ∙ ap (Loading place k) same)
+
+some_if : (b : Bool) (event : Event) → IsSome (if b then Some event else None) → b ≡ true
+some_if true event is = refl
+some_if false event is = absurd cc
+
+pub some_at_end : (a : Inside) → IsSound a → (place k : ℕ) (stage : Stage) (value : ℕ) (mark : Mark) (event : Event) (answer : Option Event)
+    → a.stand ≡ Loading place k stage → behind_load stage value ≡ Ends mark → answer ≡ (if is_recorded mark then Some event else None)
+    → IsSome answer ↔ ((traced a).want ≡ wants.Load (state_word a.image.now)) × (value ≡ 2)
+some_at_end a sound place k stage value mark event answer is behind answered = (
+  λ some.
+      let here = recorded_behind stage value mark behind
+      (some_if (is_recorded mark) event (subst (λ (o : Option Event). IsSome o) answered some)) in
+      (wants_state a place k stage is here.0, here.1),
+  λ (wanted, two).
+      let at = at_state a sound place k stage is wanted in
+      let recorded = recorded_at value mark two (ap (λ (s : Stage). behind_load s value) (sym at) ∙ behind) in
+      subst (λ (o : Option Event). IsSome o) (sym (answered ∙ ap (λ b. if b then Some event else None) recorded)) refl,
+)
+
+pub some_goes_on : (a : Inside) → IsSound a → (place k : ℕ) (stage next : Stage) (value : ℕ) (answer : Option Event)
+    → a.stand ≡ Loading place k stage → behind_load stage value ≡ Loads next → answer ≡ None
+    → IsSome answer ↔ ((traced a).want ≡ wants.Load (state_word a.image.now)) × (value ≡ 2)
+some_goes_on a sound place k stage next value answer is behind none = (
+  λ some. absurd (no_event answer none some),
+  λ (wanted, two).
+      let at = at_state a sound place k stage is wanted in
+      let other : behind_load stages.State value ≡ Loads next = ap (λ (s : Stage). behind_load s value) (sym at) ∙ behind in
+      absurd cc,
+)
+  where
+    no_event : (o : Option Event) → o ≡ None → IsSome o → ⊥
+    no_event None is some = cc
+    no_event (Some e) is some = cc
+
+-- ---- the events of its passings
+
+recorded_first : (p : Passing) (passed : List Passing) (mark : Mark) (b : Bool) (ms : List Mark) → is_recorded mark ≡ b
+    → recorded (p ∷ passed) (mark ∷ ms) ≡ (if b then event_of p ∷ recorded passed ms else recorded passed ms)
+recorded_first p passed mark true ms is = rw is refl
+recorded_first p passed mark false ms is = rw is refl
+
+no_marks_recorded : (passed : List Passing) → recorded passed [] ≡ []
+no_marks_recorded [] = refl
+no_marks_recorded (p ∷ passed) = refl
+
+events_if : (b : Bool) (event : Event) → events_in (if b then Some event else None) ≡ (if b then event ∷ [] else [])
+events_if true event = refl
+events_if false event = refl
+
+if_front : (b : Bool) (event : Event) (xs ys zs : List Event) → xs ≡ ys ++ zs
+    → (if b then event ∷ xs else xs) ≡ (if b then event ∷ ys else ys) ++ zs
+if_front true event xs ys zs same = ap (λ es. event ∷ es) same
+if_front false event xs ys zs same = same
+
+if_same : (b : Bool) (event : Event) (xs : List Event) → xs ≡ [] → (if b then event ∷ xs else xs) ≡ (if b then event ∷ [] else [])
+if_same true event xs none = ap (λ es. event ∷ es) none
+if_same false event xs none = none
+
+-- one mark more adds the event of its passing, where it is recorded
+recorded_more : (passed : List Passing) (next : Passing) (later : List Passing) (ms : List Mark) (mark : Mark) → length ms ≡ length passed
+    → recorded (passed ++ next ∷ later) (ms ++ mark ∷ []) ≡ recorded (passed ++ next ∷ later) ms ++ (if is_recorded mark then event_of next ∷ [] else [])
+recorded_more [] next later [] mark long =
+    recorded_first next later mark (is_recorded mark) [] refl
+    ∙ if_same (is_recorded mark) (event_of next) (recorded later []) (no_marks_recorded later)
+recorded_more [] next later (m ∷ ms) mark long = absurd (omega arith)
+recorded_more (p ∷ passed) next later [] mark long = absurd (omega arith)
+recorded_more (p ∷ passed) next later (m ∷ ms) mark long =
+    recorded_first p (passed ++ next ∷ later) m (is_recorded m) (ms ++ mark ∷ []) refl
+    ∙ (if_front (is_recorded m) (event_of p) (recorded (passed ++ next ∷ later) (ms ++ mark ∷ [])) (recorded (passed ++ next ∷ later) ms)
+      (if is_recorded mark then event_of next ∷ [] else []) (recorded_more passed next later ms mark (omega arith))
+      ∙ sym (ap (λ es. es ++ (if is_recorded mark then event_of next ∷ [] else [])) (recorded_first p (passed ++ next ∷ later) m (is_recorded m) ms refl)))
+
+pub events_more : (a : Inside) (sound : IsSound a) (place k : ℕ) (at : IsAtPassing a place k) (ms : List Mark) (mark : Mark) (answer : Option Event)
+    → ms ≡ a.marks.items ++ mark ∷ []
+    → ((address j : ℕ) → answer ≡ (if is_recorded mark then Some (event_of (passing_at a.limits a.thread (state_at address a.machine) j (before_of a sound place k at).sled)) else None))
+    → (all : List Passing) (end : End) (last : State) → PlainRun a.image.now a.limits a.thread all end last
+    → recorded all ms ≡ recorded all a.marks.items ++ events_in answer
+events_more a sound place k at ms mark answer more answered all end last run =
+    let before = before_of a sound place k at in
+    let on = goes_on_by a sound place k at all end last run in
+    let event : Event = event_of (passing_at a.limits a.thread (state_at at.address a.machine) k before.sled) in
+    let long : length a.marks.items ≡ length at.passed = sound.made ∙ sym at.count in
+    let events : events_in answer ≡ (if is_recorded mark then event_of at.next ∷ [] else []) =
+    ap events_in (answered at.address k) ∙ (events_if (is_recorded mark) event
+    ∙ ap (λ (p : Passing). if is_recorded mark then event_of p ∷ [] else []) (sym before.next_is)) in
+    ap (recorded all) more
+    ∙ (ap (λ (ps : List Passing). recorded ps (a.marks.items ++ mark ∷ [])) on.is
+      ∙ (recorded_more at.passed at.next on.later a.marks.items mark long
+        ∙ (sym (ap (λ (ps : List Passing). recorded ps a.marks.items ++ (if is_recorded mark then event_of at.next ∷ [] else [])) on.is)
+          ∙ ap (λ es. recorded all a.marks.items ++ es) (sym events))))
+
+-- ---- the marks
+
+pub marks_added : (program : Program) (thread made : ℕ) (old new : List Mark) (mark : Mark) → new ≡ old ++ mark ∷ []
+    → (stand : Stand) → IsBetween stand → MarksAdded old new (want_at program thread made stand)
+marks_added program thread made old new mark is (Gate place k) between = (mark, is)
+marks_added program thread made old new mark is (Loading place k at) between = absurd between
+marks_added program thread made old new mark is (Ended end) between = (mark, is)
+
+-- ---- a value that keeps the thread
+
+-- it is a release word of 0
+release_at : (a : Inside) → IsSound a → (place k : ℕ) (stage : Stage) → a.stand ≡ Loading place k stage
+    → (traced a).want ≡ wants.Load (release_word a.image.now a.thread) → stage ≡ stages.Release
+release_at a sound place k stage is wanted =
+    let before = before_of a sound place k (loading_at a sound place k stage is) in
+    let within = slice_get_within a.image.now.sleds k before.sled before.found in
+    let by_stand : want_at a.image.now a.thread a.machine.passings (Loading place k stage) ≡ wants.Load (release_word a.image.now a.thread) =
+    ap (want_at a.image.now a.thread a.machine.passings) (sym is) ∙ wanted in
+    let words : word_at a.image.now a.thread k stage ≡ release_word a.image.now a.thread = cc in
+    same_stage a.image.now a.thread k stage stages.Release within sound.some_thread words
+
+pub kept_same : (a : Inside) → IsSound a → (place k : ℕ) (stage next : Stage) (value : ℕ) → a.stand ≡ Loading place k stage
+    → behind_load stage value ≡ Loads next → IsKept (traced a) value → traced (standing a (Loading place k next)) ≡ traced a
+kept_same a sound place k stage next value is behind kept =
+    let at = release_at a sound place k stage is kept.word in
+    let by_value : behind_load stages.Release 0 ≡ Loads next =
+    sym (ap (behind_load stages.Release) kept.unset) ∙ (ap (λ (s : Stage). behind_load s value) (sym at) ∙ behind) in
+    let same : stages.Release ≡ next = cc in
+    let stands : Loading place k next ≡ a.stand = ap (Loading place k) (sym same ∙ sym at) ∙ sym is in
+    ap (λ (s : Stand). traced (standing a s)) stands
+
+pub kept_not : (a : Inside) → IsSound a → (place k : ℕ) (stage : Stage) (value : ℕ) (mark : Mark) → a.stand ≡ Loading place k stage
+    → behind_load stage value ≡ Ends mark → IsKept (traced a) value → ⊥
+kept_not a sound place k stage value mark is behind kept =
+    let at = release_at a sound place k stage is kept.word in
+    let by_value : behind_load stages.Release 0 ≡ Ends mark =
+    sym (ap (behind_load stages.Release) kept.unset) ∙ (ap (λ (s : Stage). behind_load s value) (sym at) ∙ behind) in
+    cc
+
+-- ---- how far it is from its end
+
+-- by the stage of its passing
+abbrev left_at : Program → ℕ → ℕ → Stage → ℕ
+left_at program thread k stages.Release = state_word program + 2
+left_at program thread k stages.Head = state_word program + 1 - word_at program thread k stages.Head
+left_at program thread k stages.Id = state_word program + 1 - word_at program thread k stages.Id
+left_at program thread k stages.Opcode = state_word program + 1 - word_at program thread k stages.Opcode
+left_at program thread k stages.Offset = state_word program + 1 - word_at program thread k stages.Offset
+left_at program thread k stages.Handler = state_word program + 1 - word_at program thread k stages.Handler
+left_at program thread k stages.State = state_word program + 1 - word_at program thread k stages.State
+
+low_word : (program : Program) (word : ℕ) → word ≤ state_word program → steps_left program (wants.Load word) ≡ state_word program + 1 - word
+low_word program word low = let is = le-leb word (state_word program) low in rw is refl
+
+high_word : (program : Program) (word : ℕ) (b : Bool) → state_word program < word → nat_le word (state_word program) ≡ b
+    → steps_left program (wants.Load word) ≡ state_word program + 2
+high_word program word true high is = let low = leb-true word (state_word program) is in absurd (omega arith)
+high_word program word false high is = rw is refl
+
+steps_left_at : (program : Program) (thread k : ℕ) (stage : Stage) → k < length program.sleds → 0 < thread
+    → steps_left program (wants.Load (word_at program thread k stage)) ≡ left_at program thread k stage
+steps_left_at program thread k stages.Release within some =
+    high_word program (release_word program thread) (nat_le (release_word program thread) (state_word program)) (omega arith) refl
+steps_left_at program thread k stages.Head within some = low_word program (word_at program thread k stages.Head) (omega arith)
+steps_left_at program thread k stages.Id within some = low_word program (word_at program thread k stages.Id) (omega arith)
+steps_left_at program thread k stages.Opcode within some = low_word program (word_at program thread k stages.Opcode) (omega arith)
+steps_left_at program thread k stages.Offset within some = low_word program (word_at program thread k stages.Offset) (omega arith)
+steps_left_at program thread k stages.Handler within some = low_word program (word_at program thread k stages.Handler) (omega arith)
+steps_left_at program thread k stages.State within some = low_word program (word_at program thread k stages.State) (omega arith)
+
+-- a load that goes on comes to a nearer stage, but for a release word of 0
+next_left : (program : Program) (thread k : ℕ) (stage next : Stage) (value : ℕ) → k < length program.sleds → 0 < thread
+    → behind_load stage value ≡ Loads next → ((stage ≡ stages.Release) × (value ≡ 0) → ⊥)
+    → left_at program thread k next < left_at program thread k stage
+next_left program thread k stages.Release next value within some behind free = by_value (value == 0) refl behind
+  where
+    by_value : (b : Bool) → (value == 0) ≡ b → (if b then Loads stages.Release else Loads stages.Head) ≡ Loads next
+        → left_at program thread k next < state_word program + 2
+    by_value true is same = absurd (free (refl, eqb-true value 0 is))
+    by_value false is same = let at : stages.Head ≡ next = cc in subst (λ (s : Stage). left_at program thread k s < state_word program + 2) at (omega arith)
+next_left program thread k stages.Head next value within some behind free = by_value (value == patched_head) behind
+  where
+    by_value : (b : Bool) → (if b then Loads stages.Id else Ends marks.Skipped) ≡ Loads next
+        → left_at program thread k next < left_at program thread k stages.Head
+    by_value true same = let at : stages.Id ≡ next = cc in subst (λ (s : Stage). left_at program thread k s < left_at program thread k stages.Head) at (omega arith)
+    by_value false same = absurd cc
+next_left program thread k stages.Id next value within some behind free =
+    let at : stages.Opcode ≡ next = cc in subst (λ (s : Stage). left_at program thread k s < left_at program thread k stages.Id) at (omega arith)
+next_left program thread k stages.Opcode next value within some behind free =
+    let at : stages.Offset ≡ next = cc in subst (λ (s : Stage). left_at program thread k s < left_at program thread k stages.Opcode) at (omega arith)
+next_left program thread k stages.Offset next value within some behind free =
+    let at : stages.Handler ≡ next = cc in subst (λ (s : Stage). left_at program thread k s < left_at program thread k stages.Offset) at (omega arith)
+next_left program thread k stages.Handler next value within some behind free = by_value (value == 0) behind
+  where
+    by_value : (b : Bool) → (if b then Ends marks.NoHandler else Loads stages.State) ≡ Loads next
+        → left_at program thread k next < left_at program thread k stages.Handler
+    by_value true same = absurd cc
+    by_value false same = let at : stages.State ≡ next = cc in subst (λ (s : Stage). left_at program thread k s < left_at program thread k stages.Handler) at (omega arith)
+next_left program thread k stages.State next value within some behind free = absurd cc
+
+pub nearer_on : (a : Inside) → IsSound a → (place k : ℕ) (stage next : Stage) (value : ℕ) → a.stand ≡ Loading place k stage
+    → behind_load stage value ≡ Loads next → (IsKept (traced a) value → ⊥)
+    → loads_left (traced (standing a (Loading place k next))) < loads_left (traced a)
+nearer_on a sound place k stage next value is behind free =
+    let program = a.image.now in
+    let before = before_of a sound place k (loading_at a sound place k stage is) in
+    let within = slice_get_within program.sleds k before.sled before.found in
+    let held = (subst (StandsSo a) is sound.stands).1 in
+    let not_kept : (stage ≡ stages.Release) × (value ≡ 0) → ⊥ = λ here. free (record {
+      held = held here.0 ∙ ap Some (sym sound.made);
+      word = ap (want_at program a.thread a.machine.passings) (is ∙ ap (Loading place k) here.0);
+      unset = here.1;
+    }) in
+    let less = next_left program a.thread k stage next value within sound.some_thread behind not_kept in
+    let new = steps_left_at program a.thread k next within sound.some_thread in
+    let old : steps_left program (traced a).want ≡ left_at program a.thread k stage =
+    ap (λ (s : Stand). steps_left program (want_at program a.thread a.machine.passings s)) is ∙ steps_left_at program a.thread k stage within sound.some_thread in
+    omega arith
+
+-- each stage has a load before it
+some_left : (program : Program) (thread k : ℕ) (stage : Stage) → k < length program.sleds → 0 < left_at program thread k stage
+some_left program thread k stages.Release within = omega arith
+some_left program thread k stages.Head within = omega arith
+some_left program thread k stages.Id within = omega arith
+some_left program thread k stages.Opcode within = omega arith
+some_left program thread k stages.Offset within = omega arith
+some_left program thread k stages.Handler within = omega arith
+some_left program thread k stages.State within = omega arith
+
+between_left : (program : Program) (thread made : ℕ) (stand : Stand) → IsBetween stand → steps_left program (want_at program thread made stand) ≤ state_word program + 3
+between_left program thread made (Gate place k) between = omega arith
+between_left program thread made (Loading place k at) between = absurd between
+between_left program thread made (Ended end) between = omega arith
+
+-- one passing fewer
+one_fewer : (each left old new at : ℕ) → new ≤ each → 0 < at → left ≡ suc old → each * old + new < each * left + at
+one_fewer each left old new at below some more =
+    let product : each * left ≡ each * old + each = ap (λ x. each * x) more ∙ mul-suc each old in omega arith
+
+pub nearer_end : (a : Inside) → IsSound a → (place k : ℕ) (stage : Stage) → a.stand ≡ Loading place k stage
+    → (m : Machine) (ms : MarkList) (stand : Stand) (mark : Mark) → ms.items ≡ a.marks.items ++ mark ∷ [] → IsBetween stand
+    → loads_left (traced (passed_on a m ms stand)) < loads_left (traced a)
+nearer_end a sound place k stage is m ms stand mark more between =
+    let program = a.image.now in
+    let before = before_of a sound place k (loading_at a sound place k stage is) in
+    let within = slice_get_within program.sleds k before.sled before.found in
+    let long : length ms.items ≡ length a.marks.items + 1 = ap length more ∙ length-append a.marks.items (mark ∷ []) in
+    let old : steps_left program (traced a).want ≡ left_at program a.thread k stage =
+    ap (λ (s : Stand). steps_left program (want_at program a.thread a.machine.passings s)) is ∙ steps_left_at program a.thread k stage within sound.some_thread in
+    let some = some_left program a.thread k stage within in
+    one_fewer (state_word program + 3) (a.limits.passings - length a.marks.items) (a.limits.passings - length ms.items)
+    (steps_left program (want_at program a.thread m.passings stand)) (steps_left program (traced a).want)
+    (between_left program a.thread m.passings stand between) (omega arith)
+    (omega (arith, before.left, sound.made))

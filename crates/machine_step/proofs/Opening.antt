@@ -1,0 +1,120 @@
+-- A traced thread that is let into a passing.
+use Rattle.std.proofs.Common.{◌≡◌, ℕ, ◌+◌, ◌-◌, ◌*◌, ◌<◌, ◌≤◌, ◌==◌, Bool, true, false, List, length, Option, Some, None, refl, sym, ap, ◌∙◌, subst, arith}
+use Rattle.std.specs.Prelude.{◌↔◌, if◌then◌else◌, slice_get, IsTrue}
+use Rattle.std.proofs.lemmas.Bool.{eqb-true}
+use Rattle.std.proofs.lemmas.Option.{slice_get_within}
+use Rattle.xray_image.specs.declared.sled.Sled.{Sled}
+use Rattle.xray_image.specs.Program.{Program}
+use Rattle.machine_step.specs.declared.cpu.Cpu.TheInside.{Inside}
+use Rattle.machine_step.specs.declared.end.End.{End}
+use Rattle.machine_step.specs.declared.stage.Stage.{Stage}
+use Rattle.machine_step.specs.declared.stage.Stage.TheVariants as stages
+use Rattle.machine_step.specs.declared.stand.Stand.{Stand}
+use Rattle.machine_step.specs.declared.stand.Stand.TheVariants.{Gate, Loading, Ended}
+use Rattle.machine_step.specs.declared.want.Want.{Want}
+use Rattle.machine_step.specs.declared.want.Want.TheVariants as wants
+use Rattle.machine_step.specs.PlainStep.{Passing}
+use Rattle.machine_step.specs.Inside.{traced, want_at, IsAtPassing, IsPastEnd, IsSound, IsStageOf, StandsSo}
+use Rattle.machine_step.specs.Loads.{Load, is_held_at}
+use Rattle.machine_step.specs.Stages.{AllowsAt, word_at, first_stage, stage_by}
+use Rattle.machine_step.specs.Traced.{Allows, HasLoaded, IsWant, StandsAs, wanted_behind}
+use Rattle.machine_step.proofs.Tracing.{before_of, begins_at, stands_before, stands_past}
+use Rattle.machine_step.proofs.WordsAt.{allowed_at, allows_at}
+
+-- what it wants tells where it stands, whatever its stand
+stands_as : (a : Inside) → IsSound a → (stand : Stand) → StandsSo a stand
+    → StandsAs (traced a) (want_at a.image.now a.thread a.machine.passings stand)
+stands_as a sound (Gate place k) at = stands_before a sound place k at
+stands_as a sound (Loading place k at) (here, stage) = stands_before a sound place k here
+stands_as a sound (Ended end) past = stands_past a sound end past
+
+pub stands : (a : Inside) → IsSound a → (stand : Stand) → a.stand ≡ stand
+    → StandsAs (traced a) (want_at a.image.now a.thread a.machine.passings stand)
+stands a sound stand is = stands_as a sound stand (subst (StandsSo a) is sound.stands)
+
+-- the sled that it is before is one of the image's
+pub sled_within : (a : Inside) → IsSound a → (place k : ℕ) → IsAtPassing a place k → k < length a.image.now.sleds
+sled_within a sound place k at =
+    let before = before_of a sound place k at in slice_get_within a.image.now.sleds k before.sled before.found
+
+pub loading_at : (a : Inside) → IsSound a → (place k : ℕ) (stage : Stage) → a.stand ≡ Loading place k stage → IsAtPassing a place k
+loading_at a sound place k stage is = (subst (StandsSo a) is sound.stands).0
+
+pub gate_at : (a : Inside) → IsSound a → (place k : ℕ) → a.stand ≡ Gate place k → IsAtPassing a place k
+gate_at a sound place k is = subst (StandsSo a) is sound.stands
+
+-- the first stage is the release word's only where the script holds the thread
+held_by : (held passing : ℕ) (b : Bool) → (held == passing) ≡ b → stage_by b ≡ stages.Release → held ≡ passing
+held_by held passing true is same = eqb-true held passing is
+held_by held passing false is same = absurd cc
+
+pub first_of_hold : (hold : Option ℕ) (passing : ℕ) → IsStageOf hold passing (first_stage hold passing)
+first_of_hold None passing same = absurd cc
+first_of_hold (Some held) passing same = ap Some (held_by held passing (held == passing) refl same)
+
+-- its fields with another stand
+abbrev pub standing : Inside → Stand → Inside
+standing a stand = record a { stand = stand }
+
+same_at : (a : Inside) (stand : Stand) (place k : ℕ) → IsAtPassing a place k → IsAtPassing (standing a stand) place k
+same_at a stand place k at = record {
+  address = at.address;
+  at = at.at;
+  passed = at.passed;
+  next = at.next;
+  count = at.count;
+  comes = at.comes;
+}
+
+pub sound_loading : (a : Inside) → IsSound a → (place k : ℕ) (stage : Stage) → IsAtPassing a place k
+    → IsStageOf a.hold a.machine.passings stage → IsSound (standing a (Loading place k stage))
+sound_loading a sound place k stage at held = record {
+  bytes = sound.bytes;
+  accepted = sound.accepted;
+  steps = sound.steps;
+  within = sound.within;
+  cpus = sound.cpus;
+  migrate = sound.migrate;
+  some_thread = sound.some_thread;
+  no_more = sound.no_more;
+  few = sound.few;
+  room = sound.room;
+  made = sound.made;
+  stands = (same_at a (Loading place k stage) place k at, held);
+}
+
+-- the loads are the same, and the first word of the passing is wanted
+pub opened_loads : (a : Inside) → IsSound a → (place k : ℕ) (stage : Stage) → a.stand ≡ Gate place k
+    → stage ≡ first_stage a.hold a.machine.passings → (all : List Passing) (loads : List Load)
+    → HasLoaded (traced a) all loads → HasLoaded (traced (standing a (Loading place k stage))) all loads
+opened_loads a sound place k stage is first all loads has =
+    let wants = subst (λ (s : Stand). IsWant (traced a) all (wanted_behind (traced a) all loads) has.end (want_at a.image.now a.thread a.machine.passings s)) is has.wants in
+    let next = begins_at a sound place k (gate_at a sound place k is) all has.end has.last (wanted_behind (traced a) all loads) has.run wants.1 in
+    record {
+      end = has.end;
+      last = has.last;
+      run = has.run;
+      wanted = has.wanted;
+      allowed = has.allowed;
+      marks = has.marks;
+      wants = next ∙ ap (λ (s : Stage). Some (word_at a.image.now a.thread k s)) (sym first);
+    }
+
+-- what it wants tells where it stands
+pub stands_now : (a : Inside) → IsSound a → StandsAs (traced a) (traced a).want
+stands_now a sound = stands a sound a.stand refl
+
+-- ---- which values are allowed
+
+-- what is allowed at the stage of its stand is what it allows
+pub allows_by : (a : Inside) → IsSound a → (place k : ℕ) (stage : Stage) (value : ℕ) → a.stand ≡ Loading place k stage → (answer : Bool)
+    → ((sled : Sled) → slice_get a.image.now.sleds k ≡ Some sled → IsTrue answer ↔ AllowsAt a.image.now.trampolines sled stage value)
+    → IsTrue answer ↔ Allows (traced a) (traced a).want value
+allows_by a sound place k stage value is answer allows =
+    let at = loading_at a sound place k stage is in
+    let before = before_of a sound place k at in
+    let here = allows before.sled before.found in
+    subst (λ (s : Stand). IsTrue answer ↔ Allows (traced a) (want_at a.image.now a.thread a.machine.passings s) value) (sym is) (
+      λ true. allowed_at a.image.now a.thread k value before.sled stage sound.some_thread before.found (here.0 true),
+      λ allowed. here.1 (allows_at a.image.now a.thread k value before.sled stage sound.some_thread before.found allowed),
+    )

@@ -1,0 +1,116 @@
+-- A machine that passes a sled.
+use Rattle.std.proofs.Common.{◌≡◌, ℕ, suc, ◌+◌, ◌==◌, Bool, true, false, List, [], ◌∷◌, length, Option, Some, None, refl, sym, ap, ◌∙◌, subst, arith}
+use Rattle.std.specs.Prelude.{if◌then◌else◌, slice_get, MatchOption}
+use Rattle.subset_decode.specs.Encoding.{spelling}
+use Rattle.xray_image.specs.declared.unit.Unit.{Unit}
+use Rattle.xray_image.specs.declared.unit.What.{What}
+use Rattle.xray_image.specs.declared.unit.What.TheVariants as whats
+use Rattle.xray_image.specs.Program.{Program}
+use Rattle.machine_step.specs.declared.limits.Limits.{Limits}
+use Rattle.machine_step.specs.declared.end.End.{End}
+use Rattle.machine_step.specs.declared.step.Step.{Step}
+use Rattle.machine_step.specs.declared.step.Step.TheVariants as steps
+use Rattle.machine_step.specs.declared.step.Way.{Way}
+use Rattle.machine_step.specs.declared.step.Way.TheVariants.{To, Back, Ends as Stops}
+use Rattle.machine_step.specs.declared.machine.Machine.{Machine}
+use Rattle.machine_step.specs.declared.stand.Stand.{Stand}
+use Rattle.machine_step.specs.declared.stand.Stand.TheVariants.{Gate, Loading, Ended}
+use Rattle.machine_step.specs.PlainStep.{Goes, Ends, Next, Passing, PlainStep, passing_at}
+use Rattle.machine_step.specs.Machine.{state_at, IsWithin, stepping}
+use Rattle.machine_step.specs.Standing.{due_sled, IsAtSled, RunsBy}
+use Rattle.machine_step.specs.Steps.{IsPlaceOf, IsStepOf, IsStepAt, sled_at}
+use Rattle.machine_step.proofs.Stepping.{AreInOrder, LeadsBy, instruction_at_none, sled_at_some}
+use Rattle.machine_step.proofs.ToSled.{AtPassing, at_passing}
+
+-- ---- the sled at a place is one
+
+abbrev sled_of_what : What → Option ℕ
+sled_of_what (whats.Plain instr) = None
+sled_of_what (whats.Sled k) = Some k
+sled_of_what whats.Pad = None
+
+sled_at_what : (program : Program) (address : ℕ) (what : What) (step : Step) → IsStepOf program address what step → sled_at step ≡ sled_of_what what
+sled_at_what program address (whats.Plain instr) step is = instruction_at_none program.units (address + length (spelling instr)) instr step is
+sled_at_what program address (whats.Sled k) step (sled, found, is) = ap sled_at is ∙ sled_at_some k sled.kind
+sled_at_what program address whats.Pad step is = ap sled_at is
+
+abbrev sled_of_unit : Option Unit → Option ℕ
+sled_of_unit None = None
+sled_of_unit (Some u) = sled_of_what u.what
+
+sled_at_unit : (program : Program) (found : Option Unit) (step : Step)
+    → MatchOption found (step ≡ steps.Nowhere) (λ u. IsStepOf program u.address u.what step) → sled_at step ≡ sled_of_unit found
+sled_at_unit program None step is = ap sled_at is
+sled_at_unit program (Some u) step is = sled_at_what program u.address u.what step is
+
+same_sled_at : (program : Program) (place : ℕ) (a b : Step) → IsStepAt program place a → IsStepAt program place b → sled_at a ≡ sled_at b
+same_sled_at program place a b is is' =
+    sled_at_unit program (slice_get program.units place) a is ∙ sym (sled_at_unit program (slice_get program.units place) b is')
+
+-- the sled is due by any step that stands there
+due_there : (program : Program) (limits : Limits) (address place k : ℕ) (m : Machine) (step : Step) → IsStepAt program place step
+    → IsAtSled program limits address place k m → due_sled limits m step ≡ Some k
+due_there program limits address place k m step is at =
+    ap (λ (o : Option ℕ). if m.passings == limits.passings then None else o) (same_sled_at program place step at.step is at.is_step) ∙ at.due
+
+-- ---- behind the passing
+
+-- a run behind a step that makes a passing
+run_on : (program : Program) (limits : Limits) (thread address there : ℕ) (m after last : Machine) (made : Passing) (stand : Stand)
+    → PlainStep program limits thread (state_at address m) (made ∷ []) (Goes (state_at there after))
+    → RunsBy program limits thread there after [] stand last
+    → RunsBy program limits thread address m (made ∷ []) stand last
+run_on program limits thread address there m after last made (Gate place k) step (to, at, (n, reached)) =
+    (to, at, (suc n, (made ∷ [], [], state_at there after, step, reached, refl)))
+run_on program limits thread address there m after last made (Loading place k at) step run = run
+run_on program limits thread address there m after last made (Ended end) step (to, (n, run)) =
+    (to, (suc n, (made ∷ [], [], state_at there after, step, run, refl)))
+
+-- the passing of a machine before a sled, and where its step leads by its way
+pub record PassesBy (program : Program) (limits : Limits) (thread address place : ℕ) (m after : Machine) (way : Way) : Type 0 where
+  pub made : Passing
+  pub next : Next
+  pub passes : PlainStep program limits thread (state_at address m) (made ∷ []) next
+  pub leads : LeadsBy program.units limits place m way after next
+
+pub passes_by : (program : Program) → AreInOrder program → (limits : Limits) (thread address place k : ℕ) (m : Machine) (step : Step)
+    → IsWithin limits m → IsStepAt program place step → IsAtSled program limits address place k m
+    → (way : Way) (after : Machine) → way ≡ (stepping limits place m step).way → after ≡ (stepping limits place m step).left
+    → PassesBy program limits thread address place m after way
+passes_by program ordered limits thread address place k m step within is at way after way_is left =
+    let due = due_there program limits address place k m step is at in
+    let passing = at_passing program ordered limits thread address place k m step within at.placed is due in
+    record {
+      made = passing_at limits thread (state_at address m) k passing.sled;
+      next = passing.next;
+      passes = passing.passes;
+      leads = subst (λ (a : Machine). LeadsBy program.units limits place m way a passing.next) (sym left)
+          (subst (λ (w : Way). LeadsBy program.units limits place m w (stepping limits place m step).left passing.next) (sym way_is) passing.leads);
+    }
+
+pub on_to : (program : Program) (limits : Limits) (thread address place next : ℕ) (m after last : Machine) (stand : Stand)
+    → (by : PassesBy program limits thread address place m after (To next))
+    → ((there : ℕ) → IsPlaceOf program.units there next → RunsBy program limits thread there after [] stand last)
+    → (made : Passing) × RunsBy program limits thread address m (made ∷ []) stand last
+on_to program limits thread address place next m after last stand by runs =
+    let there = by.leads in
+    (by.made, run_on program limits thread address there.0 m after last by.made stand
+    (subst (λ (n : Next). PlainStep program limits thread (state_at address m) (by.made ∷ []) n) there.2 by.passes)
+    (runs there.0 there.1))
+
+pub on_back : (program : Program) (limits : Limits) (thread address place back next : ℕ) (m after last : Machine) (stand : Stand)
+    → (by : PassesBy program limits thread address place m after (Back back)) → IsPlaceOf program.units back next
+    → ((there : ℕ) → IsPlaceOf program.units there next → RunsBy program limits thread there after [] stand last)
+    → (made : Passing) × RunsBy program limits thread address m (made ∷ []) stand last
+on_back program limits thread address place back next m after last stand by placed runs =
+    let there = by.leads in
+    (by.made, run_on program limits thread address back m after last by.made stand
+    (subst (λ (n : Next). PlainStep program limits thread (state_at address m) (by.made ∷ []) n) there.0 by.passes)
+    (runs back placed))
+
+pub on_end : (program : Program) (limits : Limits) (thread address place : ℕ) (m after : Machine) (end : End)
+    → (by : PassesBy program limits thread address place m after (Stops end))
+    → (made : Passing) × RunsBy program limits thread address m (made ∷ []) (Ended end) after
+on_end program limits thread address place m after end by =
+    let there = by.leads in
+    (by.made, (there.0, (0, subst (λ (n : Next). PlainStep program limits thread (state_at address m) (by.made ∷ []) n) there.1 by.passes)))

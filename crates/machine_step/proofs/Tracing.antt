@@ -1,0 +1,148 @@
+-- A traced thread on its plain run.
+use Rattle.std.proofs.Common.{◌≡◌, ◌≢◌, ℕ, zero, suc, ◌+◌, ◌<◌, ◌≤◌, ◌==◌, Bool, true, false, List, [], ◌∷◌, ◌++◌, length, map, take, Option, Some, None, refl, sym, ap, ◌∙◌, subst, append-nil, append_assoc, length-append, arith}
+use Rattle.std.specs.Prelude.{if◌then◌else◌, slice_get, All}
+use Rattle.std.proofs.lemmas.Bool.{eqb-true, eqb-false}
+use Rattle.std.proofs.lemmas.Option.{slice_get_within}
+use Rattle.xray_image.specs.declared.sled.Sled.{Sled}
+use Rattle.xray_image.specs.Program.{Program, IsAccepted}
+use Rattle.machine_step.specs.declared.limits.Limits.{Limits}
+use Rattle.machine_step.specs.declared.end.End.{End}
+use Rattle.machine_step.specs.declared.cpu.Cpu.TheInside.{Inside}
+use Rattle.machine_step.specs.declared.machine.Machine.{Machine}
+use Rattle.machine_step.specs.declared.stage.Stage.{Stage}
+use Rattle.machine_step.specs.declared.stage.Stage.TheVariants as stages
+use Rattle.machine_step.specs.PlainStep.{State, Next, Passing, PlainStep, PlainRun, opening, passing_at}
+use Rattle.machine_step.specs.Course.{ComesTo, Reaches}
+use Rattle.machine_step.specs.Inside.{traced, want_at, IsAtPassing, IsPastEnd, IsSound}
+use Rattle.machine_step.specs.Loads.{Load, is_held_at, marks_of, next_load}
+use Rattle.machine_step.specs.Machine.{state_at, IsWithin}
+use Rattle.machine_step.specs.Stages.{word_at, first_stage, stage_by}
+use Rattle.machine_step.specs.Standing.{due_sled, IsAtSled}
+use Rattle.machine_step.specs.Steps.{IsStepAt}
+use Rattle.machine_step.specs.Traced.{Traced, IsBeforePassing, IsAtEnd, BeginsPassing, HasLoaded, sleds_of, wanted_behind, first_word}
+use Rattle.machine_step.specs.Traced.{state_at as traced_at}
+use Rattle.machine_step.proofs.Accepted.{are_in_order}
+use Rattle.machine_step.proofs.OneUnit.{accepted_units}
+use Rattle.machine_step.proofs.OneEnd.{same_step, same_run}
+use Rattle.machine_step.proofs.OnCourse.{GoesOnBy, next_of_run}
+use Rattle.machine_step.proofs.ToSled.{at_passing}
+
+-- ---- where it stands
+
+-- the passing that the thread is before
+pub record Before (a : Inside) (place k : ℕ) (at : IsAtPassing a place k) : Type 0 where
+  pub sled : Sled
+  pub found : slice_get a.image.now.sleds k ≡ Some sled
+  pub next_is : at.next ≡ passing_at a.limits a.thread (state_at at.address a.machine) k sled
+  pub left : a.machine.passings < a.limits.passings
+
+if_some_left : (spent : Bool) (o : Option ℕ) (k : ℕ) → (if spent then None else o) ≡ Some k → spent ≡ false
+if_some_left true o k is = absurd cc
+if_some_left false o k is = refl
+
+pub before_of : (a : Inside) → IsSound a → (place k : ℕ) (at : IsAtPassing a place k) → Before a place k at
+before_of a sound place k at =
+    let here = at_passing a.image.now (are_in_order sound.bytes a.image.now sound.accepted) a.limits a.thread at.address place k a.machine
+    at.at.step sound.within at.at.placed at.at.is_step at.at.due in
+    let made = (same_step a.image.now (accepted_units sound.bytes a.image.now sound.accepted) a.limits a.thread (state_at at.address a.machine)
+    (at.next ∷ []) (passing_at a.limits a.thread (state_at at.address a.machine) k here.sled ∷ []) at.comes.behind here.next
+    at.comes.passes here.passes).0 in
+    let other = eqb-false a.machine.passings a.limits.passings (if_some_left (a.machine.passings == a.limits.passings) _ k at.at.due) in
+    let within = sound.within in
+    record {
+      sled = here.sled;
+      found = here.found;
+      next_is = cc;
+      left = omega (arith, within.passings);
+    }
+
+-- the state in which contracts see it
+same_state : (a : Inside) → IsSound a → (address : ℕ) → state_at address a.machine ≡ traced_at address (traced a)
+same_state a sound address =
+    ap (λ n. let s : State = record {
+      address = address;
+      registers = a.machine.registers;
+      zero_flag = a.machine.zero_flag;
+      stack = a.machine.stack;
+      output = a.machine.output;
+      instructions = a.machine.instructions;
+      passings = n;
+    } in s) (sym sound.made)
+
+pub stands_before : (a : Inside) → IsSound a → (place k : ℕ) → IsAtPassing a place k → IsBeforePassing (traced a)
+stands_before a sound place k at = record {
+  passed = at.passed;
+  next = at.next;
+  address = at.address;
+  count = at.count ∙ sym sound.made;
+  comes = subst (λ (s : State). ComesTo a.image.now a.limits a.thread at.passed s at.next) (same_state a sound at.address) at.comes;
+}
+
+pub stands_past : (a : Inside) → IsSound a → (end : End) → IsPastEnd a end → IsAtEnd (traced a) end
+stands_past a sound end past = record {
+  passed = past.passed;
+  address = past.address;
+  count = past.count ∙ sym sound.made;
+  run = subst (λ (s : State). PlainRun a.image.now a.limits a.thread past.passed end s) (same_state a sound past.address) past.run;
+}
+
+-- ---- the passings of its run
+
+pub found_behind : {X : Type 0} (xs : List X) (x : X) (ys : List X) → slice_get (xs ++ x ∷ ys) (length xs) ≡ Some x
+found_behind [] x ys = refl
+found_behind (first ∷ xs) x ys = found_behind xs x ys
+
+-- lists that are split where both are as long
+pub same_split : {X : Type 0} (xs ys : List X) (x y : X) (xs' ys' : List X) → length xs ≡ length ys → xs ++ x ∷ xs' ≡ ys ++ y ∷ ys'
+    → (x ≡ y) × (xs' ≡ ys')
+same_split [] [] x y xs' ys' long same = (cc, cc)
+same_split [] (first ∷ ys) x y xs' ys' long same = absurd (omega arith)
+same_split (first ∷ xs) [] x y xs' ys' long same = absurd (omega arith)
+same_split (first ∷ xs) (other ∷ ys) x y xs' ys' long same =
+    let rest : xs ++ x ∷ xs' ≡ ys ++ y ∷ ys' = cc in same_split xs ys x y xs' ys' (omega arith) rest
+
+pub sleds_split : (passed : List Passing) (next : Passing) (later : List Passing)
+    → sleds_of (passed ++ next ∷ later) ≡ sleds_of passed ++ next.sled ∷ sleds_of later
+sleds_split [] next later = refl
+sleds_split (first ∷ passed) next later = ap (λ ks. first.sled ∷ ks) (sleds_split passed next later)
+
+pub sleds_length : (passed : List Passing) → length (sleds_of passed) ≡ length passed
+sleds_length [] = refl
+sleds_length (first ∷ passed) = ap suc (sleds_length passed)
+
+-- the run goes on with the passing that it is before
+pub goes_on_by : (a : Inside) → IsSound a → (place k : ℕ) (at : IsAtPassing a place k) (all : List Passing) (end : End) (last : State)
+    → PlainRun a.image.now a.limits a.thread all end last → GoesOnBy all at.passed at.next
+goes_on_by a sound place k at all end last run =
+    next_of_run a.image.now (accepted_units sound.bytes a.image.now sound.accepted) a.limits a.thread at.passed all (state_at at.address a.machine)
+    at.next end last at.comes run
+
+-- ---- a gate that is opened
+
+first_word_by : (program : Program) (thread k : ℕ) (held : Bool)
+    → (if held then Rattle.sled_words.specs.Words.release_word program thread else Rattle.sled_words.specs.Words.word_of k Rattle.sled_words.specs.declared.part.Part.TheVariants.Head)
+    ≡ word_at program thread k (stage_by held)
+first_word_by program thread k true = refl
+first_word_by program thread k false = refl
+
+pub first_word_is : (a : Inside) → IsSound a → (k : ℕ) → first_word (traced a) k ≡ word_at a.image.now a.thread k (first_stage a.hold a.machine.passings)
+first_word_is a sound k =
+    first_word_by a.image.now a.thread k (is_held_at a.hold (length a.marks.items))
+    ∙ ap (λ n. word_at a.image.now a.thread k (first_stage a.hold n)) sound.made
+
+-- the first word of the passing that the thread is before
+pub begins_at : (a : Inside) → IsSound a → (place k : ℕ) → IsAtPassing a place k → (all : List Passing) (end : End) (last : State) (next : Option ℕ)
+    → PlainRun a.image.now a.limits a.thread all end last → BeginsPassing (traced a) all next
+    → next ≡ Some (word_at a.image.now a.thread k (first_stage a.hold a.machine.passings))
+begins_at a sound place k at all end last next run begins =
+    let on = goes_on_by a sound place k at all end last run in
+    let before = before_of a sound place k at in
+    let long : length a.marks.items ≡ length at.passed = sound.made ∙ sym at.count in
+    let found : slice_get all (length a.marks.items) ≡ Some at.next =
+    ap (slice_get all) long ∙ (ap (λ (ps : List Passing). slice_get ps (length at.passed)) on.is ∙ found_behind at.passed at.next on.later) in
+    let same : begins.passing ≡ at.next = one begins.passing at.next (sym begins.found ∙ found) in
+    let sled : begins.passing.sled ≡ k = ap (λ (p : Passing). p.sled) (same ∙ before.next_is) in
+    begins.first ∙ (ap (λ s. Some (first_word (traced a) s)) sled ∙ ap Some (first_word_is a sound k))
+  where
+    one : (p q : Passing) → Some p ≡ Some q → p ≡ q
+    one p q is = cc

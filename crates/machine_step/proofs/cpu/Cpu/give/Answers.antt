@@ -1,0 +1,131 @@
+use Rattle.std.proofs.Common.{◌≡◌, ◌<◌, ◌++◌, ℕ, List, Option, Some, None, refl, sym, subst, arith}
+use Rattle.std.specs.Prelude.{◌↔◌, IsSome}
+use Rattle.fdr_record.specs.declared.event.Event.{Event}
+use Rattle.sled_words.specs.Words.{state_word}
+use Rattle.machine_step.specs.declared.end.End.{End}
+use Rattle.machine_step.specs.declared.stand.Stand.TheVariants.{Loading}
+use Rattle.machine_step.specs.declared.want.Want.TheVariants as wants
+use Rattle.machine_step.specs.Events.{events_in, recorded}
+use Rattle.machine_step.specs.Inside.{traced, want_at}
+use Rattle.machine_step.specs.Loads.{Load}
+use Rattle.machine_step.specs.PlainStep.{Passing, PlainRun, State}
+use Rattle.machine_step.specs.Traced.{Allows, HasLoaded, IsKept, MarksAdded, Traced, load_of, loads_left}
+use Rattle.machine_step.proofs.GiveClauses.{between_of, clause_ends, clause_events, clause_goes_on, ending_of, held_at, stage_behind}
+use Rattle.machine_step.proofs.Giving.{passed_on, sound_behind}
+use Rattle.machine_step.proofs.LoadFacts.{kept_not, kept_same, marks_added, nearer_end, nearer_on, some_at_end, some_goes_on}
+use Rattle.machine_step.proofs.Opening.{loading_at, sled_within, sound_loading, standing}
+use Rattle.machine_step.proofs.Tracing.{before_of}
+use Rattle.machine_step.proofs.cpu.Cpu.give.Goals as goal
+
+pub invariant_of-self : goal.invariant_of-self
+invariant_of-self c =
+    let a = c.self.inside in
+    let at = loading_at a c.self.invariant c.in-Loading.place c.in-Loading.sled c.in-Loading.stage c.in-Loading.is in
+    sound_loading a c.self.invariant c.in-Loading.place c.in-Loading.sled c.in-Loads.stage at
+    (stage_behind a.hold a.machine.passings c.in-Loading.stage c.in-Loads.stage c.args.value (sym c.in-Loads.ensures)
+    (held_at a c.self.invariant c.in-Loading.place c.in-Loading.sled c.in-Loading.stage c.in-Loading.is))
+
+pub sled-requires : goal.sled-requires
+sled-requires c =
+    let a = c.self.inside in
+    let at = loading_at a c.self.invariant c.in-Loading.place c.in-Loading.sled c.in-Loading.stage c.in-Loading.is in
+    sled_within a c.self.invariant c.in-Loading.place c.in-Loading.sled at
+
+pub add-requires : goal.add-requires
+add-requires c =
+    let a = c.self.inside in
+    let at = loading_at a c.self.invariant c.in-Loading.place c.in-Loading.sled c.in-Loading.stage c.in-Loading.is in
+    let before = before_of a c.self.invariant c.in-Loading.place c.in-Loading.sled at in
+    omega (arith, before.left, c.self.invariant.room, c.self.invariant.made)
+
+pub invariant_of-self-in-Ends : goal.invariant_of-self-in-Ends
+invariant_of-self-in-Ends c =
+    let a = c.self.inside in
+    let at = loading_at a c.self.invariant c.in-Loading.place c.in-Loading.sled c.in-Loading.stage c.in-Loading.is in
+    let ending = ending_of a c.in-Loading.place c.in-Loading.sled at c.pass_sled-self-inside.new.machine c.add.new.self c.pass_sled-self-inside.result c.in-Ends.mark
+    c.pass_sled-self-inside.ensures.within c.add.ensures.items c.add.ensures.room c.pass_sled-self-inside.ensures.passes in
+    sound_behind a c.self.invariant c.in-Loading.place c.in-Loading.sled at c.pass_sled-self-inside.new.machine c.add.new.self c.pass_sled-self-inside.result c.in-Ends.mark ending
+
+pub returns-in-Loads-clause-loads : goal.returns-in-Loads-clause-loads
+returns-in-Loads-clause-loads c =
+    let a = c.self.inside in
+    subst (λ (t : Traced). Allows t t.want c.args.value → (passed : List Passing) (loads : List Load) → HasLoaded t passed loads
+    → HasLoaded (traced (standing a (Loading c.in-Loading.place c.in-Loading.sled c.in-Loads.stage))) passed (loads ++ load_of t.want c.args.value)) c.self.view_is
+    (clause_goes_on a c.self.invariant c.in-Loading.place c.in-Loading.sled c.in-Loading.stage c.in-Loads.stage c.args.value c.in-Loading.is (sym c.in-Loads.ensures)) c.requires
+
+pub returns-in-Loads-clause-some : goal.returns-in-Loads-clause-some
+returns-in-Loads-clause-some c =
+    let none : Option Event = None in
+    subst (λ (t : Traced). IsSome none ↔ (t.want ≡ wants.Load (state_word t.program)) × (c.args.value ≡ 2)) c.self.view_is
+    (some_goes_on c.self.inside c.self.invariant c.in-Loading.place c.in-Loading.sled c.in-Loading.stage c.in-Loads.stage c.args.value none c.in-Loading.is (sym c.in-Loads.ensures) refl)
+
+pub returns-in-Loads-clause-kept : goal.returns-in-Loads-clause-kept
+returns-in-Loads-clause-kept c =
+    let a = c.self.inside in
+    subst (λ (t : Traced). IsKept t c.args.value → traced (standing a (Loading c.in-Loading.place c.in-Loading.sled c.in-Loads.stage)) ≡ t) c.self.view_is
+    (kept_same a c.self.invariant c.in-Loading.place c.in-Loading.sled c.in-Loading.stage c.in-Loads.stage c.args.value c.in-Loading.is (sym c.in-Loads.ensures))
+
+pub returns-in-Loads-clause-nearer : goal.returns-in-Loads-clause-nearer
+returns-in-Loads-clause-nearer c =
+    let a = c.self.inside in
+    subst (λ (t : Traced). (IsKept t c.args.value → ⊥) → loads_left (traced (standing a (Loading c.in-Loading.place c.in-Loading.sled c.in-Loads.stage))) < loads_left t)
+    c.self.view_is
+    (nearer_on a c.self.invariant c.in-Loading.place c.in-Loading.sled c.in-Loading.stage c.in-Loads.stage c.args.value c.in-Loading.is (sym c.in-Loads.ensures))
+
+pub returns-in-Ends-clause-loads : goal.returns-in-Ends-clause-loads
+returns-in-Ends-clause-loads c =
+    let a = c.self.inside in
+    let at = loading_at a c.self.invariant c.in-Loading.place c.in-Loading.sled c.in-Loading.stage c.in-Loading.is in
+    let ending = ending_of a c.in-Loading.place c.in-Loading.sled at c.pass_sled-self-inside.new.machine c.add.new.self c.pass_sled-self-inside.result c.in-Ends.mark
+    c.pass_sled-self-inside.ensures.within c.add.ensures.items c.add.ensures.room c.pass_sled-self-inside.ensures.passes in
+    subst (λ (t : Traced). Allows t t.want c.args.value → (passed : List Passing) (loads : List Load) → HasLoaded t passed loads
+    → HasLoaded (traced (passed_on a c.pass_sled-self-inside.new.machine c.add.new.self c.pass_sled-self-inside.result)) passed
+    (loads ++ load_of t.want c.args.value)) c.self.view_is
+    (λ allows. clause_ends a c.self.invariant c.in-Loading.place c.in-Loading.sled c.in-Loading.stage c.args.value c.in-Loading.is c.in-Ends.mark (sym c.in-Ends.ensures) allows
+    c.pass_sled-self-inside.new.machine c.add.new.self c.pass_sled-self-inside.result at ending) c.requires
+
+pub returns-in-Ends-clause-marks : goal.returns-in-Ends-clause-marks
+returns-in-Ends-clause-marks c =
+    let a = c.self.inside in
+    let at = loading_at a c.self.invariant c.in-Loading.place c.in-Loading.sled c.in-Loading.stage c.in-Loading.is in
+    let ending = ending_of a c.in-Loading.place c.in-Loading.sled at c.pass_sled-self-inside.new.machine c.add.new.self c.pass_sled-self-inside.result c.in-Ends.mark
+    c.pass_sled-self-inside.ensures.within c.add.ensures.items c.add.ensures.room c.pass_sled-self-inside.ensures.passes in
+    subst (λ (t : Traced). MarksAdded t.marks c.add.new.self.items
+    (want_at a.image.now a.thread c.pass_sled-self-inside.new.machine.passings c.pass_sled-self-inside.result)) c.self.view_is
+    (marks_added a.image.now a.thread c.pass_sled-self-inside.new.machine.passings a.marks.items c.add.new.self.items c.in-Ends.mark
+    c.add.ensures.items c.pass_sled-self-inside.result
+    (between_of a c.in-Loading.place c.in-Loading.sled at c.pass_sled-self-inside.new.machine c.add.new.self c.pass_sled-self-inside.result c.in-Ends.mark ending))
+
+pub returns-in-Ends-clause-some : goal.returns-in-Ends-clause-some
+returns-in-Ends-clause-some c =
+    subst (λ (t : Traced). IsSome c.event_at-event.result ↔ (t.want ≡ wants.Load (state_word t.program)) × (c.args.value ≡ 2)) c.self.view_is
+    (some_at_end c.self.inside c.self.invariant c.in-Loading.place c.in-Loading.sled c.in-Loading.stage c.args.value c.in-Ends.mark _ c.event_at-event.result c.in-Loading.is
+    (sym c.in-Ends.ensures) (c.event_at-event.ensures 0 0))
+
+pub returns-in-Ends-clause-event : goal.returns-in-Ends-clause-event
+returns-in-Ends-clause-event c =
+    let a = c.self.inside in
+    let at = loading_at a c.self.invariant c.in-Loading.place c.in-Loading.sled c.in-Loading.stage c.in-Loading.is in
+    subst (λ (t : Traced). (passed : List Passing) (end : End) (last : State) → PlainRun t.program t.limits t.thread passed end last
+    → recorded passed c.add.new.self.items ≡ recorded passed t.marks ++ events_in c.event_at-event.result) c.self.view_is
+    (clause_events a c.self.invariant c.in-Loading.place c.in-Loading.sled at c.add.new.self.items c.in-Ends.mark c.event_at-event.result c.sled.result
+    c.add.ensures.items c.sled.ensures c.event_at-event.ensures)
+
+pub returns-in-Ends-clause-kept : goal.returns-in-Ends-clause-kept
+returns-in-Ends-clause-kept c =
+    let a = c.self.inside in
+    subst (λ (t : Traced). IsKept t c.args.value → traced (passed_on a c.pass_sled-self-inside.new.machine c.add.new.self c.pass_sled-self-inside.result) ≡ t)
+    c.self.view_is
+    (λ kept. absurd (kept_not a c.self.invariant c.in-Loading.place c.in-Loading.sled c.in-Loading.stage c.args.value c.in-Ends.mark c.in-Loading.is (sym c.in-Ends.ensures) kept))
+
+pub returns-in-Ends-clause-nearer : goal.returns-in-Ends-clause-nearer
+returns-in-Ends-clause-nearer c =
+    let a = c.self.inside in
+    let at = loading_at a c.self.invariant c.in-Loading.place c.in-Loading.sled c.in-Loading.stage c.in-Loading.is in
+    let ending = ending_of a c.in-Loading.place c.in-Loading.sled at c.pass_sled-self-inside.new.machine c.add.new.self c.pass_sled-self-inside.result c.in-Ends.mark
+    c.pass_sled-self-inside.ensures.within c.add.ensures.items c.add.ensures.room c.pass_sled-self-inside.ensures.passes in
+    subst (λ (t : Traced). (IsKept t c.args.value → ⊥)
+    → loads_left (traced (passed_on a c.pass_sled-self-inside.new.machine c.add.new.self c.pass_sled-self-inside.result)) < loads_left t) c.self.view_is
+    (λ free. nearer_end a c.self.invariant c.in-Loading.place c.in-Loading.sled c.in-Loading.stage c.in-Loading.is c.pass_sled-self-inside.new.machine c.add.new.self
+    c.pass_sled-self-inside.result c.in-Ends.mark c.add.ensures.items
+    (between_of a c.in-Loading.place c.in-Loading.sled at c.pass_sled-self-inside.new.machine c.add.new.self c.pass_sled-self-inside.result c.in-Ends.mark ending))

@@ -1,0 +1,19 @@
+use Rattle.std.proofs.Common.{sym, subst}
+use Rattle.machine_step.specs.declared.stage.Stage.{Stage}
+use Rattle.machine_step.specs.Inside.{IsStageOf}
+use Rattle.machine_step.specs.Traced.{HasLoaded, Traced}
+use Rattle.machine_step.proofs.Opening.{first_of_hold, gate_at, opened_loads, sound_loading}
+use Rattle.machine_step.proofs.cpu.Cpu.opened.Goals as goal
+
+pub invariant_of-self : goal.invariant_of-self
+invariant_of-self c =
+    let a = c.self.inside in
+    sound_loading a c.self.invariant c.in-Gate.place c.in-Gate.sled c.first_stage-stage.result
+    (gate_at a c.self.invariant c.in-Gate.place c.in-Gate.sled c.in-Gate.is)
+    (subst (λ (s : Stage). IsStageOf a.hold a.machine.passings s) (sym c.first_stage-stage.ensures) (first_of_hold a.hold a.machine.passings))
+
+pub returns-in-Gate-clause-loads : goal.returns-in-Gate-clause-loads
+returns-in-Gate-clause-loads c =
+    λ passed loads has.
+    opened_loads c.self.inside c.self.invariant c.in-Gate.place c.in-Gate.sled c.first_stage-stage.result c.in-Gate.is c.first_stage-stage.ensures
+    passed loads (subst (λ (t : Traced). HasLoaded t passed loads) (sym c.self.view_is) has)

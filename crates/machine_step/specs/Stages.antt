@@ -1,0 +1,52 @@
+-- The stages of a passing, for the contracts of private functions.
+use Rattle.std.specs.Prelude.{◌≤◌, ℕ, ◌==◌, Bool, true, false, if◌then◌else◌, Option}
+use Rattle.xray_image.specs.declared.sled.Sled.{Sled}
+use Rattle.xray_image.specs.Program.{Program, Trampolines}
+use Rattle.sled_words.specs.declared.part.Part.TheVariants.{Head, Id, Opcode, Offset}
+use Rattle.sled_words.specs.Words.{word_of, handler_word, state_word, release_word}
+use Rattle.sled_words.specs.Parts.{patched_head}
+use Rattle.sled_words.specs.Allowed.{IsAllowedPart}
+use Rattle.handler_word.specs.declared.mark.Mark.TheVariants as marks
+use Rattle.machine_step.specs.declared.stage.Stage.{Stage}
+use Rattle.machine_step.specs.declared.stage.Stage.TheVariants as stages
+use Rattle.machine_step.specs.declared.stage.Next.{Next}
+use Rattle.machine_step.specs.declared.stage.Next.TheVariants.{Loads, Ends}
+use Rattle.machine_step.specs.Loads.{is_held_at}
+
+-- the word that is loaded at a stage
+abbrev pub word_at : Program → ℕ → ℕ → Stage → ℕ
+word_at program thread sled stages.Release = release_word program thread
+word_at program thread sled stages.Head = word_of sled Head
+word_at program thread sled stages.Id = word_of sled Id
+word_at program thread sled stages.Opcode = word_of sled Opcode
+word_at program thread sled stages.Offset = word_of sled Offset
+word_at program thread sled stages.Handler = handler_word program
+word_at program thread sled stages.State = state_word program
+
+-- the stage with which a passing begins
+abbrev pub stage_by : Bool → Stage
+stage_by true = stages.Release
+stage_by false = stages.Head
+
+abbrev pub first_stage : Option ℕ → ℕ → Stage
+first_stage hold passing = stage_by (is_held_at hold passing)
+
+-- what a load of a value leads to
+abbrev pub behind_load : Stage → ℕ → Next
+behind_load stages.Release value = if value == 0 then Loads stages.Release else Loads stages.Head
+behind_load stages.Head value = if value == patched_head then Loads stages.Id else Ends marks.Skipped
+behind_load stages.Id value = Loads stages.Opcode
+behind_load stages.Opcode value = Loads stages.Offset
+behind_load stages.Offset value = Loads stages.Handler
+behind_load stages.Handler value = if value == 0 then Ends marks.NoHandler else Loads stages.State
+behind_load stages.State value = Ends (if value == 2 then marks.Recorded else marks.NotLogging)
+
+-- what may be loaded at a stage of a passing of a sled
+abbrev pub AllowsAt : Trampolines → Sled → Stage → ℕ → Type 0
+AllowsAt trampolines sled stages.Release value = value ≤ 1
+AllowsAt trampolines sled stages.Head value = IsAllowedPart trampolines sled Head value
+AllowsAt trampolines sled stages.Id value = IsAllowedPart trampolines sled Id value
+AllowsAt trampolines sled stages.Opcode value = IsAllowedPart trampolines sled Opcode value
+AllowsAt trampolines sled stages.Offset value = IsAllowedPart trampolines sled Offset value
+AllowsAt trampolines sled stages.Handler value = value ≤ 1
+AllowsAt trampolines sled stages.State value = value ≤ 4

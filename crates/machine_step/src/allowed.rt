@@ -1,0 +1,42 @@
+//! Which values a passing may load.
+ghost use Rattle.std.specs.Prelude.{◌≡◌, ◌<◌, ◌↔◌, length, slice_get, Some, IsTrue};
+ghost use Rattle.sled_words.specs.Allowed.{IsUnpatchedHead};
+ghost use Rattle.xray_image.specs.declared.sled.Sled.{Sled};
+ghost use Rattle.machine_step.specs.Stages.{AllowsAt};
+
+use crate::stage::Stage;
+use sled_words::{JUMP_HEAD, PATCHED_HEAD, Part, part_value};
+use xray_image::{Image, SledKind};
+
+/// The byte C3, `ret`, with which an unpatched exit sled begins.
+const RETURN: u64 = 0xC3;
+
+/// The greatest number of a state of the log.
+const LAST_STATE: u64 = 4;
+
+/// Whether a value may be loaded at a stage of a passing of a sled.
+pub(crate) fn allows(image: &Image, stage: Stage, sled: u32, value: u64) -> bool
+    requires { sled < length image.now.sleds }
+    ensures { (s : Sled) → slice_get image.now.sleds sled ≡ Some s
+        → IsTrue result ↔ AllowsAt image.now.trampolines s stage value }
+{
+    match stage {
+        Stage::Release | Stage::Handler => value <= 1,
+        Stage::Head => value == PATCHED_HEAD || is_unpatched_head(image.sled(sled).kind, value),
+        Stage::Id => value == part_value(image, sled, Part::Id, true),
+        Stage::Opcode => value == part_value(image, sled, Part::Opcode, true),
+        Stage::Offset => value == part_value(image, sled, Part::Offset, true),
+        Stage::State => value <= LAST_STATE,
+    }
+}
+
+/// Whether a value is a head of an unpatched sled of a kind: a jump over the sled, or a return with
+/// any byte behind it.
+fn is_unpatched_head(kind: SledKind, value: u64) -> bool
+    ensures { IsTrue result ↔ IsUnpatchedHead kind value }
+{
+    match kind {
+        SledKind::Entry | SledKind::Tail => value == JUMP_HEAD,
+        SledKind::Exit => value < 1 << 16 && value % 256 == RETURN,
+    }
+}

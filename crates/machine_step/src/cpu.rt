@@ -1,0 +1,241 @@
+//! A traced thread.
+
+ghost use Rattle.std.specs.Prelude.{◌≡◌, ◌<◌, ◌≤◌, ◌↔◌, ◌++◌, ℕ, List, [], length, slice_index, Some, Option, IsTrue, IsSome, IfOk};
+ghost use Rattle.sled_words.specs.Words.{release_word, state_word};
+ghost use Rattle.machine_step.specs.declared.end.End.{End};
+ghost use Rattle.machine_step.specs.PlainStep.{Passing, PlainRun, State};
+ghost use Rattle.machine_step.specs.Loads.{Load};
+ghost use Rattle.machine_step.specs.Events.{events_in, recorded};
+
+use crate::allowed::allows;
+use crate::end::End;
+use crate::limits::Limits;
+use crate::machine::Machine;
+use crate::registers::REGISTERS;
+use crate::stage::{Next, behind_load, first_stage, word_at};
+use crate::stamp::event_at;
+use crate::stand::{Stand, pass_sled, run_to_sled};
+use crate::steps::{Steps, place_of};
+use crate::want::Want;
+use fdr_record::Event;
+use handler_word::Marks;
+use sled_words::MAX_THREADS;
+use std::alloc::Global;
+use std::marker::Model;
+use xray_image::Image;
+use xray_io::NoMemory;
+
+/// A thread whose sleds may be patched while it runs, between two loads.
+///
+/// It runs the plain instructions by itself up to the next sled, and then wants the words of its
+/// passing, one load after the other. Whoever has the words gives it their values: `want` tells what
+/// is due, `opened` lets it into a passing, and `give` hands it a value. Whatever the values are,
+/// before its passing n it is where its plain run is before its passing n. A patched sled also
+/// writes r10, which no instruction names and no text prints.
+///
+/// All memory is taken when it is made.
+#[derive(Drop)]
+pub struct Cpu<'a> {
+    image: &'a Image,
+    steps: Steps,
+    limits: Limits,
+    thread: u32,
+    threads: u32,
+    hold: Option<u32>,
+    machine: Machine,
+    marks: Marks,
+    stand: Stand,
+}
+
+impl<'a> Model for Cpu<'a> {
+    ghost use Rattle.machine_step.specs.Traced.{Traced};
+
+    ghost Value = { Traced };
+
+    ghost use Rattle.machine_step.specs.Inside.{traced, IsSound};
+
+    ghost view = { traced };
+
+    ghost invariant = { IsSound };
+}
+
+impl<'a> Cpu<'a> {
+    ghost use Rattle.machine_step.specs.Traced.{Allows, HasLoaded, IsDone, IsFresh, IsGate, IsKept, IsLoad, IsSameThread, IsThreadOf, MarksAdded, StandsAs, load_of, loads_left};
+
+    /// A thread before its first load: it has run to its first sled, or to its end where it comes to
+    /// none. Threads count from 1; `hold` is the passing before which the script holds it.
+    ///
+    /// Takes all memory of the thread: for a step of each unit of the image, for its stack and its
+    /// output, and for a mark of each passing up to the limit. `NoMemory` comes where some of it was
+    /// refused.
+    pub fn new(
+        alloc: Global,
+        image: &'a Image,
+        thread: u32,
+        threads: u32,
+        hold: Option<u32>,
+        limits: Limits,
+    ) -> Result<Cpu<'a>, NoMemory>
+        requires thread { (1 ≤ thread) × (thread ≤ threads) }
+        requires threads { threads ≤ MAX_THREADS }
+        requires stamps { (1 ≤ limits.cpus) × (1 ≤ limits.migrate) }
+        ensures thread { IfOk result (IsThreadOf image.now thread threads hold limits) }
+        ensures fresh { IfOk result IsFresh }
+        ensures loads { IfOk result (λ cpu. (passed : List Passing) (end : End) (last : State)
+            → PlainRun image.now limits thread passed end last → HasLoaded cpu passed []) }
+    {
+        // Says that some accepted file holds the image.
+        image.base();
+        let steps = Steps::new(alloc, image)?;
+        let marks = Marks::new(alloc, limits.passings)?;
+        let mut machine = Machine::new(alloc, thread)?;
+        let start = place_of(image, image.entry()) as usize;
+        let stand = run_to_sled(&mut machine, image, &steps, limits, start);
+        Ok(Cpu {
+            image,
+            steps,
+            limits,
+            thread,
+            threads,
+            hold,
+            machine,
+            marks,
+            stand,
+        })
+    }
+
+    /// What the thread wants next.
+    #[inline]
+    pub fn want(&self) -> Want
+        ensures want { result ≡ self.now.want }
+        // Before a passing it is where its plain run comes to it, and at its end where that ends.
+        ensures stands { StandsAs self.now self.now.want }
+    {
+        match self.stand {
+            Stand::Gate { .. } => Want::Gate(self.machine.passings),
+            Stand::Loading { sled, stage, .. } => Want::Load(word_at(
+                stage,
+                sled,
+                self.image.sled_count(),
+                self.thread,
+            )),
+            Stand::Ended { end } => Want::Done(end),
+        }
+    }
+
+    /// Lets the thread into the passing that it wants to be let into.
+    #[inline]
+    pub fn opened(&mut self)
+        requires { IsGate self.old.want }
+        ensures loads { (passed : List Passing) (loads : List Load)
+            → HasLoaded self.old passed loads → HasLoaded self.new passed loads }
+        ensures want { IsLoad self.new.want }
+        ensures same { self.new ≡ record self.old { want = self.new.want } }
+        ensures nearer { loads_left self.new < loads_left self.old }
+    {
+        if let Stand::Gate { place, sled } = self.stand {
+            let stage = first_stage(self.hold, self.machine.passings);
+            self.stand = Stand::Loading { place, sled, stage };
+        }
+    }
+
+    /// Whether a value may stand in the word that the thread wants: a release word or the handler's
+    /// word is 0 or 1, and the state 0 to 4; the head of a sled is unpatched or patched, and its
+    /// other parts are what patching stores.
+    pub fn allowed(&self, value: u64) -> bool
+        requires { IsLoad self.now.want }
+        ensures { IsTrue result ↔ Allows self.now self.now.want value }
+    {
+        match self.stand {
+            Stand::Loading { sled, stage, .. } => allows(self.image, stage, sled, value),
+            _ => false,
+        }
+    }
+
+    /// Gives the thread the value of the word that it wants. Where that ends its passing, the
+    /// passing gets its mark, and the thread runs on to its next sled or to its end. An event comes
+    /// exactly where the value is that of a log that records: the event of the passing.
+    pub fn give(&mut self, value: u64) -> Option<Event>
+        requires { Allows self.old self.old.want value }
+        ensures thread { IsSameThread self.old self.new }
+        ensures loads { (passed : List Passing) (loads : List Load) → HasLoaded self.old passed loads
+            → HasLoaded self.new passed (loads ++ load_of self.old.want value) }
+        ensures marks { MarksAdded self.old.marks self.new.marks self.new.want }
+        ensures some { IsSome result
+            ↔ (self.old.want ≡ Want.Load (state_word self.old.program)) × (value ≡ 2) }
+        ensures event { (passed : List Passing) (end : End) (last : State)
+            → PlainRun self.old.program self.old.limits self.old.thread passed end last
+            → recorded passed self.new.marks
+            ≡ recorded passed self.old.marks ++ events_in result }
+
+        // A release word of 0 changes nothing; each other load brings the thread nearer to its end.
+        ensures kept { IsKept self.old value → self.new ≡ self.old }
+        ensures nearer { (IsKept self.old value → ⊥) → loads_left self.new < loads_left self.old }
+    {
+        let Stand::Loading { place, sled, stage } = self.stand else {
+            return None;
+        };
+        match behind_load(stage, value) {
+            Next::Loads(stage) => {
+                self.stand = Stand::Loading { place, sled, stage };
+                None
+            }
+            Next::Ends(mark) => {
+                let event = event_at(self.image.sled(sled), self.thread, &self.machine, self.limits, mark);
+                self.marks.add(mark);
+                self.stand = pass_sled(
+                    &mut self.machine,
+                    self.image,
+                    &self.steps,
+                    self.limits,
+                    place,
+                );
+                event
+            }
+        }
+    }
+
+    /// The value of the general register of a number, numbered as in `Reg`. Those that no
+    /// instruction names, rsp and r10, are 0.
+    pub fn reg(&self, n: u8) -> u64
+        requires { n < REGISTERS }
+        ensures { result ≡ slice_index self.now.registers n }
+    {
+        self.machine.registers.all()[usize::from(n)]
+    }
+
+    /// Whether the last `add` or `sub` gave 0; false before the first of them.
+    pub fn zf(&self) -> bool
+        ensures { result ≡ self.now.zero_flag }
+    {
+        self.machine.zero_flag
+    }
+
+    /// The bytes of all `out`s, in order.
+    pub fn output(&self) -> &[u8]
+        ensures { result.now ≡ self.now.output }
+    {
+        self.machine.output.bytes()
+    }
+
+    /// The marks of the passings that are made.
+    pub fn marks(&self) -> &Marks
+        ensures { result.now.items ≡ self.now.marks }
+    {
+        &self.marks
+    }
+
+    /// How many instructions are made.
+    pub fn instructions(&self) -> u64
+        ensures { result ≡ self.now.instructions }
+    {
+        self.machine.instructions
+    }
+
+    /// How many passings are made.
+    pub fn passings(&self) -> u32
+        ensures { result ≡ length self.now.marks }
+    {
+        self.machine.passings
+    }
+}

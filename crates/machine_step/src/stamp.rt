@@ -1,0 +1,66 @@
+//! The events of passings.
+ghost use Rattle.std.specs.Prelude.{◌≡◌, ◌≤◌, ◌+◌, ◌*◌, ◌/◌, ◌%◌, ◌^◌, ℕ, Some, None, if◌then◌else◌};
+ghost use Rattle.handler_word.specs.MarkList.{is_recorded};
+ghost use Rattle.machine_step.specs.Events.{event_kind, event_of};
+ghost use Rattle.machine_step.specs.Machine.{state_at};
+ghost use Rattle.machine_step.specs.PlainStep.{passing_at};
+
+use crate::limits::Limits;
+use crate::machine::Machine;
+use fdr_record::{Event, Kind};
+use handler_word::Mark;
+use xray_image::{Sled, SledKind};
+
+/// The event of the passing of a sled that a machine is about to make, where its mark says that it
+/// is recorded.
+pub(crate) fn event_at(
+    sled: Sled,
+    thread: u32,
+    machine: &Machine,
+    limits: Limits,
+    mark: Mark,
+) -> Option<Event>
+    requires stamps { (1 ≤ limits.cpus) × (1 ≤ limits.migrate) }
+    ensures { (address k : ℕ) → result ≡ (if is_recorded mark
+        then Some (event_of (passing_at limits thread (state_at address machine.now) k sled))
+        else None) }
+{
+    if mark != Mark::Recorded {
+        return None;
+    }
+    Some(Event {
+        cpu: cpu_at(thread, machine.passings, limits),
+        func: sled.id,
+        kind: event_kind(sled.kind),
+        tsc: counter_at(machine.instructions, limits),
+    })
+}
+
+/// The processor on which a thread is in its passing of this number.
+fn cpu_at(thread: u32, passing: u32, limits: Limits) -> u16
+    requires stamps { (1 ≤ limits.cpus) × (1 ≤ limits.migrate) }
+    ensures { result ≡ (thread + passing / limits.migrate) % limits.cpus }
+{
+    let moves = u64::from(passing / limits.migrate);
+    ((u64::from(thread) + moves) % u64::from(limits.cpus)) as u16
+}
+
+/// The cycle counter behind so many instructions. It wraps at 2^64.
+fn counter_at(instructions: u64, limits: Limits) -> u64
+    ensures { result ≡ (limits.tsc + limits.tick * instructions) % 2 ^ 64 }
+{
+    limits
+        .tsc
+        .wrapping_add(limits.tick.wrapping_mul(instructions))
+}
+
+/// The kind of an event at a sled of a kind.
+fn event_kind(kind: SledKind) -> Kind
+    ensures { result ≡ event_kind kind }
+{
+    match kind {
+        SledKind::Entry => Kind::Entry,
+        SledKind::Exit => Kind::Exit,
+        SledKind::Tail => Kind::TailExit,
+    }
+}

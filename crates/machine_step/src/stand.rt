@@ -1,0 +1,98 @@
+//! Where a thread stands, and how it runs from one sled to the next.
+
+ghost use Rattle.std.specs.Prelude.{◌≡◌, ◌<◌, ℕ, List};
+ghost use Rattle.xray_image.specs.Program.{IsAccepted};
+ghost use Rattle.machine_step.specs.Machine.{IsWithin};
+ghost use Rattle.machine_step.specs.Standing.{IsAtSled, PassesTo, RunsOnTo, due_sled};
+ghost use Rattle.machine_step.specs.Steps.{AreStepsOf, IsPlaceOf};
+
+use crate::end::End;
+use crate::limits::Limits;
+use crate::machine::Machine;
+use crate::stage::Stage;
+use crate::step::{Step, Way};
+use crate::steps::{Steps, place_of};
+use xray_image::Image;
+
+/// Where a thread stands between two loads.
+#[derive(Clone, Copy)]
+pub(crate) enum Stand {
+    /// Before a sled that it has a passing for; `place` is the sled's place among the steps, and
+    /// `sled` its number in the map.
+    Gate { place: usize, sled: u32 },
+    /// In the passing of that sled, before a load.
+    Loading {
+        place: usize,
+        sled: u32,
+        stage: Stage,
+    },
+    /// At its end.
+    Ended { end: End },
+}
+
+/// Runs a machine from a place to the next sled that it has a passing for, or to its end.
+pub(crate) fn run_to_sled(
+    machine: &mut Machine,
+    image: &Image,
+    steps: &Steps,
+    limits: Limits,
+    start: usize,
+) -> Stand
+    requires accepted { (bytes : List ℕ) × IsAccepted bytes image.now }
+    requires steps { AreStepsOf image.now steps.now.all.items }
+    requires within { IsWithin limits machine.old }
+    requires placed { (address : ℕ) × IsPlaceOf image.now.units address start }
+    ensures runs { (address : ℕ) → IsPlaceOf image.now.units address start
+        → RunsOnTo image.now limits address machine.old result machine.new }
+    ensures within { IsWithin limits machine.new }
+{
+    let mut place = start;
+    'steps: loop {
+        let step = steps.at(place);
+        if let Some(sled) = due_sled(machine, step, limits) {
+            return Stand::Gate { place, sled };
+        }
+        match machine.step(step, place, limits) {
+            Way::To(next) => place = next,
+            Way::Back(address) => place = place_of(image, address) as usize,
+            Way::Ends(end) => return Stand::Ended { end },
+        }
+    }
+}
+
+/// The sled of a step, where there is one and a passing is left for it.
+#[inline]
+fn due_sled(machine: &Machine, step: &Step, limits: Limits) -> Option<u32>
+    ensures { result ≡ due_sled limits machine.now step.now }
+{
+    if machine.passings == limits.passings {
+        return None;
+    }
+    step.sled()
+}
+
+/// Lets a machine that stands before a sled pass it, and run on to the next one or to its end.
+pub(crate) fn pass_sled(
+    machine: &mut Machine,
+    image: &Image,
+    steps: &Steps,
+    limits: Limits,
+    place: usize,
+) -> Stand
+    requires accepted { (bytes : List ℕ) × IsAccepted bytes image.now }
+    requires steps { AreStepsOf image.now steps.now.all.items }
+    requires within { IsWithin limits machine.old }
+    requires at { (sled : ℕ) × (address : ℕ) × IsAtSled image.now limits address place sled machine.old }
+    ensures passes { (address sled : ℕ) → IsAtSled image.now limits address place sled machine.old
+        → PassesTo image.now limits address machine.old result machine.new }
+    ensures within { IsWithin limits machine.new }
+{
+    match machine.step(steps.at(place), place, limits) {
+        Way::To(next) => run_to_sled(machine, image, steps, limits, next),
+        Way::Back(address) => {
+            let next = place_of(image, address) as usize;
+            run_to_sled(machine, image, steps, limits, next)
+        }
+        Way::Ends(end) => Stand::Ended { end },
+    }
+}
