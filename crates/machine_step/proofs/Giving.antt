@@ -219,15 +219,13 @@ sound_behind a sound place k at m ms stand mark ending =
       stands = stands.0;
     }
 
--- what stands behind the first list and one more is the rest of the other
-split_next : {X : Type 0} (xs ys : List X) (x y : X) (xs' ys' : List X) → length ys ≡ length xs + 1 → xs ++ x ∷ xs' ≡ ys ++ y ∷ ys'
-    → xs' ≡ y ∷ ys'
-split_next [] [] x y xs' ys' long same = absurd (omega arith)
-split_next [] (first ∷ []) x y xs' ys' long same = cc
-split_next [] (first ∷ second ∷ ys) x y xs' ys' long same = absurd (omega arith)
-split_next (first ∷ xs) [] x y xs' ys' long same = absurd (omega arith)
-split_next (first ∷ xs) (other ∷ ys) x y xs' ys' long same =
-    let rest : xs ++ x ∷ xs' ≡ ys ++ y ∷ ys' = cc in split_next xs ys x y xs' ys' (omega arith) rest
+-- lists that are as long in front go on alike
+split_rest : {X : Type 0} (xs ys : List X) (x : X) (xs' rest : List X) → length xs ≡ length ys → xs ++ x ∷ xs' ≡ ys ++ rest → rest ≡ x ∷ xs'
+split_rest [] [] x xs' rest long same = sym same
+split_rest [] (first ∷ ys) x xs' rest long same = absurd (omega arith)
+split_rest (first ∷ xs) [] x xs' rest long same = absurd (omega arith)
+split_rest (first ∷ xs) (other ∷ ys) x xs' rest long same =
+    let later : xs ++ x ∷ xs' ≡ ys ++ rest = cc in split_rest xs ys x xs' rest (omega arith) later
 
 no_more : {X : Type 0} (xs : List X) → length xs ≡ 0 → xs ≡ []
 no_more [] long = refl
@@ -245,35 +243,34 @@ is_between program limits thread address before after passed (Gate place k) run 
 is_between program limits thread address before after passed (Loading place k at) run = run
 is_between program limits thread address before after passed (Ended end) run = tt
 
--- what it wants there
-wants_behind : (b : Inside) → IsSound b → (passed : List Passing) (next : Passing) (later all : List Passing) (end : End) (last : State) (wanted : Option ℕ)
-    → PlainRun b.image.now b.limits b.thread all end last → all ≡ passed ++ next ∷ later → length b.marks.items ≡ length passed + 1
-    → wanted ≡ next_from b.image.now b.thread b.hold (length b.marks.items) (sleds_of later) []
+-- what it wants behind these passings
+pub wants_at : (b : Inside) → IsSound b → (passed rest all : List Passing) (end : End) (last : State) (wanted : Option ℕ)
+    → PlainRun b.image.now b.limits b.thread all end last → all ≡ passed ++ rest → length b.marks.items ≡ length passed
+    → wanted ≡ next_from b.image.now b.thread b.hold (length b.marks.items) (sleds_of rest) []
     → (stand : Stand) → StandsSo b stand → IsBetween stand
     → IsWant (traced b) all wanted end (want_at b.image.now b.thread b.machine.passings stand)
-wants_behind b sound passed next later all end last wanted run is long wants (Gate place k) at between =
+wants_at b sound passed rest all end last wanted run is long wants (Gate place k) at between =
     let on = goes_on_by b sound place k at all end last run in
-    let more : length at.passed ≡ length passed + 1 = at.count ∙ (sym sound.made ∙ long) in
-    let rest = split_next passed at.passed next at.next later on.later more (sym is ∙ on.is) in
-    let here : length b.marks.items ≡ length at.passed = sound.made ∙ sym at.count in (
+    let here : length b.marks.items ≡ length at.passed = sound.made ∙ sym at.count in
+    let rest_is = split_rest at.passed passed at.next on.later rest (sym here ∙ long) (sym on.is ∙ is) in (
       sym sound.made,
       record {
         passing = at.next;
         found = ap (slice_get all) here ∙ (ap (λ (ps : List Passing). slice_get ps (length at.passed)) on.is ∙ found_behind at.passed at.next on.later);
         first = wants
-            ∙ (ap (λ (ps : List Passing). next_from b.image.now b.thread b.hold (length b.marks.items) (sleds_of ps) []) rest
+            ∙ (ap (λ (ps : List Passing). next_from b.image.now b.thread b.hold (length b.marks.items) (sleds_of ps) []) rest_is
             ∙ (first_next b.image.now b.thread b.hold (length b.marks.items) at.next.sled (sleds_of on.later)
             ∙ (ap (λ n. Some (word_at b.image.now b.thread at.next.sled (first_stage b.hold n))) sound.made
             ∙ sym (ap Some (first_word_is b sound at.next.sled)))));
       },
     )
-wants_behind b sound passed next later all end last wanted run is long wants (Loading place k at) so between = absurd between
-wants_behind b sound passed next later all end last wanted run is long wants (Ended e) past between =
+wants_at b sound passed rest all end last wanted run is long wants (Loading place k at) so between = absurd between
+wants_at b sound passed rest all end last wanted run is long wants (Ended e) past between =
     let same = same_run b.image.now (accepted_units sound.bytes b.image.now sound.accepted) b.limits b.thread run.0 past.run.0
     (opening b.image.now b.thread) all past.passed end e last (state_at past.address b.machine) run.1 past.run.1 in
-    let count : length all ≡ length passed + 1 = ap length same.passings ∙ (past.count ∙ (sym sound.made ∙ long)) in
-    let both : length all ≡ length passed + length (next ∷ later) = ap length is ∙ length-append passed (next ∷ later) in
-    let none : later ≡ [] = no_more later (omega arith) in (
+    let count : length all ≡ length passed = ap length same.passings ∙ (past.count ∙ (sym sound.made ∙ long)) in
+    let both : length all ≡ length passed + length rest = ap length is ∙ length-append passed rest in
+    let none : rest ≡ [] = no_more rest (omega arith) in (
       wants ∙ ap (λ (ps : List Passing). next_from b.image.now b.thread b.hold (length b.marks.items) (sleds_of ps) []) none,
       sym same.ends,
     )
@@ -291,6 +288,7 @@ ends_loads a sound place k stage value is mark behind allowed m ms stand at endi
     let after = sound_behind a sound place k at m ms stand mark ending in
     let long : length ms.items ≡ length a.marks.items + 1 = ap length ending.items ∙ length-append a.marks.items (mark ∷ []) in
     let here_long : length a.marks.items ≡ length at.passed = sound.made ∙ sym at.count in
+    let more_long = length-append at.passed (at.next ∷ []) in
     let number : 0 + length a.marks.items + 1 ≡ length ms.items = omega arith in
     record {
       end = has.end;
@@ -299,8 +297,9 @@ ends_loads a sound place k stage value is mark behind allowed m ms stand at endi
       wanted = wanted_more (traced a) all loads load has.wanted (wanted_word a place k stage is all loads has);
       allowed = allowed_more a.image.now loads load has.allowed allowed;
       marks = ending.items ∙ sym adds.0;
-      wants = wants_behind (passed_on a m ms stand) after at.passed at.next here.later all has.end has.last
-          (wanted_behind (traced a) all (loads ++ load ∷ [])) has.run here.goes_on (omega arith)
+      wants = wants_at (passed_on a m ms stand) after (at.passed ++ at.next ∷ []) here.later all has.end has.last
+          (wanted_behind (traced a) all (loads ++ load ∷ [])) has.run
+          (here.goes_on ∙ sym (append_assoc at.passed (at.next ∷ []) here.later)) (omega arith)
           (adds.1 ∙ ap (λ n. next_from a.image.now a.thread a.hold n (sleds_of here.later) []) number)
           stand after.stands (is_between a.image.now a.limits a.thread at.address a.machine m (ending.made ∷ []) stand ending.runs);
     }

@@ -15,6 +15,7 @@ pub mod Opening
 pub mod Giving
 pub mod LoadFacts
 pub mod GiveClauses
+pub mod Beginning
 pub mod Runs
 pub mod SomeEnd
 pub mod Stepping

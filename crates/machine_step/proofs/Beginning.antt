@@ -1,0 +1,115 @@
+-- A traced thread before its first load.
+use Rattle.std.proofs.Common.{◌≡◌, ℕ, ◌+◌, ◌<◌, ◌≤◌, List, [], ◌∷◌, length, Option, Some, None, refl, sym, ap, ◌∙◌, subst, arith}
+use Rattle.std.specs.Prelude.{slice_get, All}
+use Rattle.xray_image.specs.Program.{Program, IsAccepted}
+use Rattle.sled_words.specs.Allowed.{IsAllowed}
+use Rattle.machine_step.specs.declared.cpu.Cpu.TheInside.{Inside}
+use Rattle.machine_step.specs.declared.end.End.{End}
+use Rattle.machine_step.specs.declared.limits.Limits.{Limits}
+use Rattle.machine_step.specs.declared.machine.Machine.{Machine}
+use Rattle.machine_step.specs.declared.stand.Stand.{Stand}
+use Rattle.machine_step.specs.declared.stand.Stand.TheVariants.{Gate, Loading, Ended}
+use Rattle.machine_step.specs.PlainStep.{State, Passing, PlainRun, opening, passing_at}
+use Rattle.machine_step.specs.Inside.{traced, want_at, IsSound, StandsSo}
+use Rattle.machine_step.specs.Loads.{Load, next_from}
+use Rattle.machine_step.specs.Machine.{state_at, first_machine, IsWithin}
+use Rattle.machine_step.specs.Standing.{RunsBy, RunsOnTo}
+use Rattle.machine_step.specs.Steps.{AreStepsOf}
+use Rattle.machine_step.specs.Traced.{HasLoaded, IsFresh, IsLoad, sleds_of, wanted_behind}
+use Rattle.machine_step.proofs.Accepted.{are_in_order}
+use Rattle.machine_step.proofs.Giving.{IsBetween, is_between, wants_at}
+use Rattle.machine_step.proofs.Loading.{no_marks}
+use Rattle.machine_step.proofs.OnCourse.{way_count, run_count}
+use Rattle.machine_step.proofs.ToSled.{at_passing}
+
+-- its fields before the first load
+pub record Begun (a : Inside) : Type 0 where
+  pub bytes : List ℕ
+  pub accepted : IsAccepted bytes a.image.now
+  pub steps : AreStepsOf a.image.now a.steps.all.items
+  pub within : IsWithin a.limits a.machine
+  pub cpus : 0 < a.limits.cpus
+  pub migrate : 0 < a.limits.migrate
+  pub some_thread : 0 < a.thread
+  pub no_more : a.thread ≤ a.threads
+  pub few : a.threads ≤ 16
+  pub room : a.marks.room ≡ a.limits.passings
+  pub unmarked : a.marks.items ≡ []
+  pub runs : RunsBy a.image.now a.limits a.thread a.image.now.entry (first_machine a.thread) [] a.stand a.machine
+
+stands_begun : (a : Inside) → Begun a → (stand : Stand)
+    → RunsBy a.image.now a.limits a.thread a.image.now.entry (first_machine a.thread) [] stand a.machine
+    → StandsSo a stand × (a.machine.passings ≡ 0)
+stands_begun a begun (Gate place k) (there, at, (n, reached)) =
+    let program = a.image.now in
+    let count : a.machine.passings ≡ 0 + 0 = way_count program a.limits a.thread n (opening program a.thread) (state_at there a.machine) [] reached in
+    let next = at_passing program (are_in_order begun.bytes program begun.accepted) a.limits a.thread there place k a.machine at.step begun.within
+    at.placed at.is_step at.due in
+    (
+      record {
+        address = there;
+        at = at;
+        passed = [];
+        next = passing_at a.limits a.thread (state_at there a.machine) k next.sled;
+        count = omega arith;
+        comes = record { steps = n; reached = reached; behind = next.next; passes = next.passes };
+      },
+      omega arith,
+    )
+stands_begun a begun (Loading place k at) run = absurd run
+stands_begun a begun (Ended end) (there, (n, run)) =
+    let program = a.image.now in
+    let count : a.machine.passings ≡ 0 + 0 = run_count program a.limits a.thread n (opening program a.thread) (state_at there a.machine) [] end run in
+    (record { address = there; passed = []; count = omega arith; run = (n, run) }, omega arith)
+
+pub sound_begun : (a : Inside) → Begun a → IsSound a
+sound_begun a begun =
+    let stands = stands_begun a begun a.stand begun.runs in
+    let none : length a.marks.items ≡ 0 = ap length begun.unmarked in
+    record {
+      bytes = begun.bytes;
+      accepted = begun.accepted;
+      steps = begun.steps;
+      within = begun.within;
+      cpus = begun.cpus;
+      migrate = begun.migrate;
+      some_thread = begun.some_thread;
+      no_more = begun.no_more;
+      few = begun.few;
+      room = begun.room;
+      made = omega (arith, stands.1);
+      stands = stands.0;
+    }
+
+no_load : (program : Program) (thread made : ℕ) (stand : Stand) → IsBetween stand → IsLoad (want_at program thread made stand) → ⊥
+no_load program thread made (Gate place k) between load = load
+no_load program thread made (Loading place k at) between load = between
+no_load program thread made (Ended end) between load = load
+
+pub fresh_begun : (a : Inside) → Begun a → IsFresh (traced a)
+fresh_begun a begun = record {
+  no_marks = begun.unmarked;
+  no_load = no_load a.image.now a.thread a.machine.passings a.stand
+      (is_between a.image.now a.limits a.thread a.image.now.entry (first_machine a.thread) a.machine [] a.stand begun.runs);
+}
+
+all_none : {X : Type 0} (P : X → Type 0) → All P []
+all_none P k d below = absurd (omega arith)
+
+pub loads_begun : (a : Inside) → Begun a → (all : List Passing) (end : End) (last : State) → PlainRun a.image.now a.limits a.thread all end last
+    → HasLoaded (traced a) all []
+loads_begun a begun all end last run =
+    let sound = sound_begun a begun in
+    let none : length a.marks.items ≡ 0 = ap length begun.unmarked in
+    record {
+      end = end;
+      last = last;
+      run = run;
+      wanted = λ i load found. absurd cc;
+      allowed = all_none (λ (load : Load). IsAllowed a.image.now load.word load.value);
+      marks = begun.unmarked ∙ sym (no_marks a.image.now a.thread a.hold 0 (sleds_of all));
+      wants = wants_at a sound [] all all end last (wanted_behind (traced a) all []) run refl none
+          (ap (λ n. next_from a.image.now a.thread a.hold n (sleds_of all) []) (sym none))
+          a.stand sound.stands
+          (is_between a.image.now a.limits a.thread a.image.now.entry (first_machine a.thread) a.machine [] a.stand begun.runs);
+    }
