@@ -1,6 +1,7 @@
 -- All threads of a replay and its patcher, from moment to moment.
 use Rattle.std.proofs.Common.{◌≡◌, ◌≢◌, ℕ, zero, suc, ◌+◌, ◌-◌, ◌<◌, ◌≤◌, min, List, [], ◌∷◌, ◌++◌, Option, Some, None, refl, sym, subst, ap, ◌∙◌, inl, inr, arith, length, vec_len, fold, take, get_or}
 use Rattle.std.specs.Prelude.{slice_get, slice_set, ◌⊎◌}
+use Rattle.std.specs.List.{All}
 use Rattle.std.proofs.lemmas.Bool.{cases_eq}
 use Rattle.std.proofs.lemmas.List.{get_or-set_other, get_or-set_same, length-set, take_all}
 use Rattle.std.proofs.lemmas.List.Sums.{fold_more}
@@ -218,3 +219,25 @@ one_rests n ts new first rests i t below found = by_place (set_cases ts n i new 
       where
         lower : (a b : ℕ) → a < b + 1 → a ≢ b → a < b
         lower a b h away = elim (cases_eq a b) [ | inl e ↦ absurd (away e) | inr other ↦ omega (arith, h, other) ]
+
+pub none_rests : (ts : List Traced) → FirstRest 0 ts
+none_rests ts i t below found = absurd (omega (arith, below))
+
+pub all_rest : (n : ℕ) (ts : List Traced) → n ≡ length ts → FirstRest n ts → All Rests ts
+all_rest n ts e first k d below = first k (get_or ts k d) (omega (arith, below, e)) (slice_get-get_or ts k d below)
+
+-- the item that was read at a place is there
+pub found_at : (ts : List Traced) (i : ℕ) (t : Traced) → i < length ts → t ≡ get_or ts i t → slice_get ts i ≡ Some t
+found_at ts i t within e = slice_get-get_or ts i t within ∙ ap Some (sym e)
+
+pub leads_nowhere : (p : Patcher) (ts : List Traced) → LeadAll [] p ts p ts
+leads_nowhere p ts cast threads limits m at = at
+
+-- the lines, and then all threads that run out
+pub lines_then_out : (lines : List Turns) (p q : Patcher) (ts us vs : List Traced) → length us ≡ length ts → LeadAll lines p ts q us
+    → RunOut (length us) q us vs
+    → (cast : Cast) (threads : ℕ) (limits : Limits) (m : Moment) → AllStandAt cast threads limits m p ts
+    → (last : Moment) × AllRunOut cast (length ts) 1 (fold (line_turns cast) m lines) last × AllStandAt cast threads limits last q vs
+lines_then_out lines p q ts us vs count leads out cast threads limits m at =
+    let run = out cast threads limits (fold (line_turns cast) m lines) (leads cast threads limits m at) in
+    (run.0, subst (λ (n : ℕ). AllRunOut cast n 1 (fold (line_turns cast) m lines) run.0) count run.1, run.2)

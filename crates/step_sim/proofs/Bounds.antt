@@ -1,9 +1,10 @@
 -- The beginning and the end of a replay.
-use Rattle.std.proofs.Common.{◌≡◌, ◌≢◌, ℕ, zero, suc, ◌+◌, ◌-◌, ◌<◌, ◌≤◌, List, [], ◌∷◌, ◌++◌, Option, Some, None, refl, sym, subst, ap, ◌∙◌, arith, length, map, vec_len}
+use Rattle.std.proofs.Common.{◌≡◌, ◌≢◌, ℕ, zero, suc, ◌+◌, ◌-◌, ◌<◌, ◌≤◌, List, [], ◌∷◌, ◌++◌, Option, Some, None, refl, sym, subst, ap, ◌∙◌, arith, length, length-append, get_or, inl, inr, map, vec_len}
 use Rattle.std.specs.Prelude.{slice_get, unwrap_or}
 use Rattle.std.specs.List.{enumerate_from}
-use Rattle.std.proofs.lemmas.List.{length-map}
-use Rattle.std.proofs.lemmas.Option.{slice_get_within}
+use Rattle.std.proofs.lemmas.Bool.{cases_lt}
+use Rattle.std.proofs.lemmas.List.{get_or_append_left, get_or_push, length-map}
+use Rattle.std.proofs.lemmas.Option.{get_or_from_slice_get, slice_get-get_or, slice_get_within}
 use Rattle.xray_image.specs.Program.{Program, IsAccepted}
 use Rattle.sled_words.specs.Words.{word_count}
 use Rattle.patch_script.specs.declared.command.Command.{Command}
@@ -223,3 +224,32 @@ is_replayed program script passings schedule threads limits last p ts one accept
         marks_there cast threads limits last p ts at,
       );
     }
+
+-- ---- threads that begin, one after the other
+
+pub none_begun : (program : Program) (script : List Command) (threads : ℕ) (limits : Limits) (ts : List Traced) → ts ≡ []
+    → (length ts ≡ 0) × AllHaveBegun program script threads limits ts
+none_begun program script threads limits ts e =
+    subst (λ (us : List Traced). (length us ≡ 0) × AllHaveBegun program script threads limits us) (sym e)
+    (refl, λ i t found. absurd (nothing_there t found))
+
+pub one_begun : (program : Program) (script : List Command) (threads : ℕ) (limits : Limits) (n : ℕ) (ts us : List Traced) (t : Traced)
+    → length ts ≡ n → AllHaveBegun program script threads limits ts → HasBegun program script threads limits (n + 1) t → us ≡ ts ++ t ∷ []
+    → (length us ≡ n + 1) × AllHaveBegun program script threads limits us
+one_begun program script threads limits n ts us t count begun one e =
+    subst (λ (vs : List Traced). (length vs ≡ n + 1) × AllHaveBegun program script threads limits vs) (sym e)
+    (omega (arith, length-append ts (t ∷ []), count), by_place)
+  where
+    by_place : AllHaveBegun program script threads limits (ts ++ t ∷ [])
+    by_place i u found =
+        let below : i < length (ts ++ t ∷ []) = slice_get_within (ts ++ t ∷ []) i u found in
+        let is : get_or (ts ++ t ∷ []) i u ≡ u = get_or_from_slice_get (ts ++ t ∷ []) i u u found in
+        elim (cases_lt i (length ts)) [
+          | inl before ↦
+              begun i u (slice_get-get_or ts i u before ∙ ap Some (sym (get_or_append_left ts (t ∷ []) u i before) ∙ is))
+          | inr behind ↦
+              let last : i ≡ n = omega (arith, below, length-append ts (t ∷ []), count, behind) in
+              let same : t ≡ u = sym (get_or_push ts t u i (omega (arith, count, last))) ∙ is in
+              subst (λ (x : Traced). HasBegun program script threads limits (i + 1) x) same
+              (subst (λ (k : ℕ). HasBegun program script threads limits (k + 1) t) (sym last) one)
+        ]

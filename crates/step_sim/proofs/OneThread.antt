@@ -201,3 +201,7 @@ has_run_out n p old new same leads rests cast m at =
     let none : wanted_by cast old.thread here ≡ None =
     subst (λ (k : ℕ). wanted_by cast k here ≡ None) same.thread (rest_wants_none cast here p new (leads cast m at) rests) in
     (here, (n, refl, none), leads cast m at)
+
+-- no turns lead nowhere
+pub leads_none : (p : Patcher) (t : Traced) → LeadsOn 0 p t t
+leads_none p t cast m at = at

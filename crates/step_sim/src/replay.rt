@@ -57,6 +57,9 @@ pub fn simulate<'a>(
     if let Some(line) = script.waits() {
         return Err(SimFault::Waits(line));
     }
+    // Says that some accepted file holds the image.
+    image.base();
+    one_end();
     let mut patcher = Patcher::new(alloc, image, script, setup.threads)?;
     let mut cpus = new_threads(alloc, image, script, setup)?;
     play(&mut cpus, &mut patcher, schedule.lines());

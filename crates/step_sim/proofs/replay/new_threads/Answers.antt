@@ -1,27 +1,19 @@
-use Rattle.std.proofs.Common.{rules, ◌≡◌, ◌≤◌, ◌↔◌, ◌+◌, ℕ, All, List, Err, Some, None, IfOk, fold, length, slice_get, ◌-◌, ◌*◌, ◌<◌, ◌/◌, ◌%◌, Bool, true, false, nat_eq, nat_lt, [], ◌∷◌, ◌++◌, slice_index_or, slice_set, bit_and, bit_or, Fits, w8, w32, w64, Bor, MutBor}
-use Rattle.patch_script.specs.Plans.{waiting_line}
+use Rattle.std.proofs.Common.{◌≡◌, ◌∙◌, length, arith, ap}
 use Rattle.patch_script.specs.Refusals.{commands_of}
-use Rattle.machine_step.specs.declared.limits.Limits.{Limits}
-use Rattle.step_sim.specs.declared.sim_fault.SimFault.{SimFault}
-use Rattle.step_sim.specs.declared.sim_fault.SimFault.TheVariants.{Waits}
-use Rattle.step_sim.specs.Replay.{AllRunOut, Cast, Moment, line_turns}
-use Rattle.step_sim.specs.Replayed.{IsReplayed}
-use Rattle.step_sim.specs.Schedules.{AreTurnsOf}
-use Rattle.step_sim.specs.Standing.{AllHaveBegun, AllPlay, AllStandAt, Rests}
+use Rattle.step_sim.proofs.Bounds.{none_begun, one_begun}
 use Rattle.step_sim.proofs.replay.new_threads.Goals as goal
 
--- src/replay.rt:80:5
 pub loop-number-init : goal.loop-number-init
-loop-number-init c = ?
+loop-number-init c =
+    none_begun c.args.image.now (commands_of c.args.script.now.lines) c.args.setup.now.threads c.args.setup.now.limits _ c.in_ok-cpus.ensures.items
 
--- src/replay.rt:80:5
 pub loop-number-preserved : goal.loop-number-preserved
-loop-number-preserved c = ?
+loop-number-preserved c =
+    one_begun c.args.image.now (commands_of c.args.script.now.lines) c.args.setup.now.threads c.args.setup.now.limits _ _ _ _
+    c.loop-number.invariant.0 c.loop-number.invariant.1 c.in_ok-new_thread.ensures c.in_ok-push.ensures.items
 
--- src/replay.rt:67:1
 pub returns-clause-count : goal.returns-clause-count
-returns-clause-count c = ?
+returns-clause-count c = omega (arith, c.loop-number.invariant.0, c.loop-number-test.false, c.loop-number.auto.number-end)
 
--- src/replay.rt:67:1
 pub returns-clause-begun : goal.returns-clause-begun
-returns-clause-begun c = ?
+returns-clause-begun c = c.loop-number.invariant.1

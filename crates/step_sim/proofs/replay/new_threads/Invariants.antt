@@ -1,14 +1,9 @@
-use Rattle.std.proofs.Common.{◌≡◌, ◌≤◌, ◌↔◌, ◌+◌, ℕ, All, List, Err, Some, None, IfOk, fold, length, slice_get, ◌-◌, ◌*◌, ◌<◌}
-use Rattle.patch_script.specs.Plans.{waiting_line}
+use Rattle.std.proofs.Common.{◌≡◌, length}
 use Rattle.patch_script.specs.Refusals.{commands_of}
-use Rattle.machine_step.specs.declared.limits.Limits.{Limits}
-use Rattle.step_sim.specs.declared.sim_fault.SimFault.{SimFault}
-use Rattle.step_sim.specs.declared.sim_fault.SimFault.TheVariants.{Waits}
-use Rattle.step_sim.specs.Replay.{AllRunOut, Cast, Moment, line_turns}
-use Rattle.step_sim.specs.Replayed.{IsReplayed}
-use Rattle.step_sim.specs.Schedules.{AreTurnsOf}
-use Rattle.step_sim.specs.Standing.{AllHaveBegun, AllPlay, AllStandAt, Rests}
+use Rattle.step_sim.specs.Standing.{AllHaveBegun}
 use Rattle.step_sim.proofs.replay.new_threads.Given as goal
 
 abbrev pub invariant-loop-number : goal.invariant-loop-number
-invariant-loop-number l = ?
+invariant-loop-number l =
+    (length l.cpus.items ≡ l.number)
+    × AllHaveBegun l.image (commands_of l.script.lines) l.setup.threads l.setup.limits l.cpus.items

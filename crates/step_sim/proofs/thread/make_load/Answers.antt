@@ -1,26 +1,29 @@
-use Rattle.std.proofs.Common.{rules, ◌≡◌, ◌<◌, ◌≤◌, ◌+◌, ℕ, List, None, IfNone, IfOk, IfSome, ◌-◌, ◌*◌, length, ◌/◌, ◌%◌, Bool, true, false, nat_eq, nat_lt, [], ◌∷◌, ◌++◌, slice_index_or, slice_set, bit_and, bit_or, Fits, w8, w32, w64, Bor, MutBor}
-use Rattle.std.specs.Bool.{OnFalse, OnTrue}
-use Rattle.patch_script.specs.Refusals.{commands_of}
-use Rattle.machine_step.specs.declared.want.Want.{Want}
-use Rattle.machine_step.specs.Loads.{Load}
-use Rattle.machine_step.specs.PlainStep.{Passing}
-use Rattle.machine_step.specs.Traced.{HasLoaded, IsGate, IsSameThread, loads_left}
-use Rattle.step_sim.specs.Replay.{Cast, Moment, RunsOut, thread_turn, turns}
-use Rattle.step_sim.specs.Standing.{HasBegun, Play, Rests, StandAt}
+use Rattle.step_sim.proofs.OneThread.{ended_turn, load_made, value_allowed, word_there}
 use Rattle.step_sim.proofs.thread.make_load.Goals as goal
 
--- src/thread.rt:85:35
 pub load-requires : goal.load-requires
-load-requires c = ?
+load-requires c =
+    let said = c.in-Some.ensures in
+    word_there c.args.patcher.now c.args.cpu.now c.next_word.new.cpu c.in-Some.word c.requires said.thread said.loads said.word
 
--- src/thread.rt:85:17
 pub give-event-requires : goal.give-event-requires
-give-event-requires c = ?
+give-event-requires c =
+    let said = c.in-Some.ensures in
+    let old = c.args.cpu.now in
+    let mid = c.next_word.new.cpu in
+    let allowed = value_allowed c.args.patcher.now old mid c.in-Some.word c.load.result c.requires said.thread said.loads said.word
+    c.a_replay_reads_along.ensures.allowed
+    (λ cast moment at. c.load.ensures cast.program cast.script moment.place at.patcher) in
+    rw said.word allowed
 
--- src/thread.rt:73:1
 pub returns-in-Some-clause-at : goal.returns-in-Some-clause-at
-returns-in-Some-clause-at c = ?
+returns-in-Some-clause-at c = λ cast moment at.
+    let said = c.in-Some.ensures in
+    load_made cast moment c.args.patcher.now c.args.cpu.now c.next_word.new.cpu _ c.in-Some.word c.load.result at
+    said.thread said.loads said.word (c.load.ensures cast.program cast.script moment.place at.patcher)
+    c.give-event.ensures.thread c.give-event.ensures.loads
 
--- src/thread.rt:73:1
 pub returns-in-None-clause-at : goal.returns-in-None-clause-at
-returns-in-None-clause-at c = ?
+returns-in-None-clause-at c = λ cast moment at.
+    let said = c.in-None.ensures in
+    ended_turn cast moment c.args.patcher.now c.args.cpu.now c.next_word.new.cpu at said.thread said.loads said.ended

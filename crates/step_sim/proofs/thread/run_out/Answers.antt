@@ -1,34 +1,35 @@
-use Rattle.std.proofs.Common.{rules, ◌≡◌, ◌<◌, ◌≤◌, ◌+◌, ℕ, List, None, IfNone, IfOk, IfSome, ◌-◌, ◌*◌, length, ◌/◌, ◌%◌, Bool, true, false, nat_eq, nat_lt, [], ◌∷◌, ◌++◌, slice_index_or, slice_set, bit_and, bit_or, Fits, w8, w32, w64, Bor, MutBor}
-use Rattle.std.specs.Bool.{OnFalse, OnTrue}
-use Rattle.patch_script.specs.Refusals.{commands_of}
-use Rattle.machine_step.specs.declared.want.Want.{Want}
-use Rattle.machine_step.specs.Loads.{Load}
-use Rattle.machine_step.specs.PlainStep.{Passing}
-use Rattle.machine_step.specs.Traced.{HasLoaded, IsGate, IsSameThread, loads_left}
-use Rattle.step_sim.specs.Replay.{Cast, Moment, RunsOut, thread_turn, turns}
-use Rattle.step_sim.specs.Standing.{HasBegun, Play, Rests, StandAt}
+use Rattle.std.proofs.Common.{◌+◌}
+use Rattle.step_sim.proofs.OneThread.{ends_early, has_run_out, leads_none, one_more, plays_on, same_again, same_then}
 use Rattle.step_sim.proofs.thread.run_out.Goals as goal
 
--- src/thread.rt:114:5
 pub loads-init : goal.loads-init
-loads-init c = ?
+loads-init c = (same_again c.args.cpu.now, (0, leads_none c.args.patcher.now c.args.cpu.now))
 
--- src/thread.rt:114:19
 pub make_load-requires : goal.make_load-requires
-make_load-requires c = ?
+make_load-requires c =
+    plays_on c.loads.invariant.1.0 c.args.patcher.now c.args.cpu.now c.loads.cpu c.loads.invariant.1.1 c.requires
 
--- src/thread.rt:114:5
 pub loads-smaller : goal.loads-smaller
-loads-smaller c = ?
+loads-smaller c = c.loads-test.ensures.nearer
 
--- src/thread.rt:114:5
 pub loads-preserved : goal.loads-preserved
-loads-preserved c = ?
+loads-preserved c =
+    let said = c.loads-test.ensures in
+    let made = c.loads.invariant.1 in
+    (
+      same_then _ _ _ c.loads.invariant.0 said.thread,
+      (made.0 + 1, one_more made.0 c.args.patcher.now c.args.cpu.now c.loads.cpu c.make_load.new.cpu c.loads.invariant.0 made.1 said.at),
+    )
 
--- src/thread.rt:107:1
 pub returns-clause-thread : goal.returns-clause-thread
-returns-clause-thread c = ?
+returns-clause-thread c = same_then _ _ _ c.loads.invariant.0 c.loads-test.ensures.thread
 
--- src/thread.rt:107:1
 pub returns-clause-at : goal.returns-clause-at
-returns-clause-at c = ?
+returns-clause-at c =
+    let said = c.loads-test.ensures in
+    let made = c.loads.invariant.1 in
+    let p = c.args.patcher.now in
+    let old = c.args.cpu.now in
+    let new = c.make_load.new.cpu in
+    has_run_out (made.0 + 1) p old new (same_then _ _ _ c.loads.invariant.0 said.thread)
+    (one_more made.0 p old c.loads.cpu new c.loads.invariant.0 made.1 said.at) said.ended

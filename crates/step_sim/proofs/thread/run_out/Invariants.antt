@@ -1,16 +1,10 @@
-use Rattle.std.proofs.Common.{◌≡◌, ◌<◌, ◌≤◌, ◌+◌, ℕ, List, None, IfNone, IfOk, IfSome, ◌-◌, ◌*◌, length}
-use Rattle.std.specs.Bool.{OnFalse, OnTrue}
-use Rattle.patch_script.specs.Refusals.{commands_of}
-use Rattle.machine_step.specs.declared.want.Want.{Want}
-use Rattle.machine_step.specs.Loads.{Load}
-use Rattle.machine_step.specs.PlainStep.{Passing}
-use Rattle.machine_step.specs.Traced.{HasLoaded, IsGate, IsSameThread, loads_left}
-use Rattle.step_sim.specs.Replay.{Cast, Moment, RunsOut, thread_turn, turns}
-use Rattle.step_sim.specs.Standing.{HasBegun, Play, Rests, StandAt}
+use Rattle.std.proofs.Common.{ℕ}
+use Rattle.machine_step.specs.Traced.{IsSameThread, loads_left}
+use Rattle.step_sim.proofs.OneThread.{LeadsOn}
 use Rattle.step_sim.proofs.thread.run_out.Given as goal
 
 abbrev pub invariant-loads : goal.invariant-loads
-invariant-loads l = ?
+invariant-loads l = IsSameThread l.initial.cpu l.cpu × ((n : ℕ) × LeadsOn n l.patcher l.initial.cpu l.cpu)
 
 abbrev pub decreases-loads : goal.decreases-loads
-decreases-loads l = ?
+decreases-loads l = loads_left l.cpu
