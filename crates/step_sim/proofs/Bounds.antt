@@ -1,11 +1,13 @@
 -- The beginning and the end of a replay.
-use Rattle.std.proofs.Common.{◌≡◌, ◌≢◌, ℕ, zero, suc, ◌+◌, ◌-◌, ◌<◌, ◌≤◌, List, [], ◌∷◌, ◌++◌, Option, Some, None, refl, sym, subst, ap, ◌∙◌, arith, length, length-append, get_or, inl, inr, map, vec_len}
-use Rattle.std.specs.Prelude.{slice_get, unwrap_or}
-use Rattle.std.specs.List.{enumerate_from}
+use Rattle.std.proofs.Common.{◌≡◌, ◌≢◌, ℕ, zero, suc, ◌+◌, ◌-◌, ◌*◌, ◌<◌, ◌≤◌, List, [], ◌∷◌, ◌++◌, Option, Some, None, refl, sym, subst, ap, ◌∙◌, arith, length, length-append, get_or, inl, inr, fold, map, vec_len}
+use Rattle.std.specs.Prelude.{replicate, slice_get, unwrap_or}
+use Rattle.std.specs.List.{All, enumerate_from, flat_map}
 use Rattle.std.proofs.lemmas.Bool.{cases_lt}
-use Rattle.std.proofs.lemmas.List.{get_or_append_left, get_or_push, length-map}
+use Rattle.std.proofs.lemmas.List.{get_or_append_left, get_or_push, length-map, length-replicate}
 use Rattle.std.proofs.lemmas.Option.{get_or_from_slice_get, slice_get-get_or, slice_get_within}
 use Rattle.xray_image.specs.Program.{Program, IsAccepted}
+use Rattle.xray_image.specs.declared.sled.Sled.{Sled}
+use Rattle.sled_words.specs.Parts.{all_sled_words, initial_words, sled_words}
 use Rattle.sled_words.specs.Words.{word_count}
 use Rattle.patch_script.specs.declared.command.Command.{Command}
 use Rattle.patch_script.specs.declared.command.Command.TheVariants as commands
@@ -20,7 +22,7 @@ use Rattle.machine_step.specs.PlainStep.{Passing, PlainRun, State}
 use Rattle.machine_step.specs.Traced.{HasLoaded, IsThreadOf, Traced, sleds_of, state_at}
 use Rattle.step_sim.specs.declared.patcher.Patcher.{Patcher}
 use Rattle.step_sim.specs.declared.turns.Turns.{Turns}
-use Rattle.step_sim.specs.Replay.{AllRunOut, Cast, Moment, Replay, first_moment, marks_at, of_thread, scheduled}
+use Rattle.step_sim.specs.Replay.{AllRunOut, Cast, Moment, Replay, first_moment, line_turns, marks_at, of_thread, scheduled}
 use Rattle.step_sim.specs.Replayed.{HasRun, IsReplayed, cast_of}
 use Rattle.step_sim.specs.Standing.{AllHaveBegun, AllStandAt, HasBegun, IsPatcherAt, IsThreadAt, Rests}
 use Rattle.step_sim.proofs.ReplayAlong.{first_along, no_loads, of_thread_is}
@@ -253,3 +255,31 @@ one_begun program script threads limits n ts us t count begun one e =
               subst (λ (x : Traced). HasBegun program script threads limits (i + 1) x) same
               (subst (λ (k : ℕ). HasBegun program script threads limits (k + 1) t) (sym last) one)
         ]
+
+-- ---- how many words there are
+
+length-sleds : (sleds : List Sled) → length (flat_map sled_words sleds) ≡ 4 * length sleds
+length-sleds [] = refl
+length-sleds (sled ∷ sleds) = omega (arith, length-append (sled_words sled) (flat_map sled_words sleds), length-sleds sleds)
+
+pub length-initial_words : (program : Program) (threads : ℕ) → length (initial_words program threads) ≡ word_count program threads
+length-initial_words program threads =
+    let unset : ℕ = 0 in
+    omega (arith, length-append (all_sled_words program) (replicate (2 + 2 * threads) unset), length-sleds program.sleds, length-replicate (2 + 2 * threads) unset)
+
+-- ---- the whole
+
+pub replayed : (program : Program) (script : List Command) (passings : List (List ℕ)) (lines schedule : List Turns) (threads : ℕ) (limits : Limits)
+    (p : Patcher) (ts us : List Traced) → OneEnd → (bytes : List ℕ) × IsAccepted bytes program → length ts ≡ threads → lines ≡ schedule
+    → (last : Moment)
+    × AllRunOut (cast_of program script passings) (length ts) 1
+    (fold (line_turns (cast_of program script passings)) (first_moment (cast_of program script passings)) lines) last
+    × AllStandAt (cast_of program script passings) threads limits last p us
+    → All Rests us → IsReplayed program script schedule threads limits us
+replayed program script passings lines schedule threads limits p ts us one accepted count said (last, out, at) rest =
+    let cast : Cast = cast_of program script passings in
+    is_replayed program script passings schedule threads limits last p us one accepted at
+    (subst (λ (ls : List Turns). AllRunOut cast threads 1 (scheduled cast ls) last) said
+    (subst (λ (n : ℕ). AllRunOut cast n 1 (scheduled cast lines) last) count out))
+    (λ i t below found.
+    subst Rests (get_or_from_slice_get us i t t found) (rest i t (slice_get_within us i t found)))
