@@ -1,6 +1,6 @@
 -- The beginning and the end of a replay.
 use Rattle.std.proofs.Common.{◌≡◌, ◌≢◌, ℕ, zero, suc, ◌+◌, ◌-◌, ◌*◌, ◌<◌, ◌≤◌, List, [], ◌∷◌, ◌++◌, Option, Some, None, refl, sym, subst, ap, ◌∙◌, arith, length, length-append, get_or, inl, inr, fold, map, vec_len}
-use Rattle.std.specs.Prelude.{replicate, slice_get, unwrap_or}
+use Rattle.std.specs.Prelude.{Err, IfOk, Ok, Result, replicate, slice_get, unwrap_or}
 use Rattle.std.specs.List.{All, enumerate_from, flat_map}
 use Rattle.std.proofs.lemmas.Bool.{cases_lt}
 use Rattle.std.proofs.lemmas.List.{get_or_append_left, get_or_push, length-map, length-replicate}
@@ -283,3 +283,18 @@ replayed program script passings lines schedule threads limits p ts us one accep
     (subst (λ (n : ℕ). AllRunOut cast n 1 (scheduled cast lines) last) count out))
     (λ i t below found.
     subst Rests (get_or_from_slice_get us i t t found) (rest i t (slice_get_within us i t found)))
+
+-- ---- one thread that begins
+
+pub begun_if : {E : Type 0} (program : Program) (script : List Command) (threads : ℕ) (limits : Limits) (number : ℕ) (hold : Option ℕ)
+    (made : Result Traced E) → hold ≡ hold_of number script
+    → (passed : List Passing) × (end : End) × (last : State) × PlainRun program limits number passed end last
+    → IfOk made (IsThreadOf program number threads hold limits)
+    → IfOk made (λ t. (passed : List Passing) (end : End) (last : State) → PlainRun program limits number passed end last → HasLoaded t passed [])
+    → IfOk made (HasBegun program script threads limits number)
+begun_if program script threads limits number hold (Ok t) is (passed, end, last, run) thread loads = record {
+  thread_is = subst (λ (h : Option ℕ). IsThreadOf program number threads h limits t) is thread;
+  passed = passed;
+  loaded = loads passed end last run;
+}
+begun_if program script threads limits number hold (Err e) is some thread loads = tt
