@@ -1,5 +1,5 @@
 -- All threads of a replay and its patcher, from moment to moment.
-use Rattle.std.proofs.Common.{◌≡◌, ◌≢◌, ℕ, zero, suc, ◌+◌, ◌-◌, ◌<◌, ◌≤◌, min, List, [], ◌∷◌, ◌++◌, Option, Some, None, refl, sym, subst, ap, ◌∙◌, inl, inr, arith, length, vec_len, fold, take, get_or}
+use Rattle.std.proofs.Common.{◌≡◌, ◌≢◌, ℕ, ◌+◌, ◌<◌, ◌≤◌, min, List, [], Some, None, refl, sym, subst, ap, ◌∙◌, inl, inr, arith, length, vec_len, fold, take, get_or}
 use Rattle.std.specs.Prelude.{slice_get, slice_set, ◌⊎◌}
 use Rattle.std.specs.List.{All}
 use Rattle.std.proofs.lemmas.Bool.{cases_eq}
@@ -9,7 +9,6 @@ use Rattle.std.proofs.lemmas.Option.{get_or_from_slice_get, slice_get-get_or, sl
 use Rattle.patch_script.specs.Micros.{total_of}
 use Rattle.machine_step.specs.declared.limits.Limits.{Limits}
 use Rattle.machine_step.specs.Traced.{HasLoaded, IsSameThread, IsThreadOf, Traced}
-use Rattle.machine_step.specs.Loads.{Load}
 use Rattle.sled_words.specs.Words.{word_count}
 use Rattle.step_sim.specs.declared.patcher.Patcher.{Patcher}
 use Rattle.step_sim.specs.declared.turns.Turns.{Turns}
@@ -18,7 +17,7 @@ use Rattle.step_sim.specs.Along.{IsAlong}
 use Rattle.step_sim.specs.Replay.{AllRunOut, Cast, Moment, RunsOut, line_turns, of_thread, patcher_turn, thread_turn, turns}
 use Rattle.step_sim.specs.Standing.{AllPlay, AllStandAt, IsPatcherAt, IsThreadAt, Play, Rests, StandAt}
 use Rattle.step_sim.proofs.ReplayAlong.{patcher_keeps, turns_keep}
-use Rattle.step_sim.proofs.TurnLemmas.{patcher_turns, run_out_more, turns_length, turns_other, turns_place}
+use Rattle.step_sim.proofs.TurnLemmas.{patcher_turns, run_out_more, turns_length, turns_other}
 use Rattle.step_sim.proofs.OneThread.{same_again, thread_moved}
 
 -- ---- lists
@@ -86,6 +85,7 @@ one_moved cast threads limits m m' p ts i old new at found same there room other
         subst (λ (k : ℕ). IsThreadOf cast.program (k + 1) threads None limits t) (sym place)
         (subst (IsThreadOf cast.program (i + 1) threads None limits) (sym e) (thread_again cast threads (i + 1) limits old new (at.thread i old found) same))
     thread_case j t (inr (apart, is)) = at.thread j t is
+
     each_case : (j : ℕ) (t : Traced) → ((j ≡ i) × (t ≡ new)) ⊎ ((j ≢ i) × (slice_get ts j ≡ Some t)) → IsThreadAt cast m' t
     each_case j t (inl (place, e)) = subst (IsThreadAt cast m') (sym e) there.thread
     each_case j t (inr (apart, is)) =
@@ -218,7 +218,7 @@ one_rests n ts new first rests i t below found = by_place (set_cases ts n i new 
     by_place (inr (apart, is)) = first i t (lower i n below apart) is
       where
         lower : (a b : ℕ) → a < b + 1 → a ≢ b → a < b
-        lower a b h away = elim (cases_eq a b) [ | inl e ↦ absurd (away e) | inr other ↦ omega (arith, h, other) ]
+        lower a b h away = elim (cases_eq a b) [ inl e ↦ absurd (away e) | inr other ↦ omega (arith, h, other) ]
 
 pub none_rests : (ts : List Traced) → FirstRest 0 ts
 none_rests ts i t below found = absurd (omega (arith, below))

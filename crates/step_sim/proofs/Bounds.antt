@@ -1,5 +1,5 @@
 -- The beginning and the end of a replay.
-use Rattle.std.proofs.Common.{◌≡◌, ◌≢◌, ℕ, zero, suc, ◌+◌, ◌-◌, ◌*◌, ◌<◌, ◌≤◌, List, [], ◌∷◌, ◌++◌, Option, Some, None, refl, sym, subst, ap, ◌∙◌, arith, length, length-append, get_or, inl, inr, fold, map, vec_len}
+use Rattle.std.proofs.Common.{◌≡◌, ℕ, zero, suc, ◌+◌, ◌-◌, ◌*◌, ◌<◌, List, [], ◌∷◌, ◌++◌, Option, Some, None, refl, sym, subst, ap, ◌∙◌, arith, length, length-append, get_or, inl, inr, fold, map, vec_len}
 use Rattle.std.specs.Prelude.{Err, IfOk, Ok, Result, replicate, slice_get, unwrap_or}
 use Rattle.std.specs.List.{All, enumerate_from, flat_map}
 use Rattle.std.proofs.lemmas.Bool.{cases_lt}
@@ -22,7 +22,7 @@ use Rattle.machine_step.specs.PlainStep.{Passing, PlainRun, State}
 use Rattle.machine_step.specs.Traced.{HasLoaded, IsThreadOf, Traced, sleds_of, state_at}
 use Rattle.step_sim.specs.declared.patcher.Patcher.{Patcher}
 use Rattle.step_sim.specs.declared.turns.Turns.{Turns}
-use Rattle.step_sim.specs.Replay.{AllRunOut, Cast, Moment, Replay, first_moment, line_turns, marks_at, of_thread, scheduled}
+use Rattle.step_sim.specs.Replay.{AllRunOut, Cast, Moment, first_moment, line_turns, marks_at, of_thread, scheduled}
 use Rattle.step_sim.specs.Replayed.{HasRun, IsReplayed, cast_of}
 use Rattle.step_sim.specs.Standing.{AllHaveBegun, AllStandAt, HasBegun, IsPatcherAt, IsThreadAt, Rests}
 use Rattle.step_sim.proofs.ReplayAlong.{first_along, no_loads, of_thread_is}
@@ -96,31 +96,33 @@ begins program script threads limits p ts count begun free patcher words =
     let its = gathered ts (λ i t found. ((begun i t found).passed, (begun i t found).loaded)) in
     let cast : Cast = cast_of program script its.all in
     let first : Moment = first_moment cast in
-    let room : length first.loads ≡ threads = length-map its.all (λ (_ : List ℕ). let none : List Load = [] in none) ∙ its.count ∙ count in
-    (its.all, record {
-      count = count;
-      passings = its.count ∙ count;
-      loads = room;
-      along = first_along cast;
-      patcher = patcher;
-      words = omega (arith, words);
-      thread = λ i t found. thread_of i t (begun i t found);
-      no_hold = free;
-      each = λ i t found.
-          let is = (begun i t found).thread_is in
-          let own = its.own i t found in
-          record {
-            program_is = is.program_is;
-            first = omega (arith, is.thread_is);
-            last = omega (arith, is.thread_is, is.threads_are, slice_get_within ts i t found, count);
-            room = omega (arith, is.thread_is, slice_get_within ts i t found, count, room);
-            no_hold = free t.thread;
-            free = is.hold_is ∙ free (i + 1);
-            passed = own.0;
-            sleds = item_of its.all i t.thread is.thread_is ∙ own.1;
-            loaded = subst (HasLoaded t own.0) (sym (of_thread_is first.loads t.thread ∙ no_loads its.all (t.thread - 1))) own.2;
-          };
-    })
+    let room : length first.loads ≡ threads = length-map its.all (λ (_ : List ℕ). let none : List Load = [] in none) ∙ its.count ∙ count in (
+      its.all,
+      record {
+        count = count;
+        passings = its.count ∙ count;
+        loads = room;
+        along = first_along cast;
+        patcher = patcher;
+        words = omega (arith, words);
+        thread = λ i t found. thread_of i t (begun i t found);
+        no_hold = free;
+        each = λ i t found.
+            let is = (begun i t found).thread_is in
+            let own = its.own i t found in
+            record {
+              program_is = is.program_is;
+              first = omega (arith, is.thread_is);
+              last = omega (arith, is.thread_is, is.threads_are, slice_get_within ts i t found, count);
+              room = omega (arith, is.thread_is, slice_get_within ts i t found, count, room);
+              no_hold = free t.thread;
+              free = is.hold_is ∙ free (i + 1);
+              passed = own.0;
+              sleds = item_of its.all i t.thread is.thread_is ∙ own.1;
+              loaded = subst (HasLoaded t own.0) (sym (of_thread_is first.loads t.thread ∙ no_loads its.all (t.thread - 1))) own.2;
+            };
+      },
+    )
   where
     thread_of : (i : ℕ) (t : Traced) → HasBegun program script threads limits (i + 1) t → IsThreadOf program (i + 1) threads None limits t
     thread_of i t is = subst (λ (h : Option ℕ). IsThreadOf program (i + 1) threads h limits t) (free (i + 1)) is.thread_is

@@ -1,5 +1,5 @@
 -- A schedule leaves one list of marks to each thread.
-use Rattle.std.proofs.Common.{◌≡◌, ℕ, zero, suc, ◌+◌, List, length, Option, None, refl, sym, ap, ◌∙◌, subst}
+use Rattle.std.proofs.Common.{◌≡◌, ℕ, zero, suc, ◌+◌, List, length, None, refl, sym, ap, ◌∙◌, subst}
 use Rattle.handler_word.specs.declared.mark.Mark.{Mark}
 use Rattle.step_sim.specs.declared.turns.Turns.{Turns}
 use Rattle.step_sim.specs.Replay.{Cast, Moment, wanted_by, thread_turn, turns, RunsOut, AllRunOut, scheduled, marks_at, Replay}

@@ -1,12 +1,12 @@
 -- One thread of a replay and its patcher, from moment to moment.
-use Rattle.std.proofs.Common.{◌≡◌, ◌≢◌, ℕ, ◌+◌, ◌-◌, ◌<◌, ◌≤◌, List, [], ◌∷◌, ◌++◌, Option, Some, None, refl, sym, subst, ap, ◌∙◌, arith, length, take, vec_len}
+use Rattle.std.proofs.Common.{◌≡◌, ℕ, ◌+◌, ◌<◌, ◌≤◌, List, [], ◌∷◌, ◌++◌, Option, Some, None, refl, sym, subst, ap, ◌∙◌, arith, length, vec_len}
 use Rattle.xray_image.specs.Program.{Program}
 use Rattle.sled_words.specs.Allowed.{IsAllowed}
 use Rattle.sled_words.specs.Words.{word_count}
 use Rattle.patch_script.specs.CodeAt.{code_at}
 use Rattle.patch_script.specs.Micros.{hold_of}
 use Rattle.machine_step.specs.declared.want.Want.{Want}
-use Rattle.machine_step.specs.declared.want.Want.TheVariants.{Done, Gate, Load as Loads}
+use Rattle.machine_step.specs.declared.want.Want.TheVariants.{Load as Loads}
 use Rattle.machine_step.specs.Loads.{Load, next_load}
 use Rattle.machine_step.specs.PlainStep.{Passing}
 use Rattle.machine_step.specs.Traced.{HasLoaded, IsSameThread, IsWant, Traced, load_of, sleds_of, wanted_behind}

@@ -1,21 +1,17 @@
 -- Worked examples of the definitions, checked by computing.
-use Rattle.std.proofs.Common.{◌≡◌, ℕ, List, [], ◌∷◌, ◌++◌, true, false, Some, None, refl}
+use Rattle.std.proofs.Common.{◌≡◌, List, [], ◌∷◌, true, refl}
 use Rattle.std.specs.Prelude.{codes}
 use Rattle.subset_decode.specs.declared.instr.Instr.TheVariants.{Mov, Out}
 use Rattle.xray_image.specs.declared.sled.SledKind.TheVariants.{Entry, Exit}
-use Rattle.xray_image.specs.declared.unit.What.TheVariants.{Plain, Sled, Pad}
+use Rattle.xray_image.specs.declared.unit.What.TheVariants.{Plain, Sled}
 use Rattle.xray_image.specs.Program.{Program}
 use Rattle.patch_script.specs.declared.command.Command.{Command}
 use Rattle.patch_script.specs.declared.command.Command.TheVariants as commands
-use Rattle.patch_script.specs.declared.micro.Micro.{Micro}
 use Rattle.patch_script.specs.declared.micro.Micro.TheVariants.{Store}
-use Rattle.patch_script.specs.Micros.{micros, start_of, total_of}
-use Rattle.patch_script.specs.CodeAt.{code_at}
-use Rattle.handler_word.specs.declared.mark.Mark.{Mark}
+use Rattle.patch_script.specs.Micros.{micros, start_of}
 use Rattle.handler_word.specs.declared.mark.Mark.TheVariants.{Skipped, NoHandler}
-use Rattle.step_sim.specs.declared.turns.Turns.{Turns}
 use Rattle.step_sim.specs.declared.turns.Turns.TheVariants.{Thread, Patcher}
-use Rattle.step_sim.specs.Replay.{Cast, Moment, scheduled, turns, thread_turn, marks_at, wanted_by}
+use Rattle.step_sim.specs.Replay.{Cast, scheduled, turns, thread_turn, marks_at}
 
 -- a function that moves 65 to eax and prints it
 example : Program

@@ -1,10 +1,8 @@
 -- Turns in general, and what the turns of a thread and of the patcher change.
-use Rattle.std.proofs.Common.{◌≡◌, ◌≢◌, ℕ, zero, suc, ◌+◌, ◌-◌, ◌<◌, ◌≤◌, min, List, [], ◌∷◌, ◌++◌, Option, Some, None, refl, sym, subst, ap, ◌∙◌, arith, length}
-use Rattle.std.specs.Prelude.{slice_set}
+use Rattle.std.proofs.Common.{◌≡◌, ◌≢◌, ℕ, zero, suc, ◌+◌, ◌-◌, ◌<◌, ◌≤◌, min, [], ◌∷◌, ◌++◌, Option, Some, None, refl, sym, subst, ap, ◌∙◌, arith, length}
 use Rattle.std.proofs.lemmas.List.{length-set}
 use Rattle.patch_script.specs.CodeAt.{code_at}
 use Rattle.patch_script.specs.Micros.{total_of}
-use Rattle.machine_step.specs.Loads.{Load}
 use Rattle.step_sim.specs.Replay.{AllRunOut, Cast, Moment, RunsOut, of_thread, patcher_turn, thread_turn, turns, wanted_by}
 use Rattle.step_sim.proofs.ReplayAlong.{set_other, set_same, thread_stays, turn_with, turn_without}
 

@@ -1,5 +1,5 @@
 -- The words that a thread loads are words of its image and its threads.
-use Rattle.std.proofs.Common.{◌≡◌, ℕ, zero, suc, ◌+◌, ◌*◌, ◌<◌, ◌≤◌, List, [], ◌∷◌, ◌++◌, Bool, true, false, ◌==◌, if◌then◌else◌, Option, Some, None, refl, sym, subst, ap, ◌∙◌, inl, inr, arith, length, map, MatchBool}
+use Rattle.std.proofs.Common.{◌≡◌, ℕ, zero, suc, ◌+◌, ◌<◌, ◌≤◌, List, [], ◌∷◌, ◌++◌, Bool, true, false, ◌==◌, if◌then◌else◌, Option, Some, refl, sym, subst, ◌∙◌, inl, inr, arith, length, MatchBool}
 use Rattle.std.specs.Prelude.{⊤, slice_get}
 use Rattle.std.proofs.lemmas.Option.{slice_get_within}
 use Rattle.xray_image.specs.Program.{Program}

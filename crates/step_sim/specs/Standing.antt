@@ -1,5 +1,5 @@
 -- Where the threads and the patcher of a replay stand, for the contracts of private functions.
-use Rattle.std.specs.Prelude.{◌≡◌, ◌<◌, ◌≤◌, ◌+◌, ℕ, List, [], length, slice_get, vec_len, Some, None, Option}
+use Rattle.std.specs.Prelude.{◌≡◌, ◌<◌, ◌≤◌, ◌+◌, ℕ, List, [], length, slice_get, vec_len, Some, None}
 use Rattle.xray_image.specs.Program.{Program}
 use Rattle.sled_words.specs.Words.{word_count}
 use Rattle.patch_script.specs.declared.command.Command.{Command}

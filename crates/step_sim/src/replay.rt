@@ -112,7 +112,11 @@ fn take_turns(cpus: &mut Vec<Cpu>, patcher: &mut Patcher, turns: Turns)
         → AllStandAt cast threads limits (line_turns cast moment turns) patcher.new cpus.new.items }
 {
     match turns {
-        Turns::Thread { thread, count } => make_loads(&mut cpus[thread as usize - 1], patcher, count),
+        Turns::Thread { thread, count } => make_loads(
+            &mut cpus[thread as usize - 1],
+            patcher,
+            count,
+        ),
         Turns::Patcher { count } => patcher.make_steps(u64::from(count)),
     }
 }

@@ -1,4 +1,4 @@
-use Rattle.std.proofs.Common.{◌≡◌, ◌∙◌, length, arith, ap}
+use Rattle.std.proofs.Common.{arith}
 use Rattle.patch_script.specs.Refusals.{commands_of}
 use Rattle.step_sim.proofs.Bounds.{none_begun, one_begun}
 use Rattle.step_sim.proofs.replay.new_threads.Goals as goal

@@ -1,4 +1,4 @@
-use Rattle.std.proofs.Common.{ℕ, arith, get_or, length, subst, sym, take}
+use Rattle.std.proofs.Common.{ℕ, arith, get_or, subst, sym, take}
 use Rattle.step_sim.specs.declared.turns.Turns.{Turns}
 use Rattle.step_sim.specs.declared.turns.Turns.TheVariants.{Thread}
 use Rattle.step_sim.specs.Schedules.{AreTurnsOf}

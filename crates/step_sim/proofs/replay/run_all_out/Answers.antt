@@ -21,8 +21,7 @@ loop-i-preserved c =
     let before = c.args.cpus.now.items in
     let ts = c.loop-i.cpus.items in
     let count : length ts ≡ length before = run_count c.loop-i.i p before ts c.loop-i.invariant.0 c.requires in
-    let within : c.loop-i.i < length ts = omega (arith, count, c.loop-i-test.true, c.args.cpus.now.ok.0) in
-    (
+    let within : c.loop-i.i < length ts = omega (arith, count, c.loop-i-test.true, c.args.cpus.now.ok.0) in (
       one_runs_out c.loop-i.i p before ts c.index_mut.result.now c.run_out.new.cpu c.loop-i.invariant.0
           (found_at ts c.loop-i.i _ within c.index_mut.ensures.value) c.run_out.ensures.thread c.run_out.ensures.at,
       one_rests c.loop-i.i ts c.run_out.new.cpu c.loop-i.invariant.1 c.run_out.ensures.ended,

@@ -1,4 +1,4 @@
-use Rattle.std.proofs.Common.{◌≡◌, ◌<◌, ◌≤◌, ◌+◌, ◌-◌, ℕ, arith, length, min, subst}
+use Rattle.std.proofs.Common.{◌≤◌, ◌+◌, ◌-◌, ℕ, arith, length, min, subst}
 use Rattle.patch_script.specs.Micros.{total_of}
 use Rattle.step_sim.specs.Standing.{IsPatcherAt}
 use Rattle.step_sim.specs.Schedules.{AreTurnsOf}

@@ -24,8 +24,7 @@ returns-then-not-make_load-clause-at c =
 
 pub loop-load-preserved : goal.loop-load-preserved
 loop-load-preserved c =
-    let said = c.if-not-make_load.ensures in
-    (
+    let said = c.if-not-make_load.ensures in (
       same_then _ _ _ c.loop-load.invariant.0 said.thread,
       one_more c.loop-load._load c.args.patcher.now c.args.cpu.now c.loop-load.cpu c.make_load.new.cpu
           c.loop-load.invariant.0 c.loop-load.invariant.1 said.at,

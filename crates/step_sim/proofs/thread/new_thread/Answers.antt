@@ -1,4 +1,3 @@
-use Rattle.std.proofs.Common.{subst, ℕ, Option}
 use Rattle.patch_script.specs.Refusals.{commands_of}
 use Rattle.step_sim.proofs.Bounds.{begun_if}
 use Rattle.step_sim.proofs.thread.new_thread.Goals as goal

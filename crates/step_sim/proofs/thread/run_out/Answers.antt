@@ -1,5 +1,5 @@
 use Rattle.std.proofs.Common.{◌+◌}
-use Rattle.step_sim.proofs.OneThread.{ends_early, has_run_out, leads_none, one_more, plays_on, same_again, same_then}
+use Rattle.step_sim.proofs.OneThread.{has_run_out, leads_none, one_more, plays_on, same_again, same_then}
 use Rattle.step_sim.proofs.thread.run_out.Goals as goal
 
 pub loads-init : goal.loads-init
@@ -15,8 +15,7 @@ loads-smaller c = c.loads-test.ensures.nearer
 pub loads-preserved : goal.loads-preserved
 loads-preserved c =
     let said = c.loads-test.ensures in
-    let made = c.loads.invariant.1 in
-    (
+    let made = c.loads.invariant.1 in (
       same_then _ _ _ c.loads.invariant.0 said.thread,
       (made.0 + 1, one_more made.0 c.args.patcher.now c.args.cpu.now c.loads.cpu c.make_load.new.cpu c.loads.invariant.0 made.1 said.at),
     )

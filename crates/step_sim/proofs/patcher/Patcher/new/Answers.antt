@@ -1,5 +1,4 @@
-use Rattle.std.proofs.Common.{◌≡◌, ◌≤◌, ◌+◌, ℕ, List, ap, arith, length, min, refl, subst, sym}
-use Rattle.sled_words.specs.Words.{word_count}
+use Rattle.std.proofs.Common.{◌≡◌, ◌≤◌, ◌+◌, ℕ, ap, arith, length, min, refl, subst, sym}
 use Rattle.patch_script.specs.Micros.{start_of, total_of}
 use Rattle.patch_script.specs.Refusals.{commands_of}
 use Rattle.patch_script.specs.StoredWords.{AreCodeAt}
