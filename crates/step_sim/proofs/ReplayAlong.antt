@@ -20,15 +20,15 @@ use Rattle.step_sim.specs.Along.{AllReadAlong, IsAlong, NamesThread}
 
 -- ---- lists of one item a thread
 
-of_thread_is : (lists : List (List Load)) (thread : ℕ) → of_thread lists thread ≡ get_or lists (thread - 1) []
+pub of_thread_is : (lists : List (List Load)) (thread : ℕ) → of_thread lists thread ≡ get_or lists (thread - 1) []
 of_thread_is lists thread = unwrap_or-slice_get lists (thread - 1) []
 
-set_same : (lists : List (List Load)) (thread : ℕ) (item : List Load) → thread - 1 < length lists
+pub set_same : (lists : List (List Load)) (thread : ℕ) (item : List Load) → thread - 1 < length lists
     → of_thread (slice_set lists (thread - 1) item) thread ≡ item
 set_same lists thread item within =
     of_thread_is (slice_set lists (thread - 1) item) thread ∙ get_or-set_same lists (thread - 1) item [] within
 
-set_other : (lists : List (List Load)) (thread other : ℕ) (item : List Load) → 0 < thread → 0 < other → other ≢ thread
+pub set_other : (lists : List (List Load)) (thread other : ℕ) (item : List Load) → 0 < thread → 0 < other → other ≢ thread
     → of_thread (slice_set lists (thread - 1) item) other ≡ of_thread lists other
 set_other lists thread other item some some_other apart =
     of_thread_is (slice_set lists (thread - 1) item) other ∙ get_or-set_other lists (thread - 1) (other - 1) item [] (omega arith)
@@ -36,14 +36,14 @@ set_other lists thread other item some some_other apart =
 
 -- ---- turns
 
-turn_with : (cast : Cast) (thread : ℕ) (m : Moment) (word : ℕ) → wanted_by cast thread m ≡ Some word
+pub turn_with : (cast : Cast) (thread : ℕ) (m : Moment) (word : ℕ) → wanted_by cast thread m ≡ Some word
     → thread_turn cast thread m ≡ record m {
       loads = slice_set m.loads (thread - 1)
           (of_thread m.loads thread ++ record { word = word; value = code_at cast.program cast.script m.place word } ∷ []);
     }
 turn_with cast thread m word e = rw e refl
 
-turn_without : (cast : Cast) (thread : ℕ) (m : Moment) → wanted_by cast thread m ≡ None → thread_turn cast thread m ≡ m
+pub turn_without : (cast : Cast) (thread : ℕ) (m : Moment) → wanted_by cast thread m ≡ None → thread_turn cast thread m ≡ m
 turn_without cast thread m e = rw e refl
 
 -- a thread that loads reads along
@@ -86,7 +86,7 @@ patcher_along cast m within along thread some =
 -- ---- moments
 
 -- the first commands have no more micro steps than all
-front_steps : (program : Program) (earlier : List ℕ) (n : ℕ) (script : List Command)
+pub front_steps : (program : Program) (earlier : List ℕ) (n : ℕ) (script : List Command)
     → length (micros_behind program earlier (take n script)) ≤ length (micros_behind program earlier script)
 front_steps program earlier zero script = omega arith
 front_steps program earlier (suc n) [] = omega arith
@@ -96,7 +96,7 @@ front_steps program earlier (suc n) (command ∷ rest) =
     let front = front_steps program behind n rest in
     omega (arith, length-append steps (micros_behind program behind (take n rest)), length-append steps (micros_behind program behind rest))
 
-no_loads : (lists : List (List ℕ)) (i : ℕ) → ◌≡◌ {A = List Load} (get_or (map (λ _. []) lists) i []) []
+pub no_loads : (lists : List (List ℕ)) (i : ℕ) → ◌≡◌ {A = List Load} (get_or (map (λ _. []) lists) i []) []
 no_loads [] i = refl
 no_loads (x ∷ lists) zero = refl
 no_loads (x ∷ lists) (suc i) = no_loads lists i
@@ -111,7 +111,7 @@ first_along cast = record {
   within = front_steps cast.program [] _ cast.script;
 }
 
-thread_stays : (cast : Cast) (thread : ℕ) (m : Moment) → (thread_turn cast thread m).place ≡ m.place
+pub thread_stays : (cast : Cast) (thread : ℕ) (m : Moment) → (thread_turn cast thread m).place ≡ m.place
 thread_stays cast thread m = by_wanted (wanted_by cast thread m) refl
   where
     by_wanted : (w : Option ℕ) → wanted_by cast thread m ≡ w → (thread_turn cast thread m).place ≡ m.place
@@ -127,7 +127,7 @@ thread_keeps cast thread m some is = record {
 pub patcher_keeps : (cast : Cast) (m : Moment) → IsAlong cast m → IsAlong cast (patcher_turn cast m)
 patcher_keeps cast m is = record { along = patcher_along cast m is.within is.along; within = omega arith }
 
-turns_keep : (cast : Cast) (turn : Moment → Moment) → ((m : Moment) → IsAlong cast m → IsAlong cast (turn m)) → (n : ℕ) (m : Moment)
+pub turns_keep : (cast : Cast) (turn : Moment → Moment) → ((m : Moment) → IsAlong cast m → IsAlong cast (turn m)) → (n : ℕ) (m : Moment)
     → IsAlong cast m → IsAlong cast (turns n turn m)
 turns_keep cast turn keeps zero m is = is
 turns_keep cast turn keeps (suc n) m is = turns_keep cast turn keeps n (turn m) (keeps m is)

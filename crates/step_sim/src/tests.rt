@@ -4,6 +4,8 @@ use super::*;
 use std::alloc::{AllocError, Global};
 use std::test::Fail;
 
+mod replays;
+
 #[test]
 fn a_schedule_has_the_turns_of_its_lines(rt: HostRuntime) -> Result<(), Fail> {
     let text = b"# two threads\n\tt 02 7\r\np 4294967295 # all\n\n t 1 1";

@@ -1,0 +1,7 @@
+use Rattle.std.proofs.Common.{take}
+use Rattle.step_sim.proofs.AllThreads.{LeadAll}
+use Rattle.step_sim.proofs.replay.play.Given as goal
+
+abbrev pub invariant-loop-turns : goal.invariant-loop-turns
+invariant-loop-turns l =
+    LeadAll (take l.turns-index l.lines) l.initial.patcher l.initial.cpus.items l.patcher l.cpus.items

@@ -1,0 +1,41 @@
+use Rattle.std.proofs.Common.{◌≡◌, ◌<◌, ℕ, arith, length, subst}
+use Rattle.step_sim.proofs.AllThreads.{RunOut, all_rest, found_at, none_rests, none_run_out, one_rests, one_runs_out, play_of, run_count, run_on}
+use Rattle.step_sim.proofs.replay.run_all_out.Goals as goal
+
+pub loop-i-init : goal.loop-i-init
+loop-i-init c = (none_run_out c.args.patcher.now c.args.cpus.now.items, none_rests c.args.cpus.now.items)
+
+pub run_out-requires : goal.run_out-requires
+run_out-requires c =
+    let p = c.args.patcher.now in
+    let before = c.args.cpus.now.items in
+    let ts = c.loop-i.cpus.items in
+    let count : length ts ≡ length before = run_count c.loop-i.i p before ts c.loop-i.invariant.0 c.requires in
+    let within : c.loop-i.i < length ts = omega (arith, count, c.loop-i-test.true, c.args.cpus.now.ok.0) in
+    play_of p ts c.loop-i.i c.index_mut.result.now (run_on c.loop-i.i p before ts c.loop-i.invariant.0 c.requires)
+    (found_at ts c.loop-i.i _ within c.index_mut.ensures.value)
+
+pub loop-i-preserved : goal.loop-i-preserved
+loop-i-preserved c =
+    let p = c.args.patcher.now in
+    let before = c.args.cpus.now.items in
+    let ts = c.loop-i.cpus.items in
+    let count : length ts ≡ length before = run_count c.loop-i.i p before ts c.loop-i.invariant.0 c.requires in
+    let within : c.loop-i.i < length ts = omega (arith, count, c.loop-i-test.true, c.args.cpus.now.ok.0) in (
+      one_runs_out c.loop-i.i p before ts c.index_mut.result.now c.run_out.new.cpu c.loop-i.invariant.0
+          (found_at ts c.loop-i.i _ within c.index_mut.ensures.value) c.run_out.ensures.thread c.run_out.ensures.at,
+      one_rests c.loop-i.i ts c.run_out.new.cpu c.loop-i.invariant.1 c.run_out.ensures.ended,
+    )
+
+pub returns-clause-at : goal.returns-clause-at
+returns-clause-at c =
+    let all : c.loop-i.i ≡ length c.args.cpus.now.items = omega (arith, c.loop-i-test.false, c.loop-i.auto.i-end, c.args.cpus.now.ok.0) in
+    subst (λ (n : ℕ). RunOut n c.args.patcher.now c.args.cpus.now.items c.loop-i.cpus.items) all c.loop-i.invariant.0
+
+pub returns-clause-ended : goal.returns-clause-ended
+returns-clause-ended c =
+    let before = c.args.cpus.now.items in
+    let ts = c.loop-i.cpus.items in
+    let count : length ts ≡ length before = run_count c.loop-i.i c.args.patcher.now before ts c.loop-i.invariant.0 c.requires in
+    let all : c.loop-i.i ≡ length ts = omega (arith, count, c.loop-i-test.false, c.loop-i.auto.i-end, c.args.cpus.now.ok.0) in
+    all_rest c.loop-i.i ts all c.loop-i.invariant.1

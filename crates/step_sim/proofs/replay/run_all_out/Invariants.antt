@@ -1,0 +1,5 @@
+use Rattle.step_sim.proofs.AllThreads.{FirstRest, RunOut}
+use Rattle.step_sim.proofs.replay.run_all_out.Given as goal
+
+abbrev pub invariant-loop-i : goal.invariant-loop-i
+invariant-loop-i l = RunOut l.i l.patcher l.initial.cpus.items l.cpus.items × FirstRest l.i l.cpus.items

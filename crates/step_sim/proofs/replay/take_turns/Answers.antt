@@ -1,0 +1,40 @@
+use Rattle.std.proofs.Common.{◌≤◌, ◌+◌, ◌-◌, ℕ, arith, length, min, subst}
+use Rattle.patch_script.specs.Micros.{total_of}
+use Rattle.step_sim.specs.Standing.{IsPatcherAt}
+use Rattle.step_sim.specs.Schedules.{AreTurnsOf}
+use Rattle.step_sim.proofs.AllThreads.{found_at, patcher_line, play_of, stand_of, thread_line}
+use Rattle.step_sim.proofs.replay.take_turns.Goals as goal
+
+pub make_loads-requires : goal.make_loads-requires
+make_loads-requires c =
+    let ts = c.args.cpus.now.items in
+    let number = c.in-Thread.thread in
+    let line : (1 ≤ number) × (number ≤ length ts) × (1 ≤ c.in-Thread.count) =
+    subst (AreTurnsOf (length ts)) c.in-Thread.is c.requires.line in
+    play_of c.args.patcher.now ts (number - 1) c.index_mut.result.now c.requires.play
+    (found_at ts (number - 1) _ (omega (arith, line.0, line.1)) c.index_mut.ensures.value)
+
+pub returns-in-Thread : goal.returns-in-Thread
+returns-in-Thread c =
+    let ts = c.args.cpus.now.items in
+    let p = c.args.patcher.now in
+    let number = c.in-Thread.thread in
+    let line : (1 ≤ number) × (number ≤ length ts) × (1 ≤ c.in-Thread.count) =
+    subst (AreTurnsOf (length ts)) c.in-Thread.is c.requires.line in
+    let found = found_at ts (number - 1) _ (omega (arith, line.0, line.1)) c.index_mut.ensures.value in
+    record {
+      at = λ cast threads limits moment at.
+          thread_line cast threads limits moment p ts c.args.turns number c.in-Thread.count (number - 1) c.index_mut.result.now c.make_loads.new.cpu
+          c.in-Thread.is (omega (arith, line.0)) at found c.make_loads.ensures.thread
+          (c.make_loads.ensures.at cast moment (stand_of cast threads limits moment p ts (number - 1) _ at found));
+    }
+
+pub returns-in-Patcher : goal.returns-in-Patcher
+returns-in-Patcher c = record {
+  at = λ cast threads limits moment at.
+      patcher_line cast threads limits moment c.args.patcher.now c.make_steps.new.self c.args.cpus.now.items c.args.turns c.in-Patcher.count
+      c.in-Patcher.is at
+      (subst (λ (n : ℕ). IsPatcherAt cast.program cast.script (min (moment.place + n) (total_of cast.program cast.script)) c.make_steps.new.self)
+      c.from.ensures (c.make_steps.ensures.at cast.program cast.script moment.place at.patcher))
+      c.make_steps.ensures.words;
+}

@@ -1,0 +1,121 @@
+//! The patcher of a replay, and the words under its stores.
+
+ghost use Rattle.std.specs.Prelude.{◌≡◌, ◌≤◌, ◌<◌, ◌+◌, ◌^◌, ℕ, List, IfOk, IsTrue, min, vec_len, slice_set};
+ghost use Rattle.std.specs.Bool.{OnFalse};
+ghost use Rattle.xray_image.specs.Program.{Program};
+ghost use Rattle.patch_script.specs.declared.command.Command.{Command};
+ghost use Rattle.patch_script.specs.Micros.{micro_at, start_of, total_of};
+ghost use Rattle.patch_script.specs.Refusals.{commands_of};
+ghost use Rattle.patch_script.specs.StoredWords.{stored};
+
+use patch_script::{Micro, Script, stores_give_the_code};
+use sled_words::{MAX_THREADS, initial_words};
+use std::alloc::Global;
+use xray_image::Image;
+use xray_io::NoMemory;
+
+/// The words of an image and its threads, with the script whose first micro steps are made in them.
+#[derive(Drop)]
+pub(crate) struct Patcher<'a> {
+    script: &'a Script,
+    /// The words by their numbers.
+    words: Vec<u64>,
+    /// How many micro steps are made.
+    place: u64,
+}
+
+impl<'a> Patcher<'a> {
+    ghost use Rattle.sled_words.specs.Words.{word_count};
+    ghost use Rattle.patch_script.specs.CodeAt.{code_at};
+    ghost use Rattle.step_sim.specs.Standing.{IsPatcherAt};
+
+    /// The words as they are when the threads start: with the script's steps before `go` made.
+    pub(crate) fn new(
+        alloc: Global,
+        image: &Image,
+        script: &'a Script,
+        threads: u32,
+    ) -> Result<Patcher<'a>, NoMemory>
+        requires threads { threads ≤ MAX_THREADS }
+        requires program { script.now.program ≡ image.now }
+        ensures at { let commands = commands_of script.now.lines in
+            IfOk result (IsPatcherAt image.now commands (start_of image.now commands)) }
+        ensures words { IfOk result (λ p. vec_len p.words ≡ word_count image.now threads) }
+    {
+        stores_give_the_code();
+        let words = initial_words(alloc, image, threads)?;
+        let mut patcher = Patcher {
+            script,
+            words,
+            place: 0,
+        };
+        patcher.make_steps(script.start());
+        Ok(patcher)
+    }
+
+    /// The value that a word has.
+    pub(crate) fn load(&self, word: u32) -> u64
+        requires { word < vec_len self.now.words }
+        ensures { (program : Program) (script : List Command) (place : ℕ)
+            → IsPatcherAt program script place self.now
+            → result ≡ code_at program script place word }
+    {
+        self.words[word as usize]
+    }
+
+    /// Makes so many micro steps, or those that are left where they are fewer.
+    pub(crate) fn make_steps(&mut self, count: u64)
+        ensures at { (program : Program) (script : List Command) (place : ℕ)
+            → IsPatcherAt program script place self.old
+            → IsPatcherAt program script (min (place + count) (total_of program script)) self.new }
+        ensures words { vec_len self.new.words ≡ vec_len self.old.words }
+    {
+        for _step in 0..count {
+            if !self.make_step() {
+                return;
+            }
+        }
+    }
+
+    /// Makes the next micro step. Tells whether there was one.
+    fn make_step(&mut self) -> bool
+        ensures at { (program : Program) (script : List Command) (place : ℕ)
+            → IsPatcherAt program script place self.old
+            → IsPatcherAt program script (min (place + 1) (total_of program script)) self.new }
+        ensures words { vec_len self.new.words ≡ vec_len self.old.words }
+        ensures left { OnFalse result ((program : Program) (script : List Command) (place : ℕ)
+            → IsPatcherAt program script place self.old → place ≡ total_of program script) }
+    {
+        stores_give_the_code();
+        if self.place >= self.script.total() {
+            return false;
+        }
+        self.apply(self.script.micro(self.place));
+        self.place += 1;
+        true
+    }
+
+    /// What a micro step does to the words. Nobody waits: the script has no `await`.
+    fn apply(&mut self, step: Micro)
+        ensures words { self.new.words.items ≡ stored self.old.words.items step }
+        ensures room { vec_len self.new.words ≡ vec_len self.old.words }
+        ensures script { self.new.script ≡ self.old.script }
+        ensures place { self.new.place ≡ self.old.place }
+    {
+        if let Micro::Store { word, value } = step {
+            self.store(word, value);
+        }
+    }
+
+    /// Stores a value in a word.
+    fn store(&mut self, word: u32, value: u64)
+        ensures words { self.new.words.items ≡ slice_set self.old.words.items word value }
+        ensures room { vec_len self.new.words ≡ vec_len self.old.words }
+        ensures script { self.new.script ≡ self.old.script }
+        ensures place { self.new.place ≡ self.old.place }
+    {
+        if let Some(held) = self.words.get_mut(word as usize) {
+            *held = value;
+        }
+    }
+}

@@ -1,0 +1,136 @@
+//! The replay of a schedule.
+
+ghost use Rattle.std.specs.Prelude.{◌≡◌, ◌≤◌, ◌↔◌, ◌+◌, ℕ, All, List, Err, Some, None, IfOk, fold, length, slice_get};
+ghost use Rattle.patch_script.specs.Plans.{waiting_line};
+ghost use Rattle.patch_script.specs.Refusals.{commands_of};
+ghost use Rattle.machine_step.specs.declared.limits.Limits.{Limits};
+ghost use Rattle.step_sim.specs.declared.sim_fault.SimFault.{SimFault};
+ghost use Rattle.step_sim.specs.declared.sim_fault.SimFault.TheVariants.{Waits};
+ghost use Rattle.step_sim.specs.Replay.{AllRunOut, Cast, Moment, line_turns};
+ghost use Rattle.step_sim.specs.Replayed.{IsReplayed};
+ghost use Rattle.step_sim.specs.Schedules.{AreTurnsOf};
+ghost use Rattle.step_sim.specs.Standing.{AllHaveBegun, AllPlay, AllStandAt, Rests};
+
+use crate::patcher::Patcher;
+use crate::schedule::Schedule;
+use crate::sim_fault::SimFault;
+use crate::thread::{make_loads, new_thread, run_out};
+use crate::turns::Turns;
+use machine_step::{Cpu, Setup, one_end};
+use patch_script::Script;
+use sled_words::MAX_THREADS;
+use std::alloc::Global;
+use xray_image::Image;
+use xray_io::NoMemory;
+
+/// What a replay leaves.
+#[derive(Drop)]
+pub struct SimEnd<'a> {
+    /// The threads, thread 1 first: each has ended.
+    pub cpus: Vec<Cpu<'a>>,
+}
+
+/// Replays a schedule: the lines in order, whose turns are loads of the threads and micro steps of the
+/// patcher; behind them thread 1 runs to its end, then thread 2, up to the last. The threads start
+/// behind the micro steps before the script's `go`. What is left of a line whose thread has ended, or
+/// of one of the patcher behind the script's last step, does nothing and takes no time. The micro
+/// steps that are left when all threads have ended aren't made, since nobody loads behind them.
+///
+/// `Waits` comes exactly where the script has a line at which somebody may wait, and tells the first;
+/// `NoMemory` where memory was refused. All memory is taken before the first turn.
+pub fn simulate<'a>(
+    alloc: Global,
+    image: &'a Image,
+    script: &Script,
+    schedule: &Schedule,
+    setup: &Setup,
+) -> Result<SimEnd<'a>, SimFault>
+    requires program { script.now.program ≡ image.now }
+    requires threads { script.now.threads ≡ setup.now.threads }
+    requires few { setup.now.threads ≤ MAX_THREADS }
+    requires schedule { All (AreTurnsOf setup.now.threads) schedule.now }
+    requires stamps { (1 ≤ setup.now.limits.cpus) × (1 ≤ setup.now.limits.migrate) }
+    ensures waits { (line : ℕ) → (result ≡ Err (Waits line)) ↔ (waiting_line script.now.lines ≡ Some line) }
+    ensures replayed { IfOk result (λ end. IsReplayed image.now (commands_of script.now.lines)
+        schedule.now setup.now.threads setup.now.limits end.cpus.items) }
+{
+    if let Some(line) = script.waits() {
+        return Err(SimFault::Waits(line));
+    }
+    // Says that some accepted file holds the image.
+    image.base();
+    one_end();
+    let mut patcher = Patcher::new(alloc, image, script, setup.threads)?;
+    let mut cpus = new_threads(alloc, image, script, setup)?;
+    play(&mut cpus, &mut patcher, schedule.lines());
+    Ok(SimEnd { cpus })
+}
+
+/// All threads before their first loads, thread 1 first.
+fn new_threads<'a>(
+    alloc: Global,
+    image: &'a Image,
+    script: &Script,
+    setup: &Setup,
+) -> Result<Vec<Cpu<'a>>, NoMemory>
+    requires threads { setup.now.threads ≤ MAX_THREADS }
+    requires stamps { (1 ≤ setup.now.limits.cpus) × (1 ≤ setup.now.limits.migrate) }
+    ensures count { IfOk result (λ cpus. length cpus.items ≡ setup.now.threads) }
+    ensures begun { IfOk result (λ cpus. AllHaveBegun image.now (commands_of script.now.lines)
+        setup.now.threads setup.now.limits cpus.items) }
+{
+    let mut cpus = Vec::with_capacity(alloc, setup.threads as usize)?;
+    for number in 0..setup.threads {
+        cpus.push(new_thread(alloc, image, script, setup, number + 1)?)?;
+    }
+    Ok(cpus)
+}
+
+/// The lines of a schedule, and behind them each thread up to its end.
+fn play(cpus: &mut Vec<Cpu>, patcher: &mut Patcher, lines: &[Turns])
+    requires play { AllPlay patcher.old cpus.old.items }
+    requires lines { All (AreTurnsOf (length cpus.old.items)) lines.now }
+    ensures at { (cast : Cast) (threads : ℕ) (limits : Limits) (moment : Moment)
+        → AllStandAt cast threads limits moment patcher.old cpus.old.items
+        → (last : Moment)
+        × AllRunOut cast (length cpus.old.items) 1 (fold (line_turns cast) moment lines.now) last
+        × AllStandAt cast threads limits last patcher.new cpus.new.items }
+    ensures ended { All Rests cpus.new.items }
+{
+    for turns in lines {
+        take_turns(cpus, patcher, *turns);
+    }
+    run_all_out(cpus, patcher);
+}
+
+/// The turns of a line.
+fn take_turns(cpus: &mut Vec<Cpu>, patcher: &mut Patcher, turns: Turns)
+    requires play { AllPlay patcher.old cpus.old.items }
+    requires line { AreTurnsOf (length cpus.old.items) turns }
+    ensures at { (cast : Cast) (threads : ℕ) (limits : Limits) (moment : Moment)
+        → AllStandAt cast threads limits moment patcher.old cpus.old.items
+        → AllStandAt cast threads limits (line_turns cast moment turns) patcher.new cpus.new.items }
+{
+    match turns {
+        Turns::Thread { thread, count } => make_loads(
+            &mut cpus[thread as usize - 1],
+            patcher,
+            count,
+        ),
+        Turns::Patcher { count } => patcher.make_steps(u64::from(count)),
+    }
+}
+
+/// Each thread up to its end, thread 1 first.
+fn run_all_out(cpus: &mut Vec<Cpu>, patcher: &Patcher)
+    requires { AllPlay patcher.now cpus.old.items }
+    ensures at { (cast : Cast) (threads : ℕ) (limits : Limits) (moment : Moment)
+        → AllStandAt cast threads limits moment patcher.now cpus.old.items
+        → (last : Moment) × AllRunOut cast (length cpus.old.items) 1 moment last
+        × AllStandAt cast threads limits last patcher.now cpus.new.items }
+    ensures ended { All Rests cpus.new.items }
+{
+    for i in 0..cpus.len() {
+        run_out(&mut cpus[i], patcher);
+    }
+}

@@ -1,0 +1,144 @@
+//! Schedules replayed: what they leave of the threads.
+
+use super::*;
+use handler_word::write_runs;
+use machine_step::{Cpu, End, Limits, Setup, Want};
+use patch_script::read_script;
+use std::process::Abort;
+use text_lines::count_lines;
+use xray_image::{Image, read_image};
+use xray_io::{MemSink, Wall};
+
+/// A function `main` that outputs an A: an entry sled, `mov eax, 0x41`, `out 1, al`, an exit sled.
+const OUTPUTS_AN_A: [u8; 170] = [
+    // magic, version, base 0x1000
+    0x58, 0x52, 0x49, 0x4D, 1, 0, 0, 0, 0x00, 0x10, 0, 0, 0, 0, 0, 0,
+    // 29 bytes of code, 1 function, 2 map entries, entry function 0
+    29, 0, 0, 0, 1, 0, 0, 0, 2, 0, 0, 0, 0, 0, 0, 0,
+    // trampolines 0x201000, 0x201010, 0x201020, 0x201030
+    0x00, 0x10, 0x20, 0, 0, 0, 0, 0, 0x10, 0x10, 0x20, 0, 0, 0, 0, 0, 0x20, 0x10, 0x20, 0, 0, 0, 0,
+    0, 0x30, 0x10, 0x20, 0, 0, 0, 0, 0,
+    // the code
+    0xEB, 0x09, 0x66, 0x0F, 0x1F, 0x84, 0x00, 0x00, 0x02, 0x00, 0x00, 0xB8, 0x41, 0, 0, 0, 0xE6,
+    0x01, 0xC3, 0x2E, 0x66, 0x0F, 0x1F, 0x84, 0x00, 0x00, 0x02, 0x00, 0x00,
+    // the function
+    0x00, 0x10, 0, 0, 0, 0, 0, 0, 4, 0x6D, 0x61, 0x69, 0x6E,
+    // the map: an entry sled at 0x1000 and an exit sled at 0x1012, always instrumented, version 0
+    0x00, 0x10, 0, 0, 0, 0, 0, 0, 0x00, 0x10, 0, 0, 0, 0, 0, 0, 0, 1, 0, 0, 0, 0, 0, 0, 0, 0, 0, 0,
+    0, 0, 0, 0, 0x12, 0x10, 0, 0, 0, 0, 0, 0, 0x00, 0x10, 0, 0, 0, 0, 0, 0, 1, 1, 0, 0, 0, 0, 0, 0,
+    0, 0, 0, 0, 0, 0, 0, 0,
+];
+
+/// The limits of the threads.
+const LIMITS: Limits = Limits {
+    fuel: 10_000_000,
+    passings: 1_048_576,
+    tick: 1,
+    tsc: 0,
+    cpus: 1,
+    migrate: 1_048_576,
+};
+
+/// The replay of the texts of a script and a schedule, on one thread or two.
+fn replay_of<'a>(
+    rt: &impl Abort,
+    alloc: Global,
+    image: &'a Image,
+    script: &[u8],
+    schedule: &[u8],
+    threads: u32,
+) -> Result<Result<SimEnd<'a>, SimFault>, Fail> {
+    assert!(rt; threads == 1 || threads == 2);
+    assert!(rt; count_lines(script) < 100);
+    let script = read_script(alloc, script, image, threads)?;
+    let schedule = read_schedule(alloc, schedule, threads)?;
+    let setup = Setup {
+        threads,
+        size: 16_384,
+        max: 64,
+        limits: LIMITS,
+        pid: 1,
+        wall: Wall { secs: 0, micros: 0 },
+        frequency: 0,
+    };
+    Ok(simulate(alloc, image, &script, &schedule, &setup))
+}
+
+/// The marks of a thread as they are printed.
+fn marks_of(alloc: Global, cpu: &Cpu) -> Result<MemSink, Fail> {
+    let mut sink = MemSink::new(alloc, Vec::new(alloc));
+    write_runs(cpu.marks(), &mut sink)?;
+    Ok(sink)
+}
+
+#[test]
+fn a_schedule_decides_what_a_thread_finds(rt: HostRuntime) -> Result<(), Fail> {
+    let alloc = rt.alloc();
+    let image = read_image(alloc, &OUTPUTS_AN_A)?;
+    let rows: [(&[u8], &[u8], &[u8]); 8] = [
+        (b"go", b"", b".2"),
+        (b"patch\nset_handler\ninit\ngo", b"", b"+2"),
+        // The head is read before it is unpatched, and all else behind.
+        (
+            b"patch\nset_handler\ninit\ngo\nunpatch",
+            b"t 1 1\np 2",
+            b"+1 .1",
+        ),
+        (b"set_handler\ninit\ngo\npatch", b"p 3\nt 1 1", b".2"),
+        (
+            b"set_handler\ninit\ngo\npatch",
+            b"p 3\nt 1 1\np 5",
+            b".1 +1",
+        ),
+        (b"patch\ninit\ngo", b"", b"n2"),
+        (b"patch\nset_handler\ninit\nfinalize\ngo", b"", b"f2"),
+        // What is left of a line takes no time.
+        (
+            b"set_handler\ninit\ngo\npatch",
+            b"p 4294967295\nt 1 4294967295",
+            b"+2",
+        ),
+    ];
+    for (script, schedule, marks) in rows {
+        let end = replay_of(&rt, alloc, &image, script, schedule, 1)??;
+        assert_eq!(rt; end.cpus.len(), 1);
+        let cpu = &end.cpus[0];
+        assert_eq!(rt; marks_of(alloc, cpu)?.bytes(), marks);
+        assert_eq!(rt; cpu.want(), Want::Done(End::Returned));
+        assert_eq!(rt; cpu.instructions(), 3);
+        assert_eq!(rt; cpu.passings(), 2);
+        assert_eq!(rt; cpu.output(), b"A".as_slice());
+    }
+    Ok(())
+}
+
+#[test]
+fn threads_find_the_same_words_at_their_own_turns(rt: HostRuntime) -> Result<(), Fail> {
+    let alloc = rt.alloc();
+    let image = read_image(alloc, &OUTPUTS_AN_A)?;
+    let script = b"set_handler\ninit\ngo\npatch";
+    let end = replay_of(&rt, alloc, &image, script, b"t 1 1\np 8", 2)??;
+    assert_eq!(rt; end.cpus.len(), 2);
+    assert_eq!(rt; marks_of(alloc, &end.cpus[0])?.bytes(), b".1 +1".as_slice());
+    assert_eq!(rt; marks_of(alloc, &end.cpus[1])?.bytes(), b"+2".as_slice());
+    assert_eq!(rt; end.cpus[0].reg(7), 1);
+    assert_eq!(rt; end.cpus[1].reg(7), 2);
+    Ok(())
+}
+
+#[test]
+fn a_script_at_which_somebody_may_wait_is_refused(rt: HostRuntime) -> Result<(), Fail> {
+    let image = read_image(rt.alloc(), &OUTPUTS_AN_A)?;
+    let rows: [(&[u8], u32); 2] = [
+        (b"hold 1 3\ngo\nawait 1 3\nrelease 1", 1),
+        (
+            b"set_handler\ninit\nhold 1 2\ngo\nawait 1 2\npatch\nrelease 1",
+            3,
+        ),
+    ];
+    for (script, line) in rows {
+        let replayed = replay_of(&rt, rt.alloc(), &image, script, b"", 1)?;
+        assert_eq!(rt; replayed.err(), Some(SimFault::Waits(line)));
+    }
+    Ok(())
+}

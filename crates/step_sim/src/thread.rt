@@ -1,0 +1,115 @@
+//! The turns of one thread of a replay.
+
+ghost use Rattle.std.specs.Prelude.{◌≡◌, ◌<◌, ◌≤◌, ◌+◌, ℕ, List, None, IfNone, IfOk, IfSome};
+ghost use Rattle.std.specs.Bool.{OnFalse, OnTrue};
+ghost use Rattle.patch_script.specs.Refusals.{commands_of};
+ghost use Rattle.machine_step.specs.declared.want.Want.{Want};
+ghost use Rattle.machine_step.specs.Loads.{Load};
+ghost use Rattle.machine_step.specs.PlainStep.{Passing};
+ghost use Rattle.machine_step.specs.Traced.{HasLoaded, IsGate, IsSameThread, loads_left};
+ghost use Rattle.step_sim.specs.Replay.{Cast, Moment, RunsOut, thread_turn, turns};
+ghost use Rattle.step_sim.specs.Standing.{HasBegun, Play, Rests, StandAt};
+
+use crate::along::a_replay_reads_along;
+use crate::patcher::Patcher;
+use machine_step::{Cpu, Setup, Want, some_end};
+use patch_script::Script;
+use sled_words::MAX_THREADS;
+use std::alloc::Global;
+use xray_image::Image;
+use xray_io::NoMemory;
+
+/// A thread before its first load.
+pub(crate) fn new_thread<'a>(
+    alloc: Global,
+    image: &'a Image,
+    script: &Script,
+    setup: &Setup,
+    number: u32,
+) -> Result<Cpu<'a>, NoMemory>
+    requires number { (1 ≤ number) × (number ≤ setup.now.threads) }
+    requires threads { setup.now.threads ≤ MAX_THREADS }
+    requires stamps { (1 ≤ setup.now.limits.cpus) × (1 ≤ setup.now.limits.migrate) }
+    ensures { IfOk result
+        (HasBegun image.now (commands_of script.now.lines) setup.now.threads setup.now.limits number) }
+{
+    // Says that some accepted file holds the image.
+    image.base();
+    some_end();
+    let hold = script.hold_of(number);
+    Cpu::new(alloc, image, number, setup.threads, hold, setup.limits)
+}
+
+/// Lets a thread into its next passing, where it stands before one.
+fn let_in(cpu: &mut Cpu)
+    ensures thread { IsSameThread cpu.old cpu.new }
+    ensures loads { (passed : List Passing) (loads : List Load)
+        → HasLoaded cpu.old passed loads → HasLoaded cpu.new passed loads }
+    ensures no_gate { IsGate cpu.new.want → ⊥ }
+    ensures nearer { loads_left cpu.new ≤ loads_left cpu.old }
+{
+    if let Want::Gate(_) = cpu.want() {
+        cpu.opened();
+    }
+}
+
+/// The word that a thread loads next, for which it is let into its passing. `None` where it has ended.
+fn next_word(cpu: &mut Cpu) -> Option<u32>
+    ensures thread { IsSameThread cpu.old cpu.new }
+    ensures loads { (passed : List Passing) (loads : List Load)
+        → HasLoaded cpu.old passed loads → HasLoaded cpu.new passed loads }
+    ensures word { IfSome result (λ word. cpu.new.want ≡ Want.Load word) }
+    ensures ended { IfNone result (Rests cpu.new) }
+    ensures nearer { loads_left cpu.new ≤ loads_left cpu.old }
+{
+    let_in(cpu);
+    match cpu.want() {
+        Want::Load(word) => Some(word),
+        Want::Gate(_) | Want::Done(_) => None,
+    }
+}
+
+/// A turn of a thread: its next load. Tells whether there was one: a thread that has ended makes none.
+fn make_load(cpu: &mut Cpu, patcher: &Patcher) -> bool
+    requires { Play patcher.now cpu.old }
+    ensures thread { IsSameThread cpu.old cpu.new }
+    ensures at { (cast : Cast) (moment : Moment) → StandAt cast moment patcher.now cpu.old
+        → StandAt cast (thread_turn cast cpu.old.thread moment) patcher.now cpu.new }
+    ensures ended { OnFalse result (Rests cpu.new) }
+    ensures nearer { OnTrue result (loads_left cpu.new < loads_left cpu.old) }
+{
+    a_replay_reads_along();
+    match next_word(cpu) {
+        Some(word) => {
+            // The trace is none of this replay: an event is dropped.
+            let _event = cpu.give(patcher.load(word));
+            true
+        }
+        None => false,
+    }
+}
+
+/// So many turns of a thread, or those up to its end where they are fewer.
+pub(crate) fn make_loads(cpu: &mut Cpu, patcher: &Patcher, count: u32)
+    requires { Play patcher.now cpu.old }
+    ensures thread { IsSameThread cpu.old cpu.new }
+    ensures at { (cast : Cast) (moment : Moment) → StandAt cast moment patcher.now cpu.old
+        → StandAt cast (turns count (thread_turn cast cpu.old.thread) moment) patcher.now cpu.new }
+{
+    for _load in 0..count {
+        if !make_load(cpu, patcher) {
+            return;
+        }
+    }
+}
+
+/// All turns of a thread up to its end.
+pub(crate) fn run_out(cpu: &mut Cpu, patcher: &Patcher)
+    requires { Play patcher.now cpu.old }
+    ensures thread { IsSameThread cpu.old cpu.new }
+    ensures at { (cast : Cast) (moment : Moment) → StandAt cast moment patcher.now cpu.old
+        → (last : Moment) × RunsOut cast cpu.old.thread moment last × StandAt cast last patcher.now cpu.new }
+    ensures ended { Rests cpu.new }
+{
+    'loads: while make_load(cpu, patcher) {}
+}
