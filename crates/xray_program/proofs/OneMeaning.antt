@@ -121,11 +121,11 @@ script_decided = record {
 -- a form is decided where a function gives the value that bytes read as, or the fault that they are refused for
 of_answers : {X F : Type 0} (kind : List ℕ) (limit : ℕ) (answer : List ℕ → Result X F) (say : F → List ℕ)
     → IsDecided (record {
-        kind = kind;
-        limit = limit;
-        Reads = λ bytes value. answer bytes ≡ Ok value;
-        Refuses = λ bytes refusal. (fault : F) × (answer bytes ≡ Err fault) × (refusal ≡ say fault);
-      })
+      kind = kind;
+      limit = limit;
+      Reads = λ bytes value. answer bytes ≡ Ok value;
+      Refuses = λ bytes refusal. (fault : F) × (answer bytes ≡ Err fault) × (refusal ≡ say fault);
+    })
 of_answers {X} {F} kind limit answer say = record {
   one = λ bytes a b x y. same_value a b (sym x ∙ y);
   why = λ bytes r s x y. x.2 ∙ ap say (same_fault x.0 y.0 (sym x.1 ∙ y.1)) ∙ sym y.2;
