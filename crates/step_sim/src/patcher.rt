@@ -1,10 +1,10 @@
 //! The patcher of a replay, and the words under its stores.
 
-ghost use Rattle.std.specs.Prelude.{◌≡◌, ◌≤◌, ◌<◌, ◌+◌, ◌^◌, ℕ, List, IfOk, IsTrue, min, vec_len, slice_set};
+ghost use Rattle.std.specs.Prelude.{◌≡◌, ◌≤◌, ◌<◌, ◌+◌, ℕ, List, IfOk, min, vec_len, slice_set};
 ghost use Rattle.std.specs.Bool.{OnFalse};
 ghost use Rattle.xray_image.specs.Program.{Program};
 ghost use Rattle.patch_script.specs.declared.command.Command.{Command};
-ghost use Rattle.patch_script.specs.Micros.{micro_at, start_of, total_of};
+ghost use Rattle.patch_script.specs.Micros.{start_of, total_of};
 ghost use Rattle.patch_script.specs.Refusals.{commands_of};
 ghost use Rattle.patch_script.specs.StoredWords.{stored};
 
@@ -114,6 +114,7 @@ impl<'a> Patcher<'a> {
         ensures script { self.new.script ≡ self.old.script }
         ensures place { self.new.place ≡ self.old.place }
     {
+        // A script stores in no word that isn't there.
         if let Some(held) = self.words.get_mut(word as usize) {
             *held = value;
         }
