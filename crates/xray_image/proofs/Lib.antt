@@ -9,8 +9,6 @@ pub mod SoFar
 pub mod Index
 pub mod Placement
 pub mod Acceptance
-pub mod Straight
-pub mod FirstRuns
 pub mod Distinct
 pub mod Numbering
 pub mod Naming

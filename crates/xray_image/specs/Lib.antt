@@ -3,13 +3,11 @@ pub mod Container
 pub mod Kinds
 pub mod Header
 pub mod Program
-pub mod FirstRun
 pub mod Reading
 pub mod Views
 pub mod Index
 pub mod Layout
 pub mod ImageView
-pub mod Straight
 pub mod Table
 pub mod Ids
 pub mod Extract

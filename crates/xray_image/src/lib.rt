@@ -6,7 +6,6 @@ mod code_units;
 mod extract;
 mod fault;
 mod fields;
-mod first_run;
 pub mod format;
 mod functions;
 mod header;

@@ -1,8 +1,7 @@
 //! Images from the bytes of a file.
 
-ghost use Rattle.std.specs.Prelude.{◌≡◌, ◌<◌, ◌^◌, ◌↔◌, ◌⊎◌, ℕ, List, length, map, true, All, Ok, Err, IsTrue, OnOk, IfOk, IfErr};
+ghost use Rattle.std.specs.Prelude.{◌≡◌, ◌<◌, ◌^◌, ◌⊎◌, ℕ, List, length, map, true, All, Ok, Err, OnOk, IfOk, IfErr};
 ghost use Rattle.std.specs.List.Sorted.{IsNonDecreasingBy};
-ghost use Rattle.xray_image.specs.FirstRun.{IsFirstRun};
 ghost use Rattle.xray_image.specs.ImageView.{named_function};
 ghost use Rattle.xray_image.specs.Index.{AreWithin, IsIndexOf};
 ghost use Rattle.xray_image.specs.Judging.{IsJudged};
@@ -14,7 +13,6 @@ ghost use Rattle.xray_image.specs.Views.{entry_of, function_of, places_in, progr
 use crate::branches::check_branches;
 use crate::code_units::CodeUnits;
 use crate::fault::ImageFault;
-use crate::first_run::is_straight_run;
 use crate::functions::check_functions;
 use crate::header::Header;
 use crate::ids::FunctionIds;
@@ -136,15 +134,4 @@ pub fn read_image(alloc: Global, bytes: &[u8]) -> Result<Image, ImageFault>
 {
     one_verdict();
     read_program(alloc, bytes)
-}
-
-impl Image {
-    /// Whether the image is of the form that a first run of `sim` takes: one function that is an entry
-    /// sled, moves and outputs of which at most 65,536 are outputs, at most one alignment byte, and an
-    /// exit sled.
-    pub fn is_first_run(&self) -> bool
-        ensures { IsTrue result ↔ IsFirstRun self.now }
-    {
-        self.functions.len() == 1 && is_straight_run(&self.units, &self.sleds)
-    }
 }
