@@ -1,6 +1,24 @@
-//! Events, as the passings of patched sleds record them.
+//! Events, as the passings of patched sleds record them, and the records of LLVM XRay's Flight Data
+//! Recorder mode that tell them: `put_rec` writes a record's bytes, and `take_rec` reads the record
+//! that stands at a place. The layout is that of `xray_fdr_log_records.h` of LLVM's compiler-rt, and
+//! of "XRay Flight Data Recorder Trace Format" of its documentation.
 #![tactic(auto)]
 
 mod event;
+mod fault;
+mod laws;
+mod layout;
+mod reading;
+mod rec;
+mod writing;
 
 pub use event::{Event, Kind};
+pub use fault::RecFault;
+pub use laws::{a_record_reads_back, one_answer, one_record};
+pub use layout::{FUNCTION_BYTES, METADATA_BYTES};
+pub use reading::take_rec;
+pub use rec::{Rec, rec_len};
+pub use writing::put_rec;
+
+#[cfg(test)]
+mod tests;

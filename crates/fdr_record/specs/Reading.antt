@@ -1,0 +1,38 @@
+-- Reading a record from left to right, for the contracts of the reader's private functions.
+use Rattle.std.specs.Prelude.{◌/◌, ◌%◌, ℕ, List, length, drop, Result, Ok, Err, nat_lt, ◌==◌, if◌then◌else◌}
+use Rattle.byteorder.specs.Endian.{little_number}
+use Rattle.fdr_record.specs.declared.event.Kind.{Kind}
+use Rattle.fdr_record.specs.declared.event.Kind.TheVariants.{Entry, Exit, TailExit}
+use Rattle.fdr_record.specs.declared.rec.Rec.{Rec}
+use Rattle.fdr_record.specs.declared.rec.Rec.TheVariants.{NewBuffer, NewCpu, TscWrap, WallTime, Pid, Extents, Function}
+use Rattle.fdr_record.specs.declared.fault.RecFault.{RecFault}
+use Rattle.fdr_record.specs.declared.fault.RecFault.TheVariants as faults
+
+infixl 10 ◌>>=◌
+abbrev pub ◌>>=◌ : {A B : Type 0} → Result A RecFault → (A → Result B RecFault) → Result B RecFault
+(Ok x) >>= f = f x
+(Err e) >>= f = Err e
+
+abbrev pub kind_read : ℕ → Result Kind RecFault
+kind_read action =
+    if action == 0 then Ok Entry else if action == 1 then Ok Exit else if action == 2 then Ok TailExit else Err (faults.Action action)
+
+unfoldable pub function_at : ℕ → List ℕ → Result Rec RecFault
+function_at first bytes =
+    if nat_lt (length bytes) 8 then Err faults.Short else (do
+      kind ← kind_read (first / 2 % 8)
+      Ok (Function kind (little_number 4 bytes / 16) (little_number 4 (drop 4 bytes))))
+
+-- a metadata record of a kind whose fields are all there
+abbrev pub fields_read : ℕ → List ℕ → Result Rec RecFault
+fields_read kind fields =
+    if kind == 0 then Ok (NewBuffer (little_number 4 fields))
+    else if kind == 2 then Ok (NewCpu (little_number 2 fields) (little_number 8 (drop 2 fields)))
+    else if kind == 3 then Ok (TscWrap (little_number 8 fields))
+    else if kind == 4 then Ok (WallTime (record { secs = little_number 8 fields; micros = little_number 4 (drop 8 fields) }))
+    else if kind == 7 then Ok (Extents (little_number 8 fields))
+    else if kind == 9 then Ok (Pid (little_number 4 fields))
+    else Err (faults.Kind kind)
+
+unfoldable pub metadata_at : ℕ → List ℕ → Result Rec RecFault
+metadata_at kind fields = if nat_lt (length fields) 15 then Err faults.Short else fields_read kind fields

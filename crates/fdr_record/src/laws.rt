@@ -1,0 +1,30 @@
+//! What follows for the bytes of records. Each law is the contract of a function that does nothing.
+
+ghost use Rattle.std.specs.Prelude.{◌≡◌, ◌<◌, ◌++◌, List, ℕ, All, Result, Ok};
+ghost use Rattle.fdr_record.specs.declared.rec.Rec.{Rec};
+ghost use Rattle.fdr_record.specs.declared.fault.RecFault.{RecFault};
+ghost use Rattle.fdr_record.specs.Records.{record_bytes, FieldsFit, BeginsWith};
+ghost use Rattle.fdr_record.specs.Refusals.{Answers};
+
+/// Behind what is written for a record anything may follow: the record stands there, and the answer is
+/// this record and no other.
+pub fn a_record_reads_back()
+    ensures stands { (r : Rec) (behind : List ℕ) → FieldsFit r
+        → BeginsWith r (record_bytes r ++ behind) }
+    ensures answered { (r : Rec) (behind : List ℕ) → FieldsFit r
+        → (a : Result Rec RecFault) → Answers (record_bytes r ++ behind) a → a ≡ Ok r }
+{}
+
+/// Bytes begin with one record at most.
+pub fn one_record()
+    ensures { (r s : Rec) (bytes : List ℕ) → FieldsFit r → FieldsFit s
+        → BeginsWith r bytes → BeginsWith s bytes → r ≡ s }
+{}
+
+/// Of any bytes exactly one answer holds: the record that they begin with, or one fault.
+pub fn one_answer()
+    ensures some { (bytes : List ℕ) → All (λ b. b < 256) bytes
+        → (a : Result Rec RecFault) × Answers bytes a }
+    ensures unique { (bytes : List ℕ) (a b : Result Rec RecFault)
+        → Answers bytes a → Answers bytes b → a ≡ b }
+{}

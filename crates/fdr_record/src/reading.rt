@@ -1,0 +1,128 @@
+//! Records from bytes.
+
+ghost use Rattle.std.specs.Prelude.{◌≡◌, ◌≤◌, ◌<◌, ◌+◌, length, take, drop, IfOk, IfErr, Ok, Err};
+ghost use Rattle.fdr_record.specs.declared.rec.Rec.{Rec};
+ghost use Rattle.fdr_record.specs.declared.fault.RecFault.{RecFault};
+ghost use Rattle.fdr_record.specs.Records.{length_of, FieldsFit, BeginsWith};
+ghost use Rattle.fdr_record.specs.Refusals.{Answers, Refuses};
+ghost use Rattle.fdr_record.specs.Reading.{kind_read, function_at, metadata_at};
+
+use crate::layout::{
+    ACTION_SHIFT, ACTIONS, BUFFER_EXTENTS, CPU_BYTES, ENTER, EXIT, FIELDS, FUNCTION,
+    FUNCTION_BYTES, ID_BYTES, ID_SHIFT, KIND_SHIFT, METADATA_BYTES, NEW_BUFFER, NEW_CPU_ID, PID,
+    SECONDS_BYTES, TAIL_EXIT, TSC_WRAP, TYPES, WALL_TIME,
+};
+use crate::rec::rec_len;
+use crate::{Kind, Rec, RecFault};
+use byteorder::{ByteOrder, LittleEndian};
+use xray_io::Wall;
+
+/// What an action's number says that happened.
+fn kind(action: u8) -> Result<Kind, RecFault>
+    ensures { result ≡ kind_read action }
+{
+    match action {
+        ENTER => Ok(Kind::Entry),
+        EXIT => Ok(Kind::Exit),
+        TAIL_EXIT => Ok(Kind::TailExit),
+        _ => Err(RecFault::Action(action)),
+    }
+}
+
+/// The function record with this first byte, which the bytes begin with.
+#[tactic(auto, unfolding(crate::specs::Reading::function_at))]
+fn function(first: u8, bytes: &[u8]) -> Result<Rec, RecFault>
+    ensures { result ≡ function_at first bytes.now }
+{
+    if bytes.len() < FUNCTION_BYTES {
+        return Err(RecFault::Short);
+    }
+    let kind = kind((first >> ACTION_SHIFT) % ACTIONS)?;
+    let (_, delta) = bytes.split_at(ID_BYTES);
+    Ok(Rec::Function {
+        kind,
+        func: LittleEndian::read_u32(bytes) >> ID_SHIFT,
+        delta: LittleEndian::read_u32(delta),
+    })
+}
+
+/// The metadata record of this kind, from the bytes behind its first one.
+#[tactic(auto, unfolding(crate::specs::Reading::metadata_at))]
+fn metadata(kind: u8, fields: &[u8]) -> Result<Rec, RecFault>
+    ensures { result ≡ metadata_at kind fields.now }
+{
+    if fields.len() < METADATA_BYTES - FIELDS {
+        return Err(RecFault::Short);
+    }
+    match kind {
+        NEW_BUFFER => Ok(Rec::NewBuffer {
+            thread: LittleEndian::read_u32(fields),
+        }),
+        NEW_CPU_ID => {
+            let (_, tsc) = fields.split_at(CPU_BYTES);
+            Ok(Rec::NewCpu {
+                cpu: LittleEndian::read_u16(fields),
+                tsc: LittleEndian::read_u64(tsc),
+            })
+        }
+        TSC_WRAP => Ok(Rec::TscWrap {
+            tsc: LittleEndian::read_u64(fields),
+        }),
+        WALL_TIME => {
+            let (_, micros) = fields.split_at(SECONDS_BYTES);
+            Ok(Rec::WallTime {
+                wall: Wall {
+                    secs: LittleEndian::read_u64(fields),
+                    micros: LittleEndian::read_u32(micros),
+                },
+            })
+        }
+        BUFFER_EXTENTS => Ok(Rec::Extents {
+            size: LittleEndian::read_u64(fields),
+        }),
+        PID => Ok(Rec::Pid {
+            pid: LittleEndian::read_u32(fields),
+        }),
+        _ => Err(RecFault::Kind(kind)),
+    }
+}
+
+/// The record that the bytes begin with.
+fn record(bytes: &[u8]) -> Result<Rec, RecFault>
+    ensures { Answers bytes.now result }
+{
+    match bytes {
+        [] => Err(RecFault::Short),
+        [first, fields @ ..] => {
+            if *first % TYPES == FUNCTION {
+                function(*first, bytes)
+            } else {
+                metadata(*first >> KIND_SHIFT, fields)
+            }
+        }
+    }
+}
+
+/// The record that stands at the place `at` of the bytes, and the place behind it. Places are byte
+/// offsets from the start of `bytes`. What follows the record doesn't matter, and neither do the bytes
+/// of a metadata record behind its fields. `RecFault` says when there is none.
+pub fn take_rec(bytes: &[u8], at: usize) -> Result<(Rec, usize), RecFault>
+    requires { at ≤ length bytes.now }
+    // What is read stands there.
+    ensures found { IfOk result (λ x. FieldsFit x.0 × BeginsWith x.0 (drop at bytes.now)
+        × (x.1 ≡ at + length_of x.0)) }
+    // The place behind it is further on, and within the bytes.
+    ensures next { IfOk result (λ x. (at < x.1) × (x.1 ≤ length bytes.now)) }
+    // A record that stands there is read.
+    ensures only { (r : Rec) → FieldsFit r → BeginsWith r (drop at bytes.now)
+        → result ≡ Ok (r, at + length_of r) }
+    // A fault that is answered holds there.
+    ensures fault { IfErr result (Refuses (drop at bytes.now)) }
+    // A fault that holds there is answered.
+    ensures exact { (f : RecFault) → Refuses (drop at bytes.now) f → result ≡ Err f }
+{
+    match record(&bytes[at..]) {
+        Ok(rec) => Ok((rec, at + rec_len(&rec))),
+        Err(fault) => Err(fault),
+    }
+}
