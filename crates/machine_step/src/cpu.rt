@@ -202,6 +202,13 @@ impl<'a> Cpu<'a> {
         }
     }
 
+    /// The number of the thread, from 1.
+    pub fn thread(&self) -> u32
+        ensures { result ≡ self.now.thread }
+    {
+        self.thread
+    }
+
     /// The value of the general register of a number, numbered as in `Reg`. Those that no
     /// instruction names, rsp and r10, are 0.
     pub fn reg(&self, n: u8) -> u64

@@ -1,15 +1,17 @@
 -- What stands behind each status of the top call.
-use Rattle.std.specs.Prelude.{◌≡◌, ◌⊎◌, ℕ, List, Option}
+use Rattle.std.specs.Prelude.{◌≡◌, ◌⊎◌, ℕ, List, Option, None, Ok}
 use Rattle.xray_io.specs.Desk.{Entry, Absent}
 use Rattle.xray_io.specs.Faults.{Rose}
 use Rattle.xray_io.specs.Sink.{Adds}
 use Rattle.xray_image.specs.Program.{Program, IsAccepted}
-use Rattle.xray_image.specs.FirstRun.{IsFirstRun}
+use Rattle.patch_script.specs.Plans.{Plan, plan_of, waiting_line}
+use Rattle.patch_script.specs.Refusals.{commands_of}
 use Rattle.step_sim.specs.declared.turns.Turns.{Turns}
-use Rattle.xray_program.specs.FirstRun.{first_script, SimPrints}
-use Rattle.xray_program.specs.Inputs.{ReadsScript, ReadsSchedule}
+use Rattle.step_sim.specs.Schedules.{schedule_of}
 use Rattle.xray_program.specs.Meaning.{Outcome, Done, Unread, status_of, line_of, Means, HadItsTurn, Says}
 use Rattle.xray_program.specs.Outputs.{AreWhole, FailsWriting}
+use Rattle.xray_program.specs.States.{SimPrints}
+use Rattle.xray_program.specs.declared.words.RunOptions.{RunOptions}
 
 -- all is done: each output that the words mean is whole, and out has exactly the text
 pub record LeavesAll (said : List (List ℕ)) (held held_now : List ℕ → Entry) (old new : Option (List ℕ)) : Type 0 where
@@ -40,17 +42,18 @@ pub record CouldNotWrite (said : List (List ℕ)) (held held_now : List ℕ → 
   pub meant : Means said held (Done outputs text)
   pub failed : FailsWriting outputs text held held_now writes_before writes_now out_before out_now old new name
 
--- the image file, the script and the schedule are of their forms, and out has the state text of
--- their replay
-pub record IsSimulated (image script schedule : List ℕ) (old new : Option (List ℕ)) : Type 0 where
+-- the image file is accepted, the script and the schedule are read for it and for so many threads, nobody waits in the script, and
+-- out has the state texts of the replay
+pub record IsSimulated (image script schedule : List ℕ) (options : RunOptions) (old new : Option (List ℕ)) : Type 0 where
   pub program : Program
   pub accepted : IsAccepted image program
-  pub form : IsFirstRun program
-  pub commands : ReadsScript script first_script
+  pub plan : Plan
+  pub commands : plan_of program options.threads script ≡ Ok plan
+  pub still : waiting_line plan.lines ≡ None
   pub turns : List Turns
-  pub lines : ReadsSchedule 1 schedule turns
+  pub lines : schedule_of options.threads schedule ≡ Ok turns
   pub text : List ℕ
-  pub prints : SimPrints program first_script turns text
+  pub prints : SimPrints program (commands_of plan.lines) turns options text
   pub out : Adds old new text
 
 -- a status that may come where the words mean an outcome: that outcome's, 5 for want of memory, 3

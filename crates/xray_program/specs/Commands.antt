@@ -1,4 +1,5 @@
 -- A command line that was read, as the command that it says.
+use Rattle.std.specs.Prelude.{◌≤◌, ℕ}
 use Rattle.xray_program.specs.declared.items.Item.{Item}
 use Rattle.xray_program.specs.declared.items.Item.TheVariants.{File, Given, Bare}
 use Rattle.xray_program.specs.declared.number_option.NumberOption.{NumberOption}
@@ -8,7 +9,7 @@ use Rattle.xray_program.specs.Words as words
 
 -- the command, with its files' names as bytes
 abbrev pub command_of : Command → words.Command
-command_of (Sim image script schedule) = words.Sim image.now script.now schedule.now
+command_of (Sim image script schedule options) = words.Sim image.now script.now schedule.now options
 command_of (Plain image options) = words.Plain image.now options
 command_of (Extract image) = words.Extract image.now
 command_of (Asm text image threshold) = words.Asm text.now image.now threshold
@@ -22,3 +23,10 @@ item_of (Bare option) = words.Bare option.now
 -- an option, with its name as bytes
 abbrev pub row_of : NumberOption → words.NumberOption
 row_of o = record { name = o.name.now; least = o.least; most = o.most; default = o.default }
+
+-- a command that runs threads has at least one, and at most 16
+abbrev pub HasThreads : Command → Type 0
+HasThreads (Sim image script schedule options) = (1 ≤ options.threads) × (options.threads ≤ 16)
+HasThreads (Plain image options) = (1 ≤ options.threads) × (options.threads ≤ 16)
+HasThreads (Extract image) = Unit {0}
+HasThreads (Asm text image threshold) = Unit {0}

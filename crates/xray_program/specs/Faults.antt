@@ -1,8 +1,10 @@
--- Refusals of image files, of assembler texts and of schedules in a line on err: the name of each and its values, a space between them.
+-- Refusals of image files, assembler texts, scripts and schedules in a line on err: the name of each and its values, a space between them.
 use Rattle.std.specs.Prelude.{ℕ, List, ◌++◌, codes, decimal}
 use Rattle.xray_io.specs.Piece.{piece_text}
 use Rattle.asm_text.specs.declared.fault.AsmFault.{AsmFault}
 use Rattle.asm_text.specs.declared.fault.AsmFault.TheVariants as asm
+use Rattle.patch_script.specs.declared.fault.ScriptFault.{ScriptFault}
+use Rattle.patch_script.specs.declared.fault.ScriptFault.TheVariants as scripting
 use Rattle.step_sim.specs.declared.fault.ScheduleFault.{ScheduleFault}
 use Rattle.step_sim.specs.declared.fault.ScheduleFault.TheVariants as scheduling
 use Rattle.subset_decode.specs.declared.fault.DecodeFault.{DecodeFault}
@@ -53,6 +55,18 @@ asm_fault_text (asm.Repeat line) = codes "Repeat " ++ decimal line
 asm_fault_text (asm.Limit line) = codes "Limit " ++ decimal line
 asm_fault_text (asm.Label line) = codes "Label " ++ decimal line
 asm_fault_text asm.NoMemory = codes "NoMemory"
+
+-- why a text is no script
+abbrev pub script_fault_text : ScriptFault → List ℕ
+script_fault_text (scripting.Limit line) = codes "Limit " ++ decimal line
+script_fault_text (scripting.Syntax line) = codes "Syntax " ++ decimal line
+script_fault_text (scripting.Function line) = codes "Function " ++ decimal line
+script_fault_text (scripting.Thread line) = codes "Thread " ++ decimal line
+script_fault_text (scripting.Go line) = codes "Go " ++ decimal line
+script_fault_text (scripting.Hold line) = codes "Hold " ++ decimal line
+script_fault_text (scripting.Log line) = codes "Log " ++ decimal line
+script_fault_text (scripting.SelfWait line) = codes "SelfWait " ++ decimal line
+script_fault_text scripting.NoMemory = codes "NoMemory"
 
 -- why a text is no schedule
 abbrev pub schedule_fault_text : ScheduleFault → List ℕ

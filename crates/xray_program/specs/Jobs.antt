@@ -5,37 +5,43 @@ use Rattle.xray_image.specs.Extract.{extract_text}
 use Rattle.xray_image.specs.Program.{Program}
 use Rattle.machine_step.specs.declared.plain_end.PlainEnd.{PlainEnd}
 use Rattle.machine_step.specs.PlainEnd.{IsPlainEnd, state_of}
-use Rattle.machine_step.specs.Texts.{plain_text, state_text}
+use Rattle.machine_step.specs.EndedText.{ended_text}
+use Rattle.machine_step.specs.Texts.{plain_text}
+use Rattle.machine_step.specs.Traced.{IsDone, Traced}
 use Rattle.xray_program.specs.Plain.{limits_of}
 use Rattle.xray_program.specs.declared.words.RunOptions.{RunOptions}
 use Rattle.xray_program.specs.declared.job.Job.{Job}
-use Rattle.xray_program.specs.declared.job.Job.TheVariants.{State, Ends, SledMap, Image}
+use Rattle.xray_program.specs.declared.job.Job.TheVariants.{States, Ends, SledMap, Image}
 
 -- the plain text of a thread that has come to its end
 abbrev pub end_text : PlainEnd → List ℕ
 end_text e = plain_text e.thread e.end (state_of e)
 
+-- the state text of a traced thread that has come to its end
+abbrev pub thread_text : Traced → List ℕ
+thread_text t = ended_text t.thread t t.want
+
 -- the outputs, each a name and its bytes
 unfoldable pub job_outputs : Job → List (List ℕ × List ℕ)
-job_outputs (State end marks) = []
+job_outputs (States threads) = []
 job_outputs (Ends ends) = []
 job_outputs (SledMap image) = []
-job_outputs (Image name file) = (name.now, file.items) ∷ []
+job_outputs (Image name file) = (name.now, file.now) ∷ []
 
 -- the text that out gets
 unfoldable pub job_text : Job → List ℕ
-job_text (State end marks) = state_text end.thread end.end (state_of end) marks.items
+job_text (States threads) = flat_map thread_text threads.items
 job_text (Ends ends) = flat_map end_text ends.items
-job_text (SledMap image) = extract_text image
+job_text (SledMap image) = extract_text image.now
 job_text (Image name file) = []
 
 -- the end of a thread tells of all 16 registers
 abbrev pub HasRegisters : PlainEnd → Type 0
 HasRegisters e = length e.regs.items ≡ 16
 
--- each end that is printed does
+-- what is printed of threads is there to be printed: all registers, and a traced thread has ended
 unfoldable pub IsPrintable : Job → Type 0
-IsPrintable (State end marks) = HasRegisters end
+IsPrintable (States threads) = All (λ t. IsDone t.want) threads.items
 IsPrintable (Ends ends) = All HasRegisters ends.items
 IsPrintable (SledMap image) = Unit {0}
 IsPrintable (Image name file) = Unit {0}

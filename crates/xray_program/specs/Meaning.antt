@@ -1,12 +1,17 @@
 -- What a command means: what comes of the words and of what the desk holds.
-use Rattle.std.specs.Prelude.{◌≡◌, ◌≢◌, ◌⊎◌, ◌<◌, ◌≤◌, ℕ, List, [], ◌∷◌, ◌++◌, length, codes, MatchOption, Option, ⊤}
+use Rattle.std.specs.Prelude.{◌≡◌, ◌≢◌, ◌⊎◌, ◌<◌, ◌≤◌, ℕ, List, [], ◌∷◌, ◌++◌, length, codes, decimal, MatchOption, Option, ⊤}
 use Rattle.xray_io.specs.Desk.{Entry, Untold, Absent, Holds}
 use Rattle.xray_io.specs.Faults.{Rose}
 use Rattle.xray_io.specs.Sink.{Adds, AddsPrefix}
 use Rattle.xray_image.specs.Extract.{extract_text}
-use Rattle.xray_program.specs.FirstRun.{SimPrints}
-use Rattle.xray_program.specs.Inputs.{Form, image_form, first_run_form, script_form, schedule_form, text_form}
+use Rattle.xray_image.specs.Program.{Program}
+use Rattle.patch_script.specs.Plans.{Plan, waiting_line}
+use Rattle.patch_script.specs.Refusals.{commands_of}
+use Rattle.step_sim.specs.declared.turns.Turns.{Turns}
+use Rattle.xray_program.specs.Inputs.{Form, image_form, script_form, schedule_form, text_form}
 use Rattle.xray_program.specs.Plain.{PlainPrints}
+use Rattle.xray_program.specs.States.{SimPrints}
+use Rattle.xray_program.specs.declared.words.RunOptions.{RunOptions}
 use Rattle.xray_program.specs.Words.{Sim, Plain, Extract, Asm, reading}
 use Rattle.xray_program.specs.Words as words
 
@@ -71,16 +76,25 @@ Take form fails held name next outcome =
     (fails name × (outcome ≡ Unread name))
     ⊎ ((bytes : List ℕ) × MayHold (held name) bytes × Judge form name bytes next outcome)
 
+-- all is done, with no outputs and a text of which this holds
+abbrev pub Prints : (List ℕ → Type 0) → Outcome → Type 0
+Prints IsText outcome = (text : List ℕ) × IsText text × (outcome ≡ Done [] text)
+
+-- What comes of a replay: a script of this name at which a thread or the patcher may wait is refused for the first such line;
+-- else the threads' texts are printed.
+abbrev pub Replays : List ℕ → RunOptions → Program → Plan → List Turns → Outcome → Type 0
+Replays name options program plan turns outcome =
+    MatchOption (waiting_line plan.lines) (Prints (SimPrints program (commands_of plan.lines) turns options) outcome)
+    (λ line. outcome ≡ Refused name (codes "script") (codes "Waits " ++ decimal line))
+
 -- what comes of a command where `fails` says which names can't be read
 abbrev pub Comes : (List ℕ → Type 0) → (List ℕ → Entry) → words.Command → Outcome → Type 0
-Comes fails held (Sim image script schedule) =
-    Take first_run_form fails held image (λ program.
-    Take script_form fails held script (λ commands.
-    Take (schedule_form 1) fails held schedule (λ turns outcome.
-    (text : List ℕ) × SimPrints program commands turns text × (outcome ≡ Done [] text))))
+Comes fails held (Sim image script schedule options) =
+    Take image_form fails held image (λ program.
+    Take (script_form program options.threads) fails held script (λ plan.
+    Take (schedule_form options.threads) fails held schedule (Replays script options program plan)))
 Comes fails held (Plain image options) =
-    Take image_form fails held image (λ program outcome.
-    (text : List ℕ) × PlainPrints program options text × (outcome ≡ Done [] text))
+    Take image_form fails held image (λ program. Prints (PlainPrints program options))
 Comes fails held (Extract image) =
     Take image_form fails held image (λ program outcome. outcome ≡ Done [] (extract_text program))
 Comes fails held (Asm text image threshold) =

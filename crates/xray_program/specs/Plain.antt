@@ -8,7 +8,7 @@ use Rattle.machine_step.specs.PlainStep.{State, Passing, PlainRun}
 use Rattle.machine_step.specs.Texts.{plain_text}
 use Rattle.xray_program.specs.declared.words.RunOptions.{RunOptions}
 
--- what bounds each thread; only events have stamps, and the plain run prints none
+-- what bounds each thread; only events have stamps, and none is printed
 abbrev pub limits_of : RunOptions → Limits
 limits_of options =
     record {

@@ -1,10 +1,10 @@
 -- What ends a call before all is done: its status, its line on err, and what stands behind it.
-use Rattle.std.specs.Prelude.{ℕ, List, Result, Ok, Err, codes}
+use Rattle.std.specs.Prelude.{ℕ, List, ◌++◌, Result, Ok, Err, codes, decimal}
 use Rattle.xray_program.specs.declared.stop.Kind.{Kind}
 use Rattle.xray_program.specs.declared.stop.Kind.TheVariants.{Image, Text, Script, Schedule}
 use Rattle.xray_program.specs.declared.refusal.Refusal.{Refusal}
-use Rattle.xray_program.specs.declared.refusal.Refusal.TheVariants.{NotYet, Faulty, Unassembled, Unscheduled}
-use Rattle.xray_program.specs.Faults.{asm_fault_text, fault_text, schedule_fault_text}
+use Rattle.xray_program.specs.declared.refusal.Refusal.TheVariants.{Faulty, Unassembled, Unscripted, Unscheduled, Waits}
+use Rattle.xray_program.specs.Faults.{asm_fault_text, fault_text, schedule_fault_text, script_fault_text}
 use Rattle.xray_program.specs.declared.stop.Stop.{Stop}
 use Rattle.xray_program.specs.declared.stop.Stop.TheVariants as stops
 use Rattle.xray_program.specs.Meaning.{BadLine, Unread, TooLong, Refused, line_of, write_fault_line, memory_line}
@@ -18,10 +18,11 @@ kind_text Schedule = codes "schedule"
 
 -- the words for what is wrong
 abbrev pub refusal_text : Refusal → List ℕ
-refusal_text NotYet = codes "NotYet"
 refusal_text (Faulty fault) = fault_text fault
 refusal_text (Unassembled fault) = asm_fault_text fault
+refusal_text (Unscripted fault) = script_fault_text fault
 refusal_text (Unscheduled fault) = schedule_fault_text fault
+refusal_text (Waits line) = codes "Waits " ++ decimal line
 
 -- the status
 abbrev pub stop_status : Stop → ℕ

@@ -4,14 +4,8 @@ use Rattle.xray_io.specs.Desk.{Entry, Absent}
 use Rattle.xray_io.specs.Faults.{Rose}
 use Rattle.xray_io.specs.declared.faults.ReadError.{ReadError}
 use Rattle.xray_io.specs.declared.faults.ReadError.TheVariants as reading
-use Rattle.asm_text.specs.declared.fault.AsmFault.{AsmFault}
-use Rattle.asm_text.specs.declared.fault.AsmFault.TheVariants as asm
-use Rattle.xray_image.specs.declared.fault.ImageFault.{ImageFault}
-use Rattle.xray_image.specs.declared.fault.ImageFault.TheVariants as faults
-use Rattle.step_sim.specs.declared.fault.ScheduleFault.{ScheduleFault}
-use Rattle.step_sim.specs.declared.fault.ScheduleFault.TheVariants as scheduling
-use Rattle.xray_program.specs.declared.refusal.Refusal.TheVariants.{Faulty, Unassembled, Unscheduled}
-use Rattle.xray_program.specs.declared.stop.Kind.TheVariants.{Image, Text, Schedule}
+use Rattle.xray_program.specs.declared.refusal.Refusal.{Refusal}
+use Rattle.xray_program.specs.declared.stop.Kind.{Kind}
 use Rattle.xray_program.specs.declared.stop.Stop.{Stop}
 use Rattle.xray_program.specs.declared.stop.Stop.TheVariants as stops
 use Rattle.xray_program.specs.Inputs.{Form}
@@ -74,35 +68,15 @@ IsReadStop name error (stops.Refused n kind refusal) = ⊥
 IsReadStop name error (stops.Unwritten n) = ⊥
 IsReadStop name error stops.NoMemory = error ≡ reading.NoMemory
 
--- what an image's fault comes to: want of memory, or a refusal
-abbrev pub IsImageStop : List ℕ → ImageFault → Stop → Type 0
-IsImageStop name fault stops.BadLine = ⊥
-IsImageStop name fault (stops.Unread n) = ⊥
-IsImageStop name fault (stops.TooLong n) = ⊥
-IsImageStop name fault (stops.Refused n kind refusal) =
-    (n.now ≡ name) × (kind ≡ Image) × (refusal ≡ Faulty fault) × (fault ≢ faults.NoMemory)
-IsImageStop name fault (stops.Unwritten n) = ⊥
-IsImageStop name fault stops.NoMemory = fault ≡ faults.NoMemory
-
--- what an assembler text's fault comes to: want of memory, or a refusal
-abbrev pub IsTextStop : List ℕ → AsmFault → Stop → Type 0
-IsTextStop name fault stops.BadLine = ⊥
-IsTextStop name fault (stops.Unread n) = ⊥
-IsTextStop name fault (stops.TooLong n) = ⊥
-IsTextStop name fault (stops.Refused n kind refusal) =
-    (n.now ≡ name) × (kind ≡ Text) × (refusal ≡ Unassembled fault) × (fault ≢ asm.NoMemory)
-IsTextStop name fault (stops.Unwritten n) = ⊥
-IsTextStop name fault stops.NoMemory = fault ≡ asm.NoMemory
-
--- what a schedule's fault comes to: want of memory, or a refusal
-abbrev pub IsScheduleStop : List ℕ → ScheduleFault → Stop → Type 0
-IsScheduleStop name fault stops.BadLine = ⊥
-IsScheduleStop name fault (stops.Unread n) = ⊥
-IsScheduleStop name fault (stops.TooLong n) = ⊥
-IsScheduleStop name fault (stops.Refused n kind refusal) =
-    (n.now ≡ name) × (kind ≡ Schedule) × (refusal ≡ Unscheduled fault) × (fault ≢ scheduling.NoMemory)
-IsScheduleStop name fault (stops.Unwritten n) = ⊥
-IsScheduleStop name fault stops.NoMemory = fault ≡ scheduling.NoMemory
+-- what the fault of an input of a kind comes to: want of memory where it is that one, and else a refusal that tells it
+abbrev pub IsFaultStop : {F : Type 0} → Kind → (F → Refusal) → (wanting : F) → List ℕ → F → Stop → Type 0
+IsFaultStop kind tells wanting name fault stops.BadLine = ⊥
+IsFaultStop kind tells wanting name fault (stops.Unread n) = ⊥
+IsFaultStop kind tells wanting name fault (stops.TooLong n) = ⊥
+IsFaultStop kind tells wanting name fault (stops.Refused n k refusal) =
+    (n.now ≡ name) × (k ≡ kind) × (refusal ≡ tells fault) × (fault ≢ wanting)
+IsFaultStop kind tells wanting name fault (stops.Unwritten n) = ⊥
+IsFaultStop kind tells wanting name fault stops.NoMemory = fault ≡ wanting
 
 -- A command that comes to M, by which names can't be read, ends with a stop.
 abbrev pub Stops : ((List ℕ → Type 0) → Outcome → Type 0) → (List ℕ → Entry) → ℕ → ℕ → Stop → Type 0

@@ -9,7 +9,7 @@ use Rattle.xray_program.specs.declared.words.RunOptions.{RunOptions}
 
 -- a command with the names of its files, and its options
 pub data Command : Type 0 where
-  Sim : (image script schedule : List ℕ) → Command
+  Sim : (image script schedule : List ℕ) → (options : RunOptions) → Command
   Plain : (image : List ℕ) → (options : RunOptions) → Command
   Extract : (image : List ℕ) → Command
   Asm : (text image : List ℕ) → (threshold : ℕ) → Command
@@ -130,6 +130,10 @@ fuel_option = record { name = codes "--fuel"; least = 0; most = 1000000000; defa
 abbrev pub passings_option : NumberOption
 passings_option = record { name = codes "--passings"; least = 0; most = 1048576; default = 1048576 }
 
+-- their names
+abbrev pub run_names : List (List ℕ)
+run_names = map (λ row. row.name) (threads_option ∷ fuel_option ∷ passings_option ∷ [])
+
 -- all three, where each is as it may be
 abbrev pub run_options : List Item → Option RunOptions
 run_options items = with_numbers (number_given threads_option items)
@@ -148,14 +152,14 @@ threshold_option = record { name = codes "--threshold"; least = 0; most = 429496
 
 -- ---- the commands
 
--- `sim` has three files
-abbrev pub sim_with : List (List ℕ) → Option Command
-sim_with (image ∷ script ∷ schedule ∷ []) = Some (Sim image script schedule)
-sim_with _ = None
-
--- and no options
+-- `sim` has three files, and the options of the commands that run threads
 abbrev pub sim_of : List Item → Option Command
-sim_of items = if have_only [] items then sim_with (files_of items) else None
+sim_of items =
+    if have_only run_names items then of_parts (run_options items) (files_of items) else None
+  where
+    of_parts : Option RunOptions → List (List ℕ) → Option Command
+    of_parts (Some options) (image ∷ script ∷ schedule ∷ []) = Some (Sim image script schedule options)
+    of_parts _ _ = None
 
 -- `extract` has a file, and no options
 abbrev pub extract_of : List Item → Option Command
@@ -164,8 +168,7 @@ extract_of items = if have_only [] items then option_map Extract (only_file item
 -- `plain` has a file, and the options of the commands that run threads
 abbrev pub plain_of : List Item → Option Command
 plain_of items =
-    if have_only (map (λ row. row.name) (threads_option ∷ fuel_option ∷ passings_option ∷ [])) items
-    then of_parts (run_options items) (only_file items) else None
+    if have_only run_names items then of_parts (run_options items) (only_file items) else None
   where
     of_parts : Option RunOptions → Option (List ℕ) → Option Command
     of_parts (Some options) (Some image) = Some (Plain image options)
@@ -196,7 +199,7 @@ reading (command ∷ words) =
 
 -- the names of a command's outputs
 abbrev pub outputs_of : Command → List (List ℕ)
-outputs_of (Sim image script schedule) = []
+outputs_of (Sim image script schedule options) = []
 outputs_of (Plain image options) = []
 outputs_of (Extract image) = []
 outputs_of (Asm text image threshold) = image ∷ []

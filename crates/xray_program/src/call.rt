@@ -3,21 +3,15 @@ ghost use Rattle.std.specs.Prelude.{◌≡◌, ◌≢◌, ◌⊎◌, ◌↔◌, 
 ghost use Rattle.xray_io.specs.Desk.{Absent, Holds};
 ghost use Rattle.xray_program.specs.Answers.{LeavesAll, Reports, CouldNotRead, CouldNotWrite, IsSimulated, IsAnswer};
 ghost use Rattle.xray_program.specs.Calls.{StopsCall};
-ghost use Rattle.xray_program.specs.Commands.{command_of};
-ghost use Rattle.xray_program.specs.Jobs.{job_outputs, job_text, IsPrintable};
-ghost use Rattle.xray_program.specs.Meaning.{Outcome, Done, Comes, Means, Says, TellsAll, memory_line, write_fault_line};
+ghost use Rattle.xray_program.specs.Meaning.{Outcome, Means, Says, TellsAll, memory_line, write_fault_line};
 ghost use Rattle.xray_program.specs.Outputs.{WritesNothing};
 ghost use Rattle.xray_program.specs.Stops.{answer_of};
-ghost use Rattle.xray_program.specs.Takes.{IsAnswerSoFar, Stops};
 ghost use Rattle.xray_program.specs.Words.{Sim, outputs_named, reading, texts};
+ghost use Rattle.xray_program.specs.declared.words.RunOptions.{RunOptions};
 
-use crate::asm::prepare_asm;
-use crate::extract::prepare_extract;
-use crate::job::Job;
-use crate::plain::prepare_plain;
-use crate::sim::prepare_sim;
 use crate::stop::Stop;
-use crate::words::{Command, read_words};
+use crate::taken::take;
+use crate::words::read_words;
 use std::alloc::Global;
 use std::sync::Wait;
 use std::thread::Threads;
@@ -80,11 +74,11 @@ pub fn xray_still<D: Desk, O: Sink, E: Sink>(
         (D.write_faults desk.old) (D.write_faults desk.new)
         (O.faults out.old) (O.faults out.new) result }
 
-    // With status 0 the state text of the replay is on out.
-    ensures headline { result ≡ 0 → (i s c image script schedule : List ℕ)
-        → reading (texts words.now) ≡ Some (Sim i s c) → D.held desk.old i ≡ Holds image
+    // With status 0 the state texts of the replay are on out.
+    ensures headline { result ≡ 0 → (i s c image script schedule : List ℕ) (options : RunOptions)
+        → reading (texts words.now) ≡ Some (Sim i s c options) → D.held desk.old i ≡ Holds image
         → D.held desk.old s ≡ Holds script → D.held desk.old c ≡ Holds schedule
-        → IsSimulated image script schedule (O.written out.old) (O.written out.new) }
+        → IsSimulated image script schedule options (O.written out.old) (O.written out.new) }
 {
     match perform(alloc, words, desk, out) {
         Ok(()) => 0,
@@ -151,11 +145,11 @@ pub fn xray<T: Threads + Wait + Sync, D: Desk, O: Sink, E: Sink, G: Gate + Sync>
         (D.write_faults desk.old) (D.write_faults desk.new)
         (O.faults out.old) (O.faults out.new) result }
 
-    // With status 0 the state text of the replay is on out.
-    ensures headline { result ≡ 0 → (i s c image script schedule : List ℕ)
-        → reading (texts words.now) ≡ Some (Sim i s c) → D.held desk.old i ≡ Holds image
+    // With status 0 the state texts of the replay are on out.
+    ensures headline { result ≡ 0 → (i s c image script schedule : List ℕ) (options : RunOptions)
+        → reading (texts words.now) ≡ Some (Sim i s c options) → D.held desk.old i ≡ Holds image
         → D.held desk.old s ≡ Holds script → D.held desk.old c ≡ Holds schedule
-        → IsSimulated image script schedule (O.written out.old) (O.written out.new) }
+        → IsSimulated image script schedule options (O.written out.old) (O.written out.new) }
 {
     xray_still(alloc, words, wall, desk, out, err)
 }
@@ -184,42 +178,7 @@ fn perform<'a, D: Desk, O: Sink>(
     let Some(command) = read_words(words) else {
         return Err(Stop::BadLine);
     };
-    let job = prepare(alloc, desk, command)?;
+    let taken = take(alloc, desk, command)?;
+    let job = taken.prepare(alloc)?;
     job.deliver(desk, out)
-}
-
-/// Takes the inputs of a command, and does all of its work but to write its outputs.
-fn prepare<'a, D: Desk>(
-    alloc: Global,
-    desk: &mut D,
-    command: Command<'a>,
-) -> Result<Job<'a>, Stop<'a>>
-    ensures ready { IfOk result (λ job. Comes (λ name. D.held desk.old name ≡ Absent)
-        (D.held desk.old) (command_of command.entry) (Done (job_outputs job) (job_text job))) }
-    ensures printable { IfOk result IsPrintable }
-    ensures stops { IfErr result (Stops
-        (λ fails. Comes fails (D.held desk.old) (command_of command.entry))
-        (D.held desk.old) (D.read_faults desk.old) (D.read_faults desk.new)) }
-    ensures complete { (outcome : Outcome) → TellsAll (D.held desk.old)
-        → Comes (λ name. D.held desk.old name ≡ Absent)
-        (D.held desk.old) (command_of command.entry) outcome
-        → IsAnswerSoFar (D.read_faults desk.old) (D.read_faults desk.new)
-        outcome (answer_of result) }
-    ensures held { D.held desk.new ≡ D.held desk.old }
-    ensures writes { D.write_faults desk.new ≡ D.write_faults desk.old }
-{
-    match command {
-        Command::Sim {
-            image,
-            script,
-            schedule,
-        } => prepare_sim(alloc, desk, image, script, schedule),
-        Command::Plain { image, options } => prepare_plain(alloc, desk, image, options),
-        Command::Extract { image } => prepare_extract(alloc, desk, image),
-        Command::Asm {
-            text,
-            image,
-            threshold,
-        } => prepare_asm(alloc, desk, text, image, threshold),
-    }
 }

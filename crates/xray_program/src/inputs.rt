@@ -1,14 +1,14 @@
 //! The inputs in their turn: each is read, measured and judged before the next is opened.
-ghost use Rattle.std.specs.Prelude.{◌≡◌, ◌≤◌, All, IfOk, IfErr, OnOk};
+ghost use Rattle.std.specs.Prelude.{◌≡◌, ◌≤◌, All, IfOk, IfErr};
 ghost use Rattle.step_sim.specs.Schedules.{AreTurnsOf};
-ghost use Rattle.xray_program.specs.FirstRun.{first_script};
-ghost use Rattle.xray_program.specs.Inputs.{first_run_form, image_form, schedule_form, script_form, text_form};
-ghost use Rattle.xray_program.specs.Takes.{Fails, Gives, FailsToRead, GivesBytes, IsImageStop, IsReadStop, IsScheduleStop, IsTextStop};
+ghost use Rattle.xray_program.specs.Inputs.{image_form, schedule_form, script_form, text_form};
+ghost use Rattle.xray_program.specs.Takes.{Fails, Gives, FailsToRead, GivesBytes, IsFaultStop, IsReadStop};
 
-use crate::early_script::{NotYet, read_script};
 use crate::refusal::Refusal;
 use crate::stop::{Kind, Stop};
 use asm_text::{AsmFault, assemble};
+use patch_script::{Script, ScriptFault, read_script};
+use sled_words::MAX_THREADS;
 use std::alloc::Global;
 use step_sim::{Schedule, ScheduleFault, read_schedule};
 use xray_image::{Image, ImageFault, read_image};
@@ -48,7 +48,7 @@ pub(crate) fn take_image<'a, D: Desk>(
 
 /// What an image's fault comes to.
 fn image_stop(name: &str, fault: ImageFault) -> Stop<'_>
-    ensures { IsImageStop name.now fault result }
+    ensures { IsFaultStop Kind.Image Refusal.Faulty ImageFault.NoMemory name.now fault result }
 {
     match fault {
         ImageFault::NoMemory => Stop::NoMemory,
@@ -84,7 +84,7 @@ pub(crate) fn take_text<'a, D: Desk>(
 
 /// What an assembler text's fault comes to.
 fn text_stop(name: &str, fault: AsmFault) -> Stop<'_>
-    ensures { IsTextStop name.now fault result }
+    ensures { IsFaultStop Kind.Text Refusal.Unassembled AsmFault.NoMemory name.now fault result }
 {
     match fault {
         AsmFault::NoMemory => Stop::NoMemory,
@@ -96,51 +96,43 @@ fn text_stop(name: &str, fault: AsmFault) -> Stop<'_>
     }
 }
 
-/// Takes an image file of the form that `sim` runs.
-pub(crate) fn take_first_run<'a, D: Desk>(
-    alloc: Global,
-    desk: &mut D,
-    name: &'a str,
-) -> Result<Image, Stop<'a>>
-    ensures gives { IfOk result (Gives first_run_form (D.held desk.old name.now)) }
-    ensures fails { IfErr result (Fails first_run_form (D.held desk.old) name.now
-        (D.read_faults desk.old) (D.read_faults desk.new)) }
-    ensures held { D.held desk.new ≡ D.held desk.old }
-    ensures later { D.read_faults desk.old ≤ D.read_faults desk.new }
-    ensures writes { D.write_faults desk.new ≡ D.write_faults desk.old }
-{
-    let image = take_image(alloc, desk, name)?;
-    if !image.is_first_run() {
-        return Err(Stop::Refused {
-            name,
-            kind: Kind::Image,
-            refusal: Refusal::NotYet,
-        });
-    }
-    Ok(image)
-}
-
-/// Takes a script, which is the one that is run.
+/// Takes a script for an image and so many threads.
 pub(crate) fn take_script<'a, D: Desk>(
     alloc: Global,
     desk: &mut D,
     name: &'a str,
-) -> Result<(), Stop<'a>>
-    ensures gives { OnOk result (Gives script_form (D.held desk.old name.now) first_script) }
-    ensures fails { IfErr result (Fails script_form (D.held desk.old) name.now
+    image: &Image,
+    threads: u32,
+) -> Result<Script, Stop<'a>>
+    requires { (1 ≤ threads) × (threads ≤ MAX_THREADS) }
+    ensures gives { IfOk result
+        (Gives (script_form image.now threads) (D.held desk.old name.now)) }
+    ensures fails { IfErr result (Fails (script_form image.now threads) (D.held desk.old) name.now
         (D.read_faults desk.old) (D.read_faults desk.new)) }
+    ensures fits { IfOk result (λ script.
+        (script.program ≡ image.now) × (script.threads ≡ threads)) }
     ensures held { D.held desk.new ≡ D.held desk.old }
     ensures later { D.read_faults desk.old ≤ D.read_faults desk.new }
     ensures writes { D.write_faults desk.new ≡ D.write_faults desk.old }
 {
     let bytes = take_bytes(alloc, desk, name, SCRIPT_LIMIT)?;
-    match read_script(&bytes) {
-        Ok(()) => Ok(()),
-        Err(NotYet) => Err(Stop::Refused {
+    match read_script(alloc, &bytes, image, threads) {
+        Ok(script) => Ok(script),
+        Err(fault) => Err(script_stop(name, fault)),
+    }
+}
+
+/// What a script's fault comes to.
+fn script_stop(name: &str, fault: ScriptFault) -> Stop<'_>
+    ensures { IsFaultStop Kind.Script Refusal.Unscripted ScriptFault.NoMemory name.now fault result }
+{
+    match fault {
+        ScriptFault::NoMemory => Stop::NoMemory,
+        _ => Stop::Refused {
             name,
             kind: Kind::Script,
-            refusal: Refusal::NotYet,
-        }),
+            refusal: Refusal::Unscripted(fault),
+        },
     }
 }
 
@@ -151,7 +143,7 @@ pub(crate) fn take_schedule<'a, D: Desk>(
     name: &'a str,
     threads: u32,
 ) -> Result<Schedule, Stop<'a>>
-    requires { (1 ≤ threads) × (threads ≤ 16) }
+    requires { (1 ≤ threads) × (threads ≤ MAX_THREADS) }
     ensures gives { IfOk result (Gives (schedule_form threads) (D.held desk.old name.now)) }
     ensures fails { IfErr result (Fails (schedule_form threads) (D.held desk.old) name.now
         (D.read_faults desk.old) (D.read_faults desk.new)) }
@@ -169,7 +161,7 @@ pub(crate) fn take_schedule<'a, D: Desk>(
 
 /// What a schedule's fault comes to.
 fn schedule_stop(name: &str, fault: ScheduleFault) -> Stop<'_>
-    ensures { IsScheduleStop name.now fault result }
+    ensures { IsFaultStop Kind.Schedule Refusal.Unscheduled ScheduleFault.NoMemory name.now fault result }
 {
     match fault {
         ScheduleFault::NoMemory => Stop::NoMemory,

@@ -4,44 +4,39 @@ ghost use Rattle.std.specs.List.{All, flat_map};
 ghost use Rattle.xray_io.specs.Faults.{Rose};
 ghost use Rattle.xray_io.specs.Sink.{Adds, AddsPrefix};
 ghost use Rattle.xray_program.specs.Calls.{StopsJob, StopsOutputs};
-ghost use Rattle.xray_program.specs.Jobs.{end_text, job_outputs, job_text, HasRegisters, IsPrintable};
+ghost use Rattle.machine_step.specs.Traced.{IsDone};
+ghost use Rattle.xray_program.specs.Jobs.{end_text, job_outputs, job_text, thread_text, HasRegisters, IsPrintable};
 ghost use Rattle.xray_program.specs.Outputs.{AreWhole};
 
 use crate::output::write_output;
-use crate::state_text::write_state;
 use crate::stop::Stop;
-use handler_word::Mark;
-use machine_step::{PlainEnd, write_plain};
+use machine_step::{Cpu, PlainEnd, write_plain, write_state};
 use xray_image::{Image, write_extract};
 use xray_io::{Desk, Sink, WriteFault};
 
 /// How err names the standard output.
 const OUT: &str = "output";
 
-/// What is left to do of a command: to write its outputs and its text.
+/// What is left to do of a command: to write its outputs and its text. The names of the outputs are
+/// those of the command's words, and what is written may lie in its inputs.
 #[derive(Drop)]
-pub(crate) enum Job<'a> {
-    /// The state text of a thread, and the marks of its passings.
-    State {
-        /// How the thread ended.
-        end: PlainEnd,
-        /// The marks of its passings.
-        marks: Vec<Mark>,
-    },
+pub(crate) enum Job<'a, 't> {
+    /// The state texts of threads that have ended, in their order.
+    States(Vec<Cpu<'t>>),
     /// The plain texts of threads, in the order of their numbers.
     Ends(Vec<PlainEnd>),
     /// The text of an image's sled map.
-    SledMap(Image),
+    SledMap(&'t Image),
     /// An image file.
     Image {
         /// The output's name.
         name: &'a str,
         /// The file's bytes.
-        file: Vec<u8>,
+        file: &'t [u8],
     },
 }
 
-impl<'a> Job<'a> {
+impl<'a, 't> Job<'a, 't> {
     /// Creates and writes the outputs, each in its turn, and then writes the text on out. Nothing
     /// is done behind what fails.
     pub(crate) fn deliver<D: Desk, O: Sink>(
@@ -81,7 +76,7 @@ impl<'a> Job<'a> {
             → D.held desk.new other ≡ D.held desk.old other }
     {
         match self {
-            Job::State { .. } => Ok(()),
+            Job::States(_) => Ok(()),
             Job::Ends(_) => Ok(()),
             Job::SledMap(_) => Ok(()),
             Job::Image { name, file } => write_output(desk, name, file),
@@ -99,12 +94,27 @@ impl<'a> Job<'a> {
         ensures failed { OnErr result (Rose (O.faults out.old) (O.faults out.new)) }
     {
         match self {
-            Job::State { end, marks } => write_state(out, end, marks),
+            Job::States(cpus) => write_states(out, cpus),
             Job::Ends(ends) => write_ends(out, ends),
             Job::SledMap(image) => write_extract(image, out),
             Job::Image { .. } => Ok(()),
         }
     }
+}
+
+/// Writes the state texts of threads that have ended, one behind the other.
+fn write_states<S: Sink>(sink: &mut S, cpus: &[Cpu]) -> Result<(), WriteFault>
+    requires { All (λ t. IsDone t.want) cpus.now }
+    ensures all { OnOk result
+        (Adds (S.written sink.old) (S.written sink.new) (flat_map thread_text cpus.now)) }
+    ensures front { OnErr result
+        (AddsPrefix (S.written sink.old) (S.written sink.new) (flat_map thread_text cpus.now)) }
+    ensures failed { OnErr result (Rose (S.faults sink.old) (S.faults sink.new)) }
+{
+    for cpu in cpus {
+        write_state(cpu.thread(), cpu, sink)?;
+    }
+    Ok(())
 }
 
 /// Writes the plain texts of threads, one behind the other.

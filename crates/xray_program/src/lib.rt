@@ -13,7 +13,6 @@
 
 mod asm;
 mod call;
-mod early_script;
 mod extract;
 mod inputs;
 mod items;
@@ -23,10 +22,9 @@ mod number_option;
 mod output;
 mod plain;
 mod refusal;
-mod replay;
 mod sim;
-mod state_text;
 mod stop;
+mod taken;
 mod words;
 
 pub use call::{xray, xray_still};

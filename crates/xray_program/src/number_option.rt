@@ -22,9 +22,10 @@ impl NumberOption {
     /// The number that words give the option, or its default. None where they give it twice, or
     /// give no number within its range.
     pub(crate) fn number_in(&self, words: &[String]) -> Option<u64>
-        requires { self.now.default ≤ self.now.most }
+        requires { (self.now.least ≤ self.now.default) × (self.now.default ≤ self.now.most) }
         ensures given { result ≡ number_given (row_of self.now) (items_of (texts words.now)) }
-        ensures within { IfSome result (λ number. number ≤ self.now.most) }
+        ensures within { IfSome result (λ number.
+            (self.now.least ≤ number) × (number ≤ self.now.most)) }
     {
         let mut items = Items::new(words);
         let Some(value) = items.next_value(self.name) else {
@@ -41,7 +42,7 @@ impl NumberOption {
 /// plus before them.
 fn number_within(least: u64, most: u64, word: &str) -> Option<u64>
     ensures number { result ≡ number_within least most word.now }
-    ensures within { IfSome result (λ number. number ≤ most) }
+    ensures within { IfSome result (λ number. (least ≤ number) × (number ≤ most)) }
 {
     match word.parse::<u64>() {
         Ok(number) if least <= number && number <= most => Some(number),

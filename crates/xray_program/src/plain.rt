@@ -1,52 +1,56 @@
 //! `plain`: the plain runs of an image's threads.
 ghost use Rattle.std.specs.Prelude.{◌≡◌, IfOk, IfErr};
 ghost use Rattle.xray_io.specs.Desk.{Absent};
-ghost use Rattle.xray_program.specs.Jobs.{job_outputs, job_text, AreEnds, IsPrintable};
-ghost use Rattle.xray_program.specs.Meaning.{Outcome, Done, Comes, TellsAll};
+ghost use Rattle.xray_program.specs.Jobs.{AreEnds};
+ghost use Rattle.xray_program.specs.Meaning.{Outcome, Comes, TellsAll};
 ghost use Rattle.xray_program.specs.Plain.{limits_of};
-ghost use Rattle.xray_program.specs.Stops.{answer_of};
-ghost use Rattle.xray_program.specs.Takes.{IsAnswerSoFar, Stops};
+ghost use Rattle.xray_program.specs.Taken.{FitTogether, IsTakenSoFar, Yields};
+ghost use Rattle.xray_program.specs.Takes.{Stops};
 ghost use Rattle.xray_program.specs.Words.{Plain};
 
 use crate::inputs::take_image;
-use crate::job::Job;
 use crate::stop::Stop;
+use crate::taken::Taken;
 use crate::words::RunOptions;
 use machine_step::{Limits, PlainEnd, plain_run};
 use std::alloc::Global;
 use xray_image::Image;
 use xray_io::{Desk, NoMemory};
 
-/// Takes the image of `plain`, and runs its threads.
-pub(crate) fn prepare_plain<'a, D: Desk>(
+/// Takes the image of `plain`.
+pub(crate) fn take_plain<'a, D: Desk>(
     alloc: Global,
     desk: &mut D,
     image: &'a str,
     options: RunOptions,
-) -> Result<Job<'a>, Stop<'a>>
-    ensures ready { IfOk result (λ job. Comes (λ name. D.held desk.old name ≡ Absent)
-        (D.held desk.old) (Plain image.now options) (Done (job_outputs job) (job_text job))) }
-    ensures printable { IfOk result IsPrintable }
+) -> Result<Taken<'a>, Stop<'a>>
+    ensures gives { IfOk result (λ taken. (outcome : Outcome) → Yields taken outcome
+        → Comes (λ name. D.held desk.old name ≡ Absent)
+        (D.held desk.old) (Plain image.now options) outcome) }
+    ensures fits { IfOk result FitTogether }
     ensures stops { IfErr result (Stops
         (λ fails. Comes fails (D.held desk.old) (Plain image.now options))
         (D.held desk.old) (D.read_faults desk.old) (D.read_faults desk.new)) }
     ensures complete { (outcome : Outcome) → TellsAll (D.held desk.old)
         → Comes (λ name. D.held desk.old name ≡ Absent)
         (D.held desk.old) (Plain image.now options) outcome
-        → IsAnswerSoFar (D.read_faults desk.old) (D.read_faults desk.new)
-        outcome (answer_of result) }
+        → IsTakenSoFar (D.read_faults desk.old) (D.read_faults desk.new) outcome result }
     ensures held { D.held desk.new ≡ D.held desk.old }
     ensures writes { D.write_faults desk.new ≡ D.write_faults desk.old }
 {
     let program = take_image(alloc, desk, image)?;
-    match run_threads(alloc, &program, options) {
-        Ok(ends) => Ok(Job::Ends(ends)),
-        Err(NoMemory) => Err(Stop::NoMemory),
-    }
+    Ok(Taken::Plain {
+        image: program,
+        options,
+    })
 }
 
 /// Runs the threads, each to its end.
-fn run_threads(alloc: Global, image: &Image, options: RunOptions) -> Result<Vec<PlainEnd>, NoMemory>
+pub(crate) fn run_threads(
+    alloc: Global,
+    image: &Image,
+    options: RunOptions,
+) -> Result<Vec<PlainEnd>, NoMemory>
     ensures { IfOk result (λ ends. AreEnds image.now options options.threads ends.items) }
 {
     let mut ends = Vec::new(alloc);
@@ -56,8 +60,8 @@ fn run_threads(alloc: Global, image: &Image, options: RunOptions) -> Result<Vec<
     Ok(ends)
 }
 
-/// What bounds each thread. Only events have stamps, and a plain run has none.
-fn limits_of(options: RunOptions) -> Limits
+/// What bounds each thread. Only events have stamps, and none is printed.
+pub(crate) fn limits_of(options: RunOptions) -> Limits
     ensures { result ≡ limits_of options }
 {
     Limits {

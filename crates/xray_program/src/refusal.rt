@@ -1,10 +1,11 @@
 //! Why an input is refused, in the words of a line on err.
 ghost use Rattle.std.specs.Prelude.{◌≡◌, ◌++◌, codes, decimal};
 ghost use Rattle.xray_io.specs.Piece.{piece_text};
-ghost use Rattle.xray_program.specs.Faults.{asm_fault_text, decode_text, fault_text, field_text, schedule_fault_text, text_of_words};
+ghost use Rattle.xray_program.specs.Faults.{asm_fault_text, decode_text, fault_text, field_text, schedule_fault_text, script_fault_text, text_of_words};
 ghost use Rattle.xray_program.specs.Stops.{refusal_text};
 
 use asm_text::AsmFault;
+use patch_script::ScriptFault;
 use step_sim::ScheduleFault;
 use subset_decode::DecodeFault;
 use xray_image::{ImageFault, Which};
@@ -13,14 +14,17 @@ use xray_io::Piece;
 /// What is wrong with an input.
 #[derive(Clone, Copy, Debug, PartialEq, Eq)]
 pub(crate) enum Refusal {
-    /// It isn't of the form that is run.
-    NotYet,
     /// It is an image file with this fault.
     Faulty(ImageFault),
     /// It is an assembler text with this fault.
     Unassembled(AsmFault),
+    /// It is a script with this fault.
+    Unscripted(ScriptFault),
     /// It is a schedule with this fault.
     Unscheduled(ScheduleFault),
+    /// It is a script at whose line, counted from 1, a thread or the patcher may wait, and a replay waits
+    /// for nobody.
+    Waits(u32),
 }
 
 /// The words of a refusal, its name and its values, as the pieces of a text.
@@ -45,10 +49,11 @@ impl Refusal {
         ensures { text_of_words result ≡ refusal_text self }
     {
         match self {
-            Refusal::NotYet => name(b"NotYet"),
             Refusal::Faulty(fault) => fault_words(fault),
             Refusal::Unassembled(fault) => asm_fault_words(fault),
+            Refusal::Unscripted(fault) => script_fault_words(fault),
             Refusal::Unscheduled(fault) => schedule_fault_words(fault),
+            Refusal::Waits(line) => numbered(b"Waits ", line),
         }
     }
 }
@@ -86,6 +91,23 @@ fn asm_fault_words(fault: AsmFault) -> Words
         AsmFault::Limit(line) => numbered(b"Limit ", line),
         AsmFault::Label(line) => numbered(b"Label ", line),
         AsmFault::NoMemory => name(b"NoMemory"),
+    }
+}
+
+/// The words of a script's fault.
+fn script_fault_words(fault: ScriptFault) -> Words
+    ensures { text_of_words result ≡ script_fault_text fault }
+{
+    match fault {
+        ScriptFault::Limit(line) => numbered(b"Limit ", line),
+        ScriptFault::Syntax(line) => numbered(b"Syntax ", line),
+        ScriptFault::Function(line) => numbered(b"Function ", line),
+        ScriptFault::Thread(line) => numbered(b"Thread ", line),
+        ScriptFault::Go(line) => numbered(b"Go ", line),
+        ScriptFault::Hold(line) => numbered(b"Hold ", line),
+        ScriptFault::Log(line) => numbered(b"Log ", line),
+        ScriptFault::SelfWait(line) => numbered(b"SelfWait ", line),
+        ScriptFault::NoMemory => name(b"NoMemory"),
     }
 }
 

@@ -1,90 +1,113 @@
 //! `sim`: the replay of a schedule over an image and a script.
-ghost use Rattle.std.specs.Prelude.{◌≡◌, ◌≤◌, ℕ, [], All, List, IfOk, IfErr};
-ghost use Rattle.xray_image.specs.Program.{IsAccepted};
-ghost use Rattle.xray_image.specs.FirstRun.{IsFirstRun};
-ghost use Rattle.xray_io.specs.Desk.{Absent};
+ghost use Rattle.std.specs.Prelude.{◌≡◌, ◌≤◌, All, IfOk, IfErr};
 ghost use Rattle.step_sim.specs.Schedules.{AreTurnsOf};
-ghost use Rattle.xray_program.specs.FirstRun.{first_script, SimPrints};
+ghost use Rattle.xray_io.specs.Desk.{Absent};
 ghost use Rattle.xray_program.specs.Jobs.{job_outputs, job_text, IsPrintable};
-ghost use Rattle.xray_program.specs.Meaning.{Outcome, Done, Comes, TellsAll};
+ghost use Rattle.xray_program.specs.Meaning.{Outcome, Done, Comes, Replays, TellsAll};
+ghost use Rattle.xray_program.specs.Plain.{limits_of};
 ghost use Rattle.xray_program.specs.Stops.{answer_of};
-ghost use Rattle.xray_program.specs.Takes.{IsAnswerSoFar, Stops};
+ghost use Rattle.xray_program.specs.Taken.{FitTogether, IsAnswerOrMemory, IsTakenSoFar, StopsWork, Yields};
+ghost use Rattle.xray_program.specs.Takes.{Stops};
 ghost use Rattle.xray_program.specs.Words.{Sim};
 
-use crate::inputs::{take_first_run, take_schedule, take_script};
+use crate::inputs::{take_image, take_schedule, take_script};
 use crate::job::Job;
-use crate::replay::replay;
-use crate::stop::Stop;
-use machine_step::{Limits, one_end, plain_run};
+use crate::plain::limits_of;
+use crate::refusal::Refusal;
+use crate::stop::{Kind, Stop};
+use crate::taken::Taken;
+use crate::words::RunOptions;
+use machine_step::Setup;
+use patch_script::Script;
+use sled_words::MAX_THREADS;
 use std::alloc::Global;
-use step_sim::Turns;
+use step_sim::{Schedule, SimFault, simulate};
 use xray_image::Image;
-use xray_io::{Desk, NoMemory};
+use xray_io::{Desk, Wall};
 
-/// How many threads there are.
-const THREADS: u32 = 1;
-
-/// The number of the one thread.
-const THREAD: u32 = 1;
-
-/// What bounds the thread.
-const LIMITS: Limits = Limits {
-    fuel: 10_000_000,
-    passings: 1_048_576,
-    tick: 1,
-    tsc: 0,
-    cpus: 1,
-    migrate: 1_048_576,
-};
-
-/// The sleds that the thread passes: the function's entry, and its exit.
-const PASSINGS: [u32; 2] = [0, 1];
-
-/// Takes the inputs of `sim`, and replays.
-pub(crate) fn prepare_sim<'a, D: Desk>(
+/// Takes the inputs of `sim`.
+pub(crate) fn take_sim<'a, D: Desk>(
     alloc: Global,
     desk: &mut D,
     image: &'a str,
     script: &'a str,
     schedule: &'a str,
-) -> Result<Job<'a>, Stop<'a>>
-    ensures ready { IfOk result (λ job. Comes (λ name. D.held desk.old name ≡ Absent)
-        (D.held desk.old) (Sim image.now script.now schedule.now) (Done (job_outputs job) (job_text job))) }
-    ensures printable { IfOk result IsPrintable }
+    options: RunOptions,
+) -> Result<Taken<'a>, Stop<'a>>
+    requires { (1 ≤ options.threads) × (options.threads ≤ MAX_THREADS) }
+    ensures gives { IfOk result (λ taken. (outcome : Outcome) → Yields taken outcome
+        → Comes (λ name. D.held desk.old name ≡ Absent)
+        (D.held desk.old) (Sim image.now script.now schedule.now options) outcome) }
+    ensures fits { IfOk result FitTogether }
     ensures stops { IfErr result (Stops
-        (λ fails. Comes fails (D.held desk.old) (Sim image.now script.now schedule.now))
+        (λ fails. Comes fails (D.held desk.old) (Sim image.now script.now schedule.now options))
         (D.held desk.old) (D.read_faults desk.old) (D.read_faults desk.new)) }
     ensures complete { (outcome : Outcome) → TellsAll (D.held desk.old)
         → Comes (λ name. D.held desk.old name ≡ Absent)
-        (D.held desk.old) (Sim image.now script.now schedule.now) outcome
-        → IsAnswerSoFar (D.read_faults desk.old) (D.read_faults desk.new)
-        outcome (answer_of result) }
+        (D.held desk.old) (Sim image.now script.now schedule.now options) outcome
+        → IsTakenSoFar (D.read_faults desk.old) (D.read_faults desk.new) outcome result }
     ensures held { D.held desk.new ≡ D.held desk.old }
     ensures writes { D.write_faults desk.new ≡ D.write_faults desk.old }
-    ensures later { D.read_faults desk.old ≤ D.read_faults desk.new }
 {
-    let program = take_first_run(alloc, desk, image)?;
-    take_script(alloc, desk, script)?;
-    let turns = take_schedule(alloc, desk, schedule, THREADS)?;
-    match simulate(alloc, &program, turns.lines()) {
-        Ok(job) => Ok(job),
-        Err(NoMemory) => Err(Stop::NoMemory),
+    let program = take_image(alloc, desk, image)?;
+    let plan = take_script(alloc, desk, script, &program, options.threads)?;
+    let turns = take_schedule(alloc, desk, schedule, options.threads)?;
+    Ok(Taken::Sim {
+        image: program,
+        script: plan,
+        schedule: turns,
+        name: script,
+        options,
+    })
+}
+
+/// Replays the schedule, and leaves the threads at their ends. A script of this name that waits is
+/// refused.
+pub(crate) fn replay<'a, 't>(
+    alloc: Global,
+    image: &'t Image,
+    script: &Script,
+    schedule: &Schedule,
+    name: &'a str,
+    options: RunOptions,
+) -> Result<Job<'a, 't>, Stop<'a>>
+    requires program { script.now.program ≡ image.now }
+    requires threads { script.now.threads ≡ options.threads }
+    requires few { options.threads ≤ MAX_THREADS }
+    requires turns { All (AreTurnsOf options.threads) schedule.now }
+    ensures ready { IfOk result (λ job.
+        Replays name.now options image.now script.now schedule.now
+        (Done (job_outputs job) (job_text job))) }
+    ensures printable { IfOk result IsPrintable }
+    ensures stops { IfErr result
+        (StopsWork (Replays name.now options image.now script.now schedule.now)) }
+    ensures complete { (outcome : Outcome)
+        → Replays name.now options image.now script.now schedule.now outcome
+        → IsAnswerOrMemory outcome (answer_of result) }
+{
+    match simulate(alloc, image, script, schedule, &setup_of(options)) {
+        Ok(end) => Ok(Job::States(end.cpus)),
+        Err(SimFault::Waits(line)) => Err(Stop::Refused {
+            name,
+            kind: Kind::Script,
+            refusal: Refusal::Waits(line),
+        }),
+        Err(SimFault::NoMemory) => Err(Stop::NoMemory),
     }
 }
 
-/// Runs the thread, and replays the schedule over its passings.
-#[tactic(auto, unfolding(crate::specs::Jobs::job_outputs, crate::specs::Jobs::job_text, crate::specs::Jobs::IsPrintable))]
-fn simulate<'a>(alloc: Global, image: &Image, schedule: &[Turns]) -> Result<Job<'a>, NoMemory>
-    requires form { IsFirstRun image.now }
-    requires accepted { (bytes : List ℕ) × IsAccepted bytes image.now }
-    requires one_thread { All (AreTurnsOf 1) schedule.now }
-    ensures prints { IfOk result (λ job.
-        SimPrints image.now first_script schedule.now (job_text job)) }
-    ensures alone { IfOk result (λ job. job_outputs job ≡ []) }
-    ensures printable { IfOk result IsPrintable }
+/// What a replay is made with. Nothing that it prints depends on buffers, times and stamps.
+fn setup_of(options: RunOptions) -> Setup
+    ensures threads { result.threads ≡ options.threads }
+    ensures limits { result.limits ≡ limits_of options }
 {
-    one_end();
-    let end = plain_run(alloc, image, THREAD, LIMITS)?;
-    let marks = replay(alloc, image, &PASSINGS, schedule)?;
-    Ok(Job::State { end, marks })
+    Setup {
+        threads: options.threads,
+        size: 16_384,
+        max: 100,
+        limits: limits_of(options),
+        pid: 1,
+        wall: Wall { secs: 0, micros: 0 },
+        frequency: 0,
+    }
 }

@@ -1,7 +1,7 @@
 //! The words of the command line.
-ghost use Rattle.std.specs.Prelude.{◌≡◌, option_copied, option_map};
-ghost use Rattle.xray_program.specs.Commands.{command_of};
-ghost use Rattle.xray_program.specs.Words.{asm_of, extract_of, items_of, only_file, plain_of, reading, run_options, sim_of, texts};
+ghost use Rattle.std.specs.Prelude.{◌≡◌, ◌≤◌, IfSome, option_copied, option_map};
+ghost use Rattle.xray_program.specs.Commands.{HasThreads, command_of};
+ghost use Rattle.xray_program.specs.Words.{asm_of, extract_of, have_only, items_of, only_file, plain_of, reading, run_names, run_options, sim_of, texts};
 
 use crate::items::{Items, have_only};
 use crate::number_option::NumberOption;
@@ -64,14 +64,16 @@ pub(crate) struct RunOptions {
 /// What the program is asked to do, and the names of the files for it.
 #[derive(Clone, Copy, Debug)]
 pub(crate) enum Command<'a> {
-    /// Replays a schedule over an image and a script, and prints how its thread ends.
+    /// Replays a schedule over an image and a script, and prints how its threads end.
     Sim {
         /// The image file.
         image: &'a str,
         /// The script of the patcher.
         script: &'a str,
-        /// The turns of the thread and the patcher.
+        /// The turns of the threads and the patcher.
         schedule: &'a str,
+        /// What bounds the threads.
+        options: RunOptions,
     },
     /// Runs an image without sleds on each thread, and prints how they end.
     Plain {
@@ -98,7 +100,8 @@ pub(crate) enum Command<'a> {
 
 /// The command that words say, which don't hold the program's own name; `None` where they say none.
 pub(crate) fn read_words(words: &[String]) -> Option<Command<'_>>
-    ensures { option_map command_of result ≡ reading (texts words.now) }
+    ensures reads { option_map command_of result ≡ reading (texts words.now) }
+    ensures runs { IfSome result (λ command. HasThreads command.entry) }
 {
     let (command, rest) = words.split_first()?;
     match command.as_str() {
@@ -112,9 +115,10 @@ pub(crate) fn read_words(words: &[String]) -> Option<Command<'_>>
 
 /// `plain IMAGE`, with the options of commands that run threads.
 fn read_plain(words: &[String]) -> Option<Command<'_>>
-    ensures { option_map command_of result ≡ plain_of (items_of (texts words.now)) }
+    ensures reads { option_map command_of result ≡ plain_of (items_of (texts words.now)) }
+    ensures runs { IfSome result (λ command. HasThreads command.entry) }
 {
-    if !have_only(&[THREADS.name, FUEL.name, PASSINGS.name], words) {
+    if !have_run_options(words) {
         return None;
     }
     let options = run_options(words)?;
@@ -124,7 +128,7 @@ fn read_plain(words: &[String]) -> Option<Command<'_>>
 
 /// `extract IMAGE`.
 fn read_extract(words: &[String]) -> Option<Command<'_>>
-    ensures { option_map command_of result ≡ extract_of (items_of (texts words.now)) }
+    ensures reads { option_map command_of result ≡ extract_of (items_of (texts words.now)) }
 {
     if !have_only(&[], words) {
         return None;
@@ -133,13 +137,15 @@ fn read_extract(words: &[String]) -> Option<Command<'_>>
     Some(Command::Extract { image })
 }
 
-/// `sim IMAGE SCRIPT SCHEDULE`.
+/// `sim IMAGE SCRIPT SCHEDULE`, with the options of commands that run threads.
 fn read_sim(words: &[String]) -> Option<Command<'_>>
-    ensures { option_map command_of result ≡ sim_of (items_of (texts words.now)) }
+    ensures reads { option_map command_of result ≡ sim_of (items_of (texts words.now)) }
+    ensures runs { IfSome result (λ command. HasThreads command.entry) }
 {
-    if !have_only(&[], words) {
+    if !have_run_options(words) {
         return None;
     }
+    let options = run_options(words)?;
     let mut items = Items::new(words);
     let image = items.next_file()?;
     let script = items.next_file()?;
@@ -150,13 +156,14 @@ fn read_sim(words: &[String]) -> Option<Command<'_>>
             image,
             script,
             schedule,
+            options,
         }),
     }
 }
 
 /// `asm TEXT IMAGE`, with its threshold. The image has another name than the text.
 fn read_asm(words: &[String]) -> Option<Command<'_>>
-    ensures { option_map command_of result ≡ asm_of (items_of (texts words.now)) }
+    ensures reads { option_map command_of result ≡ asm_of (items_of (texts words.now)) }
 {
     if !have_only(&[THRESHOLD.name], words) {
         return None;
@@ -187,9 +194,17 @@ fn only_file(words: &[String]) -> Option<&str>
     }
 }
 
+/// Whether the words say no other options than those of commands that run threads.
+fn have_run_options(words: &[String]) -> bool
+    ensures { result ≡ have_only run_names (items_of (texts words.now)) }
+{
+    have_only(&[THREADS.name, FUEL.name, PASSINGS.name], words)
+}
+
 /// The options of commands that run threads.
 fn run_options(words: &[String]) -> Option<RunOptions>
-    ensures { result ≡ run_options (items_of (texts words.now)) }
+    ensures reads { result ≡ run_options (items_of (texts words.now)) }
+    ensures runs { IfSome result (λ options. (1 ≤ options.threads) × (options.threads ≤ 16)) }
 {
     let threads = THREADS.number_in(words)?;
     let fuel = FUEL.number_in(words)?;

@@ -1,0 +1,123 @@
+//! The inputs of a command once all of them are judged, with what else its words say.
+ghost use Rattle.std.specs.Prelude.{◌≡◌, ◌≤◌, IfOk, IfErr};
+ghost use Rattle.xray_io.specs.Desk.{Absent};
+ghost use Rattle.xray_program.specs.Commands.{HasThreads, command_of};
+ghost use Rattle.xray_program.specs.Jobs.{job_outputs, job_text, IsPrintable};
+ghost use Rattle.xray_program.specs.Meaning.{Outcome, Done, Comes, TellsAll};
+ghost use Rattle.xray_program.specs.Stops.{answer_of};
+ghost use Rattle.xray_program.specs.Taken.{FitTogether, IsAnswerOrMemory, IsTakenSoFar, StopsWork, Yields};
+ghost use Rattle.xray_program.specs.Takes.{Stops};
+
+use crate::asm::take_asm;
+use crate::extract::take_extract;
+use crate::job::Job;
+use crate::plain::{run_threads, take_plain};
+use crate::sim::{replay, take_sim};
+use crate::stop::Stop;
+use crate::words::{Command, RunOptions};
+use patch_script::Script;
+use std::alloc::Global;
+use step_sim::Schedule;
+use xray_image::Image;
+use xray_io::{Desk, NoMemory};
+
+/// The judged inputs of a command.
+#[derive(Drop)]
+pub(crate) enum Taken<'a> {
+    /// Those of `sim`.
+    Sim {
+        /// The image.
+        image: Image,
+        /// The script of the patcher, for this image and so many threads.
+        script: Script,
+        /// The turns of the threads and the patcher.
+        schedule: Schedule,
+        /// The script's name.
+        name: &'a str,
+        /// What bounds the threads.
+        options: RunOptions,
+    },
+    /// Those of `plain`.
+    Plain {
+        /// The image.
+        image: Image,
+        /// What bounds the threads.
+        options: RunOptions,
+    },
+    /// The image of `extract`.
+    Extract(Image),
+    /// The text of `asm`, assembled.
+    Asm {
+        /// The output's name.
+        name: &'a str,
+        /// The image file's bytes.
+        file: Vec<u8>,
+    },
+}
+
+/// Takes the inputs of a command in the order of its words: the first that fails decides.
+pub(crate) fn take<'a, D: Desk>(
+    alloc: Global,
+    desk: &mut D,
+    command: Command<'a>,
+) -> Result<Taken<'a>, Stop<'a>>
+    requires { HasThreads command.entry }
+    ensures gives { IfOk result (λ taken. (outcome : Outcome) → Yields taken outcome
+        → Comes (λ name. D.held desk.old name ≡ Absent)
+        (D.held desk.old) (command_of command.entry) outcome) }
+    ensures fits { IfOk result FitTogether }
+    ensures stops { IfErr result (Stops
+        (λ fails. Comes fails (D.held desk.old) (command_of command.entry))
+        (D.held desk.old) (D.read_faults desk.old) (D.read_faults desk.new)) }
+    ensures complete { (outcome : Outcome) → TellsAll (D.held desk.old)
+        → Comes (λ name. D.held desk.old name ≡ Absent)
+        (D.held desk.old) (command_of command.entry) outcome
+        → IsTakenSoFar (D.read_faults desk.old) (D.read_faults desk.new) outcome result }
+    ensures held { D.held desk.new ≡ D.held desk.old }
+    ensures writes { D.write_faults desk.new ≡ D.write_faults desk.old }
+{
+    match command {
+        Command::Sim {
+            image,
+            script,
+            schedule,
+            options,
+        } => take_sim(alloc, desk, image, script, schedule, options),
+        Command::Plain { image, options } => take_plain(alloc, desk, image, options),
+        Command::Extract { image } => take_extract(alloc, desk, image),
+        Command::Asm {
+            text,
+            image,
+            threshold,
+        } => take_asm(alloc, desk, text, image, threshold),
+    }
+}
+
+impl<'a> Taken<'a> {
+    /// Does the work of the command, all but to write its outputs.
+    pub(crate) fn prepare<'t>(&'t self, alloc: Global) -> Result<Job<'a, 't>, Stop<'a>>
+        requires { FitTogether self.now }
+        ensures ready { IfOk result (λ job.
+            Yields self.now (Done (job_outputs job) (job_text job))) }
+        ensures printable { IfOk result IsPrintable }
+        ensures stops { IfErr result (StopsWork (Yields self.now)) }
+        ensures complete { (outcome : Outcome) → Yields self.now outcome
+            → IsAnswerOrMemory outcome (answer_of result) }
+    {
+        match self {
+            Taken::Sim {
+                image,
+                script,
+                schedule,
+                name,
+                options,
+            } => replay(alloc, image, script, schedule, name, *options),
+            Taken::Plain { image, options } => match run_threads(alloc, image, *options) {
+                Ok(ends) => Ok(Job::Ends(ends)),
+                Err(NoMemory) => Err(Stop::NoMemory),
+            },
+            Taken::Extract(image) => Ok(Job::SledMap(image)),
+            Taken::Asm { name, file } => Ok(Job::Image { name, file }),
+        }
+    }
+}
