@@ -50,27 +50,38 @@ WRONG_COMMANDS = [
 ]  # fmt: skip
 
 
-def faulty(draw, lines):
-    """Lines with one that is wrong, missing, there twice or elsewhere."""
-    at = draw.randrange(len(lines))
+def one_too_many(draw, ids, threads):
+    """A command on the function or the thread behind the last."""
+    name = draw.choice(["patch_function", "unpatch_function", "hold", "release", "await"])
+    number = ids + 1 if name.endswith("function") else threads + 1
+    return [name, str(number), *["0"] * (name in ("hold", "await"))]
+
+
+def faulty(draw, lines, wrong):
+    """Lines with this wrong one, or with one that is missing, there twice or elsewhere; often it is one that waits."""
+    waiting = [at for at, (name, *_) in enumerate(lines) if name in ("hold", "release", "await")]
+    at = draw.choice(waiting) if waiting and draw.random() < 0.7 else draw.randrange(len(lines))
     line = lines[at]
     rest = lines[:at] + lines[at + 1 :]
     other = draw.randint(0, len(rest))
-    wrong = lines[:at] + [draw.choice(WRONG_COMMANDS).split()] + lines[at:]
+    added = lines[:at] + [wrong] + lines[at:]
     moved = rest[:other] + [line] + rest[other:]
     twice = lines[:other] + [line] + lines[other:]
-    return draw.choice([wrong, wrong, wrong, rest, moved, twice, draw.sample(lines, len(lines))])
+    return draw.choice([added, added, rest, moved, twice, draw.sample(lines, len(lines))])
 
 
 def random_script(draw, ids, threads):
     """A script for an image with so many function ids and for so many threads, or nearly one."""
     before, behind = commands(draw, ids)
-    if draw.random() < 0.08:
+    fault_share = 0.12
+    if draw.random() < 0.15:
         for _ in range(draw.choice([1, 1, 2])):
             waits(draw, threads, before, behind)
+        fault_share = 0.5
     lines = [*before, ["go"], *behind]
-    while draw.random() < 0.12:
-        lines = faulty(draw, lines) if lines else [["go"]]
+    while lines and draw.random() < fault_share:
+        wrong = one_too_many(draw, ids, threads) if draw.random() < 0.3 else draw.choice(WRONG_COMMANDS).split()
+        lines = faulty(draw, lines, wrong)
     return texts.written(draw, lines)
 
 
