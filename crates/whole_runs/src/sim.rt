@@ -42,12 +42,23 @@ fn assert_prints<R: Abort + Threads + Wait + Sync + AllocGlobal>(
     Ok(())
 }
 
+/// Checks the marks of thread 1 by a script and a schedule.
+fn assert_marks<R: Abort + Threads + Wait + Sync + AllocGlobal>(
+    rt: &R,
+    script: &str,
+    schedule: &str,
+    marks: &str,
+) -> Result<(), Fail> {
+    let state = format!(in rt.alloc(); "{STATE}marks {marks}\n")?;
+    assert_prints(rt, &SIM, script, schedule, &state)
+}
+
 #[test]
-fn a_script_and_a_schedule_leave_the_marks(rt: HostRuntime) -> Result<(), Fail> {
+fn a_schedule_says_between_which_loads_sleds_are_patched(rt: HostRuntime) -> Result<(), Fail> {
     for (script, schedule, marks) in [
         (TRACED, "", "+2"),
         ("go", "", ".2"),
-        // The thread has loaded the head of the entry sled; both heads are unpatched; then it loads the rest.
+        // The head of the entry sled is loaded, then both are unpatched, and then the rest is loaded.
         (
             "patch\nset_handler\ninit\ngo\nunpatch",
             "t 1 1\np 2",
@@ -58,32 +69,29 @@ fn a_script_and_a_schedule_leave_the_marks(rt: HostRuntime) -> Result<(), Fail> 
         (LIVE, "p 3\nt 1 1\np 5", ".1 +1"),
         (LIVE, "p 4", "+1 .1"),
         (LIVE, "p 4294967295\nt 1 4294967295", "+2"),
-        ("patch\ninit\ngo", "", "n2"),
-        ("patch\nset_handler\ngo", "", "f2"),
-        ("patch\nset_handler\ninit\nfinalize\ngo", "", "f2"),
         ("go\nunpatch", "p 2", ".2"),
         ("patch\nunpatch\ngo", "", ".2"),
         ("patch\nunpatch_function 1\npatch_function 01\ngo", "", "n2"),
-        // The handler is removed, and the log finalized, between the two sleds.
-        (
-            "patch\nset_handler\ninit\ngo\nremove_handler",
-            "t 1 6\np 1",
-            "+1 n1",
-        ),
-        (
-            "patch\nset_handler\ninit\ngo\nfinalize",
-            "t 1 6\np 1",
-            "+1 f1",
-        ),
-        // Between the handler's word and the state's, the log is initializing.
-        (
-            "patch\nset_handler\ngo\ninit",
-            "t 1 5\np 1\nt 1 1\np 1",
-            "f1 +1",
-        ),
     ] {
-        let state = format!(in rt.alloc(); "{STATE}marks {marks}\n")?;
-        assert_prints(&rt, &SIM, script, schedule, &state)?;
+        assert_marks(&rt, script, schedule, marks)?;
+    }
+    Ok(())
+}
+
+#[test]
+fn marks_tell_of_the_handler_and_the_log(rt: HostRuntime) -> Result<(), Fail> {
+    for (before, behind, schedule, marks) in [
+        ("init", "", "", "n2"),
+        ("set_handler", "", "", "f2"),
+        ("set_handler\ninit\nfinalize", "", "", "f2"),
+        // The handler is removed, or the log finalized, between the two sleds.
+        ("set_handler\ninit", "remove_handler", "t 1 6\np 1", "+1 n1"),
+        ("set_handler\ninit", "finalize", "t 1 6\np 1", "+1 f1"),
+        // Between the handler's word and the state's, the log is initializing.
+        ("set_handler", "init", "t 1 5\np 1\nt 1 1\np 1", "f1 +1"),
+    ] {
+        let script = format!(in rt.alloc(); "patch\n{before}\ngo\n{behind}\n")?;
+        assert_marks(&rt, &script, schedule, marks)?;
     }
     Ok(())
 }
@@ -144,63 +152,68 @@ fn images_with_calls_and_tail_jumps_are_replayed(rt: HostRuntime) -> Result<(), 
     Ok(())
 }
 
+/// A sled needs no fuel, but the return of an exit sled does.
 #[test]
 fn a_replay_ends_at_the_limits_of_its_options(rt: HostRuntime) -> Result<(), Fail> {
-    const MOVED: &str = "rax=41 rcx=0 rdx=0 rbx=0 rbp=0 rsi=0 rdi=1 r8=0 r9=0 r11=0 r12=0 r13=0 \
-        r14=0 r15=0 zf=0";
-    const UNMOVED: &str = "rax=0 rcx=0 rdx=0 rbx=0 rbp=0 rsi=0 rdi=1 r8=0 r9=0 r11=0 r12=0 r13=0 \
-        r14=0 r15=0 zf=0";
-    for (words, head, registers, rest) in [
+    for (options, end, rax, output, marks) in [
         (
-            &["sim", "i", "s", "c", "--fuel", "1"][..],
-            "thread 1 fuel instructions 1 passings 1",
-            MOVED,
-            "output -\nmarks +1",
-        ),
-        // A sled needs no fuel.
-        (
-            &["sim", "--fuel=0", "i", "s", "c"],
-            "thread 1 fuel instructions 0 passings 1",
-            UNMOVED,
-            "output -\nmarks +1",
-        ),
-        // The passing of the exit sled is made, and its return isn't.
-        (
-            &["sim", "i", "--fuel=2", "s", "c"],
-            "thread 1 fuel instructions 2 passings 2",
-            MOVED,
-            "output 41\nmarks +2",
+            ["--fuel", "1"],
+            "fuel instructions 1 passings 1",
+            "41",
+            "-",
+            "+1",
         ),
         (
-            &["sim", "i", "s", "--passings", "1", "c"],
-            "thread 1 passings instructions 2 passings 1",
-            MOVED,
-            "output 41\nmarks +1",
+            ["--fuel", "0"],
+            "fuel instructions 0 passings 1",
+            "0",
+            "-",
+            "+1",
         ),
         (
-            &["sim", "i", "s", "c", "--passings=0"],
-            "thread 1 passings instructions 0 passings 0",
-            UNMOVED,
-            "output -\nmarks -",
+            ["--fuel", "2"],
+            "fuel instructions 2 passings 2",
+            "41",
+            "41",
+            "+2",
         ),
         (
-            &[
-                "sim",
-                "--fuel=1000000000",
-                "--threads=1",
-                "--passings=+1048576",
-                "--",
-                "i",
-                "s",
-                "c",
-            ],
-            "thread 1 returned instructions 3 passings 2",
-            MOVED,
-            "output 41\nmarks +2",
+            ["--passings", "1"],
+            "passings instructions 2 passings 1",
+            "41",
+            "41",
+            "+1",
+        ),
+        (
+            ["--passings", "0"],
+            "passings instructions 0 passings 0",
+            "0",
+            "-",
+            "-",
+        ),
+        (
+            ["--fuel=1000000000", "--passings=+1048576"],
+            "returned instructions 3 passings 2",
+            "41",
+            "41",
+            "+2",
         ),
     ] {
-        let state = format!(in rt.alloc(); "{head}\n{registers}\n{rest}\n")?;
-        assert_prints(&rt, words, TRACED, "", &state)?;
+        let state = format!(in rt.alloc();
+            "thread 1 {end}\n\
+            rax={rax} rcx=0 rdx=0 rbx=0 rbp=0 rsi=0 rdi=1 r8=0 r9=0 r11=0 r12=0 r13=0 r14=0 r15=0 \
+            zf=0\n\
+            output {output}\n\
+            marks {marks}\n"
+        )?;
+        let [first, second] = options;
+        for words in [
+            ["sim", first, second, "i", "s", "c"],
+            ["sim", "i", "s", first, second, "c"],
+            ["sim", "i", "s", "c", first, second],
+        ] {
+            assert_prints(&rt, &words, TRACED, "", &state)?;
+        }
     }
     Ok(())
 }
