@@ -155,65 +155,54 @@ fn images_with_calls_and_tail_jumps_are_replayed(rt: HostRuntime) -> Result<(), 
 /// A sled needs no fuel, but the return of an exit sled does.
 #[test]
 fn a_replay_ends_at_the_limits_of_its_options(rt: HostRuntime) -> Result<(), Fail> {
-    for (options, end, rax, output, marks) in [
-        (
-            ["--fuel", "1"],
-            "fuel instructions 1 passings 1",
-            "41",
-            "-",
-            "+1",
-        ),
-        (
-            ["--fuel", "0"],
-            "fuel instructions 0 passings 1",
-            "0",
-            "-",
-            "+1",
-        ),
-        (
-            ["--fuel", "2"],
-            "fuel instructions 2 passings 2",
-            "41",
-            "41",
-            "+2",
-        ),
-        (
-            ["--passings", "1"],
-            "passings instructions 2 passings 1",
-            "41",
-            "41",
-            "+1",
-        ),
-        (
-            ["--passings", "0"],
-            "passings instructions 0 passings 0",
-            "0",
-            "-",
-            "-",
-        ),
-        (
-            ["--fuel=1000000000", "--passings=+1048576"],
-            "returned instructions 3 passings 2",
-            "41",
-            "41",
-            "+2",
-        ),
+    for (options, end, instructions, passings, rax, output, marks) in [
+        (["--fuel", "1"], "fuel", 1, 1, "41", "-", "+1"),
+        (["--fuel", "0"], "fuel", 0, 1, "0", "-", "+1"),
+        (["--fuel", "2"], "fuel", 2, 2, "41", "41", "+2"),
+        (["--passings", "1"], "passings", 2, 1, "41", "41", "+1"),
+        (["--passings", "0"], "passings", 0, 0, "0", "-", "-"),
     ] {
         let state = format!(in rt.alloc();
-            "thread 1 {end}\n\
+            "thread 1 {end} instructions {instructions} passings {passings}\n\
             rax={rax} rcx=0 rdx=0 rbx=0 rbp=0 rsi=0 rdi=1 r8=0 r9=0 r11=0 r12=0 r13=0 r14=0 r15=0 \
             zf=0\n\
             output {output}\n\
             marks {marks}\n"
         )?;
-        let [first, second] = options;
-        for words in [
-            ["sim", first, second, "i", "s", "c"],
-            ["sim", "i", "s", first, second, "c"],
-            ["sim", "i", "s", "c", first, second],
-        ] {
-            assert_prints(&rt, &words, TRACED, "", &state)?;
-        }
+        let [option, value] = options;
+        let words = ["sim", "i", "s", option, value, "c"];
+        assert_prints(&rt, &words, TRACED, "", &state)?;
+    }
+    Ok(())
+}
+
+#[test]
+fn options_of_sim_stand_anywhere_and_at_the_ends_of_their_ranges(
+    rt: HostRuntime,
+) -> Result<(), Fail> {
+    let state = format!(in rt.alloc(); "{STATE}marks n1 .1\n")?;
+    for words in [
+        &[
+            "sim",
+            "--fuel=1000000000",
+            "--passings",
+            "+1048576",
+            "i",
+            "s",
+            "c",
+        ][..],
+        &[
+            "sim",
+            "i",
+            "s",
+            "c",
+            "--passings=1048576",
+            "--fuel",
+            "01000000000",
+        ],
+        &["sim", "i", "--threads=1", "--", "s", "c"],
+    ] {
+        assert_prints(&rt, words, SCRIPT, SCHEDULE, &state)?;
     }
     Ok(())
 }
