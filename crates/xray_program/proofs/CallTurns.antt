@@ -1,21 +1,23 @@
 -- What stands behind the statuses of the call.
-use Rattle.std.specs.Prelude.{IfErr, OnOk}
+use Rattle.std.specs.Prelude.{IfErr, IsErrAnd, OnOk}
 use Rattle.std.proofs.Common.{◌≡◌, ◌⊎◌, ℕ, List, [], Option, Some, Result, Ok, Err, inl, inr, refl, sym, subst, arith}
 use Rattle.xray_io.specs.Desk.{Entry, Absent, Holds}
 use Rattle.xray_io.specs.Sink.{Adds}
 use Rattle.xray_program.specs.declared.stop.Stop.{Stop}
 use Rattle.xray_program.specs.declared.stop.Stop.TheVariants as stops
-use Rattle.xray_program.specs.Answers.{LeavesAll, Reports, CouldNotRead, CouldNotWrite, IsSimulated}
+use Rattle.xray_program.specs.Answers.{LeavesAll, Reports, CouldNotRead, CouldNotWrite, IsAnswer, IsSimulated}
 use Rattle.xray_program.specs.Calls.{StopsCall, StopsJob}
-use Rattle.xray_program.specs.FirstRun.{first_script, SimPrints}
-use Rattle.xray_image.specs.Program.{Program}
-use Rattle.patch_script.specs.declared.command.Command.{Command}
-use Rattle.step_sim.specs.declared.turns.Turns.{Turns}
-use Rattle.xray_program.specs.Inputs.{Form, first_run_form, script_form, schedule_form, ReadsScript}
-use Rattle.xray_program.specs.Meaning.{Outcome, BadLine, TooLong, Refused, Done, Take, Comes, Says, write_fault_line}
+use Rattle.patch_script.specs.Refusals.{commands_of}
+use Rattle.xray_program.specs.Inputs.{Form, image_form, script_form, schedule_form}
+use Rattle.xray_program.specs.States.{SimPrints}
+use Rattle.xray_program.specs.declared.words.RunOptions.{RunOptions}
+use Rattle.xray_program.proofs.SimTurns.{AfterImage, AfterScript, replay_done}
+use Rattle.xray_program.specs.Meaning.{Outcome, BadLine, TooLong, Refused, Done, Replays, Take, Comes, Says, write_fault_line}
 use Rattle.xray_program.specs.Outputs.{AreWhole}
-use Rattle.xray_program.specs.Stops.{kind_text, refusal_text, stop_status, stop_line}
-use Rattle.xray_program.specs.Words.{Sim, Item, File, Given, files_of, have_only, is_equals, is_name, items_behind, items_of, reading, sim_with}
+use Rattle.xray_program.specs.Stops.{answer_of, kind_text, refusal_text, stop_status, stop_line}
+use Rattle.xray_program.specs.declared.taken.Taken.{Taken}
+use Rattle.xray_program.specs.Taken.{IsAnswerOrMemory, StopsWork, Yields}
+use Rattle.xray_program.specs.Words.{Sim, reading}
 use Rattle.xray_program.specs.Words as words
 
 -- ---- 0 and 4
@@ -59,6 +61,44 @@ stops_call said held mid held_now command outputs text rb rn wb wm wn ob on old 
     could_not_write said held held_now command outputs text rb rn wb wn ob on old new says comes stop
     (subst (λ (w : ℕ). StopsJob outputs text held held_now w wn ob on old new stop) steady
     (subst (λ (h : List ℕ → Entry). StopsJob outputs text h held_now wm wn ob on old new stop) same stopped))
+
+-- judged inputs that come to a stop stop the call, and nothing is written
+pub stops_work : {X : Type 0} (said : List (List ℕ)) (held held_now : List ℕ → Entry) (command : words.Command) (taken : Taken)
+    (reads_before reads_now writes_before writes_now out_before out_now : ℕ) (out : Option (List ℕ)) (result : Result X Stop) (stop : Stop)
+    → Some command ≡ reading said → held_now ≡ held
+    → ((outcome : Outcome) → Yields taken outcome → Comes (λ name. held name ≡ Absent) held command outcome)
+    → IsErrAnd result (λ s. s ≡ stop) → StopsWork (Yields taken) stop
+    → IfErr result (StopsCall said held held_now reads_before reads_now writes_before writes_now out_before out_now out out)
+stops_work said held held_now command taken rb rn wb wn ob on out (Ok done) stop says same gives is stopped = tt
+stops_work said held held_now command taken rb rn wb wn ob on out (Err s) stop says same gives is stopped = rw is (behind stop stopped)
+  where
+    behind : (stop : Stop) → StopsWork (Yields taken) stop → StopsCall said held held_now rb rn wb wn ob on out out stop
+    behind stops.BadLine stopped = absurd stopped
+    behind (stops.Unread n) stopped = absurd stopped
+    behind (stops.TooLong n) stopped = absurd stopped
+    behind (stops.Refused n kind refusal) stopped = (rw (← says) (gives _ stopped), (same, refl))
+    behind (stops.Unwritten n) stopped = absurd stopped
+    behind stops.NoMemory stopped = (λ none. cc, (same, refl))
+
+-- what is meant is answered, where its status is that of a job that was delivered or stopped
+pub answers_call : {X : Type 0} (outputs : List (List ℕ × List ℕ)) (text : List ℕ) (held held_now : List ℕ → Entry)
+    (reads_before reads_now writes_before writes_mid writes_now out_before out_now : ℕ) (old new : Option (List ℕ)) (result : Result X Stop)
+    (outcome : Outcome) → writes_mid ≡ writes_before → IsAnswerOrMemory outcome 0
+    → IfErr result (StopsJob outputs text held held_now writes_mid writes_now out_before out_now old new)
+    → IsAnswer outcome reads_before reads_now writes_before writes_now out_before out_now (answer_of result)
+answers_call outputs text held held_now rb rn wb wm wn ob on old new (Ok done) outcome same (inl is) stopped = inl is
+answers_call outputs text held held_now rb rn wb wm wn ob on old new (Ok done) outcome same (inr is) stopped = absurd (omega (arith, is))
+answers_call outputs text held held_now rb rn wb wm wn ob on old new (Err stop) outcome same answered stopped =
+    behind stop (subst (λ (w : ℕ). StopsJob outputs text held held_now w wn ob on old new stop) same stopped)
+  where
+    behind : (stop : Stop) → StopsJob outputs text held held_now wb wn ob on old new stop → IsAnswer outcome rb rn wb wn ob on (stop_status stop)
+    behind stops.BadLine stopped = absurd stopped
+    behind (stops.Unread n) stopped = absurd stopped
+    behind (stops.TooLong n) stopped = absurd stopped
+    behind (stops.Refused n kind refusal) stopped = absurd stopped
+    behind (stops.Unwritten n) (inl (fails, untouched)) = inr (inr (inr (refl, inl fails.fault)))
+    behind (stops.Unwritten n) (inr fails) = inr (inr (inr (refl, inr fails.fault)))
+    behind stops.NoMemory stopped = absurd stopped
 
 -- ---- 1 and 2
 
@@ -130,36 +170,29 @@ went_on form fails held name next outputs text content holds (inr (bytes, may, i
     let same : bytes ≡ content = rw holds at may in
     record { value = value; reads = subst (λ b. form.Reads b value) same reads; next = comes }
 
--- what comes of the inputs of `sim` where all is done
-abbrev Printing : Program → List Command → List Turns → Outcome → Type 0
-Printing program commands turns outcome = (text : List ℕ) × SimPrints program commands turns text × (outcome ≡ Done [] text)
-
-simulated_by : (held : List ℕ → Entry) (i s c image script schedule : List ℕ) (outputs : List (List ℕ × List ℕ))
+simulated_by : (held : List ℕ → Entry) (i s c image script schedule : List ℕ) (options : RunOptions) (outputs : List (List ℕ × List ℕ))
     (text : List ℕ) (old new : Option (List ℕ)) → held i ≡ Holds image → held s ≡ Holds script → held c ≡ Holds schedule
-    → Comes (λ name. held name ≡ Absent) held (Sim i s c) (Done outputs text) → Adds old new text
-    → IsSimulated image script schedule old new
-simulated_by held i s c image script schedule outputs text old new image_held script_held schedule_held comes adds =
+    → Comes (λ name. held name ≡ Absent) held (Sim i s c options) (Done outputs text) → Adds old new text
+    → IsSimulated image script schedule options old new
+simulated_by held i s c image script schedule options outputs text old new image_held script_held schedule_held comes adds =
     let absent : List ℕ → Type 0 = λ name. held name ≡ Absent in
-    let first = went_on first_run_form absent held i
-    (λ program. Take script_form absent held s (λ commands. Take (schedule_form 1) absent held c (Printing program commands)))
-    outputs text image image_held comes in
-    let second = went_on script_form absent held s
-    (λ commands. Take (schedule_form 1) absent held c (Printing first.value commands))
+    let first = went_on image_form absent held i (AfterImage options held s c absent) outputs text image image_held comes in
+    let second = went_on (script_form first.value options.threads) absent held s (AfterScript options held s c absent first.value)
     outputs text script script_held first.next in
-    let third = went_on (schedule_form 1) absent held c
-    (Printing first.value second.value) outputs text schedule schedule_held second.next in
-    let printed = third.next in
-    let is : text ≡ printed.0 = done_alike outputs [] text printed.0 printed.2 in
+    let third = went_on (schedule_form options.threads) absent held c (Replays s options first.value second.value)
+    outputs text schedule schedule_held second.next in
+    let done = replay_done s options first.value second.value third.value outputs text third.next in
+    let is : text ≡ done.1.0 = done_alike outputs [] text done.1.0 done.1.2 in
     record {
       program = first.value;
-      accepted = first.reads.accepted;
-      form = first.reads.form;
-      commands = subst (ReadsScript script) second.reads.meaning second.reads;
+      accepted = first.reads;
+      plan = second.value;
+      commands = second.reads;
+      still = done.0;
       turns = third.value;
       lines = third.reads;
       text = text;
-      prints = subst (λ t. SimPrints first.value first_script third.value t) (sym is)
-          (subst (λ commands. SimPrints first.value commands third.value printed.0) second.reads.meaning printed.1);
+      prints = subst (λ t. SimPrints first.value (commands_of second.value.lines) third.value options t) (sym is) done.1.1;
       out = adds;
     }
   where
@@ -167,8 +200,8 @@ simulated_by held i s c image script schedule outputs text old new image_held sc
     done_alike one other text text' is = cc
 
 pub simulated : (said : List (List ℕ)) (held held_now : List ℕ → Entry) (old new : Option (List ℕ)) → LeavesAll said held held_now old new
-    → (i s c image script schedule : List ℕ) → reading said ≡ Some (Sim i s c)
-    → held i ≡ Holds image → held s ≡ Holds script → held c ≡ Holds schedule → IsSimulated image script schedule old new
-simulated said held held_now old new leaves i s c image script schedule words image_held script_held schedule_held =
-    simulated_by held i s c image script schedule leaves.outputs leaves.text old new image_held script_held schedule_held
+    → (i s c image script schedule : List ℕ) (options : RunOptions) → reading said ≡ Some (Sim i s c options)
+    → held i ≡ Holds image → held s ≡ Holds script → held c ≡ Holds schedule → IsSimulated image script schedule options old new
+simulated said held held_now old new leaves i s c image script schedule options words image_held script_held schedule_held =
+    simulated_by held i s c image script schedule options leaves.outputs leaves.text old new image_held script_held schedule_held
     (rw words at leaves.meant) leaves.out

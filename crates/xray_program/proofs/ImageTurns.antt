@@ -3,14 +3,15 @@ use Rattle.std.proofs.Common.{◌≡◌, ◌≢◌, ◌⊎◌, ℕ, List, Ok, Er
 use Rattle.xray_io.specs.Desk.{Entry}
 use Rattle.xray_image.specs.declared.fault.ImageFault.{ImageFault}
 use Rattle.xray_image.specs.declared.fault.ImageFault.TheVariants as faults
-use Rattle.xray_image.specs.FirstRun.{IsFirstRun}
 use Rattle.xray_image.specs.Program.{Program, IsAccepted}
 use Rattle.xray_image.specs.Table.{Verdict, ReadsAs}
+use Rattle.xray_program.specs.declared.refusal.Refusal.TheVariants.{Faulty}
+use Rattle.xray_program.specs.declared.stop.Kind.TheVariants.{Image}
 use Rattle.xray_program.specs.declared.stop.Stop.{Stop}
 use Rattle.xray_program.specs.declared.stop.Stop.TheVariants as stops
 use Rattle.xray_program.specs.Faults.{fault_text}
-use Rattle.xray_program.specs.Inputs.{image_form, first_run_form}
-use Rattle.xray_program.specs.Takes.{Gives, GivesBytes, Rejects, Fails, IsImageStop}
+use Rattle.xray_program.specs.Inputs.{image_form}
+use Rattle.xray_program.specs.Takes.{Gives, GivesBytes, Rejects, Fails, IsFaultStop}
 
 -- what a reader of images answers of bytes
 pub record Reader (bytes : List ℕ) (result : Verdict) : Type 0 where
@@ -59,59 +60,10 @@ rejects_image entry bytes fault result given reader is named = record {
     none program (inl same) = cc
     none program (inr wanting) = named cc
 
--- ---- images of the form that `sim` runs
-
-pub gives_first_run : (entry : Entry) (image : Program) → Gives image_form entry image → IsFirstRun image
-    → Gives first_run_form entry image
-gives_first_run entry image gives form = record {
-  bytes = gives.bytes;
-  held = gives.held;
-  within = gives.within;
-  reads = record { accepted = gives.reads; form = form };
-  only = λ other reads. gives.only other reads.accepted;
-  unrefused = λ refusal refused. never refusal refused;
-}
-  where
-    never : (refusal : List ℕ) → first_run_form.Refuses gives.bytes refusal → ⊥
-    never refusal (inl refused) = gives.unrefused refusal refused
-    never refusal (inr (other, accepted, formless, is)) = formless (subst IsFirstRun (sym (gives.only other accepted)) form)
-
--- an image of another form
-pub rejects_other_form : (entry : Entry) (image : Program) → Gives image_form entry image → (IsFirstRun image → ⊥)
-    → Rejects first_run_form entry (codes "NotYet")
-rejects_other_form entry image gives formless = record {
-  bytes = gives.bytes;
-  held = gives.held;
-  within = gives.within;
-  refused = inr (image, gives.reads, formless, refl);
-  none = λ other reads. formless (subst IsFirstRun (gives.only other reads.accepted) reads.form);
-}
-
--- an image that isn't accepted
-pub fails_first_run : (held : List ℕ → Entry) (name : List ℕ) (before now : ℕ) (stop : Stop)
-    → Fails image_form held name before now stop → Fails first_run_form held name before now stop
-fails_first_run held name before now stops.BadLine fails = fails
-fails_first_run held name before now (stops.Unread n) fails = fails
-fails_first_run held name before now (stops.TooLong n) fails = fails
-fails_first_run held name before now (stops.Refused n k refusal) fails =
-    let rejects = fails.2 in (
-      fails.0,
-      fails.1,
-      record {
-        bytes = rejects.bytes;
-        held = rejects.held;
-        within = rejects.within;
-        refused = inl rejects.refused;
-        none = λ other reads. rejects.none other reads.accepted;
-      },
-    )
-fails_first_run held name before now (stops.Unwritten n) fails = fails
-fails_first_run held name before now stops.NoMemory fails = fails
-
 -- ---- the stop that a fault comes to
 
 pub fails_image : (held : List ℕ → Entry) (name : List ℕ) (before now : ℕ) (bytes : List ℕ) (fault : ImageFault) (result : Verdict) (stop : Stop)
-    → GivesBytes 4194304 (held name) bytes → Reader bytes result → result ≡ Err fault → IsImageStop name fault stop
+    → GivesBytes 4194304 (held name) bytes → Reader bytes result → result ≡ Err fault → IsFaultStop Image Faulty faults.NoMemory name fault stop
     → Fails image_form held name before now stop
 fails_image held name before now bytes fault result stops.BadLine given reader is so = so
 fails_image held name before now bytes fault result (stops.Unread n) given reader is so = absurd so

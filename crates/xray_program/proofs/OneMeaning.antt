@@ -4,24 +4,30 @@ use Rattle.std.specs.Prelude.{MatchOption}
 use Rattle.std.specs.List.{flat_map, slice_get}
 use Rattle.asm_text.specs.Assembling.{assembled}
 use Rattle.handler_word.specs.declared.mark.Mark.{Mark}
-use Rattle.machine_step.specs.PlainStep.{Passing}
+use Rattle.machine_step.specs.declared.end.End.{End}
+use Rattle.machine_step.specs.declared.limits.Limits.{Limits}
+use Rattle.machine_step.specs.PlainStep.{Passing, PlainRun, State}
+use Rattle.machine_step.specs.Traced.{sleds_of}
 use Rattle.patch_script.specs.declared.command.Command.{Command as ScriptCommand}
+use Rattle.patch_script.specs.Plans.{Plan, plan_of, waiting_line}
+use Rattle.patch_script.specs.Refusals.{commands_of}
 use Rattle.step_sim.specs.declared.turns.Turns.{Turns}
-use Rattle.step_sim.specs.Replay.{Cast, Replay}
+use Rattle.step_sim.specs.Replay.{Cast, Replay, of_thread}
+use Rattle.step_sim.specs.Replayed.{cast_of}
 use Rattle.step_sim.specs.Schedules.{schedule_of}
-use Rattle.xray_image.specs.FirstRun.{IsFirstRun}
 use Rattle.xray_image.specs.Extract.{extract_text}
 use Rattle.xray_image.specs.Program.{Program, IsAccepted}
 use Rattle.xray_image.specs.Table.{Verdict, ReadsAs}
 use Rattle.xray_io.specs.Desk.{Entry, Untold, Absent, Holds}
-use Rattle.xray_program.specs.Faults.{asm_fault_text, fault_text, schedule_fault_text}
-use Rattle.xray_program.specs.FirstRun.{default_limits, one_thread, SimPrints}
-use Rattle.xray_program.specs.Inputs.{Form, image_form, first_run_form, script_form, schedule_form, text_form}
-use Rattle.xray_program.specs.Meaning.{Outcome, BadLine, Refused, Done, Take, Comes, Means, MayHold, TellsAll}
+use Rattle.xray_program.specs.Faults.{asm_fault_text, fault_text, schedule_fault_text, script_fault_text}
+use Rattle.xray_program.specs.Inputs.{Form, answered_form, image_form, script_form, schedule_form, text_form}
+use Rattle.xray_program.specs.Meaning.{Outcome, BadLine, Refused, Done, Prints, Replays, Take, Comes, Means, MayHold, TellsAll}
 use Rattle.xray_program.specs.Plain.{IsPlainText, PlainPrints, limits_of}
+use Rattle.xray_program.specs.States.{IsStateText, SimPrints}
 use Rattle.xray_program.specs.Words.{Command, Sim, Plain, Extract, Asm, reading}
 use Rattle.xray_program.specs.declared.words.RunOptions.{RunOptions}
-use Rattle.xray_program.proofs.StraightPrints.{OneEnd}
+use Rattle.xray_program.proofs.SimTurns.{AfterImage, AfterScript}
+use Rattle.xray_program.proofs.TextLists.{also_there, of_thread_at, same_list}
 
 -- ---- inputs in their turn
 
@@ -69,6 +75,11 @@ one_take form is held name next a b told later (inr (bytes, may, inr (within, in
 
 -- ---- the forms
 
+abbrev OneEnd : Type 0
+OneEnd = (bytes : List ℕ) (program : Program) (limits : Limits) (thread : ℕ) (passed passed' : List Passing) (end end' : End)
+    (last last' : State) → IsAccepted bytes program → PlainRun program limits thread passed end last
+    → PlainRun program limits thread passed' end' last' → (passed ≡ passed') × (end ≡ end') × (last ≡ last')
+
 abbrev OneVerdict : Type 0
 OneVerdict = (bytes : List ℕ) (v w : Verdict) → ReadsAs bytes v → ReadsAs bytes w → v ≡ w
 
@@ -94,38 +105,9 @@ image_decided one accepts = record {
     same_reason : (r s : List ℕ) (f g : _) → (let v : Verdict = Err f in let w : Verdict = Err g in v ≡ w) → r ≡ fault_text f → s ≡ fault_text g → r ≡ s
     same_reason r s f g e x y = let same : f ≡ g = cc in x ∙ ap fault_text same ∙ sym y
 
-first_run_decided : IsDecided image_form → IsDecided first_run_form
-first_run_decided image = record {
-  one = λ bytes a b x y. image.one bytes a b x.accepted y.accepted;
-  why = λ bytes r s x y. reason bytes r s x y;
-  not_both = λ bytes a r x y. never bytes a r x.accepted x.form y;
-}
-  where
-    reason : (bytes r s : List ℕ) → first_run_form.Refuses bytes r → first_run_form.Refuses bytes s → r ≡ s
-    reason bytes r s (inl x) (inl y) = image.why bytes r s x y
-    reason bytes r s (inl x) (inr (q, accepted, formless, y)) = absurd (image.not_both bytes q r accepted x)
-    reason bytes r s (inr (p, accepted, formless, x)) (inl y) = absurd (image.not_both bytes p s accepted y)
-    reason bytes r s (inr (p, accepted, formless, x)) (inr (q, accepted', formless', y)) = x ∙ sym y
-
-    never : (bytes : List ℕ) (a : Program) (r : List ℕ) → IsAccepted bytes a → IsFirstRun a → first_run_form.Refuses bytes r → ⊥
-    never bytes a r accepted form (inl x) = image.not_both bytes a r accepted x
-    never bytes a r accepted form (inr (p, accepted', formless, x)) = formless (subst IsFirstRun (image.one bytes a p accepted accepted') form)
-
-script_decided : IsDecided script_form
-script_decided = record {
-  one = λ bytes a b x y. x.meaning ∙ sym y.meaning;
-  why = λ bytes r s x y. x.1 ∙ sym y.1;
-  not_both = λ bytes a r x y. y.0 a x;
-}
-
 -- a form is decided where a function gives the value that bytes read as, or the fault that they are refused for
 of_answers : {X F : Type 0} (kind : List ℕ) (limit : ℕ) (answer : List ℕ → Result X F) (say : F → List ℕ)
-    → IsDecided (record {
-      kind = kind;
-      limit = limit;
-      Reads = λ bytes value. answer bytes ≡ Ok value;
-      Refuses = λ bytes refusal. (fault : F) × (answer bytes ≡ Err fault) × (refusal ≡ say fault);
-    })
+    → IsDecided (answered_form kind limit answer say)
 of_answers {X} {F} kind limit answer say = record {
   one = λ bytes a b x y. same_value a b (sym x ∙ y);
   why = λ bytes r s x y. x.2 ∙ ap say (same_fault x.0 y.0 (sym x.1 ∙ y.1)) ∙ sym y.2;
@@ -141,6 +123,9 @@ of_answers {X} {F} kind limit answer say = record {
     never : (a : X) (f : F) → (let v : Result X F = Ok a in let w : Result X F = Err f in v ≡ w) → ⊥
     never a f e = cc
 
+script_decided : (program : Program) (threads : ℕ) → IsDecided (script_form program threads)
+script_decided program threads = of_answers (codes "script") 1048576 (plan_of program threads) script_fault_text
+
 schedule_decided : (threads : ℕ) → IsDecided (schedule_form threads)
 schedule_decided threads = of_answers (codes "schedule") 16777216 (schedule_of threads) schedule_fault_text
 
@@ -149,27 +134,61 @@ text_decided threshold = of_answers (codes "text") 4194304 (λ bytes. assembled 
 
 -- ---- the texts
 
-one_sim : OneEnd → OneReplay → (bytes : List ℕ) (program : Program) (script : List ScriptCommand) (schedule : List Turns) (x y : List ℕ)
-    → IsAccepted bytes program → SimPrints program script schedule x → SimPrints program script schedule y → x ≡ y
-one_sim one_end one_replay bytes program script schedule x y accepted p q =
-    let same = one_end bytes program default_limits 1 p.passed q.passed p.end q.end p.last q.last accepted p.plain q.plain in
-    let again = subst (λ (ps : List Passing). Replay (one_thread program script (map (λ (s : Passing). s.sled) ps)) schedule (p.marks ∷ [])) same.0 p.replayed in
-    let lists = one_replay (one_thread program script (map (λ (s : Passing). s.sled) q.passed)) schedule (p.marks ∷ []) (q.marks ∷ []) again q.replayed in
-    let marks : p.marks ≡ q.marks = head p.marks q.marks lists in
-    p.prints ∙ rw (same.1, same.2, marks) refl ∙ sym q.prints
-  where
-    head : (m n : List Mark) → m ∷ [] ≡ n ∷ [] → m ≡ n
-    head m n e = cc
+-- the sleds that a thread passes, by its plain run
+record Passes (program : Program) (limits : Limits) (thread : ℕ) (sleds : List ℕ) : Type 0 where
+  passed : List Passing
+  end : End
+  last : State
+  run : PlainRun program limits thread passed end last
+  sleds_are : sleds ≡ sleds_of passed
 
-same_list : (P : ℕ → List ℕ → Type 0) → ((i : ℕ) (t u : List ℕ) → P i t → P i u → t ≡ u) → (xs ys : List (List ℕ))
-    → ((i : ℕ) (t : List ℕ) → slice_get xs i ≡ Some t → P i t) → ((i : ℕ) (t : List ℕ) → slice_get ys i ≡ Some t → P i t)
-    → length xs ≡ length ys → xs ≡ ys
-same_list P one [] [] at at' e = refl
-same_list P one [] (y ∷ ys) at at' e = absurd (omega (arith, e))
-same_list P one (x ∷ xs) [] at at' e = absurd (omega (arith, e))
-same_list P one (x ∷ xs) (y ∷ ys) at at' e =
-    let tails = same_list (λ i. P (suc i)) (λ i. one (suc i)) xs ys (λ i. at (suc i)) (λ i. at' (suc i)) (omega (arith, e)) in
-    ap (λ z. z ∷ xs) (one zero x y (at zero x refl) (at' zero y refl)) ∙ ap (λ zs. y ∷ zs) tails
+one_passes : OneEnd → (bytes : List ℕ) (program : Program) (limits : Limits) (thread : ℕ) (one other : List ℕ) → IsAccepted bytes program
+    → Passes program limits thread one → Passes program limits thread other → one ≡ other
+one_passes one_end bytes program limits thread one other accepted a b =
+    let same = one_end bytes program limits thread a.passed b.passed a.end b.end a.last b.last accepted a.run b.run in
+    a.sleds_are ∙ ap sleds_of same.0 ∙ sym b.sleds_are
+
+each_passes : (program : Program) (script : List ScriptCommand) (schedule : List Turns) (options : RunOptions) (x : List ℕ)
+    (p : SimPrints program script schedule options x) (k : ℕ) (sleds : List ℕ) → slice_get p.passings k ≡ Some sleds
+    → Passes program (limits_of options) (k + 1) sleds
+each_passes program script schedule options x p k sleds at =
+    let text = also_there p.passings p.texts k sleds (p.threads ∙ sym p.count) at in
+    let is = p.each k text.0 text.1 in
+    record {
+      passed = is.passed;
+      end = is.end;
+      last = is.last;
+      run = is.run;
+      sleds_are = sym (of_thread_at p.passings k sleds at) ∙ is.sleds_are;
+    }
+
+one_state : OneEnd → (bytes : List ℕ) (program : Program) (limits : Limits) (thread : ℕ) (sleds sleds' : List ℕ) (marks marks' : List Mark)
+    (t u : List ℕ) → IsAccepted bytes program → marks ≡ marks' → IsStateText program limits thread sleds marks t
+    → IsStateText program limits thread sleds' marks' u → t ≡ u
+one_state one_end bytes program limits thread sleds sleds' marks marks' t u accepted m a b =
+    let same = one_end bytes program limits thread a.passed b.passed a.end b.end a.last b.last accepted a.run b.run in
+    a.prints ∙ rw (same.1, same.2, m) refl ∙ sym b.prints
+
+one_sim : OneEnd → OneReplay → (bytes : List ℕ) (program : Program) (script : List ScriptCommand) (schedule : List Turns) (options : RunOptions)
+    (x y : List ℕ) → IsAccepted bytes program → SimPrints program script schedule options x → SimPrints program script schedule options y → x ≡ y
+one_sim one_end one_replay bytes program script schedule options x y accepted p q =
+    let limits = limits_of options in
+    let passings : p.passings ≡ q.passings = same_list (λ i. Passes program limits (i + 1))
+    (λ i t u a b. one_passes one_end bytes program limits (i + 1) t u accepted a b) p.passings q.passings
+    (each_passes program script schedule options x p) (each_passes program script schedule options y q) (p.threads ∙ sym q.threads) in
+    let again = subst (λ (ps : List (List ℕ)). Replay (cast_of program script ps) schedule p.marks) passings p.replayed in
+    let marks : p.marks ≡ q.marks = one_replay (cast_of program script q.passings) schedule p.marks q.marks again q.replayed in
+    p.joined ∙ ap (flat_map (λ t. t)) (same_list (λ i. IsState limits q.marks i) (λ i. one_text limits q.marks i) p.texts q.texts
+    (λ i t at. let is = p.each i t at in (of_thread p.passings (i + 1), subst (λ (ms : List (List Mark)). IsStateText program limits (i + 1) (of_thread p.passings (i + 1)) (of_thread ms (i + 1)) t) marks is))
+    (λ i t at. (of_thread q.passings (i + 1), q.each i t at)) (p.count ∙ sym q.count))
+    ∙ sym q.joined
+  where
+    IsState : Limits → List (List Mark) → ℕ → List ℕ → Type 0
+    IsState limits marks i t = (sleds : List ℕ) × IsStateText program limits (i + 1) sleds (of_thread marks (i + 1)) t
+
+    one_text : (limits : Limits) (marks : List (List Mark)) (i : ℕ) (t u : List ℕ) → IsState limits marks i t → IsState limits marks i u → t ≡ u
+    one_text limits marks i t u a b =
+        one_state one_end bytes program limits (i + 1) a.0 b.0 (of_thread marks (i + 1)) (of_thread marks (i + 1)) t u accepted refl a.1 b.1
 
 one_plain : OneEnd → (bytes : List ℕ) (program : Program) (options : RunOptions) (x y : List ℕ)
     → IsAccepted bytes program → PlainPrints program options x → PlainPrints program options y → x ≡ y
@@ -187,49 +206,50 @@ one_plain one_end bytes program options x y accepted p q =
 same_done : (a b : Outcome) (x y : List ℕ) → x ≡ y → a ≡ Done [] x → b ≡ Done [] y → a ≡ b
 same_done a b x y e p q = p ∙ ap (Done []) e ∙ sym q
 
-abbrev Prints : Program → List ScriptCommand → List Turns → Outcome → Type 0
-Prints program commands turns outcome = (text : List ℕ) × SimPrints program commands turns text × (outcome ≡ Done [] text)
+one_prints : (a b : Outcome) (IsText : List ℕ → Type 0) → ((x y : List ℕ) → IsText x → IsText y → x ≡ y)
+    → Prints IsText a → Prints IsText b → a ≡ b
+one_prints a b IsText one (x, p, is) (y, q, is') = same_done a b x y (one x y p q) is is'
 
-abbrev AfterScript : (List ℕ → Entry) → List ℕ → Program → List ScriptCommand → Outcome → Type 0
-AfterScript held c program commands = Take (schedule_form 1) (λ name. held name ≡ Absent) held c (Prints program commands)
-
-abbrev AfterImage : (List ℕ → Entry) → List ℕ → List ℕ → Program → Outcome → Type 0
-AfterImage held s c program = Take script_form (λ name. held name ≡ Absent) held s (AfterScript held c program)
-
-abbrev PlainTexts : RunOptions → Program → Outcome → Type 0
-PlainTexts options program outcome = (text : List ℕ) × PlainPrints program options text × (outcome ≡ Done [] text)
+-- a match comes to one outcome, where each of its parts does
+one_match : (found : Option ℕ) (a b : Outcome) (P : Outcome → Type 0) (r : ℕ → Outcome) → (P a → P b → a ≡ b)
+    → MatchOption found (P a) (λ n. a ≡ r n) → MatchOption found (P b) (λ n. b ≡ r n) → a ≡ b
+one_match None a b P r one p q = one p q
+one_match (Some n) a b P r one p q = p ∙ sym q
 
 -- the replay of values that were read
-one_print : OneEnd → OneReplay → (bytes : List ℕ) (program : Program) (commands : List ScriptCommand) (turns : List Turns) (a b : Outcome)
-    → IsAccepted bytes program → Prints program commands turns a → Prints program commands turns b → a ≡ b
-one_print one_end one_replay bytes program commands turns a b accepted (x, p, is) (y, q, is') =
-    same_done a b x y (one_sim one_end one_replay bytes program commands turns x y accepted p q) is is'
+one_replays : OneEnd → OneReplay → (s bytes : List ℕ) (options : RunOptions) (program : Program) (plan : Plan) (turns : List Turns) (a b : Outcome)
+    → IsAccepted bytes program → Replays s options program plan turns a → Replays s options program plan turns b → a ≡ b
+one_replays one_end one_replay s bytes options program plan turns a b accepted x y =
+    one_match (waiting_line plan.lines) a b (Prints (SimPrints program (commands_of plan.lines) turns options)) _
+    (one_prints a b (SimPrints program (commands_of plan.lines) turns options)
+    (λ t u p q. one_sim one_end one_replay bytes program (commands_of plan.lines) turns options t u accepted p q)) x y
 
-one_after_script : OneEnd → OneReplay → (held : List ℕ → Entry) (c bytes : List ℕ) (program : Program) (commands : List ScriptCommand) (a b : Outcome)
-    → TellsAll held → IsAccepted bytes program → AfterScript held c program commands a → AfterScript held c program commands b → a ≡ b
-one_after_script one_end one_replay held c bytes program commands a b told accepted x y =
-    one_take (schedule_form 1) (schedule_decided 1) held c (Prints program commands) a b (told c)
-    (λ _ turns _ p q. one_print one_end one_replay bytes program commands turns a b accepted p q) x y
+abbrev IsAbsent : (List ℕ → Entry) → List ℕ → Type 0
+IsAbsent held name = held name ≡ Absent
 
-one_after_image : OneEnd → OneReplay → (held : List ℕ → Entry) (s c bytes : List ℕ) (program : Program) (a b : Outcome)
-    → TellsAll held → IsAccepted bytes program → AfterImage held s c program a → AfterImage held s c program b → a ≡ b
-one_after_image one_end one_replay held s c bytes program a b told accepted x y =
-    one_take script_form script_decided held s (AfterScript held c program) a b (told s)
-    (λ _ commands _ p q. one_after_script one_end one_replay held c bytes program commands a b told accepted p q) x y
+one_after_script : OneEnd → OneReplay → (options : RunOptions) (held : List ℕ → Entry) (s c bytes : List ℕ) (program : Program) (plan : Plan) (a b : Outcome)
+    → TellsAll held → IsAccepted bytes program → AfterScript options held s c (IsAbsent held) program plan a
+    → AfterScript options held s c (IsAbsent held) program plan b → a ≡ b
+one_after_script one_end one_replay options held s c bytes program plan a b told accepted x y =
+    one_take (schedule_form options.threads) (schedule_decided options.threads) held c (Replays s options program plan) a b (told c)
+    (λ _ turns _ p q. one_replays one_end one_replay s bytes options program plan turns a b accepted p q) x y
 
-one_plain_text : OneEnd → (bytes : List ℕ) (program : Program) (options : RunOptions) (a b : Outcome)
-    → IsAccepted bytes program → PlainTexts options program a → PlainTexts options program b → a ≡ b
-one_plain_text one_end bytes program options a b accepted (x, p, is) (y, q, is') =
-    same_done a b x y (one_plain one_end bytes program options x y accepted p q) is is'
+one_after_image : OneEnd → OneReplay → (options : RunOptions) (held : List ℕ → Entry) (s c bytes : List ℕ) (program : Program) (a b : Outcome)
+    → TellsAll held → IsAccepted bytes program → AfterImage options held s c (IsAbsent held) program a
+    → AfterImage options held s c (IsAbsent held) program b → a ≡ b
+one_after_image one_end one_replay options held s c bytes program a b told accepted x y =
+    one_take (script_form program options.threads) (script_decided program options.threads) held s
+    (AfterScript options held s c (IsAbsent held) program) a b (told s)
+    (λ _ plan _ p q. one_after_script one_end one_replay options held s c bytes program plan a b told accepted p q) x y
 
 same_command : IsDecided image_form → OneEnd → OneReplay → (held : List ℕ → Entry) (a b : Outcome) → TellsAll held → (command : Command)
     → Comes (λ name. held name ≡ Absent) held command a → Comes (λ name. held name ≡ Absent) held command b → a ≡ b
-same_command image one_end one_replay held a b told (Sim i s c) x y =
-    one_take first_run_form (first_run_decided image) held i (AfterImage held s c) a b (told i)
-    (λ bytes program reads p q. one_after_image one_end one_replay held s c bytes program a b told reads.accepted p q) x y
+same_command image one_end one_replay held a b told (Sim i s c options) x y =
+    one_take image_form image held i (AfterImage options held s c (IsAbsent held)) a b (told i)
+    (λ bytes program reads p q. one_after_image one_end one_replay options held s c bytes program a b told reads p q) x y
 same_command image one_end one_replay held a b told (Plain i options) x y =
-    one_take image_form image held i (PlainTexts options) a b (told i)
-    (λ bytes program reads p q. one_plain_text one_end bytes program options a b reads p q) x y
+    one_take image_form image held i (λ program. Prints (PlainPrints program options)) a b (told i)
+    (λ bytes program reads p q. one_prints a b (PlainPrints program options) (λ t u. one_plain one_end bytes program options t u reads) p q) x y
 same_command image one_end one_replay held a b told (Extract i) x y =
     one_take image_form image held i (λ program outcome. outcome ≡ Done [] (extract_text program)) a b (told i)
     (λ bytes program reads p q. p ∙ sym q) x y

@@ -1,14 +1,10 @@
 -- The names of the outputs that words mean are those that the words have.
 use Rattle.std.proofs.Common.{◌≡◌, ℕ, List, [], ◌∷◌, Contains, map, Some, inl, inr, ap, subst}
 use Rattle.xray_io.specs.Desk.{Entry, Absent}
-use Rattle.patch_script.specs.declared.command.Command.{Command}
-use Rattle.step_sim.specs.declared.turns.Turns.{Turns}
 use Rattle.xray_image.specs.Extract.{extract_text}
-use Rattle.xray_image.specs.Program.{Program}
-use Rattle.xray_program.specs.declared.words.RunOptions.{RunOptions}
-use Rattle.xray_program.specs.FirstRun.{SimPrints}
-use Rattle.xray_program.specs.Inputs.{Form, image_form, first_run_form, script_form, schedule_form, text_form}
-use Rattle.xray_program.specs.Meaning.{Outcome, Done, Take, Comes}
+use Rattle.xray_program.specs.Inputs.{Form, image_form, script_form, schedule_form, text_form}
+use Rattle.xray_program.specs.Meaning.{Outcome, Done, Prints, Replays, Take, Comes}
+use Rattle.xray_program.proofs.SimTurns.{AfterImage, AfterScript, replay_done}
 use Rattle.xray_program.specs.Plain.{PlainPrints}
 use Rattle.xray_program.specs.Words.{Sim, Plain, Extract, Asm, outputs_named, outputs_of, reading}
 use Rattle.xray_program.specs.Words as words
@@ -30,27 +26,18 @@ named_alike : (one other : List (List ℕ × List ℕ)) (text text' : List ℕ) 
     → names_of one ≡ names_of other
 named_alike one other text text' is = let same : one ≡ other = cc in ap names_of same
 
--- what comes of the inputs of each command
-abbrev Printing : Program → List Command → List Turns → Outcome → Type 0
-Printing program commands turns outcome = (text : List ℕ) × SimPrints program commands turns text × (outcome ≡ Done [] text)
-
-abbrev Plainly : RunOptions → Program → Outcome → Type 0
-Plainly options program outcome = (text : List ℕ) × PlainPrints program options text × (outcome ≡ Done [] text)
-
 -- the outputs of a command have the names that it has for them
 outputs_are_named : (fails : List ℕ → Type 0) (held : List ℕ → Entry) (command : words.Command)
     (outputs : List (List ℕ × List ℕ)) (text : List ℕ) → Comes fails held command (Done outputs text)
     → names_of outputs ≡ outputs_of command
-outputs_are_named fails held (Sim i s c) outputs text comes =
-    let first = done_with first_run_form fails held i
-    (λ program. Take script_form fails held s (λ commands. Take (schedule_form 1) fails held c (Printing program commands)))
-    outputs text comes in
-    let second = done_with script_form fails held s
-    (λ commands. Take (schedule_form 1) fails held c (Printing first.0 commands)) outputs text first.1 in
-    let third = done_with (schedule_form 1) fails held c (Printing first.0 second.0) outputs text second.1 in
-    named_alike outputs [] text third.1.0 third.1.2
+outputs_are_named fails held (Sim i s c options) outputs text comes =
+    let first = done_with image_form fails held i (AfterImage options held s c fails) outputs text comes in
+    let second = done_with (script_form first.0 options.threads) fails held s (AfterScript options held s c fails first.0) outputs text first.1 in
+    let third = done_with (schedule_form options.threads) fails held c (Replays s options first.0 second.0) outputs text second.1 in
+    let printed = replay_done s options first.0 second.0 third.0 outputs text third.1 in
+    named_alike outputs [] text printed.1.0 printed.1.2
 outputs_are_named fails held (Plain i options) outputs text comes =
-    let first = done_with image_form fails held i (Plainly options) outputs text comes in
+    let first = done_with image_form fails held i (λ program. Prints (PlainPrints program options)) outputs text comes in
     named_alike outputs [] text first.1.0 first.1.2
 outputs_are_named fails held (Extract i) outputs text comes =
     let first = done_with image_form fails held i (λ program outcome. outcome ≡ Done [] (extract_text program)) outputs text comes in

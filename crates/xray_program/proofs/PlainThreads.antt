@@ -1,15 +1,15 @@
 -- Plain runs of threads, and their texts.
-use Rattle.std.proofs.Common.{◌≡◌, ◌⊎◌, ◌+◌, ◌++◌, ◌∙◌, ℕ, suc, List, [], ◌∷◌, length, map, Option, option_map, Some, None, zero, inl, inr, refl, sym, ap, subst}
+use Rattle.std.proofs.Common.{◌≡◌, ◌⊎◌, ◌+◌, ◌++◌, ◌∙◌, ℕ, suc, List, [], ◌∷◌, length, map, Some, zero, inl, inr, refl, sym, ap, subst}
 use Rattle.std.specs.List.{flat_map, slice_get}
 use Rattle.std.proofs.lemmas.List.{length-map, length_push}
 use Rattle.std.proofs.lemmas.List.Elements.{All-nil, All-push}
-use Rattle.std.proofs.lemmas.Option.{slice_get-map}
 use Rattle.xray_image.specs.Program.{Program}
 use Rattle.machine_step.specs.declared.plain_end.PlainEnd.{PlainEnd}
 use Rattle.machine_step.specs.PlainEnd.{IsPlainEnd}
 use Rattle.xray_program.specs.declared.words.RunOptions.{RunOptions}
 use Rattle.xray_program.specs.Jobs.{AreEnds, HasRegisters, end_text}
 use Rattle.xray_program.specs.Plain.{IsPlainText, PlainPrints, limits_of}
+use Rattle.xray_program.proofs.TextLists.{HasItem, item_behind, joined_texts}
 
 -- what is printed of an end is what is printed of the last state of its run
 pub same_text : (program : Program) (options : RunOptions) (thread : ℕ) (e : PlainEnd)
@@ -63,17 +63,9 @@ pub prints_all : (program : Program) (options : RunOptions) (ends : List PlainEn
 prints_all program options ends are = record {
   texts = map end_text ends;
   count = length-map ends end_text ∙ are.count;
-  each = λ k t at. at_place k t (slice_get ends k) refl (sym (slice_get-map end_text ends k) ∙ at);
-  joined = texts_joined ends;
+  each = λ k t at.
+      let item = item_behind end_text ends k t at in
+      subst (IsPlainText program (limits_of options) (k + 1)) item.value
+      (same_text program options (k + 1) item.item (are.each k item.item item.found));
+  joined = joined_texts end_text ends;
 }
-  where
-    at_place : (k : ℕ) (t : List ℕ) (found : Option PlainEnd) → slice_get ends k ≡ found → option_map end_text found ≡ Some t
-        → IsPlainText program (limits_of options) (k + 1) t
-    at_place k t None is at = absurd cc
-    at_place k t (Some e) is at =
-        let text : end_text e ≡ t = cc in
-        subst (IsPlainText program (limits_of options) (k + 1)) text (same_text program options (k + 1) e (are.each k e is))
-
-    texts_joined : (ends : List PlainEnd) → flat_map end_text ends ≡ flat_map (λ t. t) (map end_text ends)
-    texts_joined [] = refl
-    texts_joined (e ∷ ends) = ap (λ (texts : List ℕ). end_text e ++ texts) (texts_joined ends)

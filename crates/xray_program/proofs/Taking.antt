@@ -8,9 +8,11 @@ use Rattle.xray_io.specs.declared.faults.ReadError.{ReadError}
 use Rattle.xray_io.specs.declared.faults.ReadError.TheVariants as reading
 use Rattle.xray_program.specs.declared.stop.Stop.{Stop}
 use Rattle.xray_program.specs.declared.stop.Stop.TheVariants as stops
-use Rattle.xray_program.specs.Inputs.{Form, IsNotYet}
+use Rattle.xray_program.specs.Inputs.{Form}
 use Rattle.xray_program.specs.Meaning.{Outcome, Unread, TooLong, Refused, Take, MayHold, status_of}
 use Rattle.xray_program.specs.Stops.{kind_text, refusal_text, stop_status, answer_of}
+use Rattle.xray_program.specs.declared.taken.Taken.{Taken}
+use Rattle.xray_program.specs.Taken.{IsTakenSoFar}
 use Rattle.xray_program.specs.Takes.{Gives, GivesBytes, IsTooLong, Rejects, FailsToRead, Fails, IsReadStop, Stops, IsAnswerSoFar}
 
 -- a name with too many bytes may hold bytes that are too many
@@ -32,20 +34,6 @@ fails_to_read limit held name before now error (stops.TooLong n) long fault (sam
 fails_to_read limit held name before now error (stops.Refused n k refusal) long fault so = so
 fails_to_read limit held name before now error (stops.Unwritten n) long fault so = so
 fails_to_read limit held name before now error stops.NoMemory long fault so = tt
-
--- ---- inputs that are of a form or not yet
-
--- bytes that read as none
-pub rejects_form : {X : Type 0} (kind : List ℕ) (limit : ℕ) (Reads : List ℕ → X → Type 0) (entry : Entry) (bytes : List ℕ)
-    → GivesBytes limit entry bytes → ((value : X) → Reads bytes value → ⊥)
-    → Rejects (record { kind = kind; limit = limit; Reads = Reads; Refuses = IsNotYet Reads }) entry (codes "NotYet")
-rejects_form kind limit Reads entry bytes given none = record {
-  bytes = bytes;
-  held = given.held;
-  within = given.within;
-  refused = (none, refl);
-  none = none;
-}
 
 -- ---- what comes of a command by the turns of its inputs
 
@@ -188,3 +176,8 @@ pub answers_result : {X : Type 0} (P : ℕ → Type 0) (result : Result X Stop) 
     → IsErrAnd result (λ s. s ≡ stop) → P (stop_status stop) → P (answer_of result)
 answers_result P (Ok value) stop is holds = absurd is
 answers_result P (Err s) stop is holds = rw is holds
+
+pub taken_result : (before now : ℕ) (outcome : Outcome) (result : Result Taken Stop) (stop : Stop)
+    → IsErrAnd result (λ s. s ≡ stop) → IsAnswerSoFar before now outcome (stop_status stop) → IsTakenSoFar before now outcome result
+taken_result before now outcome (Ok taken) stop is holds = absurd is
+taken_result before now outcome (Err s) stop is holds = rw is holds

@@ -1,5 +1,5 @@
 -- Assembler texts in their turn.
-use Rattle.std.proofs.Common.{◌≡◌, ◌≢◌, ◌⊎◌, ◌<◌, ◌≤◌, ℕ, List, [], ◌∷◌, length, Result, Ok, Err, Vec, inl, inr, refl, sym, ap, ◌∙◌, arith}
+use Rattle.std.proofs.Common.{◌≡◌, ◌≢◌, ◌⊎◌, ◌<◌, ◌≤◌, ℕ, List, [], ◌∷◌, length, Result, Ok, Err, Vec, inl, inr, refl, sym, ap, ◌∙◌, arith, codes}
 use Rattle.std.specs.declared.alloc.Global.{Global}
 use Rattle.std.specs.List.{slice_split}
 use Rattle.std.specs.Str.Lines.{lines, lines_of_parts}
@@ -10,11 +10,13 @@ use Rattle.xray_io.specs.Desk.{Entry}
 use Rattle.asm_text.specs.declared.fault.AsmFault.{AsmFault}
 use Rattle.asm_text.specs.declared.fault.AsmFault.TheVariants as faults
 use Rattle.asm_text.specs.Assembling.{assembled, seen}
+use Rattle.xray_program.specs.declared.refusal.Refusal.TheVariants.{Unassembled}
+use Rattle.xray_program.specs.declared.stop.Kind.TheVariants.{Text}
 use Rattle.xray_program.specs.declared.stop.Stop.{Stop}
-use Rattle.xray_program.specs.declared.stop.Stop.TheVariants as stops
 use Rattle.xray_program.specs.Faults.{asm_fault_text}
 use Rattle.xray_program.specs.Inputs.{text_form}
-use Rattle.xray_program.specs.Takes.{Gives, GivesBytes, Rejects, Fails, IsTextStop}
+use Rattle.xray_program.specs.Takes.{Gives, GivesBytes, Fails, IsFaultStop}
+use Rattle.xray_program.proofs.AnswerTurns.{gives_answer, fails_answer}
 
 -- a text has at most one line more than bytes
 lines_of_few : (parts : List (List ℕ)) → length (lines_of_parts parts) ≤ length parts
@@ -57,38 +59,13 @@ pub gives_text : (threshold : ℕ) (entry : Entry) (bytes : List ℕ) (file : Ve
     → GivesBytes 4194304 entry bytes → Assembler bytes threshold result → result ≡ Ok file
     → Gives (text_form threshold) entry file.items
 gives_text threshold entry bytes file result given assembler is =
-    let made = file_made threshold bytes file result assembler is in
-    record {
-      bytes = bytes;
-      held = given.held;
-      within = given.within;
-      reads = made;
-      only = λ other reads. cc (made, reads);
-      unrefused = λ refusal refused. cc (made, refused.1);
-    }
-
--- a text that is refused for a fault
-rejects_text : (threshold : ℕ) (entry : Entry) (bytes : List ℕ) (fault : AsmFault) (result : Answer)
-    → GivesBytes 4194304 entry bytes → Assembler bytes threshold result → result ≡ Err fault → fault ≢ faults.NoMemory
-    → Rejects (text_form threshold) entry (asm_fault_text fault)
-rejects_text threshold entry bytes fault result given assembler is named =
-    let made = fault_made threshold bytes fault result assembler is named in
-    record {
-      bytes = bytes;
-      held = given.held;
-      within = given.within;
-      refused = (fault, made, refl);
-      none = λ file reads. cc (made, reads);
-    }
+    gives_answer (codes "text") 4194304 (λ b. assembled b threshold) asm_fault_text entry bytes file.items given
+    (file_made threshold bytes file result assembler is)
 
 -- the stop that a fault comes to
 pub fails_text : (threshold : ℕ) (held : List ℕ → Entry) (name : List ℕ) (before now : ℕ) (bytes : List ℕ) (fault : AsmFault)
     (result : Answer) (stop : Stop) → GivesBytes 4194304 (held name) bytes → Assembler bytes threshold result → result ≡ Err fault
-    → IsTextStop name fault stop → Fails (text_form threshold) held name before now stop
-fails_text threshold held name before now bytes fault result stops.BadLine given assembler is so = so
-fails_text threshold held name before now bytes fault result (stops.Unread n) given assembler is so = absurd so
-fails_text threshold held name before now bytes fault result (stops.TooLong n) given assembler is so = absurd so
-fails_text threshold held name before now bytes fault result (stops.Refused n kind refusal) given assembler is (same, kinds, refusals, named) =
-    (same, rw kinds refl, rw refusals (rejects_text threshold (held name) bytes fault result given assembler is named))
-fails_text threshold held name before now bytes fault result (stops.Unwritten n) given assembler is so = so
-fails_text threshold held name before now bytes fault result stops.NoMemory given assembler is so = tt
+    → IsFaultStop Text Unassembled faults.NoMemory name fault stop → Fails (text_form threshold) held name before now stop
+fails_text threshold held name before now bytes fault result stop given assembler is so =
+    fails_answer Text Unassembled faults.NoMemory 4194304 (λ b. assembled b threshold) held name before now bytes fault stop given
+    (λ named. fault_made threshold bytes fault result assembler is named) so

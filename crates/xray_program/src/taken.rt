@@ -61,7 +61,7 @@ pub(crate) fn take<'a, D: Desk>(
     desk: &mut D,
     command: Command<'a>,
 ) -> Result<Taken<'a>, Stop<'a>>
-    requires { HasThreads command.entry }
+    requires { HasThreads command }
     ensures gives { IfOk result (λ taken. (outcome : Outcome) → Yields taken outcome
         → Comes (λ name. D.held desk.old name ≡ Absent)
         (D.held desk.old) (command_of command.entry) outcome) }

@@ -101,7 +101,7 @@ pub(crate) enum Command<'a> {
 /// The command that words say, which don't hold the program's own name; `None` where they say none.
 pub(crate) fn read_words(words: &[String]) -> Option<Command<'_>>
     ensures reads { option_map command_of result ≡ reading (texts words.now) }
-    ensures runs { IfSome result (λ command. HasThreads command.entry) }
+    ensures runs { IfSome result (λ command. HasThreads command) }
 {
     let (command, rest) = words.split_first()?;
     match command.as_str() {
@@ -116,7 +116,7 @@ pub(crate) fn read_words(words: &[String]) -> Option<Command<'_>>
 /// `plain IMAGE`, with the options of commands that run threads.
 fn read_plain(words: &[String]) -> Option<Command<'_>>
     ensures reads { option_map command_of result ≡ plain_of (items_of (texts words.now)) }
-    ensures runs { IfSome result (λ command. HasThreads command.entry) }
+    ensures runs { IfSome result (λ command. HasThreads command) }
 {
     if !have_run_options(words) {
         return None;
@@ -129,6 +129,7 @@ fn read_plain(words: &[String]) -> Option<Command<'_>>
 /// `extract IMAGE`.
 fn read_extract(words: &[String]) -> Option<Command<'_>>
     ensures reads { option_map command_of result ≡ extract_of (items_of (texts words.now)) }
+    ensures runs { IfSome result (λ command. HasThreads command) }
 {
     if !have_only(&[], words) {
         return None;
@@ -140,7 +141,7 @@ fn read_extract(words: &[String]) -> Option<Command<'_>>
 /// `sim IMAGE SCRIPT SCHEDULE`, with the options of commands that run threads.
 fn read_sim(words: &[String]) -> Option<Command<'_>>
     ensures reads { option_map command_of result ≡ sim_of (items_of (texts words.now)) }
-    ensures runs { IfSome result (λ command. HasThreads command.entry) }
+    ensures runs { IfSome result (λ command. HasThreads command) }
 {
     if !have_run_options(words) {
         return None;
@@ -164,6 +165,7 @@ fn read_sim(words: &[String]) -> Option<Command<'_>>
 /// `asm TEXT IMAGE`, with its threshold. The image has another name than the text.
 fn read_asm(words: &[String]) -> Option<Command<'_>>
     ensures reads { option_map command_of result ≡ asm_of (items_of (texts words.now)) }
+    ensures runs { IfSome result (λ command. HasThreads command) }
 {
     if !have_only(&[THRESHOLD.name], words) {
         return None;

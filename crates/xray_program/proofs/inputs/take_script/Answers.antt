@@ -1,16 +1,26 @@
-use Rattle.std.proofs.Common.{refl}
-use Rattle.std.proofs.lemmas.Bool.{false≢true}
-use Rattle.xray_program.specs.Inputs.{ReadsScript}
-use Rattle.xray_program.specs.Stops.{kind_text}
+use Rattle.std.proofs.Common.{codes, arith}
+use Rattle.patch_script.specs.Plans.{plan_of}
+use Rattle.patch_script.specs.declared.fault.ScriptFault.TheVariants.{NoMemory}
+use Rattle.xray_program.specs.declared.refusal.Refusal.TheVariants.{Unscripted}
 use Rattle.xray_program.specs.declared.stop.Kind.TheVariants.{Script}
-use Rattle.xray_program.proofs.Taking.{rejects_form}
+use Rattle.xray_program.specs.Faults.{script_fault_text}
+use Rattle.xray_program.proofs.AnswerTurns.{answered, refused, gives_answer, fails_answer}
+use Rattle.xray_program.proofs.TextTurns.{few_lines}
 use Rattle.xray_program.proofs.inputs.take_script.Goals as goal
+
+pub read_script-requires-clause-few_lines : goal.read_script-requires-clause-few_lines
+read_script-requires-clause-few_lines g c =
+    let given = rw (← c.deref.ensures.value) at c.in_ok-bytes.ensures.gives in
+    few_lines c.deref.result.now (omega (arith, given.within))
+
+pub returns-in-Ok-clause-gives : goal.returns-in-Ok-clause-gives
+returns-in-Ok-clause-gives g c =
+    let given = rw (← c.deref.ensures.value) at c.in_ok-bytes.ensures.gives in
+    gives_answer (codes "script") 1048576 (plan_of c.args.image.now c.args.threads) script_fault_text _ c.deref.result.now _ given
+    (answered NoMemory _ c.read_script.result _ c.read_script.ensures.reads c.in-Ok.is)
 
 pub returns-clause-fails : goal.returns-clause-fails
 returns-clause-fails g c =
-    let given = rw (← c.deref.ensures.value) at c.in_ok-bytes.ensures.gives in (
-      refl,
-      refl,
-      rejects_form (kind_text Script) 1048576 ReadsScript _ c.deref.result.now given
-          (λ value reads. false≢true (rw c.in-Err.is at (c.read_script.ensures.complete value reads))),
-    )
+    let given = rw (← c.deref.ensures.value) at c.in_ok-bytes.ensures.gives in
+    fails_answer Script Unscripted NoMemory 1048576 (plan_of c.args.image.now c.args.threads) (g.D.Desk.held c.args.desk.now) c.args.name.now _ _
+    c.deref.result.now _ _ given (refused NoMemory _ c.read_script.result _ c.read_script.ensures.reads c.in-Err.is) c.script_stop.ensures

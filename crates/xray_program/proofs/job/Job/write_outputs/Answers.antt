@@ -2,9 +2,9 @@ use Rattle.xray_program.specs.Jobs.{job_outputs}
 use Rattle.xray_program.proofs.Outputting.{none_whole, is_other}
 use Rattle.xray_program.proofs.job.Job.write_outputs.Goals as goal
 
-pub returns-in-State-clause-whole : goal.returns-in-State-clause-whole
+pub returns-in-States-clause-whole : goal.returns-in-States-clause-whole
 unfolding job_outputs
-returns-in-State-clause-whole g c = rw c.in-State.is (none_whole (g.D.Desk.held c.args.desk.now) (g.D.Desk.held c.args.desk.now))
+returns-in-States-clause-whole g c = rw c.in-States.is (none_whole (g.D.Desk.held c.args.desk.now) (g.D.Desk.held c.args.desk.now))
 
 pub returns-in-Ends-clause-whole : goal.returns-in-Ends-clause-whole
 unfolding job_outputs
@@ -17,14 +17,12 @@ returns-in-SledMap-clause-whole g c = rw c.in-SledMap.is (none_whole (g.D.Desk.h
 pub returns-in-Image-clause-whole : goal.returns-in-Image-clause-whole
 unfolding job_outputs
 returns-in-Image-clause-whole g c =
-    let whole = rw c.deref.ensures.value at c.write_output.ensures.whole in
-    rw c.in-Image.is whole
+    rw c.in-Image.is c.write_output.ensures.whole
 
 pub returns-in-Image-clause-stops : goal.returns-in-Image-clause-stops
 unfolding job_outputs
 returns-in-Image-clause-stops g c =
-    let stops = rw c.deref.ensures.value at c.write_output.ensures.stops in
-    rw c.in-Image.is stops
+    rw c.in-Image.is c.write_output.ensures.stops
 
 pub returns-in-Image-clause-others : goal.returns-in-Image-clause-others
 unfolding job_outputs

@@ -1,0 +1,31 @@
+use Rattle.std.proofs.Common.{refl}
+use Rattle.std.specs.List.{flat_map}
+use Rattle.xray_program.specs.Jobs.{end_text, job_outputs, job_text, IsPrintable}
+use Rattle.xray_program.proofs.PlainThreads.{prints_all}
+use Rattle.xray_program.proofs.taken.Taken.prepare.Goals as goal
+
+pub returns-in-Ok-clause-ready : goal.returns-in-Ok-clause-ready
+unfolding job_outputs job_text
+returns-in-Ok-clause-ready c =
+    rw c.in-Plain.is
+    (flat_map end_text c.in-Ok.ends.items, prints_all _ c.in-Plain.options c.in-Ok.ends.items c.in-Ok.ensures, refl)
+
+pub returns-in-Ok-clause-printable : goal.returns-in-Ok-clause-printable
+unfolding IsPrintable
+returns-in-Ok-clause-printable c = c.in-Ok.ensures.registers
+
+pub returns-in-Extract-clause-ready : goal.returns-in-Extract-clause-ready
+unfolding job_outputs job_text
+returns-in-Extract-clause-ready c = rw c.in-Extract.is refl
+
+pub returns-in-Extract-clause-printable : goal.returns-in-Extract-clause-printable
+unfolding IsPrintable
+returns-in-Extract-clause-printable c = tt
+
+pub returns-in-Asm-clause-ready : goal.returns-in-Asm-clause-ready
+unfolding job_outputs job_text
+returns-in-Asm-clause-ready c = rw (c.in-Asm.is, c.deref.ensures.value) refl
+
+pub returns-in-Asm-clause-printable : goal.returns-in-Asm-clause-printable
+unfolding IsPrintable
+returns-in-Asm-clause-printable c = tt
