@@ -16,10 +16,10 @@ const STRAIGHT_LINE: &str = "base 0x1000\nfn main always\nmov eax, 65\nout 1\nre
 const ODD_EXIT: &str = "base 0x1000\nfn main always\nout 0\nret\n";
 
 /// A call over an alignment byte.
-const CALL: &str = "base 0x1000\nfn main always\ncall f\nret\nfn f always\nret\n";
+pub const CALL: &str = "base 0x1000\nfn main always\ncall f\nret\nfn f always\nret\n";
 
 /// A tail jump to the next function.
-const TAIL_JUMP: &str = "base 0x1000\nfn a always\ntailjmp b\nfn b always\nret\n";
+pub const TAIL_JUMP: &str = "base 0x1000\nfn a always\ntailjmp b\nfn b always\nret\n";
 
 /// A recursive function behind one without sleds.
 const FIBONACCI: &str = "base 0x1000\nentry main\nfn main never\nmov edi, 20\ncall fib\nret\n\
@@ -65,16 +65,18 @@ const FIBONACCI_CODE: &[u8] = &[
     0xC3, 0x2E, 0x66, 0x0F, 0x1F, 0x84, 0x00, 0x00, 0x02, 0x00, 0x00, //
 ];
 
-/// What thread 1 leaves, text by text.
+/// What thread 1 leaves of an odd exit, but for its marks.
 const ODD_EXIT_END: &str = "thread 1 returned instructions 2 passings 2\n\
     rax=0 rcx=0 rdx=0 rbx=0 rbp=0 rsi=0 rdi=1 r8=0 r9=0 r11=0 r12=0 r13=0 r14=0 r15=0 zf=0\n\
     output 00\n";
 
-const CALL_END: &str = "thread 1 returned instructions 3 passings 4\n\
+/// What thread 1 leaves of the call, but for its marks.
+pub const CALL_END: &str = "thread 1 returned instructions 3 passings 4\n\
     rax=0 rcx=0 rdx=0 rbx=0 rbp=0 rsi=0 rdi=1 r8=0 r9=0 r11=0 r12=0 r13=0 r14=0 r15=0 zf=0\n\
     output -\n";
 
-const TAIL_JUMP_END: &str = "thread 1 returned instructions 2 passings 4\n\
+/// What thread 1 leaves of the tail jump, but for its marks.
+pub const TAIL_JUMP_END: &str = "thread 1 returned instructions 2 passings 4\n\
     rax=0 rcx=0 rdx=0 rbx=0 rbp=0 rsi=0 rdi=1 r8=0 r9=0 r11=0 r12=0 r13=0 r14=0 r15=0 zf=0\n\
     output -\n";
 

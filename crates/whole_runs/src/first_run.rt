@@ -42,16 +42,18 @@ fn a_desk_that_gives_one_byte_a_read_changes_nothing(rt: HostRuntime) -> Result<
 
 /// The names show that no input is opened before the one before it was judged.
 #[test]
-fn an_input_that_is_not_of_the_form_is_refused_in_its_turn(rt: HostRuntime) -> Result<(), Fail> {
+fn an_input_that_is_not_what_it_has_to_be_is_refused_in_its_turn(
+    rt: HostRuntime,
+) -> Result<(), Fail> {
     let cut = &IMAGE[..63];
     assert_refused(&rt, cut, SCRIPT, SCHEDULE, "xray: i: image Short\n", "i")?;
-    assert_refused(&rt, cut, "go", "t 1", "xray: i: image Short\n", "i")?;
+    assert_refused(&rt, cut, "patch", "t 1", "xray: i: image Short\n", "i")?;
     assert_refused(
         &rt,
         &IMAGE,
-        "go",
+        "patch",
         SCHEDULE,
-        "xray: s: script NotYet\n",
+        "xray: s: script Go 2\n",
         "is",
     )?;
     assert_refused(
@@ -174,7 +176,7 @@ fn an_output_that_fails_is_a_write_fault(rt: HostRuntime) -> Result<(), Fail> {
 
 #[test]
 fn a_failure_of_err_changes_nothing_else(rt: HostRuntime) -> Result<(), Fail> {
-    let mut desk = desk_of(rt.alloc(), &[], &IMAGE, "go", SCHEDULE)?;
+    let mut desk = desk_of(rt.alloc(), &[], &IMAGE, "patch", SCHEDULE)?;
     let run = run_words(&rt, &SIM, &mut desk, &[], &[0])?;
     assert_eq!(rt; run.status, 2);
     assert_eq!(rt; run.out.as_str(), "");

@@ -12,3 +12,5 @@ mod first_run;
 mod plain;
 #[cfg(test)]
 mod runs;
+#[cfg(test)]
+mod sim;

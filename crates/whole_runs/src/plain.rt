@@ -146,8 +146,7 @@ fn words_that_lack_a_value_or_a_name_are_a_bad_line(rt: HostRuntime) -> Result<(
     assert_bad_line(&rt, &["plain", "--", "i", "--fuel", "1"])?;
     assert_bad_line(&rt, &["plain", "i", "--help"])?;
     assert_bad_line(&rt, &["plain"])?;
-    assert_bad_line(&rt, &["extract", "i", "--threads", "1"])?;
-    assert_bad_line(&rt, &["sim", "i", "s", "c", "--fuel", "1"])
+    assert_bad_line(&rt, &["extract", "i", "--threads", "1"])
 }
 
 #[test]
@@ -196,11 +195,9 @@ fn an_image_is_refused_with_the_values_of_its_fault(rt: HostRuntime) -> Result<(
 
 /// A call and two returns are counted as instructions, and the four sleds as passings.
 #[test]
-fn an_image_with_a_call_is_run_and_not_yet_replayed(rt: HostRuntime) -> Result<(), Fail> {
+fn an_image_with_a_call_is_run(rt: HostRuntime) -> Result<(), Fail> {
     let mut image = CALLS_PAST_A_START;
     image[CODE + 12] = 0x0C;
-    let words = ["sim", "i", "s", "c"];
-    assert_stops(&rt, &words, &image, 2, "xray: i: image NotYet\n")?;
     let mut desk = image_desk(rt.alloc(), &image)?;
     let run = run_words(&rt, &["plain", "i"], &mut desk, &[], &[])?;
     assert_eq!(rt; run.status, 0);

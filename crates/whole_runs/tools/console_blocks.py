@@ -7,7 +7,7 @@ usage: crates/whole_runs/tools/console_blocks.py [PROGRAM]
 In a block ```console a line that begins with `$ ` is a command, and the lines behind it are what it prints, on standard
 output and standard error, up to the next command. Each document has one shell, so that a command finds the files and the
 folder that those before it left. The tour of README.md begins at the top of a copy of the examples; the other documents
-begin in a folder with the files of examples/first-run and examples/asm. A difference is told with its document and line,
+begin in a folder with the files of all examples. A difference is told with its document and line,
 and then the status is 1.
 """
 import argparse
@@ -21,7 +21,7 @@ import tempfile
 ROOT = next(folder for folder in pathlib.Path(__file__).resolve().parents if (folder / "crates.txt").is_file())
 TOUR = "README.md"
 MANUALS = ["docs/COMMANDS.md", "docs/FORMATS.md"]
-EXAMPLES = ["first-run", "asm"]
+EXAMPLES = ["first-run", "asm", "live-patching"]
 # What the shell prints behind each command, on a line of its own.
 MARK = "---- console_blocks: done ----"
 

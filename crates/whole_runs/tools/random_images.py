@@ -1,5 +1,5 @@
-"""Random image files for comparisons with the model: of random assembler texts, of random units, of the form that `sim`
-runs, and damaged in all the ways in which an image is refused.
+"""Random image files for comparisons with the model: of random assembler texts, of random units, of functions that call
+each other, and damaged in all the ways in which an image is refused.
 """
 import dataclasses
 import importlib.util
@@ -182,36 +182,22 @@ def units_draft(draw):
     return Draft(base, units.code, functions, entries, draw.randrange(len(functions)), trampolines)
 
 
-def replayed_draft(draw):
-    """An image of the form that `sim` runs, or nearly so."""
-    base = 16 * texts.up_to(draw, model.BASE_LIMIT // 16)
-    code = bytearray(ENTRY_SLED + draw.randbytes(4))
-    for _ in range(draw.randint(0, 8)):
-        register = draw.choice(PLAIN_REGISTERS)
-        high = b"\x41" if register >= 8 else b""
-        move = high + bytes([0xB8 + register % 8]) + struct.pack("<I", number_32(draw))
-        code += draw.choice([move, bytes([0xE6, draw.randrange(256)])])
-    if draw.random() < 0.08:
-        code += straight(draw)
-    if len(code) % 2 == 1:
-        code += b"\x90"
-    elif draw.random() < 0.05:
-        code += b"\x90\x90"
-    second = len(code)
-    code += EXIT_SLED + draw.randbytes(4)
-    if draw.random() < 0.05:
-        code += draw.choice([b"\x90", b"\x50", b"\xC3"])
-    kind = draw.choice([0, 0, 0, 2])
-    rows = [(0, kind), (second, 1)]
-    functions = [[base, draw.choice([b"main", b"f", b"n" * 255])]]
-    if draw.random() < 0.05:
-        functions.append([base + second, b"second"])
-    entries = [
-        [base + place, functions[-1][0] if place else base, kind, draw.choice([0, 1]), draw.choice([0, 1]), bytes(13)]
-        for place, kind in rows
-    ]
-    trampolines = [base + 0x200000 + 16 * number for number in range(4)]
-    return Draft(base, code, functions, entries, draw.randrange(len(functions)), trampolines)
+BETWEEN_CALLS = ["mov eax, 7", "add rax, rdi", "sub rdi, rax", "out 1"]
+
+
+def calling_draft(draw):
+    """Functions with sleds that call one another, so that threads pass many sleds."""
+    names = [f"f{number}" for number in range(draw.randint(1, 5))]
+    lines = [f"base {16 * texts.up_to(draw, model.BASE_LIMIT // 16)}"]
+    for at, name in enumerate(names):
+        later = names[at + 1 :]
+        lines.append(f"fn {name} {'never' if draw.random() < 0.12 else 'always'}")
+        for _ in range(draw.randint(0, 3)):
+            # A call that goes back is a recursion, which the fuel or the stack ends.
+            callees = later if later and draw.random() < 0.95 else names
+            lines += [draw.choice(BETWEEN_CALLS), f"call {draw.choice(callees)}"] if later else [draw.choice(BETWEEN_CALLS)]
+        lines.append(f"tailjmp {draw.choice(later)}" if later and draw.random() < 0.3 else "ret")
+    return draft_of(texts.assembled("\n".join(lines).encode("ascii"), 1))
 
 
 # ---- Damages

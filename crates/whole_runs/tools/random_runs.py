@@ -8,13 +8,13 @@ usage: crates/whole_runs/tools/random_runs.py [PROGRAM] [--runs N] [--seed N] [-
     --jobs: how many runs at a time, 2 if left out
 
 The model is xray_model.py, written from docs/FORMATS.md and docs/COMMANDS.md alone. The images are of random programs,
-by the assembler's own model, of random units, or of the form that `sim` runs. Many are damaged in one place or two: a field
-of the header, the code, a function, a name, a map entry, a trampoline, a branch, or the file's length. Assembler texts,
+by the assembler's own model, of random units, or of functions that call each other. Many are damaged in one place or two: a
+field of the header, the code, a function, a name, a map entry, a trampoline, a branch, or the file's length. Assembler texts,
 scripts, schedules and command lines are written in all ways, and many are wrong. Inputs are files, pipes, folders, or
 aren't there; an output may be there already, and it or standard output may refuse all. Some runs are at a limit, or one
 past it. Compared are the status, standard output and standard error, and all files that are there at the end. The last
-lines say how often each answer came. A difference is told with the folder that its files are kept in, and the status is
-then 1.
+lines say how often each answer, each end of a thread and each mark came. A difference is told with the folder that its files
+are kept in, and the status is then 1.
 """
 import argparse
 import collections
@@ -30,39 +30,11 @@ import tempfile
 sys.dont_write_bytecode = True  # the modules stand in the repository, and their compiled forms don't
 import xray_model as model  # noqa: E402
 from random_images import (  # noqa: E402
-    ENTRY_SLED, EXIT_SLED, Draft, assembled_draft, random_image, replayed_draft, texts, units_draft,
+    ENTRY_SLED, EXIT_SLED, Draft, assembled_draft, calling_draft, random_image, texts, units_draft,
 )  # fmt: skip
+from random_scripts import random_schedule, random_script  # noqa: E402
 
 ROOT = next(folder for folder in pathlib.Path(__file__).resolve().parents if (folder / "crates.txt").is_file())
-
-# ---- Random scripts and schedules
-
-
-def random_script(draw):
-    lines = [["patch"], ["go"], ["unpatch"]]
-    if draw.random() < 0.15:
-        said = ["go", "patch", "unpatch", "patch 1", "Patch", "patch_function 1", "init", "go go", "patch go"]
-        words = draw.choice(said).split()
-        lines = draw.choice([lines + [words], [words] + lines, lines[1:], lines[:2], [lines[1]], [], lines[::-1]])
-    return texts.written(draw, lines)
-
-
-def random_turn(draw):
-    count = draw.choice([1, 1, 2, 2, 3, 4, 5, 5, 6, 9, 4_294_967_295])
-    word = "0" * draw.choice([0, 0, 0, 1, 20]) + str(count)
-    return draw.choice([["t", draw.choice(["1", "1", "1", "01"]), word], ["p", word]])
-
-
-WRONG_TURNS = ["t 1 0", "t 1", "t", "p", "p 0", "p 1 1", "t 2 1", "t 0 1", "t 1 4294967296", "p 4294967296", "t 1 +1", "p -1",
-               "T 1 1", "x 1", "t 1 1 1", "t x 1", "t 1 1x", "p 0x1", "t1 1", "go", "p 1,", "t 1 1 ;"]  # fmt: skip
-
-
-def random_schedule(draw):
-    lines = [random_turn(draw) for _ in range(draw.choice([0, 1, 2, 3, 4, 6, 12]))]
-    if draw.random() < 0.15:
-        lines.insert(draw.randint(0, len(lines)), draw.choice(WRONG_TURNS).split(" "))
-    return texts.written(draw, lines) if lines else draw.choice([b"", b"\n", b"# nothing", b" \t\r\n"])
-
 
 # ---- Random command lines and names
 
@@ -73,8 +45,8 @@ STRANGE_NAMES = [b"--fuel", b"-x", b"--", b"--threads=3"]  # These take a word `
 MISSING = [b"missing", b"", b"folder", b"folder/", b"i/x", b"no/such", b"n" * 256, b"d/" * 2500 + b"x", b"/dev/null/x"]
 
 # By the fuel alone the model ends soon.
-FUELS = [0, 1, 2, 3, 10, 100, 1000, 3000]
-PASSINGS = [0, 1, 2, 3, 50, 1_048_576]
+FUELS = [0, 1, 2, 3, 10, 100, 1000, 1000, 1000, 3000, 3000, 3000]
+PASSINGS = [0, 1, 2, 3, 50, 1_048_576, 1_048_576, 1_048_576]
 WRONG_VALUES = [
     "", "x", "-1", "1.0", "0x1", "1_0", "+", "++1", " 1", "1 ", "1000000001", "18446744073709551616", "17", "\u0661",
 ]  # fmt: skip
@@ -89,22 +61,22 @@ def option(draw, name, value):
     return draw.choice([[f"--{name}", value], [f"--{name}={value}"]])
 
 
-def random_options(draw, command):
+def random_options(draw, command, threads):
     if command == "asm" and draw.random() < 0.7:
         return [option(draw, "threshold", spelled(draw, draw.choice([0, 1, 2, 3, 5, 4_294_967_295])))]
-    if command != "plain":
+    if command not in ("plain", "sim"):
         return []
     options = [option(draw, "fuel", spelled(draw, draw.choice(FUELS)))]
     if draw.random() < 0.4:
         options.append(option(draw, "passings", spelled(draw, draw.choice(PASSINGS))))
-    if draw.random() < 0.4:
-        options.append(option(draw, "threads", spelled(draw, draw.choice([1, 2, 3, 16]))))
+    if threads > 1 or draw.random() < 0.2:
+        options.append(option(draw, "threads", spelled(draw, threads)))
     return options
 
 
-def random_words(draw, command, names):
-    """A command line that means the command with these names, and perhaps one with a fault."""
-    options = random_options(draw, command)
+def random_words(draw, command, names, threads):
+    """A command line that means the command with these names, for so many threads, and perhaps one with a fault."""
+    options = random_options(draw, command, threads)
     needs_dashes = [name in STRANGE_NAMES for name in names]
     items = [[name] for name in names]
     if any(needs_dashes):
@@ -161,20 +133,29 @@ class Case:
 KINDS = {
     "plain": [assembled_draft, units_draft, units_draft],
     "extract": [assembled_draft, units_draft],
-    "sim": [replayed_draft, replayed_draft, replayed_draft, replayed_draft, units_draft],
+    "sim": [calling_draft, calling_draft, calling_draft, calling_draft, assembled_draft, units_draft],
 }
 STDIN = b"/dev/stdin"
 UNWRITABLE = [b"", b"folder", b"no/such", b"n" * 256, b"/dev/full", b"folder/"]
 
 
+def id_count(file):
+    """How many function ids an image has, and one where it is refused."""
+    try:
+        return max(model.image_of(file).ids, default=0)
+    except model.Refused:
+        return 1
+
+
 def random_case(draw):
-    command = draw.choice(["plain", "plain", "extract", "sim", "asm"])
+    command = draw.choice(["plain", "extract", "sim", "sim", "asm"])
+    threads = draw.choice([1, 1, 1, 2, 3, 16])
     if command == "asm":
         contents = [texts.small_text(draw)]
     else:
-        contents = [random_image(draw, KINDS[command], 0.2 if command == "sim" else 0.6)]
+        contents = [random_image(draw, KINDS[command], 0.12 if command == "sim" else 0.6)]
     if command == "sim":
-        contents += [random_script(draw), random_schedule(draw)]
+        contents += [random_script(draw, id_count(contents[0]), threads), random_schedule(draw, threads)]
     names = draw.sample([*NAMES, *STRANGE_NAMES], len(contents))
     if len({name.removeprefix(b"./") for name in names}) < len(names):
         names = [b"i", b"s", b"c"][: len(names)]
@@ -192,7 +173,7 @@ def random_case(draw):
     case = Case([], files, piped, is_output_full=draw.random() < 0.05)
     if command == "asm":
         names.append(random_output(draw, case, names[0]))
-    case.words = random_words(draw, command, names)
+    case.words = random_words(draw, command, names, threads)
     return case
 
 
@@ -228,7 +209,7 @@ def image_file(code, functions=((0, b"main"),), sleds=()):
 
 
 def straight_file(body):
-    """An image of the form that `sim` runs."""
+    """An image of one function with an entry sled and an exit sled."""
     code = ENTRY_SLED + DISPLACEMENT + body
     code += ALIGNMENT * (len(code) % 2)
     return image_file(code + EXIT_SLED + DISPLACEMENT, sleds=[(0, 0), (len(code), 1)])
@@ -254,24 +235,74 @@ def full_image_file(past):
     return Case([b"plain", b"i"], {b"i": file + bytes(model.IMAGE_LIMIT + past - len(file))})
 
 
-def replayed(image=straight_file(OUT), script=PATCH, schedule=b""):
-    return Case([b"sim", b"i", b"s", b"c"], {b"i": image, b"s": script, b"c": schedule})
+def entered_file(count):
+    """An image of so many entry sleds, behind which a thread comes to no unit."""
+    code = (ENTRY_SLED + DISPLACEMENT + ALIGNMENT) * count
+    return image_file(code, sleds=[(12 * sled, 0) for sled in range(count)])
+
+
+def replay(*options, image=straight_file(OUT), script=PATCH, schedule=b""):
+    words = [b"sim", b"i", b"s", b"c", *(str(word).encode() for word in options)]
+    return Case(words, {b"i": image, b"s": script, b"c": schedule})
 
 
 def full_outputs(past):
-    return replayed(image=straight_file(OUT * (model.OUTS_LIMIT + past)))
+    return replay(image=straight_file(OUT * (model.OUTPUT_LIMIT + past)))
 
 
 def full_script(past):
-    return replayed(script=PATCH + b"#" * (model.SCRIPT_LIMIT + past - len(PATCH)))
+    return replay(script=PATCH + b"#" * (model.SCRIPT_LIMIT + past - len(PATCH)))
+
+
+def full_command_list(past):
+    return replay(script=PATCH + b"patch\n" * (model.COMMAND_LIMIT - 3 + past))
+
+
+def full_micro_step_list(past):
+    """As many micro steps as there may be, behind `go`; the schedule leaves one, or none."""
+    script = b"go\n" + b"patch\n" * (model.COMMAND_LIMIT - 1)
+    steps = 4 * model.SLED_LIMIT * (model.COMMAND_LIMIT - 1)
+    return replay(image=entered_file(model.SLED_LIMIT), script=script, schedule=b"p %d\n" % (steps - 1 + past))
 
 
 def full_schedule(past):
-    return replayed(schedule=b"p 2\n".ljust(model.SCHEDULE_LIMIT + past, b"#"))
+    return replay(schedule=b"p 2\n".ljust(model.SCHEDULE_LIMIT + past, b"#"))
 
 
 def full_schedule_lines(past):
-    return replayed(schedule=b"t 1 1\n" * model.LINE_LIMIT + b"#" * past)
+    return replay(schedule=b"t 1 1\n" * model.LINE_LIMIT + b"#" * past)
+
+
+def full_turns(past):
+    most = model.NUMBER_LIMIT
+    return replay(schedule=b"t 1 1\np %d\nt 1 %d\n" % (most, most + past))
+
+
+def full_wait(past):
+    """A count that is no number is looked at before the script's waiting."""
+    most = model.NUMBER_LIMIT
+    return replay(script=b"hold 1 %d\ngo\nawait 1 %d\nrelease 1\n" % (most, most + past))
+
+
+def no_fuel(past):
+    return replay("--fuel", past, schedule=b"t 1 9\n")
+
+
+def full_fuel(past):
+    return replay(f"--fuel={1_000_000_000 + past}")
+
+
+def no_passings(past):
+    return replay("--passings", past, schedule=b"t 1 9\n")
+
+
+def full_passings(past):
+    return replay(f"--passings={1_048_576 + past}")
+
+
+def full_threads(past):
+    """The last thread that there may be runs first."""
+    return replay("--threads", 16 + past, schedule=b"t 16 1\np 1\nt 16 9\np 9\n")
 
 
 def full_stack(past):
@@ -291,8 +322,9 @@ def full_output(past):
 
 
 LIMITS = [
-    full_code, full_function_list, full_sled_map, full_image_file, full_outputs, full_script, full_schedule,
-    full_schedule_lines, full_stack, full_stack_without_fuel, full_output,
+    full_code, full_function_list, full_sled_map, full_image_file, full_outputs, full_script, full_command_list,
+    full_micro_step_list, full_schedule, full_schedule_lines, full_turns, full_wait, no_fuel, full_fuel, no_passings,
+    full_passings, full_threads, full_stack, full_stack_without_fuel, full_output,
 ]  # fmt: skip
 LIMIT_TURNS = [(kind, past) for kind in LIMITS for past in (0, 1)]
 # One run in so many is at a limit or one past it, by turns.
@@ -355,8 +387,18 @@ def answer_of(outcome):
     return f"{outcome.status}: " + " ".join(word for word in told if not word.isdigit())
 
 
+@dataclasses.dataclass(frozen=True)
+class Result:
+    """What kind of answer a run has, how its threads end, their runs of marks, and a line for each difference."""
+
+    answer: str
+    ends: list
+    marks: list
+    told: list
+
+
 def compared(xray, folder, number, seed):
-    """What kind of answer a run has, and a line for each difference; without any, no file is left."""
+    """The result of a run; without a difference, no file is left."""
     case = case_of(number, seed)
     here = folder / str(number)
     here.mkdir()
@@ -373,8 +415,10 @@ def compared(xray, folder, number, seed):
         told.insert(0, f"differs: {here}: {case.words!r}" + (" > /dev/full" if case.is_output_full else ""))
     else:
         shutil.rmtree(here)
-    ends = [line.split()[2] for line in expects.output.decode().splitlines() if line.startswith("thread ")]
-    return answer_of(expects), ends, told
+    printed = [line.split() for line in expects.output.decode().splitlines()]
+    ends = [words[2] for words in printed if words[0] == "thread"]
+    marks = [(run[0], int(run[1:])) for words in printed if words[0] == "marks" for run in words[1:] if run != "-"]
+    return Result(answer_of(expects), ends, marks, told)
 
 
 def main():
@@ -388,19 +432,20 @@ def main():
     if not program.is_file():
         parser.error(f"there is no program {program}")
     folder = pathlib.Path(tempfile.mkdtemp(prefix="random_runs."))
-    answers, ends, differ = collections.Counter(), collections.Counter(), 0
+    answers, ends, marks, differ = collections.Counter(), collections.Counter(), collections.Counter(), 0
     with concurrent.futures.ThreadPoolExecutor(given.jobs) as pool:
-        runs = pool.map(lambda number: compared(program, folder, number, given.seed), range(1, given.runs + 1))
-        for answer, run_ends, told in runs:
-            answers[answer] += 1
-            ends.update(run_ends)
-            differ += bool(told)
-            if told:
-                print("\n    ".join(told))
+        for result in pool.map(lambda number: compared(program, folder, number, given.seed), range(1, given.runs + 1)):
+            answers[result.answer] += 1
+            ends.update(result.ends)
+            for mark, count in result.marks:
+                marks[mark] += count
+            if result.told:
+                differ += 1
+                print("\n    ".join(result.told))
     if not any(folder.iterdir()):
         folder.rmdir()
-    print("answers:", ", ".join(f"{count:,} {answer}" for answer, count in sorted(answers.items())))
-    print("ends of threads:", ", ".join(f"{count:,} {end}" for end, count in sorted(ends.items())))
+    for name, counts in (("answers", answers), ("ends of threads", ends), ("marks", marks)):
+        print(f"{name}:", ", ".join(f"{count:,} {what}" for what, count in sorted(counts.items())))
     print(f"{given.runs:,} runs: {differ:,} differ from the model")
     sys.exit(1 if differ else 0)
 

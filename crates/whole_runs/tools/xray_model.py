@@ -2,11 +2,13 @@
 
 It is written from docs/FORMATS.md and docs/COMMANDS.md alone, and shares nothing with the program or its definitions. It
 is made to be read and not to be fast. What `asm` makes of a text is handed in: crates/asm_text/tools/random_texts.py has
-a model of that.
+a model of that. worked_runs.py compares the model with results that were worked by hand.
 """
 import bisect
+import collections
 import dataclasses
 import itertools
+import math
 import re
 import struct
 
@@ -15,6 +17,7 @@ TEXT_LIMIT = 4_194_304
 SCRIPT_LIMIT = 1_048_576
 SCHEDULE_LIMIT = 16_777_216
 LINE_LIMIT = 1_048_576
+COMMAND_LIMIT = 1024
 
 CODE_LIMIT = 1_048_576
 FUNCTION_LIMIT = 1024
@@ -26,7 +29,6 @@ SLED_LENGTH = 11
 
 STACK_LIMIT = 65_536
 OUTPUT_LIMIT = 65_536
-OUTS_LIMIT = 65_536
 NUMBER_LIMIT = 4_294_967_295
 WORD_64 = 1 << 64
 
@@ -54,7 +56,8 @@ class Refused(Exception):
 class Unit:
     """An instruction by its name, a sled ("entry" or "exit") or an alignment byte ("align").
 
-    `operands` are the registers and numbers of an instruction, the destination first; `end` is the place behind it.
+    `operands` are the registers and numbers of an instruction, the destination first, and the displacement of a sled;
+    `end` is the place behind it.
     """
 
     place: int
@@ -155,7 +158,8 @@ def unit(code, place):
         whole = code[place : place + 7] == head + NOP and place + SLED_LENGTH <= len(code)
         if not whole or place % 2 == 1:
             raise Refused("Sled", place)
-        return Unit(place, place + SLED_LENGTH, "entry" if is_entry else "exit")
+        displacement = struct.unpack_from("<I", code, place + SLED_LENGTH - 4)
+        return Unit(place, place + SLED_LENGTH, "entry" if is_entry else "exit", displacement)
     if code[place] == 0x90:
         return Unit(place, place + 1, "align")
     try:
@@ -206,6 +210,12 @@ class Image:
     def start(self):
         """The place at which threads start."""
         return self.functions[self.entry][0] - self.base
+
+    @property
+    def ids(self):
+        """The function id of each entry of the map."""
+        numbers = {}
+        return [numbers.setdefault(entry.function, len(numbers) + 1) for entry in self.entries]
 
 
 def image_of(file):
@@ -300,11 +310,9 @@ KINDS = ["function-enter", "function-exit", "tail-exit"]
 
 
 def sled_map_text(image):
-    ids = {}
     names = dict(image.functions)
     lines = ["---"]
-    for entry in image.entries:
-        number = ids.setdefault(entry.function, len(ids) + 1)
+    for number, entry in zip(image.ids, image.entries):
         lines.append(
             f"- {{ id: {number}, address: 0x{entry.address:016x}, function: 0x{entry.function:016x}, "
             f"kind: {KINDS[entry.kind]}, always-instrument: {str(entry.always).lower()}, "
@@ -406,18 +414,16 @@ class Thread:
         self.stack.append(value)
 
 
-def plain_text(image, number, fuel, passings):
-    thread = Thread(image, number, fuel, passings)
-    end = thread.run()
+def plain_text(thread, end):
     registers = " ".join(f"{name}={thread.registers[register]:x}" for name, register in SHOWN.items())
     return (
-        f"thread {number} {end} instructions {thread.instructions} passings {thread.passings}\n"
+        f"thread {thread.number} {end} instructions {thread.instructions} passings {thread.passings}\n"
         f"{registers} zf={thread.zero_flag}\n"
         f"output {thread.output.hex() or '-'}\n"
     )
 
 
-# ---- Scripts and schedules, and the replay
+# ---- Lines and numbers of scripts and schedules
 
 
 def word_lines(text):
@@ -433,24 +439,244 @@ def number_of(word):
     return value if value <= NUMBER_LIMIT else -1
 
 
-def check_form(image):
-    """`sim` runs images of one form alone. That the first sled is no tail sled is told by the map."""
-    names = [unit.name for unit in image.units.values()]
-    inner = names[1:-1]
-    if inner[-1:] == ["align"]:
-        inner.pop()
-    fits = len(names) >= 2 and names[0] == "entry" and names[-1] == "exit" and set(inner) <= {"mov", "out"}
-    if not fits or image.entries[0].kind != 0 or len(image.functions) > 1 or inner.count("out") > OUTS_LIMIT:
-        raise Refused("NotYet")
+# ---- Scripts
+
+# The commands, with what stands behind them.
+COMMANDS = {
+    "patch": "", "unpatch": "", "patch_function": "I", "unpatch_function": "I", "set_handler": "", "remove_handler": "",
+    "init": "", "finalize": "", "go": "", "hold": "TN", "release": "T", "await": "TN",
+}  # fmt: skip
+WAITING = ("hold", "release", "await")
 
 
-def check_script(text):
-    if [words for words in word_lines(text) if words != []] != [["patch"], ["go"], ["unpatch"]]:
-        raise Refused("NotYet")
+@dataclasses.dataclass(frozen=True)
+class Command:
+    line: int
+    name: str
+    numbers: tuple
+
+    @property
+    def thread(self):
+        return self.numbers[0]
 
 
-def turns_of(text):
-    """A schedule as its turns: who goes on, and by how much."""
+class ScriptReader:
+    """The commands of a script's first lines, with what they have done so far."""
+
+    def __init__(self, ids, threads):
+        self.ids = ids
+        self.threads = threads
+        self.commands = []
+        self.has_started = False
+        self.holds = {}
+        self.released = set()
+        self.log = 0
+
+    def read(self, line, words):
+        """Takes a line with words, or one with a bad byte, whose words are None."""
+        if len(self.commands) == COMMAND_LIMIT:
+            raise Refused("Limit", line)
+        command = self.command(line, words)
+        fault = self.fault(command)
+        if fault is not None:
+            raise Refused(fault, line)
+        self.do(command)
+        self.commands.append(command)
+
+    def command(self, line, words):
+        name, *behind = words or [""]
+        numbers = tuple(number_of(word) for word in behind)
+        if name not in COMMANDS or len(behind) != len(COMMANDS[name]) or -1 in numbers:
+            raise Refused("Syntax", line)
+        return Command(line, name, numbers)
+
+    def fault(self, command):
+        """Why a command may not stand behind those before it; the first of the rows that applies."""
+        match command.name, command.numbers:
+            case ("patch_function" | "unpatch_function"), (number,) if not 1 <= number <= self.ids:
+                return "Function"
+            case ("hold" | "release" | "await"), (thread, *_) if not 1 <= thread <= self.threads:
+                return "Thread"
+            case ("go" | "hold"), _ if self.has_started:
+                return "Go"
+            case ("release" | "await"), _ if not self.has_started:
+                return "Go"
+            case "hold", (thread, _) if thread in self.holds:
+                return "Hold"
+            case "release", (thread,) if thread not in self.holds or thread in self.released:
+                return "Hold"
+            case "init", _ if self.log != 0:
+                return "Log"
+            case "finalize", _ if self.log != 2:
+                return "Log"
+            case "await", (thread, count) if self.is_held(thread) and count > self.holds[thread]:
+                return "SelfWait"
+        return None
+
+    def is_held(self, thread):
+        return thread in self.holds and thread not in self.released
+
+    def do(self, command):
+        match command.name, command.numbers:
+            case "go", _:
+                self.has_started = True
+            case "hold", (thread, passing):
+                self.holds[thread] = passing
+            case "release", (thread,):
+                self.released.add(thread)
+            case "init", _:
+                self.log = 2
+            case "finalize", _:
+                self.log = 4
+
+
+def commands_of(text, image, threads):
+    """The commands of a script, which is read for an image and so many threads."""
+    lines = word_lines(text)
+    reader = ScriptReader(max(image.ids, default=0), threads)
+    for line, words in enumerate(lines, start=1):
+        if words != []:
+            reader.read(line, words)
+    if not reader.has_started:
+        raise Refused("Go", len(lines) + 1)
+    if any(reader.is_held(thread) for thread in reader.holds):
+        raise Refused("Hold", len(lines) + 1)
+    return reader.commands
+
+
+# ---- Words of the code, and what the patcher stores in them
+
+HEAD, ID, OPCODE, OFFSET = range(4)
+PATCHED_HEAD = 0xBA41
+ENTRY_HEAD = 0x09EB
+EXIT_HEAD = 0x2EC3
+# What unpatching leaves of an exit sled that was patched before.
+RETURN_HEAD = 0xBAC3
+INITIALIZED = 2
+
+
+class Words:
+    """The words of an image's sleds, the handler's and the log's, and how a script changes them."""
+
+    def __init__(self, image):
+        self.sleds = image.sleds
+        self.ids = image.ids
+        self.patched = [
+            [PATCHED_HEAD, number, self.opcode(sled), self.distance(image, sled, entry)]
+            for number, sled, entry in zip(image.ids, image.sleds, image.entries)
+        ]
+        self.handler = 4 * len(self.sleds)
+        self.state = self.handler + 1
+        self.values = []
+        for sled in self.sleds:
+            self.values += [ENTRY_HEAD if sled.name == "entry" else EXIT_HEAD, 0x841F0F66, 0, sled.operands[0]]
+        self.values += [0, 0]
+
+    @staticmethod
+    def opcode(sled):
+        return 0xE8 if sled.name == "entry" else 0xE9
+
+    @staticmethod
+    def distance(image, sled, entry):
+        return (image.trampolines[entry.kind] - (image.base + sled.end)) % (1 << 32)
+
+    def stores(self, commands):
+        """The micro steps of a script that doesn't wait, as (word, value), each made before the next one is told."""
+        for command in commands:
+            for word, value in self.stores_of(command):
+                self.values[word] = value
+                yield word, value
+
+    def stores_of(self, command):
+        match command.name, command.numbers:
+            case ("patch" | "patch_function"), function:
+                for sled in self.sleds_of(function):
+                    for part in (ID, OPCODE, OFFSET, HEAD):
+                        yield 4 * sled + part, self.patched[sled][part]
+            case ("unpatch" | "unpatch_function"), function:
+                for sled in self.sleds_of(function):
+                    yield 4 * sled, self.unpatched_head(sled)
+            case "set_handler", _:
+                yield self.handler, 1
+            case "remove_handler", _:
+                yield self.handler, 0
+            case "init", _:
+                yield self.state, 1
+                yield self.state, 2
+            case "finalize", _:
+                yield self.state, 3
+                yield self.state, 4
+
+    def sleds_of(self, function):
+        """The sleds of a function id, or all of them."""
+        return [sled for sled, number in enumerate(self.ids) if not function or number == function[0]]
+
+    def unpatched_head(self, sled):
+        """At an exit sled the low byte becomes that of a return, and the high byte stays."""
+        if self.sleds[sled].name == "entry":
+            return ENTRY_HEAD
+        return self.values[4 * sled] // 256 * 256 + 0xC3
+
+
+# ---- Threads whose sleds are patched while they run
+
+
+class Torn(Exception):
+    """A passing has read a patched head and something else than a patched sled behind it."""
+
+
+class TracedThread(Thread):
+    """A thread that loads the words of the sleds that it passes."""
+
+    def __init__(self, image, number, fuel, passings, words):
+        super().__init__(image, number, fuel, passings)
+        self.words = words
+        self.sled_numbers = {sled.place: number for number, sled in enumerate(words.sleds)}
+        self.marks = []
+        self.end = None
+        self.course = self.loads()
+        self.load()
+
+    def load(self):
+        """Makes the load that the thread stands before, and goes on up to the next one or to its end."""
+        next(self.course, None)
+
+    def loads(self):
+        """Stops before each load, and at the end."""
+        try:
+            while True:
+                sled = self.sled_numbers.get(self.place)
+                if sled is not None and self.passings < self.passing_limit:
+                    self.marks.append((yield from self.passing(sled)))
+                self.step()
+        except Ended as ended:
+            self.end = str(ended)
+
+    def passing(self, sled):
+        """The mark of a passing."""
+        values = self.words.values
+        yield
+        head = values[4 * sled]
+        if head != PATCHED_HEAD:
+            if head != ENTRY_HEAD if self.words.sleds[sled].name == "entry" else head % 256 != 0xC3:
+                raise Torn
+            return "."
+        for part in (ID, OPCODE, OFFSET):
+            yield
+            if values[4 * sled + part] != self.words.patched[sled][part]:
+                raise Torn
+        yield
+        if values[self.words.handler] == 0:
+            return "n"
+        yield
+        return "+" if values[self.words.state] == INITIALIZED else "f"
+
+
+# ---- Schedules and their replay
+
+
+def turns_of(text, threads):
+    """A schedule as its turns: which thread goes on, or 0 for the patcher, and by how much."""
     lines = word_lines(text)
     if len(lines) > LINE_LIMIT:
         raise Refused("Limit")
@@ -460,42 +686,35 @@ def turns_of(text):
             case []:
                 continue
             case ["t", thread, count] if number_of(count) >= 1:
-                if number_of(thread) != 1:
+                if not 1 <= number_of(thread) <= threads:
                     raise Refused("Thread", line)
-                turns.append(("thread", number_of(count)))
+                turns.append((number_of(thread), number_of(count)))
             case ["p", count] if number_of(count) >= 1:
-                turns.append(("patcher", number_of(count)))
+                turns.append((0, number_of(count)))
             case _:
                 raise Refused("Syntax", line)
     return turns
 
 
-# A passing loads the head, and behind a patched one the id, the opcode, the offset and the handler word.
-PATCHED_LOADS = 5
-SLEDS = 2
-
-
-def marks_of(turns):
-    """The mark of each of the two passings.
-
-    Both sleds are patched at the start, and the patcher has two stores left, which unpatch the one and then the other.
-    """
-    marks = []
-    stores = 0
-    loads = 0  # In the passing that the thread is in.
-    for who, count in [*turns, ("thread", NUMBER_LIMIT)]:
-        if who == "patcher":
-            stores += count
+def replayed(image, commands, turns, options):
+    """The threads behind a replay, all of them at their ends."""
+    words = Words(image)
+    start = next(number for number, command in enumerate(commands) if command.name == "go")
+    collections.deque(words.stores(commands[:start]), maxlen=0)
+    # The heads that unpatching leaves are told by what was stored before, so the rest goes over the same words.
+    left = words.stores(commands[start:])
+    threads = [
+        TracedThread(image, number + 1, options["fuel"], options["passings"], words) for number in range(options["threads"])
+    ]
+    for who, count in [*turns, *((number + 1, math.inf) for number in range(len(threads)))]:
+        if who == 0:
+            collections.deque(itertools.islice(left, count), maxlen=0)
             continue
-        for _ in range(min(count, SLEDS * PATCHED_LOADS)):
-            if len(marks) == SLEDS:
-                break
-            is_patched = loads > 0 or stores <= len(marks)
-            loads += 1
-            if not is_patched or loads == PATCHED_LOADS:
-                marks.append("n" if is_patched else ".")
-                loads = 0
-    return marks
+        thread = threads[who - 1]
+        while count > 0 and thread.end is None:
+            thread.load()
+            count -= 1
+    return threads
 
 
 def runs_text(marks):
@@ -517,13 +736,12 @@ class Form:
     options: dict
 
 
+RUN_OPTIONS = {"threads": (1, 16, 1), "fuel": (0, 1_000_000_000, 10_000_000), "passings": (0, 1_048_576, 1_048_576)}
 FORMS = {
     "asm": Form(2, {"threshold": (0, NUMBER_LIMIT, 1)}),
-    "plain": Form(
-        1, {"threads": (1, 16, 1), "fuel": (0, 1_000_000_000, 10_000_000), "passings": (0, 1_048_576, 1_048_576)}
-    ),
+    "plain": Form(1, RUN_OPTIONS),
     "extract": Form(1, {}),
-    "sim": Form(3, {}),
+    "sim": Form(3, RUN_OPTIONS),
 }
 
 
@@ -602,17 +820,27 @@ def taken(world, name, kind, limit, read):
         raise Failed(2, f"{name}: {kind} {refused.told}")
 
 
-def image_for_sim(content):
-    image = image_of(content)
-    check_form(image)
-    return image
+def plain_texts(image, options):
+    """What `plain` prints."""
+    text = ""
+    for number in range(options["threads"]):
+        thread = Thread(image, number + 1, options["fuel"], options["passings"])
+        text += plain_text(thread, thread.run())
+    return text
 
 
-def simulated(world, image_name, script_name, schedule_name):
-    image = taken(world, image_name, "image", IMAGE_LIMIT, image_for_sim)
-    taken(world, script_name, "script", SCRIPT_LIMIT, check_script)
-    turns = taken(world, schedule_name, "schedule", SCHEDULE_LIMIT, turns_of)
-    return plain_text(image, 1, fuel=10_000_000, passings=1_048_576) + f"marks {runs_text(marks_of(turns))}\n"
+def state_texts(world, names, options):
+    """What `sim` prints."""
+    threads = options["threads"]
+    image_name, script_name, schedule_name = names
+    image = taken(world, image_name, "image", IMAGE_LIMIT, image_of)
+    commands = taken(world, script_name, "script", SCRIPT_LIMIT, lambda text: commands_of(text, image, threads))
+    turns = taken(world, schedule_name, "schedule", SCHEDULE_LIMIT, lambda text: turns_of(text, threads))
+    waiting = [command.line for command in commands if command.name in WAITING]
+    if waiting:
+        raise Failed(2, f"{script_name}: script Waits {waiting[0]}")
+    states = replayed(image, commands, turns, options)
+    return "".join(f"{plain_text(thread, thread.end)}marks {runs_text(thread.marks)}\n" for thread in states)
 
 
 def done(words, world, assemble):
@@ -624,14 +852,10 @@ def done(words, world, assemble):
             raise Failed(4, f"{names[1]}: write fault")
         return Outcome(0, b"", b"", image)
     if command == "sim":
-        text = simulated(world, *names)
+        text = state_texts(world, names, options)
     else:
         image = taken(world, names[0], "image", IMAGE_LIMIT, image_of)
-        if command == "extract":
-            text = sled_map_text(image)
-        else:
-            fuel, passings = options["fuel"], options["passings"]
-            text = "".join(plain_text(image, thread + 1, fuel, passings) for thread in range(options["threads"]))
+        text = sled_map_text(image) if command == "extract" else plain_texts(image, options)
     if world.is_output_full:
         raise Failed(4, "output: write fault")
     return Outcome(0, text.encode("ascii"), b"")

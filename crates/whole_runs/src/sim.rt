@@ -1,0 +1,358 @@
+//! `sim`: marks by scripts and schedules, several threads, limits, and the refusals of scripts and schedules.
+use crate::asm::{CALL, CALL_END, TAIL_JUMP, TAIL_JUMP_END};
+use crate::desks::Noting;
+use crate::runs::{IMAGE, Run, SCHEDULE, SCRIPT, STATE, desk_of, run_words};
+use std::process::Abort;
+use std::sync::Wait;
+use std::test::Fail;
+use std::thread::Threads;
+
+const SIM: [&str; 4] = ["sim", "i", "s", "c"];
+
+/// All is ready before the thread starts: the sleds are patched, a handler is set, and the log is initialized.
+const TRACED: &str = "patch\nset_handler\ninit\ngo\n";
+
+/// The sleds are patched while the threads run: id, opcode, offset and head of the entry sled, and then of the exit
+/// sled.
+const LIVE: &str = "set_handler\ninit\ngo\npatch\n";
+
+/// Runs words over the image of one function, a script and a schedule.
+fn run_image<R: Threads + Wait + Sync + AllocGlobal>(
+    rt: &R,
+    words: &[&str],
+    script: &str,
+    schedule: &str,
+) -> Result<Run, Fail> {
+    let mut desk = desk_of(rt.alloc(), &[], &IMAGE, script, schedule)?;
+    run_words(rt, words, &mut desk, &[], &[])
+}
+
+/// Checks that words over an image of one function are done, and what they print.
+fn assert_prints<R: Abort + Threads + Wait + Sync + AllocGlobal>(
+    rt: &R,
+    words: &[&str],
+    script: &str,
+    schedule: &str,
+    text: &str,
+) -> Result<(), Fail> {
+    let run = run_image(rt, words, script, schedule)?;
+    assert_eq!(rt; run.err.as_str(), "", "{script} {schedule}");
+    assert_eq!(rt; run.status, 0, "{script} {schedule}");
+    assert_eq!(rt; run.out.as_str(), text, "{script} {schedule}");
+    Ok(())
+}
+
+/// Checks the marks of thread 1 by a script and a schedule.
+fn assert_marks<R: Abort + Threads + Wait + Sync + AllocGlobal>(
+    rt: &R,
+    script: &str,
+    schedule: &str,
+    marks: &str,
+) -> Result<(), Fail> {
+    let state = format!(in rt.alloc(); "{STATE}marks {marks}\n")?;
+    assert_prints(rt, &SIM, script, schedule, &state)
+}
+
+#[test]
+fn a_schedule_says_between_which_loads_sleds_are_patched(rt: HostRuntime) -> Result<(), Fail> {
+    for (script, schedule, marks) in [
+        (TRACED, "", "+2"),
+        ("go", "", ".2"),
+        // The head of the entry sled is loaded, then both are unpatched, and then the rest is loaded.
+        (
+            "patch\nset_handler\ninit\ngo\nunpatch",
+            "t 1 1\np 2",
+            "+1 .1",
+        ),
+        // All but the head of the entry sled is stored.
+        (LIVE, "p 3\nt 1 1", ".2"),
+        (LIVE, "p 3\nt 1 1\np 5", ".1 +1"),
+        (LIVE, "p 4", "+1 .1"),
+        (LIVE, "p 4294967295\nt 1 4294967295", "+2"),
+        ("go\nunpatch", "p 2", ".2"),
+        ("patch\nunpatch\ngo", "", ".2"),
+        ("patch\nunpatch_function 1\npatch_function 01\ngo", "", "n2"),
+    ] {
+        assert_marks(&rt, script, schedule, marks)?;
+    }
+    Ok(())
+}
+
+#[test]
+fn marks_tell_of_the_handler_and_the_log(rt: HostRuntime) -> Result<(), Fail> {
+    for (before, behind, schedule, marks) in [
+        ("init", "", "", "n2"),
+        ("set_handler", "", "", "f2"),
+        ("set_handler\ninit\nfinalize", "", "", "f2"),
+        // The handler is removed, or the log finalized, between the two sleds.
+        ("set_handler\ninit", "remove_handler", "t 1 6\np 1", "+1 n1"),
+        ("set_handler\ninit", "finalize", "t 1 6\np 1", "+1 f1"),
+        // Between the handler's word and the state's, the log is initializing.
+        ("set_handler", "init", "t 1 5\np 1\nt 1 1\np 1", "f1 +1"),
+    ] {
+        let script = format!(in rt.alloc(); "patch\n{before}\ngo\n{behind}\n")?;
+        assert_marks(&rt, &script, schedule, marks)?;
+    }
+    Ok(())
+}
+
+/// Thread 1 has passed the entry sled before it is patched; thread 2 runs behind all.
+#[test]
+fn each_thread_has_marks_of_its_own(rt: HostRuntime) -> Result<(), Fail> {
+    let words = ["sim", "i", "s", "c", "--threads", "2"];
+    let states = "thread 1 returned instructions 3 passings 2\n\
+        rax=41 rcx=0 rdx=0 rbx=0 rbp=0 rsi=0 rdi=1 r8=0 r9=0 r11=0 r12=0 r13=0 r14=0 r15=0 zf=0\n\
+        output 41\n\
+        marks .1 +1\n\
+        thread 2 returned instructions 3 passings 2\n\
+        rax=41 rcx=0 rdx=0 rbx=0 rbp=0 rsi=0 rdi=2 r8=0 r9=0 r11=0 r12=0 r13=0 r14=0 r15=0 zf=0\n\
+        output 41\n\
+        marks +2\n";
+    assert_prints(&rt, &words, LIVE, "t 1 1\np 8", states)
+}
+
+/// Thread 16 makes the first load, and all others run behind the schedule.
+#[test]
+fn there_may_be_sixteen_threads(rt: HostRuntime) -> Result<(), Fail> {
+    let alloc = rt.alloc();
+    let mut states = String::new(alloc);
+    for thread in 1..=16u32 {
+        let marks = if thread == 16 { ".1 +1" } else { "+2" };
+        states.push_str(&format!(in alloc;
+            "thread {thread} returned instructions 3 passings 2\n\
+            rax=41 rcx=0 rdx=0 rbx=0 rbp=0 rsi=0 rdi={thread:x} r8=0 r9=0 r11=0 r12=0 r13=0 r14=0 \
+            r15=0 zf=0\n\
+            output 41\n\
+            marks {marks}\n"
+        )?)?;
+    }
+    let words = ["sim", "--threads=16", "i", "s", "c"];
+    assert_prints(&rt, &words, LIVE, "t 16 1\np 8", &states)
+}
+
+#[test]
+fn images_with_calls_and_tail_jumps_are_replayed(rt: HostRuntime) -> Result<(), Fail> {
+    for (text, end, script, marks) in [
+        (TAIL_JUMP, TAIL_JUMP_END, TRACED, "+4"),
+        (CALL, CALL_END, TRACED, "+4"),
+        // The called function has id 2: its sleds are passed between the caller's.
+        (CALL, CALL_END, "patch_function 2\ngo", ".1 n2 .1"),
+    ] {
+        let mut desk = desk_of(rt.alloc(), &[], b"", script, "")?;
+        desk.put("t", text.as_bytes())?;
+        assert_eq!(rt;
+            run_words(&rt, &["asm", "t", "i"], &mut desk, &[], &[])?.status,
+            0
+        );
+        let run = run_words(&rt, &SIM, &mut desk, &[], &[])?;
+        assert_eq!(rt; run.err.as_str(), "", "{script}");
+        let state = format!(in rt.alloc(); "{end}marks {marks}\n")?;
+        assert_eq!(rt; run.out.as_str(), state.as_str(), "{script}");
+    }
+    Ok(())
+}
+
+/// A sled needs no fuel, but the return of an exit sled does.
+#[test]
+fn a_replay_ends_at_the_limits_of_its_options(rt: HostRuntime) -> Result<(), Fail> {
+    for (options, end, instructions, passings, rax, output, marks) in [
+        (["--fuel", "1"], "fuel", 1, 1, "41", "-", "+1"),
+        (["--fuel", "0"], "fuel", 0, 1, "0", "-", "+1"),
+        (["--fuel", "2"], "fuel", 2, 2, "41", "41", "+2"),
+        (["--passings", "1"], "passings", 2, 1, "41", "41", "+1"),
+        (["--passings", "0"], "passings", 0, 0, "0", "-", "-"),
+    ] {
+        let state = format!(in rt.alloc();
+            "thread 1 {end} instructions {instructions} passings {passings}\n\
+            rax={rax} rcx=0 rdx=0 rbx=0 rbp=0 rsi=0 rdi=1 r8=0 r9=0 r11=0 r12=0 r13=0 r14=0 r15=0 \
+            zf=0\n\
+            output {output}\n\
+            marks {marks}\n"
+        )?;
+        let [option, value] = options;
+        let words = ["sim", "i", "s", option, value, "c"];
+        assert_prints(&rt, &words, TRACED, "", &state)?;
+    }
+    Ok(())
+}
+
+#[test]
+fn options_of_sim_stand_anywhere_and_at_the_ends_of_their_ranges(
+    rt: HostRuntime,
+) -> Result<(), Fail> {
+    let state = format!(in rt.alloc(); "{STATE}marks n1 .1\n")?;
+    for words in [
+        &[
+            "sim",
+            "--fuel=1000000000",
+            "--passings",
+            "+1048576",
+            "i",
+            "s",
+            "c",
+        ][..],
+        &[
+            "sim",
+            "i",
+            "s",
+            "c",
+            "--passings=1048576",
+            "--fuel",
+            "01000000000",
+        ],
+        &["sim", "i", "--threads=1", "--", "s", "c"],
+    ] {
+        assert_prints(&rt, words, SCRIPT, SCHEDULE, &state)?;
+    }
+    Ok(())
+}
+
+#[test]
+fn options_that_sim_does_not_take_are_a_bad_line(rt: HostRuntime) -> Result<(), Fail> {
+    for words in [
+        &["sim", "i", "s", "c", "--threads", "17"][..],
+        &["sim", "i", "s", "c", "--threads", "0"],
+        &["sim", "i", "s", "c", "--threads", "1", "--threads=1"],
+        &["sim", "i", "s", "c", "--thread", "1"],
+        &["sim", "i", "s", "c", "--fuel", "1000000001"],
+        &["sim", "i", "s", "c", "--passings", "1048577"],
+        &["sim", "i", "s", "c", "--fuel"],
+        &["sim", "i", "s", "--", "c", "--fuel=1"],
+        &["sim", "i", "s", "c", "--threshold", "1"],
+    ] {
+        let run = run_image(&rt, words, SCRIPT, SCHEDULE)?;
+        assert_eq!(rt; run.err.as_str(), "xray: bad command line\n");
+        assert_eq!(rt; run.status, 1);
+        assert_eq!(rt; run.out.as_str(), "");
+    }
+    Ok(())
+}
+
+/// Checks that an input is refused with a line on err, and which inputs were asked for.
+fn assert_refused<R: Abort + Threads + Wait + Sync + AllocGlobal>(
+    rt: &R,
+    words: &[&str],
+    script: &str,
+    schedule: &str,
+    line: &str,
+    names: &str,
+) -> Result<(), Fail> {
+    let desk = desk_of(rt.alloc(), &[], &IMAGE, script, schedule)?;
+    let mut noting = Noting::new(rt.alloc(), desk);
+    let run = run_words(rt, words, &mut noting, &[], &[])?;
+    assert_eq!(rt; run.err.as_str().trim_end(), line);
+    assert_eq!(rt; run.status, 2, "{line}");
+    assert_eq!(rt; run.out.as_str(), "", "{line}");
+    assert_eq!(rt; noting.names(), names, "{line}");
+    Ok(())
+}
+
+/// The schedule would be refused too, and isn't opened.
+#[test]
+fn a_script_is_refused_before_the_schedule_is_opened(rt: HostRuntime) -> Result<(), Fail> {
+    let too_many = "patch\n".repeat(rt.alloc(), 1025)?;
+    for (script, line) in [
+        ("", "xray: s: script Go 1"),
+        ("go\ngo", "xray: s: script Go 2"),
+        ("# nothing\n", "xray: s: script Go 2"),
+        ("go\nhold 1 0", "xray: s: script Go 2"),
+        ("await 1 0\ngo", "xray: s: script Go 1"),
+        ("patch_function 2\ngo", "xray: s: script Function 1"),
+        ("go\nunpatch_function 0", "xray: s: script Function 2"),
+        ("go\nrelease 2", "xray: s: script Thread 2"),
+        ("go\nrelease 1", "xray: s: script Hold 2"),
+        ("hold 1 0\ngo", "xray: s: script Hold 3"),
+        (
+            "hold 1 0\ngo\nrelease 1\nrelease 1",
+            "xray: s: script Hold 4",
+        ),
+        ("init\ninit\ngo", "xray: s: script Log 2"),
+        ("finalize\ngo", "xray: s: script Log 1"),
+        (
+            "hold 1 3\ngo\nawait 1 5\nrelease 1",
+            "xray: s: script SelfWait 3",
+        ),
+        ("patch 1", "xray: s: script Syntax 1"),
+        ("go\npatch_function 4294967296", "xray: s: script Syntax 2"),
+        ("\n# \u{1}\ngo \u{1}", "xray: s: script Syntax 3"),
+        (too_many.as_str(), "xray: s: script Limit 1025"),
+    ] {
+        assert_refused(&rt, &SIM, script, "p 0", line, "is")?;
+    }
+    Ok(())
+}
+
+#[test]
+fn a_schedule_is_refused_by_its_first_fault(rt: HostRuntime) -> Result<(), Fail> {
+    let too_many = "p 0\n".repeat(rt.alloc(), 1_048_577)?;
+    for (schedule, line) in [
+        ("p 0", "xray: c: schedule Syntax 1"),
+        ("t 1", "xray: c: schedule Syntax 1"),
+        ("t 2 1", "xray: c: schedule Thread 1"),
+        ("p 1\nt 2 0", "xray: c: schedule Syntax 2"),
+        ("t 1 4294967296", "xray: c: schedule Syntax 1"),
+        (too_many.as_str(), "xray: c: schedule Limit"),
+    ] {
+        assert_refused(&rt, &SIM, "go", schedule, line, "isc")?;
+    }
+    Ok(())
+}
+
+/// That a script waits is told once the schedule was judged.
+#[test]
+fn a_script_that_waits_is_refused_behind_the_schedule(rt: HostRuntime) -> Result<(), Fail> {
+    const HELD: &str = "set_handler\ninit\nhold 1 2\ngo\nawait 1 2\npatch\nrelease 1";
+    for (script, schedule, line) in [
+        (HELD, "", "xray: s: script Waits 3"),
+        (HELD, "p 0", "xray: c: schedule Syntax 1"),
+        (
+            "hold 1 3\ngo\nawait 1 3\nrelease 1",
+            "t 1 1",
+            "xray: s: script Waits 1",
+        ),
+        ("go\n\nawait 1 0", "", "xray: s: script Waits 3"),
+    ] {
+        assert_refused(&rt, &SIM, script, schedule, line, "isc")?;
+    }
+    Ok(())
+}
+
+#[test]
+fn scripts_and_schedules_are_read_for_the_number_of_threads(rt: HostRuntime) -> Result<(), Fail> {
+    let three = ["sim", "i", "s", "c", "--threads=3"];
+    assert_refused(
+        &rt,
+        &three,
+        "hold 4 0\ngo",
+        "",
+        "xray: s: script Thread 1",
+        "is",
+    )?;
+    assert_refused(
+        &rt,
+        &three,
+        "hold 3 0\ngo",
+        "",
+        "xray: s: script Hold 3",
+        "is",
+    )?;
+    assert_refused(
+        &rt,
+        &three,
+        "go",
+        "t 4 1",
+        "xray: c: schedule Thread 1",
+        "isc",
+    )?;
+    assert_eq!(rt; run_image(&rt, &three, "go", "t 3 1")?.status, 0);
+    Ok(())
+}
+
+#[test]
+fn a_script_may_have_1024_commands(rt: HostRuntime) -> Result<(), Fail> {
+    let patches = "patch\n".repeat(rt.alloc(), 1023)?;
+    let script = format!(in rt.alloc(); "go\n{patches}")?;
+    let state = format!(in rt.alloc(); "{STATE}marks .1 n1\n")?;
+    // The last head is that of the exit sled.
+    assert_prints(&rt, &SIM, &script, "t 1 1\np 8184", &state)
+}

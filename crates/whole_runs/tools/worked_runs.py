@@ -1,0 +1,207 @@
+#!/usr/bin/env python3
+"""Compares the model of `xray` with results that were worked by hand, and says where they differ.
+
+usage: crates/whole_runs/tools/worked_runs.py [PROGRAM]
+    PROGRAM: a built program, which is then compared with the same results; without it the model alone is
+
+The images are made of assembler texts by the assembler's own model. Each run says its words, its inputs i (image), s
+(script) and c (schedule), and what has to come of it: the status, and standard output or its lines of marks, or the line on
+standard error. The stores that scripts make are compared too. A difference is told, and then the status is 1.
+"""
+import argparse
+import dataclasses
+import pathlib
+import subprocess
+import sys
+import tempfile
+
+sys.dont_write_bytecode = True  # the modules stand in the repository, and their compiled forms don't
+import xray_model as model  # noqa: E402
+from random_images import texts  # noqa: E402
+
+
+def lines(said):
+    """A text whose lines are parted by `/`, as bytes."""
+    return "".join(line.strip() + "\n" for line in said.split("/") if line.strip()).encode("ascii")
+
+
+def image(said):
+    return texts.assembled(lines(f"base 0x1000 / {said}"), 1)
+
+
+STRAIGHT_LINE = image("fn main always / mov eax, 65 / out 1 / ret")
+CALL = image("fn main always / call f / ret / fn f always / ret")
+TAIL_JUMP = image("fn a always / tailjmp b / fn b always / ret")
+
+TRACED = "patch / set_handler / init / go"
+REGISTERS = "rbx=0 rbp=0 rsi=0 rdi={} r8=0 r9=0 r11=0 r12=0 r13=0 r14=0 r15=0 zf=0"
+LETTER_STATE = f"""thread 1 returned instructions 3 passings 2
+rax=41 rcx=0 rdx=0 {REGISTERS.format(1)}
+output 41
+"""
+
+
+@dataclasses.dataclass(frozen=True)
+class Run:
+    """A run; `comes` is standard output, or its lines of marks, parted by ` / `, or the line on standard error."""
+
+    comes: str
+    image: bytes = STRAIGHT_LINE
+    script: str = "go"
+    schedule: str = ""
+    words: str = "sim i s c"
+    status: int = 0
+
+
+def marked(marks, script, schedule=""):
+    return Run(f"marks {marks}", script=script, schedule=schedule)
+
+
+def refused(line, script="go", schedule="", image=STRAIGHT_LINE):
+    return Run(f"xray: {line}", image, script, schedule, status=2)
+
+
+def bad(words):
+    return Run("xray: bad command line", words=words, status=1)
+
+
+REGISTER_10 = (
+    STRAIGHT_LINE[:16] + (7).to_bytes(4, "little") + STRAIGHT_LINE[20:24] + bytes(4) + STRAIGHT_LINE[28:64]
+    + bytes.fromhex("41BA01000000C3") + STRAIGHT_LINE[64 + 29 : 64 + 29 + 13]
+)  # fmt: skip
+PAST_A_START = CALL[: 64 + 12] + b"\x0D" + CALL[64 + 13 :]
+FAR = STRAIGHT_LINE[:32] + (0x200000000).to_bytes(8, "little") + STRAIGHT_LINE[40:]
+
+RUNS = [
+    # Both sleds are patched, the handler set and the log initialized before the thread starts.
+    Run(LETTER_STATE + "marks +2\n", script=TRACED),
+    marked(".2", "go"),
+    # Unpatching in the middle of a passing.
+    marked("+1 .1", TRACED + " / unpatch", "t 1 1 / p 2"),
+    # Patching in the middle: all but the head, and then the head.
+    marked(".2", "set_handler / init / go / patch", "p 3 / t 1 1"),
+    marked(".1 +1", "set_handler / init / go / patch", "p 3 / t 1 1 / p 5"),
+    # Without a handler, and with a log that is finalized.
+    marked("n2", "patch / init / go"),
+    marked("f2", "patch / set_handler / init / finalize / go"),
+    marked("n1 .1", "patch / go / unpatch", "t 1 1 / p 2"),
+    marked("n2", "patch / go / unpatch"),
+    marked(".2", "patch / go / unpatch", "p 2"),
+    # A tail sled, and two threads.
+    Run(
+        "thread 1 returned instructions 2 passings 4\n"
+        f"rax=0 rcx=0 rdx=0 {REGISTERS.format(1)}\noutput -\nmarks +4\n",
+        TAIL_JUMP,
+        TRACED,
+    ),
+    Run(
+        LETTER_STATE + "marks .1 +1\n"
+        + LETTER_STATE.replace("thread 1", "thread 2").replace("rdi=1", "rdi=2") + "marks +2\n",
+        script="set_handler / init / go / patch",
+        schedule="t 1 1 / p 8",
+        words="sim i s c --threads 2",
+    ),
+    # Scripts that wait, and one that waits for itself.
+    refused("s: script Waits 3", "set_handler / init / hold 1 2 / go / await 1 2 / patch / release 1", image=CALL),
+    refused("s: script SelfWait 3", "hold 1 3 / go / await 1 5 / release 1"),
+    refused("s: script Waits 1", "hold 1 3 / go / await 1 3 / release 1"),
+    # Other scripts that are refused.
+    refused("s: script Go 1", ""),
+    refused("s: script Go 2", "go / go"),
+    refused("s: script Function 1", "patch_function 2 / go"),
+    refused("s: script Thread 2", "go / release 2"),
+    refused("s: script Hold 2", "go / release 1"),
+    refused("s: script Hold 3", "hold 1 0 / go"),
+    refused("s: script Log 2", "init / init / go"),
+    refused("s: script Log 1", "finalize / go"),
+    refused("s: script Syntax 1", "patch 1"),
+    refused("s: script Limit 1025", "patch / " * 1025),
+    # Schedules that are refused.
+    refused("c: schedule Syntax 1", schedule="p 0"),
+    refused("c: schedule Syntax 1", schedule="t 1"),
+    refused("c: schedule Thread 1", schedule="t 2 1"),
+    # Images that are refused.
+    refused("i: image Code 0 Register 10", image=REGISTER_10),
+    refused("i: image Target 11", image=PAST_A_START),
+    refused("i: image Far 0", image=FAR),
+    # Plain runs.
+    Run(LETTER_STATE, words="plain i"),
+    Run(
+        f"thread 1 fuel instructions 1 passings 1\nrax=41 rcx=0 rdx=0 {REGISTERS.format(1)}\noutput -\n",
+        words="plain i --fuel 1",
+    ),
+    Run(
+        f"thread 1 passings instructions 2 passings 1\nrax=41 rcx=0 rdx=0 {REGISTERS.format(1)}\noutput 41\n",
+        words="plain i --passings 1",
+    ),
+    # Bad command lines.
+    bad(""), bad("sim i s"), bad("sim i s c t t"), bad("plain i --threads 17"), bad("plain i --threads 1 --threads 1"),
+    bad("plain i --thread 1"), bad("run i s t a --threads 4 --buffer-max 3"),
+]  # fmt: skip
+
+# Scripts over the straight line, how many micro steps stand before `go`, and the first or the last stores, as (word, value).
+STORES = [
+    (TRACED, 11, [(1, 1), (2, 0xE8), (3, 0x1FFFF5), (0, 0xBA41), (5, 1), (6, 0xE9), (7, 0x1FFFF3), (4, 0xBA41)]),
+    ("go / unpatch", 0, [(0, 0x09EB), (4, 0x2EC3)]),
+    ("patch / unpatch / go", 10, [(0, 0x09EB), (4, 0xBAC3)]),
+]  # fmt: skip
+
+
+def model_leaves(run):
+    files = {"i": run.image, "s": lines(run.script), "c": lines(run.schedule)}
+    return model.outcome([word.encode() for word in run.words.split()], model.World(files))
+
+
+def program_leaves(program, run):
+    with tempfile.TemporaryDirectory(prefix="worked_runs.") as name:
+        folder = pathlib.Path(name)
+        for file, content in (("i", run.image), ("s", lines(run.script)), ("c", lines(run.schedule))):
+            (folder / file).write_bytes(content)
+        done = subprocess.run([program, *run.words.split()], cwd=folder, capture_output=True)
+    return model.Outcome(done.returncode, done.stdout, done.stderr)
+
+
+def told(outcome, run):
+    """What a run leaves, in the form in which `comes` tells it."""
+    if outcome.status != 0:
+        return outcome.error.decode().removesuffix("\n")
+    output = outcome.output.decode()
+    if run.comes.startswith("marks"):
+        return " / ".join(line for line in output.splitlines() if line.startswith("marks "))
+    return output
+
+
+def run_differences(name, leaves):
+    for run in RUNS:
+        outcome = leaves(run)
+        if outcome.status != run.status or told(outcome, run) != run.comes:
+            yield f"{name}: {run.words}, script {run.script[:60]!r}, schedule {run.schedule!r}: {outcome}"
+
+
+def store_differences():
+    straight = model.image_of(STRAIGHT_LINE)
+    for script, start, expected in STORES:
+        commands = model.commands_of(lines(script), straight, 1)
+        go = next(number for number, command in enumerate(commands) if command.name == "go")
+        before = list(model.Words(straight).stores(commands[:go]))
+        stores = list(model.Words(straight).stores(commands))
+        if len(before) != start or expected not in (stores[: len(expected)], stores[-len(expected) :]):
+            yield f"model: script {script!r}: {len(before)} micro steps before go, stores {stores}"
+
+
+def main():
+    parser = argparse.ArgumentParser(description="Compares the model with results that were worked by hand.")
+    parser.add_argument("program", nargs="?", type=pathlib.Path, metavar="PROGRAM")
+    program = parser.parse_args().program
+    differ = [*run_differences("model", model_leaves), *store_differences()]
+    if program is not None:
+        path = program.resolve()
+        differ += run_differences(str(program), lambda run: program_leaves(path, run))
+    for text in differ:
+        print(text)
+    print(f"{len(RUNS)} runs and {len(STORES)} scripts, {len(differ)} differences")
+    sys.exit(1 if differ else 0)
+
+
+if __name__ == "__main__":
+    main()
