@@ -7,3 +7,4 @@ pub mod WantedWords
 pub mod OneThread
 pub mod AllThreads
 pub mod Bounds
+pub mod SaidTurns

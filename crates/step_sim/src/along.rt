@@ -1,10 +1,11 @@
 //! Laws of the moments of a replay, each the contract of a function that does nothing.
 
-ghost use Rattle.std.specs.Prelude.{◌≡◌, ◌<◌, ℕ, List, Some, All, length};
+ghost use Rattle.std.specs.Prelude.{◌≡◌, ◌<◌, ℕ, List, Some, Ok, All, length};
 ghost use Rattle.sled_words.specs.Allowed.{IsAllowed};
 ghost use Rattle.patch_script.specs.CodeAt.{code_at};
 ghost use Rattle.step_sim.specs.declared.turns.Turns.{Turns as Line};
 ghost use Rattle.step_sim.specs.Along.{IsAlong, NamesThread, TearsNoSled};
+ghost use Rattle.step_sim.specs.Schedules.{schedule_of};
 ghost use Rattle.step_sim.specs.Replay.{AllRunOut, Cast, Moment, first_moment, patcher_turn, scheduled, thread_turn, wanted_by};
 
 use machine_step::what_is_read_along_is_allowed;
@@ -31,7 +32,12 @@ pub fn a_replay_reads_along()
 /// No replay tears a sled, whatever the program, the script and the schedule are: when all threads have
 /// run out, each passing of each of them has decoded its sled whole.
 pub fn no_replay_tears_a_sled()
-    ensures { (cast : Cast) (schedule : List Line) (last : Moment) → All NamesThread schedule
+    ensures named { (cast : Cast) (schedule : List Line) (last : Moment) → All NamesThread schedule
+        → AllRunOut cast (length cast.passings) 1 (scheduled cast schedule) last
+        → TearsNoSled cast last }
+    // Each text that is a schedule names threads from 1 on.
+    ensures read { (cast : Cast) (threads : ℕ) (text : List ℕ) (schedule : List Line) (last : Moment)
+        → schedule_of threads text ≡ Ok schedule
         → AllRunOut cast (length cast.passings) 1 (scheduled cast schedule) last
         → TearsNoSled cast last }
 {

@@ -1,6 +1,6 @@
 -- What stands behind the statuses of the call.
 use Rattle.std.specs.Prelude.{IfErr, IsErrAnd, OnOk}
-use Rattle.std.proofs.Common.{◌≡◌, ◌⊎◌, ℕ, List, [], Option, Some, Result, Ok, Err, inl, inr, refl, sym, subst, arith}
+use Rattle.std.proofs.Common.{◌≡◌, ◌⊎◌, ℕ, List, [], length, Option, Some, Result, Ok, Err, inl, inr, refl, sym, subst, arith}
 use Rattle.xray_io.specs.Desk.{Entry, Absent, Holds}
 use Rattle.xray_io.specs.Sink.{Adds}
 use Rattle.xray_program.specs.declared.stop.Stop.{Stop}
@@ -8,6 +8,11 @@ use Rattle.xray_program.specs.declared.stop.Stop.TheVariants as stops
 use Rattle.xray_program.specs.Answers.{LeavesAll, Reports, CouldNotRead, CouldNotWrite, IsAnswer, IsSimulated}
 use Rattle.xray_program.specs.Calls.{StopsCall, StopsJob}
 use Rattle.patch_script.specs.Refusals.{commands_of}
+use Rattle.step_sim.specs.declared.turns.Turns.{Turns}
+use Rattle.step_sim.specs.Along.{TearsNoSled}
+use Rattle.step_sim.specs.Replay.{AllRunOut, Cast, Moment, scheduled}
+use Rattle.step_sim.specs.Replayed.{cast_of}
+use Rattle.step_sim.specs.Schedules.{schedule_of}
 use Rattle.xray_program.specs.Inputs.{Form, image_form, script_form, schedule_form}
 use Rattle.xray_program.specs.States.{SimPrints}
 use Rattle.xray_program.specs.declared.words.RunOptions.{RunOptions}
@@ -170,11 +175,16 @@ went_on form fails held name next outputs text content holds (inr (bytes, may, i
     let same : bytes ≡ content = rw holds at may in
     record { value = value; reads = subst (λ b. form.Reads b value) same reads; next = comes }
 
-simulated_by : (held : List ℕ → Entry) (i s c image script schedule : List ℕ) (options : RunOptions) (outputs : List (List ℕ × List ℕ))
+-- a text that is a schedule tears no sled
+abbrev pub TearsNone : Type 0
+TearsNone = (cast : Cast) (threads : ℕ) (text : List ℕ) (schedule : List Turns) (last : Moment) → schedule_of threads text ≡ Ok schedule
+    → AllRunOut cast (length cast.passings) 1 (scheduled cast schedule) last → TearsNoSled cast last
+
+simulated_by : TearsNone → (held : List ℕ → Entry) (i s c image script schedule : List ℕ) (options : RunOptions) (outputs : List (List ℕ × List ℕ))
     (text : List ℕ) (old new : Option (List ℕ)) → held i ≡ Holds image → held s ≡ Holds script → held c ≡ Holds schedule
     → Comes (λ name. held name ≡ Absent) held (Sim i s c options) (Done outputs text) → Adds old new text
     → IsSimulated image script schedule options old new
-simulated_by held i s c image script schedule options outputs text old new image_held script_held schedule_held comes adds =
+simulated_by tears held i s c image script schedule options outputs text old new image_held script_held schedule_held comes adds =
     let absent : List ℕ → Type 0 = λ name. held name ≡ Absent in
     let first = went_on image_form absent held i (AfterImage options held s c absent) outputs text image image_held comes in
     let second = went_on (script_form first.value options.threads) absent held s (AfterScript options held s c absent first.value)
@@ -183,6 +193,8 @@ simulated_by held i s c image script schedule options outputs text old new image
     outputs text schedule schedule_held second.next in
     let done = replay_done s options first.value second.value third.value outputs text third.next in
     let is : text ≡ done.1.0 = done_alike outputs [] text done.1.0 done.1.2 in
+    let prints : SimPrints first.value (commands_of second.value.lines) third.value options text =
+    subst (λ t. SimPrints first.value (commands_of second.value.lines) third.value options t) (sym is) done.1.1 in
     record {
       program = first.value;
       accepted = first.reads;
@@ -192,16 +204,17 @@ simulated_by held i s c image script schedule options outputs text old new image
       turns = third.value;
       lines = third.reads;
       text = text;
-      prints = subst (λ t. SimPrints first.value (commands_of second.value.lines) third.value options t) (sym is) done.1.1;
+      prints = prints;
+      whole = λ last out. tears (cast_of first.value (commands_of second.value.lines) prints.passings) options.threads schedule third.value last third.reads out;
       out = adds;
     }
   where
     done_alike : (one other : List (List ℕ × List ℕ)) (text text' : List ℕ) → Done one text ≡ Done other text' → text ≡ text'
     done_alike one other text text' is = cc
 
-pub simulated : (said : List (List ℕ)) (held held_now : List ℕ → Entry) (old new : Option (List ℕ)) → LeavesAll said held held_now old new
+pub simulated : TearsNone → (said : List (List ℕ)) (held held_now : List ℕ → Entry) (old new : Option (List ℕ)) → LeavesAll said held held_now old new
     → (i s c image script schedule : List ℕ) (options : RunOptions) → reading said ≡ Some (Sim i s c options)
     → held i ≡ Holds image → held s ≡ Holds script → held c ≡ Holds schedule → IsSimulated image script schedule options old new
-simulated said held held_now old new leaves i s c image script schedule options words image_held script_held schedule_held =
-    simulated_by held i s c image script schedule options leaves.outputs leaves.text old new image_held script_held schedule_held
+simulated tears said held held_now old new leaves i s c image script schedule options words image_held script_held schedule_held =
+    simulated_by tears held i s c image script schedule options leaves.outputs leaves.text old new image_held script_held schedule_held
     (rw words at leaves.meant) leaves.out

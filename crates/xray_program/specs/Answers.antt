@@ -10,7 +10,7 @@ use Rattle.step_sim.specs.declared.turns.Turns.{Turns}
 use Rattle.step_sim.specs.Schedules.{schedule_of}
 use Rattle.xray_program.specs.Meaning.{Outcome, Done, Unread, status_of, line_of, Means, HadItsTurn, Says}
 use Rattle.xray_program.specs.Outputs.{AreWhole, FailsWriting}
-use Rattle.xray_program.specs.States.{SimPrints}
+use Rattle.xray_program.specs.States.{DecodesWhole, SimPrints}
 use Rattle.xray_program.specs.declared.words.RunOptions.{RunOptions}
 
 -- all is done: each output that the words mean is whole, and out has exactly the text
@@ -42,8 +42,8 @@ pub record CouldNotWrite (said : List (List ℕ)) (held held_now : List ℕ → 
   pub meant : Means said held (Done outputs text)
   pub failed : FailsWriting outputs text held held_now writes_before writes_now out_before out_now old new name
 
--- the image file is accepted, the script and the schedule are read for it and for so many threads, nobody waits in the script, and
--- out has the state texts of the replay
+-- the image file is accepted, the script and the schedule are read for it and for so many threads, nobody waits in the script, out
+-- has the state texts of the replay, and no thread decodes a torn sled
 pub record IsSimulated (image script schedule : List ℕ) (options : RunOptions) (old new : Option (List ℕ)) : Type 0 where
   pub program : Program
   pub accepted : IsAccepted image program
@@ -54,6 +54,7 @@ pub record IsSimulated (image script schedule : List ℕ) (options : RunOptions)
   pub lines : schedule_of options.threads schedule ≡ Ok turns
   pub text : List ℕ
   pub prints : SimPrints program (commands_of plan.lines) turns options text
+  pub whole : DecodesWhole program (commands_of plan.lines) turns prints.passings
   pub out : Adds old new text
 
 -- a status that may come where the words mean an outcome: that outcome's, 5 for want of memory, 3

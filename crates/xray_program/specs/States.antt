@@ -10,7 +10,8 @@ use Rattle.machine_step.specs.PlainStep.{State, Passing, PlainRun}
 use Rattle.machine_step.specs.Texts.{state_text}
 use Rattle.machine_step.specs.Traced.{sleds_of}
 use Rattle.step_sim.specs.declared.turns.Turns.{Turns}
-use Rattle.step_sim.specs.Replay.{Replay, of_thread}
+use Rattle.step_sim.specs.Along.{TearsNoSled}
+use Rattle.step_sim.specs.Replay.{AllRunOut, Moment, Replay, of_thread, scheduled}
 use Rattle.step_sim.specs.Replayed.{cast_of}
 use Rattle.xray_program.specs.Plain.{limits_of}
 use Rattle.xray_program.specs.declared.words.RunOptions.{RunOptions}
@@ -37,3 +38,10 @@ pub record SimPrints (program : Program) (script : List Command) (schedule : Lis
   pub each : (k : ℕ) (t : List ℕ) → slice_get texts k ≡ Some t
       → IsStateText program (limits_of options) (k + 1) (of_thread passings (k + 1)) (of_thread marks (k + 1)) t
   pub joined : text ≡ flat_map (λ t. t) texts
+
+-- no thread decodes a torn sled: behind the schedule, when all threads have run out, each of their passings has decoded its sled whole
+abbrev pub DecodesWhole : Program → List Command → List Turns → (passings : List (List ℕ)) → Type 0
+DecodesWhole program script schedule passings =
+    (last : Moment)
+    → AllRunOut (cast_of program script passings) (length passings) 1 (scheduled (cast_of program script passings) schedule) last
+    → TearsNoSled (cast_of program script passings) last

@@ -15,6 +15,7 @@ use crate::words::read_words;
 use std::alloc::Global;
 use std::sync::Wait;
 use std::thread::Threads;
+use step_sim::no_replay_tears_a_sled;
 use xray_io::{Desk, Gate, Sink, Wall};
 
 /// Does what `words` say, which don't hold the program's own name, with the files of `desk`. It
@@ -74,12 +75,14 @@ pub fn xray_still<D: Desk, O: Sink, E: Sink>(
         (D.write_faults desk.old) (D.write_faults desk.new)
         (O.faults out.old) (O.faults out.new) result }
 
-    // With status 0 the state texts of the replay are on out.
+    // With status 0 the state texts of the replay are on out, and no thread decoded a torn sled.
     ensures headline { result ≡ 0 → (i s c image script schedule : List ℕ) (options : RunOptions)
         → reading (texts words.now) ≡ Some (Sim i s c options) → D.held desk.old i ≡ Holds image
         → D.held desk.old s ≡ Holds script → D.held desk.old c ≡ Holds schedule
         → IsSimulated image script schedule options (O.written out.old) (O.written out.new) }
 {
+    // Says that no thread of a replay decodes a torn sled.
+    no_replay_tears_a_sled();
     match perform(alloc, words, desk, out) {
         Ok(()) => 0,
         Err(stop) => {
@@ -145,7 +148,7 @@ pub fn xray<T: Threads + Wait + Sync, D: Desk, O: Sink, E: Sink, G: Gate + Sync>
         (D.write_faults desk.old) (D.write_faults desk.new)
         (O.faults out.old) (O.faults out.new) result }
 
-    // With status 0 the state texts of the replay are on out.
+    // With status 0 the state texts of the replay are on out, and no thread decoded a torn sled.
     ensures headline { result ≡ 0 → (i s c image script schedule : List ℕ) (options : RunOptions)
         → reading (texts words.now) ≡ Some (Sim i s c options) → D.held desk.old i ≡ Holds image
         → D.held desk.old s ≡ Holds script → D.held desk.old c ≡ Holds schedule

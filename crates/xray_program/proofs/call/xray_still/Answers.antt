@@ -2,7 +2,7 @@ use Rattle.xray_program.proofs.CallTurns.{reports, unread, unwritten, simulated}
 use Rattle.xray_program.proofs.call.xray_still.Goals as goal
 
 pub returns-in-Ok-clause-headline : goal.returns-in-Ok-clause-headline
-returns-in-Ok-clause-headline g c = λ zero. simulated _ (g.D.Desk.held c.args.desk.now) _ _ _ c.in-Ok.ensures.done
+returns-in-Ok-clause-headline g c = λ zero. simulated c.no_replay_tears_a_sled.ensures.read _ (g.D.Desk.held c.args.desk.now) _ _ _ c.in-Ok.ensures.done
 
 pub returns-in-Err-clause-refused : goal.returns-in-Err-clause-refused
 returns-in-Err-clause-refused g c =

@@ -1,0 +1,66 @@
+-- A text that is a schedule names threads.
+use Rattle.std.proofs.Common.{◌≡◌, ◌<◌, ◌≤◌, ◌++◌, ℕ, Bool, true, false, List, [], ◌∷◌, Option, Some, None, Result, Ok, Err, refl, arith}
+use Rattle.std.specs.Prelude.{nat_le, ◌&&◌}
+use Rattle.std.specs.List.{All, flat_map}
+use Rattle.std.proofs.lemmas.List.Elements.{All-cons, All-nil, All-append}
+use Rattle.step_sim.specs.declared.fault.ScheduleFault.{ScheduleFault}
+use Rattle.step_sim.specs.declared.line.Said.{Said}
+use Rattle.step_sim.specs.declared.line.Said.TheVariants.{Nothing, Loads, Steps, Unknown}
+use Rattle.step_sim.specs.declared.turns.Turns.{Turns}
+use Rattle.step_sim.specs.Along.{NamesThread}
+use Rattle.step_sim.specs.Schedules.{decided, faults_of, is_thread, line_faults, line_turns, said_by, said_faults, schedule_of, turns_of, turns_said, unless}
+use Rattle.text_lines.specs.Lines.{numbered_lines}
+use Rattle.text_lines.specs.Words.{words_of}
+
+-- ---- lists without faults
+
+left_none : {X : Type 0} (xs ys : List X) → xs ++ ys ≡ [] → xs ≡ []
+left_none [] ys is = refl
+left_none (x ∷ xs) ys is = absurd cc
+
+right_none : {X : Type 0} (xs ys : List X) → xs ++ ys ≡ [] → ys ≡ []
+right_none [] ys is = is
+right_none (x ∷ xs) ys is = absurd cc
+
+holds : (test : Bool) (fault : ScheduleFault) → unless test fault ≡ [] → test ≡ true
+holds true fault is = refl
+holds false fault is = absurd cc
+
+-- ---- what a line says
+
+first_holds : (one other : Bool) → (one && other) ≡ true → one ≡ true
+first_holds true other is = refl
+first_holds false other is = absurd cc
+
+one_at_least : (n : ℕ) → nat_le 1 n ≡ true → 0 < n
+one_at_least n is = grind arith
+
+names_one : (threads number : ℕ) (said : Said) → said_faults threads number said ≡ [] → All NamesThread (turns_said said)
+names_one threads number Nothing none = All-nil NamesThread
+names_one threads number (Loads None count) none = absurd (let there = holds (is_thread threads None) _ (right_none _ _ none) in cc)
+names_one threads number (Loads (Some thread) None) none = All-nil NamesThread
+names_one threads number (Loads (Some thread) (Some count)) none =
+    let there = holds (is_thread threads (Some thread)) _ (right_none _ _ none) in
+    All-cons NamesThread _ [] (one_at_least thread (first_holds _ _ there)) (All-nil NamesThread)
+names_one threads number (Steps None) none = All-nil NamesThread
+names_one threads number (Steps (Some count)) none = All-cons NamesThread _ [] tt (All-nil NamesThread)
+names_one threads number Unknown none = All-nil NamesThread
+
+-- ---- all lines
+
+names_all : (threads : ℕ) (lines : List (ℕ × List ℕ)) → flat_map (line_faults threads) lines ≡ [] → All NamesThread (flat_map line_turns lines)
+names_all threads [] none = All-nil NamesThread
+names_all threads ((number, line) ∷ lines) none =
+    let here = right_none _ _ (left_none (line_faults threads (number, line)) _ none) in
+    All-append NamesThread (line_turns (number, line)) (flat_map line_turns lines)
+    (names_one threads number (said_by (words_of line)) here)
+    (names_all threads lines (right_none (line_faults threads (number, line)) _ none))
+
+decided_so : (faults : List ScheduleFault) (turns schedule : List Turns) → decided faults turns ≡ Ok schedule → (faults ≡ []) × (turns ≡ schedule)
+decided_so [] turns schedule is = (refl, cc)
+decided_so (fault ∷ later) turns schedule is = absurd cc
+
+pub names_threads : (threads : ℕ) (text : List ℕ) (schedule : List Turns) → schedule_of threads text ≡ Ok schedule → All NamesThread schedule
+names_threads threads text schedule is =
+    let so = decided_so (faults_of threads text) (turns_of text) schedule is in
+    rw (← so.1) (names_all threads (numbered_lines text) (right_none _ _ so.0))
