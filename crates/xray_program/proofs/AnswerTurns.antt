@@ -2,10 +2,9 @@
 use Rattle.std.proofs.Common.{◌≡◌, ◌≢◌, ◌⊎◌, ◌∙◌, ℕ, List, Result, Ok, Err, inl, inr, refl, sym}
 use Rattle.xray_io.specs.Desk.{Entry}
 use Rattle.xray_program.specs.declared.refusal.Refusal.{Refusal}
-use Rattle.xray_program.specs.declared.stop.Kind.{Kind}
 use Rattle.xray_program.specs.declared.stop.Stop.{Stop}
 use Rattle.xray_program.specs.declared.stop.Stop.TheVariants as stops
-use Rattle.xray_program.specs.Inputs.{answered_form}
+use Rattle.xray_program.specs.Inputs.{form_by}
 use Rattle.xray_program.specs.Stops.{kind_text, refusal_text}
 use Rattle.xray_program.specs.Takes.{Gives, GivesBytes, Rejects, Fails, IsFaultStop}
 
@@ -34,7 +33,7 @@ not_both answer value fault is also = cc
 -- bytes that are answered with a value
 pub gives_answer : {X F : Type 0} (kind : List ℕ) (limit : ℕ) (answer : List ℕ → Result X F) (say : F → List ℕ) (entry : Entry)
     (bytes : List ℕ) (value : X) → GivesBytes limit entry bytes → answer bytes ≡ Ok value
-    → Gives (answered_form kind limit answer say) entry value
+    → Gives (form_by kind limit answer say) entry value
 gives_answer kind limit answer say entry bytes value given is = record {
   bytes = bytes;
   held = given.held;
@@ -47,7 +46,7 @@ gives_answer kind limit answer say entry bytes value given is = record {
 -- bytes that are answered with a fault
 rejects_answer : {X F : Type 0} (kind : List ℕ) (limit : ℕ) (answer : List ℕ → Result X F) (say : F → List ℕ) (entry : Entry)
     (bytes : List ℕ) (fault : F) → GivesBytes limit entry bytes → answer bytes ≡ Err fault
-    → Rejects (answered_form kind limit answer say) entry (say fault)
+    → Rejects (form_by kind limit answer say) entry (say fault)
 rejects_answer kind limit answer say entry bytes fault given is = record {
   bytes = bytes;
   held = given.held;
@@ -57,19 +56,19 @@ rejects_answer kind limit answer say entry bytes fault given is = record {
 }
 
 -- the stop that a fault comes to, which tells it
-pub fails_answer : {X F : Type 0} (k : Kind) (tells : F → Refusal) (wanting : F) (limit : ℕ) (answer : List ℕ → Result X F)
+pub fails_answer : {X F : Type 0} (kind : List ℕ) (tells : F → Refusal) (wanting : F) (limit : ℕ) (answer : List ℕ → Result X F)
     (held : List ℕ → Entry) (name : List ℕ) (before now : ℕ) (bytes : List ℕ) (fault : F) (stop : Stop)
-    → GivesBytes limit (held name) bytes → (fault ≢ wanting → answer bytes ≡ Err fault)
-    → IsFaultStop k tells wanting name fault stop
-    → Fails (answered_form (kind_text k) limit answer (λ f. refusal_text (tells f))) held name before now stop
-fails_answer k tells wanting limit answer held name before now bytes fault stops.BadLine given is so = so
-fails_answer k tells wanting limit answer held name before now bytes fault (stops.Unread n) given is so = absurd so
-fails_answer k tells wanting limit answer held name before now bytes fault (stops.TooLong n) given is so = absurd so
-fails_answer k tells wanting limit answer held name before now bytes fault (stops.Refused n kind refusal) given is (same, kinds, refusals, named) =
+    → kind_text (tells fault) ≡ kind → GivesBytes limit (held name) bytes → (fault ≢ wanting → answer bytes ≡ Err fault)
+    → IsFaultStop tells wanting name fault stop
+    → Fails (form_by kind limit answer (λ f. refusal_text (tells f))) held name before now stop
+fails_answer kind tells wanting limit answer held name before now bytes fault stops.BadLine of given is so = so
+fails_answer kind tells wanting limit answer held name before now bytes fault (stops.Unread n) of given is so = absurd so
+fails_answer kind tells wanting limit answer held name before now bytes fault (stops.TooLong n) of given is so = absurd so
+fails_answer kind tells wanting limit answer held name before now bytes fault (stops.Refused n refusal) of given is (same, refusals, named) =
     (
       same,
-      rw kinds refl,
-      rw refusals (rejects_answer (kind_text k) limit answer (λ f. refusal_text (tells f)) (held name) bytes fault given (is named)),
+      rw refusals of,
+      rw refusals (rejects_answer kind limit answer (λ f. refusal_text (tells f)) (held name) bytes fault given (is named)),
     )
-fails_answer k tells wanting limit answer held name before now bytes fault (stops.Unwritten n) given is so = so
-fails_answer k tells wanting limit answer held name before now bytes fault stops.NoMemory given is so = tt
+fails_answer kind tells wanting limit answer held name before now bytes fault (stops.Unwritten n) of given is so = so
+fails_answer kind tells wanting limit answer held name before now bytes fault stops.NoMemory of given is so = tt

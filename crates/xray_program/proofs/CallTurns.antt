@@ -2,26 +2,26 @@
 use Rattle.std.specs.Prelude.{IfErr, IsErrAnd, OnOk}
 use Rattle.std.proofs.Common.{◌≡◌, ◌⊎◌, ℕ, List, [], length, Option, Some, Result, Ok, Err, inl, inr, refl, sym, subst, arith}
 use Rattle.xray_io.specs.Desk.{Entry, Absent, Holds}
+use Rattle.xray_io.specs.Faults.{Rose}
 use Rattle.xray_io.specs.Sink.{Adds}
 use Rattle.xray_program.specs.declared.stop.Stop.{Stop}
 use Rattle.xray_program.specs.declared.stop.Stop.TheVariants as stops
-use Rattle.xray_program.specs.Answers.{LeavesAll, Reports, CouldNotRead, CouldNotWrite, IsAnswer, IsSimulated}
+use Rattle.xray_program.specs.Answers.{LeavesAll, Reports, CouldNotRead, CouldNotWrite, TellsWriteFault, IsAnswer, IsSimulated}
 use Rattle.xray_program.specs.Calls.{StopsCall, StopsJob}
 use Rattle.patch_script.specs.Refusals.{commands_of}
 use Rattle.step_sim.specs.declared.turns.Turns.{Turns}
 use Rattle.step_sim.specs.Along.{TearsNoSled}
 use Rattle.step_sim.specs.Replay.{AllRunOut, Cast, Moment, scheduled}
-use Rattle.step_sim.specs.Replayed.{cast_of}
 use Rattle.step_sim.specs.Schedules.{schedule_of}
 use Rattle.xray_program.specs.Inputs.{Form, image_form, script_form, schedule_form}
-use Rattle.xray_program.specs.States.{SimPrints}
-use Rattle.xray_program.specs.declared.words.RunOptions.{RunOptions}
+use Rattle.xray_program.specs.States.{SimPrints, cast_with}
+use Rattle.xray_program.specs.declared.run_options.RunOptions.{RunOptions}
 use Rattle.xray_program.proofs.SimTurns.{AfterImage, AfterScript, replay_done}
-use Rattle.xray_program.specs.Meaning.{Outcome, BadLine, TooLong, Refused, Done, Replays, Take, Comes, Says, write_fault_line}
+use Rattle.xray_program.specs.Meaning.{Outcome, BadLine, TooLong, Refused, Done, ComesOfReplay, Take, Comes, Says, write_fault_line}
 use Rattle.xray_program.specs.Outputs.{AreWhole}
 use Rattle.xray_program.specs.Stops.{answer_of, kind_text, refusal_text, stop_status, stop_line}
-use Rattle.xray_program.specs.declared.taken.Taken.{Taken}
-use Rattle.xray_program.specs.Taken.{IsAnswerOrMemory, StopsWork, Yields}
+use Rattle.xray_program.specs.declared.judged.Judged.{Judged}
+use Rattle.xray_program.specs.Judged.{IsAnswerOrMemory, StopsWork, Yields}
 use Rattle.xray_program.specs.Words.{Sim, reading}
 use Rattle.xray_program.specs.Words as words
 
@@ -49,7 +49,7 @@ could_not_write : (said : List (List ℕ)) (held held_now : List ℕ → Entry) 
 could_not_write said held held_now command outputs text rb rn wb wn ob on old new says comes stops.BadLine stopped = absurd stopped
 could_not_write said held held_now command outputs text rb rn wb wn ob on old new says comes (stops.Unread n) stopped = absurd stopped
 could_not_write said held held_now command outputs text rb rn wb wn ob on old new says comes (stops.TooLong n) stopped = absurd stopped
-could_not_write said held held_now command outputs text rb rn wb wn ob on old new says comes (stops.Refused n kind refusal) stopped = absurd stopped
+could_not_write said held held_now command outputs text rb rn wb wn ob on old new says comes (stops.Refused n refusal) stopped = absurd stopped
 could_not_write said held held_now command outputs text rb rn wb wn ob on old new says comes stops.NoMemory stopped = absurd stopped
 could_not_write said held held_now command outputs text rb rn wb wn ob on old new says comes (stops.Unwritten n) stopped =
     record { outputs = outputs; text = text; meant = rw (← says) comes; failed = stopped }
@@ -68,39 +68,40 @@ stops_call said held mid held_now command outputs text rb rn wb wm wn ob on old 
     (subst (λ (h : List ℕ → Entry). StopsJob outputs text h held_now wm wn ob on old new stop) same stopped))
 
 -- judged inputs that come to a stop stop the call, and nothing is written
-pub stops_work : {X : Type 0} (said : List (List ℕ)) (held held_now : List ℕ → Entry) (command : words.Command) (taken : Taken)
+pub stops_work : {X : Type 0} (said : List (List ℕ)) (held held_now : List ℕ → Entry) (command : words.Command) (judged : Judged)
     (reads_before reads_now writes_before writes_now out_before out_now : ℕ) (out : Option (List ℕ)) (result : Result X Stop) (stop : Stop)
     → Some command ≡ reading said → held_now ≡ held
-    → ((outcome : Outcome) → Yields taken outcome → Comes (λ name. held name ≡ Absent) held command outcome)
-    → IsErrAnd result (λ s. s ≡ stop) → StopsWork (Yields taken) stop
+    → ((outcome : Outcome) → Yields judged outcome → Comes (λ name. held name ≡ Absent) held command outcome)
+    → IsErrAnd result (λ s. s ≡ stop) → StopsWork (Yields judged) stop
     → IfErr result (StopsCall said held held_now reads_before reads_now writes_before writes_now out_before out_now out out)
-stops_work said held held_now command taken rb rn wb wn ob on out (Ok done) stop says same gives is stopped = tt
-stops_work said held held_now command taken rb rn wb wn ob on out (Err s) stop says same gives is stopped = rw is (behind stop stopped)
+stops_work said held held_now command judged rb rn wb wn ob on out (Ok done) stop says same gives is stopped = tt
+stops_work said held held_now command judged rb rn wb wn ob on out (Err s) stop says same gives is stopped = rw is (behind stop stopped)
   where
-    behind : (stop : Stop) → StopsWork (Yields taken) stop → StopsCall said held held_now rb rn wb wn ob on out out stop
+    behind : (stop : Stop) → StopsWork (Yields judged) stop → StopsCall said held held_now rb rn wb wn ob on out out stop
     behind stops.BadLine stopped = absurd stopped
     behind (stops.Unread n) stopped = absurd stopped
     behind (stops.TooLong n) stopped = absurd stopped
-    behind (stops.Refused n kind refusal) stopped = (rw (← says) (gives _ stopped), (same, refl))
+    behind (stops.Refused n refusal) stopped = (rw (← says) (gives _ stopped), (same, refl))
     behind (stops.Unwritten n) stopped = absurd stopped
     behind stops.NoMemory stopped = (λ none. cc, (same, refl))
 
 -- what is meant is answered, where its status is that of a job that was delivered or stopped
-pub answers_call : {X : Type 0} (outputs : List (List ℕ × List ℕ)) (text : List ℕ) (held held_now : List ℕ → Entry)
-    (reads_before reads_now writes_before writes_mid writes_now out_before out_now : ℕ) (old new : Option (List ℕ)) (result : Result X Stop)
+pub answers_call : {X : Type 0} (outputs : List (List ℕ × List ℕ)) (text : List ℕ) (held held_now : List ℕ → Entry) (ReadsFailed : Type 0)
+    (writes_before writes_mid writes_now out_before out_now : ℕ) (old new : Option (List ℕ)) (result : Result X Stop)
     (outcome : Outcome) → writes_mid ≡ writes_before → IsAnswerOrMemory outcome 0
     → IfErr result (StopsJob outputs text held held_now writes_mid writes_now out_before out_now old new)
-    → IsAnswer outcome reads_before reads_now writes_before writes_now out_before out_now (answer_of result)
-answers_call outputs text held held_now rb rn wb wm wn ob on old new (Ok done) outcome same (inl is) stopped = inl is
-answers_call outputs text held held_now rb rn wb wm wn ob on old new (Ok done) outcome same (inr is) stopped = absurd (omega (arith, is))
-answers_call outputs text held held_now rb rn wb wm wn ob on old new (Err stop) outcome same answered stopped =
+    → IsAnswer outcome ReadsFailed (Rose writes_before writes_now ⊎ Rose out_before out_now) (answer_of result)
+answers_call outputs text held held_now ReadsFailed wb wm wn ob on old new (Ok done) outcome same (inl is) stopped = inl is
+answers_call outputs text held held_now ReadsFailed wb wm wn ob on old new (Ok done) outcome same (inr is) stopped = absurd (omega (arith, is))
+answers_call outputs text held held_now ReadsFailed wb wm wn ob on old new (Err stop) outcome same answered stopped =
     behind stop (subst (λ (w : ℕ). StopsJob outputs text held held_now w wn ob on old new stop) same stopped)
   where
-    behind : (stop : Stop) → StopsJob outputs text held held_now wb wn ob on old new stop → IsAnswer outcome rb rn wb wn ob on (stop_status stop)
+    behind : (stop : Stop) → StopsJob outputs text held held_now wb wn ob on old new stop
+        → IsAnswer outcome ReadsFailed (Rose wb wn ⊎ Rose ob on) (stop_status stop)
     behind stops.BadLine stopped = absurd stopped
     behind (stops.Unread n) stopped = absurd stopped
     behind (stops.TooLong n) stopped = absurd stopped
-    behind (stops.Refused n kind refusal) stopped = absurd stopped
+    behind (stops.Refused n refusal) stopped = absurd stopped
     behind (stops.Unwritten n) (inl (fails, untouched)) = inr (inr (inr (refl, inl fails.fault)))
     behind (stops.Unwritten n) (inr fails) = inr (inr (inr (refl, inr fails.fault)))
     behind stops.NoMemory stopped = absurd stopped
@@ -116,8 +117,8 @@ reports said held held_now rb rn wb wn ob on old new before now err_old err_new 
     record { outcome = BadLine; meant = rw stands.0 refl; status_is = sym is; says = says }
 reports said held held_now rb rn wb wn ob on old new before now err_old err_new (stops.TooLong n) status stands says is among =
     record { outcome = TooLong n.now; meant = stands.0; status_is = sym is; says = says }
-reports said held held_now rb rn wb wn ob on old new before now err_old err_new (stops.Refused n kind refusal) status stands says is among =
-    record { outcome = Refused n.now (kind_text kind) (refusal_text refusal); meant = stands.0; status_is = sym is; says = says }
+reports said held held_now rb rn wb wn ob on old new before now err_old err_new (stops.Refused n refusal) status stands says is among =
+    record { outcome = Refused n.now (kind_text refusal) (refusal_text refusal); meant = stands.0; status_is = sym is; says = says }
 reports said held held_now rb rn wb wn ob on old new before now err_old err_new (stops.Unread n) status stands says is (inl one) = absurd (omega arith)
 reports said held held_now rb rn wb wn ob on old new before now err_old err_new (stops.Unread n) status stands says is (inr (inl two)) = absurd (omega arith)
 reports said held held_now rb rn wb wn ob on old new before now err_old err_new (stops.Unread n) status stands says is (inr (inr six)) = absurd (omega arith)
@@ -137,7 +138,7 @@ pub unread : (said : List (List ℕ)) (held held_now : List ℕ → Entry) (read
     → CouldNotRead said held reads_before reads_now before now err_old err_new
 unread said held held_now rb rn wb wn ob on old new before now err_old err_new stops.BadLine status stands says is three = absurd (omega arith)
 unread said held held_now rb rn wb wn ob on old new before now err_old err_new (stops.TooLong n) status stands says is three = absurd (omega arith)
-unread said held held_now rb rn wb wn ob on old new before now err_old err_new (stops.Refused n kind refusal) status stands says is three = absurd (omega arith)
+unread said held held_now rb rn wb wn ob on old new before now err_old err_new (stops.Refused n refusal) status stands says is three = absurd (omega arith)
 unread said held held_now rb rn wb wn ob on old new before now err_old err_new (stops.Unread n) status stands says is three =
     record { name = n.now; turn = stands.0; cause = stands.1; says = says }
 unread said held held_now rb rn wb wn ob on old new before now err_old err_new (stops.Unwritten n) status stands says is three = absurd (omega arith)
@@ -147,13 +148,13 @@ pub unwritten : (said : List (List ℕ)) (held held_now : List ℕ → Entry) (r
     (old new : Option (List ℕ)) (before now : ℕ) (err_old err_new : Option (List ℕ)) (stop : Stop) (status : ℕ)
     → StopsCall said held held_now reads_before reads_now writes_before writes_now out_before out_now old new stop
     → Says before now err_old err_new (stop_line stop) → status ≡ stop_status stop → status ≡ 4
-    → (name : List ℕ) × CouldNotWrite said held held_now writes_before writes_now out_before out_now old new name
-    × Says before now err_old err_new (write_fault_line name)
+    → TellsWriteFault said held held_now writes_before writes_now out_before out_now old new before now err_old err_new
 unwritten said held held_now rb rn wb wn ob on old new before now err_old err_new stops.BadLine status stands says is four = absurd (omega arith)
 unwritten said held held_now rb rn wb wn ob on old new before now err_old err_new (stops.TooLong n) status stands says is four = absurd (omega arith)
-unwritten said held held_now rb rn wb wn ob on old new before now err_old err_new (stops.Refused n kind refusal) status stands says is four = absurd (omega arith)
+unwritten said held held_now rb rn wb wn ob on old new before now err_old err_new (stops.Refused n refusal) status stands says is four = absurd (omega arith)
 unwritten said held held_now rb rn wb wn ob on old new before now err_old err_new (stops.Unread n) status stands says is four = absurd (omega arith)
-unwritten said held held_now rb rn wb wn ob on old new before now err_old err_new (stops.Unwritten n) status stands says is four = (n.now, stands, says)
+unwritten said held held_now rb rn wb wn ob on old new before now err_old err_new (stops.Unwritten n) status stands says is four =
+    record { name = n.now; failed = stands; says = says }
 unwritten said held held_now rb rn wb wn ob on old new before now err_old err_new stops.NoMemory status stands says is four = absurd (omega arith)
 
 -- ---- the headline
@@ -189,7 +190,7 @@ simulated_by tears held i s c image script schedule options outputs text old new
     let first = went_on image_form absent held i (AfterImage options held s c absent) outputs text image image_held comes in
     let second = went_on (script_form first.value options.threads) absent held s (AfterScript options held s c absent first.value)
     outputs text script script_held first.next in
-    let third = went_on (schedule_form options.threads) absent held c (Replays s options first.value second.value)
+    let third = went_on (schedule_form options.threads) absent held c (ComesOfReplay s options first.value second.value)
     outputs text schedule schedule_held second.next in
     let done = replay_done s options first.value second.value third.value outputs text third.next in
     let is : text ≡ done.1.0 = done_alike outputs [] text done.1.0 done.1.2 in
@@ -199,13 +200,13 @@ simulated_by tears held i s c image script schedule options outputs text old new
       program = first.value;
       accepted = first.reads;
       plan = second.value;
-      commands = second.reads;
-      still = done.0;
+      script_reads = second.reads;
+      nobody_waits = done.0;
       turns = third.value;
-      lines = third.reads;
+      schedule_reads = third.reads;
       text = text;
       prints = prints;
-      whole = λ last out. tears (cast_of first.value (commands_of second.value.lines) prints.passings) options.threads schedule third.value last third.reads out;
+      whole = λ last out. tears (cast_with first.value (commands_of second.value.lines) prints.runs) options.threads schedule third.value last third.reads out;
       out = adds;
     }
   where

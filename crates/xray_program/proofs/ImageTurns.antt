@@ -5,8 +5,7 @@ use Rattle.xray_image.specs.declared.fault.ImageFault.{ImageFault}
 use Rattle.xray_image.specs.declared.fault.ImageFault.TheVariants as faults
 use Rattle.xray_image.specs.Program.{Program, IsAccepted}
 use Rattle.xray_image.specs.Table.{Verdict, ReadsAs}
-use Rattle.xray_program.specs.declared.refusal.Refusal.TheVariants.{Faulty}
-use Rattle.xray_program.specs.declared.stop.Kind.TheVariants.{Image}
+use Rattle.xray_program.specs.declared.refusal.Refusal.TheVariants.{Image}
 use Rattle.xray_program.specs.declared.stop.Stop.{Stop}
 use Rattle.xray_program.specs.declared.stop.Stop.TheVariants as stops
 use Rattle.xray_program.specs.Faults.{fault_text}
@@ -63,12 +62,12 @@ rejects_image entry bytes fault result given reader is named = record {
 -- ---- the stop that a fault comes to
 
 pub fails_image : (held : List ℕ → Entry) (name : List ℕ) (before now : ℕ) (bytes : List ℕ) (fault : ImageFault) (result : Verdict) (stop : Stop)
-    → GivesBytes 4194304 (held name) bytes → Reader bytes result → result ≡ Err fault → IsFaultStop Image Faulty faults.NoMemory name fault stop
+    → GivesBytes 4194304 (held name) bytes → Reader bytes result → result ≡ Err fault → IsFaultStop Image faults.NoMemory name fault stop
     → Fails image_form held name before now stop
 fails_image held name before now bytes fault result stops.BadLine given reader is so = so
 fails_image held name before now bytes fault result (stops.Unread n) given reader is so = absurd so
 fails_image held name before now bytes fault result (stops.TooLong n) given reader is so = absurd so
-fails_image held name before now bytes fault result (stops.Refused n kind refusal) given reader is (same, kinds, refusals, named) =
-    (same, rw kinds refl, rw refusals (rejects_image (held name) bytes fault result given reader is named))
+fails_image held name before now bytes fault result (stops.Refused n refusal) given reader is (same, refusals, named) =
+    (same, rw refusals refl, rw refusals (rejects_image (held name) bytes fault result given reader is named))
 fails_image held name before now bytes fault result (stops.Unwritten n) given reader is so = so
 fails_image held name before now bytes fault result stops.NoMemory given reader is so = tt

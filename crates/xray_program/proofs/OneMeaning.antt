@@ -1,18 +1,20 @@
 -- Words mean one thing over a desk that tells of every name.
-use Rattle.std.proofs.Common.{◌≡◌, ◌≢◌, ◌<◌, ◌≤◌, ◌+◌, ◌∙◌, ◌↔◌, ℕ, zero, suc, List, [], ◌∷◌, length, map, Option, Some, None, Result, Ok, Err, inl, inr, refl, sym, ap, arith, subst, codes}
+use Rattle.std.proofs.Common.{◌≡◌, ◌≢◌, ◌<◌, ◌≤◌, ◌+◌, ◌++◌, ◌∙◌, ◌↔◌, ℕ, zero, suc, List, [], ◌∷◌, length, map, Option, Some, None, Result, Ok, Err, inl, inr, refl, sym, ap, arith, subst, codes}
 use Rattle.std.specs.Prelude.{MatchOption}
 use Rattle.std.specs.List.{flat_map, slice_get}
+use Rattle.std.proofs.lemmas.List.{length-map}
 use Rattle.asm_text.specs.Assembling.{assembled}
 use Rattle.handler_word.specs.declared.mark.Mark.{Mark}
 use Rattle.machine_step.specs.declared.end.End.{End}
 use Rattle.machine_step.specs.declared.limits.Limits.{Limits}
 use Rattle.machine_step.specs.PlainStep.{Passing, PlainRun, State}
+use Rattle.machine_step.specs.Texts.{state_text}
 use Rattle.machine_step.specs.Traced.{sleds_of}
 use Rattle.patch_script.specs.declared.command.Command.{Command as ScriptCommand}
 use Rattle.patch_script.specs.Plans.{Plan, plan_of, waiting_line}
 use Rattle.patch_script.specs.Refusals.{commands_of}
 use Rattle.step_sim.specs.declared.turns.Turns.{Turns}
-use Rattle.step_sim.specs.Replay.{Cast, Replay, of_thread}
+use Rattle.step_sim.specs.Replay.{Cast, Replay}
 use Rattle.step_sim.specs.Replayed.{cast_of}
 use Rattle.step_sim.specs.Schedules.{schedule_of}
 use Rattle.xray_image.specs.Extract.{extract_text}
@@ -20,14 +22,15 @@ use Rattle.xray_image.specs.Program.{Program, IsAccepted}
 use Rattle.xray_image.specs.Table.{Verdict, ReadsAs}
 use Rattle.xray_io.specs.Desk.{Entry, Untold, Absent, Holds}
 use Rattle.xray_program.specs.Faults.{asm_fault_text, fault_text, schedule_fault_text, script_fault_text}
-use Rattle.xray_program.specs.Inputs.{Form, answered_form, image_form, script_form, schedule_form, text_form}
-use Rattle.xray_program.specs.Meaning.{Outcome, BadLine, Refused, Done, Prints, Replays, Take, Comes, Means, MayHold, TellsAll}
-use Rattle.xray_program.specs.Plain.{IsPlainText, PlainPrints, limits_of}
-use Rattle.xray_program.specs.States.{IsStateText, SimPrints}
+use Rattle.xray_program.specs.Inputs.{Form, form_by, image_form, script_form, schedule_form, text_form}
+use Rattle.xray_program.specs.Meaning.{Outcome, BadLine, Refused, Done, Prints, ComesOfReplay, Take, Comes, Means, MayHold, TellsAll}
+use Rattle.xray_program.specs.Plain.{IsPlainText, PlainPrints}
+use Rattle.xray_program.specs.Setups.{limits_of}
+use Rattle.xray_program.specs.States.{SimPrints, ThreadRun, cast_with, state_texts}
 use Rattle.xray_program.specs.Words.{Command, Sim, Plain, Extract, Asm, reading}
-use Rattle.xray_program.specs.declared.words.RunOptions.{RunOptions}
+use Rattle.xray_program.specs.declared.run_options.RunOptions.{RunOptions}
 use Rattle.xray_program.proofs.SimTurns.{AfterImage, AfterScript}
-use Rattle.xray_program.proofs.TextLists.{also_there, of_thread_at, same_list}
+use Rattle.xray_program.proofs.TextLists.{HasItem, item_behind, same_list}
 
 -- ---- inputs in their turn
 
@@ -107,7 +110,7 @@ image_decided one accepts = record {
 
 -- a form is decided where a function gives the value that bytes read as, or the fault that they are refused for
 of_answers : {X F : Type 0} (kind : List ℕ) (limit : ℕ) (answer : List ℕ → Result X F) (say : F → List ℕ)
-    → IsDecided (answered_form kind limit answer say)
+    → IsDecided (form_by kind limit answer say)
 of_answers {X} {F} kind limit answer say = record {
   one = λ bytes a b x y. same_value a b (sym x ∙ y);
   why = λ bytes r s x y. x.2 ∙ ap say (same_fault x.0 y.0 (sym x.1 ∙ y.1)) ∙ sym y.2;
@@ -134,61 +137,56 @@ text_decided threshold = of_answers (codes "text") 4194304 (λ bytes. assembled 
 
 -- ---- the texts
 
--- the sleds that a thread passes, by its plain run
-record Passes (program : Program) (limits : Limits) (thread : ℕ) (sleds : List ℕ) : Type 0 where
-  passed : List Passing
-  end : End
-  last : State
-  run : PlainRun program limits thread passed end last
-  sleds_are : sleds ≡ sleds_of passed
+-- a plain run: its passings, its end and its last state
+abbrev Core : Type 0
+Core = List Passing × End × State
 
-one_passes : OneEnd → (bytes : List ℕ) (program : Program) (limits : Limits) (thread : ℕ) (one other : List ℕ) → IsAccepted bytes program
-    → Passes program limits thread one → Passes program limits thread other → one ≡ other
-one_passes one_end bytes program limits thread one other accepted a b =
-    let same = one_end bytes program limits thread a.passed b.passed a.end b.end a.last b.last accepted a.run b.run in
-    a.sleds_are ∙ ap sleds_of same.0 ∙ sym b.sleds_are
+abbrev core : ThreadRun → Core
+core run = (run.passed, run.end, run.last)
 
-each_passes : (program : Program) (script : List ScriptCommand) (schedule : List Turns) (options : RunOptions) (x : List ℕ)
-    (p : SimPrints program script schedule options x) (k : ℕ) (sleds : List ℕ) → slice_get p.passings k ≡ Some sleds
-    → Passes program (limits_of options) (k + 1) sleds
-each_passes program script schedule options x p k sleds at =
-    let text = also_there p.passings p.texts k sleds (p.threads ∙ sym p.count) at in
-    let is = p.each k text.0 text.1 in
-    record {
-      passed = is.passed;
-      end = is.end;
-      last = is.last;
-      run = is.run;
-      sleds_are = sym (of_thread_at p.passings k sleds at) ∙ is.sleds_are;
-    }
+-- the text of runs is that of their plain parts and their marks
+abbrev texts_with : ℕ → List Core → List (List Mark) → List ℕ
+texts_with number [] marks = []
+texts_with number (c ∷ cs) [] = []
+texts_with number ((passed, end, last) ∷ cs) (m ∷ marks) = state_text number end last m ++ texts_with (number + 1) cs marks
 
-one_state : OneEnd → (bytes : List ℕ) (program : Program) (limits : Limits) (thread : ℕ) (sleds sleds' : List ℕ) (marks marks' : List Mark)
-    (t u : List ℕ) → IsAccepted bytes program → marks ≡ marks' → IsStateText program limits thread sleds marks t
-    → IsStateText program limits thread sleds' marks' u → t ≡ u
-one_state one_end bytes program limits thread sleds sleds' marks marks' t u accepted m a b =
-    let same = one_end bytes program limits thread a.passed b.passed a.end b.end a.last b.last accepted a.run b.run in
-    a.prints ∙ rw (same.1, same.2, m) refl ∙ sym b.prints
+texts_are : (number : ℕ) (runs : List ThreadRun) → state_texts number runs ≡ texts_with number (map core runs) (map (λ run. run.marks) runs)
+texts_are number [] = refl
+texts_are number (run ∷ runs) = ap (λ (text : List ℕ). state_text number run.end run.last run.marks ++ text) (texts_are (number + 1) runs)
+
+sleds_are : (runs : List ThreadRun) → map (λ run. sleds_of run.passed) runs ≡ map (λ (c : Core). sleds_of c.0) (map core runs)
+sleds_are [] = refl
+sleds_are (run ∷ runs) = ap (λ (ss : List (List ℕ)). sleds_of run.passed ∷ ss) (sleds_are runs)
+
+abbrev IsCore : Program → Limits → ℕ → Core → Type 0
+IsCore program limits i c = PlainRun program limits (i + 1) c.0 c.1 c.2
+
+one_core : OneEnd → (bytes : List ℕ) (program : Program) (limits : Limits) (i : ℕ) (c d : Core) → IsAccepted bytes program
+    → IsCore program limits i c → IsCore program limits i d → c ≡ d
+one_core one_end bytes program limits i (passed, end, last) (passed', end', last') accepted p q =
+    let same = one_end bytes program limits (i + 1) passed passed' end end' last last' accepted p q in
+    rw (same.0, same.1, same.2) refl
+
+each_core : (program : Program) (script : List ScriptCommand) (schedule : List Turns) (options : RunOptions) (x : List ℕ)
+    (p : SimPrints program script schedule options x) (k : ℕ) (c : Core) → slice_get (map core p.runs) k ≡ Some c
+    → IsCore program (limits_of options) k c
+each_core program script schedule options x p k c at =
+    let item = item_behind core p.runs k c at in
+    subst (IsCore program (limits_of options) k) item.value (p.plain k item.item item.found)
 
 one_sim : OneEnd → OneReplay → (bytes : List ℕ) (program : Program) (script : List ScriptCommand) (schedule : List Turns) (options : RunOptions)
     (x y : List ℕ) → IsAccepted bytes program → SimPrints program script schedule options x → SimPrints program script schedule options y → x ≡ y
 one_sim one_end one_replay bytes program script schedule options x y accepted p q =
-    let limits = limits_of options in
-    let passings : p.passings ≡ q.passings = same_list (λ i. Passes program limits (i + 1))
-    (λ i t u a b. one_passes one_end bytes program limits (i + 1) t u accepted a b) p.passings q.passings
-    (each_passes program script schedule options x p) (each_passes program script schedule options y q) (p.threads ∙ sym q.threads) in
-    let again = subst (λ (ps : List (List ℕ)). Replay (cast_of program script ps) schedule p.marks) passings p.replayed in
-    let marks : p.marks ≡ q.marks = one_replay (cast_of program script q.passings) schedule p.marks q.marks again q.replayed in
-    p.joined ∙ ap (flat_map (λ t. t)) (same_list (λ i. IsState limits q.marks i) (λ i. one_text limits q.marks i) p.texts q.texts
-    (λ i t at. let is = p.each i t at in (of_thread p.passings (i + 1), subst (λ (ms : List (List Mark)). IsStateText program limits (i + 1) (of_thread p.passings (i + 1)) (of_thread ms (i + 1)) t) marks is))
-    (λ i t at. (of_thread q.passings (i + 1), q.each i t at)) (p.count ∙ sym q.count))
-    ∙ sym q.joined
-  where
-    IsState : Limits → List (List Mark) → ℕ → List ℕ → Type 0
-    IsState limits marks i t = (sleds : List ℕ) × IsStateText program limits (i + 1) sleds (of_thread marks (i + 1)) t
-
-    one_text : (limits : Limits) (marks : List (List Mark)) (i : ℕ) (t u : List ℕ) → IsState limits marks i t → IsState limits marks i u → t ≡ u
-    one_text limits marks i t u a b =
-        one_state one_end bytes program limits (i + 1) a.0 b.0 (of_thread marks (i + 1)) (of_thread marks (i + 1)) t u accepted refl a.1 b.1
+    let cores : map core p.runs ≡ map core q.runs = same_list (IsCore program (limits_of options))
+    (λ i c d a b. one_core one_end bytes program (limits_of options) i c d accepted a b) (map core p.runs) (map core q.runs)
+    (each_core program script schedule options x p) (each_core program script schedule options y q)
+    (length-map _ _ ∙ p.threads ∙ sym q.threads ∙ sym (length-map _ _)) in
+    let sleds : map (λ (run : ThreadRun). sleds_of run.passed) p.runs ≡ map (λ (run : ThreadRun). sleds_of run.passed) q.runs =
+    sleds_are p.runs ∙ ap (map (λ (c : Core). sleds_of c.0)) cores ∙ sym (sleds_are q.runs) in
+    let again = subst (λ (ss : List (List ℕ)). Replay (cast_of program script ss) schedule (map (λ (run : ThreadRun). run.marks) p.runs)) sleds p.replayed in
+    let marks = one_replay (cast_with program script q.runs) schedule (map (λ (run : ThreadRun). run.marks) p.runs) (map (λ (run : ThreadRun). run.marks) q.runs) again q.replayed in
+    p.prints ∙ texts_are 1 p.runs ∙ ap (λ (cs : List Core). texts_with 1 cs (map (λ (run : ThreadRun). run.marks) p.runs)) cores
+    ∙ ap (texts_with 1 (map core q.runs)) marks ∙ sym (texts_are 1 q.runs) ∙ sym q.prints
 
 one_plain : OneEnd → (bytes : List ℕ) (program : Program) (options : RunOptions) (x y : List ℕ)
     → IsAccepted bytes program → PlainPrints program options x → PlainPrints program options y → x ≡ y
@@ -218,7 +216,7 @@ one_match (Some n) a b P r one p q = p ∙ sym q
 
 -- the replay of values that were read
 one_replays : OneEnd → OneReplay → (s bytes : List ℕ) (options : RunOptions) (program : Program) (plan : Plan) (turns : List Turns) (a b : Outcome)
-    → IsAccepted bytes program → Replays s options program plan turns a → Replays s options program plan turns b → a ≡ b
+    → IsAccepted bytes program → ComesOfReplay s options program plan turns a → ComesOfReplay s options program plan turns b → a ≡ b
 one_replays one_end one_replay s bytes options program plan turns a b accepted x y =
     one_match (waiting_line plan.lines) a b (Prints (SimPrints program (commands_of plan.lines) turns options)) _
     (one_prints a b (SimPrints program (commands_of plan.lines) turns options)
@@ -231,7 +229,7 @@ one_after_script : OneEnd → OneReplay → (options : RunOptions) (held : List 
     → TellsAll held → IsAccepted bytes program → AfterScript options held s c (IsAbsent held) program plan a
     → AfterScript options held s c (IsAbsent held) program plan b → a ≡ b
 one_after_script one_end one_replay options held s c bytes program plan a b told accepted x y =
-    one_take (schedule_form options.threads) (schedule_decided options.threads) held c (Replays s options program plan) a b (told c)
+    one_take (schedule_form options.threads) (schedule_decided options.threads) held c (ComesOfReplay s options program plan) a b (told c)
     (λ _ turns _ p q. one_replays one_end one_replay s bytes options program plan turns a b accepted p q) x y
 
 one_after_image : OneEnd → OneReplay → (options : RunOptions) (held : List ℕ → Entry) (s c bytes : List ℕ) (program : Program) (a b : Outcome)

@@ -3,7 +3,7 @@ use Rattle.std.proofs.Common.{◌≡◌, ℕ, List, [], ◌∷◌, Contains, map
 use Rattle.xray_io.specs.Desk.{Entry, Absent}
 use Rattle.xray_image.specs.Extract.{extract_text}
 use Rattle.xray_program.specs.Inputs.{Form, image_form, script_form, schedule_form, text_form}
-use Rattle.xray_program.specs.Meaning.{Outcome, Done, Prints, Replays, Take, Comes}
+use Rattle.xray_program.specs.Meaning.{Outcome, Done, Prints, ComesOfReplay, Take, Comes}
 use Rattle.xray_program.proofs.SimTurns.{AfterImage, AfterScript, replay_done}
 use Rattle.xray_program.specs.Plain.{PlainPrints}
 use Rattle.xray_program.specs.Words.{Sim, Plain, Extract, Asm, outputs_named, outputs_of, reading}
@@ -33,7 +33,7 @@ outputs_are_named : (fails : List ℕ → Type 0) (held : List ℕ → Entry) (c
 outputs_are_named fails held (Sim i s c options) outputs text comes =
     let first = done_with image_form fails held i (AfterImage options held s c fails) outputs text comes in
     let second = done_with (script_form first.0 options.threads) fails held s (AfterScript options held s c fails first.0) outputs text first.1 in
-    let third = done_with (schedule_form options.threads) fails held c (Replays s options first.0 second.0) outputs text second.1 in
+    let third = done_with (schedule_form options.threads) fails held c (ComesOfReplay s options first.0 second.0) outputs text second.1 in
     let printed = replay_done s options first.0 second.0 third.0 outputs text third.1 in
     named_alike outputs [] text printed.1.0 printed.1.2
 outputs_are_named fails held (Plain i options) outputs text comes =

@@ -1,62 +1,118 @@
 -- The threads that a replay leaves are printed as `sim` prints.
 use Rattle.std.specs.Prelude.{MatchOption}
-use Rattle.std.proofs.Common.{◌≡◌, ◌+◌, ◌∙◌, ℕ, zero, suc, List, [], ◌∷◌, length, map, Option, option_map, Some, None, inl, refl, sym, ap}
+use Rattle.std.proofs.Common.{◌≡◌, ◌+◌, ◌-◌, ◌++◌, ◌∙◌, ℕ, zero, suc, List, [], ◌∷◌, length, map, Option, Some, None, inl, refl, sym, ap, arith, subst}
+use Rattle.std.specs.Prelude.{unwrap_or}
 use Rattle.std.specs.List.{All, flat_map, slice_get}
 use Rattle.std.proofs.lemmas.List.{length-map}
 use Rattle.std.proofs.lemmas.List.Elements.{All-cons, All-nil}
 use Rattle.std.proofs.lemmas.List.FromFn.{length-enumerate_from}
-use Rattle.std.proofs.lemmas.Option.{slice_get-map}
 use Rattle.xray_image.specs.Program.{Program}
 use Rattle.patch_script.specs.declared.command.Command.{Command}
 use Rattle.patch_script.specs.Plans.{Plan, waiting_line}
 use Rattle.patch_script.specs.Refusals.{commands_of}
 use Rattle.handler_word.specs.declared.mark.Mark.{Mark}
-use Rattle.machine_step.specs.Traced.{IsDone, IsThreadOf, Traced}
+use Rattle.machine_step.specs.declared.limits.Limits.{Limits}
+use Rattle.machine_step.specs.PlainStep.{PlainRun}
+use Rattle.machine_step.specs.Texts.{state_text}
+use Rattle.machine_step.specs.Traced.{IsDone, Traced, sleds_of}
 use Rattle.step_sim.specs.declared.turns.Turns.{Turns}
-use Rattle.step_sim.specs.Replay.{of_thread}
-use Rattle.step_sim.specs.Replayed.{HasRun, IsReplayed}
-use Rattle.xray_program.specs.declared.words.RunOptions.{RunOptions}
+use Rattle.step_sim.specs.Replay.{Replay, of_thread}
+use Rattle.step_sim.specs.Replayed.{HasRun, IsReplayed, cast_of}
+use Rattle.xray_program.specs.declared.run_options.RunOptions.{RunOptions}
 use Rattle.xray_program.specs.Jobs.{thread_text}
-use Rattle.xray_program.specs.Meaning.{Outcome, Prints, Replays, status_of}
-use Rattle.xray_program.specs.Plain.{limits_of}
-use Rattle.xray_program.specs.States.{IsStateText, SimPrints}
-use Rattle.xray_program.specs.Taken.{IsAnswerOrMemory}
-use Rattle.xray_program.proofs.TextLists.{HasItem, item_behind, joined_texts, of_thread_at}
+use Rattle.xray_program.specs.Judged.{IsAnswerOrMemory}
+use Rattle.xray_program.specs.Meaning.{Outcome, Prints, ComesOfReplay, status_of}
+use Rattle.xray_program.specs.Setups.{limits_of}
+use Rattle.xray_program.specs.States.{SimPrints, ThreadRun, cast_with, state_texts}
+
+-- the sleds at a place of a list of them
+abbrev sleds_at : List (List ℕ) → ℕ → List ℕ
+sleds_at passings k = unwrap_or (slice_get passings k) []
+
+-- traced threads, numbered from one of a number on, that have run as their plain runs do, which pass these sleds: their runs
+record HaveRun (program : Program) (limits : Limits) (number : ℕ) (passings : List (List ℕ)) (ts : List Traced) : Type 0 where
+  runs : List ThreadRun
+  count : length runs ≡ length ts
+  plain : (k : ℕ) (run : ThreadRun) → slice_get runs k ≡ Some run → PlainRun program limits (number + k) run.passed run.end run.last
+  sleds : map (λ run. sleds_of run.passed) runs ≡ passings
+  marks : map (λ run. run.marks) runs ≡ map (λ t. t.marks) ts
+  texts : flat_map thread_text ts ≡ state_texts number runs
 
 -- the text of a thread that has run is its state text
-state_printed : (program : Program) (script : List Command) (options : RunOptions) (k : ℕ) (sleds : List ℕ) (marks : List Mark) (t : Traced)
-    (text : List ℕ) (hold : Option ℕ) → IsThreadOf program (k + 1) options.threads hold (limits_of options) t
-    → HasRun program (limits_of options) (k + 1) sleds t → marks ≡ t.marks → thread_text t ≡ text
-    → IsStateText program (limits_of options) (k + 1) sleds marks text
-state_printed program script options k sleds marks t text hold is has same prints = record {
-  passed = has.passed;
-  end = has.end;
-  last = has.last;
-  run = has.run;
-  sleds_are = has.sleds_are;
-  prints = sym prints
-      ∙ rw (has.done, is.thread_is, same, sym has.registers, sym has.zero_flag, sym has.output, sym has.instructions, sym has.passings) refl;
-}
+thread_printed : (program : Program) (limits : Limits) (number : ℕ) (sleds : List ℕ) (t : Traced) (has : HasRun program limits number sleds t)
+    → t.thread ≡ number → thread_text t ≡ state_text number has.end has.last t.marks
+thread_printed program limits number sleds t has is =
+    rw (has.done, is, sym has.registers, sym has.zero_flag, sym has.output, sym has.instructions, sym has.passings) refl
 
--- all threads
+runs_of : (program : Program) (limits : Limits) (number : ℕ) (passings : List (List ℕ)) (ts : List Traced) → length passings ≡ length ts
+    → ((i : ℕ) (t : Traced) → slice_get ts i ≡ Some t → HasRun program limits (number + i) (sleds_at passings i) t)
+    → ((i : ℕ) (t : Traced) → slice_get ts i ≡ Some t → t.thread ≡ number + i)
+    → HaveRun program limits number passings ts
+runs_of program limits number [] [] same own is =
+    record { runs = []; count = refl; plain = λ k run at. absurd (nothing k run at); sleds = refl; marks = refl; texts = refl }
+  where
+    nothing : (k : ℕ) (run : ThreadRun) → slice_get [] k ≡ Some run → ⊥
+    nothing zero run at = cc
+    nothing (suc k) run at = cc
+runs_of program limits number [] (t ∷ ts) same own is = absurd (omega (arith, same))
+runs_of program limits number (sleds ∷ passings) [] same own is = absurd (omega (arith, same))
+runs_of program limits number (sleds ∷ passings) (t ∷ ts) same own is =
+    let first : number + zero ≡ number = omega arith in
+    let has = subst (λ (n : ℕ). HasRun program limits n sleds t) first (own zero t refl) in
+    let rest = runs_of program limits (number + 1) passings ts (omega (arith, same))
+    (λ i u at. subst (λ (n : ℕ). HasRun program limits n (sleds_at passings i) u) (later i) (own (suc i) u at))
+    (λ i u at. is (suc i) u at ∙ later i) in
+    let run : ThreadRun = record { passed = has.passed; end = has.end; last = has.last; marks = t.marks } in
+    record {
+      runs = run ∷ rest.runs;
+      count = ap suc rest.count;
+      plain = plain_at run rest.runs has.run rest.plain;
+      sleds = ap (λ (s : List ℕ). s ∷ map (λ (r : ThreadRun). sleds_of r.passed) rest.runs) (sym has.sleds_are) ∙ ap (λ (ss : List (List ℕ)). sleds ∷ ss) rest.sleds;
+      marks = ap (λ (ms : List (List Mark)). t.marks ∷ ms) rest.marks;
+      texts = ap (λ (text : List ℕ). text ++ flat_map thread_text ts) (thread_printed program limits number sleds t has (is zero t refl ∙ first))
+          ∙ ap (λ (text : List ℕ). state_text number has.end has.last t.marks ++ text) rest.texts;
+    }
+  where
+    later : (i : ℕ) → number + suc i ≡ number + 1 + i
+    later i = omega arith
+
+    plain_at : (run : ThreadRun) (runs : List ThreadRun) → PlainRun program limits number run.passed run.end run.last
+        → ((k : ℕ) (other : ThreadRun) → slice_get runs k ≡ Some other → PlainRun program limits (number + 1 + k) other.passed other.end other.last)
+        → (k : ℕ) (other : ThreadRun) → slice_get (run ∷ runs) k ≡ Some other → PlainRun program limits (number + k) other.passed other.end other.last
+    plain_at run runs here behind zero other at =
+        let same : run ≡ other = cc in
+        let none : number + zero ≡ number = omega arith in
+        subst (λ (r : ThreadRun). PlainRun program limits (number + zero) r.passed r.end r.last) same
+        (subst (λ (n : ℕ). PlainRun program limits n run.passed run.end run.last) (sym none) here)
+    plain_at run runs here behind (suc k) other at =
+        subst (λ (n : ℕ). PlainRun program limits n other.passed other.end other.last) (sym (later k)) (behind k other at)
+
+-- all threads of a replay
 pub replay_printed : (program : Program) (script : List Command) (schedule : List Turns) (options : RunOptions) (ts : List Traced)
     → IsReplayed program script schedule options.threads (limits_of options) ts
     → SimPrints program script schedule options (flat_map thread_text ts)
-replay_printed program script schedule options ts is = record {
-  passings = is.passings;
-  threads = sym (length-enumerate_from 1 is.passings) ∙ sym (length-map _ _) ∙ sym (ap (λ (all : List (List Mark)). length all) is.marks.2)
-      ∙ length-map _ _ ∙ is.count;
-  marks = map (λ t. t.marks) ts;
-  replayed = is.marks;
-  texts = map thread_text ts;
-  count = length-map _ _ ∙ is.count;
-  each = λ k text at.
-      let item = item_behind thread_text ts k text at in
-      state_printed program script options k (of_thread is.passings (k + 1)) (of_thread (map (λ t. t.marks) ts) (k + 1)) item.item text _
-      (is.thread k item.item item.found) (is.plain k item.item item.found)
-      (of_thread_at (map (λ t. t.marks) ts) k item.item.marks (slice_get-map (λ t. t.marks) ts k ∙ ap (option_map (λ (t : Traced). t.marks)) item.found)) item.value;
-  joined = joined_texts thread_text ts;
-}
+replay_printed program script schedule options ts is =
+    let limits = limits_of options in
+    let counted : length is.passings ≡ length ts = sym (length-enumerate_from 1 is.passings) ∙ sym (length-map _ _)
+    ∙ sym (ap (λ (all : List (List Mark)). length all) is.marks.2) ∙ length-map _ _ in
+    let have = runs_of program limits 1 is.passings ts counted
+    (λ i t at. subst (λ (n : ℕ). HasRun program limits n (sleds_at is.passings i) t) (flipped i)
+    (subst (λ (s : List ℕ). HasRun program limits (i + 1) s t) (ap (sleds_at is.passings) (back i)) (is.plain i t at)))
+    (λ i t at. let of = is.thread i t at in of.thread_is ∙ flipped i) in
+    record {
+      runs = have.runs;
+      threads = have.count ∙ is.count;
+      plain = λ k run at. subst (λ (n : ℕ). PlainRun program limits n run.passed run.end run.last) (sym (flipped k)) (have.plain k run at);
+      replayed = subst (λ (ps : List (List ℕ)). Replay (cast_of program script ps) schedule (map (λ run. run.marks) have.runs)) (sym have.sleds)
+          (subst (λ (ms : List (List Mark)). Replay (cast_of program script is.passings) schedule ms) (sym have.marks) is.marks);
+      prints = have.texts;
+    }
+  where
+    flipped : (i : ℕ) → i + 1 ≡ 1 + i
+    flipped i = omega arith
+
+    back : (i : ℕ) → i + 1 - 1 ≡ i
+    back i = omega arith
 
 -- each of them has ended
 each_one : (P : Traced → Type 0) (ts : List Traced) → ((i : ℕ) (t : Traced) → slice_get ts i ≡ Some t → P t) → All P ts
@@ -81,11 +137,11 @@ of_none (Some n) P Q never holds = absurd (never n refl)
 -- nobody may wait
 pub still_prints : (name : List ℕ) (options : RunOptions) (program : Program) (plan : Plan) (turns : List Turns) (outcome : Outcome)
     → ((line : ℕ) → waiting_line plan.lines ≡ Some line → ⊥)
-    → Prints (SimPrints program (commands_of plan.lines) turns options) outcome → Replays name options program plan turns outcome
+    → Prints (SimPrints program (commands_of plan.lines) turns options) outcome → ComesOfReplay name options program plan turns outcome
 still_prints name options program plan turns outcome still prints = none_matches (waiting_line plan.lines) _ _ still prints
 
 pub still_answers : (name : List ℕ) (options : RunOptions) (program : Program) (plan : Plan) (turns : List Turns) (outcome : Outcome)
-    → ((line : ℕ) → waiting_line plan.lines ≡ Some line → ⊥) → Replays name options program plan turns outcome
+    → ((line : ℕ) → waiting_line plan.lines ≡ Some line → ⊥) → ComesOfReplay name options program plan turns outcome
     → IsAnswerOrMemory outcome 0
 still_answers name options program plan turns outcome still comes =
     let prints = of_none (waiting_line plan.lines) (Prints (SimPrints program (commands_of plan.lines) turns options) outcome) _ still comes in

@@ -11,8 +11,8 @@ use Rattle.xray_program.specs.declared.stop.Stop.TheVariants as stops
 use Rattle.xray_program.specs.Inputs.{Form}
 use Rattle.xray_program.specs.Meaning.{Outcome, Unread, TooLong, Refused, Take, MayHold, status_of}
 use Rattle.xray_program.specs.Stops.{kind_text, refusal_text, stop_status, answer_of}
-use Rattle.xray_program.specs.declared.taken.Taken.{Taken}
-use Rattle.xray_program.specs.Taken.{IsTakenSoFar}
+use Rattle.xray_program.specs.declared.judged.Judged.{Judged}
+use Rattle.xray_program.specs.Judged.{IsJudgedSoFar}
 use Rattle.xray_program.specs.Takes.{Gives, GivesBytes, IsTooLong, Rejects, FailsToRead, Fails, IsReadStop, Stops, IsAnswerSoFar}
 
 -- a name with too many bytes may hold bytes that are too many
@@ -31,7 +31,7 @@ pub fails_to_read : (limit : ℕ) (held : List ℕ → Entry) (name : List ℕ) 
 fails_to_read limit held name before now error stops.BadLine long fault so = so
 fails_to_read limit held name before now error (stops.Unread n) long fault (same, is) = (same, fault is)
 fails_to_read limit held name before now error (stops.TooLong n) long fault (same, is) = (same, long is)
-fails_to_read limit held name before now error (stops.Refused n k refusal) long fault so = so
+fails_to_read limit held name before now error (stops.Refused n refusal) long fault so = so
 fails_to_read limit held name before now error (stops.Unwritten n) long fault so = so
 fails_to_read limit held name before now error stops.NoMemory long fault so = tt
 
@@ -54,10 +54,10 @@ stops_here form held name later before now (stops.Unread n) fails =
     (inl (tt, ap Unread fails.0), rw fails.0 fails.1)
 stops_here form held name later before now (stops.TooLong n) fails =
     inr (fails.1.bytes, fails.1.held, inl (fails.1.long, ap TooLong fails.0))
-stops_here form held name later before now (stops.Refused n k refusal) fails =
+stops_here form held name later before now (stops.Refused n refusal) fails =
     inr (fails.2.bytes, fails.2.held, inr (fails.2.within, inl (refusal_text refusal, fails.2.refused, refused)))
   where
-    refused : Refused n.now (kind_text k) (refusal_text refusal) ≡ Refused name form.kind (refusal_text refusal)
+    refused : Refused n.now (kind_text refusal) (refusal_text refusal) ≡ Refused name form.kind (refusal_text refusal)
     refused = rw (fails.0, fails.1) refl
 stops_here form held name later before now (stops.Unwritten n) fails = fails
 stops_here form held name later before now stops.NoMemory fails = tt
@@ -73,7 +73,7 @@ stops_on form held name later value before now (stops.Unread n) gives stopped =
 stops_on form held name later value before now (stops.TooLong n) gives stopped =
     let absent : List ℕ → Type 0 = λ n. held n ≡ Absent in
     gives_on form absent held name (later absent) value _ gives stopped
-stops_on form held name later value before now (stops.Refused n k refusal) gives stopped =
+stops_on form held name later value before now (stops.Refused n refusal) gives stopped =
     let absent : List ℕ → Type 0 = λ n. held n ≡ Absent in
     gives_on form absent held name (later absent) value _ gives stopped
 stops_on form held name later value before now (stops.Unwritten n) gives stopped = stopped
@@ -94,7 +94,7 @@ fails_since form held name first before now (stops.Unread n) up fails = (fails.0
     since (inl rose) = inl (rose_since first before now up rose)
     since (inr absent) = inr absent
 fails_since form held name first before now (stops.TooLong n) up fails = fails
-fails_since form held name first before now (stops.Refused n k refusal) up fails = fails
+fails_since form held name first before now (stops.Refused n refusal) up fails = fails
 fails_since form held name first before now (stops.Unwritten n) up fails = fails
 fails_since form held name first before now stops.NoMemory up fails = tt
 
@@ -104,7 +104,7 @@ pub fails_unread : {X : Type 0} (form : Form X) (held : List ℕ → Entry) (nam
 fails_unread form held name before now stops.BadLine fails = fails
 fails_unread form held name before now (stops.Unread n) fails = fails
 fails_unread form held name before now (stops.TooLong n) fails = fails
-fails_unread form held name before now (stops.Refused n k refusal) fails = absurd fails
+fails_unread form held name before now (stops.Refused n refusal) fails = absurd fails
 fails_unread form held name before now (stops.Unwritten n) fails = fails
 fails_unread form held name before now stops.NoMemory fails = fails
 
@@ -156,13 +156,13 @@ answers_here form held name next before now (stops.TooLong n) outcome told (is, 
     inl (sym (ap status_of too_long))
 answers_here form held name next before now (stops.TooLong n) outcome told (is, much) (inr (bytes, may, inr (within, judged))) =
     absurd (too_many form.limit much.bytes bytes (told_alike (held name) much.bytes bytes told much.held may) much.long within)
-answers_here form held name next before now (stops.Refused n k refusal) outcome told (is, alike, rejects) (inl (absent, unread)) =
+answers_here form held name next before now (stops.Refused n refusal) outcome told (is, alike, rejects) (inl (absent, unread)) =
     absurd (rw absent at rejects.held)
-answers_here form held name next before now (stops.Refused n k refusal) outcome told (is, alike, rejects) (inr (bytes, may, inl (long, too_long))) =
+answers_here form held name next before now (stops.Refused n refusal) outcome told (is, alike, rejects) (inr (bytes, may, inl (long, too_long))) =
     absurd (too_many form.limit bytes rejects.bytes (told_alike (held name) bytes rejects.bytes told may rejects.held) long rejects.within)
-answers_here form held name next before now (stops.Refused n k refusal) outcome told (is, alike, rejects) (inr (bytes, may, inr (within, inl (text, refused, is_refused)))) =
+answers_here form held name next before now (stops.Refused n refusal) outcome told (is, alike, rejects) (inr (bytes, may, inr (within, inl (text, refused, is_refused)))) =
     inl (sym (ap status_of is_refused))
-answers_here form held name next before now (stops.Refused n k refusal) outcome told (is, alike, rejects) (inr (bytes, may, inr (within, inr (value, reads, comes)))) =
+answers_here form held name next before now (stops.Refused n refusal) outcome told (is, alike, rejects) (inr (bytes, may, inr (within, inr (value, reads, comes)))) =
     absurd (rejects.none value (subst (λ b. form.Reads b value) (told_alike (held name) bytes rejects.bytes told may rejects.held) reads))
 
 -- ---- the error that a `?` hands on
@@ -177,7 +177,7 @@ pub answers_result : {X : Type 0} (P : ℕ → Type 0) (result : Result X Stop) 
 answers_result P (Ok value) stop is holds = absurd is
 answers_result P (Err s) stop is holds = rw is holds
 
-pub taken_result : (before now : ℕ) (outcome : Outcome) (result : Result Taken Stop) (stop : Stop)
-    → IsErrAnd result (λ s. s ≡ stop) → IsAnswerSoFar before now outcome (stop_status stop) → IsTakenSoFar before now outcome result
-taken_result before now outcome (Ok taken) stop is holds = absurd is
-taken_result before now outcome (Err s) stop is holds = rw is holds
+pub judged_result : (before now : ℕ) (outcome : Outcome) (result : Result Judged Stop) (stop : Stop)
+    → IsErrAnd result (λ s. s ≡ stop) → IsAnswerSoFar before now outcome (stop_status stop) → IsJudgedSoFar before now outcome result
+judged_result before now outcome (Ok judged) stop is holds = absurd is
+judged_result before now outcome (Err s) stop is holds = rw is holds

@@ -10,8 +10,7 @@ use Rattle.xray_io.specs.Desk.{Entry}
 use Rattle.asm_text.specs.declared.fault.AsmFault.{AsmFault}
 use Rattle.asm_text.specs.declared.fault.AsmFault.TheVariants as faults
 use Rattle.asm_text.specs.Assembling.{assembled, seen}
-use Rattle.xray_program.specs.declared.refusal.Refusal.TheVariants.{Unassembled}
-use Rattle.xray_program.specs.declared.stop.Kind.TheVariants.{Text}
+use Rattle.xray_program.specs.declared.refusal.Refusal.TheVariants.{Text}
 use Rattle.xray_program.specs.declared.stop.Stop.{Stop}
 use Rattle.xray_program.specs.Faults.{asm_fault_text}
 use Rattle.xray_program.specs.Inputs.{text_form}
@@ -65,7 +64,7 @@ gives_text threshold entry bytes file result given assembler is =
 -- the stop that a fault comes to
 pub fails_text : (threshold : ℕ) (held : List ℕ → Entry) (name : List ℕ) (before now : ℕ) (bytes : List ℕ) (fault : AsmFault)
     (result : Answer) (stop : Stop) → GivesBytes 4194304 (held name) bytes → Assembler bytes threshold result → result ≡ Err fault
-    → IsFaultStop Text Unassembled faults.NoMemory name fault stop → Fails (text_form threshold) held name before now stop
+    → IsFaultStop Text faults.NoMemory name fault stop → Fails (text_form threshold) held name before now stop
 fails_text threshold held name before now bytes fault result stop given assembler is so =
-    fails_answer Text Unassembled faults.NoMemory 4194304 (λ b. assembled b threshold) held name before now bytes fault stop given
+    fails_answer (codes "text") Text faults.NoMemory 4194304 (λ b. assembled b threshold) held name before now bytes fault stop refl given
     (λ named. fault_made threshold bytes fault result assembler is named) so

@@ -8,10 +8,10 @@ use Rattle.patch_script.specs.Plans.{Plan, plan_of, waiting_line}
 use Rattle.patch_script.specs.Refusals.{commands_of}
 use Rattle.step_sim.specs.declared.turns.Turns.{Turns}
 use Rattle.step_sim.specs.Schedules.{schedule_of}
-use Rattle.xray_program.specs.Meaning.{Outcome, Done, Unread, status_of, line_of, Means, HadItsTurn, Says}
+use Rattle.xray_program.specs.Meaning.{Outcome, Done, Unread, status_of, line_of, write_fault_line, Means, HadItsTurn, Says}
 use Rattle.xray_program.specs.Outputs.{AreWhole, FailsWriting}
-use Rattle.xray_program.specs.States.{DecodesWhole, SimPrints}
-use Rattle.xray_program.specs.declared.words.RunOptions.{RunOptions}
+use Rattle.xray_program.specs.States.{DecodesWhole, SimPrints, cast_with}
+use Rattle.xray_program.specs.declared.run_options.RunOptions.{RunOptions}
 
 -- all is done: each output that the words mean is whole, and out has exactly the text
 pub record LeavesAll (said : List (List ℕ)) (held held_now : List ℕ → Entry) (old new : Option (List ℕ)) : Type 0 where
@@ -42,24 +42,29 @@ pub record CouldNotWrite (said : List (List ℕ)) (held held_now : List ℕ → 
   pub meant : Means said held (Done outputs text)
   pub failed : FailsWriting outputs text held held_now writes_before writes_now out_before out_now old new name
 
+-- an output failed, or out, and err tells which
+pub record TellsWriteFault (said : List (List ℕ)) (held held_now : List ℕ → Entry) (writes_before writes_now out_before out_now : ℕ) (old new : Option (List ℕ)) (before now : ℕ) (err_old err_new : Option (List ℕ)) : Type 0 where
+  pub name : List ℕ
+  pub failed : CouldNotWrite said held held_now writes_before writes_now out_before out_now old new name
+  pub says : Says before now err_old err_new (write_fault_line name)
+
 -- the image file is accepted, the script and the schedule are read for it and for so many threads, nobody waits in the script, out
 -- has the state texts of the replay, and no thread decodes a torn sled
 pub record IsSimulated (image script schedule : List ℕ) (options : RunOptions) (old new : Option (List ℕ)) : Type 0 where
   pub program : Program
   pub accepted : IsAccepted image program
   pub plan : Plan
-  pub commands : plan_of program options.threads script ≡ Ok plan
-  pub still : waiting_line plan.lines ≡ None
+  pub script_reads : plan_of program options.threads script ≡ Ok plan
+  pub nobody_waits : waiting_line plan.lines ≡ None
   pub turns : List Turns
-  pub lines : schedule_of options.threads schedule ≡ Ok turns
+  pub schedule_reads : schedule_of options.threads schedule ≡ Ok turns
   pub text : List ℕ
   pub prints : SimPrints program (commands_of plan.lines) turns options text
-  pub whole : DecodesWhole program (commands_of plan.lines) turns prints.passings
+  pub whole : DecodesWhole (cast_with program (commands_of plan.lines) prints.runs) turns
   pub out : Adds old new text
 
--- a status that may come where the words mean an outcome: that outcome's, 5 for want of memory, 3
--- where a read of the desk failed, or 4 where a write of the desk or out did
-abbrev pub IsAnswer : Outcome → (reads_before reads_now writes_before writes_now out_before out_now status : ℕ) → Type 0
-IsAnswer outcome reads_before reads_now writes_before writes_now out_before out_now status =
-    (status ≡ status_of outcome) ⊎ (status ≡ 5) ⊎ ((status ≡ 3) × Rose reads_before reads_now)
-    ⊎ ((status ≡ 4) × (Rose writes_before writes_now ⊎ Rose out_before out_now))
+-- a status that may come where the words mean an outcome: that outcome's, 5 for want of memory, 3 where a read failed, or 4 where a
+-- write did
+abbrev pub IsAnswer : Outcome → (ReadsFailed WritesFailed : Type 0) → (status : ℕ) → Type 0
+IsAnswer outcome ReadsFailed WritesFailed status =
+    (status ≡ status_of outcome) ⊎ (status ≡ 5) ⊎ ((status ≡ 3) × ReadsFailed) ⊎ ((status ≡ 4) × WritesFailed)

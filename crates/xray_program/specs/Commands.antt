@@ -24,9 +24,13 @@ item_of (Bare option) = words.Bare option.now
 abbrev pub row_of : NumberOption → words.NumberOption
 row_of o = record { name = o.name.now; least = o.least; most = o.most; default = o.default }
 
--- a command that runs threads has at least one, and at most 16
+-- there may be so many threads: at least one, and at most 16
+abbrev pub IsThreadCount : ℕ → Type 0
+IsThreadCount threads = (1 ≤ threads) × (threads ≤ 16)
+
+-- a command that runs threads may have so many
 abbrev pub HasThreads : Command → Type 0
-HasThreads (Sim image script schedule options) = (1 ≤ options.threads) × (options.threads ≤ 16)
-HasThreads (Plain image options) = (1 ≤ options.threads) × (options.threads ≤ 16)
+HasThreads (Sim image script schedule options) = IsThreadCount options.threads
+HasThreads (Plain image options) = IsThreadCount options.threads
 HasThreads (Extract image) = Unit {0}
 HasThreads (Asm text image threshold) = Unit {0}

@@ -1,4 +1,5 @@
 -- Refusals of image files, assembler texts, scripts and schedules in a line on err: the name of each and its values, a space between them.
+-- Want of memory is a fault of the readers' types, but no bytes are refused for it, so its text is never told.
 use Rattle.std.specs.Prelude.{ℕ, List, ◌++◌, codes, decimal}
 use Rattle.xray_io.specs.Piece.{piece_text}
 use Rattle.asm_text.specs.declared.fault.AsmFault.{AsmFault}

@@ -35,23 +35,24 @@ image_form = record {
 
 -- ---- texts
 
--- inputs whose bytes a function answers: with a value, or with a fault, which is told in a line on err
-abbrev pub answered_form : {X F : Type 0} → (kind : List ℕ) → (limit : ℕ) → (List ℕ → Result X F) → (F → List ℕ) → Form X
-answered_form {X} {F} kind limit answer say = record {
+-- a kind of input that a function judges: its bytes read as the value that it gives, and are refused for the fault that it gives, told
+-- in these words
+abbrev pub form_by : {X F : Type 0} → (kind : List ℕ) → (limit : ℕ) → (judge : List ℕ → Result X F) → (tell : F → List ℕ) → Form X
+form_by {X} {F} kind limit judge tell = record {
   kind = kind;
   limit = limit;
-  Reads = λ bytes value. answer bytes ≡ Ok value;
-  Refuses = λ bytes refusal. (fault : F) × (answer bytes ≡ Err fault) × (refusal ≡ say fault);
+  Reads = λ bytes value. judge bytes ≡ Ok value;
+  Refuses = λ bytes refusal. (fault : F) × (judge bytes ≡ Err fault) × (refusal ≡ tell fault);
 }
 
 -- the text of `asm`, which reads as the image file that it is assembled to
 abbrev pub text_form : ℕ → Form (List ℕ)
-text_form threshold = answered_form (codes "text") 4194304 (λ bytes. assembled bytes threshold) asm_fault_text
+text_form threshold = form_by (codes "text") 4194304 (λ bytes. assembled bytes threshold) asm_fault_text
 
 -- the script of `sim`, for a program and so many threads
 abbrev pub script_form : Program → ℕ → Form Plan
-script_form program threads = answered_form (codes "script") 1048576 (plan_of program threads) script_fault_text
+script_form program threads = form_by (codes "script") 1048576 (plan_of program threads) script_fault_text
 
 -- the schedule of `sim`, for so many threads
 abbrev pub schedule_form : ℕ → Form (List Turns)
-schedule_form threads = answered_form (codes "schedule") 16777216 (schedule_of threads) schedule_fault_text
+schedule_form threads = form_by (codes "schedule") 16777216 (schedule_of threads) schedule_fault_text

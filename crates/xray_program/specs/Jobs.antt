@@ -8,8 +8,8 @@ use Rattle.machine_step.specs.PlainEnd.{IsPlainEnd, state_of}
 use Rattle.machine_step.specs.EndedText.{ended_text}
 use Rattle.machine_step.specs.Texts.{plain_text}
 use Rattle.machine_step.specs.Traced.{IsDone, Traced}
-use Rattle.xray_program.specs.Plain.{limits_of}
-use Rattle.xray_program.specs.declared.words.RunOptions.{RunOptions}
+use Rattle.xray_program.specs.Setups.{limits_of}
+use Rattle.xray_program.specs.declared.run_options.RunOptions.{RunOptions}
 use Rattle.xray_program.specs.declared.job.Job.{Job}
 use Rattle.xray_program.specs.declared.job.Job.TheVariants.{States, Ends, SledMap, Image}
 

@@ -1,5 +1,6 @@
 pub mod Words
 pub mod Faults
+pub mod Setups
 pub mod Plain
 pub mod States
 pub mod Inputs
@@ -9,6 +10,6 @@ pub mod Answers
 pub mod Commands
 pub mod Stops
 pub mod Takes
-pub mod Taken
+pub mod Judged
 pub mod Calls
 pub mod Jobs

@@ -11,7 +11,7 @@ use Rattle.step_sim.specs.declared.turns.Turns.{Turns}
 use Rattle.xray_program.specs.Inputs.{Form, image_form, script_form, schedule_form, text_form}
 use Rattle.xray_program.specs.Plain.{PlainPrints}
 use Rattle.xray_program.specs.States.{SimPrints}
-use Rattle.xray_program.specs.declared.words.RunOptions.{RunOptions}
+use Rattle.xray_program.specs.declared.run_options.RunOptions.{RunOptions}
 use Rattle.xray_program.specs.Words.{Sim, Plain, Extract, Asm, reading}
 use Rattle.xray_program.specs.Words as words
 
@@ -82,8 +82,8 @@ Prints IsText outcome = (text : List ℕ) × IsText text × (outcome ≡ Done []
 
 -- What comes of a replay: a script of this name at which a thread or the patcher may wait is refused for the first such line;
 -- else the threads' texts are printed.
-abbrev pub Replays : List ℕ → RunOptions → Program → Plan → List Turns → Outcome → Type 0
-Replays name options program plan turns outcome =
+abbrev pub ComesOfReplay : List ℕ → RunOptions → Program → Plan → List Turns → Outcome → Type 0
+ComesOfReplay name options program plan turns outcome =
     MatchOption (waiting_line plan.lines) (Prints (SimPrints program (commands_of plan.lines) turns options) outcome)
     (λ line. outcome ≡ Refused name (codes "script") (codes "Waits " ++ decimal line))
 
@@ -92,7 +92,7 @@ abbrev pub Comes : (List ℕ → Type 0) → (List ℕ → Entry) → words.Comm
 Comes fails held (Sim image script schedule options) =
     Take image_form fails held image (λ program.
     Take (script_form program options.threads) fails held script (λ plan.
-    Take (schedule_form options.threads) fails held schedule (Replays script options program plan)))
+    Take (schedule_form options.threads) fails held schedule (ComesOfReplay script options program plan)))
 Comes fails held (Plain image options) =
     Take image_form fails held image (λ program. Prints (PlainPrints program options))
 Comes fails held (Extract image) =

@@ -6,19 +6,8 @@ use Rattle.machine_step.specs.declared.end.End.{End}
 use Rattle.machine_step.specs.declared.limits.Limits.{Limits}
 use Rattle.machine_step.specs.PlainStep.{State, Passing, PlainRun}
 use Rattle.machine_step.specs.Texts.{plain_text}
-use Rattle.xray_program.specs.declared.words.RunOptions.{RunOptions}
-
--- what bounds each thread; only events have stamps, and none is printed
-abbrev pub limits_of : RunOptions → Limits
-limits_of options =
-    record {
-      fuel = options.fuel;
-      passings = options.passings;
-      tick = 1;
-      tsc = 0;
-      cpus = 1;
-      migrate = 1048576;
-    }
+use Rattle.xray_program.specs.Setups.{limits_of}
+use Rattle.xray_program.specs.declared.run_options.RunOptions.{RunOptions}
 
 -- the text of a thread, with the end, the counts, the registers and the output of its plain run
 pub record IsPlainText (program : Program) (limits : Limits) (thread : ℕ) (text : List ℕ) : Type 0 where

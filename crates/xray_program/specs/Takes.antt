@@ -5,7 +5,6 @@ use Rattle.xray_io.specs.Faults.{Rose}
 use Rattle.xray_io.specs.declared.faults.ReadError.{ReadError}
 use Rattle.xray_io.specs.declared.faults.ReadError.TheVariants as reading
 use Rattle.xray_program.specs.declared.refusal.Refusal.{Refusal}
-use Rattle.xray_program.specs.declared.stop.Kind.{Kind}
 use Rattle.xray_program.specs.declared.stop.Stop.{Stop}
 use Rattle.xray_program.specs.declared.stop.Stop.TheVariants as stops
 use Rattle.xray_program.specs.Inputs.{Form}
@@ -43,51 +42,43 @@ pub record Rejects {X : Type 0} (form : Form X) (entry : Entry) (refusal : List 
 -- An input of this name wasn't read whole: reads failed or the desk doesn't hold the name; or it
 -- may hold more bytes than the limit; or memory ran out.
 abbrev pub FailsToRead : ℕ → (List ℕ → Entry) → List ℕ → ℕ → ℕ → Stop → Type 0
-FailsToRead limit held name before now stops.BadLine = ⊥
 FailsToRead limit held name before now (stops.Unread n) =
     (n.now ≡ name) × (Rose before now ⊎ (held name ≡ Absent))
 FailsToRead limit held name before now (stops.TooLong n) =
     (n.now ≡ name) × IsTooLong limit (held name)
-FailsToRead limit held name before now (stops.Refused n k refusal) = ⊥
-FailsToRead limit held name before now (stops.Unwritten n) = ⊥
 FailsToRead limit held name before now stops.NoMemory = ⊤
+FailsToRead limit held name before now stop = ⊥
 
 -- the turn of an input of this form and name ends with a stop: it wasn't read whole, or it may hold
 -- bytes that are refused
 abbrev pub Fails : {X : Type 0} → Form X → (List ℕ → Entry) → List ℕ → ℕ → ℕ → Stop → Type 0
-Fails form held name before now (stops.Refused n k refusal) =
-    (n.now ≡ name) × (kind_text k ≡ form.kind) × Rejects form (held name) (refusal_text refusal)
+Fails form held name before now (stops.Refused n refusal) =
+    (n.now ≡ name) × (kind_text refusal ≡ form.kind) × Rejects form (held name) (refusal_text refusal)
 Fails form held name before now stop = FailsToRead form.limit held name before now stop
 
 -- what an error of reading comes to: an input that can't be read or is too long, or want of memory
 abbrev pub IsReadStop : List ℕ → ReadError → Stop → Type 0
-IsReadStop name error stops.BadLine = ⊥
 IsReadStop name error (stops.Unread n) = (n.now ≡ name) × (error ≡ reading.ReadFault)
 IsReadStop name error (stops.TooLong n) = (n.now ≡ name) × (error ≡ reading.TooLong)
-IsReadStop name error (stops.Refused n kind refusal) = ⊥
-IsReadStop name error (stops.Unwritten n) = ⊥
 IsReadStop name error stops.NoMemory = error ≡ reading.NoMemory
+IsReadStop name error stop = ⊥
 
--- what the fault of an input of a kind comes to: want of memory where it is that one, and else a refusal that tells it
-abbrev pub IsFaultStop : {F : Type 0} → Kind → (F → Refusal) → (wanting : F) → List ℕ → F → Stop → Type 0
-IsFaultStop kind tells wanting name fault stops.BadLine = ⊥
-IsFaultStop kind tells wanting name fault (stops.Unread n) = ⊥
-IsFaultStop kind tells wanting name fault (stops.TooLong n) = ⊥
-IsFaultStop kind tells wanting name fault (stops.Refused n k refusal) =
-    (n.now ≡ name) × (k ≡ kind) × (refusal ≡ tells fault) × (fault ≢ wanting)
-IsFaultStop kind tells wanting name fault (stops.Unwritten n) = ⊥
-IsFaultStop kind tells wanting name fault stops.NoMemory = fault ≡ wanting
+-- what an input's fault comes to: want of memory where it is that one, and else a refusal that tells it
+abbrev pub IsFaultStop : {F : Type 0} → (F → Refusal) → (wanting : F) → List ℕ → F → Stop → Type 0
+IsFaultStop tells wanting name fault (stops.Refused n refusal) =
+    (n.now ≡ name) × (refusal ≡ tells fault) × (fault ≢ wanting)
+IsFaultStop tells wanting name fault stops.NoMemory = fault ≡ wanting
+IsFaultStop tells wanting name fault stop = ⊥
 
--- A command that comes to M, by which names can't be read, ends with a stop.
+-- The inputs of a command end with a stop, where `comes fails` is what comes of it when the names of `fails` can't be read.
 abbrev pub Stops : ((List ℕ → Type 0) → Outcome → Type 0) → (List ℕ → Entry) → ℕ → ℕ → Stop → Type 0
-Stops M held before now stops.BadLine = ⊥
-Stops M held before now (stops.Unread n) =
-    M (λ _. ⊤) (Unread n.now) × (Rose before now ⊎ (held n.now ≡ Absent))
-Stops M held before now (stops.TooLong n) = M (λ name. held name ≡ Absent) (TooLong n.now)
-Stops M held before now (stops.Refused n kind refusal) =
-    M (λ name. held name ≡ Absent) (Refused n.now (kind_text kind) (refusal_text refusal))
-Stops M held before now (stops.Unwritten n) = ⊥
-Stops M held before now stops.NoMemory = ⊤
+Stops comes held before now (stops.Unread n) =
+    comes (λ _. ⊤) (Unread n.now) × (Rose before now ⊎ (held n.now ≡ Absent))
+Stops comes held before now (stops.TooLong n) = comes (λ name. held name ≡ Absent) (TooLong n.now)
+Stops comes held before now (stops.Refused n refusal) =
+    comes (λ name. held name ≡ Absent) (Refused n.now (kind_text refusal) (refusal_text refusal))
+Stops comes held before now stops.NoMemory = ⊤
+Stops comes held before now stop = ⊥
 
 -- a status for an outcome before anything is written: its own, that for want of memory, or that for
 -- a read that failed

@@ -5,7 +5,7 @@ use Rattle.std.specs.Option.{option_map_or}
 use Rattle.std.specs.Str.{all_ascii_digits, bytes_eq}
 use Rattle.std.specs.Str.Parse.{digits_value, without_leading_plus}
 use Rattle.std.specs.declared.alloc.Global.{Global}
-use Rattle.xray_program.specs.declared.words.RunOptions.{RunOptions}
+use Rattle.xray_program.specs.declared.run_options.RunOptions.{RunOptions}
 
 -- a command with the names of its files, and its options
 pub data Command : Type 0 where

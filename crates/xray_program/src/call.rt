@@ -1,16 +1,17 @@
 //! The top call.
 ghost use Rattle.std.specs.Prelude.{◌≡◌, ◌≢◌, ◌⊎◌, ◌↔◌, ◌≤◌, ℕ, [], ◌∷◌, List, None, Some, Contains, IfOk, IfErr, OnOk, codes};
-ghost use Rattle.xray_io.specs.Desk.{Absent, Holds};
-ghost use Rattle.xray_program.specs.Answers.{LeavesAll, Reports, CouldNotRead, CouldNotWrite, IsSimulated, IsAnswer};
+ghost use Rattle.xray_io.specs.Desk.{Holds};
+ghost use Rattle.xray_io.specs.Faults.{Rose};
+ghost use Rattle.xray_program.specs.Answers.{LeavesAll, Reports, CouldNotRead, TellsWriteFault, IsSimulated, IsAnswer};
 ghost use Rattle.xray_program.specs.Calls.{StopsCall};
-ghost use Rattle.xray_program.specs.Meaning.{Outcome, Means, Says, TellsAll, memory_line, write_fault_line};
+ghost use Rattle.xray_program.specs.Meaning.{Outcome, Means, Says, TellsAll, memory_line};
 ghost use Rattle.xray_program.specs.Outputs.{WritesNothing};
 ghost use Rattle.xray_program.specs.Stops.{answer_of};
 ghost use Rattle.xray_program.specs.Words.{Sim, outputs_named, reading, texts};
-ghost use Rattle.xray_program.specs.declared.words.RunOptions.{RunOptions};
+ghost use Rattle.xray_program.specs.declared.run_options.RunOptions.{RunOptions};
 
 use crate::stop::Stop;
-use crate::taken::take;
+use crate::judged::take_inputs;
 use crate::words::read_words;
 use std::alloc::Global;
 use std::sync::Wait;
@@ -28,7 +29,7 @@ use xray_io::{Desk, Gate, Sink, Wall};
 pub fn xray_still<D: Desk, O: Sink, E: Sink>(
     alloc: Global,
     words: &[String],
-    _wall: Wall,
+    wall: Wall,
     desk: &mut D,
     out: &mut O,
     err: &mut E,
@@ -52,12 +53,10 @@ pub fn xray_still<D: Desk, O: Sink, E: Sink>(
     ensures unread { result ≡ 3 → CouldNotRead (texts words.now) (D.held desk.old)
         (D.read_faults desk.old) (D.read_faults desk.new)
         (E.faults err.old) (E.faults err.new) (E.written err.old) (E.written err.new) }
-    ensures unwritten { result ≡ 4 → (name : List ℕ)
-        × CouldNotWrite (texts words.now) (D.held desk.old) (D.held desk.new)
+    ensures unwritten { result ≡ 4 → TellsWriteFault (texts words.now) (D.held desk.old) (D.held desk.new)
         (D.write_faults desk.old) (D.write_faults desk.new)
-        (O.faults out.old) (O.faults out.new) (O.written out.old) (O.written out.new) name
-        × Says (E.faults err.old) (E.faults err.new)
-        (E.written err.old) (E.written err.new) (write_fault_line name) }
+        (O.faults out.old) (O.faults out.new) (O.written out.old) (O.written out.new)
+        (E.faults err.old) (E.faults err.new) (E.written err.old) (E.written err.new) }
     ensures memory { result ≡ 5 → Says (E.faults err.old) (E.faults err.new)
         (E.written err.old) (E.written err.new) memory_line }
 
@@ -71,9 +70,9 @@ pub fn xray_still<D: Desk, O: Sink, E: Sink>(
     // What the words mean comes, unless memory runs out or a fault is counted.
     ensures complete { (outcome : Outcome) → TellsAll (D.held desk.old)
         → Means (texts words.now) (D.held desk.old) outcome
-        → IsAnswer outcome (D.read_faults desk.old) (D.read_faults desk.new)
-        (D.write_faults desk.old) (D.write_faults desk.new)
-        (O.faults out.old) (O.faults out.new) result }
+        → IsAnswer outcome (Rose (D.read_faults desk.old) (D.read_faults desk.new))
+        (Rose (D.write_faults desk.old) (D.write_faults desk.new) ⊎ Rose (O.faults out.old) (O.faults out.new))
+        result }
 
     // With status 0 the state texts of the replay are on out, and no thread decoded a torn sled.
     ensures headline { result ≡ 0 → (i s c image script schedule : List ℕ) (options : RunOptions)
@@ -83,7 +82,7 @@ pub fn xray_still<D: Desk, O: Sink, E: Sink>(
 {
     // Says that no thread of a replay decodes a torn sled.
     no_replay_tears_a_sled();
-    match perform(alloc, words, desk, out) {
+    match perform(alloc, words, wall, desk, out) {
         Ok(()) => 0,
         Err(stop) => {
             stop.report(err);
@@ -125,12 +124,10 @@ pub fn xray<T: Threads + Wait + Sync, D: Desk, O: Sink, E: Sink, G: Gate + Sync>
     ensures unread { result ≡ 3 → CouldNotRead (texts words.now) (D.held desk.old)
         (D.read_faults desk.old) (D.read_faults desk.new)
         (E.faults err.old) (E.faults err.new) (E.written err.old) (E.written err.new) }
-    ensures unwritten { result ≡ 4 → (name : List ℕ)
-        × CouldNotWrite (texts words.now) (D.held desk.old) (D.held desk.new)
+    ensures unwritten { result ≡ 4 → TellsWriteFault (texts words.now) (D.held desk.old) (D.held desk.new)
         (D.write_faults desk.old) (D.write_faults desk.new)
-        (O.faults out.old) (O.faults out.new) (O.written out.old) (O.written out.new) name
-        × Says (E.faults err.old) (E.faults err.new)
-        (E.written err.old) (E.written err.new) (write_fault_line name) }
+        (O.faults out.old) (O.faults out.new) (O.written out.old) (O.written out.new)
+        (E.faults err.old) (E.faults err.new) (E.written err.old) (E.written err.new) }
     ensures memory { result ≡ 5 → Says (E.faults err.old) (E.faults err.new)
         (E.written err.old) (E.written err.new) memory_line }
 
@@ -144,9 +141,9 @@ pub fn xray<T: Threads + Wait + Sync, D: Desk, O: Sink, E: Sink, G: Gate + Sync>
     // What the words mean comes, unless memory runs out or a fault is counted.
     ensures complete { (outcome : Outcome) → TellsAll (D.held desk.old)
         → Means (texts words.now) (D.held desk.old) outcome
-        → IsAnswer outcome (D.read_faults desk.old) (D.read_faults desk.new)
-        (D.write_faults desk.old) (D.write_faults desk.new)
-        (O.faults out.old) (O.faults out.new) result }
+        → IsAnswer outcome (Rose (D.read_faults desk.old) (D.read_faults desk.new))
+        (Rose (D.write_faults desk.old) (D.write_faults desk.new) ⊎ Rose (O.faults out.old) (O.faults out.new))
+        result }
 
     // With status 0 the state texts of the replay are on out, and no thread decoded a torn sled.
     ensures headline { result ≡ 0 → (i s c image script schedule : List ℕ) (options : RunOptions)
@@ -161,6 +158,7 @@ pub fn xray<T: Threads + Wait + Sync, D: Desk, O: Sink, E: Sink, G: Gate + Sync>
 fn perform<'a, D: Desk, O: Sink>(
     alloc: Global,
     words: &'a [String],
+    wall: Wall,
     desk: &mut D,
     out: &mut O,
 ) -> Result<(), Stop<'a>>
@@ -172,16 +170,16 @@ fn perform<'a, D: Desk, O: Sink>(
         (O.faults out.old) (O.faults out.new) (O.written out.old) (O.written out.new)) }
     ensures complete { (outcome : Outcome) → TellsAll (D.held desk.old)
         → Means (texts words.now) (D.held desk.old) outcome
-        → IsAnswer outcome (D.read_faults desk.old) (D.read_faults desk.new)
-        (D.write_faults desk.old) (D.write_faults desk.new)
-        (O.faults out.old) (O.faults out.new) (answer_of result) }
+        → IsAnswer outcome (Rose (D.read_faults desk.old) (D.read_faults desk.new))
+        (Rose (D.write_faults desk.old) (D.write_faults desk.new) ⊎ Rose (O.faults out.old) (O.faults out.new))
+        (answer_of result) }
     ensures names { (name : List ℕ) → ¬ Contains (outputs_named (texts words.now)) name
         → D.held desk.new name ≡ D.held desk.old name }
 {
     let Some(command) = read_words(words) else {
         return Err(Stop::BadLine);
     };
-    let taken = take(alloc, desk, command)?;
-    let job = taken.prepare(alloc)?;
+    let judged = take_inputs(alloc, desk, command)?;
+    let job = judged.prepare(alloc, wall)?;
     job.deliver(desk, out)
 }

@@ -1,14 +1,14 @@
 //! The inputs in their turn: each is read, measured and judged before the next is opened.
 ghost use Rattle.std.specs.Prelude.{◌≡◌, ◌≤◌, All, IfOk, IfErr};
 ghost use Rattle.step_sim.specs.Schedules.{AreTurnsOf};
+ghost use Rattle.xray_program.specs.Commands.{IsThreadCount};
 ghost use Rattle.xray_program.specs.Inputs.{image_form, schedule_form, script_form, text_form};
 ghost use Rattle.xray_program.specs.Takes.{Fails, Gives, FailsToRead, GivesBytes, IsFaultStop, IsReadStop};
 
 use crate::refusal::Refusal;
-use crate::stop::{Kind, Stop};
+use crate::stop::Stop;
 use asm_text::{AsmFault, assemble};
 use patch_script::{Script, ScriptFault, read_script};
-use sled_words::MAX_THREADS;
 use std::alloc::Global;
 use step_sim::{Schedule, ScheduleFault, read_schedule};
 use xray_image::{Image, ImageFault, read_image};
@@ -48,14 +48,13 @@ pub(crate) fn take_image<'a, D: Desk>(
 
 /// What an image's fault comes to.
 fn image_stop(name: &str, fault: ImageFault) -> Stop<'_>
-    ensures { IsFaultStop Kind.Image Refusal.Faulty ImageFault.NoMemory name.now fault result }
+    ensures { IsFaultStop Refusal.Image ImageFault.NoMemory name.now fault result }
 {
     match fault {
         ImageFault::NoMemory => Stop::NoMemory,
         _ => Stop::Refused {
             name,
-            kind: Kind::Image,
-            refusal: Refusal::Faulty(fault),
+            refusal: Refusal::Image(fault),
         },
     }
 }
@@ -84,14 +83,13 @@ pub(crate) fn take_text<'a, D: Desk>(
 
 /// What an assembler text's fault comes to.
 fn text_stop(name: &str, fault: AsmFault) -> Stop<'_>
-    ensures { IsFaultStop Kind.Text Refusal.Unassembled AsmFault.NoMemory name.now fault result }
+    ensures { IsFaultStop Refusal.Text AsmFault.NoMemory name.now fault result }
 {
     match fault {
         AsmFault::NoMemory => Stop::NoMemory,
         _ => Stop::Refused {
             name,
-            kind: Kind::Text,
-            refusal: Refusal::Unassembled(fault),
+            refusal: Refusal::Text(fault),
         },
     }
 }
@@ -104,7 +102,7 @@ pub(crate) fn take_script<'a, D: Desk>(
     image: &Image,
     threads: u32,
 ) -> Result<Script, Stop<'a>>
-    requires { (1 ≤ threads) × (threads ≤ MAX_THREADS) }
+    requires { IsThreadCount threads }
     ensures gives { IfOk result
         (Gives (script_form image.now threads) (D.held desk.old name.now)) }
     ensures fails { IfErr result (Fails (script_form image.now threads) (D.held desk.old) name.now
@@ -124,14 +122,13 @@ pub(crate) fn take_script<'a, D: Desk>(
 
 /// What a script's fault comes to.
 fn script_stop(name: &str, fault: ScriptFault) -> Stop<'_>
-    ensures { IsFaultStop Kind.Script Refusal.Unscripted ScriptFault.NoMemory name.now fault result }
+    ensures { IsFaultStop Refusal.Script ScriptFault.NoMemory name.now fault result }
 {
     match fault {
         ScriptFault::NoMemory => Stop::NoMemory,
         _ => Stop::Refused {
             name,
-            kind: Kind::Script,
-            refusal: Refusal::Unscripted(fault),
+            refusal: Refusal::Script(fault),
         },
     }
 }
@@ -143,7 +140,7 @@ pub(crate) fn take_schedule<'a, D: Desk>(
     name: &'a str,
     threads: u32,
 ) -> Result<Schedule, Stop<'a>>
-    requires { (1 ≤ threads) × (threads ≤ MAX_THREADS) }
+    requires { IsThreadCount threads }
     ensures gives { IfOk result (Gives (schedule_form threads) (D.held desk.old name.now)) }
     ensures fails { IfErr result (Fails (schedule_form threads) (D.held desk.old) name.now
         (D.read_faults desk.old) (D.read_faults desk.new)) }
@@ -161,14 +158,13 @@ pub(crate) fn take_schedule<'a, D: Desk>(
 
 /// What a schedule's fault comes to.
 fn schedule_stop(name: &str, fault: ScheduleFault) -> Stop<'_>
-    ensures { IsFaultStop Kind.Schedule Refusal.Unscheduled ScheduleFault.NoMemory name.now fault result }
+    ensures { IsFaultStop Refusal.Schedule ScheduleFault.NoMemory name.now fault result }
 {
     match fault {
         ScheduleFault::NoMemory => Stop::NoMemory,
         _ => Stop::Refused {
             name,
-            kind: Kind::Schedule,
-            refusal: Refusal::Unscheduled(fault),
+            refusal: Refusal::Schedule(fault),
         },
     }
 }

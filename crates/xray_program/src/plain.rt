@@ -3,16 +3,15 @@ ghost use Rattle.std.specs.Prelude.{◌≡◌, IfOk, IfErr};
 ghost use Rattle.xray_io.specs.Desk.{Absent};
 ghost use Rattle.xray_program.specs.Jobs.{AreEnds};
 ghost use Rattle.xray_program.specs.Meaning.{Outcome, Comes, TellsAll};
-ghost use Rattle.xray_program.specs.Plain.{limits_of};
-ghost use Rattle.xray_program.specs.Taken.{FitTogether, IsTakenSoFar, Yields};
+ghost use Rattle.xray_program.specs.Judged.{FitTogether, IsJudgedSoFar, Yields};
 ghost use Rattle.xray_program.specs.Takes.{Stops};
 ghost use Rattle.xray_program.specs.Words.{Plain};
 
 use crate::inputs::take_image;
 use crate::stop::Stop;
-use crate::taken::Taken;
-use crate::words::RunOptions;
-use machine_step::{Limits, PlainEnd, plain_run};
+use crate::judged::Judged;
+use crate::run_options::RunOptions;
+use machine_step::{PlainEnd, plain_run};
 use std::alloc::Global;
 use xray_image::Image;
 use xray_io::{Desk, NoMemory};
@@ -21,28 +20,25 @@ use xray_io::{Desk, NoMemory};
 pub(crate) fn take_plain<'a, D: Desk>(
     alloc: Global,
     desk: &mut D,
-    image: &'a str,
+    image_name: &'a str,
     options: RunOptions,
-) -> Result<Taken<'a>, Stop<'a>>
-    ensures gives { IfOk result (λ taken. (outcome : Outcome) → Yields taken outcome
+) -> Result<Judged<'a>, Stop<'a>>
+    ensures gives { IfOk result (λ judged. (outcome : Outcome) → Yields judged outcome
         → Comes (λ name. D.held desk.old name ≡ Absent)
-        (D.held desk.old) (Plain image.now options) outcome) }
+        (D.held desk.old) (Plain image_name.now options) outcome) }
     ensures fits { IfOk result FitTogether }
     ensures stops { IfErr result (Stops
-        (λ fails. Comes fails (D.held desk.old) (Plain image.now options))
+        (λ fails. Comes fails (D.held desk.old) (Plain image_name.now options))
         (D.held desk.old) (D.read_faults desk.old) (D.read_faults desk.new)) }
     ensures complete { (outcome : Outcome) → TellsAll (D.held desk.old)
         → Comes (λ name. D.held desk.old name ≡ Absent)
-        (D.held desk.old) (Plain image.now options) outcome
-        → IsTakenSoFar (D.read_faults desk.old) (D.read_faults desk.new) outcome result }
+        (D.held desk.old) (Plain image_name.now options) outcome
+        → IsJudgedSoFar (D.read_faults desk.old) (D.read_faults desk.new) outcome result }
     ensures held { D.held desk.new ≡ D.held desk.old }
     ensures writes { D.write_faults desk.new ≡ D.write_faults desk.old }
 {
-    let program = take_image(alloc, desk, image)?;
-    Ok(Taken::Plain {
-        image: program,
-        options,
-    })
+    let image = take_image(alloc, desk, image_name)?;
+    Ok(Judged::Plain { image, options })
 }
 
 /// Runs the threads, each to its end.
@@ -55,21 +51,7 @@ pub(crate) fn run_threads(
 {
     let mut ends = Vec::new(alloc);
     for thread in 0..options.threads {
-        ends.push(plain_run(alloc, image, thread + 1, limits_of(options))?)?;
+        ends.push(plain_run(alloc, image, thread + 1, options.limits())?)?;
     }
     Ok(ends)
-}
-
-/// What bounds each thread. Only events have stamps, and none is printed.
-pub(crate) fn limits_of(options: RunOptions) -> Limits
-    ensures { result ≡ limits_of options }
-{
-    Limits {
-        fuel: options.fuel,
-        passings: options.passings,
-        tick: 1,
-        tsc: 0,
-        cpus: 1,
-        migrate: 1_048_576,
-    }
 }

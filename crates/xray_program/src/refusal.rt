@@ -2,7 +2,7 @@
 ghost use Rattle.std.specs.Prelude.{◌≡◌, ◌++◌, codes, decimal};
 ghost use Rattle.xray_io.specs.Piece.{piece_text};
 ghost use Rattle.xray_program.specs.Faults.{asm_fault_text, decode_text, fault_text, field_text, schedule_fault_text, script_fault_text, text_of_words};
-ghost use Rattle.xray_program.specs.Stops.{refusal_text};
+ghost use Rattle.xray_program.specs.Stops.{kind_text, refusal_text};
 
 use asm_text::AsmFault;
 use patch_script::ScriptFault;
@@ -11,17 +11,17 @@ use subset_decode::DecodeFault;
 use xray_image::{ImageFault, Which};
 use xray_io::Piece;
 
-/// What is wrong with an input.
+/// Why an input is refused.
 #[derive(Clone, Copy, Debug, PartialEq, Eq)]
 pub(crate) enum Refusal {
     /// It is an image file with this fault.
-    Faulty(ImageFault),
+    Image(ImageFault),
     /// It is an assembler text with this fault.
-    Unassembled(AsmFault),
+    Text(AsmFault),
     /// It is a script with this fault.
-    Unscripted(ScriptFault),
+    Script(ScriptFault),
     /// It is a schedule with this fault.
-    Unscheduled(ScheduleFault),
+    Schedule(ScheduleFault),
     /// It is a script at whose line, counted from 1, a thread or the patcher may wait, and a replay waits
     /// for nobody.
     Waits(u32),
@@ -44,15 +44,27 @@ pub(crate) struct Words {
 const NOTHING: Piece = Piece::Bytes(b"");
 
 impl Refusal {
+    /// The kind of input, as a line on err tells it.
+    pub(crate) fn kind(self) -> &'static [u8]
+        ensures { result.now ≡ kind_text self }
+    {
+        match self {
+            Refusal::Image(_) => b"image",
+            Refusal::Text(_) => b"text",
+            Refusal::Script(_) | Refusal::Waits(_) => b"script",
+            Refusal::Schedule(_) => b"schedule",
+        }
+    }
+
     /// The refusal's words in a line on err.
     pub(crate) fn words(self) -> Words
         ensures { text_of_words result ≡ refusal_text self }
     {
         match self {
-            Refusal::Faulty(fault) => fault_words(fault),
-            Refusal::Unassembled(fault) => asm_fault_words(fault),
-            Refusal::Unscripted(fault) => script_fault_words(fault),
-            Refusal::Unscheduled(fault) => schedule_fault_words(fault),
+            Refusal::Image(fault) => fault_words(fault),
+            Refusal::Text(fault) => asm_fault_words(fault),
+            Refusal::Script(fault) => script_fault_words(fault),
+            Refusal::Schedule(fault) => schedule_fault_words(fault),
             Refusal::Waits(line) => numbered(b"Waits ", line),
         }
     }

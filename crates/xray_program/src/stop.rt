@@ -1,44 +1,17 @@
 //! What ends a call before all is done.
-ghost use Rattle.std.specs.Prelude.{◌≡◌};
+ghost use Rattle.std.specs.Prelude.{◌≡◌, ◌++◌};
 ghost use Rattle.xray_io.specs.Piece.{text_of};
-ghost use Rattle.xray_program.specs.Meaning.{Refused, Says, line_of};
+ghost use Rattle.xray_program.specs.Meaning.{Refused, Says, err_line, line_of};
 ghost use Rattle.xray_program.specs.Stops.{kind_text, refusal_text, stop_line, stop_status};
 
 use crate::refusal::Refusal;
-use xray_io::{Piece, Sink, write_pieces};
+use xray_io::{NoMemory, Piece, Sink, write_pieces};
 
 /// What stands in front of each line on err.
 const PROGRAM: Piece = Piece::Bytes(b"xray: ");
 
 /// What ends a line.
 const LINE_FEED: Piece = Piece::Bytes(b"\n");
-
-/// A kind of input.
-#[derive(Clone, Copy, Debug, PartialEq, Eq)]
-pub(crate) enum Kind {
-    /// An image file.
-    Image,
-    /// An assembler text.
-    Text,
-    /// A script of the patcher.
-    Script,
-    /// A schedule of turns.
-    Schedule,
-}
-
-impl Kind {
-    /// The kind's name in a line on err.
-    fn text(self) -> &'static [u8]
-        ensures { result.now ≡ kind_text self }
-    {
-        match self {
-            Kind::Image => b"image",
-            Kind::Text => b"text",
-            Kind::Script => b"script",
-            Kind::Schedule => b"schedule",
-        }
-    }
-}
 
 /// What ends a call before all is done, with the name of the input or output that it lies in.
 #[derive(Clone, Copy, Debug)]
@@ -53,8 +26,6 @@ pub(crate) enum Stop<'a> {
     Refused {
         /// The input's name.
         name: &'a str,
-        /// What kind of input it is.
-        kind: Kind,
         /// What is wrong with it.
         refusal: Refusal,
     },
@@ -62,6 +33,16 @@ pub(crate) enum Stop<'a> {
     Unwritten(&'a str),
     /// Memory ran out.
     NoMemory,
+}
+
+impl From<NoMemory> for Stop<'_> {
+    ghost use Rattle.xray_program.specs.declared.stop.Stop.TheVariants as stops;
+
+    ghost from_gives = { λ _ stop. stop ≡ stops.NoMemory };
+
+    fn from(_error: NoMemory) -> Self {
+        Stop::NoMemory
+    }
 }
 
 impl Stop<'_> {
@@ -89,53 +70,25 @@ impl Stop<'_> {
                 err,
                 &[PROGRAM, Piece::Bytes(b"bad command line"), LINE_FEED],
             ),
-            Stop::Unread(name) => say(
-                err,
-                &[
-                    PROGRAM,
-                    Piece::Bytes(name.as_bytes()),
-                    Piece::Bytes(b": read fault"),
-                    LINE_FEED,
-                ],
-            ),
-            Stop::TooLong(name) => say(
-                err,
-                &[
-                    PROGRAM,
-                    Piece::Bytes(name.as_bytes()),
-                    Piece::Bytes(b": too long"),
-                    LINE_FEED,
-                ],
-            ),
-            Stop::Refused {
-                name,
-                kind,
-                refusal,
-            } => say(err, &refused_line(name, *kind, *refusal)),
-            Stop::Unwritten(name) => say(
-                err,
-                &[
-                    PROGRAM,
-                    Piece::Bytes(name.as_bytes()),
-                    Piece::Bytes(b": write fault"),
-                    LINE_FEED,
-                ],
-            ),
+            Stop::Unread(name) => say_of(err, name, b": read fault"),
+            Stop::TooLong(name) => say_of(err, name, b": too long"),
+            Stop::Refused { name, refusal } => say(err, &refused_line(name, *refusal)),
+            Stop::Unwritten(name) => say_of(err, name, b": write fault"),
             Stop::NoMemory => say(err, &[PROGRAM, Piece::Bytes(b"out of memory"), LINE_FEED]),
         }
     }
 }
 
 /// The line on err that tells of a refusal.
-fn refused_line(name: &str, kind: Kind, refusal: Refusal) -> [Piece<'_>; 10]
-    ensures { text_of result ≡ line_of (Refused name.now (kind_text kind) (refusal_text refusal)) }
+fn refused_line(name: &str, refusal: Refusal) -> [Piece<'_>; 10]
+    ensures { text_of result ≡ line_of (Refused name.now (kind_text refusal) (refusal_text refusal)) }
 {
     let words = refusal.words();
     [
         PROGRAM,
         Piece::Bytes(name.as_bytes()),
         Piece::Bytes(b": "),
-        Piece::Bytes(kind.text()),
+        Piece::Bytes(refusal.kind()),
         Piece::Bytes(b" "),
         words.first,
         words.second,
@@ -143,6 +96,22 @@ fn refused_line(name: &str, kind: Kind, refusal: Refusal) -> [Piece<'_>; 10]
         words.fourth,
         LINE_FEED,
     ]
+}
+
+/// Writes a line on err of what happened to a file of this name.
+fn say_of<'x, E: Sink>(err: &mut E, name: &'x str, what: &'x [u8])
+    ensures { Says (E.faults err.old) (E.faults err.new)
+        (E.written err.old) (E.written err.new) (err_line (name.now ++ what.now)) }
+{
+    say(
+        err,
+        &[
+            PROGRAM,
+            Piece::Bytes(name.as_bytes()),
+            Piece::Bytes(what),
+            LINE_FEED,
+        ],
+    )
 }
 
 /// Writes a line on err. Where err fails, a front of it is there.

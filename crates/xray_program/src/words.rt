@@ -1,10 +1,11 @@
 //! The words of the command line.
-ghost use Rattle.std.specs.Prelude.{◌≡◌, ◌≤◌, IfSome, option_copied, option_map};
-ghost use Rattle.xray_program.specs.Commands.{HasThreads, command_of};
+ghost use Rattle.std.specs.Prelude.{◌≡◌, IfSome, option_copied, option_map};
+ghost use Rattle.xray_program.specs.Commands.{HasThreads, IsThreadCount, command_of};
 ghost use Rattle.xray_program.specs.Words.{asm_of, extract_of, have_only, items_of, only_file, plain_of, reading, run_names, run_options, sim_of, texts};
 
 use crate::items::{Items, have_only};
 use crate::number_option::NumberOption;
+use crate::run_options::RunOptions;
 
 /// The word of the command that replays a schedule.
 const SIM: &str = "sim";
@@ -49,17 +50,6 @@ const THRESHOLD: NumberOption = NumberOption {
     most: 4_294_967_295,
     default: 1,
 };
-
-/// What bounds the threads of a run.
-#[derive(Clone, Copy, Debug, PartialEq, Eq)]
-pub(crate) struct RunOptions {
-    /// How many threads there are, from 1 to 16.
-    pub(crate) threads: u32,
-    /// How many instructions a thread makes at the most.
-    pub(crate) fuel: u64,
-    /// How many passings a thread makes at the most.
-    pub(crate) passings: u32,
-}
 
 /// What the program is asked to do, and the names of the files for it.
 #[derive(Clone, Copy, Debug)]
@@ -206,7 +196,7 @@ fn have_run_options(words: &[String]) -> bool
 /// The options of commands that run threads.
 fn run_options(words: &[String]) -> Option<RunOptions>
     ensures reads { result ≡ run_options (items_of (texts words.now)) }
-    ensures runs { IfSome result (λ options. (1 ≤ options.threads) × (options.threads ≤ 16)) }
+    ensures runs { IfSome result (λ options. IsThreadCount options.threads) }
 {
     let threads = THREADS.number_in(words)?;
     let fuel = FUEL.number_in(words)?;

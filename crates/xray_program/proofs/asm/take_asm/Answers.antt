@@ -2,7 +2,7 @@ use Rattle.std.proofs.Common.{◌≡◌, List, ℕ, [], ◌∷◌}
 use Rattle.xray_io.specs.Desk.{Absent}
 use Rattle.xray_program.specs.Inputs.{text_form}
 use Rattle.xray_program.specs.Meaning.{Outcome, Done}
-use Rattle.xray_program.proofs.Taking.{gives_on, comes_on, answers_here, taken_result}
+use Rattle.xray_program.proofs.Taking.{gives_on, comes_on, answers_here, judged_result}
 use Rattle.xray_program.proofs.asm.take_asm.Goals as goal
 
 -- what comes of the text
@@ -12,15 +12,15 @@ AfterText image file outcome = outcome ≡ Done ((image, file) ∷ []) []
 pub returns-in_err-file-clause-complete : goal.returns-in_err-file-clause-complete
 returns-in_err-file-clause-complete g c = λ outcome told meant.
     let held = g.D.Desk.held c.args.desk.now in
-    taken_result _ _ outcome _ _ c.from_residual.ensures.1
-    (answers_here (text_form c.args.threshold) held c.args.text.now (AfterText c.args.image.now) _ _ _ outcome (told c.args.text.now) c.in_err-file.ensures.fails meant)
+    judged_result _ _ outcome _ _ c.from_residual.ensures.1
+    (answers_here (text_form c.args.threshold) held c.args.text_name.now (AfterText c.args.image_name.now) _ _ _ outcome (told c.args.text_name.now) c.in_err-file.ensures.fails meant)
 
 pub returns-clause-gives : goal.returns-clause-gives
 returns-clause-gives g c = λ outcome comes.
     let held = g.D.Desk.held c.args.desk.now in
-    gives_on (text_form c.args.threshold) (λ name. held name ≡ Absent) held c.args.text.now (AfterText c.args.image.now) _ outcome c.in_ok-file.ensures.gives comes
+    gives_on (text_form c.args.threshold) (λ name. held name ≡ Absent) held c.args.text_name.now (AfterText c.args.image_name.now) _ outcome c.in_ok-file.ensures.gives comes
 
 pub returns-clause-complete : goal.returns-clause-complete
 returns-clause-complete g c = λ outcome told meant.
     let held = g.D.Desk.held c.args.desk.now in
-    comes_on (text_form c.args.threshold) held c.args.text.now (AfterText c.args.image.now) _ outcome (told c.args.text.now) c.in_ok-file.ensures.gives meant
+    comes_on (text_form c.args.threshold) held c.args.text_name.now (AfterText c.args.image_name.now) _ outcome (told c.args.text_name.now) c.in_ok-file.ensures.gives meant

@@ -4,25 +4,25 @@ use Rattle.xray_image.specs.Extract.{extract_text}
 use Rattle.xray_image.specs.Program.{Program}
 use Rattle.xray_program.specs.Inputs.{image_form}
 use Rattle.xray_program.specs.Meaning.{Outcome, Done}
-use Rattle.xray_program.proofs.Taking.{gives_on, comes_on, answers_here, taken_result}
+use Rattle.xray_program.proofs.Taking.{gives_on, comes_on, answers_here, judged_result}
 use Rattle.xray_program.proofs.extract.take_extract.Goals as goal
 
 -- what comes of the image
 abbrev AfterImage : Program → Outcome → Type 0
 AfterImage program outcome = outcome ≡ Done [] (extract_text program)
 
-pub returns-in_err-program-clause-complete : goal.returns-in_err-program-clause-complete
-returns-in_err-program-clause-complete g c = λ outcome told meant.
+pub returns-in_err-image-clause-complete : goal.returns-in_err-image-clause-complete
+returns-in_err-image-clause-complete g c = λ outcome told meant.
     let held = g.D.Desk.held c.args.desk.now in
-    taken_result _ _ outcome _ _ c.from_residual.ensures.1
-    (answers_here image_form held c.args.image.now AfterImage _ _ _ outcome (told c.args.image.now) c.in_err-program.ensures.fails meant)
+    judged_result _ _ outcome _ _ c.from_residual.ensures.1
+    (answers_here image_form held c.args.image_name.now AfterImage _ _ _ outcome (told c.args.image_name.now) c.in_err-image.ensures.fails meant)
 
 pub returns-clause-gives : goal.returns-clause-gives
 returns-clause-gives g c = λ outcome comes.
     let held = g.D.Desk.held c.args.desk.now in
-    gives_on image_form (λ name. held name ≡ Absent) held c.args.image.now AfterImage _ outcome c.in_ok-program.ensures.gives comes
+    gives_on image_form (λ name. held name ≡ Absent) held c.args.image_name.now AfterImage _ outcome c.in_ok-image.ensures.gives comes
 
 pub returns-clause-complete : goal.returns-clause-complete
 returns-clause-complete g c = λ outcome told meant.
     let held = g.D.Desk.held c.args.desk.now in
-    comes_on image_form held c.args.image.now AfterImage _ outcome (told c.args.image.now) c.in_ok-program.ensures.gives meant
+    comes_on image_form held c.args.image_name.now AfterImage _ outcome (told c.args.image_name.now) c.in_ok-image.ensures.gives meant

@@ -6,6 +6,6 @@ loop-thread-init c = rw c.new-ends.ensures.items (no_ends c.args.image.now c.arg
 
 pub loop-thread-preserved : goal.loop-thread-preserved
 loop-thread-preserved c =
-    let run = rw c.limits_of.ensures at c.in_ok-plain_run.ensures.run in
+    let run = rw c.limits.ensures at c.in_ok-plain_run.ensures.run in
     rw c.in_ok-push.ensures.items
     (one_end_more c.args.image.now c.args.options c.loop-thread.thread c.loop-thread.ends.items _ c.loop-thread.invariant run c.in_ok-plain_run.ensures.registers)

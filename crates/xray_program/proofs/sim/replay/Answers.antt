@@ -8,21 +8,21 @@ use Rattle.xray_program.proofs.sim.replay.Goals as goal
 pub returns-in-Ok-clause-ready : goal.returns-in-Ok-clause-ready
 unfolding job_outputs job_text
 returns-in-Ok-clause-ready c =
-    let is = rw (c.setup_of.ensures.threads, c.setup_of.ensures.limits) at c.in-Ok.ensures.replayed in
+    let is = rw c.setup.ensures at c.in-Ok.ensures.replayed in
     let text = flat_map thread_text c.in-Ok.end.cpus.items in
-    still_prints c.args.name.now c.args.options c.args.image.now c.args.script.now c.args.schedule.now _
+    still_prints c.args.script_name.now c.args.options c.args.image.now c.args.script.now c.args.schedule.now _
     (λ line waits. let told = (c.simulate.ensures.waits line).1 waits in cc)
     (text, replay_printed _ _ c.args.schedule.now c.args.options c.in-Ok.end.cpus.items is, refl)
 
 pub returns-in-Ok-clause-printable : goal.returns-in-Ok-clause-printable
 unfolding IsPrintable
 returns-in-Ok-clause-printable c =
-    let is = rw (c.setup_of.ensures.threads, c.setup_of.ensures.limits) at c.in-Ok.ensures.replayed in
+    let is = rw c.setup.ensures at c.in-Ok.ensures.replayed in
     replay_ended _ _ c.args.schedule.now c.args.options c.in-Ok.end.cpus.items is
 
 pub returns-in-Ok-clause-complete : goal.returns-in-Ok-clause-complete
 returns-in-Ok-clause-complete c = λ outcome comes.
-    still_answers c.args.name.now c.args.options c.args.image.now c.args.script.now c.args.schedule.now outcome
+    still_answers c.args.script_name.now c.args.options c.args.image.now c.args.script.now c.args.schedule.now outcome
     (λ line waits. let told = (c.simulate.ensures.waits line).1 waits in cc) comes
 
 pub returns-in-Err-Waits-clause-stops : goal.returns-in-Err-Waits-clause-stops

@@ -13,5 +13,5 @@ line_of_pieces name kind a b c d = simp append_assoc
 pub returns : goal.returns
 returns c =
     let words = c.words-words.result in
-    rw (c.as_bytes.ensures.value, c.text.ensures, ← c.words-words.ensures)
-    (line_of_pieces c.args.name.now (kind_text c.args.kind) (piece_text words.first) (piece_text words.second) (piece_text words.third) (piece_text words.fourth))
+    rw (c.as_bytes.ensures.value, c.kind.ensures, ← c.words-words.ensures)
+    (line_of_pieces c.args.name.now (kind_text c.args.refusal) (piece_text words.first) (piece_text words.second) (piece_text words.third) (piece_text words.fourth))

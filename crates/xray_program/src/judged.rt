@@ -5,7 +5,7 @@ ghost use Rattle.xray_program.specs.Commands.{HasThreads, command_of};
 ghost use Rattle.xray_program.specs.Jobs.{job_outputs, job_text, IsPrintable};
 ghost use Rattle.xray_program.specs.Meaning.{Outcome, Done, Comes, TellsAll};
 ghost use Rattle.xray_program.specs.Stops.{answer_of};
-ghost use Rattle.xray_program.specs.Taken.{FitTogether, IsAnswerOrMemory, IsTakenSoFar, StopsWork, Yields};
+ghost use Rattle.xray_program.specs.Judged.{FitTogether, IsAnswerOrMemory, IsJudgedSoFar, StopsWork, Yields};
 ghost use Rattle.xray_program.specs.Takes.{Stops};
 
 use crate::asm::take_asm;
@@ -14,16 +14,17 @@ use crate::job::Job;
 use crate::plain::{run_threads, take_plain};
 use crate::sim::{replay, take_sim};
 use crate::stop::Stop;
-use crate::words::{Command, RunOptions};
+use crate::run_options::RunOptions;
+use crate::words::Command;
 use patch_script::Script;
 use std::alloc::Global;
 use step_sim::Schedule;
 use xray_image::Image;
-use xray_io::{Desk, NoMemory};
+use xray_io::{Desk, Wall};
 
 /// The judged inputs of a command.
 #[derive(Drop)]
-pub(crate) enum Taken<'a> {
+pub(crate) enum Judged<'a> {
     /// Those of `sim`.
     Sim {
         /// The image.
@@ -33,7 +34,7 @@ pub(crate) enum Taken<'a> {
         /// The turns of the threads and the patcher.
         schedule: Schedule,
         /// The script's name.
-        name: &'a str,
+        script_name: &'a str,
         /// What bounds the threads.
         options: RunOptions,
     },
@@ -56,13 +57,13 @@ pub(crate) enum Taken<'a> {
 }
 
 /// Takes the inputs of a command in the order of its words: the first that fails decides.
-pub(crate) fn take<'a, D: Desk>(
+pub(crate) fn take_inputs<'a, D: Desk>(
     alloc: Global,
     desk: &mut D,
     command: Command<'a>,
-) -> Result<Taken<'a>, Stop<'a>>
+) -> Result<Judged<'a>, Stop<'a>>
     requires { HasThreads command }
-    ensures gives { IfOk result (λ taken. (outcome : Outcome) → Yields taken outcome
+    ensures gives { IfOk result (λ judged. (outcome : Outcome) → Yields judged outcome
         → Comes (λ name. D.held desk.old name ≡ Absent)
         (D.held desk.old) (command_of command.entry) outcome) }
     ensures fits { IfOk result FitTogether }
@@ -72,7 +73,7 @@ pub(crate) fn take<'a, D: Desk>(
     ensures complete { (outcome : Outcome) → TellsAll (D.held desk.old)
         → Comes (λ name. D.held desk.old name ≡ Absent)
         (D.held desk.old) (command_of command.entry) outcome
-        → IsTakenSoFar (D.read_faults desk.old) (D.read_faults desk.new) outcome result }
+        → IsJudgedSoFar (D.read_faults desk.old) (D.read_faults desk.new) outcome result }
     ensures held { D.held desk.new ≡ D.held desk.old }
     ensures writes { D.write_faults desk.new ≡ D.write_faults desk.old }
 {
@@ -93,9 +94,9 @@ pub(crate) fn take<'a, D: Desk>(
     }
 }
 
-impl<'a> Taken<'a> {
-    /// Does the work of the command, all but to write its outputs.
-    pub(crate) fn prepare<'t>(&'t self, alloc: Global) -> Result<Job<'a, 't>, Stop<'a>>
+impl<'a> Judged<'a> {
+    /// Does the work of the command from this wall time on, all but to write its outputs.
+    pub(crate) fn prepare<'t>(&'t self, alloc: Global, wall: Wall) -> Result<Job<'a, 't>, Stop<'a>>
         requires { FitTogether self.now }
         ensures ready { IfOk result (λ job.
             Yields self.now (Done (job_outputs job) (job_text job))) }
@@ -105,19 +106,18 @@ impl<'a> Taken<'a> {
             → IsAnswerOrMemory outcome (answer_of result) }
     {
         match self {
-            Taken::Sim {
+            Judged::Sim {
                 image,
                 script,
                 schedule,
-                name,
+                script_name,
                 options,
-            } => replay(alloc, image, script, schedule, name, *options),
-            Taken::Plain { image, options } => match run_threads(alloc, image, *options) {
-                Ok(ends) => Ok(Job::Ends(ends)),
-                Err(NoMemory) => Err(Stop::NoMemory),
-            },
-            Taken::Extract(image) => Ok(Job::SledMap(image)),
-            Taken::Asm { name, file } => Ok(Job::Image { name, file }),
+            } => replay(alloc, wall, image, script, schedule, script_name, *options),
+            Judged::Plain { image, options } => {
+                Ok(Job::Ends(run_threads(alloc, image, *options)?))
+            }
+            Judged::Extract(image) => Ok(Job::SledMap(image)),
+            Judged::Asm { name, file } => Ok(Job::Image { name, file }),
         }
     }
 }

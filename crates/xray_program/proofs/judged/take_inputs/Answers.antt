@@ -1,4 +1,4 @@
-use Rattle.xray_program.proofs.taken.take.Goals as goal
+use Rattle.xray_program.proofs.judged.take_inputs.Goals as goal
 
 pub returns-in-Sim-clause-gives : goal.returns-in-Sim-clause-gives
 returns-in-Sim-clause-gives g c = rw c.in-Sim.is c.take_sim.ensures.gives
