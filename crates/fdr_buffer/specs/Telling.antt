@@ -6,6 +6,7 @@ use Rattle.fdr_record.specs.declared.event.Kind.TheVariants.{Entry, Exit, TailEx
 use Rattle.fdr_record.specs.declared.event.Event.{Event}
 use Rattle.fdr_record.specs.Records.{first_of, new_cpu_id}
 
+-- what an action's number says that happened
 abbrev pub kind_told : ℕ → Kind
 kind_told action = if action == 0 then Entry else if action == 1 then Exit else TailExit
 

@@ -18,7 +18,8 @@ pub const LEAST: u32 = 72;
 pub const LARGEST: u32 = 1_048_576;
 
 /// The bytes of one segment of a thread's events: a preamble that says of which thread, when and in
-/// which process, and then the records of the events (LLVM's `FDRController` fills its buffers so).
+/// which process, and then the records of the events, as `FDRController` of LLVM's
+/// `xray_fdr_controller.h` writes them.
 /// They lie in room that is taken when the buffer is made, and no other call takes memory.
 #[derive(Debug, Drop)]
 pub struct Buffer {
