@@ -1,6 +1,6 @@
 //! A buffer of one segment of a thread's events.
 
-ghost use Rattle.std.specs.Prelude.{◌≡◌, ◌<◌, ◌≤◌, ◌↔◌, ◌+◌, ◌^◌, [], ◌∷◌, ◌++◌, true, length, IsTrue, IfOk};
+ghost use Rattle.std.specs.Prelude.{◌≡◌, ◌<◌, ◌≤◌, ◌^◌, [], ◌∷◌, ◌++◌, true, length, IsTrue, IfOk};
 ghost use Rattle.fdr_buffer.specs.Segments.{has_room};
 ghost use Rattle.fdr_buffer.specs.Filled.{empty_buffer, used_bytes};
 
@@ -18,15 +18,16 @@ pub const LEAST: u32 = 72;
 pub const LARGEST: u32 = 1_048_576;
 
 /// The bytes of one segment of a thread's events: a preamble that says of which thread, when and in
-/// which process, and then the records of the events, as `FDRController` of LLVM's
-/// `xray_fdr_controller.h` writes them.
-/// They lie in room that is taken when the buffer is made, and no other call takes memory.
+/// which process, and then the records of the events (LLVM's `xray_fdr_controller.h` fills its buffers
+/// with the same kinds of records). They lie in room that is taken when the buffer is made, and no
+/// other call takes memory.
 #[derive(Debug, Drop)]
 pub struct Buffer {
     /// As many bytes as the buffer's size.
     bytes: Vec<u8>,
     /// How many of them are used: none until it is begun.
     used: usize,
+    /// What it was begun for; all 0 until then.
     thread: u32,
     serial: u32,
     wall: Wall,
@@ -69,7 +70,8 @@ impl Buffer {
         })
     }
 
-    /// Empties the buffer, and begins segment `serial` (from 0) of the thread in it.
+    /// Empties the buffer, and begins segment `serial` (from 0) of the thread in it: it writes the 48
+    /// bytes that every segment begins with, NewBuffer, WalltimeMarker and Pid.
     pub fn begin(&mut self, thread: u32, serial: u32, wall: Wall, pid: u32)
         ensures { self.new ≡ record {
           size = self.old.size;

@@ -1,6 +1,6 @@
 //! Records from bytes.
 
-ghost use Rattle.std.specs.Prelude.{◌≡◌, ◌≤◌, ◌<◌, ◌+◌, length, take, drop, IfOk, IfErr, Ok, Err};
+ghost use Rattle.std.specs.Prelude.{◌≡◌, ◌≤◌, ◌<◌, ◌+◌, length, drop, IfOk, IfErr, Ok, Err};
 ghost use Rattle.fdr_record.specs.declared.rec.Rec.{Rec};
 ghost use Rattle.fdr_record.specs.declared.fault.RecFault.{RecFault};
 ghost use Rattle.fdr_record.specs.Records.{length_of, FieldsFit, BeginsWith};

@@ -1,6 +1,6 @@
 //! Records as bytes.
 
-ghost use Rattle.std.specs.Prelude.{◌≡◌, ◌≤◌, ◌<◌, ◌+◌, ◌^◌, ◌∷◌, ◌++◌, length, take, drop, replicate};
+ghost use Rattle.std.specs.Prelude.{◌≡◌, ◌≤◌, ◌<◌, ◌+◌, ◌∷◌, ◌++◌, length, take, drop, replicate};
 ghost use Rattle.fdr_record.specs.Records.{action_of, first_of, length_of, metadata_length, record_bytes, IdFits, FieldsFit};
 
 use crate::layout::{
