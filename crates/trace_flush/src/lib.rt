@@ -4,6 +4,8 @@
 
 mod audit;
 mod line;
+mod order;
 
 pub use audit::write_audit;
 pub use line::AuditLine;
+pub use order::arrange;
