@@ -62,9 +62,10 @@ Pairwise {X} R (x ∷ xs) = ((y : X) → IsIn y xs → R x y) × Pairwise R xs
 
 pairwise : {X : Type 0} (R : X → X → Type 0) (xs : List X) → AllPairs R xs → Pairwise R xs
 pairwise R [] all = tt
-pairwise {X} R (x ∷ xs) all =
-    (λ y is. let there = place_in xs y is in let P : X → Type 0 = λ z. R x z in subst P (there.2 x) (all 0 (suc there.0) x (omega arith) (omega (arith, there.1))),
-    pairwise R xs (λ i j d ahead within. all (suc i) (suc j) d (omega arith) (omega arith)))
+pairwise {X} R (x ∷ xs) all = (
+  λ y is. let there = place_in xs y is in let P : X → Type 0 = λ z. R x z in subst P (there.2 x) (all 0 (suc there.0) x (omega arith) (omega (arith, there.1))),
+  pairwise R xs (λ i j d ahead within. all (suc i) (suc j) d (omega arith) (omega arith)),
+)
 
 -- ---- totals of a list
 
@@ -137,8 +138,16 @@ same_rest x xs ys strict bag = record {
     by_place z is (inr behind) = behind
     by_place z is (inl same) =
         let none = sum_none (shares x) xs (λ w behind. before_shares x w (strict.0 w behind)) in
-        absurd (omega (arith, bag.totals (shares x), sum_by-cons (shares x) x xs, sum_by-cons (shares x) x ys, none,
-        sum_above (shares x) ys z is, ap (shares x) same, shares_itself x))
+        absurd (omega (
+          arith,
+          bag.totals (shares x),
+          sum_by-cons (shares x) x xs,
+          sum_by-cons (shares x) x ys,
+          none,
+          sum_above (shares x) ys z is,
+          ap (shares x) same,
+          shares_itself x,
+        ))
 
 same_lists : (xs ys : List Filled) → Pairwise IsBefore xs → Pairwise (λ first second. IsBefore second first → ⊥) ys → IsSameBag xs ys → ys ≡ xs
 same_lists [] [] strict weak bag = refl

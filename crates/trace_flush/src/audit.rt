@@ -197,11 +197,7 @@ fn add_thread<S: Sink>(
 }
 
 /// Adds the first line of a thread.
-fn add_line<S: Sink>(
-    text: &mut Text<S>,
-    line: &AuditLine,
-    marks: &Marks,
-) -> Result<(), WriteFault>
+fn add_line<S: Sink>(text: &mut Text<S>, line: &AuditLine, marks: &Marks) -> Result<(), WriteFault>
     ensures gains { OnOk result (Gains S.written text.old text.new
         (thread_line (line.now, marks.now.items))) }
     ensures breaks { OnErr result (Breaks S.written text.old (sink_of text.new)

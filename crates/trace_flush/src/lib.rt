@@ -9,3 +9,6 @@ mod order;
 pub use audit::write_audit;
 pub use line::AuditLine;
 pub use order::arrange;
+
+#[cfg(test)]
+mod tests;
