@@ -3,10 +3,12 @@
 #![tactic(auto)]
 
 mod audit;
+mod laws;
 mod line;
 mod order;
 
 pub use audit::write_audit;
+pub use laws::audit_tells_its_threads;
 pub use line::AuditLine;
 pub use order::arrange;
 
