@@ -27,11 +27,11 @@ pub use end::End;
 pub use laws::{allowed_loads_are_whole, one_end, some_end, what_is_read_along_is_allowed};
 pub use limits::Limits;
 pub use plain_end::PlainEnd;
-pub use plain_text::write_plain;
+pub use plain_text::{end_name, write_plain};
 pub use registers::REGISTERS;
 pub use running::plain_run;
 pub use setup::Setup;
-pub use state_text::write_state;
+pub use state_text::{add_marks, write_state};
 pub use want::Want;
 
 #[cfg(test)]

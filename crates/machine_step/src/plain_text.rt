@@ -81,7 +81,7 @@ pub(crate) fn add_counts<S: Sink>(
 }
 
 /// How an end is printed.
-fn end_name(end: End) -> &'static [u8]
+pub fn end_name(end: End) -> &'static [u8]
     ensures { result.now ≡ end_text end }
 {
     match end {

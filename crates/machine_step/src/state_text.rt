@@ -98,8 +98,8 @@ fn add_plain<S: Sink>(
     add_output(text, cpu.output())
 }
 
-/// Adds the line of the marks.
-fn add_marks<S: Sink>(text: &mut Text<S>, marks: &Marks) -> Result<(), WriteFault>
+/// Adds the line of a thread's marks to a text, for one that has more to say.
+pub fn add_marks<S: Sink>(text: &mut Text<S>, marks: &Marks) -> Result<(), WriteFault>
     ensures gains { OnOk result (Gains S.written text.old text.new (marks_line marks.now.items)) }
     ensures breaks { OnErr result (Breaks S.written text.old (sink_of text.new)
         (marks_line marks.now.items)) }

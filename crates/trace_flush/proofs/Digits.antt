@@ -1,0 +1,48 @@
+-- Numbers in a text, told apart from what stands behind them.
+use Rattle.std.proofs.Common.{◌≡◌, ◌<◌, ◌≤◌, ◌/◌, ◌%◌, nat_eq, cond, ℕ, zero, suc, Bool, true, false, List, [], ◌∷◌, ◌++◌, refl, arith}
+use Rattle.std.specs.Prelude.{decimal}
+use Rattle.std.specs.Fmt.{digits, digits_onto, digit_glyph}
+use Rattle.std.proofs.lemmas.Bool.Decides.{nat_tests}
+
+-- the bytes are all above one
+abbrev pub IsAbove : ℕ → List ℕ → Type 0
+IsAbove low [] = Unit {0}
+IsAbove low (x ∷ xs) = (low < x) × IsAbove low xs
+
+-- bytes that are above what stands behind them end where that begins
+pub split_at : (low : ℕ) (xs ys : List ℕ) (c d : ℕ) (r s : List ℕ) → IsAbove low xs → IsAbove low ys → c ≤ low → d ≤ low
+    → xs ++ c ∷ r ≡ ys ++ d ∷ s → (xs ≡ ys) × (c ∷ r ≡ d ∷ s)
+split_at low [] [] c d r s above above' small small' same = (refl, same)
+split_at low [] (y ∷ ys) c d r s above above' small small' same = let first : c ≡ y = cc in absurd (omega (arith, above'.0))
+split_at low (x ∷ xs) [] c d r s above above' small small' same = let first : x ≡ d = cc in absurd (omega (arith, above.0))
+split_at low (x ∷ xs) (y ∷ ys) c d r s above above' small small' same =
+    let rest = split_at low xs ys c d r s above.1 above'.1 small small' cc in
+    let front = rest.0 in
+    (cc, rest.1)
+
+-- the glyphs of digits
+glyph_above : (d : ℕ) → d < 10 → 47 < digit_glyph false d
+glyph_above d small = grind (arith, nat_tests)
+
+digits_above : (k n : ℕ) (behind : List ℕ) → IsAbove 47 behind → IsAbove 47 (digits_onto k 10 false n behind)
+digits_above zero n behind above = above
+digits_above (suc k) n behind above = by_rest (nat_eq (n / 10) 0) (digits_above k (n / 10) (digit_glyph false (n % 10) ∷ behind) (glyph_above (n % 10) (omega arith), above))
+  where
+    by_rest : (none : Bool) → IsAbove 47 (digits_onto k 10 false (n / 10) (digit_glyph false (n % 10) ∷ behind))
+        → IsAbove 47 (cond none (digit_glyph false (n % 10) ∷ behind) (digits_onto k 10 false (n / 10) (digit_glyph false (n % 10) ∷ behind)))
+    by_rest true more = (glyph_above (n % 10) (omega arith), above)
+    by_rest false more = more
+
+pub decimal_above : (n : ℕ) → IsAbove 47 (decimal n)
+unfolding digits
+decimal_above n = digits_above 64 n [] tt
+
+-- a number, and what stands behind it
+pub number_split : (m n c d : ℕ) (r s : List ℕ) → c ≤ 47 → d ≤ 47 → decimal m ++ c ∷ r ≡ decimal n ++ d ∷ s
+    → (decimal m ≡ decimal n) × (c ∷ r ≡ d ∷ s)
+number_split m n c d r s small small' same = split_at 47 (decimal m) (decimal n) c d r s (decimal_above m) (decimal_above n) small small' same
+
+-- what stands behind the same bytes
+pub behind : (front r s : List ℕ) → front ++ r ≡ front ++ s → r ≡ s
+behind [] r s same = same
+behind (x ∷ front) r s same = behind front r s cc

@@ -1,0 +1,5 @@
+pub mod AuditText
+pub mod Digits
+pub mod OneOrder
+pub mod TellsMarks
+pub mod TellsThreads

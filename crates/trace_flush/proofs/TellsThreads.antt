@@ -1,0 +1,211 @@
+-- The text of an audit tells its threads.
+use Rattle.std.proofs.Common.{◌≡◌, ◌<◌, ◌≤◌, ◌^◌, ℕ, suc, Bool, true, false, cond, List, [], ◌∷◌, ◌++◌, length, get_or, nat_lt, refl, sym, ap, ◌∙◌, arith, append_assoc}
+use Rattle.std.specs.Prelude.{All, codes, decimal, map, ◌==◌}
+use Rattle.std.specs.List.{flat_map}
+use Rattle.std.proofs.lemmas.Bool.{ltb-true}
+use Rattle.std.proofs.lemmas.Fmt.{decimal_injective}
+use Rattle.handler_word.specs.declared.mark.Mark.{Mark}
+use Rattle.handler_word.specs.MarkList.{recorded_count}
+use Rattle.handler_word.specs.Runs.{runs_text}
+use Rattle.machine_step.specs.declared.end.End.{End}
+use Rattle.machine_step.specs.declared.end.End.TheVariants as ends
+use Rattle.machine_step.specs.declared.limits.Limits.{Limits}
+use Rattle.machine_step.specs.declared.setup.Setup.{Setup}
+use Rattle.machine_step.specs.Texts.{end_text, marks_line, line_feed}
+use Rattle.trace_flush.specs.declared.line.AuditLine.{AuditLine}
+use Rattle.trace_flush.specs.Audit.{Account, audit_text, buffers_text, limits_text, stamps_text, setup_lines, thread_line, thread_lines, recycled_line}
+use Rattle.trace_flush.specs.Telling.{HasNumbers}
+use Rattle.trace_flush.proofs.Digits.{IsAbove, split_at, number_split, behind}
+use Rattle.trace_flush.proofs.TellsMarks.{marks_tell}
+
+-- ---- ends
+
+-- the end of a name: by its length, where the first letters are alike by the sixth
+end_named : List ℕ → End
+end_named name =
+    cond (get_or name 0 0 == 114) ends.Returned (cond (get_or name 0 0 == 102) ends.Fuel (cond (get_or name 0 0 == 112) ends.Passings
+    (cond (get_or name 0 0 == 111) ends.OutputFull (cond (get_or name 0 0 == 98) ends.BadTarget
+    (cond (get_or name 6 0 == 102) ends.StackFull ends.StackEmpty)))))
+
+end_named-end_text : (end : End) → end_named (end_text end) ≡ end
+unfolding end_named
+end_named-end_text ends.Returned = refl
+end_named-end_text ends.Fuel = refl
+end_named-end_text ends.Passings = refl
+end_named-end_text ends.OutputFull = refl
+end_named-end_text ends.StackFull = refl
+end_named-end_text ends.StackEmpty = refl
+end_named-end_text ends.BadTarget = refl
+
+-- no name has a space
+is_above : ℕ → List ℕ → Bool
+is_above low [] = true
+is_above low (x ∷ xs) = cond (nat_lt low x) (is_above low xs) false
+
+above_tested : (low : ℕ) (xs : List ℕ) → is_above low xs ≡ true → IsAbove low xs
+unfolding is_above
+above_tested low [] passes = tt
+above_tested low (x ∷ xs) passes = by_test (nat_lt low x) refl (above_tested low xs) passes
+  where
+    by_test : (test : Bool) → nat_lt low x ≡ test → (is_above low xs ≡ true → IsAbove low xs) → cond test (is_above low xs) false ≡ true
+        → (low < x) × IsAbove low xs
+    by_test true is rest passed = (ltb-true low x is, rest passed)
+    by_test false is rest passed = absurd cc
+
+end_above : (end : End) → IsAbove 32 (end_text end)
+unfolding is_above
+end_above ends.Returned = above_tested 32 (codes "returned") refl
+end_above ends.Fuel = above_tested 32 (codes "fuel") refl
+end_above ends.Passings = above_tested 32 (codes "passings") refl
+end_above ends.OutputFull = above_tested 32 (codes "output-full") refl
+end_above ends.StackFull = above_tested 32 (codes "stack-full") refl
+end_above ends.StackEmpty = above_tested 32 (codes "stack-empty") refl
+end_above ends.BadTarget = above_tested 32 (codes "bad-target") refl
+
+end_split : (end other : End) (r s : List ℕ) → end_text end ++ 32 ∷ r ≡ end_text other ++ 32 ∷ s → (end ≡ other) × (r ≡ s)
+end_split end other r s same =
+    let split = split_at 32 (end_text end) (end_text other) 32 32 r s (end_above end) (end_above other) (omega arith) (omega arith) same in
+    let rest = split.1 in
+    (sym (end_named-end_text end) ∙ (ap end_named split.0 ∙ end_named-end_text other), cc)
+
+-- ---- a number of 64 bits
+
+number_tells : (m n c d : ℕ) (r s : List ℕ) → m < 2 ^ 64 → n < 2 ^ 64 → c ≤ 47 → d ≤ 47 → decimal m ++ c ∷ r ≡ decimal n ++ d ∷ s
+    → (m ≡ n) × (r ≡ s)
+number_tells m n c d r s small small' low low' same =
+    let split = number_split m n c d r s low low' same in
+    let rest = split.1 in
+    (decimal_injective m n small small' split.0, cc)
+
+-- ---- a thread's lines
+
+-- a thread's lines and what stands behind them, each part before the next
+abbrev line_before : Account → List ℕ → List ℕ
+line_before (line, marks) rest =
+    codes "thread " ++ (decimal line.thread ++ (codes " " ++ (end_text line.end ++ (codes " passings " ++ (decimal (length marks)
+    ++ (codes " recorded " ++ (decimal (recorded_count marks) ++ (codes " segments " ++ (decimal line.segments ++ (codes " first " ++ (decimal line.first
+    ++ 10 ∷ rest)))))))))))
+
+abbrev lines_before : Account → List ℕ → List ℕ
+lines_before (line, marks) rest = line_before (line, marks) (codes "marks " ++ (runs_text marks ++ 10 ∷ rest))
+
+line_is : (line : AuditLine) (marks : List Mark) (rest : List ℕ) → thread_line (line, marks) ++ rest ≡ line_before (line, marks) rest
+line_is line marks rest = simp append_assoc
+
+lines_are : (line : AuditLine) (marks : List Mark) (rest : List ℕ) → thread_lines (line, marks) ++ rest ≡ lines_before (line, marks) rest
+lines_are line marks rest =
+    append_assoc (thread_line (line, marks)) (marks_line marks) rest
+    ∙ (line_is line marks (marks_line marks ++ rest)
+    ∙ ap (line_before (line, marks)) (append_assoc (codes "marks " ++ runs_text marks) line_feed rest ∙ append_assoc (codes "marks ") (runs_text marks) (10 ∷ rest)))
+
+-- lines with the same fields are the same
+one_line : (line line' : AuditLine) → line.thread ≡ line'.thread → line.end ≡ line'.end → line.segments ≡ line'.segments → line.first ≡ line'.first
+    → line ≡ line'
+one_line line line' threads ends_same segments firsts =
+    let made : ℕ → End → ℕ → ℕ → AuditLine = λ t e n m. record { thread = t; end = e; segments = n; first = m } in
+    ap (λ (t : ℕ). made t line.end line.segments line.first) threads
+    ∙ (ap (λ (e : End). made line'.thread e line.segments line.first) ends_same
+    ∙ (ap (λ (n : ℕ). made line'.thread line'.end n line.first) segments
+    ∙ ap (λ (m : ℕ). made line'.thread line'.end line'.segments m) firsts))
+
+-- the lines of a thread tell it
+thread_tells : (line line' : AuditLine) (marks marks' : List Mark) (r s : List ℕ) → HasNumbers (line, marks) → HasNumbers (line', marks')
+    → lines_before (line, marks) r ≡ lines_before (line', marks') s → (◌≡◌ {A = Account} (line, marks) (line', marks')) × (r ≡ s)
+thread_tells line line' marks marks' r s small small' same =
+    let one = number_tells line.thread line'.thread 32 32 _ _ small.number small'.number (omega arith) (omega arith) (behind (codes "thread ") _ _ same) in
+    let two = end_split line.end line'.end _ _ one.1 in
+    let three = number_tells (length marks) (length marks') 32 32 _ _ small.passings small'.passings (omega arith) (omega arith) (behind (codes "passings ") _ _ two.1) in
+    let four = number_split (recorded_count marks) (recorded_count marks') 32 32 _ _ (omega arith) (omega arith) (behind (codes "recorded ") _ _ three.1) in
+    let five = number_tells line.segments line'.segments 32 32 _ _ small.segments small'.segments (omega arith) (omega arith) (behind (codes " segments ") _ _ four.1) in
+    let six = number_tells line.first line'.first 10 10 _ _ small.first small'.first (omega arith) (omega arith) (behind (codes "first ") _ _ five.1) in
+    let seven = marks_tell marks marks' r s small.passings small'.passings (behind (codes "marks ") _ _ six.1) in
+    let lines_same = one_line line line' one.0 two.0 five.0 six.0 in
+    (◌∙◌ {b = (line', marks)} (ap (λ (l : AuditLine). (l, marks)) lines_same) (ap (λ (ms : List Mark). (line', ms)) seven.0), seven.1)
+
+-- ---- the lines of all threads
+
+threads_tell : (threads others : List Account) (r s : List ℕ) → All HasNumbers threads → All HasNumbers others
+    → flat_map thread_lines threads ++ (codes "recycled " ++ r) ≡ flat_map thread_lines others ++ (codes "recycled " ++ s) → threads ≡ others
+threads_tell [] [] r s small small' same = refl
+threads_tell [] ((line, marks) ∷ others) r s small small' same = let first : ◌≡◌ {A = ℕ} 114 116 = cc in absurd (omega arith)
+threads_tell ((line, marks) ∷ threads) [] r s small small' same = let first : ◌≡◌ {A = ℕ} 116 114 = cc in absurd (omega arith)
+threads_tell ((line, marks) ∷ threads) ((line', marks') ∷ others) r s small small' same =
+    let rest = flat_map thread_lines threads ++ (codes "recycled " ++ r) in
+    let rest' = flat_map thread_lines others ++ (codes "recycled " ++ s) in
+    let parts : lines_before (line, marks) rest ≡ lines_before (line', marks') rest' =
+    sym (lines_are line marks rest) ∙ (sym (append_assoc (thread_lines (line, marks)) (flat_map thread_lines threads) (codes "recycled " ++ r))
+    ∙ (same ∙ (append_assoc (thread_lines (line', marks')) (flat_map thread_lines others) (codes "recycled " ++ s) ∙ lines_are line' marks' rest'))) in
+    let first = thread_tells line line' marks marks' rest rest' (small 0 (line, marks) (omega arith)) (small' 0 (line, marks) (omega arith)) parts in
+    let later = threads_tell threads others r s (λ k d within. small (suc k) d (omega arith)) (λ k d within. small' (suc k) d (omega arith)) first.1 in
+    ap (λ (t : Account). t ∷ threads) first.0 ∙ ap (λ (ts : List Account). (line', marks') ∷ ts) later
+
+-- ---- the line of the setup
+
+abbrev buffers_before : Setup → List ℕ → List ℕ
+buffers_before setup rest =
+    codes "xray-audit 1" ++ (10 ∷ (codes "threads=" ++ (decimal setup.threads ++ (codes " buffer-size=" ++ (decimal setup.size
+    ++ (codes " buffer-max=" ++ (decimal setup.max ++ rest)))))))
+
+abbrev limits_before : Limits → List ℕ → List ℕ
+limits_before limits rest =
+    codes " fuel=" ++ (decimal limits.fuel ++ (codes " passings=" ++ (decimal limits.passings ++ (codes " tick=" ++ (decimal limits.tick
+    ++ (codes " tsc=" ++ (decimal limits.tsc ++ (codes " cpus=" ++ (decimal limits.cpus ++ (codes " migrate=" ++ (decimal limits.migrate ++ rest)))))))))))
+
+abbrev stamps_before : Setup → List ℕ → List ℕ
+stamps_before setup rest =
+    codes " pid=" ++ (decimal setup.pid ++ (codes " wall=" ++ (decimal setup.wall.secs ++ (codes "." ++ (decimal setup.wall.micros
+    ++ (codes " frequency=" ++ (decimal setup.frequency ++ 10 ∷ rest)))))))
+
+abbrev setup_before : Setup → List ℕ → List ℕ
+setup_before setup rest = buffers_before setup (limits_before setup.limits (stamps_before setup rest))
+
+buffers_are : (setup : Setup) (rest : List ℕ) → buffers_text setup ++ rest ≡ buffers_before setup rest
+buffers_are setup rest = simp append_assoc
+
+limits_are : (limits : Limits) (rest : List ℕ) → limits_text limits ++ rest ≡ limits_before limits rest
+limits_are limits rest = simp append_assoc
+
+stamps_are : (setup : Setup) (rest : List ℕ) → stamps_text setup ++ rest ≡ stamps_before setup rest
+stamps_are setup rest = simp append_assoc
+
+setup_is : (setup : Setup) (rest : List ℕ) → setup_lines setup ++ rest ≡ setup_before setup rest
+setup_is setup rest =
+    let buffers = buffers_text setup in
+    let limits = limits_text setup.limits in
+    let stamps = stamps_text setup in
+    append_assoc (buffers ++ limits) stamps rest ∙ (append_assoc buffers limits (stamps ++ rest) ∙ (buffers_are setup (limits ++ (stamps ++ rest))
+    ∙ ap (buffers_before setup) (limits_are setup.limits (stamps ++ rest) ∙ ap (limits_before setup.limits) (stamps_are setup rest))))
+
+-- the same bytes, and a number
+skip : (front : List ℕ) (m n c d : ℕ) (r s : List ℕ) → c ≤ 47 → d ≤ 47 → front ++ (decimal m ++ c ∷ r) ≡ front ++ (decimal n ++ d ∷ s) → c ∷ r ≡ d ∷ s
+skip front m n c d r s low low' same = (number_split m n c d r s low low' (behind front _ _ same)).1
+
+behind_setup : (setup setup' : Setup) (r s : List ℕ) → setup_before setup r ≡ setup_before setup' s → r ≡ s
+behind_setup setup setup' r s same =
+    let one = skip (codes "threads=") setup.threads setup'.threads 32 32 _ _ (omega arith) (omega arith) (behind (codes "xray-audit 1" ++ 10 ∷ []) _ _ same) in
+    let two = skip (codes " buffer-size=") setup.size setup'.size 32 32 _ _ (omega arith) (omega arith) one in
+    let three = skip (codes " buffer-max=") setup.max setup'.max 32 32 _ _ (omega arith) (omega arith) two in
+    let four = skip (codes " fuel=") setup.limits.fuel setup'.limits.fuel 32 32 _ _ (omega arith) (omega arith) three in
+    let five = skip (codes " passings=") setup.limits.passings setup'.limits.passings 32 32 _ _ (omega arith) (omega arith) four in
+    let six = skip (codes " tick=") setup.limits.tick setup'.limits.tick 32 32 _ _ (omega arith) (omega arith) five in
+    let seven = skip (codes " tsc=") setup.limits.tsc setup'.limits.tsc 32 32 _ _ (omega arith) (omega arith) six in
+    let eight = skip (codes " cpus=") setup.limits.cpus setup'.limits.cpus 32 32 _ _ (omega arith) (omega arith) seven in
+    let nine = skip (codes " migrate=") setup.limits.migrate setup'.limits.migrate 32 32 _ _ (omega arith) (omega arith) eight in
+    let ten = skip (codes " pid=") setup.pid setup'.pid 32 32 _ _ (omega arith) (omega arith) nine in
+    let eleven = skip (codes " wall=") setup.wall.secs setup'.wall.secs 46 46 _ _ (omega arith) (omega arith) ten in
+    let twelve = skip (codes ".") setup.wall.micros setup'.wall.micros 32 32 _ _ (omega arith) (omega arith) eleven in
+    behind (10 ∷ []) r s (skip (codes " frequency=") setup.frequency setup'.frequency 10 10 r s (omega arith) (omega arith) twelve)
+
+-- ---- the whole text
+
+pub audit_tells : (setup setup' : Setup) (threads others : List Account) → All HasNumbers threads → All HasNumbers others
+    → audit_text setup threads ≡ audit_text setup' others → threads ≡ others
+audit_tells setup setup' threads others small small' same =
+    let recycled = recycled_line (map (λ thread. thread.0) threads) in
+    let recycled' = recycled_line (map (λ thread. thread.0) others) in
+    let rest = flat_map thread_lines threads ++ recycled in
+    let rest' = flat_map thread_lines others ++ recycled' in
+    let parts : setup_before setup rest ≡ setup_before setup' rest' =
+    sym (setup_is setup rest) ∙ (sym (append_assoc (setup_lines setup) (flat_map thread_lines threads) recycled)
+    ∙ (same ∙ (append_assoc (setup_lines setup') (flat_map thread_lines others) recycled' ∙ setup_is setup' rest'))) in
+    threads_tell threads others _ _ small small' (behind_setup setup setup' rest rest' parts)

@@ -1,0 +1,251 @@
+//! The text of the audit.
+
+ghost use Rattle.std.specs.Prelude.{◌≡◌, ◌≤◌, ◌<◌, ◌*◌, ◌^◌, length, All, OnOk, OnErr, sum_by};
+ghost use Rattle.std.specs.List.{flat_map};
+ghost use Rattle.machine_step.specs.Traced.{IsDone};
+ghost use Rattle.trace_flush.specs.Audit.{accounts, audit_text, buffers_text, limits_text, recycled_line, setup_lines, stamps_text, thread_line, thread_lines};
+ghost use Rattle.xray_io.specs.Faults.{Rose};
+ghost use Rattle.xray_io.specs.Sink.{Adds, AddsPrefix};
+ghost use Rattle.xray_io.specs.Text.{sink_of, loan_of, Gains, Breaks};
+
+use crate::line::AuditLine;
+use handler_word::Marks;
+use machine_step::{Cpu, Limits, Setup, add_marks, end_name};
+use xray_io::{Piece, Sink, Text, WriteFault, text_adds_up};
+
+/// Writes the audit of a run whose threads have all ended: what it was made with, two lines for each
+/// thread in order, and how many segments were recycled. Takes no memory.
+///
+/// On `WriteFault` a front of the text was written, and the sink counted a fault.
+pub fn write_audit<S: Sink>(
+    setup: &Setup,
+    lines: &[AuditLine],
+    cpus: &[Cpu],
+    sink: &mut S,
+) -> Result<(), WriteFault>
+    requires count { length lines.now ≡ length cpus.now }
+    requires done { All (λ cpu. IsDone cpu.want) cpus.now }
+    ensures all { OnOk result (Adds (S.written sink.old) (S.written sink.new)
+        (audit_text setup.now (accounts lines.now cpus.now))) }
+    ensures front { OnErr result (AddsPrefix (S.written sink.old) (S.written sink.new)
+        (audit_text setup.now (accounts lines.now cpus.now))) }
+    ensures failed { OnErr result (Rose (S.faults sink.old) (S.faults sink.new)) }
+    ensures later { S.faults sink.old ≤ S.faults sink.new }
+    ensures follows { S.follows sink.old sink.new }
+{
+    let mut text = Text::new(sink);
+    add_audit(&mut text, setup, lines, cpus)?;
+    text.done()
+}
+
+/// Adds the whole audit.
+fn add_audit<S: Sink>(
+    text: &mut Text<S>,
+    setup: &Setup,
+    lines: &[AuditLine],
+    cpus: &[Cpu],
+) -> Result<(), WriteFault>
+    requires { length lines.now ≡ length cpus.now }
+    ensures gains { OnOk result (Gains S.written text.old text.new
+        (audit_text setup.now (accounts lines.now cpus.now))) }
+    ensures breaks { OnErr result (Breaks S.written text.old (sink_of text.new)
+        (audit_text setup.now (accounts lines.now cpus.now))) }
+    ensures failed { OnErr result
+        (Rose (S.faults (sink_of text.old)) (S.faults (sink_of text.new))) }
+    ensures later { S.faults (sink_of text.old) ≤ S.faults (sink_of text.new) }
+    ensures follows { S.follows (sink_of text.old) (sink_of text.new) }
+    ensures loan { loan_of text.new ≡ loan_of text.old }
+{
+    text_adds_up::<S>();
+    add_setup(text, setup)?;
+    add_threads(text, lines, cpus)?;
+    add_recycled(text, lines)
+}
+
+/// Adds the line of the format, and that of the setup.
+fn add_setup<S: Sink>(text: &mut Text<S>, setup: &Setup) -> Result<(), WriteFault>
+    ensures gains { OnOk result (Gains S.written text.old text.new (setup_lines setup.now)) }
+    ensures breaks { OnErr result
+        (Breaks S.written text.old (sink_of text.new) (setup_lines setup.now)) }
+    ensures failed { OnErr result
+        (Rose (S.faults (sink_of text.old)) (S.faults (sink_of text.new))) }
+    ensures later { S.faults (sink_of text.old) ≤ S.faults (sink_of text.new) }
+    ensures follows { S.follows (sink_of text.old) (sink_of text.new) }
+    ensures loan { loan_of text.new ≡ loan_of text.old }
+{
+    text_adds_up::<S>();
+    add_buffers(text, setup)?;
+    add_limits(text, &setup.limits)?;
+    add_stamps(text, setup)
+}
+
+/// Adds the line of the format, the threads and the buffers.
+fn add_buffers<S: Sink>(text: &mut Text<S>, setup: &Setup) -> Result<(), WriteFault>
+    ensures gains { OnOk result (Gains S.written text.old text.new (buffers_text setup.now)) }
+    ensures breaks { OnErr result
+        (Breaks S.written text.old (sink_of text.new) (buffers_text setup.now)) }
+    ensures failed { OnErr result
+        (Rose (S.faults (sink_of text.old)) (S.faults (sink_of text.new))) }
+    ensures later { S.faults (sink_of text.old) ≤ S.faults (sink_of text.new) }
+    ensures follows { S.follows (sink_of text.old) (sink_of text.new) }
+    ensures loan { loan_of text.new ≡ loan_of text.old }
+{
+    text.pieces(&[
+        Piece::Bytes(b"xray-audit 1\nthreads="),
+        Piece::Number(u128::from(setup.threads)),
+        Piece::Bytes(b" buffer-size="),
+        Piece::Number(u128::from(setup.size)),
+        Piece::Bytes(b" buffer-max="),
+        Piece::Number(u128::from(setup.max)),
+    ])
+}
+
+/// Adds what bounds and stamps each thread.
+fn add_limits<S: Sink>(text: &mut Text<S>, limits: &Limits) -> Result<(), WriteFault>
+    ensures gains { OnOk result (Gains S.written text.old text.new (limits_text limits.now)) }
+    ensures breaks { OnErr result
+        (Breaks S.written text.old (sink_of text.new) (limits_text limits.now)) }
+    ensures failed { OnErr result
+        (Rose (S.faults (sink_of text.old)) (S.faults (sink_of text.new))) }
+    ensures later { S.faults (sink_of text.old) ≤ S.faults (sink_of text.new) }
+    ensures follows { S.follows (sink_of text.old) (sink_of text.new) }
+    ensures loan { loan_of text.new ≡ loan_of text.old }
+{
+    text.pieces(&[
+        Piece::Bytes(b" fuel="),
+        Piece::Number(u128::from(limits.fuel)),
+        Piece::Bytes(b" passings="),
+        Piece::Number(u128::from(limits.passings)),
+        Piece::Bytes(b" tick="),
+        Piece::Number(u128::from(limits.tick)),
+        Piece::Bytes(b" tsc="),
+        Piece::Number(u128::from(limits.tsc)),
+        Piece::Bytes(b" cpus="),
+        Piece::Number(u128::from(limits.cpus)),
+        Piece::Bytes(b" migrate="),
+        Piece::Number(u128::from(limits.migrate)),
+    ])
+}
+
+/// Adds what is written in the trace of the process, the wall time and the counter.
+fn add_stamps<S: Sink>(text: &mut Text<S>, setup: &Setup) -> Result<(), WriteFault>
+    ensures gains { OnOk result (Gains S.written text.old text.new (stamps_text setup.now)) }
+    ensures breaks { OnErr result
+        (Breaks S.written text.old (sink_of text.new) (stamps_text setup.now)) }
+    ensures failed { OnErr result
+        (Rose (S.faults (sink_of text.old)) (S.faults (sink_of text.new))) }
+    ensures later { S.faults (sink_of text.old) ≤ S.faults (sink_of text.new) }
+    ensures follows { S.follows (sink_of text.old) (sink_of text.new) }
+    ensures loan { loan_of text.new ≡ loan_of text.old }
+{
+    text.pieces(&[
+        Piece::Bytes(b" pid="),
+        Piece::Number(u128::from(setup.pid)),
+        Piece::Bytes(b" wall="),
+        Piece::Number(u128::from(setup.wall.secs)),
+        Piece::Bytes(b"."),
+        Piece::Number(u128::from(setup.wall.micros)),
+        Piece::Bytes(b" frequency="),
+        Piece::Number(u128::from(setup.frequency)),
+        Piece::Bytes(b"\n"),
+    ])
+}
+
+/// Adds the two lines of each thread.
+fn add_threads<S: Sink>(
+    text: &mut Text<S>,
+    lines: &[AuditLine],
+    cpus: &[Cpu],
+) -> Result<(), WriteFault>
+    requires { length lines.now ≡ length cpus.now }
+    ensures gains { OnOk result (Gains S.written text.old text.new
+        (flat_map thread_lines (accounts lines.now cpus.now))) }
+    ensures breaks { OnErr result (Breaks S.written text.old (sink_of text.new)
+        (flat_map thread_lines (accounts lines.now cpus.now))) }
+    ensures failed { OnErr result
+        (Rose (S.faults (sink_of text.old)) (S.faults (sink_of text.new))) }
+    ensures later { S.faults (sink_of text.old) ≤ S.faults (sink_of text.new) }
+    ensures follows { S.follows (sink_of text.old) (sink_of text.new) }
+    ensures loan { loan_of text.new ≡ loan_of text.old }
+{
+    text_adds_up::<S>();
+    'threads: for (line, cpu) in lines.iter().zip(cpus.iter()) {
+        add_thread(text, line, cpu.marks())?;
+    }
+    Ok(())
+}
+
+/// Adds the two lines of a thread.
+fn add_thread<S: Sink>(
+    text: &mut Text<S>,
+    line: &AuditLine,
+    marks: &Marks,
+) -> Result<(), WriteFault>
+    ensures gains { OnOk result (Gains S.written text.old text.new
+        (thread_lines (line.now, marks.now.items))) }
+    ensures breaks { OnErr result (Breaks S.written text.old (sink_of text.new)
+        (thread_lines (line.now, marks.now.items))) }
+    ensures failed { OnErr result
+        (Rose (S.faults (sink_of text.old)) (S.faults (sink_of text.new))) }
+    ensures later { S.faults (sink_of text.old) ≤ S.faults (sink_of text.new) }
+    ensures follows { S.follows (sink_of text.old) (sink_of text.new) }
+    ensures loan { loan_of text.new ≡ loan_of text.old }
+{
+    text_adds_up::<S>();
+    add_line(text, line, marks)?;
+    add_marks(text, marks)
+}
+
+/// Adds the first line of a thread.
+fn add_line<S: Sink>(text: &mut Text<S>, line: &AuditLine, marks: &Marks) -> Result<(), WriteFault>
+    ensures gains { OnOk result (Gains S.written text.old text.new
+        (thread_line (line.now, marks.now.items))) }
+    ensures breaks { OnErr result (Breaks S.written text.old (sink_of text.new)
+        (thread_line (line.now, marks.now.items))) }
+    ensures failed { OnErr result
+        (Rose (S.faults (sink_of text.old)) (S.faults (sink_of text.new))) }
+    ensures later { S.faults (sink_of text.old) ≤ S.faults (sink_of text.new) }
+    ensures follows { S.follows (sink_of text.old) (sink_of text.new) }
+    ensures loan { loan_of text.new ≡ loan_of text.old }
+{
+    text.pieces(&[
+        Piece::Bytes(b"thread "),
+        Piece::Number(u128::from(line.thread)),
+        Piece::Bytes(b" "),
+        Piece::Bytes(end_name(line.end)),
+        Piece::Bytes(b" passings "),
+        Piece::Number(u128::from(marks.len())),
+        Piece::Bytes(b" recorded "),
+        Piece::Number(u128::from(marks.recorded())),
+        Piece::Bytes(b" segments "),
+        Piece::Number(u128::from(line.segments)),
+        Piece::Bytes(b" first "),
+        Piece::Number(u128::from(line.first)),
+        Piece::Bytes(b"\n"),
+    ])
+}
+
+/// Adds the line of the segments that were recycled.
+fn add_recycled<S: Sink>(text: &mut Text<S>, lines: &[AuditLine]) -> Result<(), WriteFault>
+    ensures gains { OnOk result (Gains S.written text.old text.new (recycled_line lines.now)) }
+    ensures breaks { OnErr result
+        (Breaks S.written text.old (sink_of text.new) (recycled_line lines.now)) }
+    ensures failed { OnErr result
+        (Rose (S.faults (sink_of text.old)) (S.faults (sink_of text.new))) }
+    ensures later { S.faults (sink_of text.old) ≤ S.faults (sink_of text.new) }
+    ensures follows { S.follows (sink_of text.old) (sink_of text.new) }
+    ensures loan { loan_of text.new ≡ loan_of text.old }
+{
+    text.pieces(&[
+        Piece::Bytes(b"recycled "),
+        Piece::Number(recycled(lines)),
+        Piece::Bytes(b"\n"),
+    ])
+}
+
+/// How many segments of all threads were recycled.
+fn recycled(lines: &[AuditLine]) -> u128
+    ensures { result ≡ sum_by (λ line. line.first) lines.now }
+{
+    lines.iter().map(|line| u128::from(line.first)).sum()
+}

@@ -1,0 +1,16 @@
+//! The end of a traced run: what is written once all threads have ended. The audit tells what the run
+//! was made with, and what its threads came to.
+#![tactic(auto)]
+
+mod audit;
+mod laws;
+mod line;
+mod order;
+
+pub use audit::write_audit;
+pub use laws::audit_tells_its_threads;
+pub use line::AuditLine;
+pub use order::arrange;
+
+#[cfg(test)]
+mod tests;

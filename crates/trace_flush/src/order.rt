@@ -1,0 +1,22 @@
+//! The order of a flush.
+
+ghost use Rattle.std.specs.Prelude.{◌≡◌, List, IsPermutation, AllPairs, filter};
+ghost use Rattle.fdr_buffer.specs.Filled.{Filled};
+ghost use Rattle.trace_flush.specs.Arranged.{has_event, IsBefore};
+
+use fdr_buffer::Buffer;
+
+/// Drops the buffers that hold no event, and orders the rest as a trace has them: by their threads, and
+/// those of a thread by their segments. Takes no memory.
+///
+/// Where two buffers have the same thread and segment, either may come first.
+pub fn arrange(buffers: &mut Vec<Buffer>)
+    ensures kept { IsPermutation (filter has_event buffers.old.items) buffers.new.items }
+    ensures order { AllPairs (λ first second. IsBefore second first → ⊥) buffers.new.items }
+    // Whichever list has the same buffers in strict order is what is left.
+    ensures exact { (wanted : List Filled) → AllPairs IsBefore wanted
+        → IsPermutation (filter has_event buffers.old.items) wanted → buffers.new.items ≡ wanted }
+{
+    buffers.retain(|buffer| buffer.events() > 0);
+    buffers.sort_unstable_by_key(|buffer| (buffer.thread(), buffer.serial()));
+}
