@@ -1,0 +1,21 @@
+//! Trace files of LLVM XRay's Flight Data Recorder mode, version 3: a header, and a block for each
+//! buffer that was flushed. `read_trace` reads a file whole. The layout is that of "XRay Flight Data
+//! Recorder Trace Format" of LLVM's documentation.
+#![tactic(auto)]
+
+mod block;
+mod events;
+mod fault;
+mod header;
+mod preamble;
+mod reading;
+mod records;
+mod trace;
+
+pub use fault::TraceFault;
+pub use header::Header;
+pub use reading::read_trace;
+pub use trace::{Block, Blocks, Events, Trace};
+
+#[cfg(test)]
+mod tests;
