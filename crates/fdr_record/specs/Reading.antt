@@ -13,10 +13,12 @@ abbrev pub ◌>>=◌ : {A B : Type 0} → Result A RecFault → (A → Result B 
 (Ok x) >>= f = f x
 (Err e) >>= f = Err e
 
+-- what an action's number says that happened
 abbrev pub kind_read : ℕ → Result Kind RecFault
 kind_read action =
     if action == 0 then Ok Entry else if action == 1 then Ok Exit else if action == 2 then Ok TailExit else Err (faults.Action action)
 
+-- the function record with this first byte, which the bytes begin with
 unfoldable pub function_at : ℕ → List ℕ → Result Rec RecFault
 function_at first bytes =
     if nat_lt (length bytes) 8 then Err faults.Short else (do
@@ -34,5 +36,6 @@ fields_read kind fields =
     else if kind == 9 then Ok (Pid (little_number 4 fields))
     else Err (faults.Kind kind)
 
+-- a metadata record of a kind, from the bytes behind its first one
 unfoldable pub metadata_at : ℕ → List ℕ → Result Rec RecFault
 metadata_at kind fields = if nat_lt (length fields) 15 then Err faults.Short else fields_read kind fields

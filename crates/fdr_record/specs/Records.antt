@@ -49,15 +49,17 @@ told_by (Pid id) = first_of pid ∷ little_bytes 4 id
 told_by (Extents size) = first_of buffer_extents ∷ little_bytes 8 size
 told_by (Function kind func delta) = little_bytes 4 (head_of kind func) ++ little_bytes 4 delta
 
+-- how many bytes a function record has, and a metadata record
+abbrev pub function_length : ℕ
+function_length = 8
+
+abbrev pub metadata_length : ℕ
+metadata_length = 16
+
 -- how many bytes a record has
 abbrev pub length_of : Rec → ℕ
-length_of (NewBuffer thread) = 16
-length_of (NewCpu cpu tsc) = 16
-length_of (TscWrap tsc) = 16
-length_of (WallTime wall) = 16
-length_of (Pid id) = 16
-length_of (Extents size) = 16
-length_of (Function kind func delta) = 8
+length_of (Function kind func delta) = function_length
+length_of _ = metadata_length
 
 -- the bytes that are written for a record: what it tells, and zeros up to its length
 abbrev pub record_bytes : Rec → List ℕ
@@ -73,15 +75,10 @@ pub record Spells (bytes : List ℕ) (r : Rec) : Type 0 where
 abbrev pub BeginsWith : Rec → List ℕ → Type 0
 BeginsWith r bytes = Spells (take (length_of r) bytes) r
 
--- the function's id fits its 28 bits
+-- the function's id, where the record has one, fits its 28 bits
 abbrev pub IdFits : Rec → Type 0
-IdFits (NewBuffer thread) = Unit {0}
-IdFits (NewCpu cpu tsc) = Unit {0}
-IdFits (TscWrap tsc) = Unit {0}
-IdFits (WallTime wall) = Unit {0}
-IdFits (Pid id) = Unit {0}
-IdFits (Extents size) = Unit {0}
 IdFits (Function kind func delta) = func < 2 ^ 28
+IdFits _ = Unit {0}
 
 -- each field fits its bytes
 abbrev pub FieldsFit : Rec → Type 0

@@ -4,7 +4,7 @@ use Rattle.std.specs.List.{AllByRecursion}
 use Rattle.fdr_record.specs.declared.rec.Rec.{Rec}
 use Rattle.fdr_record.specs.declared.fault.RecFault.{RecFault}
 use Rattle.fdr_record.specs.declared.fault.RecFault.TheVariants as faults
-use Rattle.fdr_record.specs.Records.{new_buffer, new_cpu_id, tsc_wrap, walltime_marker, buffer_extents, pid, FieldsFit, BeginsWith}
+use Rattle.fdr_record.specs.Records.{new_buffer, new_cpu_id, tsc_wrap, walltime_marker, buffer_extents, pid, function_length, metadata_length, FieldsFit, BeginsWith}
 
 -- the kinds of metadata records that are read
 abbrev pub kinds : List ℕ
@@ -12,7 +12,7 @@ kinds = new_buffer ∷ new_cpu_id ∷ tsc_wrap ∷ walltime_marker ∷ buffer_ex
 
 -- how many bytes the record has that begins with this byte: bit 0 tells
 abbrev pub length_by : ℕ → ℕ
-length_by first = if first % 2 == 0 then 8 else 16
+length_by first = if first % 2 == 0 then function_length else metadata_length
 
 -- no byte is left, or fewer than the first one asks for
 abbrev pub IsCut : List ℕ → Type 0
@@ -22,13 +22,13 @@ IsCut (first ∷ rest) = length (first ∷ rest) < length_by first
 -- the bytes begin with a function record of this action, whole
 pub record HasAction (bytes : List ℕ) (n : ℕ) : Type 0 where
   pub function : slice_index bytes 0 % 2 ≡ 0
-  pub whole : 8 ≤ length bytes
+  pub whole : function_length ≤ length bytes
   pub action : slice_index bytes 0 / 2 % 8 ≡ n
 
 -- the bytes begin with a metadata record of this kind, whole
 pub record HasKind (bytes : List ℕ) (n : ℕ) : Type 0 where
   pub metadata : slice_index bytes 0 % 2 ≡ 1
-  pub whole : 16 ≤ length bytes
+  pub whole : metadata_length ≤ length bytes
   pub kind : slice_index bytes 0 / 2 ≡ n
 
 -- the fault of bytes

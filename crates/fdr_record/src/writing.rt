@@ -1,7 +1,7 @@
 //! Records as bytes.
 
 ghost use Rattle.std.specs.Prelude.{◌≡◌, ◌≤◌, ◌<◌, ◌+◌, ◌^◌, ◌∷◌, ◌++◌, length, take, drop, replicate};
-ghost use Rattle.fdr_record.specs.Records.{action_of, first_of, length_of, record_bytes, IdFits, FieldsFit};
+ghost use Rattle.fdr_record.specs.Records.{action_of, first_of, length_of, metadata_length, record_bytes, IdFits, FieldsFit};
 
 use crate::layout::{
     ACTION_SHIFT, BUFFER_EXTENTS, CPU_BYTES, ENTER, EXIT, FIELDS, ID_BYTES, ID_SHIFT, KIND_SHIFT,
@@ -26,7 +26,7 @@ fn action(kind: Kind) -> u32
 
 /// A metadata record of this kind whose fields are all 0.
 fn put_kind(bytes: &mut [u8], kind: u8)
-    requires whole { length bytes.old ≡ 16 }
+    requires whole { length bytes.old ≡ metadata_length }
     requires small { kind < 128 }
     ensures { bytes.new ≡ first_of kind ∷ replicate 15 0 }
 {
@@ -36,7 +36,7 @@ fn put_kind(bytes: &mut [u8], kind: u8)
 
 /// A record of a wall time.
 fn put_wall_time(bytes: &mut [u8], wall: Wall)
-    requires { length bytes.old ≡ 16 }
+    requires { length bytes.old ≡ metadata_length }
     ensures bytes { bytes.new ≡ record_bytes (Rec.WallTime wall) }
     ensures fits { FieldsFit (Rec.WallTime wall) }
 {
