@@ -1,3 +1,4 @@
 pub mod Decoding
 pub mod Walking
 pub mod Deciding
+pub mod Gathered

@@ -2,3 +2,4 @@ pub mod Places
 pub mod Events
 pub mod Traces
 pub mod Reading
+pub mod Files

@@ -13,7 +13,7 @@ pub(crate) const HEADER_BYTES: usize = 32;
 const VERSION: u16 = 3;
 
 /// The type of the Flight Data Recorder mode's files.
-const FDR: u16 = 1;
+pub(crate) const FDR: u16 = 1;
 
 /// The places of a header's fields. The version stands at 0, and bytes from 24 on are reserved.
 const TYPE_AT: usize = 2;
@@ -23,6 +23,14 @@ const FLAGS_AT: usize = 4;
 const FREQUENCY_AT: usize = 8;
 
 const SIZE_AT: usize = 16;
+
+/// The flags, as they stand in their number.
+pub(crate) const CONSTANT: u32 = 1;
+
+pub(crate) const NONSTOP: u32 = 2;
+
+/// The reserved bytes, as they are written.
+pub(crate) const RESERVED: [u8; 8] = [0; 8];
 
 /// What a trace file says of itself (LLVM's `XRayFileHeader`).
 #[derive(Clone, Copy, Debug, PartialEq, Eq)]

@@ -1,5 +1,5 @@
 //! Trace files of LLVM XRay's Flight Data Recorder mode, version 3: a header, and a block for each
-//! buffer that was flushed. `read_trace` reads a file whole. The layout is that of "XRay Flight Data
+//! buffer that was flushed. `read_trace` reads a file whole, and `write_file` writes one. The layout is that of "XRay Flight Data
 //! Recorder Trace Format" of LLVM's documentation.
 #![tactic(auto)]
 
@@ -11,11 +11,13 @@ mod preamble;
 mod reading;
 mod records;
 mod trace;
+mod writing;
 
 pub use fault::TraceFault;
 pub use header::Header;
 pub use reading::read_trace;
 pub use trace::{Block, Blocks, Events, Trace};
+pub use writing::write_file;
 
 #[cfg(test)]
 mod tests;
