@@ -50,7 +50,7 @@ decided_more front [] rest = refl
 decided_more front (fault ∷ later) rest = refl
 
 -- records behind a preamble
-abbrev IsBehind : List Rec → Type 0
+abbrev pub IsBehind : List Rec → Type 0
 IsBehind before = (n : ℕ) × (length before ≡ suc (suc (suc n)))
 
 or_true : (b : Bool) → (b || true) ≡ true

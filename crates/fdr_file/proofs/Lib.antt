@@ -2,3 +2,4 @@ pub mod Decoding
 pub mod Walking
 pub mod Deciding
 pub mod Gathered
+pub mod Accepting

@@ -37,7 +37,7 @@ starts_first len at (byte ∷ bytes) some whole =
 length_some : (bytes : List ℕ) → 0 < record_length bytes
 length_some bytes = elim (cases_Bool (eqb (slice_index bytes 0 % 2) 0)) [ inl e ↦ rw e (lit< tt) | inr e ↦ rw e (lit< tt) ]
 
-stands_first : (at : ℕ) (bytes : List ℕ) → 0 < length bytes → standings at bytes ≡ (at, record_in bytes) ∷ standings (at + record_length bytes) (drop (record_length bytes) bytes)
+pub stands_first : (at : ℕ) (bytes : List ℕ) → 0 < length bytes → standings at bytes ≡ (at, record_in bytes) ∷ standings (at + record_length bytes) (drop (record_length bytes) bytes)
 stands_first at bytes some = ap (map standing_at) (starts_first record_length at bytes some (length_some bytes))
 
 -- what a record that stands first leaves

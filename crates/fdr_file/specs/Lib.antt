@@ -3,3 +3,4 @@ pub mod Events
 pub mod Traces
 pub mod Reading
 pub mod Files
+pub mod Grammar

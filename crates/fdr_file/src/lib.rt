@@ -7,6 +7,7 @@ mod block;
 mod events;
 mod fault;
 mod header;
+mod laws;
 mod preamble;
 mod reading;
 mod records;
@@ -15,6 +16,7 @@ mod writing;
 
 pub use fault::TraceFault;
 pub use header::Header;
+pub use laws::a_trace_is_read;
 pub use reading::read_trace;
 pub use trace::{Block, Blocks, Events, Trace};
 pub use writing::write_file;
