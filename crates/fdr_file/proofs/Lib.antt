@@ -3,3 +3,4 @@ pub mod Walking
 pub mod Deciding
 pub mod Gathered
 pub mod Accepting
+pub mod Returning
