@@ -1,0 +1,171 @@
+-- A file that is a trace by the grammar reads as it.
+use Rattle.std.proofs.Common.{◌≡◌, ℕ, zero, suc, ◌+◌, ◌-◌, ◌%◌, ◌/◌, ◌≤◌, ◌<◌, ◌^◌, Bool, true, false, cond, eqb, ltb, leb, lit≤, List, [], ◌∷◌, ◌++◌, length, take, drop, map, Result, Ok, Err, refl, sym, ap, subst, ◌∙◌, append_assoc, arith}
+use Rattle.std.specs.Prelude.{◌||◌, not}
+use Rattle.std.specs.List.{flat_map, list_any, AllByRecursion}
+use Rattle.std.proofs.lemmas.Bool.{le-leb, le-ltb}
+use Rattle.std.proofs.lemmas.List.{append-nil, drop-drop, length-append, take_at, drop_at}
+use Rattle.std.proofs.lemmas.List.Concat.{flat_map-cons}
+use Rattle.byteorder.specs.Endian.{little_bytes, little_number}
+use Rattle.byteorder.specs.Numbers.{little_number-reads_back}
+use Rattle.fdr_record.specs.declared.event.Event.{Event}
+use Rattle.fdr_record.specs.declared.rec.Rec.{Rec}
+use Rattle.fdr_record.specs.declared.rec.Rec.TheVariants.{NewBuffer, NewCpu, TscWrap, WallTime, Pid, Extents, Function}
+use Rattle.fdr_record.specs.Records.{length_of, FieldsFit, BeginsWith, Spells}
+use Rattle.fdr_file.specs.declared.header.Header.{Header}
+use Rattle.fdr_file.specs.declared.fault.TraceFault.{TraceFault}
+use Rattle.fdr_file.specs.declared.trace.Block.{Block}
+use Rattle.fdr_file.specs.declared.trace.Trace.{Trace}
+use Rattle.fdr_file.specs.Places.{starts}
+use Rattle.fdr_file.specs.Traces.{Standing, block_faults, block_in, block_length, block_of, block_standings, extents_in, header_faults, header_in, names_cpu, needs_cpu, record_faults, record_in, record_length, records_of, standing_faults, standings, trace_of}
+use Rattle.fdr_file.specs.Grammar.{AreBlocks, AreSpelled, BeginWithCpu, IsBlock, IsHeader, IsInner, IsTrace, block_records}
+use Rattle.fdr_file.proofs.Decoding.{length_told, told_again}
+use Rattle.fdr_file.proofs.Walking.{starts_first, stands_first}
+use Rattle.fdr_file.proofs.Deciding.{IsBehind, extents_is}
+
+-- ---- records
+
+-- what stands where records do
+abbrev stand_from : ℕ → List Rec → List Standing
+stand_from at [] = []
+stand_from at (r ∷ records) = (at, Ok r) ∷ stand_from (at + length_of r) records
+
+-- a spelling in front
+begins : (r : Rec) (front behind : List ℕ) → Spells front r → BeginsWith r (front ++ behind)
+begins r front behind is = subst (λ (x : List ℕ). Spells x r) (sym (take_at front behind (length_of r) is.whole)) is
+
+length_some : (r : Rec) → 8 ≤ length_of r
+length_some (NewBuffer thread) = lit≤ tt
+length_some (NewCpu cpu tsc) = lit≤ tt
+length_some (TscWrap tsc) = lit≤ tt
+length_some (WallTime wall) = lit≤ tt
+length_some (Pid pid) = lit≤ tt
+length_some (Extents size) = lit≤ tt
+length_some (Function kind func delta) = lit≤ tt
+
+spelled_stand : (at : ℕ) (records : List Rec) (bytes : List ℕ) → AreSpelled records bytes → standings at bytes ≡ stand_from at records
+unfolding starts
+spelled_stand at [] bytes is = ap (standings at) is
+spelled_stand at (r ∷ records) bytes (front, behind, parts, fits, spells, rest) =
+    let begin = begins r front behind spells in
+    let is = told_again r (front ++ behind) fits begin in
+    let long = length_told r (front ++ behind) fits begin in
+    let some : 0 < length (front ++ behind) = omega (arith, length-append front behind, spells.whole, length_some r) in
+    ap (standings at) parts
+    ∙ stands_first at (front ++ behind) some
+    ∙ rw (is, long, drop_at front behind (length_of r) spells.whole) (ap (λ (x : List Standing). (at, Ok r) ∷ x) (spelled_stand (at + length_of r) records behind rest))
+
+stand_records : (at : ℕ) (records : List Rec) → records_of (stand_from at records) ≡ records
+stand_records at [] = refl
+stand_records at (r ∷ records) = ap (λ (x : List Rec). r ∷ x) (stand_records (at + length_of r) records)
+
+or_true : (b : Bool) → (b || true) ≡ true
+or_true true = refl
+or_true false = refl
+
+-- records behind a CPU have no fault
+stand_clean : (before : List Rec) (at : ℕ) (records : List Rec) → IsBehind before → list_any names_cpu before ≡ true → AllByRecursion IsInner records → standing_faults before (stand_from at records) ≡ []
+stand_clean before at [] many cpu inner = refl
+stand_clean before at (r ∷ records) (n, is) cpu (here, rest) =
+    let next : list_any names_cpu (r ∷ before) ≡ true = after (names_cpu r) cpu in
+    rw (is, here, cpu) (stand_clean (r ∷ before) (at + length_of r) records (suc n, ap suc is) next rest)
+  where
+    after : {b : Bool} (a : Bool) → b ≡ true → (a || b) ≡ true
+    after true e = refl
+    after false e = e
+
+preamble_clean : (before : List Rec) (at : ℕ) (records : List Rec) → IsBehind before → AllByRecursion IsInner records → BeginWithCpu records → standing_faults before (stand_from at records) ≡ []
+preamble_clean before at [] many inner based = refl
+preamble_clean before at (NewCpu cpu tsc ∷ records) (n, is) (here, rest) based =
+    rw (is, or_true (list_any names_cpu before)) (stand_clean (NewCpu cpu tsc ∷ before) (at + 16) records (suc n, ap suc is) refl rest)
+preamble_clean before at (r ∷ records) many inner based = absurd cc
+
+-- ---- blocks
+
+-- what a block's bytes are in front of others
+record Stands (bytes : List ℕ) (at : ℕ) (block : Block) (behind : List ℕ) : Type 0 where
+  some : 0 < length bytes
+  clean : block_faults (at, bytes) ≡ []
+  told : block_in (at, bytes) ≡ block
+  rest : drop (block_length bytes) bytes ≡ behind
+
+-- a preamble has its length
+preamble_long : (block : Block) (records : List Rec) (bytes : List ℕ) → AreSpelled (block_records block records) bytes → 48 ≤ length bytes
+preamble_long block records bytes (a, b, e1, f1, s1, (c, d, e2, f2, s2, (x, y, e3, f3, s3, rest))) =
+    omega (arith, ap length e1, length-append a b, ap length e2, length-append c d, ap length e3, length-append x y, s1.whole, s2.whole, s3.whole)
+
+block_stands : (bytes behind : List ℕ) (at : ℕ) (block : Block) → IsBlock bytes block → Stands (bytes ++ behind) at block behind
+block_stands bytes behind at block is =
+    let n = length is.body in
+    let all = is.extents ++ (is.body ++ behind) in
+    let parts : bytes ++ behind ≡ all = ap (λ (x : List ℕ). x ++ behind) is.parts ∙ append_assoc is.extents is.body behind in
+    let found : record_in all ≡ Ok (Extents n) = told_again (Extents n) all is.few (begins (Extents n) is.extents (is.body ++ behind) is.named) in
+    let named : extents_in all ≡ n = extents_is all n found in
+    let body : drop 16 all ≡ is.body ++ behind = drop_at is.extents (is.body ++ behind) 16 is.named.whole in
+    let many = preamble_long block is.records is.body is.spelled in
+    let size : length all ≡ 16 + (n + length behind) = length-append is.extents (is.body ++ behind) ∙ omega (arith, is.named.whole, length-append is.body behind) in
+    let records = block_records block is.records in
+    let standing : block_standings (at, all) ≡ stand_from (at + 16) records =
+    ap (λ (k : ℕ). standings (at + 16) (take k (drop 16 all))) named ∙ ap (λ (x : List ℕ). standings (at + 16) (take n x)) body ∙ ap (standings (at + 16)) (take_at is.body behind n refl)
+    ∙ spelled_stand (at + 16) records is.body is.spelled in
+    let inner = preamble_clean (Pid block.pid ∷ WallTime block.wall ∷ NewBuffer block.thread ∷ []) (at + 16 + 16 + 16 + 16) is.records (0, refl) is.inner is.based in
+    let long : ltb (length all) 16 ≡ false = le-ltb (length all) 16 (omega arith) in
+    let least : leb 48 n ≡ true = le-leb 48 n many in
+    let whole : leb (16 + n) (length all) ≡ true = le-leb (16 + n) (length all) (omega arith) in
+    subst (λ (x : List ℕ). Stands x at block behind) (sym parts) (record {
+      some = omega arith;
+      clean = rw (long, found, least, whole, standing) inner;
+      told = rw (standing, stand_records (at + 16 + 16 + 16 + 16) is.records) (ap (λ (events : List Event). let made : Block = record { thread = block.thread; wall = block.wall; pid = block.pid; events = events } in made) (sym is.told));
+      rest = ap (λ (k : ℕ). drop (16 + k) all) named ∙ sym (drop-drop n 16 all) ∙ ap (drop n) body ∙ drop_at is.body behind n refl;
+    })
+
+abbrev AllRead : ℕ → List Block → List ℕ → Type 0
+AllRead at blocks bytes = (flat_map block_faults (starts block_length 0 at bytes) ≡ []) × (map block_in (starts block_length 0 at bytes) ≡ blocks)
+
+blocks_stand : (at : ℕ) (blocks : List Block) (bytes : List ℕ) → AreBlocks blocks bytes → AllRead at blocks bytes
+unfolding starts
+blocks_stand at [] bytes is = subst (AllRead at []) (sym is) (refl, refl)
+blocks_stand at (block ∷ blocks) bytes (front, behind, parts, is, rest) =
+    let all = front ++ behind in
+    let here = block_stands front behind at block is in
+    let next = at + block_length all in
+    let first : starts block_length 0 at all ≡ (at, all) ∷ starts block_length 0 next behind = starts_first block_length at all here.some (omega arith) ∙ ap (λ (x : List ℕ). (at, all) ∷ starts block_length 0 next x) here.rest in
+    let others = blocks_stand next blocks behind rest in
+    subst (AllRead at (block ∷ blocks)) (sym parts) (
+      ap (flat_map block_faults) first ∙ flat_map-cons block_faults (at, all) (starts block_length 0 next behind) ∙ rw (here.clean, others.0) refl,
+      ap (map block_in) first ∙ rw (here.told, others.1) refl,
+    )
+
+-- ---- headers
+
+header_of : (h : Header) (version : ℕ) (constant nonstop : Bool) → version ≡ h.version → constant ≡ h.constant → nonstop ≡ h.nonstop
+    → record { version = version; constant = constant; nonstop = nonstop; frequency = h.frequency; size = h.size } ≡ h
+header_of h version constant nonstop e1 e2 e3 = rw (e1, e2, e3) refl
+
+header_reads : (bytes behind : List ℕ) (header : Header) → IsHeader bytes header → (header_faults (bytes ++ behind) ≡ []) × (header_in (bytes ++ behind) ≡ header) × (drop 32 (bytes ++ behind) ≡ behind)
+header_reads bytes behind header is =
+    let rest = is.reserved ++ behind in
+    let all = little_bytes 2 3 ++ (little_bytes 2 1 ++ (little_bytes 4 is.flags ++ (little_bytes 8 header.frequency ++ (little_bytes 8 header.size ++ rest)))) in
+    let parts : bytes ++ behind ≡ all = ap (λ (x : List ℕ). x ++ behind) is.spelled in
+    let long : leb 32 (length all) ≡ true = le-leb 32 (length all) (omega (arith, length-append is.reserved behind, is.whole)) in
+    let flags = little_number-reads_back 4 is.flags (little_bytes 8 header.frequency ++ (little_bytes 8 header.size ++ rest)) is.flags_fit in
+    let frequency = little_number-reads_back 8 header.frequency (little_bytes 8 header.size ++ rest) is.frequency_fits in
+    let size = little_number-reads_back 8 header.size rest is.size_fits in
+    subst (λ (x : List ℕ). (header_faults x ≡ []) × (header_in x ≡ header) × (drop 32 x ≡ behind)) (sym parts) (
+      rw long refl,
+      rw (flags, frequency, size) (header_of header 3 (eqb (is.flags % 2) 1) (eqb (is.flags / 2 % 2) 1) (sym is.version) (sym is.constant) (sym is.nonstop)),
+      drop_at is.reserved behind 8 is.whole,
+    )
+
+abbrev read : Trace → Result Trace TraceFault
+read trace = Ok trace
+
+pub trace_again : (bytes : List ℕ) (trace : Trace) → IsTrace bytes trace → trace_of bytes ≡ Ok trace
+trace_again bytes trace is =
+    let header = header_reads is.front is.behind trace.header is.header in
+    let blocks = blocks_stand 32 trace.blocks is.behind is.blocks in
+    ap trace_of is.parts ∙ rw (header.0, header.1, header.2, blocks.0, blocks.1) refl
+
+pub one_trace : (bytes : List ℕ) (trace other : Trace) → IsTrace bytes trace → IsTrace bytes other → trace ≡ other
+one_trace bytes trace other is also =
+    let both : read trace ≡ read other = sym (trace_again bytes trace is) ∙ trace_again bytes other also in
+    cc

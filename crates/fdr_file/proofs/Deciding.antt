@@ -1,0 +1,332 @@
+-- What is read from left to right is what the places of a file decide.
+use Rattle.std.proofs.Common.{rules, ◌≡◌, ℕ, zero, suc, ◌+◌, ◌-◌, ◌%◌, ◌/◌, ◌≤◌, ◌<◌, ◌^◌, Bool, true, false, cond, eqb, ltb, leb, List, [], ◌∷◌, ◌++◌, length, slice_index, lit≤, take, drop, map, Option, Some, None, Result, Ok, Err, add-zero, refl, sym, ap, subst, ◌∙◌, append_assoc, arith, inl, inr}
+use Rattle.std.specs.Prelude.{option_to_list, ◌||◌, ◌⊎◌, not, sum, is_some}
+use Rattle.std.specs.List.{list_any, filter_map}
+use Rattle.std.proofs.lemmas.Bool.{cases_Bool, ltb-false, ltb-true, le-leb}
+use Rattle.xray_io.specs.declared.faults.Wall.{Wall}
+use Rattle.fdr_file.specs.declared.header.Header.{Header}
+use Rattle.fdr_file.specs.declared.trace.Block.{Block}
+use Rattle.fdr_file.specs.declared.trace.Trace.{Trace}
+use Rattle.fdr_file.specs.Places.{starts}
+use Rattle.std.specs.List.{flat_map}
+use Rattle.std.proofs.lemmas.List.Concat.{flat_map-cons}
+use Rattle.fdr_file.proofs.Walking.{StandsNone, stands_none, stands_taken, starts_first}
+use Rattle.std.proofs.lemmas.Grind.{common_steps}
+use Rattle.std.proofs.lemmas.List.{append-nil, drop-drop, drop-take, length-drop, length-take}
+use Rattle.std.proofs.lemmas.List.Sums.{sum_by-cons}
+use Rattle.byteorder.specs.Endian.{little_number}
+use Rattle.fdr_record.specs.declared.event.Event.{Event}
+use Rattle.fdr_record.specs.declared.rec.Rec.{Rec}
+use Rattle.fdr_record.specs.declared.rec.Rec.TheVariants.{NewBuffer, NewCpu, TscWrap, WallTime, Pid, Extents, Function}
+use Rattle.fdr_record.specs.declared.fault.RecFault.{RecFault}
+use Rattle.fdr_record.specs.Reading.{function_at, fields_read, metadata_at}
+use Rattle.fdr_file.specs.declared.events.Base.{Base}
+use Rattle.fdr_file.specs.declared.fault.TraceFault.{TraceFault}
+use Rattle.fdr_file.specs.declared.fault.TraceFault.TheVariants as faults
+use Rattle.fdr_file.specs.Events.{counter_at, cpu_of, deltas_since, events_behind, whole_counter}
+use Rattle.fdr_file.specs.Traces.{decided, extents_in, fault_at, may_be, names_cpu, needs_cpu, record_faults, record_in, records_of, standing_faults, Standing, block_faults, block_in, block_of, block_standings, pid_named, block_length, record_length, standings, thread_named, wall_named, unless}
+use Rattle.fdr_file.specs.Reading.{◌>>=◌, Left, blocks_read, body_on, end_named, end_on, events_on, left_at, named_on, named_or, preamble_on, read_first, record_on, step_on}
+
+-- ---- the extents
+
+-- what a value is, where a test decides it
+chosen : {A : Type 0} (b : Bool) (x y z : A) → cond b x y ≡ z → ((b ≡ true) × (x ≡ z)) ⊎ ((b ≡ false) × (y ≡ z))
+chosen true x y z e = inl (refl, e)
+chosen false x y z e = inr (refl, e)
+
+pub extents_is : (bytes : List ℕ) (size : ℕ) → record_in bytes ≡ Ok (Extents size) → extents_in bytes ≡ size
+unfolding record_in function_at metadata_at
+extents_is bytes size e = grind (arith, common_steps)
+
+-- ---- events
+
+-- the CPU and counter are those that records tell
+abbrev IsBase : Option Base → List Rec → Type 0
+IsBase None before = list_any names_cpu before ≡ false
+IsBase (Some base) before = (list_any names_cpu before ≡ true) × (base.cpu ≡ cpu_of before) × (base.tsc % 2 ^ 64 ≡ counter_at before)
+
+decided_more : {A : Type 0} (front : List A) (found : List TraceFault) (rest : List A) → (decided found rest >>= λ xs. Ok (front ++ xs)) ≡ decided found (front ++ rest)
+decided_more front [] rest = refl
+decided_more front (fault ∷ later) rest = refl
+
+-- records behind a preamble
+abbrev pub IsBehind : List Rec → Type 0
+IsBehind before = (n : ℕ) × (length before ≡ suc (suc (suc n)))
+
+or_true : (b : Bool) → (b || true) ≡ true
+or_true true = refl
+or_true false = refl
+
+abbrev Decides : Option Base → List Rec → List Standing → Type 0
+Decides base before said = events_on base said ≡ decided (standing_faults before said) (events_behind before (records_of said))
+
+one_more : (base : Option Base) (before : List Rec) (at : ℕ) (r : Rec) (behind : List Standing) (next : Base) (event : Option Event) → step_on at r base ≡ Ok (next, event) → record_faults before at r ≡ []
+    → events_behind before (r ∷ records_of behind) ≡ option_to_list event ++ events_behind (r ∷ before) (records_of behind) → Decides (Some next) (r ∷ before) behind → Decides base before ((at, Ok r) ∷ behind)
+unfolding events_on
+one_more base before at r behind next event stepped clean told rest =
+    rw (stepped, rest, clean, told) (decided_more (option_to_list event) (standing_faults (r ∷ before) behind) (events_behind (r ∷ before) (records_of behind)))
+
+no_more : (base : Option Base) (before : List Rec) (at : ℕ) (r : Rec) (behind : List Standing) (e : TraceFault) (later : List TraceFault) → step_on at r base ≡ Err e → record_faults before at r ≡ e ∷ later
+    → Decides base before ((at, Ok r) ∷ behind)
+unfolding events_on
+no_more base before at r behind e later stepped wrong = rw (stepped, wrong) refl
+
+one_behind : (before : List Rec) (r : Rec) → IsBehind before → IsBehind (r ∷ before)
+one_behind before r (n, is) = (suc n, ap suc is)
+
+-- the counter of a function record
+counter_more : (tsc whole sum delta : ℕ) → tsc % 2 ^ 64 ≡ (whole + sum) % 2 ^ 64 → (tsc + delta) % 2 ^ 64 ≡ (whole + (delta + sum)) % 2 ^ 64
+counter_more tsc whole sum delta e = omega arith
+
+twice : (n : ℕ) → n % 2 ^ 64 % 2 ^ 64 ≡ n % 2 ^ 64
+twice n = omega arith
+
+pub events_decided : (base : Option Base) (before : List Rec) (said : List Standing) → IsBehind before → IsBase base before → Decides base before said
+unfolding events_on
+events_decided base before [] many is = refl
+events_decided base before ((at, Err fault) ∷ behind) many is = refl
+events_decided base before ((at, Ok (NewCpu cpu tsc)) ∷ behind) many is =
+    let next : Base = record { cpu = cpu; tsc = tsc } in
+    one_more base before at (NewCpu cpu tsc) behind next None refl (rw (many.1, or_true (list_any names_cpu before)) refl) refl
+    (events_decided (Some next) (NewCpu cpu tsc ∷ before) behind (one_behind before (NewCpu cpu tsc) many) (refl, refl, ap (λ (n : ℕ). n % 2 ^ 64) (sym (add-zero tsc))))
+events_decided None before ((at, Ok (TscWrap tsc)) ∷ behind) many is =
+    no_more None before at (TscWrap tsc) behind (faults.NoBase at) [] refl (rw (many.1, is) refl)
+events_decided (Some base) before ((at, Ok (TscWrap tsc)) ∷ behind) many is =
+    let next : Base = record { cpu = base.cpu; tsc = tsc } in
+    one_more (Some base) before at (TscWrap tsc) behind next None refl (rw (many.1, is.0) refl) refl
+    (events_decided (Some next) (TscWrap tsc ∷ before) behind (one_behind before (TscWrap tsc) many) (is.0, is.1, ap (λ (n : ℕ). n % 2 ^ 64) (sym (add-zero tsc))))
+events_decided None before ((at, Ok (Function kind func delta)) ∷ behind) many is =
+    no_more None before at (Function kind func delta) behind (faults.NoBase at) [] refl (rw (many.1, is) refl)
+events_decided (Some base) before ((at, Ok (Function kind func delta)) ∷ behind) many is =
+    let tsc = (base.tsc + delta) % 2 ^ 64 in
+    let next : Base = record { cpu = base.cpu; tsc = tsc } in
+    let counter : tsc ≡ counter_at (Function kind func delta ∷ before) = counter_more base.tsc (whole_counter before) (sum (deltas_since before)) delta is.2 ∙ ap (λ (s : ℕ). (whole_counter before + s) % 2 ^ 64) (sym (sum_by-cons (λ x. x) delta (deltas_since before))) in
+    let event : Event = record { cpu = base.cpu; func = func; kind = kind; tsc = tsc } in
+    let make : ℕ → ℕ → Event = λ c t. record { cpu = c; func = func; kind = kind; tsc = t } in
+    let told : make (cpu_of before) (counter_at (Function kind func delta ∷ before)) ≡ event =
+    ap (λ (c : ℕ). make c (counter_at (Function kind func delta ∷ before))) (sym is.1) ∙ ap (make base.cpu) (sym counter) in
+    one_more (Some base) before at (Function kind func delta) behind next (Some event) refl (rw (many.1, is.0) refl)
+    (ap (λ (e : Event). e ∷ events_behind (Function kind func delta ∷ before) (records_of behind)) told)
+    (events_decided (Some next) (Function kind func delta ∷ before) behind (one_behind before (Function kind func delta) many) (is.0, is.1, twice (base.tsc + delta) ∙ counter))
+events_decided base before ((at, Ok (NewBuffer thread)) ∷ behind) many is = no_more base before at (NewBuffer thread) behind (faults.Order at) (unless (list_any names_cpu before || true) (faults.NoBase at)) refl (rw (many.1) refl)
+events_decided base before ((at, Ok (WallTime wall)) ∷ behind) many is = no_more base before at (WallTime wall) behind (faults.Order at) (unless (list_any names_cpu before || true) (faults.NoBase at)) refl (rw (many.1) refl)
+events_decided base before ((at, Ok (Pid pid)) ∷ behind) many is = no_more base before at (Pid pid) behind (faults.Order at) (unless (list_any names_cpu before || true) (faults.NoBase at)) refl (rw (many.1) refl)
+events_decided base before ((at, Ok (Extents size)) ∷ behind) many is = no_more base before at (Extents size) behind (faults.Order at) (unless (list_any names_cpu before || true) (faults.NoBase at)) refl (rw (many.1) refl)
+
+-- ---- a preamble
+
+-- the record that stands first is the one that names this, and what is left behind it
+record Named (r : Rec) (at : ℕ) (bytes : List ℕ) (left : Left) : Type 0 where
+  stands : standings at bytes ≡ (at, Ok r) ∷ standings left.0 left.1
+  long : length bytes ≤ 16 + length left.1
+
+-- no record stands first that may stand there
+record Unnamed (before : List Rec) (at : ℕ) (bytes : List ℕ) (e : TraceFault) : Type 0 where
+  later : List TraceFault
+  wrong : standing_faults before (standings at bytes) ≡ e ∷ later
+
+-- a record has 16 bytes at the most
+length_most : (bytes : List ℕ) → record_length bytes ≤ 16
+length_most bytes = elim (cases_Bool (eqb (slice_index bytes 0 % 2) 0)) [ inl e ↦ rw e (lit≤ tt) | inr e ↦ rw e (lit≤ tt) ]
+
+-- what is left behind a record
+left_long : (at : ℕ) (bytes : List ℕ) (r : Rec) (left : Left) → record_on (at, bytes) ≡ Ok (r, left) → length bytes ≤ 16 + length left.1
+unfolding record_on
+left_long at bytes r left e = by_answer (record_in bytes) e
+  where
+    by_answer : (a : Result Rec RecFault) → read_first (at, bytes) a ≡ Ok (r, left) → length bytes ≤ 16 + length left.1
+    by_answer (Ok s) h =
+        let behind : Left = (at + record_length bytes, drop (record_length bytes) bytes) in
+        let first : Rec × Left = (s, behind) in
+        let wanted : Rec × Left = (r, left) in
+        let both : first ≡ wanted = cc in
+        let left_is : drop (record_length bytes) bytes ≡ left.1 = ap (λ (x : Rec × Left). x.1.1) both in
+        omega (arith, length_most bytes, length-drop (record_length bytes) bytes, ap length left_is)
+    by_answer (Err f) h = absurd cc
+
+abbrev Found : {A : Type 0} → (Rec → Option A) → (A → Rec) → List Rec → ℕ → List ℕ → Type 0
+Found {A} named con before at bytes =
+    ((x : A) × (left : Left) × (named_on named (at, bytes) ≡ Ok (x, left)) × Named (con x) at bytes left)
+    ⊎ ((e : TraceFault) × (named_on named (at, bytes) ≡ Err e) × Unnamed before at bytes e)
+
+found : {A : Type 0} (named : Rec → Option A) (con : A → Rec) (before : List Rec) (at : ℕ) (bytes : List ℕ) → ((r : Rec) (x : A) → named r ≡ Some x → r ≡ con x)
+    → ((r : Rec) → named r ≡ None → record_faults before at r ≡ faults.Order at ∷ unless (list_any names_cpu before || not (needs_cpu r)) (faults.NoBase at))
+    → 0 < length bytes → Found named con before at bytes
+found {A} named con before at bytes is_con is_wrong some = by_first (record_on (at, bytes)) refl
+  where
+    by_name : (r : Rec) (left : Left) (o : Option A) → record_on (at, bytes) ≡ Ok (r, left) → named r ≡ o → Found named con before at bytes
+    by_name r left (Some x) taken is =
+        let r_is = is_con r x is in
+        inl (x, left, rw (taken, is) refl, record { stands = stands_taken at bytes r left some taken ∙ ap (λ (s : Rec). (at, Ok s) ∷ standings left.0 left.1) r_is; long = left_long at bytes r left taken })
+    by_name r left None taken is =
+        inr (
+          faults.Order at,
+          rw (taken, is) refl,
+          record {
+            later = unless (list_any names_cpu before || not (needs_cpu r)) (faults.NoBase at) ++ standing_faults (r ∷ before) (standings left.0 left.1);
+            wrong = rw (stands_taken at bytes r left some taken, is_wrong r is) refl;
+          },
+        )
+
+    by_first : (a : Result (Rec × Left) TraceFault) → record_on (at, bytes) ≡ a → Found named con before at bytes
+    by_first (Ok (r, left)) taken = by_name r left (named r) taken refl
+    by_first (Err e) taken =
+        let h = stands_none at bytes e some taken in
+        inr (e, rw taken refl, record { later = []; wrong = rw (h.stands, h.fault) refl })
+
+thread_is : (r : Rec) (x : ℕ) → thread_named r ≡ Some x → r ≡ NewBuffer x
+thread_is (NewBuffer thread) x e = cc
+thread_is r x e = absurd cc
+
+wall_is : (r : Rec) (x : Wall) → wall_named r ≡ Some x → r ≡ WallTime x
+wall_is (WallTime wall) x e = cc
+wall_is r x e = absurd cc
+
+pid_is : (r : Rec) (x : ℕ) → pid_named r ≡ Some x → r ≡ Pid x
+pid_is (Pid pid) x e = cc
+pid_is r x e = absurd cc
+
+decided_in : {A B : Type 0} (make : A → B) (found : List TraceFault) (x : A) → (decided found x >>= λ y. Ok (make y)) ≡ decided found (make x)
+decided_in make [] x = refl
+decided_in make (fault ∷ later) x = refl
+
+pub body_decided : (at : ℕ) (bytes : List ℕ) → 48 ≤ length bytes → body_on (at, bytes) ≡ decided (standing_faults [] (standings at bytes)) (block_of (records_of (standings at bytes)))
+unfolding body_on preamble_on
+body_decided at bytes long =
+    elim (found thread_named NewBuffer [] at bytes thread_is (λ r none. ap (λ (o : Option ℕ). unless (is_some o) (faults.Order at) ++ unless (false || not (needs_cpu r)) (faults.NoBase at)) none) (omega arith)) [
+      | inr (e, on, wrong) ↦ rw (on, wrong.wrong) refl
+      | inl (thread, left, on, first) ↦
+          elim (found wall_named WallTime (NewBuffer thread ∷ []) left.0 left.1 wall_is (λ r none. ap (λ (o : Option Wall). unless (is_some o) (faults.Order left.0) ++ unless (false || not (needs_cpu r)) (faults.NoBase left.0)) none) (omega (arith, first.long))) [
+            | inr (e, on', wrong) ↦ rw (on, on', first.stands, wrong.wrong) refl
+            | inl (wall, left', on', second) ↦
+                elim (found pid_named Pid (WallTime wall ∷ NewBuffer thread ∷ []) left'.0 left'.1 pid_is (λ r none. ap (λ (o : Option ℕ). unless (is_some o) (faults.Order left'.0) ++ unless (false || not (needs_cpu r)) (faults.NoBase left'.0)) none) (omega (arith, first.long, second.long))) [
+                  | inr (e, on'', wrong) ↦ rw (on, on', on'', first.stands, second.stands, wrong.wrong) refl
+                  | inl (pid, left'', on'', third) ↦
+                      let before : List Rec = Pid pid ∷ WallTime wall ∷ NewBuffer thread ∷ [] in
+                      let said = standings left''.0 left''.1 in
+                      let make : List Event → Block = λ events. record { thread = thread; wall = wall; pid = pid; events = events } in
+                      rw (on, on', on'', first.stands, second.stands, third.stands, events_decided None before said (0, refl) refl) (decided_in make (standing_faults before said) (events_behind before (records_of said)))
+                ]
+          ]
+    ]
+
+-- ---- a block
+
+-- the block that begins in front of bytes, by its extents
+pub record Ends (at : ℕ) (bytes : List ℕ) (end : ℕ) : Type 0 where
+  pub place : end ≡ at + (16 + extents_in bytes)
+  pub least : 48 ≤ extents_in bytes
+  pub whole : 16 + extents_in bytes ≤ length bytes
+  pub clean : block_faults (at, bytes) ≡ standing_faults [] (block_standings (at, bytes))
+
+pub ends_so : (at : ℕ) (bytes : List ℕ) (end : ℕ) → end_on (at, bytes) ≡ Ok end → Ends at bytes end
+unfolding end_on
+ends_so at bytes end e = by_length (ltb (length bytes) 16) refl e
+  where
+    by_whole : (size : ℕ) (b : Bool) → ltb (length bytes) 16 ≡ false → record_in bytes ≡ Ok (Extents size) → ltb size 48 ≡ false → ltb (length bytes) (16 + size) ≡ b
+        → cond b (Err (faults.Short at)) (Ok (at + (16 + size))) ≡ Ok end → Ends at bytes end
+    by_whole size true long is least whole h = absurd cc
+    by_whole size false long is least whole h =
+        let n = extents_is bytes size is in
+        let place : at + (16 + size) ≡ end = cc in
+        let many : 48 ≤ size = ltb-false size 48 least in
+        let all : 16 + size ≤ length bytes = ltb-false (length bytes) (16 + size) whole in
+        record {
+          place = omega (arith, n, place);
+          least = omega (arith, n, many);
+          whole = omega (arith, n, all);
+          clean = rw (long, is, le-leb 48 size many, le-leb (16 + size) (length bytes) all) refl;
+        }
+
+    by_least : (size : ℕ) (b : Bool) → ltb (length bytes) 16 ≡ false → record_in bytes ≡ Ok (Extents size) → ltb size 48 ≡ b
+        → cond b (Err (faults.Extents at)) (cond (ltb (length bytes) (16 + size)) (Err (faults.Short at)) (Ok (at + (16 + size)))) ≡ Ok end → Ends at bytes end
+    by_least size true long is least h = absurd cc
+    by_least size false long is least h = by_whole size (ltb (length bytes) (16 + size)) long is least refl h
+
+    by_answer : (a : Result Rec RecFault) → ltb (length bytes) 16 ≡ false → record_in bytes ≡ a → end_named (at, bytes) a ≡ Ok end → Ends at bytes end
+    by_answer (Ok (Extents size)) long is h = by_least size (ltb size 48) long is refl h
+    by_answer (Ok r) long is h = absurd cc
+    by_answer (Err f) long is h = absurd cc
+
+    by_length : (b : Bool) → ltb (length bytes) 16 ≡ b → cond b (Err (faults.Short at)) (end_named (at, bytes) (record_in bytes)) ≡ Ok end → Ends at bytes end
+    by_length true long h = absurd cc
+    by_length false long h = by_answer (record_in bytes) long refl h
+
+pub no_end : (at : ℕ) (bytes : List ℕ) (e : TraceFault) → end_on (at, bytes) ≡ Err e → decided (block_faults (at, bytes)) (block_in (at, bytes)) ≡ Err e
+unfolding end_on
+no_end at bytes e h = grind (arith, common_steps)
+
+pub block_decided : (bytes : List ℕ) (at end : ℕ) → end_on (left_at bytes at) ≡ Ok end → body_on (left_at (take end bytes) (at + 16)) ≡ decided (block_faults (left_at bytes at)) (block_in (left_at bytes at))
+block_decided bytes at end e =
+    let rest = drop at bytes in
+    let ends = ends_so at rest end e in
+    let n = extents_in rest in
+    let place : end ≡ at + 16 + n = omega (arith, ends.place) in
+    let part : drop (at + 16) (take end bytes) ≡ take n (drop 16 rest) =
+    ap (λ (k : ℕ). drop (at + 16) (take k bytes)) place ∙ drop-take (at + 16) n bytes ∙ ap (take n) (sym (drop-drop 16 at bytes)) in
+    let many : 48 ≤ length (take n (drop 16 rest)) = omega (arith, ends.least, ends.whole, length-take n (drop 16 rest), length-drop 16 rest) in
+    ap (λ (x : List ℕ). body_on (at + 16, x)) part ∙ body_decided (at + 16) (take n (drop 16 rest)) many ∙ rw ends.clean refl
+
+pub block_fails : (bytes : List ℕ) (at end : ℕ) (e : TraceFault) → end_on (left_at bytes at) ≡ Ok end → (e ≡ faults.NoMemory) ⊎ (body_on (left_at (take end bytes) (at + 16)) ≡ Err e)
+    → (e ≡ faults.NoMemory) ⊎ (decided (block_faults (left_at bytes at)) (block_in (left_at bytes at)) ≡ Err e)
+block_fails bytes at end e ended (inl none) = inl none
+block_fails bytes at end e ended (inr is) = inr (sym (block_decided bytes at end ended) ∙ is)
+
+-- ---- a file
+
+some_wrong : {A B : Type 0} (wrong more : List TraceFault) (x : A) (y : B) (e : TraceFault) → decided wrong x ≡ Err e → decided (wrong ++ more) y ≡ Err e
+some_wrong [] more x y e is = absurd cc
+some_wrong (fault ∷ later) more x y e is = ap (λ (f : TraceFault). Err f) cc
+
+none_wrong : {A : Type 0} (wrong : List TraceFault) (x y : A) → decided wrong x ≡ Ok y → (wrong ≡ []) × (x ≡ y)
+none_wrong [] x y is = (refl, cc)
+none_wrong (fault ∷ later) x y is = absurd cc
+
+blocks_first : (header : Header) (blocks : List Block) (at : ℕ) (bytes : List ℕ) → 0 < length bytes → blocks_read header blocks (starts block_length 0 at bytes)
+    ≡ decided (block_faults (at, bytes) ++ flat_map block_faults (starts block_length 0 (at + block_length bytes) (drop (block_length bytes) bytes)))
+    (record { header = header; blocks = blocks ++ block_in (at, bytes) ∷ map block_in (starts block_length 0 (at + block_length bytes) (drop (block_length bytes) bytes)) })
+blocks_first header blocks at bytes some =
+    ap (blocks_read header blocks) (starts_first block_length at bytes some (omega arith))
+    ∙ rw flat_map-cons refl
+
+-- a block that has a fault
+pub file_fails : (header : Header) (blocks : List Block) (at : ℕ) (bytes : List ℕ) (e : TraceFault) → 0 < length bytes → decided (block_faults (at, bytes)) (block_in (at, bytes)) ≡ Err e
+    → blocks_read header blocks (starts block_length 0 at bytes) ≡ Err e
+file_fails header blocks at bytes e some is =
+    blocks_first header blocks at bytes some ∙ some_wrong (block_faults (at, bytes)) _ (block_in (at, bytes)) _ e is
+
+-- one block more
+pub file_goes_on : (header : Header) (blocks : List Block) (at : ℕ) (bytes : List ℕ) (block : Block) → 0 < length bytes → decided (block_faults (at, bytes)) (block_in (at, bytes)) ≡ Ok block
+    → blocks_read header blocks (starts block_length 0 at bytes) ≡ blocks_read header (blocks ++ block ∷ []) (starts block_length 0 (at + block_length bytes) (drop (block_length bytes) bytes))
+file_goes_on header blocks at bytes block some is =
+    let left = starts block_length 0 (at + block_length bytes) (drop (block_length bytes) bytes) in
+    let h = none_wrong (block_faults (at, bytes)) (block_in (at, bytes)) block is in
+    blocks_first header blocks at bytes some
+    ∙ rw (h.0, h.1) (ap (λ (all : List Block). decided (flat_map block_faults left) (let made : Trace = record { header = header; blocks = all } in made)) (sym (append_assoc blocks (block ∷ []) (map block_in left))))
+
+-- no block more
+pub file_ends : (header : Header) (blocks : List Block) (at : ℕ) → blocks_read header blocks (starts block_length 0 at []) ≡ Ok (record { header = header; blocks = blocks })
+unfolding starts
+file_ends header blocks at = ap (λ (all : List Block). let made : Result Trace TraceFault = Ok (record { header = header; blocks = all }) in made) (append-nil blocks)
+
+-- one block more, at a place of a file
+pub file_more : (trace : Result Trace TraceFault) (header : Header) (blocks more : List Block) (all : List ℕ) (at next : ℕ) (block : Block) → trace ≡ blocks_read header blocks (starts block_length 0 at (drop at all))
+    → at < length all → decided (block_faults (at, drop at all)) (block_in (at, drop at all)) ≡ Ok block → next ≡ at + block_length (drop at all) → more ≡ blocks ++ block ∷ []
+    → trace ≡ blocks_read header more (starts block_length 0 next (drop next all))
+file_more trace header blocks more all at next block so_far within is on pushed =
+    let rest = drop at all in
+    let some : 0 < length rest = omega (arith, length-drop at all) in
+    so_far
+    ∙ file_goes_on header blocks at rest block some is
+    ∙ ap (λ (x : List ℕ). blocks_read header (blocks ++ block ∷ []) (starts block_length 0 (at + block_length rest) x)) (drop-drop (block_length rest) at all)
+    ∙ ap (λ (n : ℕ). blocks_read header (blocks ++ block ∷ []) (starts block_length 0 n (drop n all))) (sym on)
+    ∙ ap (λ (x : List Block). blocks_read header x (starts block_length 0 next (drop next all))) (sym pushed)
+
+abbrev pub fails : TraceFault → Result Trace TraceFault
+fails e = Err e
+
+-- a block that could not be read
+pub file_refused : (trace : Result Trace TraceFault) (header : Header) (blocks : List Block) (at : ℕ) (bytes : List ℕ) (e : TraceFault) → trace ≡ blocks_read header blocks (starts block_length 0 at bytes)
+    → 0 < length bytes → (e ≡ faults.NoMemory) ⊎ (decided (block_faults (at, bytes)) (block_in (at, bytes)) ≡ Err e) → (fails e ≡ fails faults.NoMemory) ⊎ (fails e ≡ trace)
+file_refused trace header blocks at bytes e so_far some (inl none) = inl (ap (λ (f : TraceFault). Err f) none)
+file_refused trace header blocks at bytes e so_far some (inr is) = inr (sym (so_far ∙ file_fails header blocks at bytes e some is))

@@ -1,0 +1,6 @@
+pub mod Decoding
+pub mod Walking
+pub mod Deciding
+pub mod Gathered
+pub mod Accepting
+pub mod Returning

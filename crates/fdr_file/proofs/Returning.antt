@@ -1,0 +1,222 @@
+-- What is written is a trace by the grammar.
+use Rattle.std.proofs.Common.{◌≡◌, ◌≢◌, ℕ, zero, suc, ◌+◌, ◌-◌, ◌%◌, ◌/◌, ◌≤◌, ◌<◌, ◌^◌, Bool, true, false, cond, eqb, ltb, List, [], ◌∷◌, ◌++◌, All, length, map, replicate, Option, Some, None, Result, Ok, Err, refl, sym, ap, subst, ◌∙◌, append_assoc, arith, inl, inr, lit<}
+use Rattle.std.specs.Prelude.{⊤, ◌||◌, sum}
+use Rattle.std.specs.List.{flat_map, AllByRecursion}
+use Rattle.std.proofs.lemmas.Bool.{cases_Bool, ltb-false}
+use Rattle.std.proofs.lemmas.Bool.Decides.{eqb_tells}
+use Rattle.std.proofs.lemmas.List.Elements.{recursion_from_All}
+use Rattle.std.proofs.lemmas.List.Concat.{flat_map-cons}
+use Rattle.std.proofs.lemmas.Grind.{flat_map-append}
+use Rattle.std.proofs.lemmas.List.Sums.{sum_by-cons}
+use Rattle.std.proofs.Math.Nat.{mod-eq_of_lt}
+use Rattle.byteorder.specs.Endian.{little_bytes}
+use Rattle.fdr_record.specs.declared.event.Event.{Event}
+use Rattle.fdr_record.specs.declared.event.Kind.{Kind}
+use Rattle.fdr_record.specs.declared.rec.Rec.{Rec}
+use Rattle.fdr_record.specs.declared.rec.Rec.TheVariants.{NewBuffer, NewCpu, TscWrap, WallTime, Pid, Extents, Function}
+use Rattle.fdr_record.specs.Records.{length_of, record_bytes, told_by, FieldsFit, Spells}
+use Rattle.fdr_buffer.specs.Segments.{body, bytes_of, is_out_of_reach, records_behind, records_of, EventFits}
+use Rattle.fdr_buffer.specs.Filled.{Filled, used_bytes}
+use Rattle.fdr_file.specs.declared.header.Header.{Header}
+use Rattle.fdr_file.specs.declared.trace.Block.{Block}
+use Rattle.fdr_file.specs.Events.{counter_at, cpu_of, deltas_since, events_behind, events_of, whole_counter}
+use Rattle.fdr_file.specs.Grammar.{AreBlocks, AreSpelled, BeginWithCpu, IsBlock, IsHeader, IsInner, IsTrace, block_records}
+use Rattle.fdr_file.specs.Files.{BufferFits, HeaderFits, block_bytes, block_told, file_bytes, flags_of, header_bytes, trace_told}
+
+-- ---- the bytes of records
+
+spells_own : (r : Rec) → Spells (record_bytes r) r
+spells_own r = record { filler = replicate (length_of r - length (told_by r)) 0; told = refl; whole = whole r }
+  where
+    whole : (r : Rec) → length (record_bytes r) ≡ length_of r
+    whole (NewBuffer thread) = refl
+    whole (NewCpu cpu tsc) = refl
+    whole (TscWrap tsc) = refl
+    whole (WallTime wall) = refl
+    whole (Pid pid) = refl
+    whole (Extents size) = refl
+    whole (Function kind func delta) = refl
+
+spelled_own : (records : List Rec) → AllByRecursion FieldsFit records → AreSpelled records (bytes_of records)
+spelled_own [] fit = refl
+spelled_own (r ∷ records) (here, rest) = (record_bytes r, bytes_of records, flat_map-cons record_bytes r records, here, spells_own r, spelled_own records rest)
+
+-- ---- events
+
+-- records that the records of an event stand behind: they tell the CPU and counter of the event before
+abbrev Follows : Option Event → List Rec → Type 0
+Follows None past = ⊤
+Follows (Some before) past = (cpu_of past ≡ before.cpu) × (counter_at past ≡ before.tsc)
+
+-- the records of an event tell it
+record Tells (before : Option Event) (event : Event) (past : List Rec) (rest : List Rec) : Type 0 where
+  now : List Rec
+  told : events_behind past (records_of before event ++ rest) ≡ event ∷ events_behind now rest
+  follows : Follows (Some event) now
+  fit : AllByRecursion FieldsFit rest → AllByRecursion FieldsFit (records_of before event ++ rest)
+  inner : AllByRecursion IsInner rest → AllByRecursion IsInner (records_of before event ++ rest)
+
+abbrev made : Event → ℕ → ℕ → Event
+made event cpu tsc = record { cpu = cpu; func = event.func; kind = event.kind; tsc = tsc }
+
+event_is : (event : Event) (cpu tsc : ℕ) → cpu ≡ event.cpu → tsc ≡ event.tsc → made event cpu tsc ≡ event
+event_is event cpu tsc e f = ap (λ (c : ℕ). made event c tsc) e ∙ ap (made event event.cpu) f
+
+-- a whole counter, and no cycle behind it
+whole_is : (tsc : ℕ) → tsc < 2 ^ 64 → (tsc + 0) % 2 ^ 64 ≡ tsc
+whole_is tsc fits = omega arith
+
+told_whole : (event : Event) (past rest : List Rec) → EventFits event → counter_at (Function event.kind event.func 0 ∷ NewCpu event.cpu event.tsc ∷ past) ≡ event.tsc
+told_whole event past rest fits = whole_is event.tsc fits.tsc
+
+reach : (before tsc : ℕ) → is_out_of_reach before tsc ≡ false → (before ≤ tsc) × (tsc ≤ before + (2 ^ 32 - 1))
+reach before tsc is = by_first (ltb tsc before) refl is
+  where
+    by_first : (b : Bool) → ltb tsc before ≡ b → (b || ltb (before + (2 ^ 32 - 1)) tsc) ≡ false → (before ≤ tsc) × (tsc ≤ before + (2 ^ 32 - 1))
+    by_first true e h = absurd cc
+    by_first false e h = (ltb-false tsc before e, ltb-false (before + (2 ^ 32 - 1)) tsc h)
+
+counter_on : (whole sum before tsc : ℕ) → (whole + sum) % 2 ^ 64 ≡ before → before ≤ tsc → tsc < 2 ^ 64 → (whole + (tsc - before + sum)) % 2 ^ 64 ≡ tsc
+counter_on whole sum before tsc is le fits = omega arith
+
+tells_new : (before : Option Event) (event : Event) (past rest : List Rec) → EventFits event → records_of before event ≡ NewCpu event.cpu event.tsc ∷ Function event.kind event.func 0 ∷ [] → Tells before event past rest
+tells_new before event past rest fits is =
+    let counter = told_whole event past rest fits in
+    let now : List Rec = Function event.kind event.func 0 ∷ NewCpu event.cpu event.tsc ∷ past in
+    record {
+      now = now;
+      told = ap (λ (x : List Rec). events_behind past (x ++ rest)) is ∙ ap (λ (e : Event). e ∷ events_behind now rest) (event_is event event.cpu (counter_at now) refl counter);
+      follows = (refl, counter);
+      fit = λ h. subst (λ (x : List Rec). AllByRecursion FieldsFit (x ++ rest)) (sym is) ((fits.cpu, fits.tsc), ((fits.func, lit< tt), h));
+      inner = λ h. subst (λ (x : List Rec). AllByRecursion IsInner (x ++ rest)) (sym is) (refl, (refl, h));
+    }
+
+tells_wrap : (b : Event) (event : Event) (past rest : List Rec) → EventFits event → Follows (Some b) past → b.cpu ≡ event.cpu → records_of (Some b) event ≡ TscWrap event.tsc ∷ Function event.kind event.func 0 ∷ []
+    → Tells (Some b) event past rest
+tells_wrap b event past rest fits follows same is =
+    let now : List Rec = Function event.kind event.func 0 ∷ TscWrap event.tsc ∷ past in
+    let counter : counter_at now ≡ event.tsc = whole_is event.tsc fits.tsc in
+    let cpu : cpu_of past ≡ event.cpu = follows.0 ∙ same in
+    record {
+      now = now;
+      told = ap (λ (x : List Rec). events_behind past (x ++ rest)) is ∙ ap (λ (e : Event). e ∷ events_behind now rest) (event_is event (cpu_of past) (counter_at now) cpu counter);
+      follows = (cpu, counter);
+      fit = λ h. subst (λ (x : List Rec). AllByRecursion FieldsFit (x ++ rest)) (sym is) (fits.tsc, ((fits.func, lit< tt), h));
+      inner = λ h. subst (λ (x : List Rec). AllByRecursion IsInner (x ++ rest)) (sym is) (refl, (refl, h));
+    }
+
+tells_delta : (b : Event) (event : Event) (past rest : List Rec) → EventFits event → Follows (Some b) past → b.cpu ≡ event.cpu → (b.tsc ≤ event.tsc) × (event.tsc ≤ b.tsc + (2 ^ 32 - 1))
+    → records_of (Some b) event ≡ Function event.kind event.func (event.tsc - b.tsc) ∷ [] → Tells (Some b) event past rest
+tells_delta b event past rest fits follows same near is =
+    let delta = event.tsc - b.tsc in
+    let now : List Rec = Function event.kind event.func delta ∷ past in
+    let counter : counter_at now ≡ event.tsc = ap (λ (s : ℕ). (whole_counter past + s) % 2 ^ 64) (sum_by-cons (λ x. x) delta (deltas_since past)) ∙ counter_on (whole_counter past) (sum (deltas_since past)) b.tsc event.tsc follows.1 near.0 fits.tsc in
+    let cpu : cpu_of past ≡ event.cpu = follows.0 ∙ same in
+    record {
+      now = now;
+      told = ap (λ (x : List Rec). events_behind past (x ++ rest)) is ∙ ap (λ (e : Event). e ∷ events_behind now rest) (event_is event (cpu_of past) (counter_at now) cpu counter);
+      follows = (cpu, counter);
+      fit = λ h. subst (λ (x : List Rec). AllByRecursion FieldsFit (x ++ rest)) (sym is) ((fits.func, omega (arith, near.1)), h);
+      inner = λ h. subst (λ (x : List Rec). AllByRecursion IsInner (x ++ rest)) (sym is) (refl, h);
+    }
+
+tells : (before : Option Event) (event : Event) (past rest : List Rec) → EventFits event → Follows before past → Tells before event past rest
+tells None event past rest fits follows = tells_new None event past rest fits refl
+tells (Some b) event past rest fits follows =
+    elim (eqb_tells b.cpu event.cpu) [
+      | inr other ↦ tells_new (Some b) event past rest fits (rw other.0 refl)
+      | inl same ↦ elim (cases_Bool (is_out_of_reach b.tsc event.tsc)) [
+        | inl far ↦ tells_wrap b event past rest fits follows same.1 (rw (same.0, far) refl)
+        | inr near ↦ tells_delta b event past rest fits follows same.1 (reach b.tsc event.tsc near) (rw (same.0, near) refl)
+      ]
+    ]
+
+record TellAll (before : Option Event) (events : List Event) (past : List Rec) : Type 0 where
+  told : events_behind past (records_behind before events) ≡ events
+  fit : AllByRecursion FieldsFit (records_behind before events)
+  inner : AllByRecursion IsInner (records_behind before events)
+
+tell_all : (before : Option Event) (events : List Event) (past : List Rec) → AllByRecursion EventFits events → Follows before past → TellAll before events past
+tell_all before [] past fit follows = record { told = refl; fit = tt; inner = tt }
+tell_all before (event ∷ events) past (here, rest) follows =
+    let one = tells before event past (records_behind (Some event) events) here follows in
+    let others = tell_all (Some event) events one.now rest one.follows in
+    record {
+      told = one.told ∙ ap (λ (x : List Event). event ∷ x) others.told;
+      fit = one.fit others.fit;
+      inner = one.inner others.inner;
+    }
+
+-- ---- blocks
+
+based : (events : List Event) → BeginWithCpu (records_behind None events)
+based [] = tt
+based (event ∷ events) = refl
+
+body_spelled : (b : Filled) → b.begun ≡ true → bytes_of (block_records (block_told b) (records_behind None b.events)) ≡ used_bytes b
+body_spelled b begun =
+    rw begun (flat_map-append record_bytes (NewBuffer b.thread ∷ WallTime b.wall ∷ Pid b.pid ∷ []) (records_behind None b.events))
+
+block_is : (b : Filled) → BufferFits b → IsBlock (block_bytes b) (block_told b)
+block_is b fits =
+    let records = records_behind None b.events in
+    let all = tell_all None b.events (Pid b.pid ∷ WallTime b.wall ∷ NewBuffer b.thread ∷ []) (recursion_from_All EventFits b.events fits.events) tt in
+    record {
+      extents = record_bytes (Extents (length (used_bytes b)));
+      body = used_bytes b;
+      parts = refl;
+      named = spells_own (Extents (length (used_bytes b)));
+      few = fits.few;
+      records = records;
+      spelled = subst (AreSpelled (block_records (block_told b) records)) (body_spelled b fits.begun) (spelled_own (block_records (block_told b) records) (fits.thread, ((fits.secs, fits.micros), (fits.pid, all.fit))));
+      inner = all.inner;
+      based = based b.events;
+      told = sym all.told;
+    }
+
+blocks_are : (buffers : List Filled) → AllByRecursion BufferFits buffers → AreBlocks (map block_told buffers) (flat_map block_bytes buffers)
+blocks_are [] fit = refl
+blocks_are (b ∷ buffers) (here, rest) = (block_bytes b, flat_map block_bytes buffers, flat_map-cons block_bytes b buffers, block_is b here, blocks_are buffers rest)
+
+-- ---- headers
+
+constant_is : (c n : Bool) → c ≡ eqb ((cond c 1 0 + cond n 2 0) % 2) 1
+constant_is true true = refl
+constant_is true false = refl
+constant_is false true = refl
+constant_is false false = refl
+
+nonstop_is : (c n : Bool) → n ≡ eqb ((cond c 1 0 + cond n 2 0) / 2 % 2) 1
+nonstop_is true true = refl
+nonstop_is true false = refl
+nonstop_is false true = refl
+nonstop_is false false = refl
+
+flags_few : (c n : Bool) → cond c 1 0 + cond n 2 0 < 2 ^ 32
+flags_few true true = lit< tt
+flags_few true false = lit< tt
+flags_few false true = lit< tt
+flags_few false false = lit< tt
+
+header_is : (header : Header) → HeaderFits header → IsHeader (header_bytes header) header
+header_is header fits = record {
+  flags = flags_of header;
+  reserved = replicate 8 0;
+  spelled = rw fits.version refl;
+  version = fits.version;
+  constant = constant_is header.constant header.nonstop;
+  nonstop = nonstop_is header.constant header.nonstop;
+  flags_fit = flags_few header.constant header.nonstop;
+  frequency_fits = fits.frequency;
+  size_fits = fits.size;
+  whole = refl;
+}
+
+pub file_is_trace : (header : Header) (buffers : List Filled) → HeaderFits header → All BufferFits buffers → IsTrace (file_bytes header buffers) (trace_told header buffers)
+file_is_trace header buffers header_fits fit = record {
+  front = header_bytes header;
+  behind = flat_map block_bytes buffers;
+  parts = refl;
+  header = header_is header header_fits;
+  blocks = blocks_are buffers (recursion_from_All BufferFits buffers fit);
+}

@@ -1,0 +1,114 @@
+-- From one part to the next.
+use Rattle.std.proofs.Common.{◌≡◌, ℕ, zero, suc, ◌+◌, ◌-◌, ◌≤◌, ◌<◌, List, [], ◌∷◌, ◌++◌, length, take, drop, map, Option, Some, None, Result, Ok, Err, eqb, slice_index, ◌%◌, lit<, inl, inr, refl, sym, ap, subst, ◌∙◌, append_assoc, arith}
+use Rattle.std.specs.Prelude.{option_to_list}
+use Rattle.std.proofs.lemmas.List.{append-nil}
+use Rattle.std.proofs.lemmas.Bool.{cases_Bool}
+use Rattle.fdr_record.specs.declared.event.Event.{Event}
+use Rattle.fdr_record.specs.declared.rec.Rec.{Rec}
+use Rattle.fdr_record.specs.declared.fault.RecFault.{RecFault}
+use Rattle.fdr_file.specs.declared.events.Base.{Base}
+use Rattle.fdr_file.specs.declared.fault.TraceFault.{TraceFault}
+use Rattle.fdr_file.specs.Places.{starts}
+use Rattle.fdr_file.specs.Traces.{fault_at, record_in, record_length, standing_at, standings, Standing}
+use Rattle.fdr_file.specs.Reading.{◌>>=◌, Left, events_on, left_at, read_first, record_on, step_on, with_front}
+
+-- bytes of a part that was begun are passed over
+pub starts_behind : (len : List ℕ → ℕ) (left at : ℕ) (bytes : List ℕ) → starts len left at bytes ≡ starts len 0 (at + left) (drop left bytes)
+unfolding starts
+starts_behind len zero at bytes = ap (λ (k : ℕ). starts len 0 k bytes) (omega arith)
+starts_behind len (suc left) at [] = refl
+starts_behind len (suc left) at (byte ∷ bytes) =
+    starts_behind len left (at + 1) bytes ∙ ap (λ (k : ℕ). starts len 0 k (drop left bytes)) (omega arith)
+
+-- the first part, and what begins behind it
+pub starts_first : (len : List ℕ → ℕ) (at : ℕ) (bytes : List ℕ) → 0 < length bytes → 0 < len bytes → starts len 0 at bytes ≡ (at, bytes) ∷ starts len 0 (at + len bytes) (drop (len bytes) bytes)
+unfolding starts
+starts_first len at [] some whole = absurd (omega arith)
+starts_first len at (byte ∷ bytes) some whole =
+    let n = len (byte ∷ bytes) in
+    let more : n ≡ suc (n - 1) = omega arith in
+    let place : at + 1 + (n - 1) ≡ at + n = omega arith in
+    ap (λ (behind : List (ℕ × List ℕ)). (at, byte ∷ bytes) ∷ behind)
+    (starts_behind len (n - 1) (at + 1) bytes
+    ∙ ap (λ (k : ℕ). starts len 0 k (drop (n - 1) bytes)) place
+    ∙ ap (λ (k : ℕ). starts len 0 (at + n) (drop k (byte ∷ bytes))) (sym more))
+
+-- a record has some bytes
+length_some : (bytes : List ℕ) → 0 < record_length bytes
+length_some bytes = elim (cases_Bool (eqb (slice_index bytes 0 % 2) 0)) [ inl e ↦ rw e (lit< tt) | inr e ↦ rw e (lit< tt) ]
+
+pub stands_first : (at : ℕ) (bytes : List ℕ) → 0 < length bytes → standings at bytes ≡ (at, record_in bytes) ∷ standings (at + record_length bytes) (drop (record_length bytes) bytes)
+stands_first at bytes some = ap (map standing_at) (starts_first record_length at bytes some (length_some bytes))
+
+-- what a record that stands first leaves
+pub stands_taken : (at : ℕ) (bytes : List ℕ) (r : Rec) (left : Left) → 0 < length bytes → record_on (at, bytes) ≡ Ok (r, left) → standings at bytes ≡ (at, Ok r) ∷ standings left.0 left.1
+unfolding record_on
+stands_taken at bytes r left some e = by_answer (record_in bytes) refl e
+  where
+    by_answer : (a : Result Rec RecFault) → record_in bytes ≡ a → read_first (at, bytes) a ≡ Ok (r, left) → standings at bytes ≡ (at, Ok r) ∷ standings left.0 left.1
+    by_answer (Ok s) is h =
+        let behind : Left = (at + record_length bytes, drop (record_length bytes) bytes) in
+        let first : Rec × Left = (s, behind) in
+        let wanted : Rec × Left = (r, left) in
+        let both : first ≡ wanted = cc in
+        let same : s ≡ r = ap (λ (x : Rec × Left). x.0) both in
+        let left_is : behind ≡ left = ap (λ (x : Rec × Left). x.1) both in
+        stands_first at bytes some ∙ rw (is, same) (ap (λ (l : Left). (at, Ok r) ∷ standings l.0 l.1) left_is)
+    by_answer (Err f) is h = absurd cc
+
+-- why none does
+pub record StandsNone (at : ℕ) (bytes : List ℕ) (e : TraceFault) : Type 0 where
+  pub why : RecFault
+  pub behind : List Standing
+  pub stands : standings at bytes ≡ (at, Err why) ∷ behind
+  pub fault : fault_at at why ≡ e
+
+pub stands_none : (at : ℕ) (bytes : List ℕ) (e : TraceFault) → 0 < length bytes → record_on (at, bytes) ≡ Err e → StandsNone at bytes e
+unfolding record_on
+stands_none at bytes e some is = by_answer (record_in bytes) refl is
+  where
+    by_answer : (a : Result Rec RecFault) → record_in bytes ≡ a → read_first (at, bytes) a ≡ Err e → StandsNone at bytes e
+    by_answer (Ok s) is h = absurd cc
+    by_answer (Err f) is h = record {
+      why = f;
+      behind = standings (at + record_length bytes) (drop (record_length bytes) bytes);
+      stands = stands_first at bytes some ∙ rw is refl;
+      fault = cc;
+    }
+
+-- ---- events behind others
+
+front_again : (front : List Event) (event : Option Event) (read : Result (List Event) TraceFault)
+    → with_front front (read >>= λ events. Ok (option_to_list event ++ events)) ≡ with_front (front ++ option_to_list event) read
+front_again front event (Ok events) = ap (λ (x : List Event). Ok x) (sym (append_assoc front (option_to_list event) events))
+front_again front event (Err e) = refl
+
+-- one record more
+pub events_more : (front : List Event) (base : Option Base) (at : ℕ) (bytes : List ℕ) (r : Rec) (left : Left) (step : Base × Option Event) (total : Result (List Event) TraceFault)
+    → 0 < length bytes → record_on (at, bytes) ≡ Ok (r, left) → step_on at r base ≡ Ok step → with_front front (events_on base (standings at bytes)) ≡ total
+    → with_front (front ++ option_to_list step.1) (events_on (Some step.0) (standings left.0 left.1)) ≡ total
+unfolding events_on
+events_more front base at bytes r left step total some taken stepped so_far =
+    sym (front_again front step.1 (events_on (Some step.0) (standings left.0 left.1)))
+    ∙ sym (rw (stands_taken at bytes r left some taken, stepped) refl)
+    ∙ so_far
+
+-- no record
+pub events_stop : (front : List Event) (base : Option Base) (at : ℕ) (bytes : List ℕ) (e : TraceFault) (total : Result (List Event) TraceFault)
+    → 0 < length bytes → record_on (at, bytes) ≡ Err e → with_front front (events_on base (standings at bytes)) ≡ total → total ≡ Err e
+unfolding events_on
+events_stop front base at bytes e total some none so_far =
+    let h = stands_none at bytes e some none in
+    sym so_far ∙ rw (h.stands, h.fault) refl
+
+-- a record that may not stand there
+pub events_refuse : (front : List Event) (base : Option Base) (at : ℕ) (bytes : List ℕ) (r : Rec) (left : Left) (e : TraceFault) (total : Result (List Event) TraceFault)
+    → 0 < length bytes → record_on (at, bytes) ≡ Ok (r, left) → step_on at r base ≡ Err e → with_front front (events_on base (standings at bytes)) ≡ total → total ≡ Err e
+unfolding events_on
+events_refuse front base at bytes r left e total some taken stepped so_far =
+    sym so_far ∙ rw (stands_taken at bytes r left some taken, stepped) refl
+
+-- no bytes
+pub events_done : (front : List Event) (base : Option Base) (at : ℕ) (total : Result (List Event) TraceFault) → with_front front (events_on base (standings at [])) ≡ total → total ≡ Ok front
+unfolding events_on starts
+events_done front base at total so_far = sym so_far ∙ ap (λ (x : List Event). Ok x) (append-nil front)

@@ -1,0 +1,31 @@
+use Rattle.std.proofs.Common.{◌≡◌, ◌+◌, ◌++◌, ℕ, List, take, drop, subst, ap, ◌∙◌, rules}
+use Rattle.std.specs.List.{flat_map}
+use Rattle.xray_io.specs.Text.{sink_of, Gains, Breaks}
+use Rattle.fdr_buffer.specs.Filled.{Filled}
+use Rattle.fdr_file.specs.Files.{block_bytes}
+use Rattle.fdr_file.proofs.Gathered.{blocks_more, blocks_split}
+use Rattle.fdr_file.proofs.writing.add_blocks.Goals as goal
+
+pub returns-in_err-add_block-clause-breaks : goal.returns-in_err-add_block-clause-breaks
+returns-in_err-add_block-clause-breaks g c =
+    let i = c.loop-buffer.buffer-index in
+    let buffers = c.args.buffers.now in
+    let rest = flat_map block_bytes (drop (i + 1) buffers) in
+    let more = ap (λ (b : Filled). flat_map block_bytes (take i buffers) ++ block_bytes b) c.buffer-item.is ∙ blocks_more buffers i c.buffer-item.result c.loop-buffer-test.true in
+    let broken : Breaks g.S.Sink.written _ (sink_of c.add_block.new.text) (flat_map block_bytes buffers) =
+    c.text_adds_up.ensures.breaks _ c.loop-buffer.text _ (flat_map block_bytes (take i buffers)) (block_bytes c.buffer-item.result) rest _ c.loop-buffer.invariant.gains c.in_err-add_block.ensures.breaks
+    (ap (λ (x : List ℕ). x ++ rest) more ∙ blocks_split buffers (i + 1)) in
+    search rules
+
+pub loop-buffer-preserved : goal.loop-buffer-preserved
+loop-buffer-preserved g c =
+    let i = c.loop-buffer.buffer-index in
+    let buffers = c.args.buffers.now in
+    let more = ap (λ (b : Filled). flat_map block_bytes (take i buffers) ++ block_bytes b) c.buffer-item.is ∙ blocks_more buffers i c.buffer-item.result c.loop-buffer-test.true in
+    record {
+      gains = subst (Gains g.S.Sink.written _ c.add_block.new.text) more
+          (c.text_adds_up.ensures.gains _ c.loop-buffer.text _ (flat_map block_bytes (take i buffers)) (block_bytes c.buffer-item.result) c.loop-buffer.invariant.gains c.in_ok-add_block.ensures.gains);
+      later = search rules;
+      follows = g.met.S.Sink.follows_along _ _ _ c.loop-buffer.invariant.follows c.in_ok-add_block.ensures.follows;
+      loan = search rules;
+    }

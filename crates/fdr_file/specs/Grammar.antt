@@ -1,0 +1,72 @@
+-- What a trace file is: a header, and blocks, one behind the other.
+use Rattle.std.specs.Prelude.{◌≡◌, ◌<◌, ◌≤◌, ◌^◌, ◌+◌, ◌/◌, ◌%◌, ◌==◌, ◌||◌, ⊤, ℕ, List, [], ◌∷◌, ◌++◌, length, IsTrue}
+use Rattle.std.specs.List.{AllByRecursion}
+use Rattle.byteorder.specs.Endian.{little_bytes}
+use Rattle.fdr_record.specs.declared.rec.Rec.{Rec}
+use Rattle.fdr_record.specs.declared.rec.Rec.TheVariants.{NewBuffer, WallTime, Pid, Extents}
+use Rattle.fdr_record.specs.Records.{FieldsFit, Spells}
+use Rattle.fdr_file.specs.declared.header.Header.{Header}
+use Rattle.fdr_file.specs.declared.trace.Block.{Block}
+use Rattle.fdr_file.specs.declared.trace.Trace.{Trace}
+use Rattle.fdr_file.specs.Events.{events_of}
+use Rattle.fdr_file.specs.Traces.{names_cpu, needs_cpu}
+
+-- the bytes are a header with these fields, of version 3 and of the flight data recorder's type. The flags above the second and the 8
+-- bytes at the end are free
+pub record IsHeader (bytes : List ℕ) (header : Header) : Type 0 where
+  pub flags : ℕ
+  pub reserved : List ℕ
+  pub spelled : bytes ≡ little_bytes 2 3 ++ (little_bytes 2 1 ++ (little_bytes 4 flags ++ (little_bytes 8 header.frequency
+      ++ (little_bytes 8 header.size ++ reserved))))
+  pub version : header.version ≡ 3
+  pub constant : header.constant ≡ (flags % 2 == 1)
+  pub nonstop : header.nonstop ≡ (flags / 2 % 2 == 1)
+  pub flags_fit : flags < 2 ^ 32
+  pub frequency_fits : header.frequency < 2 ^ 64
+  pub size_fits : header.size < 2 ^ 64
+  pub whole : length reserved ≡ 8
+
+-- the bytes are spellings of these records, one behind the other
+abbrev pub AreSpelled : List Rec → List ℕ → Type 0
+AreSpelled [] bytes = bytes ≡ []
+AreSpelled (r ∷ records) bytes =
+    (front : List ℕ) × (behind : List ℕ) × (bytes ≡ front ++ behind) × FieldsFit r × Spells front r × AreSpelled records behind
+
+-- records that may stand behind a preamble: CPUs, counters and functions, and the first of them names a CPU
+abbrev pub IsInner : Rec → Type 0
+IsInner r = IsTrue (names_cpu r || needs_cpu r)
+
+abbrev pub BeginWithCpu : List Rec → Type 0
+BeginWithCpu [] = ⊤
+BeginWithCpu (r ∷ records) = IsTrue (names_cpu r)
+
+-- the records of a block
+abbrev pub block_records : Block → List Rec → List Rec
+block_records block records = NewBuffer block.thread ∷ WallTime block.wall ∷ Pid block.pid ∷ records
+
+-- The bytes are a block: extents, and as many bytes as they name. These spell a preamble and records, which tell the block's events.
+pub record IsBlock (bytes : List ℕ) (block : Block) : Type 0 where
+  pub extents : List ℕ
+  pub body : List ℕ
+  pub parts : bytes ≡ extents ++ body
+  pub named : Spells extents (Extents (length body))
+  pub few : length body < 2 ^ 64
+  pub records : List Rec
+  pub spelled : AreSpelled (block_records block records) body
+  pub inner : AllByRecursion IsInner records
+  pub based : BeginWithCpu records
+  pub told : block.events ≡ events_of (block_records block records)
+
+-- the bytes are these blocks, one behind the other
+abbrev pub AreBlocks : List Block → List ℕ → Type 0
+AreBlocks [] bytes = bytes ≡ []
+AreBlocks (block ∷ blocks) bytes =
+    (front : List ℕ) × (behind : List ℕ) × (bytes ≡ front ++ behind) × IsBlock front block × AreBlocks blocks behind
+
+-- The bytes of a file are this trace.
+pub record IsTrace (bytes : List ℕ) (trace : Trace) : Type 0 where
+  pub front : List ℕ
+  pub behind : List ℕ
+  pub parts : bytes ≡ front ++ behind
+  pub header : IsHeader front trace.header
+  pub blocks : AreBlocks trace.blocks behind

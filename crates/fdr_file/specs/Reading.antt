@@ -1,0 +1,127 @@
+-- Reading a trace from left to right, for the contracts of the reader's private functions.
+use Rattle.std.specs.Prelude.{◌≡◌, ◌⊎◌, ◌≤◌, ◌<◌, ℕ, ◌+◌, ◌^◌, ◌%◌, List, [], ◌∷◌, ◌++◌, length, take, drop, map, Option, Some, None, Result, Ok, Err, option_to_list, nat_lt, nat_le, if◌then◌else◌}
+use Rattle.std.specs.List.{flat_map}
+use Rattle.xray_io.specs.declared.faults.Wall.{Wall}
+use Rattle.fdr_record.specs.declared.event.Event.{Event}
+use Rattle.fdr_record.specs.declared.rec.Rec.{Rec}
+use Rattle.fdr_record.specs.declared.rec.Rec.TheVariants.{NewBuffer, NewCpu, TscWrap, WallTime, Pid, Extents, Function}
+use Rattle.fdr_record.specs.declared.fault.RecFault.{RecFault}
+use Rattle.fdr_record.specs.Records.{length_of}
+use Rattle.fdr_file.specs.declared.events.Base.{Base}
+use Rattle.fdr_file.specs.declared.fault.TraceFault.{TraceFault}
+use Rattle.fdr_file.specs.declared.fault.TraceFault.TheVariants as faults
+use Rattle.fdr_file.specs.declared.header.Header.{Header}
+use Rattle.fdr_file.specs.declared.trace.Block.{Block}
+use Rattle.fdr_file.specs.declared.trace.Trace.{Trace}
+use Rattle.fdr_file.specs.Traces.{Standing, block_faults, block_in, decided, fault_at, record_in, record_length, pid_named, standings, thread_named, wall_named}
+
+infixl 10 ◌>>=◌
+abbrev pub ◌>>=◌ : {A B : Type 0} → Result A TraceFault → (A → Result B TraceFault) → Result B TraceFault
+(Ok x) >>= f = f x
+(Err e) >>= f = Err e
+
+-- what a function answered, seen so, is what reading gives
+abbrev pub Reads : {A B : Type 0} → (A → B) → Result A TraceFault → Result B TraceFault → Type 0
+Reads view (Ok x) read = read ≡ Ok (view x)
+Reads view (Err e) read = read ≡ Err e
+
+-- the same, unless memory ran out
+abbrev pub Gives : {A B : Type 0} → (A → B) → Result A TraceFault → Result B TraceFault → Type 0
+Gives view (Ok x) read = read ≡ Ok (view x)
+Gives view (Err e) read = (e ≡ faults.NoMemory) ⊎ (read ≡ Err e)
+
+-- what is left of bytes, with the place at which it begins
+abbrev pub Left : Type 0
+Left = ℕ × List ℕ
+
+-- what is left of bytes at a place of them
+abbrev pub left_at : List ℕ → ℕ → Left
+left_at bytes at = (at, drop at bytes)
+
+-- ---- a record
+
+-- the answer of the decoder at a place of bytes, and the place behind the record
+abbrev pub TakenAt : List ℕ → ℕ → Result (Rec × ℕ) RecFault → Type 0
+TakenAt bytes at (Ok (r, next)) = (record_in (drop at bytes) ≡ Ok r) × (next ≡ at + record_length (drop at bytes)) × (next ≡ at + length_of r) × (next ≤ length bytes) × (at < next)
+TakenAt bytes at (Err fault) = record_in (drop at bytes) ≡ Err fault
+
+-- the record that stands first in what is left of a block, and what is left behind it
+abbrev pub read_first : Left → Result Rec RecFault → Result (Rec × Left) TraceFault
+read_first (at, bytes) (Ok r) = Ok (r, (at + record_length bytes, drop (record_length bytes) bytes))
+read_first (at, bytes) (Err fault) = Err (fault_at at fault)
+
+unfoldable pub record_on : Left → Result (Rec × Left) TraceFault
+record_on (at, bytes) = read_first (at, bytes) (record_in bytes)
+
+-- ---- a preamble
+
+-- what is named in the record that stands first, which has to name something of that kind
+abbrev pub named_or : {A : Type 0} → ℕ → Option A → Left → Result (A × Left) TraceFault
+named_or at (Some x) behind = Ok (x, behind)
+named_or at None behind = Err (faults.Order at)
+
+abbrev pub named_on : {A : Type 0} → (Rec → Option A) → Left → Result (A × Left) TraceFault
+named_on named left = do
+  first ← record_on left
+  named_or left.0 (named first.0) first.1
+
+unfoldable pub preamble_on : Left → Result (ℕ × Wall × ℕ × Left) TraceFault
+preamble_on left = do
+  thread ← named_on thread_named left
+  wall ← named_on wall_named thread.1
+  pid ← named_on pid_named wall.1
+  Ok (thread.0, wall.0, pid.0, pid.1)
+
+-- ---- events
+
+-- what a record does to the CPU and counter that are told, and the event that it tells
+abbrev pub step_on : ℕ → Rec → Option Base → Result (Base × Option Event) TraceFault
+step_on at (NewCpu cpu tsc) base = Ok (record { cpu = cpu; tsc = tsc }, None)
+step_on at (TscWrap tsc) None = Err (faults.NoBase at)
+step_on at (TscWrap tsc) (Some base) = Ok (record { cpu = base.cpu; tsc = tsc }, None)
+step_on at (Function kind func delta) None = Err (faults.NoBase at)
+step_on at (Function kind func delta) (Some base) =
+    let tsc = (base.tsc + delta) % 2 ^ 64 in
+    Ok (record { cpu = base.cpu; tsc = tsc }, Some (record { cpu = base.cpu; func = func; kind = kind; tsc = tsc }))
+step_on at r base = Err (faults.Order at)
+
+-- the events of what stands behind a CPU and counter
+unfoldable pub events_on : Option Base → List Standing → Result (List Event) TraceFault
+events_on base [] = Ok []
+events_on base ((at, Ok r) ∷ behind) = do
+  step ← step_on at r base
+  events ← events_on (Some step.0) behind
+  Ok (option_to_list step.1 ++ events)
+events_on base ((at, Err fault) ∷ behind) = Err (fault_at at fault)
+
+-- these events, and those that are read behind them
+abbrev pub with_front : List Event → Result (List Event) TraceFault → Result (List Event) TraceFault
+with_front front (Ok events) = Ok (front ++ events)
+with_front front (Err fault) = Err fault
+
+-- ---- a block
+
+-- the place behind the block whose extents name so many bytes
+abbrev pub end_named : Left → Result Rec RecFault → Result ℕ TraceFault
+end_named (at, bytes) (Ok (Extents size)) =
+    if nat_lt size 48 then Err (faults.Extents at)
+    else if nat_lt (length bytes) (16 + size) then Err (faults.Short at) else Ok (at + (16 + size))
+end_named (at, bytes) (Ok r) = Err (faults.Order at)
+end_named (at, bytes) (Err fault) = Err (faults.Bad at fault)
+
+unfoldable pub end_on : Left → Result ℕ TraceFault
+end_on (at, bytes) = if nat_lt (length bytes) 16 then Err (faults.Short at) else end_named (at, bytes) (record_in bytes)
+
+-- the block whose preamble and events are left
+unfoldable pub body_on : Left → Result Block TraceFault
+body_on left = do
+  preamble ← preamble_on left
+  events ← events_on None (standings preamble.3.0 preamble.3.1)
+  Ok (record { thread = preamble.0; wall = preamble.1; pid = preamble.2; events = events })
+
+-- ---- a file
+
+-- the trace of these blocks, and of those that begin at places behind them
+abbrev pub blocks_read : Header → List Block → List Left → Result Trace TraceFault
+blocks_read header blocks left =
+    decided (flat_map block_faults left) (record { header = header; blocks = blocks ++ map block_in left })

@@ -1,0 +1,196 @@
+-- The trace that the bytes of a file read as, and what is wrong with them.
+use Rattle.std.specs.Prelude.{ℕ, zero, suc, ◌+◌, ◌/◌, ◌%◌, ◌==◌, ◌||◌, Bool, true, false, List, [], ◌∷◌, ◌++◌, length, take, drop, map, Option, Some, None, is_some, Result, Ok, Err, nat_lt, nat_le, not, slice_index, if◌then◌else◌}
+use Rattle.std.specs.List.{filter_map, flat_map, list_any}
+use Rattle.byteorder.specs.Endian.{little_number}
+use Rattle.xray_io.specs.declared.faults.Wall.{Wall}
+use Rattle.fdr_record.specs.declared.rec.Rec.{Rec}
+use Rattle.fdr_record.specs.declared.rec.Rec.TheVariants.{NewBuffer, NewCpu, TscWrap, WallTime, Pid, Extents, Function}
+use Rattle.fdr_record.specs.declared.fault.RecFault.{RecFault}
+use Rattle.fdr_record.specs.declared.fault.RecFault.TheVariants as decoder_faults
+use Rattle.fdr_record.specs.Refusals.{length_by}
+use Rattle.fdr_record.specs.Reading.{function_at, metadata_at}
+use Rattle.fdr_file.specs.declared.header.Header.{Header}
+use Rattle.fdr_file.specs.declared.fault.TraceFault.{TraceFault}
+use Rattle.fdr_file.specs.declared.fault.TraceFault.TheVariants as faults
+use Rattle.fdr_file.specs.declared.trace.Block.{Block}
+use Rattle.fdr_file.specs.declared.trace.Trace.{Trace}
+use Rattle.fdr_file.specs.Places.{starts}
+use Rattle.fdr_file.specs.Events.{events_of}
+
+-- this fault, unless the test holds
+abbrev pub unless : Bool → TraceFault → List TraceFault
+unless holds fault = if holds then [] else fault ∷ []
+
+-- this value where nothing is wrong, and else the first fault
+abbrev pub decided : {A : Type 0} → List TraceFault → A → Result A TraceFault
+decided [] value = Ok value
+decided (fault ∷ later) value = Err fault
+
+-- ---- the header
+
+-- the fields of a header: the version, the type, a number of flags, the frequency, and the size of a buffer
+abbrev pub version_in : List ℕ → ℕ
+version_in bytes = little_number 2 bytes
+
+abbrev pub type_in : List ℕ → ℕ
+type_in bytes = little_number 2 (drop 2 bytes)
+
+abbrev pub flags_in : List ℕ → ℕ
+flags_in bytes = little_number 4 (drop 4 bytes)
+
+-- flag 0 is that the counter's frequency is constant, and flag 1 that it never stops
+abbrev pub header_in : List ℕ → Header
+header_in bytes = record {
+  version = version_in bytes;
+  constant = flags_in bytes % 2 == 1;
+  nonstop = flags_in bytes / 2 % 2 == 1;
+  frequency = little_number 8 (drop 8 bytes);
+  size = little_number 8 (drop 16 bytes);
+}
+
+-- a header is whole, of version 3, and of the type of the flight data recorder's files
+abbrev pub header_faults : List ℕ → List TraceFault
+header_faults bytes =
+    unless (nat_le 32 (length bytes)) (faults.Short 0) ++ unless (version_in bytes == 3) (faults.Version (version_in bytes))
+    ++ unless (type_in bytes == 1) (faults.Form (type_in bytes))
+
+-- ---- the records of a block
+
+-- the record that bytes begin with, or why there is none
+unfoldable pub record_in : List ℕ → Result Rec RecFault
+record_in [] = Err decoder_faults.Short
+record_in (first ∷ rest) = if first % 2 == 0 then function_at first (first ∷ rest) else metadata_at (first / 2) rest
+
+-- how many bytes the record has that bytes begin with, by its first one
+abbrev pub record_length : List ℕ → ℕ
+record_length bytes = length_by (slice_index bytes 0)
+
+-- a place at which a record has to stand, and the one that does, or why none does
+abbrev pub Standing : Type 0
+Standing = ℕ × Result Rec RecFault
+
+abbrev pub standing_at : ℕ × List ℕ → Standing
+standing_at (at, bytes) = (at, record_in bytes)
+
+-- what stands at each place of bytes at which a record has to begin. The first of them is at the place `at`
+abbrev pub standings : ℕ → List ℕ → List Standing
+standings at bytes = map standing_at (starts record_length 0 at bytes)
+
+-- the records among what stands
+abbrev pub records_of : List Standing → List Rec
+records_of [] = []
+records_of ((at, Ok r) ∷ behind) = r ∷ records_of behind
+records_of ((at, Err fault) ∷ behind) = records_of behind
+
+-- the thread that a record names with which a buffer begins
+abbrev pub thread_named : Rec → Option ℕ
+thread_named (NewBuffer thread) = Some thread
+thread_named r = None
+
+-- the wall time that a record tells
+abbrev pub wall_named : Rec → Option Wall
+wall_named (WallTime wall) = Some wall
+wall_named r = None
+
+-- the process that a record names
+abbrev pub pid_named : Rec → Option ℕ
+pid_named (Pid pid) = Some pid
+pid_named r = None
+
+-- the record tells a CPU and its counter
+abbrev pub names_cpu : Rec → Bool
+names_cpu (NewCpu cpu tsc) = true
+names_cpu r = false
+
+-- the record means something only behind one that names a CPU
+abbrev pub needs_cpu : Rec → Bool
+needs_cpu (TscWrap tsc) = true
+needs_cpu (Function kind func delta) = true
+needs_cpu r = false
+
+-- the record may be number n of its block, counted from 0: the first three are the preamble, and behind them stand CPUs, counters and
+-- functions
+abbrev pub may_be : ℕ → Rec → Bool
+may_be zero r = is_some (thread_named r)
+may_be (suc zero) r = is_some (wall_named r)
+may_be (suc (suc zero)) r = is_some (pid_named r)
+may_be (suc (suc (suc n))) r = names_cpu r || needs_cpu r
+
+-- what is wrong with a record at a place, behind those before it
+abbrev pub record_faults : List Rec → ℕ → Rec → List TraceFault
+record_faults before at r =
+    unless (may_be (length before) r) (faults.Order at) ++ unless (list_any names_cpu before || not (needs_cpu r)) (faults.NoBase at)
+
+-- why no record stands at a place: the block ends before it does, or its action or kind is none
+abbrev pub fault_at : ℕ → RecFault → TraceFault
+fault_at at decoder_faults.Short = faults.Extents at
+fault_at at fault = faults.Bad at fault
+
+-- what is wrong with what stands behind records
+abbrev pub standing_faults : List Rec → List Standing → List TraceFault
+standing_faults before [] = []
+standing_faults before ((at, Ok r) ∷ behind) = record_faults before at r ++ standing_faults (r ∷ before) behind
+standing_faults before ((at, Err fault) ∷ behind) = fault_at at fault ∷ []
+
+-- ---- blocks
+
+-- how many bytes the extents name at the front of a block
+abbrev pub extents_in : List ℕ → ℕ
+extents_in bytes = little_number 8 (drop 1 bytes)
+
+-- how many bytes the block has that bytes begin with: those of its extents, and as many as these name
+abbrev pub block_length : List ℕ → ℕ
+block_length bytes = 16 + extents_in bytes
+
+-- what stands in the block that begins at a place
+abbrev pub block_standings : ℕ × List ℕ → List Standing
+block_standings (at, bytes) = standings (at + 16) (take (extents_in bytes) (drop 16 bytes))
+
+-- what is wrong with the block that begins at a place: with what stands in front of it, with the number of bytes that it names, and
+-- with its records
+abbrev pub extents_faults : ℕ × List ℕ → Result Rec RecFault → List TraceFault
+extents_faults (at, bytes) (Ok (Extents size)) =
+    unless (nat_le 48 size) (faults.Extents at) ++ unless (nat_le (16 + size) (length bytes)) (faults.Short at)
+    ++ standing_faults [] (block_standings (at, bytes))
+extents_faults (at, bytes) (Ok r) = faults.Order at ∷ []
+extents_faults (at, bytes) (Err fault) = faults.Bad at fault ∷ []
+
+abbrev pub block_faults : ℕ × List ℕ → List TraceFault
+block_faults (at, bytes) =
+    if nat_lt (length bytes) 16 then faults.Short at ∷ [] else extents_faults (at, bytes) (record_in bytes)
+
+-- the first of a list
+abbrev pub first_or : {A : Type 0} → A → List A → A
+first_or otherwise [] = otherwise
+first_or otherwise (x ∷ xs) = x
+
+-- the block that records tell: what the first of each kind names, and the events
+abbrev pub block_of : List Rec → Block
+block_of records = record {
+  thread = first_or 0 (filter_map thread_named records);
+  wall = first_or (record { secs = 0; micros = 0 }) (filter_map wall_named records);
+  pid = first_or 0 (filter_map pid_named records);
+  events = events_of records;
+}
+
+-- the block that begins at a place
+abbrev pub block_in : ℕ × List ℕ → Block
+block_in start = block_of (records_of (block_standings start))
+
+-- ---- files
+
+-- each place at which a block begins, behind the 32 bytes of the header, with the bytes from there on
+abbrev pub block_starts : List ℕ → List (ℕ × List ℕ)
+block_starts bytes = starts block_length 0 32 (drop 32 bytes)
+
+-- all that is wrong with a file, from its front on
+abbrev pub faults_of : List ℕ → List TraceFault
+faults_of bytes = header_faults bytes ++ flat_map block_faults (block_starts bytes)
+
+-- what the bytes of a file tell
+abbrev pub told_by : List ℕ → Trace
+told_by bytes = record { header = header_in bytes; blocks = map block_in (block_starts bytes) }
+
+-- The trace of a file, or the fault of the first place that has one.
+abbrev pub trace_of : List ℕ → Result Trace TraceFault
+trace_of bytes = decided (faults_of bytes) (told_by bytes)

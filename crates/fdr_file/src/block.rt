@@ -1,0 +1,72 @@
+//! One block of a file.
+
+ghost use Rattle.std.specs.Prelude.{◌≡◌, ◌≤◌, ◌<◌, ◌+◌, length, drop, IfOk};
+ghost use Rattle.fdr_file.specs.Reading.{Gives, Reads, body_on, end_on, left_at};
+ghost use Rattle.fdr_file.specs.Traces.{block_faults, block_in, block_length, decided};
+
+use crate::events::read_events;
+use crate::preamble::{PREAMBLE_BYTES, read_preamble};
+use crate::records::taken_at;
+use crate::{Block, TraceFault};
+use fdr_record::{METADATA_BYTES, Rec};
+use std::alloc::Global;
+
+/// The place behind the block that begins at this place, by its extents.
+#[tactic(auto, unfolding(crate::specs::Reading::end_on))]
+fn block_end(bytes: &[u8], at: usize) -> Result<usize, TraceFault>
+    requires { at ≤ length bytes.now }
+    ensures reads { Reads (λ end. end) result (end_on (left_at bytes.now at)) }
+    ensures within { IfOk result (λ end. (at + 16 ≤ end) × (end ≤ length bytes.now)) }
+{
+    let place = at as u64;
+    let left = bytes.len() - at;
+    if left < METADATA_BYTES {
+        return Err(TraceFault::Short(place));
+    }
+    match taken_at(bytes, at) {
+        Ok((Rec::Extents { size }, next)) => {
+            if size < PREAMBLE_BYTES {
+                Err(TraceFault::Extents(place))
+            } else if size > (left - METADATA_BYTES) as u64 {
+                Err(TraceFault::Short(place))
+            } else {
+                Ok(next + size as usize)
+            }
+        }
+        Ok(_) => Err(TraceFault::Order(place)),
+        Err(fault) => Err(TraceFault::Bad(place, fault)),
+    }
+}
+
+/// The block whose preamble begins at this place. The bytes are those of the file up to its end.
+#[tactic(auto, unfolding(crate::specs::Reading::body_on))]
+fn read_body(alloc: Global, block: &[u8], at: usize) -> Result<Block, TraceFault>
+    requires { at ≤ length block.now }
+    ensures { Gives (λ block. block) result (body_on (left_at block.now at)) }
+{
+    let preamble = read_preamble(block, at)?;
+    let events = read_events(alloc, block, preamble.end)?;
+    Ok(Block {
+        thread: preamble.thread,
+        wall: preamble.wall,
+        pid: preamble.pid,
+        events,
+    })
+}
+
+/// The block that begins at this place, and the place behind it.
+pub(crate) fn read_block(
+    alloc: Global,
+    bytes: &[u8],
+    at: usize,
+) -> Result<(Block, usize), TraceFault>
+    requires { at ≤ length bytes.now }
+    ensures reads { Gives (λ x. x.0) result
+        (decided (block_faults (left_at bytes.now at)) (block_in (left_at bytes.now at))) }
+    ensures next { IfOk result (λ x. (x.1 ≡ at + block_length (drop at bytes.now))
+        × (x.1 ≤ length bytes.now)) }
+{
+    let end = block_end(bytes, at)?;
+    let block = read_body(alloc, &bytes[..end], at + METADATA_BYTES)?;
+    Ok((block, end))
+}

@@ -1,0 +1,62 @@
+//! The events of a block.
+
+ghost use Rattle.std.specs.Prelude.{◌≡◌, ◌≤◌, length, None};
+ghost use Rattle.fdr_file.specs.Reading.{Gives, events_on, left_at, step_on};
+ghost use Rattle.fdr_file.specs.Traces.{standings};
+ghost use Rattle.std.specs.Prelude.{drop};
+
+use crate::records::record_at;
+use crate::{Events, TraceFault};
+use fdr_record::{Event, Rec};
+use std::alloc::Global;
+
+/// The CPU and the counter that the records so far tell.
+#[derive(Clone, Copy)]
+pub(crate) struct Base {
+    cpu: u16,
+    tsc: u64,
+}
+
+/// What the record at this place leaves as CPU and counter, and the event that it tells.
+fn step(at: u64, rec: Rec, base: Option<Base>) -> Result<(Base, Option<Event>), TraceFault>
+    ensures { result ≡ step_on at rec base }
+{
+    match rec {
+        Rec::NewCpu { cpu, tsc } => Ok((Base { cpu, tsc }, None)),
+        Rec::TscWrap { tsc } => {
+            let Base { cpu, .. } = base.ok_or(TraceFault::NoBase(at))?;
+            Ok((Base { cpu, tsc }, None))
+        }
+        Rec::Function { kind, func, delta } => {
+            let Base { cpu, tsc } = base.ok_or(TraceFault::NoBase(at))?;
+            let tsc = tsc.wrapping_add(u64::from(delta));
+            let event = Event {
+                cpu,
+                func,
+                kind,
+                tsc,
+            };
+            Ok((Base { cpu, tsc }, Some(event)))
+        }
+        _ => Err(TraceFault::Order(at)),
+    }
+}
+
+/// The events of the records from this place on to the end of the block's bytes.
+pub(crate) fn read_events(alloc: Global, block: &[u8], mut at: usize) -> Result<Events, TraceFault>
+    requires { at ≤ length block.now }
+    ensures { Gives (λ events. events) result (events_on None (standings at (drop at block.now))) }
+{
+    let mut events = Vec::new(alloc);
+    let mut base = None;
+    'reading: while at < block.len() {
+        let (rec, next) = record_at(block, at)?;
+        let (told, event) = step(at as u64, rec, base)?;
+        if let Some(event) = event {
+            events.push(event)?;
+        }
+        base = Some(told);
+        at = next;
+    }
+    Ok(Events::new(events))
+}

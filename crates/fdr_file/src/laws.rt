@@ -1,0 +1,27 @@
+//! What follows for the bytes of files. Each law is the contract of a function that does nothing.
+
+ghost use Rattle.std.specs.Prelude.{◌≡◌, List, ℕ, All, Ok};
+ghost use Rattle.fdr_buffer.specs.Filled.{Filled};
+ghost use Rattle.fdr_file.specs.declared.header.Header.{Header};
+ghost use Rattle.fdr_file.specs.declared.trace.Trace.{Trace};
+ghost use Rattle.fdr_file.specs.Files.{file_bytes, trace_told, BufferFits, HeaderFits};
+ghost use Rattle.fdr_file.specs.Grammar.{IsTrace};
+ghost use Rattle.fdr_file.specs.Traces.{trace_of};
+
+/// A file that is a trace by the grammar reads as this trace. So it is no other one.
+pub fn a_trace_is_read()
+    ensures read { (bytes : List ℕ) (trace : Trace) → IsTrace bytes trace
+        → trace_of bytes ≡ Ok trace }
+    ensures one { (bytes : List ℕ) (trace other : Trace) → IsTrace bytes trace
+        → IsTrace bytes other → trace ≡ other }
+{}
+
+/// What is written for a header and buffers is a trace by the grammar, and reads back as the header and
+/// the events of the buffers, in order.
+pub fn a_file_reads_back()
+    ensures trace { (header : Header) (buffers : List Filled) → HeaderFits header
+        → All BufferFits buffers → IsTrace (file_bytes header buffers) (trace_told header buffers) }
+    ensures read { (header : Header) (buffers : List Filled) → HeaderFits header
+        → All BufferFits buffers
+        → trace_of (file_bytes header buffers) ≡ Ok (trace_told header buffers) }
+{}

@@ -1,0 +1,25 @@
+//! Trace files of LLVM XRay's Flight Data Recorder mode, version 3: a header, and a block for each
+//! buffer that was flushed. `read_trace` reads a file whole, and `write_file` writes one. The layout is that of "XRay Flight Data
+//! Recorder Trace Format" of LLVM's documentation.
+#![tactic(auto)]
+
+mod block;
+mod events;
+mod fault;
+mod header;
+mod laws;
+mod preamble;
+mod reading;
+mod records;
+mod trace;
+mod writing;
+
+pub use fault::TraceFault;
+pub use header::Header;
+pub use laws::{a_file_reads_back, a_trace_is_read};
+pub use reading::read_trace;
+pub use trace::{Block, Blocks, Events, Trace};
+pub use writing::write_file;
+
+#[cfg(test)]
+mod tests;

@@ -1,0 +1,30 @@
+//! Records in the bytes of a file and of a block.
+
+ghost use Rattle.std.specs.Prelude.{◌≤◌, ◌<◌, length, IfOk};
+ghost use Rattle.fdr_file.specs.Reading.{Reads, TakenAt, left_at, record_on};
+
+use crate::TraceFault;
+use fdr_record::{Rec, RecFault, take_rec};
+
+/// The record at a place of a file's bytes, and the place behind it.
+pub(crate) fn taken_at(bytes: &[u8], at: usize) -> Result<(Rec, usize), RecFault>
+    requires { at ≤ length bytes.now }
+    ensures { TakenAt bytes.now at result }
+{
+    take_rec(bytes, at)
+}
+
+/// The record at a place of a block's bytes, and the place behind it. A place is counted from the
+/// file's start, and the bytes are those of the file up to the block's end.
+#[tactic(auto, unfolding(crate::specs::Reading::record_on))]
+pub(crate) fn record_at(block: &[u8], at: usize) -> Result<(Rec, usize), TraceFault>
+    requires { at ≤ length block.now }
+    ensures reads { Reads (λ x. (x.0, left_at block.now x.1)) result (record_on (left_at block.now at)) }
+    ensures next { IfOk result (λ x. (at < x.1) × (x.1 ≤ length block.now)) }
+{
+    match taken_at(block, at) {
+        Ok(found) => Ok(found),
+        Err(RecFault::Short) => Err(TraceFault::Extents(at as u64)),
+        Err(fault) => Err(TraceFault::Bad(at as u64, fault)),
+    }
+}

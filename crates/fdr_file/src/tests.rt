@@ -1,0 +1,250 @@
+//! Files byte by byte, as the format says, and each refusal.
+
+use super::*;
+use fdr_record::{Event, Kind, RecFault};
+use std::alloc::{AllocError, Global};
+use std::test::Fail;
+use xray_io::Wall;
+
+/// A header of constant and nonstop counters, of buffers of 16,384 bytes.
+const HEADER: &[u8] = b"\x03\0\x01\0\x03\0\0\0\0\0\0\0\0\0\0\0\0\x40\0\0\0\0\0\0\0\0\0\0\0\0\0\0";
+
+/// Extents of 72, 80 and 96 bytes.
+const EXTENTS_72: &[u8] = b"\x0F\x48\0\0\0\0\0\0\0\0\0\0\0\0\0\0";
+
+const EXTENTS_80: &[u8] = b"\x0F\x50\0\0\0\0\0\0\0\0\0\0\0\0\0\0";
+
+const EXTENTS_96: &[u8] = b"\x0F\x60\0\0\0\0\0\0\0\0\0\0\0\0\0\0";
+
+/// Thread 1, the wall time 0, and process 1.
+const PREAMBLE: &[u8] = b"\x01\x01\0\0\0\0\0\0\0\0\0\0\0\0\0\0\
+\x09\0\0\0\0\0\0\0\0\0\0\0\0\0\0\0\
+\x13\x01\0\0\0\0\0\0\0\0\0\0\0\0\0\0";
+
+/// CPU 0 at counters 0 and 2.
+const CPU: &[u8] = b"\x05\0\0\0\0\0\0\0\0\0\0\0\0\0\0\0";
+
+const CPU_AT_2: &[u8] = b"\x05\0\0\x02\0\0\0\0\0\0\0\0\0\0\0\0";
+
+/// An entry of function 1, and an exit of it two cycles on.
+const ENTRY: &[u8] = b"\x10\0\0\0\0\0\0\0";
+
+const EXIT_AFTER_2: &[u8] = b"\x12\0\0\0\x02\0\0\0";
+
+fn file(alloc: Global, parts: &[&[u8]]) -> Result<Vec<u8>, AllocError> {
+    let mut bytes = Vec::new(alloc);
+    for part in parts {
+        bytes.extend_from_slice(part)?;
+    }
+    Ok(bytes)
+}
+
+/// A file of one block with an entry of function 1 at counter 0 and its exit at 2.
+fn one_block(alloc: Global) -> Result<Vec<u8>, AllocError> {
+    file(
+        alloc,
+        &[HEADER, EXTENTS_80, PREAMBLE, CPU, ENTRY, EXIT_AFTER_2],
+    )
+}
+
+fn event(cpu: u16, func: u32, kind: Kind, tsc: u64) -> Event {
+    Event {
+        cpu,
+        func,
+        kind,
+        tsc,
+    }
+}
+
+/// The fault of a file, if it has one.
+fn fault(alloc: Global, bytes: &[u8]) -> Option<TraceFault> {
+    read_trace(alloc, bytes).err()
+}
+
+#[test]
+fn a_file_is_read_byte_by_byte(rt: HostRuntime) -> Result<(), Fail> {
+    let bytes = one_block(rt.alloc())?;
+    assert_eq!(rt; bytes.len(), 128);
+    let trace = read_trace(rt.alloc(), &bytes)?;
+    let header = Header {
+        version: 3,
+        constant: true,
+        nonstop: true,
+        frequency: 0,
+        size: 16_384,
+    };
+    assert_eq!(rt; trace.header, header);
+    assert_eq!(rt; trace.blocks.as_slice().len(), 1);
+    for block in trace.blocks.as_slice() {
+        assert_eq!(rt; block.thread, 1);
+        assert_eq!(rt; block.wall, Wall { secs: 0, micros: 0 });
+        assert_eq!(rt; block.pid, 1);
+        let events = [event(0, 1, Kind::Entry, 0), event(0, 1, Kind::Exit, 2)];
+        assert_eq!(rt; block.events.as_slice(), events.as_slice());
+    }
+    Ok(())
+}
+
+#[test]
+fn deltas_add_up_behind_the_last_whole_counter(rt: HostRuntime) -> Result<(), Fail> {
+    let last = b"\x05\0\0\xFF\xFF\xFF\xFF\xFF\xFF\xFF\xFF\0\0\0\0\0";
+    let wrap_0 = b"\x07\0\0\0\0\0\0\0\0\0\0\0\0\0\0\0";
+    let wrap_2_to_32 = b"\x07\0\0\0\0\x01\0\0\0\0\0\0\0\0\0\0";
+    let exit = b"\x12\0\0\0\0\0\0\0";
+    let cpu_1_at_2 = b"\x05\x01\0\x02\0\0\0\0\0\0\0\0\0\0\0\0";
+    let rows: [(&[&[u8]], [Event; 2]); 5] = [
+        (
+            &[EXTENTS_96, PREAMBLE, CPU, ENTRY, wrap_2_to_32, exit],
+            [
+                event(0, 1, Kind::Entry, 0),
+                event(0, 1, Kind::Exit, 1 << 32),
+            ],
+        ),
+        (
+            &[EXTENTS_96, PREAMBLE, last, ENTRY, wrap_0, exit],
+            [
+                event(0, 1, Kind::Entry, u64::MAX),
+                event(0, 1, Kind::Exit, 0),
+            ],
+        ),
+        (
+            &[EXTENTS_80, PREAMBLE, last, ENTRY, EXIT_AFTER_2],
+            [
+                event(0, 1, Kind::Entry, u64::MAX),
+                event(0, 1, Kind::Exit, 1),
+            ],
+        ),
+        (
+            &[
+                EXTENTS_96,
+                PREAMBLE,
+                CPU,
+                EXIT_AFTER_2,
+                cpu_1_at_2,
+                EXIT_AFTER_2,
+            ],
+            [event(0, 1, Kind::Exit, 2), event(1, 1, Kind::Exit, 4)],
+        ),
+        (
+            &[
+                EXTENTS_80,
+                PREAMBLE,
+                CPU_AT_2,
+                b"\x14\0\0\0\x01\0\0\0",
+                b"\xF2\xFF\xFF\xFF\xFF\xFF\xFF\xFF",
+            ],
+            [
+                event(0, 1, Kind::TailExit, 3),
+                event(0, (1 << 28) - 1, Kind::Exit, (1 << 32) + 2),
+            ],
+        ),
+    ];
+    for (parts, events) in &rows {
+        let bytes = file(rt.alloc(), &[HEADER, &file(rt.alloc(), parts)?])?;
+        let trace = read_trace(rt.alloc(), &bytes)?;
+        assert_eq!(rt; trace.blocks.as_slice().len(), 1);
+        for block in trace.blocks.as_slice() {
+            assert_eq!(rt; block.events.as_slice(), events.as_slice());
+        }
+    }
+    Ok(())
+}
+
+/// One byte changed in the file of one block.
+#[test]
+fn damaged_files_are_refused(rt: HostRuntime) -> Result<(), Fail> {
+    for (at, to, wanted) in [
+        (32, 0x01, TraceFault::Order(32)),
+        (32, 0x10, TraceFault::Order(32)),
+        (32, 0x0B, TraceFault::Bad(32, RecFault::Kind(5))),
+        (32, 0x06, TraceFault::Bad(32, RecFault::Action(3))),
+        (33, 0x2F, TraceFault::Extents(32)),
+        (33, 0x51, TraceFault::Short(32)),
+        (33, 0x4F, TraceFault::Extents(120)),
+        (40, 0x80, TraceFault::Short(32)),
+        (48, 0x09, TraceFault::Order(48)),
+        (64, 0x13, TraceFault::Order(64)),
+        (80, 0x05, TraceFault::Order(80)),
+        (96, 0x07, TraceFault::NoBase(96)),
+        (96, 0x01, TraceFault::Order(96)),
+        (96, 0x10, TraceFault::NoBase(96)),
+        (112, 0x0F, TraceFault::Order(112)),
+        (112, 0x11, TraceFault::Bad(112, RecFault::Kind(8))),
+        (112, 0x16, TraceFault::Bad(112, RecFault::Action(3))),
+        (112, 0x18, TraceFault::Bad(112, RecFault::Action(4))),
+        (120, 0x11, TraceFault::Extents(120)),
+        (0, 0x02, TraceFault::Version(2)),
+        (0, 0x04, TraceFault::Version(4)),
+        (1, 0x01, TraceFault::Version(259)),
+        (2, 0x00, TraceFault::Form(0)),
+    ] {
+        let mut bytes = one_block(rt.alloc())?;
+        if let Some(byte) = bytes.get_mut(at) {
+            *byte = to;
+        }
+        assert_eq!(rt; fault(rt.alloc(), &bytes), Some(wanted), "{to:x} at {at}");
+    }
+    Ok(())
+}
+
+#[test]
+fn a_file_ends_behind_a_block_or_is_short(rt: HostRuntime) -> Result<(), Fail> {
+    let block = file(rt.alloc(), &[EXTENTS_72, PREAMBLE, CPU, ENTRY])?;
+    let bytes = file(rt.alloc(), &[HEADER, &block, &block, &block])?;
+    assert_eq!(rt; bytes.len(), 296);
+    for len in 0..=bytes.len() {
+        let wanted = match len {
+            0..=31 => Some(TraceFault::Short(0)),
+            32 | 120 | 208 | 296 => None,
+            33..=119 => Some(TraceFault::Short(32)),
+            121..=207 => Some(TraceFault::Short(120)),
+            _ => Some(TraceFault::Short(208)),
+        };
+        assert_eq!(rt; fault(rt.alloc(), &bytes[..len]), wanted, "{len} bytes");
+    }
+    Ok(())
+}
+
+/// A file as LLVM's runtime lays it out: flags of which only two have a meaning, a frequency, reserved
+/// bytes, blocks of two threads, bytes behind the fields of metadata records that were never cleared,
+/// and a buffer that was begun and has no event.
+#[test]
+fn a_file_of_llvms_runtime_is_read(rt: HostRuntime) -> Result<(), Fail> {
+    let header = b"\x03\0\x01\0\x02\0\0\x80\0\x5E\xD0\xB2\0\0\0\0\0\0\x01\0\0\0\0\0ABCDEFGH";
+    let thread = b"\x01\x39\x30\0\0ABCDEFGHIJK";
+    let wall = b"\x09\x80\x43\x6D\x38\0\0\0\0\x3F\x42\x0F\0ABC";
+    let pid = b"\x13\xE8\x03\0\0ABCDEFGHIJK";
+    let cpu = b"\x05\x03\0\x10\0\0\0\0\0\0\0ABCDE";
+    let extents = b"\x0F\x58\0\0\0\0\0\0\0ABCDEFG";
+    let none = b"\x0F\x30\0\0\0\0\0\0\0ABCDEFG";
+    let events = b"\x50\0\0\0\x05\0\0\0\x60\0\0\0\x01\0\0\0\x62\0\0\0\0\0\0\0";
+    let bytes = file(
+        rt.alloc(),
+        &[
+            header, none, PREAMBLE, extents, thread, wall, pid, cpu, events,
+        ],
+    )?;
+    let trace = read_trace(rt.alloc(), &bytes)?;
+    assert_eq!(rt; trace.header.frequency, 3_000_000_000);
+    assert_eq!(rt; trace.header.size, 65_536);
+    assert!(rt; !trace.header.constant);
+    assert!(rt; trace.header.nonstop);
+    let [empty, block] = trace.blocks.as_slice() else {
+        return Err(Fail::from("there are two blocks"));
+    };
+    assert!(rt; empty.events.as_slice().is_empty());
+    assert_eq!(rt; block.thread, 12_345);
+    assert_eq!(rt; block.pid, 1_000);
+    let begun = Wall {
+        secs: 946_684_800,
+        micros: 999_999,
+    };
+    assert_eq!(rt; block.wall, begun);
+    let wanted = [
+        event(3, 5, Kind::Entry, 21),
+        event(3, 6, Kind::Entry, 22),
+        event(3, 6, Kind::Exit, 22),
+    ];
+    assert_eq!(rt; block.events.as_slice(), wanted.as_slice());
+    Ok(())
+}
