@@ -73,7 +73,7 @@ impl Buffer {
     /// Empties the buffer, and begins segment `serial` (from 0) of the thread in it: it writes the 48
     /// bytes that every segment begins with, NewBuffer, WalltimeMarker and Pid.
     pub fn begin(&mut self, thread: u32, serial: u32, wall: Wall, pid: u32)
-        ensures { self.new ≡ record {
+        ensures begun { self.new ≡ record {
           size = self.old.size;
           begun = true;
           thread = thread;
@@ -82,6 +82,9 @@ impl Buffer {
           pid = pid;
           events = [];
         } }
+        // A buffer has a size that it may be made with.
+        ensures least { LEAST ≤ self.old.size }
+        ensures most { self.old.size ≤ LARGEST }
     {
         self.used = put_preamble(&mut self.bytes, thread, wall, pid);
         self.thread = thread;

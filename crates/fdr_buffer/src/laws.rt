@@ -22,6 +22,11 @@ pub fn a_segment_grows()
         → segments size (events ++ event ∷ []) ≡ whole ++ opened ∷ (event ∷ []) ∷ [] }
 {}
 
+/// Every buffer has room for one event.
+pub fn one_event_fits()
+    ensures { (size : ℕ) (event : Event) → LEAST ≤ size → IsTrue (has_room size (event ∷ [])) }
+{}
+
 /// The segments are nonempty, and hold all events in their order. Each has room in a buffer, whatever
 /// its size is.
 pub fn segments_hold_all()

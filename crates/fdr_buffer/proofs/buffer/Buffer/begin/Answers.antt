@@ -10,8 +10,8 @@ invariant_of-self c =
     put.ensures.bytes
     put.ensures.next).0
 
-pub returns : goal.returns
-returns c =
+pub returns-clause-begun : goal.returns-clause-begun
+returns-clause-begun c =
     let put = c.put_preamble-self-inside in
     (begin_leaves c.self.inside c.args.self.now put.new.bytes put.result c.args.thread c.args.serial c.args.wall c.args.pid c.self.view_is c.self.invariant
     (omega (arith, put.auto.bytes, ap length c.deref_mut.ensures.value))
