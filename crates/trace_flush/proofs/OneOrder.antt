@@ -36,7 +36,7 @@ in_order buffers up i j d ahead within before =
 -- ---- it leaves but one list
 
 -- an element of a list
-abbrev pub IsIn : {X : Type 0} → X → List X → Type 0
+abbrev IsIn : {X : Type 0} → X → List X → Type 0
 IsIn x [] = ⊥
 IsIn x (y ∷ ys) = (x ≡ y) ⊎ IsIn x ys
 

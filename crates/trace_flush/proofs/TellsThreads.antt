@@ -20,7 +20,7 @@ use Rattle.trace_flush.proofs.TellsMarks.{marks_tell}
 
 -- ---- ends
 
--- the end of a name: by its length, where the first letters are alike by the sixth
+-- the end of a name, by its first letter; those that begin alike, by their seventh
 end_named : List ℕ → End
 end_named name =
     cond (get_or name 0 0 == 114) ends.Returned (cond (get_or name 0 0 == 102) ends.Fuel (cond (get_or name 0 0 == 112) ends.Passings
