@@ -25,7 +25,7 @@ use Rattle.fdr_file.proofs.Deciding.{IsBehind, extents_is}
 -- ---- records
 
 -- what stands where records do
-abbrev stand_from : ℕ → List Rec → List Standing
+abbrev pub stand_from : ℕ → List Rec → List Standing
 stand_from at [] = []
 stand_from at (r ∷ records) = (at, Ok r) ∷ stand_from (at + length_of r) records
 
@@ -33,7 +33,7 @@ stand_from at (r ∷ records) = (at, Ok r) ∷ stand_from (at + length_of r) rec
 begins : (r : Rec) (front behind : List ℕ) → Spells front r → BeginsWith r (front ++ behind)
 begins r front behind is = subst (λ (x : List ℕ). Spells x r) (sym (take_at front behind (length_of r) is.whole)) is
 
-length_some : (r : Rec) → 8 ≤ length_of r
+pub length_some : (r : Rec) → 8 ≤ length_of r
 length_some (NewBuffer thread) = lit≤ tt
 length_some (NewCpu cpu tsc) = lit≤ tt
 length_some (TscWrap tsc) = lit≤ tt
@@ -54,11 +54,11 @@ spelled_stand at (r ∷ records) bytes (front, behind, parts, fits, spells, rest
     ∙ stands_first at (front ++ behind) some
     ∙ rw (is, long, drop_at front behind (length_of r) spells.whole) (ap (λ (x : List Standing). (at, Ok r) ∷ x) (spelled_stand (at + length_of r) records behind rest))
 
-stand_records : (at : ℕ) (records : List Rec) → records_of (stand_from at records) ≡ records
+pub stand_records : (at : ℕ) (records : List Rec) → records_of (stand_from at records) ≡ records
 stand_records at [] = refl
 stand_records at (r ∷ records) = ap (λ (x : List Rec). r ∷ x) (stand_records (at + length_of r) records)
 
-or_true : (b : Bool) → (b || true) ≡ true
+pub or_true : (b : Bool) → (b || true) ≡ true
 or_true true = refl
 or_true false = refl
 

@@ -278,7 +278,7 @@ some_wrong : {A B : Type 0} (wrong more : List TraceFault) (x : A) (y : B) (e : 
 some_wrong [] more x y e is = absurd cc
 some_wrong (fault ∷ later) more x y e is = ap (λ (f : TraceFault). Err f) cc
 
-none_wrong : {A : Type 0} (wrong : List TraceFault) (x y : A) → decided wrong x ≡ Ok y → (wrong ≡ []) × (x ≡ y)
+pub none_wrong : {A : Type 0} (wrong : List TraceFault) (x y : A) → decided wrong x ≡ Ok y → (wrong ≡ []) × (x ≡ y)
 none_wrong [] x y is = (refl, cc)
 none_wrong (fault ∷ later) x y is = absurd cc
 
