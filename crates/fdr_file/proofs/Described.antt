@@ -1,10 +1,10 @@
 -- What reads as a trace is one by the grammar.
-use Rattle.std.proofs.Common.{◌≡◌, ℕ, zero, suc, ◌+◌, ◌-◌, ◌%◌, ◌/◌, ◌≤◌, ◌<◌, ◌^◌, Bool, true, false, cond, eqb, ltb, leb, lit<, lit≤, List, [], ◌∷◌, ◌++◌, All, get_or, length, take, drop, map, Option, Some, None, Result, Ok, Err, refl, sym, ap, subst, ◌∙◌, append_assoc, arith, inl, inr}
+use Rattle.std.proofs.Common.{◌≡◌, ℕ, zero, suc, ◌+◌, ◌≤◌, ◌<◌, ◌^◌, Bool, true, false, cond, eqb, ltb, leb, lit<, lit≤, List, [], ◌∷◌, ◌++◌, All, get_or, length, take, drop, map, Result, Ok, Err, refl, sym, ap, subst, ◌∙◌, arith, inl, inr}
 use Rattle.std.specs.Prelude.{◌||◌, not, is_some}
 use Rattle.std.specs.List.{flat_map, list_any, AllByRecursion}
 use Rattle.std.specs.Int.{w16, w32, w64, from_le_bytes}
 use Rattle.std.proofs.lemmas.Bool.{cases_lt, eqb-true, leb-true}
-use Rattle.std.proofs.lemmas.List.{drop-drop, get_or-drop, get_or-take, get_or_past, length-append, length-drop, length-take, take-append-drop}
+use Rattle.std.proofs.lemmas.List.{drop-drop, get_or_past, length-append, length-drop, length-take, take-append-drop}
 use Rattle.std.proofs.lemmas.List.Concat.{flat_map-cons}
 use Rattle.std.proofs.lemmas.List.Elements.{All-drop, All-get_or, All-take}
 use Rattle.std.proofs.lemmas.Nat.{le_bytes_2, le_bytes_4, le_bytes_8}
@@ -19,11 +19,10 @@ use Rattle.fdr_record.specs.Records.{length_of, FieldsFit, BeginsWith, Spells}
 use Rattle.fdr_record.specs.Refusals.{Answers}
 use Rattle.fdr_file.specs.declared.fault.TraceFault.{TraceFault}
 use Rattle.fdr_file.specs.declared.fault.TraceFault.TheVariants as faults
-use Rattle.fdr_file.specs.declared.trace.Block.{Block}
 use Rattle.fdr_file.specs.declared.trace.Trace.{Trace}
 use Rattle.fdr_file.specs.Places.{starts}
-use Rattle.fdr_file.specs.Traces.{Standing, block_faults, block_in, block_length, block_of, block_standings, decided, extents_faults, extents_in, faults_of, fault_at, flags_in, header_faults, header_in, may_be, names_cpu, needs_cpu, pid_named, record_faults, record_in, record_length, records_of, standing_faults, standings, thread_named, told_by, trace_of, type_in, unless, version_in, wall_named}
-use Rattle.fdr_file.specs.Grammar.{AreBlocks, AreSpelled, BeginWithCpu, IsBlock, IsHeader, IsInner, IsTrace, block_records}
+use Rattle.fdr_file.specs.Traces.{Standing, block_faults, block_in, block_length, block_of, block_standings, extents_faults, extents_in, faults_of, fault_at, flags_in, header_faults, header_in, may_be, names_cpu, needs_cpu, pid_named, record_faults, record_in, records_of, standing_faults, standings, thread_named, told_by, trace_of, type_in, unless, version_in, wall_named}
+use Rattle.fdr_file.specs.Grammar.{AreBlocks, AreSpelled, BeginWithCpu, IsBlock, IsHeader, IsInner, IsTrace}
 use Rattle.fdr_file.proofs.Decoding.{length_told, refused_again, told_again}
 use Rattle.fdr_file.proofs.Walking.{starts_first, stands_first}
 use Rattle.fdr_file.proofs.Deciding.{IsBehind, extents_is, none_wrong}
@@ -248,6 +247,7 @@ fit_so at bytes clean = by_length (ltb (length bytes) 16) clean
         }
     by_answer (Ok r) is e = absurd cc
     by_answer (Err f) is e = absurd cc
+
     by_length : (b : Bool) → cond b (faults.Short at ∷ []) (extents_faults (at, bytes) (record_in bytes)) ≡ [] → Fit at bytes
     by_length true e = absurd cc
     by_length false e = by_answer (record_in bytes) refl e
@@ -269,8 +269,7 @@ block_described decodes at bytes all clean =
     let said = spelled decodes (length body) [] (at + 16) body (omega arith) (All-take (λ x. x < 256) n (drop 16 bytes) (All-drop (λ x. x < 256) 16 bytes all)) fit.clean in
     let shape = shaped (at + 16) said.records body (omega (arith, long, named, fit.least)) said.spelled (sym (ap (standing_faults []) said.stand) ∙ fit.clean) in
     let told : block_in (at, bytes) ≡ block_of (NewBuffer shape.thread ∷ WallTime shape.wall ∷ Pid shape.pid ∷ shape.inner) =
-    ap (λ (x : List Standing). block_of (records_of x)) said.stand ∙ ap block_of (stand_records (at + 16) said.records ∙ shape.are) in
-    (
+    ap (λ (x : List Standing). block_of (records_of x)) said.stand ∙ ap block_of (stand_records (at + 16) said.records ∙ shape.are) in (
       subst (IsBlock (take (16 + n) bytes)) (sym told) (record {
         extents = take 16 bytes;
         body = body;

@@ -89,30 +89,38 @@ fn a_file_is_read_byte_by_byte(rt: HostRuntime) -> Result<(), Fail> {
     Ok(())
 }
 
+/// CPU 0 at the last counter, and CPU 1 at counter 2.
+const CPU_AT_LAST: &[u8] = b"\x05\0\0\xFF\xFF\xFF\xFF\xFF\xFF\xFF\xFF\0\0\0\0\0";
+
+const CPU_1_AT_2: &[u8] = b"\x05\x01\0\x02\0\0\0\0\0\0\0\0\0\0\0\0";
+
+/// The counters 0 and 2^32, told whole.
+const WRAP_TO_0: &[u8] = b"\x07\0\0\0\0\0\0\0\0\0\0\0\0\0\0\0";
+
+const WRAP_TO_2_32: &[u8] = b"\x07\0\0\0\0\x01\0\0\0\0\0\0\0\0\0\0";
+
+/// An exit of function 1 without a delta.
+const EXIT: &[u8] = b"\x12\0\0\0\0\0\0\0";
+
 #[test]
 fn deltas_add_up_behind_the_last_whole_counter(rt: HostRuntime) -> Result<(), Fail> {
-    let last = b"\x05\0\0\xFF\xFF\xFF\xFF\xFF\xFF\xFF\xFF\0\0\0\0\0";
-    let wrap_0 = b"\x07\0\0\0\0\0\0\0\0\0\0\0\0\0\0\0";
-    let wrap_2_to_32 = b"\x07\0\0\0\0\x01\0\0\0\0\0\0\0\0\0\0";
-    let exit = b"\x12\0\0\0\0\0\0\0";
-    let cpu_1_at_2 = b"\x05\x01\0\x02\0\0\0\0\0\0\0\0\0\0\0\0";
     let rows: [(&[&[u8]], [Event; 2]); 5] = [
         (
-            &[EXTENTS_96, PREAMBLE, CPU, ENTRY, wrap_2_to_32, exit],
+            &[EXTENTS_96, PREAMBLE, CPU, ENTRY, WRAP_TO_2_32, EXIT],
             [
                 event(0, 1, Kind::Entry, 0),
                 event(0, 1, Kind::Exit, 1 << 32),
             ],
         ),
         (
-            &[EXTENTS_96, PREAMBLE, last, ENTRY, wrap_0, exit],
+            &[EXTENTS_96, PREAMBLE, CPU_AT_LAST, ENTRY, WRAP_TO_0, EXIT],
             [
                 event(0, 1, Kind::Entry, u64::MAX),
                 event(0, 1, Kind::Exit, 0),
             ],
         ),
         (
-            &[EXTENTS_80, PREAMBLE, last, ENTRY, EXIT_AFTER_2],
+            &[EXTENTS_80, PREAMBLE, CPU_AT_LAST, ENTRY, EXIT_AFTER_2],
             [
                 event(0, 1, Kind::Entry, u64::MAX),
                 event(0, 1, Kind::Exit, 1),
@@ -124,7 +132,7 @@ fn deltas_add_up_behind_the_last_whole_counter(rt: HostRuntime) -> Result<(), Fa
                 PREAMBLE,
                 CPU,
                 EXIT_AFTER_2,
-                cpu_1_at_2,
+                CPU_1_AT_2,
                 EXIT_AFTER_2,
             ],
             [event(0, 1, Kind::Exit, 2), event(1, 1, Kind::Exit, 4)],
@@ -143,7 +151,7 @@ fn deltas_add_up_behind_the_last_whole_counter(rt: HostRuntime) -> Result<(), Fa
             ],
         ),
     ];
-    for (parts, events) in &rows {
+    for (parts, events) in rows {
         let mut bytes = file(rt.alloc(), &[HEADER])?;
         bytes.extend_from_slice(&file(rt.alloc(), parts)?)?;
         let trace = read_trace(rt.alloc(), &bytes)?;
