@@ -1,22 +1,22 @@
 -- A file that is a trace by the grammar reads as it.
-use Rattle.std.proofs.Common.{◌≡◌, ℕ, zero, suc, ◌+◌, ◌-◌, ◌%◌, ◌/◌, ◌≤◌, ◌<◌, ◌^◌, Bool, true, false, cond, eqb, ltb, leb, lit≤, List, [], ◌∷◌, ◌++◌, length, take, drop, map, Result, Ok, Err, refl, sym, ap, subst, ◌∙◌, append_assoc, arith}
-use Rattle.std.specs.Prelude.{◌||◌, not}
+use Rattle.std.proofs.Common.{◌≡◌, ℕ, suc, ◌+◌, ◌%◌, ◌/◌, ◌≤◌, ◌<◌, Bool, true, false, eqb, ltb, leb, lit≤, List, [], ◌∷◌, ◌++◌, length, take, drop, map, Result, Ok, refl, sym, ap, subst, ◌∙◌, append_assoc, arith}
+use Rattle.std.specs.Prelude.{◌||◌}
 use Rattle.std.specs.List.{flat_map, list_any, AllByRecursion}
 use Rattle.std.proofs.lemmas.Bool.{le-leb, le-ltb}
-use Rattle.std.proofs.lemmas.List.{append-nil, drop-drop, length-append, take_at, drop_at}
+use Rattle.std.proofs.lemmas.List.{drop-drop, length-append, take_at, drop_at}
 use Rattle.std.proofs.lemmas.List.Concat.{flat_map-cons}
-use Rattle.byteorder.specs.Endian.{little_bytes, little_number}
+use Rattle.byteorder.specs.Endian.{little_bytes}
 use Rattle.byteorder.specs.Numbers.{little_number-reads_back}
 use Rattle.fdr_record.specs.declared.event.Event.{Event}
 use Rattle.fdr_record.specs.declared.rec.Rec.{Rec}
 use Rattle.fdr_record.specs.declared.rec.Rec.TheVariants.{NewBuffer, NewCpu, TscWrap, WallTime, Pid, Extents, Function}
-use Rattle.fdr_record.specs.Records.{length_of, FieldsFit, BeginsWith, Spells}
+use Rattle.fdr_record.specs.Records.{length_of, BeginsWith, Spells}
 use Rattle.fdr_file.specs.declared.header.Header.{Header}
 use Rattle.fdr_file.specs.declared.fault.TraceFault.{TraceFault}
 use Rattle.fdr_file.specs.declared.trace.Block.{Block}
 use Rattle.fdr_file.specs.declared.trace.Trace.{Trace}
 use Rattle.fdr_file.specs.Places.{starts}
-use Rattle.fdr_file.specs.Traces.{Standing, block_faults, block_in, block_length, block_of, block_standings, extents_in, header_faults, header_in, names_cpu, needs_cpu, record_faults, record_in, record_length, records_of, standing_faults, standings, trace_of}
+use Rattle.fdr_file.specs.Traces.{Standing, block_faults, block_in, block_length, block_standings, extents_in, header_faults, header_in, names_cpu, record_in, records_of, standing_faults, standings, trace_of}
 use Rattle.fdr_file.specs.Grammar.{AreBlocks, AreSpelled, BeginWithCpu, IsBlock, IsHeader, IsInner, IsTrace, block_records}
 use Rattle.fdr_file.proofs.Decoding.{length_told, told_again}
 use Rattle.fdr_file.proofs.Walking.{starts_first, stands_first}
@@ -25,7 +25,7 @@ use Rattle.fdr_file.proofs.Deciding.{IsBehind, extents_is}
 -- ---- records
 
 -- what stands where records do
-abbrev stand_from : ℕ → List Rec → List Standing
+abbrev pub stand_from : ℕ → List Rec → List Standing
 stand_from at [] = []
 stand_from at (r ∷ records) = (at, Ok r) ∷ stand_from (at + length_of r) records
 
@@ -33,7 +33,7 @@ stand_from at (r ∷ records) = (at, Ok r) ∷ stand_from (at + length_of r) rec
 begins : (r : Rec) (front behind : List ℕ) → Spells front r → BeginsWith r (front ++ behind)
 begins r front behind is = subst (λ (x : List ℕ). Spells x r) (sym (take_at front behind (length_of r) is.whole)) is
 
-length_some : (r : Rec) → 8 ≤ length_of r
+pub length_some : (r : Rec) → 8 ≤ length_of r
 length_some (NewBuffer thread) = lit≤ tt
 length_some (NewCpu cpu tsc) = lit≤ tt
 length_some (TscWrap tsc) = lit≤ tt
@@ -54,11 +54,11 @@ spelled_stand at (r ∷ records) bytes (front, behind, parts, fits, spells, rest
     ∙ stands_first at (front ++ behind) some
     ∙ rw (is, long, drop_at front behind (length_of r) spells.whole) (ap (λ (x : List Standing). (at, Ok r) ∷ x) (spelled_stand (at + length_of r) records behind rest))
 
-stand_records : (at : ℕ) (records : List Rec) → records_of (stand_from at records) ≡ records
+pub stand_records : (at : ℕ) (records : List Rec) → records_of (stand_from at records) ≡ records
 stand_records at [] = refl
 stand_records at (r ∷ records) = ap (λ (x : List Rec). r ∷ x) (stand_records (at + length_of r) records)
 
-or_true : (b : Bool) → (b || true) ≡ true
+pub or_true : (b : Bool) → (b || true) ≡ true
 or_true true = refl
 or_true false = refl
 

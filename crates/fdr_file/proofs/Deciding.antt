@@ -1,8 +1,8 @@
 -- What is read from left to right is what the places of a file decide.
-use Rattle.std.proofs.Common.{rules, ◌≡◌, ℕ, zero, suc, ◌+◌, ◌-◌, ◌%◌, ◌/◌, ◌≤◌, ◌<◌, ◌^◌, Bool, true, false, cond, eqb, ltb, leb, List, [], ◌∷◌, ◌++◌, length, slice_index, lit≤, take, drop, map, Option, Some, None, Result, Ok, Err, add-zero, refl, sym, ap, subst, ◌∙◌, append_assoc, arith, inl, inr}
+use Rattle.std.proofs.Common.{◌≡◌, ℕ, suc, ◌+◌, ◌%◌, ◌≤◌, ◌<◌, ◌^◌, Bool, true, false, cond, eqb, ltb, List, [], ◌∷◌, ◌++◌, length, slice_index, lit≤, take, drop, map, Option, Some, None, Result, Ok, Err, add-zero, refl, sym, ap, ◌∙◌, append_assoc, arith, inl, inr}
 use Rattle.std.specs.Prelude.{option_to_list, ◌||◌, ◌⊎◌, not, sum, is_some}
-use Rattle.std.specs.List.{list_any, filter_map}
-use Rattle.std.proofs.lemmas.Bool.{cases_Bool, ltb-false, ltb-true, le-leb}
+use Rattle.std.specs.List.{list_any}
+use Rattle.std.proofs.lemmas.Bool.{cases_Bool, ltb-false, le-leb}
 use Rattle.xray_io.specs.declared.faults.Wall.{Wall}
 use Rattle.fdr_file.specs.declared.header.Header.{Header}
 use Rattle.fdr_file.specs.declared.trace.Block.{Block}
@@ -10,22 +10,21 @@ use Rattle.fdr_file.specs.declared.trace.Trace.{Trace}
 use Rattle.fdr_file.specs.Places.{starts}
 use Rattle.std.specs.List.{flat_map}
 use Rattle.std.proofs.lemmas.List.Concat.{flat_map-cons}
-use Rattle.fdr_file.proofs.Walking.{StandsNone, stands_none, stands_taken, starts_first}
+use Rattle.fdr_file.proofs.Walking.{stands_none, stands_taken, starts_first}
 use Rattle.std.proofs.lemmas.Grind.{common_steps}
 use Rattle.std.proofs.lemmas.List.{append-nil, drop-drop, drop-take, length-drop, length-take}
 use Rattle.std.proofs.lemmas.List.Sums.{sum_by-cons}
-use Rattle.byteorder.specs.Endian.{little_number}
 use Rattle.fdr_record.specs.declared.event.Event.{Event}
 use Rattle.fdr_record.specs.declared.rec.Rec.{Rec}
 use Rattle.fdr_record.specs.declared.rec.Rec.TheVariants.{NewBuffer, NewCpu, TscWrap, WallTime, Pid, Extents, Function}
 use Rattle.fdr_record.specs.declared.fault.RecFault.{RecFault}
-use Rattle.fdr_record.specs.Reading.{function_at, fields_read, metadata_at}
+use Rattle.fdr_record.specs.Reading.{function_at, metadata_at}
 use Rattle.fdr_file.specs.declared.events.Base.{Base}
 use Rattle.fdr_file.specs.declared.fault.TraceFault.{TraceFault}
 use Rattle.fdr_file.specs.declared.fault.TraceFault.TheVariants as faults
 use Rattle.fdr_file.specs.Events.{counter_at, cpu_of, deltas_since, events_behind, whole_counter}
-use Rattle.fdr_file.specs.Traces.{decided, extents_in, fault_at, may_be, names_cpu, needs_cpu, record_faults, record_in, records_of, standing_faults, Standing, block_faults, block_in, block_of, block_standings, pid_named, block_length, record_length, standings, thread_named, wall_named, unless}
-use Rattle.fdr_file.specs.Reading.{◌>>=◌, Left, blocks_read, body_on, end_named, end_on, events_on, left_at, named_on, named_or, preamble_on, read_first, record_on, step_on}
+use Rattle.fdr_file.specs.Traces.{decided, extents_in, names_cpu, needs_cpu, record_faults, record_in, records_of, standing_faults, Standing, block_faults, block_in, block_of, block_standings, pid_named, block_length, record_length, standings, thread_named, wall_named, unless}
+use Rattle.fdr_file.specs.Reading.{◌>>=◌, Left, blocks_read, body_on, end_named, end_on, events_on, left_at, named_on, preamble_on, read_first, record_on, step_on}
 
 -- ---- the extents
 
@@ -278,7 +277,7 @@ some_wrong : {A B : Type 0} (wrong more : List TraceFault) (x : A) (y : B) (e : 
 some_wrong [] more x y e is = absurd cc
 some_wrong (fault ∷ later) more x y e is = ap (λ (f : TraceFault). Err f) cc
 
-none_wrong : {A : Type 0} (wrong : List TraceFault) (x y : A) → decided wrong x ≡ Ok y → (wrong ≡ []) × (x ≡ y)
+pub none_wrong : {A : Type 0} (wrong : List TraceFault) (x y : A) → decided wrong x ≡ Ok y → (wrong ≡ []) × (x ≡ y)
 none_wrong [] x y is = (refl, cc)
 none_wrong (fault ∷ later) x y is = absurd cc
 

@@ -4,3 +4,4 @@ pub mod Deciding
 pub mod Gathered
 pub mod Accepting
 pub mod Returning
+pub mod Described

@@ -1,5 +1,5 @@
 -- What is written is a trace by the grammar.
-use Rattle.std.proofs.Common.{◌≡◌, ◌≢◌, ℕ, zero, suc, ◌+◌, ◌-◌, ◌%◌, ◌/◌, ◌≤◌, ◌<◌, ◌^◌, Bool, true, false, cond, eqb, ltb, List, [], ◌∷◌, ◌++◌, All, length, map, replicate, Option, Some, None, Result, Ok, Err, refl, sym, ap, subst, ◌∙◌, append_assoc, arith, inl, inr, lit<}
+use Rattle.std.proofs.Common.{◌≡◌, ℕ, ◌+◌, ◌-◌, ◌%◌, ◌/◌, ◌≤◌, ◌<◌, ◌^◌, Bool, true, false, cond, eqb, ltb, List, [], ◌∷◌, ◌++◌, All, length, map, replicate, Option, Some, None, refl, sym, ap, subst, ◌∙◌, arith, inl, inr, lit<}
 use Rattle.std.specs.Prelude.{⊤, ◌||◌, sum}
 use Rattle.std.specs.List.{flat_map, AllByRecursion}
 use Rattle.std.proofs.lemmas.Bool.{cases_Bool, ltb-false}
@@ -8,18 +8,14 @@ use Rattle.std.proofs.lemmas.List.Elements.{recursion_from_All}
 use Rattle.std.proofs.lemmas.List.Concat.{flat_map-cons}
 use Rattle.std.proofs.lemmas.Grind.{flat_map-append}
 use Rattle.std.proofs.lemmas.List.Sums.{sum_by-cons}
-use Rattle.std.proofs.Math.Nat.{mod-eq_of_lt}
-use Rattle.byteorder.specs.Endian.{little_bytes}
 use Rattle.fdr_record.specs.declared.event.Event.{Event}
-use Rattle.fdr_record.specs.declared.event.Kind.{Kind}
 use Rattle.fdr_record.specs.declared.rec.Rec.{Rec}
 use Rattle.fdr_record.specs.declared.rec.Rec.TheVariants.{NewBuffer, NewCpu, TscWrap, WallTime, Pid, Extents, Function}
 use Rattle.fdr_record.specs.Records.{length_of, record_bytes, told_by, FieldsFit, Spells}
-use Rattle.fdr_buffer.specs.Segments.{body, bytes_of, is_out_of_reach, records_behind, records_of, EventFits}
+use Rattle.fdr_buffer.specs.Segments.{bytes_of, is_out_of_reach, records_behind, records_of, EventFits}
 use Rattle.fdr_buffer.specs.Filled.{Filled, used_bytes}
 use Rattle.fdr_file.specs.declared.header.Header.{Header}
-use Rattle.fdr_file.specs.declared.trace.Block.{Block}
-use Rattle.fdr_file.specs.Events.{counter_at, cpu_of, deltas_since, events_behind, events_of, whole_counter}
+use Rattle.fdr_file.specs.Events.{counter_at, cpu_of, deltas_since, events_behind, whole_counter}
 use Rattle.fdr_file.specs.Grammar.{AreBlocks, AreSpelled, BeginWithCpu, IsBlock, IsHeader, IsInner, IsTrace, block_records}
 use Rattle.fdr_file.specs.Files.{BufferFits, HeaderFits, block_bytes, block_told, file_bytes, flags_of, header_bytes, trace_told}
 

@@ -1,12 +1,14 @@
 //! What follows for the bytes of files. Each law is the contract of a function that does nothing.
 
-ghost use Rattle.std.specs.Prelude.{◌≡◌, List, ℕ, All, Ok};
+ghost use Rattle.std.specs.Prelude.{◌≡◌, ◌<◌, List, ℕ, All, Ok};
 ghost use Rattle.fdr_buffer.specs.Filled.{Filled};
 ghost use Rattle.fdr_file.specs.declared.header.Header.{Header};
 ghost use Rattle.fdr_file.specs.declared.trace.Trace.{Trace};
 ghost use Rattle.fdr_file.specs.Files.{file_bytes, trace_told, BufferFits, HeaderFits};
 ghost use Rattle.fdr_file.specs.Grammar.{IsTrace};
 ghost use Rattle.fdr_file.specs.Traces.{trace_of};
+
+use fdr_record::one_answer;
 
 /// A file that is a trace by the grammar reads as this trace. So it is no other one.
 pub fn a_trace_is_read()
@@ -15,6 +17,15 @@ pub fn a_trace_is_read()
     ensures one { (bytes : List ℕ) (trace other : Trace) → IsTrace bytes trace
         → IsTrace bytes other → trace ≡ other }
 {}
+
+/// What a file reads as is the trace that it is by the grammar. With `a_trace_is_read`: a file reads
+/// as a trace exactly where it is this trace.
+pub fn what_is_read_is_a_trace()
+    ensures { (bytes : List ℕ) (trace : Trace) → All (λ b. b < 256) bytes
+        → trace_of bytes ≡ Ok trace → IsTrace bytes trace }
+{
+    one_answer();
+}
 
 /// What is written for a header and buffers is a trace by the grammar, and reads back as the header and
 /// the events of the buffers, in order.

@@ -1,10 +1,14 @@
 //! Files byte by byte, as the format says, and each refusal.
 
+ghost use Rattle.std.specs.Prelude.{IsTrue, IfOk};
+
 use super::*;
+use fdr_buffer::Buffer;
 use fdr_record::{Event, Kind, RecFault};
 use std::alloc::{AllocError, Global};
+use std::process::Abort;
 use std::test::Fail;
-use xray_io::Wall;
+use xray_io::{MemSink, Wall, WriteFault};
 
 /// A header of constant and nonstop counters, of buffers of 16,384 bytes.
 const HEADER: &[u8] = b"\x03\0\x01\0\x03\0\0\0\0\0\0\0\0\0\0\0\0\x40\0\0\0\0\0\0\0\0\0\0\0\0\0\0";
@@ -85,30 +89,38 @@ fn a_file_is_read_byte_by_byte(rt: HostRuntime) -> Result<(), Fail> {
     Ok(())
 }
 
+/// CPU 0 at the last counter, and CPU 1 at counter 2.
+const CPU_AT_LAST: &[u8] = b"\x05\0\0\xFF\xFF\xFF\xFF\xFF\xFF\xFF\xFF\0\0\0\0\0";
+
+const CPU_1_AT_2: &[u8] = b"\x05\x01\0\x02\0\0\0\0\0\0\0\0\0\0\0\0";
+
+/// The counters 0 and 2^32, told whole.
+const WRAP_TO_0: &[u8] = b"\x07\0\0\0\0\0\0\0\0\0\0\0\0\0\0\0";
+
+const WRAP_TO_2_32: &[u8] = b"\x07\0\0\0\0\x01\0\0\0\0\0\0\0\0\0\0";
+
+/// An exit of function 1 without a delta.
+const EXIT: &[u8] = b"\x12\0\0\0\0\0\0\0";
+
 #[test]
 fn deltas_add_up_behind_the_last_whole_counter(rt: HostRuntime) -> Result<(), Fail> {
-    let last = b"\x05\0\0\xFF\xFF\xFF\xFF\xFF\xFF\xFF\xFF\0\0\0\0\0";
-    let wrap_0 = b"\x07\0\0\0\0\0\0\0\0\0\0\0\0\0\0\0";
-    let wrap_2_to_32 = b"\x07\0\0\0\0\x01\0\0\0\0\0\0\0\0\0\0";
-    let exit = b"\x12\0\0\0\0\0\0\0";
-    let cpu_1_at_2 = b"\x05\x01\0\x02\0\0\0\0\0\0\0\0\0\0\0\0";
     let rows: [(&[&[u8]], [Event; 2]); 5] = [
         (
-            &[EXTENTS_96, PREAMBLE, CPU, ENTRY, wrap_2_to_32, exit],
+            &[EXTENTS_96, PREAMBLE, CPU, ENTRY, WRAP_TO_2_32, EXIT],
             [
                 event(0, 1, Kind::Entry, 0),
                 event(0, 1, Kind::Exit, 1 << 32),
             ],
         ),
         (
-            &[EXTENTS_96, PREAMBLE, last, ENTRY, wrap_0, exit],
+            &[EXTENTS_96, PREAMBLE, CPU_AT_LAST, ENTRY, WRAP_TO_0, EXIT],
             [
                 event(0, 1, Kind::Entry, u64::MAX),
                 event(0, 1, Kind::Exit, 0),
             ],
         ),
         (
-            &[EXTENTS_80, PREAMBLE, last, ENTRY, EXIT_AFTER_2],
+            &[EXTENTS_80, PREAMBLE, CPU_AT_LAST, ENTRY, EXIT_AFTER_2],
             [
                 event(0, 1, Kind::Entry, u64::MAX),
                 event(0, 1, Kind::Exit, 1),
@@ -120,7 +132,7 @@ fn deltas_add_up_behind_the_last_whole_counter(rt: HostRuntime) -> Result<(), Fa
                 PREAMBLE,
                 CPU,
                 EXIT_AFTER_2,
-                cpu_1_at_2,
+                CPU_1_AT_2,
                 EXIT_AFTER_2,
             ],
             [event(0, 1, Kind::Exit, 2), event(1, 1, Kind::Exit, 4)],
@@ -139,8 +151,9 @@ fn deltas_add_up_behind_the_last_whole_counter(rt: HostRuntime) -> Result<(), Fa
             ],
         ),
     ];
-    for (parts, events) in &rows {
-        let bytes = file(rt.alloc(), &[HEADER, &file(rt.alloc(), parts)?])?;
+    for (parts, events) in rows {
+        let mut bytes = file(rt.alloc(), &[HEADER])?;
+        bytes.extend_from_slice(&file(rt.alloc(), parts)?)?;
         let trace = read_trace(rt.alloc(), &bytes)?;
         assert_eq!(rt; trace.blocks.as_slice().len(), 1);
         for block in trace.blocks.as_slice() {
@@ -246,5 +259,110 @@ fn a_file_of_llvms_runtime_is_read(rt: HostRuntime) -> Result<(), Fail> {
         event(3, 6, Kind::Exit, 22),
     ];
     assert_eq!(rt; block.events.as_slice(), wanted.as_slice());
+    Ok(())
+}
+
+/// A buffer of thread 1 with these events.
+fn filled(
+    rt: &impl Abort,
+    alloc: Global,
+    wall: Wall,
+    pid: u32,
+    events: &[Event],
+) -> Result<Buffer, Fail>
+    ensures { IfOk result (λ buffer. IsTrue buffer.begun) }
+{
+    let mut buffer = Buffer::new(alloc, 128)?;
+    buffer.begin(1, 0, wall, pid);
+    for event in events {
+        assert!(rt; buffer.begun() && buffer.fits(event) && event.func < 1 << 28);
+        buffer.put(event);
+    }
+    assert!(rt; buffer.begun());
+    Ok(buffer)
+}
+
+const HEADER_FIELDS: Header = Header {
+    version: 3,
+    constant: true,
+    nonstop: true,
+    frequency: 0,
+    size: 16_384,
+};
+
+#[test]
+fn a_file_is_written_byte_by_byte(rt: HostRuntime) -> Result<(), Fail> {
+    let epoch = Wall { secs: 0, micros: 0 };
+    let events = [event(0, 1, Kind::Entry, 0), event(0, 1, Kind::Exit, 2)];
+    let first = filled(&rt, rt.alloc(), epoch, 1, &events)?;
+    let second = filled(&rt, rt.alloc(), epoch, 1, &[event(0, 1, Kind::Exit, 2)])?;
+    let none = filled(&rt, rt.alloc(), epoch, 1, &[])?;
+    let mut sink = MemSink::new(rt.alloc(), Vec::new(rt.alloc()));
+    write_file(&HEADER_FIELDS, &[first, second, none], &mut sink).map_err(|_| "a write failed")?;
+    let extents_48 = b"\x0F\x30\0\0\0\0\0\0\0\0\0\0\0\0\0\0";
+    let parts: [&[u8]; 13] = [
+        HEADER,
+        EXTENTS_80,
+        PREAMBLE,
+        CPU,
+        ENTRY,
+        EXIT_AFTER_2,
+        EXTENTS_72,
+        PREAMBLE,
+        CPU_AT_2,
+        b"\x12\0\0\0\0\0\0\0",
+        extents_48,
+        PREAMBLE,
+        b"",
+    ];
+    let wanted = file(rt.alloc(), &parts)?;
+    assert_eq!(rt; sink.bytes(), wanted.as_slice());
+
+    let plain = Header {
+        version: 3,
+        constant: false,
+        nonstop: true,
+        frequency: 0x0102_0304_0506_0708,
+        size: 72,
+    };
+    let mut sink = MemSink::new(rt.alloc(), Vec::new(rt.alloc()));
+    write_file(&plain, &[], &mut sink).map_err(|_| "a write failed")?;
+    let wanted =
+        b"\x03\0\x01\0\x02\0\0\0\x08\x07\x06\x05\x04\x03\x02\x01\x48\0\0\0\0\0\0\0\0\0\0\0\0\0\0\0";
+    assert_eq!(rt; sink.bytes(), wanted.as_slice());
+    Ok(())
+}
+
+#[test]
+fn a_write_that_fails_is_told(rt: HostRuntime) -> Result<(), Fail> {
+    let mut sink = MemSink::new(rt.alloc(), vec![in rt.alloc(); 0]?);
+    assert_eq!(rt; write_file(&HEADER_FIELDS, &[], &mut sink), Err(WriteFault));
+    assert!(rt; sink.bytes().is_empty());
+    Ok(())
+}
+
+#[test]
+fn what_is_written_reads_back(rt: HostRuntime) -> Result<(), Fail> {
+    let wall = Wall {
+        secs: u64::MAX,
+        micros: 999_999,
+    };
+    let events = [
+        event(258, 7, Kind::Entry, u64::MAX),
+        event(258, (1 << 28) - 1, Kind::TailExit, 0),
+        event(258, 7, Kind::Exit, u32::MAX as u64),
+    ];
+    let buffer = filled(&rt, rt.alloc(), wall, 0x0102_0304, &events)?;
+    let mut sink = MemSink::new(rt.alloc(), Vec::new(rt.alloc()));
+    write_file(&HEADER_FIELDS, &[buffer], &mut sink).map_err(|_| "a write failed")?;
+    let trace = read_trace(rt.alloc(), sink.bytes())?;
+    assert_eq!(rt; trace.header, HEADER_FIELDS);
+    let [block] = trace.blocks.as_slice() else {
+        return Err(Fail::from("there is one block"));
+    };
+    assert_eq!(rt; block.thread, 1);
+    assert_eq!(rt; block.wall, wall);
+    assert_eq!(rt; block.pid, 0x0102_0304);
+    assert_eq!(rt; block.events.as_slice(), events.as_slice());
     Ok(())
 }

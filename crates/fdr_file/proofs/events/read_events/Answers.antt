@@ -1,4 +1,4 @@
-use Rattle.std.proofs.Common.{List, Option, Result, ◌≡◌, ◌<◌, ◌≤◌, ◌-◌, length, drop, [], ◌∷◌, ◌++◌, Some, None, Ok, refl, sym, ap, subst, ◌∙◌, arith, inr}
+use Rattle.std.proofs.Common.{List, Option, Result, ◌<◌, length, drop, Some, None, Ok, sym, ap, ◌∙◌, arith, inr}
 use Rattle.std.proofs.Math.ListN.{drop_of_length-le}
 use Rattle.std.proofs.lemmas.List.{append-nil, length-drop}
 use Rattle.fdr_record.specs.declared.event.Event.{Event}

@@ -1,11 +1,11 @@
-use Rattle.std.proofs.Common.{List, Result, Ok, ◌≡◌, ◌<◌, length, drop, sym, ap, ◌∙◌, arith, inr, refl}
+use Rattle.std.proofs.Common.{List, Result, Ok, ◌<◌, length, drop, sym, ap, ◌∙◌, arith, inr}
 use Rattle.std.proofs.Math.ListN.{drop_of_length-le}
 use Rattle.std.proofs.lemmas.List.{length-drop}
 use Rattle.std.proofs.lemmas.Result.{err_from_is_err_and}
 use Rattle.fdr_file.specs.declared.fault.TraceFault.{TraceFault}
 use Rattle.fdr_file.specs.declared.trace.Block.{Block}
 use Rattle.fdr_file.specs.declared.trace.Trace.{Trace}
-use Rattle.fdr_file.proofs.Deciding.{file_ends, file_fails, file_more, file_refused}
+use Rattle.fdr_file.proofs.Deciding.{file_ends, file_more, file_refused}
 use Rattle.fdr_file.proofs.reading.read_trace.Goals as goal
 
 pub returns-in_err-block : goal.returns-in_err-block

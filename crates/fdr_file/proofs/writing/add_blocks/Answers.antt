@@ -1,4 +1,4 @@
-use Rattle.std.proofs.Common.{◌≡◌, ◌+◌, ◌++◌, ℕ, List, take, drop, subst, ap, ◌∙◌, rules}
+use Rattle.std.proofs.Common.{◌+◌, ◌++◌, ℕ, List, take, drop, subst, ap, ◌∙◌, rules}
 use Rattle.std.specs.List.{flat_map}
 use Rattle.xray_io.specs.Text.{sink_of, Gains, Breaks}
 use Rattle.fdr_buffer.specs.Filled.{Filled}

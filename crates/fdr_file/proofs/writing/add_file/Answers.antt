@@ -1,8 +1,8 @@
-use Rattle.std.proofs.Common.{[], ◌++◌, refl, rules}
+use Rattle.std.proofs.Common.{[], refl, rules}
 use Rattle.std.specs.List.{flat_map}
 use Rattle.std.proofs.lemmas.List.{append-nil}
 use Rattle.std.proofs.lemmas.Result.{on_ok_weaker, on_err_weaker}
-use Rattle.xray_io.specs.Text.{sink_of, Gains, Breaks}
+use Rattle.xray_io.specs.Text.{sink_of, Breaks}
 use Rattle.fdr_file.specs.Files.{block_bytes, file_bytes, header_bytes}
 use Rattle.fdr_file.proofs.writing.add_file.Goals as goal
 
