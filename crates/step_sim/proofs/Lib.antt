@@ -8,3 +8,4 @@ pub mod OneThread
 pub mod AllThreads
 pub mod Bounds
 pub mod SaidTurns
+pub mod SomeReplay

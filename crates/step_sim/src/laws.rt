@@ -1,5 +1,8 @@
 //! Laws of replays, each the contract of a function that does nothing.
-ghost use Rattle.std.specs.Prelude.{◌≡◌, List};
+ghost use Rattle.std.specs.Prelude.{◌≡◌, ℕ, List, None};
+ghost use Rattle.patch_script.specs.Micros.{hold_of};
+ghost use Rattle.patch_script.specs.Plans.{waiting_line};
+ghost use Rattle.patch_script.specs.Refusals.{Lines, commands_of};
 ghost use Rattle.handler_word.specs.declared.mark.Mark.{Mark};
 ghost use Rattle.step_sim.specs.declared.turns.Turns.{Turns as Line};
 ghost use Rattle.step_sim.specs.Replay.{Cast, Replay};
@@ -9,4 +12,15 @@ ghost use Rattle.step_sim.specs.Replay.{Cast, Replay};
 pub fn one_replay()
     ensures { (cast : Cast) (schedule : List Line) (marks others : List (List Mark))
         → Replay cast schedule marks → Replay cast schedule others → marks ≡ others }
+{}
+
+/// A schedule leaves marks, whatever the program, the passings and the schedule are, where the script
+/// holds nobody: each thread runs out behind finitely many turns. With `one_replay`, exactly one list
+/// of marks to each thread.
+pub fn some_replay()
+    ensures free { (cast : Cast) (schedule : List Line) → ((thread : ℕ) → hold_of thread cast.script ≡ None)
+        → (marks : List (List Mark)) × Replay cast schedule marks }
+    // A script without a line at which a thread or the patcher may wait holds nobody.
+    ensures still { (cast : Cast) (schedule : List Line) (lines : Lines) → cast.script ≡ commands_of lines
+        → waiting_line lines ≡ None → (marks : List (List Mark)) × Replay cast schedule marks }
 {}

@@ -16,7 +16,7 @@ mod turns;
 
 pub use along::{a_replay_reads_along, no_replay_tears_a_sled};
 pub use fault::ScheduleFault;
-pub use laws::one_replay;
+pub use laws::{one_replay, some_replay};
 pub use replay::{SimEnd, simulate};
 pub use schedule::{Schedule, read_schedule};
 pub use sim_fault::SimFault;

@@ -45,6 +45,18 @@ parts_count bytes parts e =
       sym (ap (λ (p : Parts). length p.entries) m.2) ∙ several_count map_entry_at (entry_count bytes) functions.1 m.0 m.1,
     ))
 
+-- the code is the bytes behind the header
+pub code_is : (bytes : List ℕ) (parts : Parts) → parts_of bytes ≡ Some parts → parts.code ≡ take (code_length bytes) (drop 64 bytes)
+code_is bytes parts e =
+    let behind = drop (64 + code_length bytes) bytes in
+    let code = take (code_length bytes) (drop 64 bytes) in
+    let make : List Function × List ℕ → List MapEntry × List ℕ → Parts = λ functions entries. record { code = code; functions = functions.0; entries = entries.0; rest = entries.1 } in
+    option_and_then_some (λ functions. option_map (make functions) (several map_entry_at (entry_count bytes) functions.1)) (several function_at (function_count bytes) behind) parts
+    (cond_none (ltb (length bytes) (64 + code_length bytes)) _ parts e)
+    (λ functions is more.
+    let m = mapped (make functions) (several map_entry_at (entry_count bytes) functions.1) parts more in
+    sym (ap (λ (p : Parts). p.code) m.2))
+
 -- the code is as long as the header says, at most
 pub code_short : (bytes : List ℕ) (parts : Parts) → parts_of bytes ≡ Some parts → length parts.code ≤ code_length bytes
 code_short bytes parts e =

@@ -22,6 +22,8 @@ pub mod FunctionRows
 pub mod Standing
 pub mod TableRows
 pub mod Accepts
+pub mod Known
+pub mod SomeVerdict
 pub mod JudgedRows
 pub mod Making
 pub mod ImageMade

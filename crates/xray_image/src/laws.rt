@@ -1,6 +1,6 @@
 //! What follows for the definitions. Each law is the contract of a function that does nothing.
 
-ghost use Rattle.std.specs.Prelude.{◌≡◌, ◌↔◌, List, ℕ, Ok};
+ghost use Rattle.std.specs.Prelude.{◌≡◌, ◌<◌, ◌↔◌, List, ℕ, All, Ok};
 ghost use Rattle.xray_image.specs.Units.{Piece, IsUnits};
 ghost use Rattle.xray_image.specs.Program.{Program, IsAccepted};
 ghost use Rattle.xray_image.specs.Table.{Verdict, ReadsAs};
@@ -29,5 +29,13 @@ pub fn one_verdict()
         → IsAccepted bytes program ↔ ReadsAs bytes (Ok program) }
 {
     one_instruction();
+    one_answer();
+}
+
+/// The table of refusals decides each file, whatever its bytes are: it reads as a program, or it is
+/// refused for the first line that applies to it. With `one_verdict`, exactly one way.
+pub fn some_verdict()
+    ensures { (bytes : List ℕ) → All (λ b. b < 256) bytes → (verdict : Verdict) × ReadsAs bytes verdict }
+{
     one_answer();
 }

@@ -23,7 +23,7 @@ mod unit_reader;
 pub use extract::write_extract;
 pub use fault::{ImageFault, Which};
 pub use image::{Image, read_image};
-pub use laws::{one_reading, one_unit_list, one_verdict};
+pub use laws::{one_reading, one_unit_list, one_verdict, some_verdict};
 pub use sled::{Sled, SledKind};
 pub use unit::{Unit, What};
 

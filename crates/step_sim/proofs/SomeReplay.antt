@@ -1,0 +1,235 @@
+-- Where a script holds nobody, each schedule leaves marks.
+use Rattle.std.proofs.Common.{◌≡◌, ℕ, zero, suc, ◌+◌, ◌-◌, ◌*◌, ◌<◌, ◌≤◌, List, [], ◌∷◌, ◌++◌, Bool, true, false, Option, Some, None, refl, sym, ◌∙◌, subst, arith, length, length-append, fold}
+use Rattle.std.specs.Prelude.{◌==◌, if◌then◌else◌}
+use Rattle.std.proofs.lemmas.List.{length-map}
+use Rattle.xray_image.specs.Program.{Program}
+use Rattle.sled_words.specs.Parts.{patched_head}
+use Rattle.patch_script.specs.declared.command.Command.{Command}
+use Rattle.patch_script.specs.Micros.{hold_of}
+use Rattle.patch_script.specs.Plans.{waiting_line}
+use Rattle.patch_script.specs.Refusals.{Lines, commands_of}
+use Rattle.patch_script.specs.CodeAt.{code_at}
+use Rattle.handler_word.specs.declared.mark.Mark.{Mark}
+use Rattle.handler_word.specs.declared.mark.Mark.TheVariants.{Skipped, NoHandler}
+use Rattle.machine_step.specs.Loads.{Load, Reading, Wants, Marked, from_state, from_handler, from_offset, from_opcode, from_id, from_head, next_from, next_load}
+use Rattle.step_sim.specs.declared.turns.Turns.{Turns}
+use Rattle.step_sim.specs.declared.turns.Turns.TheVariants.{Thread, Patcher}
+use Rattle.step_sim.specs.Replay.{AllRunOut, Cast, Moment, Replay, first_moment, line_turns, marks_at, of_thread, patcher_turn, scheduled, thread_turn, turns, wanted_by}
+use Rattle.step_sim.proofs.Bounds.{no_holds}
+use Rattle.step_sim.proofs.TurnLemmas.{turn_length, turn_own, turns_hold, turns_length}
+
+-- ---- a passing
+
+-- what one more load does behind loads of this number, of which a passing takes at most so many: one that still wants a word has
+-- made fewer, and one that is marked keeps its mark
+abbrev Goes : ℕ → Reading → Reading → ℕ → Load → Type 0
+Goes most (Wants word) after made load = made < most
+Goes most (Marked mark behind) after made load = after ≡ Marked mark (behind ++ load ∷ [])
+
+-- the same with one load before
+goes_on : (most : ℕ) (reading after : Reading) (made : ℕ) (load : Load) → Goes most reading after made load
+    → Goes (suc most) reading after (suc made) load
+goes_on most (Wants word) after made load few = omega arith
+goes_on most (Marked mark behind) after made load same = same
+
+-- a test is true or false
+by_test : (b : Bool) (M : Bool → Type 0) → M true → M false → M b
+by_test true M at_true at_false = at_true
+by_test false M at_true at_false = at_false
+
+-- from the state word on a passing takes one load
+state_goes : (program : Program) (loads : List Load) (load : Load)
+    → Goes 1 (from_state program loads) (from_state program (loads ++ load ∷ [])) (length loads) load
+state_goes program [] load = omega arith
+state_goes program (first ∷ loads) load = refl
+
+-- from the handler word on two
+handler_goes : (program : Program) (loads : List Load) (load : Load)
+    → Goes 2 (from_handler program loads) (from_handler program (loads ++ load ∷ [])) (length loads) load
+handler_goes program [] load = omega arith
+handler_goes program (first ∷ loads) load =
+    by_test (first.value == 0)
+    (λ b. Goes 2 (if b then Marked NoHandler loads else from_state program loads)
+    (if b then Marked NoHandler (loads ++ load ∷ []) else from_state program (loads ++ load ∷ [])) (suc (length loads)) load)
+    refl
+    (goes_on 1 (from_state program loads) (from_state program (loads ++ load ∷ [])) (length loads) load (state_goes program loads load))
+
+-- from the offset on three
+offset_goes : (program : Program) (sled : ℕ) (loads : List Load) (load : Load)
+    → Goes 3 (from_offset program sled loads) (from_offset program sled (loads ++ load ∷ [])) (length loads) load
+offset_goes program sled [] load = omega arith
+offset_goes program sled (first ∷ loads) load =
+    goes_on 2 (from_handler program loads) (from_handler program (loads ++ load ∷ [])) (length loads) load (handler_goes program loads load)
+
+-- from the opcode on four
+opcode_goes : (program : Program) (sled : ℕ) (loads : List Load) (load : Load)
+    → Goes 4 (from_opcode program sled loads) (from_opcode program sled (loads ++ load ∷ [])) (length loads) load
+opcode_goes program sled [] load = omega arith
+opcode_goes program sled (first ∷ loads) load =
+    goes_on 3 (from_offset program sled loads) (from_offset program sled (loads ++ load ∷ [])) (length loads) load (offset_goes program sled loads load)
+
+-- from the id on five
+id_goes : (program : Program) (sled : ℕ) (loads : List Load) (load : Load)
+    → Goes 5 (from_id program sled loads) (from_id program sled (loads ++ load ∷ [])) (length loads) load
+id_goes program sled [] load = omega arith
+id_goes program sled (first ∷ loads) load =
+    goes_on 4 (from_opcode program sled loads) (from_opcode program sled (loads ++ load ∷ [])) (length loads) load (opcode_goes program sled loads load)
+
+-- a passing of a thread that isn't held takes at most six loads
+head_goes : (program : Program) (sled : ℕ) (loads : List Load) (load : Load)
+    → Goes 6 (from_head program sled loads) (from_head program sled (loads ++ load ∷ [])) (length loads) load
+head_goes program sled [] load = omega arith
+head_goes program sled (first ∷ loads) load =
+    by_test (first.value == patched_head)
+    (λ b. Goes 6 (if b then from_id program sled loads else Marked Skipped loads)
+    (if b then from_id program sled (loads ++ load ∷ []) else Marked Skipped (loads ++ load ∷ [])) (suc (length loads)) load)
+    (goes_on 5 (from_id program sled loads) (from_id program sled (loads ++ load ∷ [])) (length loads) load (id_goes program sled loads load))
+    refl
+
+-- ---- a thread
+
+-- the most loads that are left: of an open passing those up to six, and all of the later ones; behind a mark those of the later ones
+abbrev left_of : Reading → ℕ → ℕ → (List Load → ℕ) → ℕ
+left_of (Wants word) made whole later = (6 - made) + whole
+left_of (Marked mark behind) made whole later = later behind
+
+-- the most loads that are left to a thread that passes these sleds and isn't held
+abbrev left : Program → List ℕ → List Load → ℕ
+left program [] loads = 0
+left program (sled ∷ sleds) loads = left_of (from_head program sled loads) (length loads) (6 * length sleds) (left program sleds)
+
+-- they are six a passing at the most
+left_few : (program : Program) (sleds : List ℕ) (loads : List Load) → left program sleds loads ≤ 6 * length sleds
+left_few program [] loads = omega arith
+left_few program (sled ∷ sleds) loads = by_reading (left_few program sleds) (from_head program sled loads)
+  where
+    by_reading : ((behind : List Load) → left program sleds behind ≤ 6 * length sleds) → (r : Reading)
+        → left_of r (length loads) (6 * length sleds) (left program sleds) ≤ 6 * suc (length sleds)
+    by_reading few (Wants word) = omega arith
+    by_reading few (Marked mark behind) = omega (arith, few behind)
+
+-- the word that is wanted behind loads that bring a passing so far
+abbrev wanted_of : Reading → (List Load → Option ℕ) → Option ℕ
+wanted_of (Wants word) later = Some word
+wanted_of (Marked mark behind) later = later behind
+
+next_is : (program : Program) (thread number sled : ℕ) (sleds : List ℕ) (loads : List Load) (r : Reading) → from_head program sled loads ≡ r
+    → next_from program thread None number (sled ∷ sleds) loads ≡ wanted_of r (next_from program thread None (number + 1) sleds)
+next_is program thread number sled sleds loads (Wants word) e = rw e refl
+next_is program thread number sled sleds loads (Marked mark more) e = rw e refl
+
+-- behind one more load of an open passing fewer are left
+fewer_left : (program : Program) (sleds : List ℕ) (made : ℕ) (r : Reading) → made < 6
+    → left_of r (made + 1) (6 * length sleds) (left program sleds) < (6 - made) + 6 * length sleds
+fewer_left program sleds made (Wants word) few = omega arith
+fewer_left program sleds made (Marked mark behind) few = omega (arith, left_few program sleds behind)
+
+-- what is left falls with each load
+left_falls : (program : Program) (thread number : ℕ) (sleds : List ℕ) (loads : List Load) (load : Load) (word : ℕ)
+    → next_from program thread None number sleds loads ≡ Some word → left program sleds (loads ++ load ∷ []) < left program sleds loads
+left_falls program thread number [] loads load word wants = cc
+left_falls program thread number (sled ∷ sleds) loads load word wants =
+    by_reading (λ behind. left_falls program thread (number + 1) sleds behind load word)
+    (from_head program sled loads) (from_head program sled (loads ++ load ∷ [])) (head_goes program sled loads load)
+    (sym (next_is program thread number sled sleds loads (from_head program sled loads) refl) ∙ wants)
+  where
+    one_more : length (loads ++ load ∷ []) ≡ length loads + 1
+    one_more = length-append loads (load ∷ [])
+
+    by_reading : ((behind : List Load) → next_from program thread None (number + 1) sleds behind ≡ Some word
+        → left program sleds (behind ++ load ∷ []) < left program sleds behind)
+        → (r after : Reading) → Goes 6 r after (length loads) load
+        → wanted_of r (next_from program thread None (number + 1) sleds) ≡ Some word
+        → left_of after (length (loads ++ load ∷ [])) (6 * length sleds) (left program sleds)
+        < left_of r (length loads) (6 * length sleds) (left program sleds)
+    by_reading falls (Wants wanted) after few e =
+        subst (λ (made : ℕ). left_of after made (6 * length sleds) (left program sleds) < (6 - length loads) + 6 * length sleds)
+        (sym one_more) (fewer_left program sleds (length loads) after few)
+    by_reading falls (Marked mark behind) after same e =
+        subst (λ (r : Reading). left_of r (length (loads ++ load ∷ [])) (6 * length sleds) (left program sleds) < left program sleds behind)
+        (sym same) (falls behind e)
+
+-- ---- a thread runs out
+
+abbrev left_at : Cast → ℕ → Moment → ℕ
+left_at cast thread m = left cast.program (of_thread cast.passings thread) (of_thread m.loads thread)
+
+turn_falls : (cast : Cast) (thread : ℕ) (m : Moment) (word : ℕ) → hold_of thread cast.script ≡ None → thread - 1 < length m.loads
+    → wanted_by cast thread m ≡ Some word → left_at cast thread (thread_turn cast thread m) < left_at cast thread m
+turn_falls cast thread m word free within wants =
+    let load : Load = record { word = word; value = code_at cast.program cast.script m.place word } in
+    let unheld = subst (λ (h : Option ℕ). next_load cast.program thread h (of_thread cast.passings thread) (of_thread m.loads thread) ≡ Some word) free wants in
+    subst (λ (ls : List Load). left cast.program (of_thread cast.passings thread) ls < left_at cast thread m)
+    (sym (turn_own cast thread m word within wants))
+    (left_falls cast.program thread 0 (of_thread cast.passings thread) (of_thread m.loads thread) load word unheld)
+
+-- a thread's turns that bring it to its end
+abbrev Ends : Cast → ℕ → Moment → Type 0
+Ends cast thread m = (n : ℕ) × (wanted_by cast thread (turns n (thread_turn cast thread) m) ≡ None)
+
+-- one turn and those behind it
+one_before : (cast : Cast) (thread : ℕ) (m : Moment) → Ends cast thread (thread_turn cast thread m) → Ends cast thread m
+one_before cast thread m (n, none) = (suc n, none)
+
+-- a thread wants no word, or one
+by_word : (w : Option ℕ) (M : Type 0) → (w ≡ None → M) → ((word : ℕ) → w ≡ Some word → M) → M
+by_word None M at_none at_some = at_none refl
+by_word (Some word) M at_none at_some = at_some word refl
+
+-- a thread that isn't held ends behind finitely many turns
+ends_behind : (cast : Cast) (thread : ℕ) → hold_of thread cast.script ≡ None → (most : ℕ) (m : Moment) → thread - 1 < length m.loads
+    → left_at cast thread m ≤ most → Ends cast thread m
+ends_behind cast thread free zero m within few =
+    by_word (wanted_by cast thread m) (Ends cast thread m) (λ e. (0, e))
+    (λ word e. let falls = turn_falls cast thread m word free within e in absurd (omega arith))
+ends_behind cast thread free (suc most) m within few =
+    by_word (wanted_by cast thread m) (Ends cast thread m) (λ e. (0, e))
+    (λ word e.
+    let falls = turn_falls cast thread m word free within e in
+    let there : thread - 1 < length (thread_turn cast thread m).loads = omega (arith, turn_length cast thread m) in
+    one_before cast thread m (ends_behind cast thread free most (thread_turn cast thread m) there (omega arith)))
+
+-- ---- all threads run out
+
+-- nobody is held by the script of a replay
+abbrev NobodyHeld : Cast → Type 0
+NobodyHeld cast = (thread : ℕ) → hold_of thread cast.script ≡ None
+
+-- threads that have loads run out, one after the other
+all_run_out : (cast : Cast) → NobodyHeld cast → (n thread : ℕ) (before : Moment) → 0 < thread → thread + n ≤ length before.loads + 1
+    → (after : Moment) × AllRunOut cast n thread before after
+all_run_out cast free zero thread before first last = (before, refl)
+all_run_out cast free (suc n) thread before first last =
+    let out = ends_behind cast thread (free thread) (left_at cast thread before) before (omega arith) (omega arith) in
+    let mid : Moment = turns out.0 (thread_turn cast thread) before in
+    let room : length mid.loads ≡ length before.loads = turns_length cast thread out.0 before in
+    let rest = all_run_out cast free n (thread + 1) mid (omega arith) (omega arith) in
+    (rest.0, (mid, (out.0, refl, out.1), rest.1))
+
+-- the patcher's turns keep the loads
+patcher_length : (cast : Cast) (n : ℕ) (m : Moment) → length (turns n (patcher_turn cast) m).loads ≡ length m.loads
+patcher_length cast n m =
+    turns_hold (λ (x : Moment). length x.loads ≡ length m.loads) (patcher_turn cast) (λ x e. e) n m refl
+
+-- behind the lines of a schedule there are as many lists of loads
+lines_length : (cast : Cast) (lines : List Turns) (m : Moment) → length (fold (line_turns cast) m lines).loads ≡ length m.loads
+lines_length cast [] m = refl
+lines_length cast (Thread thread count ∷ lines) m =
+    lines_length cast lines (turns count (thread_turn cast thread) m) ∙ turns_length cast thread count m
+lines_length cast (Patcher count ∷ lines) m =
+    lines_length cast lines (turns count (patcher_turn cast) m) ∙ patcher_length cast count m
+
+-- where nobody is held each schedule leaves marks
+pub some_marks : (cast : Cast) (schedule : List Turns) → NobodyHeld cast → (marks : List (List Mark)) × Replay cast schedule marks
+some_marks cast schedule free =
+    let begun : length (first_moment cast).loads ≡ length cast.passings = length-map cast.passings (λ _. []) in
+    let room : length (scheduled cast schedule).loads ≡ length (first_moment cast).loads = lines_length cast schedule (first_moment cast) in
+    let out = all_run_out cast free (length cast.passings) 1 (scheduled cast schedule) (omega arith) (omega arith) in
+    (marks_at cast out.0, (out.0, out.1, refl))
+
+-- so where its script has no line at which a thread or the patcher may wait
+pub still_marks : (cast : Cast) (schedule : List Turns) (lines : Lines) → cast.script ≡ commands_of lines → waiting_line lines ≡ None
+    → (marks : List (List Mark)) × Replay cast schedule marks
+still_marks cast schedule lines said still =
+    some_marks cast schedule
+    (λ thread. subst (λ (script : List Command). hold_of thread script ≡ None) (sym said) (no_holds lines still thread))
