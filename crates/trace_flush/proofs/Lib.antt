@@ -2,4 +2,4 @@ pub mod AuditText
 pub mod Digits
 pub mod OneOrder
 pub mod TellsMarks
-pub mod TellsThreads
+pub mod TellsAll

@@ -8,7 +8,7 @@ mod line;
 mod order;
 
 pub use audit::write_audit;
-pub use laws::audit_tells_its_threads;
+pub use laws::audit_tells_its_run;
 pub use line::AuditLine;
 pub use order::arrange;
 

@@ -1,6 +1,6 @@
 //! The audits of threads that have ended, and buffers in the order of a flush.
 
-use crate::{AuditLine, arrange, audit_tells_its_threads, write_audit};
+use crate::{AuditLine, arrange, audit_tells_its_run, write_audit};
 use fdr_buffer::Buffer;
 use fdr_record::{Event, Kind};
 use machine_step::{Cpu, End, Limits, Setup, Want};
@@ -152,7 +152,7 @@ fn the_audit_of_a_thread_that_records_all(rt: HostRuntime) -> Result<(), Fail> {
 
 #[test]
 fn the_audit_of_two_threads_that_lost_segments(rt: HostRuntime) -> Result<(), Fail> {
-    audit_tells_its_threads();
+    audit_tells_its_run();
     let alloc = rt.alloc();
     let image = image_of(alloc)?;
     let limits = Limits {

@@ -1,9 +1,10 @@
--- The text of an audit tells its threads.
+-- The text of an audit tells what it is of.
 use Rattle.std.proofs.Common.{◌≡◌, ◌<◌, ◌≤◌, ◌^◌, ℕ, suc, Bool, true, false, cond, List, [], ◌∷◌, ◌++◌, length, get_or, nat_lt, refl, sym, ap, ◌∙◌, arith, append_assoc}
 use Rattle.std.specs.Prelude.{All, codes, decimal, map, ◌==◌}
 use Rattle.std.specs.List.{flat_map}
 use Rattle.std.proofs.lemmas.Bool.{ltb-true}
 use Rattle.std.proofs.lemmas.Fmt.{decimal_injective}
+use Rattle.xray_io.specs.declared.faults.Wall.{Wall}
 use Rattle.handler_word.specs.declared.mark.Mark.{Mark}
 use Rattle.handler_word.specs.MarkList.{recorded_count}
 use Rattle.handler_word.specs.Runs.{runs_text}
@@ -14,7 +15,7 @@ use Rattle.machine_step.specs.declared.setup.Setup.{Setup}
 use Rattle.machine_step.specs.Texts.{end_text, marks_line, line_feed}
 use Rattle.trace_flush.specs.declared.line.AuditLine.{AuditLine}
 use Rattle.trace_flush.specs.Audit.{Account, audit_text, buffers_text, limits_text, stamps_text, setup_lines, thread_line, thread_lines, recycled_line}
-use Rattle.trace_flush.specs.Telling.{HasNumbers}
+use Rattle.trace_flush.specs.Telling.{HasNumbers, HasSetupNumbers, setup_numbers}
 use Rattle.trace_flush.proofs.Digits.{IsAbove, split_at, number_split, behind}
 use Rattle.trace_flush.proofs.TellsMarks.{marks_tell}
 
@@ -176,36 +177,125 @@ setup_is setup rest =
     append_assoc (buffers ++ limits) stamps rest ∙ (append_assoc buffers limits (stamps ++ rest) ∙ (buffers_are setup (limits ++ (stamps ++ rest))
     ∙ ap (buffers_before setup) (limits_are setup.limits (stamps ++ rest) ∙ ap (limits_before setup.limits) (stamps_are setup rest))))
 
--- the same bytes, and a number
-skip : (front : List ℕ) (m n c d : ℕ) (r s : List ℕ) → c ≤ 47 → d ≤ 47 → front ++ (decimal m ++ c ∷ r) ≡ front ++ (decimal n ++ d ∷ s) → c ∷ r ≡ d ∷ s
-skip front m n c d r s low low' same = (number_split m n c d r s low low' (behind front _ _ same)).1
+-- what the setups of two equal texts have in common: what their numbers are printed as
+record IsToldAlike (setup setup' : Setup) : Type 0 where
+  threads : decimal setup.threads ≡ decimal setup'.threads
+  size : decimal setup.size ≡ decimal setup'.size
+  max : decimal setup.max ≡ decimal setup'.max
+  fuel : decimal setup.limits.fuel ≡ decimal setup'.limits.fuel
+  passings : decimal setup.limits.passings ≡ decimal setup'.limits.passings
+  tick : decimal setup.limits.tick ≡ decimal setup'.limits.tick
+  tsc : decimal setup.limits.tsc ≡ decimal setup'.limits.tsc
+  cpus : decimal setup.limits.cpus ≡ decimal setup'.limits.cpus
+  migrate : decimal setup.limits.migrate ≡ decimal setup'.limits.migrate
+  pid : decimal setup.pid ≡ decimal setup'.pid
+  secs : decimal setup.wall.secs ≡ decimal setup'.wall.secs
+  micros : decimal setup.wall.micros ≡ decimal setup'.wall.micros
+  frequency : decimal setup.frequency ≡ decimal setup'.frequency
 
-behind_setup : (setup setup' : Setup) (r s : List ℕ) → setup_before setup r ≡ setup_before setup' s → r ≡ s
-behind_setup setup setup' r s same =
-    let one = skip (codes "threads=") setup.threads setup'.threads 32 32 _ _ (omega arith) (omega arith) (behind (codes "xray-audit 1" ++ 10 ∷ []) _ _ same) in
-    let two = skip (codes " buffer-size=") setup.size setup'.size 32 32 _ _ (omega arith) (omega arith) one in
-    let three = skip (codes " buffer-max=") setup.max setup'.max 32 32 _ _ (omega arith) (omega arith) two in
-    let four = skip (codes " fuel=") setup.limits.fuel setup'.limits.fuel 32 32 _ _ (omega arith) (omega arith) three in
-    let five = skip (codes " passings=") setup.limits.passings setup'.limits.passings 32 32 _ _ (omega arith) (omega arith) four in
-    let six = skip (codes " tick=") setup.limits.tick setup'.limits.tick 32 32 _ _ (omega arith) (omega arith) five in
-    let seven = skip (codes " tsc=") setup.limits.tsc setup'.limits.tsc 32 32 _ _ (omega arith) (omega arith) six in
-    let eight = skip (codes " cpus=") setup.limits.cpus setup'.limits.cpus 32 32 _ _ (omega arith) (omega arith) seven in
-    let nine = skip (codes " migrate=") setup.limits.migrate setup'.limits.migrate 32 32 _ _ (omega arith) (omega arith) eight in
-    let ten = skip (codes " pid=") setup.pid setup'.pid 32 32 _ _ (omega arith) (omega arith) nine in
-    let eleven = skip (codes " wall=") setup.wall.secs setup'.wall.secs 46 46 _ _ (omega arith) (omega arith) ten in
-    let twelve = skip (codes ".") setup.wall.micros setup'.wall.micros 32 32 _ _ (omega arith) (omega arith) eleven in
-    behind (10 ∷ []) r s (skip (codes " frequency=") setup.frequency setup'.frequency 10 10 r s (omega arith) (omega arith) twelve)
+-- the same bytes, and then a number
+field : (front : List ℕ) (m n c d : ℕ) (r s : List ℕ) → c ≤ 47 → d ≤ 47 → front ++ (decimal m ++ c ∷ r) ≡ front ++ (decimal n ++ d ∷ s)
+    → (decimal m ≡ decimal n) × (c ∷ r ≡ d ∷ s)
+field front m n c d r s low low' same = number_split m n c d r s low low' (behind front _ _ same)
+
+setup_tells : (setup setup' : Setup) (r s : List ℕ) → setup_before setup r ≡ setup_before setup' s → IsToldAlike setup setup' × (r ≡ s)
+setup_tells setup setup' r s same =
+    let one = field (codes "threads=") setup.threads setup'.threads 32 32 _ _ (omega arith) (omega arith) (behind (codes "xray-audit 1" ++ 10 ∷ []) _ _ same) in
+    let two = field (codes " buffer-size=") setup.size setup'.size 32 32 _ _ (omega arith) (omega arith) one.1 in
+    let three = field (codes " buffer-max=") setup.max setup'.max 32 32 _ _ (omega arith) (omega arith) two.1 in
+    let four = field (codes " fuel=") setup.limits.fuel setup'.limits.fuel 32 32 _ _ (omega arith) (omega arith) three.1 in
+    let five = field (codes " passings=") setup.limits.passings setup'.limits.passings 32 32 _ _ (omega arith) (omega arith) four.1 in
+    let six = field (codes " tick=") setup.limits.tick setup'.limits.tick 32 32 _ _ (omega arith) (omega arith) five.1 in
+    let seven = field (codes " tsc=") setup.limits.tsc setup'.limits.tsc 32 32 _ _ (omega arith) (omega arith) six.1 in
+    let eight = field (codes " cpus=") setup.limits.cpus setup'.limits.cpus 32 32 _ _ (omega arith) (omega arith) seven.1 in
+    let nine = field (codes " migrate=") setup.limits.migrate setup'.limits.migrate 32 32 _ _ (omega arith) (omega arith) eight.1 in
+    let ten = field (codes " pid=") setup.pid setup'.pid 32 32 _ _ (omega arith) (omega arith) nine.1 in
+    let eleven = field (codes " wall=") setup.wall.secs setup'.wall.secs 46 46 _ _ (omega arith) (omega arith) ten.1 in
+    let twelve = field (codes ".") setup.wall.micros setup'.wall.micros 32 32 _ _ (omega arith) (omega arith) eleven.1 in
+    let last = field (codes " frequency=") setup.frequency setup'.frequency 10 10 r s (omega arith) (omega arith) twelve.1 in (
+      record {
+        threads = one.0;
+        size = two.0;
+        max = three.0;
+        fuel = four.0;
+        passings = five.0;
+        tick = six.0;
+        tsc = seven.0;
+        cpus = eight.0;
+        migrate = nine.0;
+        pid = ten.0;
+        secs = eleven.0;
+        micros = twelve.0;
+        frequency = last.0;
+      },
+      behind (10 ∷ []) r s last.1,
+    )
+
+-- records of the same fields are the same
+limits_of : ℕ → ℕ → ℕ → ℕ → ℕ → ℕ → Limits
+limits_of fuel passings tick tsc cpus migrate = record { fuel = fuel; passings = passings; tick = tick; tsc = tsc; cpus = cpus; migrate = migrate }
+
+is_limits_of : (l : Limits) → l ≡ limits_of l.fuel l.passings l.tick l.tsc l.cpus l.migrate
+unfolding limits_of
+is_limits_of l = refl
+
+wall_of : ℕ → ℕ → Wall
+wall_of secs micros = record { secs = secs; micros = micros }
+
+is_wall_of : (w : Wall) → w ≡ wall_of w.secs w.micros
+unfolding wall_of
+is_wall_of w = refl
+
+setup_of : ℕ → ℕ → ℕ → Limits → ℕ → Wall → ℕ → Setup
+setup_of threads size max limits pid wall frequency =
+    record { threads = threads; size = size; max = max; limits = limits; pid = pid; wall = wall; frequency = frequency }
+
+is_setup_of : (s : Setup) → s ≡ setup_of s.threads s.size s.max s.limits s.pid s.wall s.frequency
+unfolding setup_of
+is_setup_of s = refl
+
+-- setups whose numbers are printed alike are the same
+one_setup : (setup setup' : Setup) → HasSetupNumbers setup → HasSetupNumbers setup' → IsToldAlike setup setup' → setup ≡ setup'
+one_setup setup setup' small small' told =
+    let equal : (k m n : ℕ) → k < 13 → get_or (setup_numbers setup) k 0 ≡ m → get_or (setup_numbers setup') k 0 ≡ n → decimal m ≡ decimal n → m ≡ n =
+    (λ k m n within is is' alike. decimal_injective m n (omega (arith, small k 0 within, is)) (omega (arith, small' k 0 within, is')) alike) in
+    let l = setup.limits in
+    let l' = setup'.limits in
+    let fuel : l.fuel ≡ l'.fuel = equal 3 _ _ (omega arith) refl refl told.fuel in
+    let passings : l.passings ≡ l'.passings = equal 4 _ _ (omega arith) refl refl told.passings in
+    let tick : l.tick ≡ l'.tick = equal 5 _ _ (omega arith) refl refl told.tick in
+    let tsc : l.tsc ≡ l'.tsc = equal 6 _ _ (omega arith) refl refl told.tsc in
+    let cpus : l.cpus ≡ l'.cpus = equal 7 _ _ (omega arith) refl refl told.cpus in
+    let migrate : l.migrate ≡ l'.migrate = equal 8 _ _ (omega arith) refl refl told.migrate in
+    let limits : l ≡ l' = cc (is_limits_of l, is_limits_of l') in
+    let secs : setup.wall.secs ≡ setup'.wall.secs = equal 10 _ _ (omega arith) refl refl told.secs in
+    let micros : setup.wall.micros ≡ setup'.wall.micros = equal 11 _ _ (omega arith) refl refl told.micros in
+    let wall : setup.wall ≡ setup'.wall = cc (is_wall_of setup.wall, is_wall_of setup'.wall) in
+    let threads : setup.threads ≡ setup'.threads = equal 0 _ _ (omega arith) refl refl told.threads in
+    let size : setup.size ≡ setup'.size = equal 1 _ _ (omega arith) refl refl told.size in
+    let max : setup.max ≡ setup'.max = equal 2 _ _ (omega arith) refl refl told.max in
+    let pid : setup.pid ≡ setup'.pid = equal 9 _ _ (omega arith) refl refl told.pid in
+    let frequency : setup.frequency ≡ setup'.frequency = equal 12 _ _ (omega arith) refl refl told.frequency in
+    cc (is_setup_of setup, is_setup_of setup')
 
 -- ---- the whole text
 
-pub audit_tells : (setup setup' : Setup) (threads others : List Account) → All HasNumbers threads → All HasNumbers others
-    → audit_text setup threads ≡ audit_text setup' others → threads ≡ others
-audit_tells setup setup' threads others small small' same =
+-- the text before its threads, and behind them
+parts_alike : (setup setup' : Setup) (threads others : List Account) → audit_text setup threads ≡ audit_text setup' others
+    → setup_before setup (flat_map thread_lines threads ++ recycled_line (map (λ thread. thread.0) threads))
+    ≡ setup_before setup' (flat_map thread_lines others ++ recycled_line (map (λ thread. thread.0) others))
+parts_alike setup setup' threads others same =
     let recycled = recycled_line (map (λ thread. thread.0) threads) in
     let recycled' = recycled_line (map (λ thread. thread.0) others) in
-    let rest = flat_map thread_lines threads ++ recycled in
-    let rest' = flat_map thread_lines others ++ recycled' in
-    let parts : setup_before setup rest ≡ setup_before setup' rest' =
-    sym (setup_is setup rest) ∙ (sym (append_assoc (setup_lines setup) (flat_map thread_lines threads) recycled)
-    ∙ (same ∙ (append_assoc (setup_lines setup') (flat_map thread_lines others) recycled' ∙ setup_is setup' rest'))) in
-    threads_tell threads others _ _ small small' (behind_setup setup setup' rest rest' parts)
+    sym (setup_is setup (flat_map thread_lines threads ++ recycled)) ∙ (sym (append_assoc (setup_lines setup) (flat_map thread_lines threads) recycled)
+    ∙ (same ∙ (append_assoc (setup_lines setup') (flat_map thread_lines others) recycled' ∙ setup_is setup' (flat_map thread_lines others ++ recycled'))))
+
+pub audit_tells_threads : (setup setup' : Setup) (threads others : List Account) → All HasNumbers threads → All HasNumbers others
+    → audit_text setup threads ≡ audit_text setup' others → threads ≡ others
+audit_tells_threads setup setup' threads others small small' same =
+    threads_tell threads others _ _ small small' (setup_tells setup setup' _ _ (parts_alike setup setup' threads others same)).1
+
+pub audit_tells_setup : (setup setup' : Setup) (threads others : List Account) → HasSetupNumbers setup → HasSetupNumbers setup'
+    → audit_text setup threads ≡ audit_text setup' others → setup ≡ setup'
+audit_tells_setup setup setup' threads others small small' same =
+    one_setup setup setup' small small' (setup_tells setup setup' _ _ (parts_alike setup setup' threads others same)).0
