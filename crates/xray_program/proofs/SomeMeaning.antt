@@ -41,6 +41,7 @@ SomeOutcome holds = (outcome : Outcome) × holds outcome
 
 -- ---- inputs in their turn
 
+-- each number is a byte
 abbrev AreBytes : List ℕ → Type 0
 AreBytes bytes = All (λ b. b < 256) bytes
 
@@ -83,12 +84,15 @@ some_take {X} form is held name next told holds later = by_entry (held name) ref
 
 -- ---- the forms
 
+-- the laws that this stands on: each file has a verdict
 abbrev SomeVerdict : Type 0
 SomeVerdict = (bytes : List ℕ) → AreBytes bytes → (verdict : Verdict) × ReadsAs bytes verdict
 
+-- a file is accepted exactly where it reads as a program
 abbrev Accepts : Type 0
 Accepts = (bytes : List ℕ) (program : Program) → IsAccepted bytes program ↔ ReadsAs bytes (Ok program)
 
+-- bytes are an image file, or are refused
 image_judged : SomeVerdict → Accepts → IsJudged image_form
 image_judged some accepts bytes all = by_verdict (some bytes all).0 (some bytes all).1
   where
@@ -113,10 +117,12 @@ abbrev made : {X : Type 0} → (ℕ → X) → ℕ → ℕ → List X
 made item from zero = []
 made item from (suc n) = item from ∷ made item (from + 1) n
 
+-- they are as many as the places
 made_length : {X : Type 0} (item : ℕ → X) (from n : ℕ) → length (made item from n) ≡ n
 made_length item from zero = refl
 made_length item from (suc n) = ap suc (made_length item (from + 1) n)
 
+-- each stands at its place
 made_at : {X : Type 0} (item : ℕ → X) (from n k : ℕ) (x : X) → slice_get (made item from n) k ≡ Some x → item (from + k) ≡ x
 made_at item from zero k x e = cc
 made_at item from (suc n) zero x e =
@@ -134,10 +140,12 @@ made_first item n k x e =
 
 -- ---- the texts
 
+-- each thread of an accepted image reaches an end
 abbrev pub SomeEnd : Type 0
 SomeEnd = (bytes : List ℕ) (program : Program) (limits : Limits) (thread : ℕ) → IsAccepted bytes program
     → (passed : List Passing) × (end : End) × (last : State) × PlainRun program limits thread passed end last
 
+-- each schedule leaves marks where nobody waits
 abbrev pub StillReplay : Type 0
 StillReplay = (cast : Cast) (schedule : List Turns) (lines : Lines) → cast.script ≡ commands_of lines → waiting_line lines ≡ None
     → (marks : List (List Mark)) × Replay cast schedule marks
@@ -148,11 +156,13 @@ with_marks [] marks = []
 with_marks (c ∷ cs) [] = record { passed = c.0; end = c.1; last = c.2; marks = [] } ∷ with_marks cs []
 with_marks (c ∷ cs) (m ∷ marks) = record { passed = c.0; end = c.1; last = c.2; marks = m } ∷ with_marks cs marks
 
+-- their plain parts are the plain runs
 cores_are : (cs : List Core) (marks : List (List Mark)) → map core (with_marks cs marks) ≡ cs
 cores_are [] marks = refl
 cores_are (c ∷ cs) [] = ap (λ (ds : List Core). c ∷ ds) (cores_are cs [])
 cores_are (c ∷ cs) (m ∷ marks) = ap (λ (ds : List Core). c ∷ ds) (cores_are cs marks)
 
+-- and their marks are the marks
 marks_are : (cs : List Core) (marks : List (List Mark)) → length marks ≡ length cs → map (λ (run : ThreadRun). run.marks) (with_marks cs marks) ≡ marks
 marks_are [] [] e = refl
 marks_are [] (m ∷ marks) e = absurd (omega (arith, e))
@@ -163,6 +173,7 @@ marks_are (c ∷ cs) (m ∷ marks) e = ap (λ (ms : List (List Mark)). m ∷ ms)
 marks_count : (cast : Cast) (schedule : List Turns) (marks : List (List Mark)) → Replay cast schedule marks → length marks ≡ length cast.passings
 marks_count cast schedule marks (last, ran, is) = ap length is ∙ length-map _ _ ∙ length-enumerate_from 1 cast.passings
 
+-- the plain run of the thread of a place
 some_core : SomeEnd → (bytes : List ℕ) (program : Program) (limits : Limits) → IsAccepted bytes program → (i : ℕ)
     → (c : Core) × IsCore program limits i c
 some_core some bytes program limits accepted i =
@@ -226,9 +237,11 @@ some_plain some bytes program options accepted =
 
 -- ---- commands
 
+-- a text is printed
 some_prints : (IsText : List ℕ → Type 0) → (text : List ℕ) × IsText text → SomeOutcome (Prints IsText)
 some_prints IsText (text, is) = (Done [] text, (text, is, refl))
 
+-- a match comes to some outcome, where its first part does
 some_match : (found : Option ℕ) (P : Outcome → Type 0) (r : ℕ → Outcome) → (found ≡ None → SomeOutcome P)
     → SomeOutcome (λ outcome. MatchOption found (P outcome) (λ n. outcome ≡ r n))
 some_match None P r some = some refl
@@ -243,9 +256,11 @@ some_replays some replay s bytes options program plan turns accepted =
     (λ still. some_prints (SimPrints program (commands_of plan.lines) turns options)
     (some_sim some replay bytes program plan.lines turns options accepted still))
 
+-- the desk doesn't hold the name
 abbrev IsAbsent : (List ℕ → Entry) → List ℕ → Type 0
 IsAbsent held name = held name ≡ Absent
 
+-- each command comes to some outcome
 some_command : SomeVerdict → Accepts → SomeEnd → StillReplay → (held : List ℕ → Entry) → TellsAll held → HoldsBytes held → (command : Command)
     → SomeOutcome (Comes (λ name. held name ≡ Absent) held command)
 some_command verdict accepts some replay held told holds (Sim i s c options) =
@@ -269,6 +284,7 @@ some_command verdict accepts some replay held told holds (Asm t i threshold) =
     (λ file outcome. outcome ≡ Done ((i, file) ∷ []) []) (told t) holds
     (λ bytes file reads. (Done ((i, file) ∷ []) [], refl))
 
+-- and so do words, whether or not they say a command
 some_found : SomeVerdict → Accepts → SomeEnd → StillReplay → (held : List ℕ → Entry) → TellsAll held → HoldsBytes held → (found : Option Command)
     → SomeOutcome (λ outcome. MatchOption found (outcome ≡ BadLine) (λ command. Comes (λ name. held name ≡ Absent) held command outcome))
 some_found verdict accepts some replay held told holds None = (BadLine, refl)
