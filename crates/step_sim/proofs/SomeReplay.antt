@@ -113,6 +113,7 @@ abbrev wanted_of : Reading → (List Load → Option ℕ) → Option ℕ
 wanted_of (Wants word) later = Some word
 wanted_of (Marked mark behind) later = later behind
 
+-- the next load of a thread, by how far its loads bring the first of its passings
 next_is : (program : Program) (thread number sled : ℕ) (sleds : List ℕ) (loads : List Load) (r : Reading) → from_head program sled loads ≡ r
     → next_from program thread None number (sled ∷ sleds) loads ≡ wanted_of r (next_from program thread None (number + 1) sleds)
 next_is program thread number sled sleds loads (Wants word) e = rw e refl
@@ -151,9 +152,11 @@ left_falls program thread number (sled ∷ sleds) loads load word wants =
 
 -- ---- a thread runs out
 
+-- the most loads that are left to a thread at a moment
 abbrev left_at : Cast → ℕ → Moment → ℕ
 left_at cast thread m = left cast.program (of_thread cast.passings thread) (of_thread m.loads thread)
 
+-- what is left falls with each turn of a thread that wants a word
 turn_falls : (cast : Cast) (thread : ℕ) (m : Moment) (word : ℕ) → hold_of thread cast.script ≡ None → thread - 1 < length m.loads
     → wanted_by cast thread m ≡ Some word → left_at cast thread (thread_turn cast thread m) < left_at cast thread m
 turn_falls cast thread m word free within wants =

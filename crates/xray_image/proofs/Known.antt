@@ -23,11 +23,13 @@ use Rattle.xray_image.specs.Program.{BeginsBehind, BranchReaches, IsEntryOf, IsF
 abbrev pub Known : Type 0 → Type 0
 Known P = P ⊎ (P → ⊥)
 
+-- two facts hold, or not both do
 pub known_both : (P Q : Type 0) → Known P → Known Q → Known (P × Q)
 known_both P Q (inl p) (inl q) = inl (p, q)
 known_both P Q (inl p) (inr fails) = inr (λ both. fails both.1)
 known_both P Q (inr fails) q = inr (λ both. fails both.0)
 
+-- a fact doesn't hold, or it does
 pub known_not : (P : Type 0) → Known P → Known (P → ⊥)
 known_not P (inl p) = inr (λ fails. fails p)
 known_not P (inr fails) = inl fails
@@ -39,28 +41,35 @@ known_by false P d = inr (λ p. false≢true (d.1 p))
 
 -- ---- numbers, lists and options
 
+-- a number is below another, or not
 pub known_below : (m n : ℕ) → Known (m < n)
 known_below m n = elim (cases_lt m n) [ inl lt ↦ inl lt | inr le ↦ inr (λ lt. omega arith) ]
 
+-- a number is at most another, or not
 pub known_most : (m n : ℕ) → Known (m ≤ n)
 known_most m n = elim (cases_lt n m) [ inl lt ↦ inr (λ le. omega arith) | inr le ↦ inl le ]
 
+-- a test is true, or not
 pub known_true : (b : Bool) → Known (b ≡ true)
 known_true true = inl refl
 known_true false = inr false≢true
 
+-- two lists are the same, or not
 pub known_list : (xs ys : List ℕ) → Known (xs ≡ ys)
 known_list xs ys = known_by _ (xs ≡ ys) (bytes_eq-Decides xs ys)
 
+-- two numbers that may be missing are the same, or not
 pub known_option : (a b : Option ℕ) → Known (a ≡ b)
 known_option None None = inl refl
 known_option None (Some y) = inr (λ e. cc)
 known_option (Some x) None = inr (λ e. cc)
 known_option (Some x) (Some y) = elim (cases_eq x y) [ inl e ↦ inl (ap (λ (n : ℕ). Some n) e) | inr apart ↦ inr (λ e. apart (same_Some x y e)) ]
 
+-- a list has a number, or not
 pub known_contains : (xs : List ℕ) (x : ℕ) → Known (Contains xs x)
 known_contains xs x = known_by _ (Contains xs x) (is_member-Decides Decides-eqb xs x)
 
+-- a fact holds of all items, or not
 pub known_all : {X : Type 0} (P : X → Type 0) → ((x : X) → Known (P x)) → (xs : List X) → Known (All P xs)
 known_all P known [] = inl (All-nil P)
 known_all P known (x ∷ xs) = by_parts (known x) (known_all P known xs)
@@ -101,6 +110,7 @@ known_front (x ∷ xs) (y ∷ ys) = by_parts (cases_eq y x) (known_front xs ys)
 
 -- ---- the conditions of the table
 
+-- a function begins behind the one before it, or not
 known_begins : (base start : ℕ) (o : Option Function) → Known (BeginsBehind base o start)
 known_begins base start None = cases_eq start base
 known_begins base start (Some before) = known_below before.start start
@@ -121,6 +131,7 @@ known_function base units before f =
     whole (inl a) (inr fails) c d e = inr (λ r. fails r.in_order)
     whole (inr fails) b c d e = inr (λ r. fails r.at_unit)
 
+-- a kind fits what the code has, or not
 known_kind : (returns : Bool) (kind : ℕ) → Known (KindFits returns kind)
 known_kind true kind = cases_eq kind 1
 known_kind false kind = either (cases_eq kind 0) (cases_eq kind 2)
@@ -142,6 +153,7 @@ known_entry functions place entry =
     whole (inl a) (inr fails) c = inr (λ r. fails r.kind)
     whole (inr fails) b c = inr (λ r. fails r.in_function)
 
+-- a number fits 32 bits, or not
 known_fits : (z : ℤ) → Known (FitsSigned w32 z)
 known_fits (pos n) = by_size (known_below n 2147483648)
   where
@@ -162,6 +174,7 @@ known_reach trampolines place entry = known_fits _
 abbrev Arrives : List Unit → Option ℤ → Type 0
 Arrives units o = IfSome o (λ target. (address : ℕ) × (target ≡ pos address) × Contains (addresses units) address)
 
+-- a target is the address of a unit, or not
 known_target : (units : List Unit) (o : Option ℤ) → Known (Arrives units o)
 known_target units None = inl tt
 known_target units (Some (pos n)) = by_unit (known_contains (addresses units) n)
@@ -178,20 +191,25 @@ known_target units (Some (negsuc n)) = inr (λ h. let e = h.1 in cc)
 abbrev Goes : List Unit → Unit → What → Type 0
 Goes units u what = (instr : Instr) → what ≡ Plain instr → Arrives units (branch_target (u.address + length (spelling instr)) instr)
 
+-- one unit is one instruction
 plain_same : (i j : Instr) → Plain i ≡ Plain j → i ≡ j
 plain_same i j e = cc
 
+-- a sled is no instruction
 no_sled : (k : ℕ) (i : Instr) → Sled k ≡ Plain i → ⊥
 no_sled k i e = cc
 
+-- nor is the alignment byte
 no_pad : (i : Instr) → Pad ≡ Plain i → ⊥
 no_pad i e = cc
 
+-- an instruction goes to a unit, or not
 by_target : (units : List Unit) (u : Unit) (i : Instr) → Known (Arrives units (branch_target (u.address + length (spelling i)) i)) → Known (Goes units u (Plain i))
 by_target units u i (inl there) =
     inl (λ j e. subst (λ (x : Instr). Arrives units (branch_target (u.address + length (spelling x)) x)) (plain_same i j e) there)
 by_target units u i (inr fails) = inr (λ all. fails (all i refl))
 
+-- so does a unit, by what it is
 by_what : (units : List Unit) (u : Unit) (what : What) → Known (Goes units u what)
 by_what units u (Plain i) = by_target units u i (known_target units (branch_target (u.address + length (spelling i)) i))
 by_what units u (Sled k) = inl (λ i e. absurd (no_sled k i e))

@@ -24,10 +24,12 @@ use Rattle.xray_image.proofs.Nops.{IsBytes, nop_found}
 use Rattle.xray_image.proofs.Pieces.{piece_has_byte}
 use Rattle.xray_image.proofs.Standing.{stand_are, units_stand}
 use Rattle.xray_image.proofs.Scans.{from_below}
+use Rattle.xray_image.proofs.TableRows.{OneAnswer}
 use Rattle.xray_image.proofs.Stuck.{no_even, no_jump, no_return, no_whole}
 
 -- ---- bytes
 
+-- each number is a byte
 abbrev AreBytes : List ℕ → Type 0
 AreBytes bytes = All (λ b. b < 256) bytes
 
@@ -44,6 +46,7 @@ behind_front : (front behind : List ℕ) → AreBytes (front ++ behind) → AreB
 behind_front [] behind all = all
 behind_front (x ∷ xs) behind all = behind_front xs behind (All-tail (λ b. b < 256) x (xs ++ behind) all)
 
+-- the same of bytes that are a front and what stands behind it
 bytes_behind : (bytes front behind : List ℕ) → bytes ≡ front ++ behind → AreBytes bytes → AreBytes behind
 bytes_behind bytes front behind e all = behind_front front behind (subst AreBytes e all)
 
@@ -53,6 +56,7 @@ bytes_behind bytes front behind e all = behind_front front behind (subst AreByte
 abbrev NopOf : List ℕ → Type 0
 NopOf bytes = ((shift : ℕ) × (shift < 2 ^ 32) × Begins (nop_bytes shift) bytes) ⊎ ((shift : ℕ) → Begins (nop_bytes shift) bytes → ⊥)
 
+-- bytes begin with a nop, or with none
 some_nop : (bytes : List ℕ) → AreBytes bytes → NopOf bytes
 some_nop bytes all = by_front (known_front (0x66 ∷ 0x0F ∷ 0x1F ∷ 0x84 ∷ 0x00 ∷ []) bytes)
   where
@@ -72,6 +76,7 @@ SledOf bytes =
     ((piece : Piece) × IsSled piece × IsPiece piece × Begins (piece_bytes piece) bytes)
     ⊎ ((piece : Piece) → IsSled piece → Begins (piece_bytes piece) bytes → ⊥)
 
+-- bytes begin with a sled, or with none
 some_sled : (bytes : List ℕ) → AreBytes bytes → SledOf bytes
 some_sled bytes all = by_front (known_front (0xEB ∷ 0x09 ∷ []) bytes) (known_front (0xC3 ∷ 0x2E ∷ []) bytes)
   where
@@ -100,14 +105,13 @@ record NoneStands (address : ℕ) (bytes : List ℕ) : Type 0 where
   none : (piece : Piece) (behind : List ℕ) → StandsAt address bytes piece behind → ⊥
   why : (place : ℕ) → (fault : ImageFault) × UnitFault place bytes fault
 
+-- a unit stands in front of the bytes, or none does
 abbrev UnitOf : ℕ → List ℕ → Type 0
 UnitOf address bytes = ((piece : Piece) × ((behind : List ℕ) × StandsAt address bytes piece behind)) ⊎ NoneStands address bytes
 
+-- the decoder has an answer to any bytes
 abbrev SomeAnswer : Type 0
 SomeAnswer = (bytes : List ℕ) → AreBytes bytes → (a : Result Instr DecodeFault) × Answers bytes a
-
-abbrev pub OneAnswer : Type 0
-OneAnswer = (bytes : List ℕ) (a b : Result Instr DecodeFault) → Answers bytes a → Answers bytes b → a ≡ b
 
 -- a whole sled stands at an even address
 sled_stands : (address : ℕ) (bytes : List ℕ) (piece : Piece) → IsSled piece → IsPiece piece → (b : Begins (piece_bytes piece) bytes)
@@ -173,6 +177,7 @@ record Front (address : ℕ) (bytes : List ℕ) : Type 0 where
   stand : StandUpTo address bytes pieces end left
   ends : (left ≡ []) ⊎ Stops end left
 
+-- no units stand up to the end of no bytes
 no_bytes : (address : ℕ) → Front address []
 no_bytes address = record { pieces = []; end = address; left = []; stand = (refl, refl); ends = inl refl }
 
@@ -182,6 +187,7 @@ one_before : (address : ℕ) (bytes : List ℕ) (piece : Piece) (behind : List �
 one_before address bytes piece behind stands rest =
     record { pieces = piece ∷ rest.pieces; end = rest.end; left = rest.left; stand = (behind, stands, rest.stand); ends = rest.ends }
 
+-- units stand up to the end, or to where none does: each has a byte, so they are at most as many as the bytes
 some_front : SomeAnswer → OneAnswer → (most address : ℕ) (bytes : List ℕ) → length bytes ≤ most → AreBytes bytes → Front address bytes
 some_front some one most address [] short all = no_bytes address
 some_front some one zero address (x ∷ xs) short all = absurd (omega arith)
@@ -207,6 +213,7 @@ some_front some one (suc most) address (x ∷ xs) short all =
 abbrev pub SomeVerdict : (Verdict → Type 0) → Type 0
 SomeVerdict reads = (verdict : Verdict) × reads verdict
 
+-- a row decides, where its condition is known and what follows decides
 some_needs : (condition : Type 0) (fault : ImageFault) (follows : Verdict → Type 0) → Known condition → (condition → SomeVerdict follows)
     → SomeVerdict (Needs condition fault follows)
 some_needs condition fault follows (inl holds) rest = let r = rest holds in (r.0, inr (holds, r.1))
@@ -216,6 +223,7 @@ some_needs condition fault follows (inr fails) rest = (Err fault, inl (fails, re
 abbrev FirstBelow : (ℕ → Type 0) → ℕ → Type 0
 FirstBelow C n = ((i : ℕ) × (C i → ⊥) × ((j : ℕ) → j < i → C j)) ⊎ ((j : ℕ) → j < n → C j)
 
+-- below a bound some number is the first for which a condition doesn't hold, or it holds for all
 first_below : (C : ℕ → Type 0) → ((i : ℕ) → Known (C i)) → (n : ℕ) → FirstBelow C n
 first_below C known zero = inr (λ j lt. absurd (omega arith))
 first_below C known (suc n) = by_rest (first_below C known n) (known n)
@@ -226,6 +234,7 @@ first_below C known (suc n) = by_rest (first_below C known n) (known n)
         inr (λ j lt. elim (cases_eq j n) [ inl e ↦ subst C (sym e) holds | inr apart ↦ below j (omega arith) ])
     by_rest (inr below) (inr fails) = inl (n, fails, below)
 
+-- a row over all numbers decides, where from some number on there is nothing to hold
 some_needs_each : (condition : ℕ → Type 0) (fault : ℕ → ImageFault) (follows : Verdict → Type 0) → ((i : ℕ) → Known (condition i)) → (n : ℕ)
     → ((i : ℕ) → n ≤ i → condition i) → SomeVerdict follows → SomeVerdict (NeedsEach condition fault follows)
 some_needs_each condition fault follows known n beyond rest = by_first (first_below condition known n)
@@ -234,6 +243,7 @@ some_needs_each condition fault follows known n beyond rest = by_first (first_be
     by_first (inl (i, fails, below)) = (Err (fault i), inl (i, fails, below, refl))
     by_first (inr below) = (rest.0, inr (from_below condition n below beyond, rest.1))
 
+-- the row of the units decides
 some_needs_units : SomeAnswer → OneAnswer → (base : ℕ) (code : List ℕ) → AreBytes code → (follows : List Piece → Verdict → Type 0)
     → ((pieces : List Piece) → SomeVerdict (follows pieces)) → SomeVerdict (NeedsUnits base code follows)
 some_needs_units some one base code all follows rest =
@@ -264,6 +274,7 @@ some_needs_units some one base code all follows rest =
           ),
         )
 
+-- a row over a part that may be missing decides
 some_option : {X : Type 0} (o : Option X) (missing : Verdict) (there : X → Verdict → Type 0) → ((x : X) → o ≡ Some x → SomeVerdict (there x))
     → SomeVerdict (λ v. MatchOption o (v ≡ missing) (λ x. there x v))
 some_option None missing there some = (missing, refl)
@@ -281,9 +292,11 @@ both_past entries places i past =
     slice_get_past (map (λ e. e.sled) entries) i (omega (arith, length-map entries (λ e. e.sled)))
     ∙ sym (slice_get_past (map (λ p. p.address) places) i (omega (arith, length-map places (λ p. p.address))))
 
+-- the function of a number is fit, or not
 known_fit : (base : ℕ) (units : List Unit) (functions : List Function) (i : ℕ) → Known (FunctionIsFit base units functions i)
 known_fit base units functions i = known_item (slice_get functions i) _ (λ f. known_function base units (take i functions) f)
 
+-- the sled and the entry of a number fit each other, or not
 known_at : (places : List SledPlace) (entries : List MapEntry) (Fits : SledPlace → MapEntry → Type 0)
     → ((place : SledPlace) (entry : MapEntry) → Known (Fits place entry)) → (i : ℕ) → Known (FitsAt places entries Fits i)
 known_at places entries Fits known i =

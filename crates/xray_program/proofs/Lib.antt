@@ -6,6 +6,7 @@ pub mod ImageTurns
 pub mod ItemLemmas
 pub mod NumberLemmas
 pub mod OneMeaning
+pub mod SomeMeaning
 pub mod OutputNames
 pub mod Outputting
 pub mod PlainThreads

@@ -138,10 +138,10 @@ text_decided threshold = of_answers (codes "text") 4194304 (λ bytes. assembled 
 -- ---- the texts
 
 -- a plain run: its passings, its end and its last state
-abbrev Core : Type 0
+abbrev pub Core : Type 0
 Core = List Passing × End × State
 
-abbrev core : ThreadRun → Core
+abbrev pub core : ThreadRun → Core
 core run = (run.passed, run.end, run.last)
 
 -- the text of runs is that of their plain parts and their marks
@@ -154,11 +154,11 @@ texts_are : (number : ℕ) (runs : List ThreadRun) → state_texts number runs �
 texts_are number [] = refl
 texts_are number (run ∷ runs) = ap (λ (text : List ℕ). state_text number run.end run.last run.marks ++ text) (texts_are (number + 1) runs)
 
-sleds_are : (runs : List ThreadRun) → map (λ run. sleds_of run.passed) runs ≡ map (λ (c : Core). sleds_of c.0) (map core runs)
+pub sleds_are : (runs : List ThreadRun) → map (λ run. sleds_of run.passed) runs ≡ map (λ (c : Core). sleds_of c.0) (map core runs)
 sleds_are [] = refl
 sleds_are (run ∷ runs) = ap (λ (ss : List (List ℕ)). sleds_of run.passed ∷ ss) (sleds_are runs)
 
-abbrev IsCore : Program → Limits → ℕ → Core → Type 0
+abbrev pub IsCore : Program → Limits → ℕ → Core → Type 0
 IsCore program limits i c = PlainRun program limits (i + 1) c.0 c.1 c.2
 
 one_core : OneEnd → (bytes : List ℕ) (program : Program) (limits : Limits) (i : ℕ) (c d : Core) → IsAccepted bytes program

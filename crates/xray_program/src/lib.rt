@@ -29,4 +29,4 @@ mod stop;
 mod words;
 
 pub use call::{xray, xray_still};
-pub use laws::one_meaning;
+pub use laws::{one_meaning, some_meaning};
