@@ -103,6 +103,14 @@ record_stands decodes bytes r all is = by_answer (decodes bytes all).0 (decodes 
         let e = refused_again f bytes h in
         absurd cc
 
+-- the record of bytes, or their fault, is the decoder's answer
+pub decoded : Decodes → (bytes : List ℕ) → AreBytes bytes → Answers bytes (record_in bytes)
+decoded decodes bytes all = by_answer (decodes bytes all).0 (decodes bytes all).1
+  where
+    by_answer : (a : Result Rec RecFault) → Answers bytes a → Answers bytes (record_in bytes)
+    by_answer (Ok r) h = subst (Answers bytes) (sym (told_again r bytes h.0 h.1)) h
+    by_answer (Err f) h = subst (Answers bytes) (sym (refused_again f bytes h)) h
+
 -- what stands without a fault is spelled
 record Spelled (at : ℕ) (bytes : List ℕ) : Type 0 where
   records : List Rec

@@ -2,13 +2,22 @@
 
 ghost use Rattle.std.specs.Prelude.{◌≡◌, ◌<◌, List, ℕ, All, Ok};
 ghost use Rattle.fdr_buffer.specs.Filled.{Filled};
+ghost use Rattle.fdr_record.specs.Refusals.{Answers};
 ghost use Rattle.fdr_file.specs.declared.header.Header.{Header};
 ghost use Rattle.fdr_file.specs.declared.trace.Trace.{Trace};
 ghost use Rattle.fdr_file.specs.Files.{file_bytes, trace_told, BufferFits, HeaderFits};
 ghost use Rattle.fdr_file.specs.Grammar.{IsTrace};
-ghost use Rattle.fdr_file.specs.Traces.{trace_of};
+ghost use Rattle.fdr_file.specs.Traces.{record_in, trace_of};
 
 use fdr_record::one_answer;
+
+/// What the places of a file are looked at for is what the decoder of records may answer there: the
+/// record that the bytes from there on begin with, or its refusal.
+pub fn a_place_is_decoded()
+    ensures { (bytes : List ℕ) → All (λ b. b < 256) bytes → Answers bytes (record_in bytes) }
+{
+    one_answer();
+}
 
 /// A file that is a trace by the grammar reads as this trace. So it is no other one.
 pub fn a_trace_is_read()

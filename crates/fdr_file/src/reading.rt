@@ -9,12 +9,13 @@ use crate::header::{HEADER_BYTES, read_header};
 use crate::{Blocks, Trace, TraceFault};
 use std::alloc::Global;
 
-/// Reads a trace file of version 3: a header of 32 bytes, and blocks up to the file's end. A block is
-/// a `BufferExtents` record and as many bytes as it names: `NewBuffer`, `WalltimeMarker`, `Pid`, and
-/// then `NewCPUId`, `TSCWrap` and function records. An event has the CPU of the `NewCPUId` before it,
-/// and its counter is the last one that was told whole and all deltas since, in 64 bits. A block may
-/// have no events, and a function any id. The header's flags above the second, its reserved bytes and
-/// the bytes of a metadata record behind its fields aren't looked at.
+/// Reads a trace file of version 3, as LLVM's `FDRTraceWriter.cpp` writes it: a header of 32 bytes, and
+/// blocks up to the file's end. A block is a `BufferExtents` record and as many bytes as it names:
+/// `NewBuffer`, `WalltimeMarker`, `Pid`, and then `NewCPUId`, `TSCWrap` and function records. An event
+/// has the CPU of the `NewCPUId` before it, and its counter is the last one that was told whole and
+/// all deltas since, in 64 bits. A block may have no events, and a function any id. The header's flags
+/// above the second, its reserved bytes and the bytes of a metadata record behind its fields aren't
+/// looked at.
 ///
 /// Bytes that are no trace are refused by the fault of the first place that has one, as `TraceFault`
 /// tells; `NoMemory` may come in place of any answer. The time is linear in the file's length, and

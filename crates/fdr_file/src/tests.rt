@@ -366,3 +366,25 @@ fn what_is_written_reads_back(rt: HostRuntime) -> Result<(), Fail> {
     assert_eq!(rt; block.events.as_slice(), events.as_slice());
     Ok(())
 }
+
+#[test]
+fn lists_are_given_back(rt: HostRuntime) -> Result<(), Fail> {
+    let exit = event(0, 1, Kind::Exit, 2);
+    let events = Events::new(vec![in rt.alloc(); exit; 2]?).into_vec();
+    assert_eq!(rt; events.as_slice(), [exit, exit].as_slice());
+    let block = Block {
+        thread: 7,
+        wall: Wall { secs: 0, micros: 0 },
+        pid: 1,
+        events: Events::new(events),
+    };
+    let mut blocks = Vec::new(rt.alloc());
+    blocks.push(block)?;
+    let blocks = Blocks::new(blocks).into_vec();
+    assert_eq!(rt; blocks.len(), 1);
+    for block in &blocks {
+        assert_eq!(rt; block.thread, 7);
+        assert_eq!(rt; block.events.as_slice().len(), 2);
+    }
+    Ok(())
+}
