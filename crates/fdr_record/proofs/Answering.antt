@@ -1,8 +1,7 @@
--- What is read of bytes is an answer of them, and bytes have one answer at most.
+-- What is read of bytes is an answer of them.
 use Rattle.std.proofs.Common.{rules, ◌≡◌, ◌≢◌, ℕ, ◌+◌, ◌*◌, ◌/◌, ◌%◌, ◌≤◌, ltb, List, [], ◌∷◌, ◌++◌, length, get_or, take, drop, Result, Ok, Err, refl, ap, ◌∙◌, arith, inl, inr}
 use Rattle.std.proofs.lemmas.Bool.{cases_Bool, ltb-false, ltb-true, ne_eqb}
 use Rattle.std.proofs.lemmas.Bool.Decides.{eqb_tells}
-use Rattle.std.proofs.lemmas.Grind.{common_steps}
 use Rattle.std.proofs.lemmas.List.{length-take, length-drop}
 use Rattle.std.proofs.Math.Seq.{take-add}
 use Rattle.byteorder.specs.Endian.{little_bytes, little_number}
@@ -16,9 +15,6 @@ use Rattle.fdr_record.specs.Records.{action_of, first_of, head_of}
 use Rattle.fdr_record.specs.Refusals.{Answers}
 use Rattle.fdr_record.specs.Reading.{function_at, fields_read, metadata_at}
 use Rattle.fdr_record.proofs.Fields.{IsBytes, IsBytes-drop, IsBytes-rest, field_2, field_4, field_8}
-
-pub same_answer : (bytes : List ℕ) (a b : Result Rec RecFault) → Answers bytes a → Answers bytes b → a ≡ b
-same_answer bytes a b h k = grind (arith, common_steps)
 
 -- the first bytes of a function record
 head_is : (first action : ℕ) (rest : List ℕ) → first % 2 ≡ 0 → first / 2 % 8 ≡ action → 2 * action + 16 * (little_number 4 (first ∷ rest) / 16) ≡ little_number 4 (first ∷ rest)

@@ -1,0 +1,4 @@
+pub mod Records
+pub mod Telling
+pub mod Filling
+pub mod Cutting

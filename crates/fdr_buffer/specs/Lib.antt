@@ -1,0 +1,5 @@
+pub mod Segments
+pub mod Leads
+pub mod Filled
+pub mod Telling
+pub mod Buffer

@@ -1,0 +1,78 @@
+-- The records of events, and the cut of events into segments.
+use Rattle.std.specs.Prelude.{◌<◌, ◌^◌, ◌+◌, ◌-◌, ◌||◌, ℕ, Bool, List, [], ◌∷◌, ◌++◌, Option, Some, None, length, nat_lt, nat_le, ◌==◌, if◌then◌else◌}
+use Rattle.std.specs.List.{flat_map}
+use Rattle.xray_io.specs.declared.faults.Wall.{Wall}
+use Rattle.fdr_record.specs.declared.event.Event.{Event}
+use Rattle.fdr_record.specs.declared.rec.Rec.{Rec}
+use Rattle.fdr_record.specs.declared.rec.Rec.TheVariants.{NewBuffer, NewCpu, TscWrap, WallTime, Pid, Function}
+use Rattle.fdr_record.specs.Records.{record_bytes}
+
+-- the function record of an event
+abbrev pub function_record : Event → ℕ → Rec
+function_record event delta = Function event.kind event.func delta
+
+-- no delta of 32 bits leads from the counter before to this one
+abbrev pub is_out_of_reach : ℕ → ℕ → Bool
+is_out_of_reach before tsc = nat_lt tsc before || nat_lt (before + (2 ^ 32 - 1)) tsc
+
+-- the records of the first event of a segment, or of one on another CPU
+abbrev pub records_on_new_cpu : Event → List Rec
+records_on_new_cpu event = NewCpu event.cpu event.tsc ∷ function_record event 0 ∷ []
+
+-- the records of an event on the same CPU as the one before, by that one's counter
+abbrev pub records_on_same_cpu : ℕ → Event → List Rec
+records_on_same_cpu before event =
+    if is_out_of_reach before event.tsc then TscWrap event.tsc ∷ function_record event 0 ∷ []
+    else function_record event (event.tsc - before) ∷ []
+
+-- the records of an event behind the event before it in its segment
+abbrev pub records_of : Option Event → Event → List Rec
+records_of None event = records_on_new_cpu event
+records_of (Some before) event = if before.cpu == event.cpu then records_on_same_cpu before.tsc event else records_on_new_cpu event
+
+-- the records of events, each behind the one before
+abbrev pub records_behind : Option Event → List Event → List Rec
+records_behind before [] = []
+records_behind before (event ∷ events) = records_of before event ++ records_behind (Some event) events
+
+-- records, one behind the other
+abbrev pub bytes_of : List Rec → List ℕ
+bytes_of records = flat_map record_bytes records
+
+-- the bytes of a segment
+abbrev pub segment_bytes : List Event → List ℕ
+segment_bytes events = bytes_of (records_behind None events)
+
+-- the bytes that a buffer begins with
+abbrev pub preamble : ℕ → Wall → ℕ → List ℕ
+preamble thread wall pid = bytes_of (NewBuffer thread ∷ WallTime wall ∷ Pid pid ∷ [])
+
+-- the bytes of a buffer that holds a segment
+abbrev pub body : ℕ → Wall → ℕ → List Event → List ℕ
+body thread wall pid events = preamble thread wall pid ++ segment_bytes events
+
+-- how many bytes a preamble has
+abbrev pub preamble_length : ℕ
+preamble_length = 48
+
+-- the events have room in a buffer of this size, behind its preamble
+abbrev pub has_room : ℕ → List Event → Bool
+has_room size events = nat_le (preamble_length + length (segment_bytes events)) size
+
+-- the segments of an open one and the events behind it
+abbrev pub segments_from : ℕ → List Event → List Event → List (List Event)
+segments_from size opened [] = opened ∷ []
+segments_from size opened (event ∷ events) =
+    if has_room size (opened ++ event ∷ []) then segments_from size (opened ++ event ∷ []) events
+    else opened ∷ segments_from size (event ∷ []) events
+
+-- The cut of events into segments: an event joins the open segment exactly where there is room for its records too.
+abbrev pub segments : ℕ → List Event → List (List Event)
+segments size [] = []
+segments size (event ∷ events) = segments_from size (event ∷ []) events
+
+-- each field of the event fits its record
+pub record EventFits (event : Event) : Type 0 where
+  pub cpu : event.cpu < 2 ^ 16
+  pub func : event.func < 2 ^ 28
+  pub tsc : event.tsc < 2 ^ 64

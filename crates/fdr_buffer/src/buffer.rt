@@ -1,0 +1,149 @@
+//! A buffer of one segment of a thread's events.
+
+ghost use Rattle.std.specs.Prelude.{◌≡◌, ◌<◌, ◌≤◌, ◌↔◌, ◌+◌, ◌^◌, [], ◌∷◌, ◌++◌, true, length, IsTrue, IfOk};
+ghost use Rattle.fdr_buffer.specs.Segments.{has_room};
+ghost use Rattle.fdr_buffer.specs.Filled.{empty_buffer, used_bytes};
+
+use crate::lead::Lead;
+use crate::writing::{put_event, put_preamble};
+use fdr_record::Event;
+use std::alloc::Global;
+use std::marker::Model;
+use xray_io::{NoMemory, Wall};
+
+/// The least size of a buffer, in bytes: its preamble, and the records of one event.
+pub const LEAST: u32 = 72;
+
+/// The largest size of a buffer, in bytes.
+pub const LARGEST: u32 = 1_048_576;
+
+/// The bytes of one segment of a thread's events: a preamble that says of which thread, when and in
+/// which process, and then the records of the events (LLVM's `FDRController` fills its buffers so).
+/// They lie in room that is taken when the buffer is made, and no other call takes memory.
+#[derive(Debug, Drop)]
+pub struct Buffer {
+    /// As many bytes as the buffer's size.
+    bytes: Vec<u8>,
+    /// How many of them are used: none until it is begun.
+    used: usize,
+    thread: u32,
+    serial: u32,
+    wall: Wall,
+    pid: u32,
+    /// How many events it holds.
+    count: u32,
+    /// The last of them.
+    last: Option<Event>,
+}
+
+impl Model for Buffer {
+    ghost use Rattle.fdr_buffer.specs.Filled.{Filled};
+
+    ghost Value = { Filled };
+
+    ghost use Rattle.fdr_buffer.specs.Buffer.{filled_in, IsFilled};
+
+    ghost view = { filled_in };
+
+    ghost invariant = { IsFilled };
+}
+
+impl Buffer {
+    /// A buffer of so many bytes, which holds no segment yet. `NoMemory` comes where an allocation was
+    /// refused.
+    pub fn new(alloc: Global, size: u32) -> Result<Buffer, NoMemory>
+        requires least { LEAST ≤ size }
+        requires most { size ≤ LARGEST }
+        ensures { IfOk result (λ buffer. buffer ≡ empty_buffer size) }
+    {
+        Ok(Buffer {
+            bytes: vec![in alloc; 0; size as usize]?,
+            used: 0,
+            thread: 0,
+            serial: 0,
+            wall: Wall { secs: 0, micros: 0 },
+            pid: 0,
+            count: 0,
+            last: None,
+        })
+    }
+
+    /// Empties the buffer, and begins segment `serial` (from 0) of the thread in it.
+    pub fn begin(&mut self, thread: u32, serial: u32, wall: Wall, pid: u32)
+        ensures { self.new ≡ record {
+          size = self.old.size;
+          begun = true;
+          thread = thread;
+          serial = serial;
+          wall = wall;
+          pid = pid;
+          events = [];
+        } }
+    {
+        self.used = put_preamble(&mut self.bytes, thread, wall, pid);
+        self.thread = thread;
+        self.serial = serial;
+        self.wall = wall;
+        self.pid = pid;
+        self.count = 0;
+        self.last = None;
+    }
+
+    /// Whether there is room for the event's records behind those that the buffer holds. It has to be
+    /// begun.
+    pub fn fits(&self, event: &Event) -> bool
+        requires { IsTrue self.now.begun }
+        ensures { result ≡ has_room self.now.size (self.now.events ++ event.now ∷ []) }
+    {
+        Lead::of(self.last, event).len(event) <= self.bytes.len() - self.used
+    }
+
+    /// Adds an event behind the others. The buffer has to be begun and to have room for it, as `fits`
+    /// tells, and the function's id has to be below 2^28.
+    pub fn put(&mut self, event: &Event)
+        requires begun { IsTrue self.old.begun }
+        requires room { IsTrue (has_room self.old.size (self.old.events ++ event.now ∷ [])) }
+        requires id { event.now.func < 2 ^ 28 }
+        ensures { self.new ≡ record self.old { events = self.old.events ++ event.now ∷ [] } }
+    {
+        let lead = Lead::of(self.last, event);
+        self.used = put_event(&mut self.bytes, self.used, lead, event);
+        self.count += 1;
+        self.last = Some(*event);
+    }
+
+    /// The bytes of the segment, with its preamble: none where the buffer isn't begun.
+    pub fn bytes(&self) -> &[u8]
+        ensures { result.now ≡ used_bytes self.now }
+    {
+        &self.bytes[..self.used]
+    }
+
+    /// The thread that it was begun for.
+    pub fn thread(&self) -> u32
+        ensures { result ≡ self.now.thread }
+    {
+        self.thread
+    }
+
+    /// Which segment of its thread it was begun for, counted from 0.
+    pub fn serial(&self) -> u32
+        ensures { result ≡ self.now.serial }
+    {
+        self.serial
+    }
+
+    /// How many events it holds.
+    pub fn events(&self) -> u32
+        ensures { result ≡ length self.now.events }
+    {
+        self.count
+    }
+
+    /// Whether it was begun.
+    pub fn begun(&self) -> bool
+        ensures { result ≡ self.now.begun }
+    {
+        self.used > 0
+    }
+}

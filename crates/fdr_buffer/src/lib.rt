@@ -1,0 +1,15 @@
+//! Buffers of events: the records of a thread's events, one behind the other, in room that is taken
+//! once. A buffer holds one segment of the thread's events, and the segments of a thread are its
+//! events cut greedily. The records are those of LLVM XRay's Flight Data Recorder mode.
+#![tactic(auto)]
+
+mod buffer;
+mod laws;
+mod lead;
+mod writing;
+
+pub use buffer::{Buffer, LARGEST, LEAST};
+pub use laws::{a_segment_grows, segments_hold_all};
+
+#[cfg(test)]
+mod tests;

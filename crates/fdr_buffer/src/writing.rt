@@ -1,0 +1,68 @@
+//! Records of preambles and events, in the bytes of a buffer.
+
+ghost use Rattle.std.specs.Prelude.{◌≡◌, ◌≤◌, ◌<◌, ◌+◌, ◌^◌, [], ◌++◌, length, take};
+ghost use Rattle.fdr_buffer.specs.Segments.{body, bytes_of, function_record, preamble_length};
+ghost use Rattle.fdr_buffer.specs.Leads.{lead_records};
+ghost use Rattle.fdr_record.specs.Records.{length_of, record_bytes, IdFits};
+
+use crate::lead::Lead;
+use fdr_record::{Event, Rec, put_rec};
+use xray_io::Wall;
+
+/// Writes the records that a buffer begins with, and answers the place behind them.
+pub(crate) fn put_preamble(bytes: &mut [u8], thread: u32, wall: Wall, pid: u32) -> usize
+    requires { preamble_length ≤ length bytes.old }
+    ensures bytes { take result bytes.new ≡ body thread wall pid [] }
+    ensures next { result ≡ preamble_length }
+{
+    let at = put_rec(&Rec::NewBuffer { thread }, bytes, 0);
+    let at = put_rec(&Rec::WallTime { wall }, bytes, at);
+    put_rec(&Rec::Pid { pid }, bytes, at)
+}
+
+/// Writes a record behind those that end at `at`, and answers the place behind it.
+fn append(bytes: &mut [u8], at: usize, rec: &Rec) -> usize
+    requires room { at + length_of rec.now ≤ length bytes.old }
+    requires id { IdFits rec.now }
+    ensures bytes { take result bytes.new ≡ take at bytes.old ++ record_bytes rec.now }
+    ensures next { result ≡ at + length_of rec.now }
+{
+    put_rec(rec, bytes, at)
+}
+
+/// The function record of an event.
+fn function(event: &Event, delta: u32) -> Rec
+    ensures { result ≡ function_record event.now delta }
+{
+    Rec::Function {
+        kind: event.kind,
+        func: event.func,
+        delta,
+    }
+}
+
+/// Writes the records of an event behind those that end at `at`, and answers the place behind them.
+#[tactic(auto, using(std::proofs::Common::append_assoc))]
+pub(crate) fn put_event(bytes: &mut [u8], at: usize, lead: Lead, event: &Event) -> usize
+    requires room { at + length (bytes_of (lead_records lead event.now)) ≤ length bytes.old }
+    requires id { event.now.func < 2 ^ 28 }
+    ensures bytes { take result bytes.new ≡ take at bytes.old
+        ++ bytes_of (lead_records lead event.now) }
+    ensures next { result ≡ at + length (bytes_of (lead_records lead event.now)) }
+{
+    match lead {
+        Lead::Cpu => {
+            let cpu = Rec::NewCpu {
+                cpu: event.cpu,
+                tsc: event.tsc,
+            };
+            let at = append(bytes, at, &cpu);
+            append(bytes, at, &function(event, 0))
+        }
+        Lead::Wrap => {
+            let at = append(bytes, at, &Rec::TscWrap { tsc: event.tsc });
+            append(bytes, at, &function(event, 0))
+        }
+        Lead::Delta(delta) => append(bytes, at, &function(event, delta)),
+    }
+}
