@@ -2,8 +2,16 @@ mod Rows
 pub mod ReplayAlong
 mod ScheduleRows
 pub mod OneReplay
+pub mod PooledReplay
+pub mod Queues
 pub mod TurnLemmas
 pub mod WantedWords
 pub mod OneThread
 pub mod AllThreads
 pub mod Bounds
+pub mod PoolLemmas
+pub mod Gathering
+pub mod SmallIds
+pub mod OneRecorded
+pub mod AllRecorded
+pub mod Recordings

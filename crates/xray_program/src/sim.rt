@@ -100,6 +100,7 @@ pub(crate) fn replay<'a, 't>(
 fn setup_of(options: RunOptions) -> Setup
     ensures threads { result.threads ≡ options.threads }
     ensures limits { result.limits ≡ limits_of options }
+    ensures sizes { (result.size ≡ 16384) × (result.max ≡ 100) }
 {
     Setup {
         threads: options.threads,
