@@ -23,7 +23,7 @@ use Rattle.step_sim.proofs.OneThread.{same_again, thread_moved}
 -- ---- lists
 
 -- an item of a list in which one was set
-set_cases : (ts : List Traced) (i j : ℕ) (new t : Traced) → slice_get (slice_set ts i new) j ≡ Some t
+pub set_cases : {X : Type 0} (ts : List X) (i j : ℕ) (new t : X) → slice_get (slice_set ts i new) j ≡ Some t
     → ((j ≡ i) × (t ≡ new)) ⊎ ((j ≢ i) × (slice_get ts j ≡ Some t))
 set_cases ts i j new t found =
     let within : j < length ts = omega (arith, slice_get_within (slice_set ts i new) j t found, length-set ts i new) in

@@ -52,37 +52,43 @@ no_holds ((n, commands.Await thread count) ∷ rest) e number = absurd (some_is_
 -- ---- the beginning
 
 -- the passings of threads that have begun, as one list
-record Gathered (ts : List Traced) : Type 0 where
-  all : List (List ℕ)
-  count : length all ≡ length ts
-  own : (i : ℕ) (t : Traced) → slice_get ts i ≡ Some t
-      → (passed : List Passing) × (unwrap_or (slice_get all i) [] ≡ sleds_of passed) × HasLoaded t passed []
+pub record Gathered (ts : List Traced) : Type 0 where
+  pub all : List (List Passing)
+  pub count : length all ≡ length ts
+  pub own : (i : ℕ) (t : Traced) → slice_get ts i ≡ Some t → HasLoaded t (unwrap_or (slice_get all i) []) []
 
-some_alike : {X : Type 0} (a b : X) → ◌≡◌ {A = Option X} (Some a) (Some b) → a ≡ b
+pub some_alike : {X : Type 0} (a b : X) → ◌≡◌ {A = Option X} (Some a) (Some b) → a ≡ b
 some_alike a b s = cc
 
-nothing_there : {X : Type 0} (x : X) → ◌≡◌ {A = Option X} None (Some x) → ⊥
+pub nothing_there : {X : Type 0} (x : X) → ◌≡◌ {A = Option X} None (Some x) → ⊥
 nothing_there x e = cc
 
-gathered : (ts : List Traced) → ((i : ℕ) (t : Traced) → slice_get ts i ≡ Some t → (passed : List Passing) × HasLoaded t passed []) → Gathered ts
+pub gathered : (ts : List Traced) → ((i : ℕ) (t : Traced) → slice_get ts i ≡ Some t → (passed : List Passing) × HasLoaded t passed [])
+    → Gathered ts
 gathered [] own = record { all = []; count = refl; own = λ i t found. absurd (nothing_there t found) }
 gathered (t ∷ ts) own =
     more t ts (own zero t refl) (gathered ts (λ i. own (suc i)))
   where
     more : (t : Traced) (ts : List Traced) → (passed : List Passing) × HasLoaded t passed [] → Gathered ts → Gathered (t ∷ ts)
     more t ts (passed, loaded) rest = record {
-      all = sleds_of passed ∷ rest.all;
+      all = passed ∷ rest.all;
       count = ap suc rest.count;
       own = by_place;
     }
       where
-        by_place : (i : ℕ) (u : Traced) → slice_get (t ∷ ts) i ≡ Some u
-            → (its : List Passing) × (unwrap_or (slice_get (sleds_of passed ∷ rest.all) i) [] ≡ sleds_of its) × HasLoaded u its []
-        by_place zero u found = (passed, refl, subst (λ (x : Traced). HasLoaded x passed []) (some_alike t u found) loaded)
+        by_place : (i : ℕ) (u : Traced) → slice_get (t ∷ ts) i ≡ Some u → HasLoaded u (unwrap_or (slice_get (passed ∷ rest.all) i) []) []
+        by_place zero u found = subst (λ (x : Traced). HasLoaded x passed []) (some_alike t u found) loaded
         by_place (suc i) u found = rest.own i u found
 
+-- the sleds of an item
+pub item_sleds : (all : List (List Passing)) (i : ℕ)
+    → unwrap_or (slice_get (map sleds_of all) i) [] ≡ sleds_of (unwrap_or (slice_get all i) [])
+item_sleds [] i = refl
+item_sleds (passed ∷ all) zero = refl
+item_sleds (passed ∷ all) (suc i) = item_sleds all i
+
 -- the item of a thread
-item_of : {X : Type 0} (lists : List (List X)) (i number : ℕ) → number ≡ i + 1 → of_thread lists number ≡ unwrap_or (slice_get lists i) []
+pub item_of : {X : Type 0} (lists : List (List X)) (i number : ℕ) → number ≡ i + 1 → of_thread lists number ≡ unwrap_or (slice_get lists i) []
 item_of lists i number e =
     let back : number - 1 ≡ i = omega (arith, e) in
     ap (λ (k : ℕ). unwrap_or (slice_get lists k) []) back
@@ -90,39 +96,38 @@ item_of lists i number e =
 -- all threads and the patcher stand at the first moment
 pub begins : (program : Program) (script : List Command) (threads : ℕ) (limits : Limits) (p : Patcher) (ts : List Traced)
     → length ts ≡ threads → AllHaveBegun program script threads limits ts → ((number : ℕ) → hold_of number script ≡ None)
-    → IsPatcherAt program script (start_of program script) p → vec_len p.words ≡ word_count program threads
-    → (passings : List (List ℕ)) × AllStandAt (cast_of program script passings) threads limits (first_moment (cast_of program script passings)) p ts
-begins program script threads limits p ts count begun free patcher words =
-    let its = gathered ts (λ i t found. ((begun i t found).passed, (begun i t found).loaded)) in
-    let cast : Cast = cast_of program script its.all in
+    → IsPatcherAt program script (start_of program script) p → vec_len p.words ≡ word_count program threads → (its : Gathered ts)
+    → AllStandAt (cast_of program script (map sleds_of its.all)) threads limits (first_moment (cast_of program script (map sleds_of its.all))) p ts
+begins program script threads limits p ts count begun free patcher words its =
+    let passings : List (List ℕ) = map sleds_of its.all in
+    let cast : Cast = cast_of program script passings in
     let first : Moment = first_moment cast in
-    let room : length first.loads ≡ threads = length-map its.all (λ (_ : List ℕ). let none : List Load = [] in none) ∙ its.count ∙ count in (
-      its.all,
-      record {
-        count = count;
-        passings = its.count ∙ count;
-        loads = room;
-        along = first_along cast;
-        patcher = patcher;
-        words = omega (arith, words);
-        thread = λ i t found. thread_of i t (begun i t found);
-        no_hold = free;
-        each = λ i t found.
-            let is = (begun i t found).thread_is in
-            let own = its.own i t found in
-            record {
-              program_is = is.program_is;
-              first = omega (arith, is.thread_is);
-              last = omega (arith, is.thread_is, is.threads_are, slice_get_within ts i t found, count);
-              room = omega (arith, is.thread_is, slice_get_within ts i t found, count, room);
-              no_hold = free t.thread;
-              free = is.hold_is ∙ free (i + 1);
-              passed = own.0;
-              sleds = item_of its.all i t.thread is.thread_is ∙ own.1;
-              loaded = subst (HasLoaded t own.0) (sym (of_thread_is first.loads t.thread ∙ no_loads its.all (t.thread - 1))) own.2;
-            };
-      },
-    )
+    let listed : length passings ≡ threads = length-map its.all sleds_of ∙ its.count ∙ count in
+    let room : length first.loads ≡ threads = length-map passings (λ (_ : List ℕ). let none : List Load = [] in none) ∙ listed in
+    record {
+      count = count;
+      passings = listed;
+      loads = room;
+      along = first_along cast;
+      patcher = patcher;
+      words = omega (arith, words);
+      thread = λ i t found. thread_of i t (begun i t found);
+      no_hold = free;
+      each = λ i t found.
+          let is = (begun i t found).thread_is in
+          record {
+            program_is = is.program_is;
+            first = omega (arith, is.thread_is);
+            last = omega (arith, is.thread_is, is.threads_are, slice_get_within ts i t found, count);
+            room = omega (arith, is.thread_is, slice_get_within ts i t found, count, room);
+            no_hold = free t.thread;
+            free = is.hold_is ∙ free (i + 1);
+            passed = unwrap_or (slice_get its.all i) [];
+            sleds = item_of passings i t.thread is.thread_is ∙ item_sleds its.all i;
+            loaded = subst (HasLoaded t (unwrap_or (slice_get its.all i) []))
+                (sym (of_thread_is first.loads t.thread ∙ no_loads passings (t.thread - 1))) (its.own i t found);
+          };
+    }
   where
     thread_of : (i : ℕ) (t : Traced) → HasBegun program script threads limits (i + 1) t → IsThreadOf program (i + 1) threads None limits t
     thread_of i t is = subst (λ (h : Option ℕ). IsThreadOf program (i + 1) threads h limits t) (free (i + 1)) is.thread_is
@@ -136,7 +141,7 @@ OneEnd =
     → IsAccepted bytes program → PlainRun program limits thread passed end last → PlainRun program limits thread passed' end' last'
     → (passed ≡ passed') × (end ≡ end') × (last ≡ last')
 
-run_alike : (program program' : Program) (limits limits' : Limits) (thread thread' : ℕ) (passed : List Passing) (end : End) (last : State)
+pub run_alike : (program program' : Program) (limits limits' : Limits) (thread thread' : ℕ) (passed : List Passing) (end : End) (last : State)
     → program ≡ program' → limits ≡ limits' → thread ≡ thread' → PlainRun program limits thread passed end last
     → PlainRun program' limits' thread' passed end last
 run_alike program program' limits limits' thread thread' passed end last a b c run =
@@ -166,7 +171,7 @@ has_run cast threads limits m i t one (bytes, accepted) is at (end, wants, ends)
       passings = refl;
     }
 
-marks_alike : (program program' : Program) (thread thread' : ℕ) (hold hold' : Option ℕ) (sleds sleds' : List ℕ) (loads loads' : List Load)
+pub marks_alike : (program program' : Program) (thread thread' : ℕ) (hold hold' : Option ℕ) (sleds sleds' : List ℕ) (loads loads' : List Load)
     → program ≡ program' → thread ≡ thread' → hold ≡ hold' → sleds ≡ sleds' → loads ≡ loads'
     → marks_of program thread hold sleds loads ≡ marks_of program' thread' hold' sleds' loads'
 marks_alike program program' thread thread' hold hold' sleds sleds' loads loads' a b c d e =

@@ -2,6 +2,8 @@ mod Rows
 pub mod ReplayAlong
 mod ScheduleRows
 pub mod OneReplay
+pub mod PooledReplay
+pub mod Queues
 pub mod TurnLemmas
 pub mod WantedWords
 pub mod OneThread
@@ -9,3 +11,9 @@ pub mod AllThreads
 pub mod Bounds
 pub mod SaidTurns
 pub mod SomeReplay
+pub mod PoolLemmas
+pub mod Gathering
+pub mod SmallIds
+pub mod OneRecorded
+pub mod AllRecorded
+pub mod Recordings

@@ -180,7 +180,7 @@ pub plays_on : (n : ℕ) (p : Patcher) (old new : Traced) → LeadsOn n p old ne
 plays_on n p old new leads (cast, m, at) = (cast, turns n (thread_turn cast old.thread) m, leads cast m at)
 
 -- a thread that rests wants nothing
-rest_wants_none : (cast : Cast) (m : Moment) (p : Patcher) (t : Traced) → StandAt cast m p t → Rests t → wanted_by cast t.thread m ≡ None
+pub rest_wants_none : (cast : Cast) (m : Moment) (p : Patcher) (t : Traced) → StandAt cast m p t → Rests t → wanted_by cast t.thread m ≡ None
 rest_wants_none cast m p t at rests = none_wanted cast m p t t at (same_again t) (λ passed loads is. is) rests
 
 -- behind turns of which the last found an end, all further turns do nothing

@@ -1,4 +1,8 @@
 pub mod Replay
+pub mod Pool
+pub mod Recorded
+pub mod Holding
+pub mod Recording
 pub mod Along
 pub mod Schedules
 pub mod Readings

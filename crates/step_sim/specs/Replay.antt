@@ -54,7 +54,7 @@ abbrev pub patcher_turn : Cast → Moment → Moment
 patcher_turn cast moment = record moment { place = min (moment.place + 1) (total_of cast.program cast.script) }
 
 -- so many turns
-abbrev pub turns : ℕ → (Moment → Moment) → Moment → Moment
+abbrev pub turns : {X : Type 0} → ℕ → (X → X) → X → X
 turns zero turn moment = moment
 turns (suc n) turn moment = turns n turn (turn moment)
 

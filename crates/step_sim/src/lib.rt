@@ -6,7 +6,9 @@ mod fault;
 mod laws;
 mod line;
 mod patcher;
+mod pool;
 mod replay;
+mod ring;
 mod schedule;
 mod sim_fault;
 #[cfg(test)]
@@ -16,7 +18,7 @@ mod turns;
 
 pub use along::{a_replay_reads_along, no_replay_tears_a_sled};
 pub use fault::ScheduleFault;
-pub use laws::{one_replay, some_replay};
+pub use laws::{buffers_change_no_replay, one_pooled_replay, one_replay, some_replay};
 pub use replay::{SimEnd, simulate};
 pub use schedule::{Schedule, read_schedule};
 pub use sim_fault::SimFault;

@@ -7,15 +7,20 @@ ghost use Rattle.machine_step.specs.declared.limits.Limits.{Limits};
 ghost use Rattle.step_sim.specs.declared.sim_fault.SimFault.{SimFault};
 ghost use Rattle.step_sim.specs.declared.sim_fault.SimFault.TheVariants.{Waits};
 ghost use Rattle.step_sim.specs.Replay.{AllRunOut, Cast, Moment, line_turns};
+ghost use Rattle.step_sim.specs.Pool.{AllPooledRunOut, Pooled};
+ghost use Rattle.step_sim.specs.Recorded.{IsRecorded};
+ghost use Rattle.step_sim.specs.Recording.{AllRecord, AllRecordAt, Recording, line_in, pooling_in};
 ghost use Rattle.step_sim.specs.Replayed.{IsReplayed};
 ghost use Rattle.step_sim.specs.Schedules.{AreTurnsOf};
 ghost use Rattle.step_sim.specs.Standing.{AllHaveBegun, AllPlay, AllStandAt, Rests};
 
 use crate::patcher::Patcher;
+use crate::pool::{Pool, room_for};
 use crate::schedule::Schedule;
 use crate::sim_fault::SimFault;
 use crate::thread::{make_loads, new_thread, run_out};
 use crate::turns::Turns;
+use fdr_buffer::Buffer;
 use machine_step::{Cpu, Setup, one_end};
 use patch_script::Script;
 use sled_words::MAX_THREADS;
@@ -28,6 +33,12 @@ use xray_io::NoMemory;
 pub struct SimEnd<'a> {
     /// The threads, thread 1 first: each has ended.
     pub cpus: Vec<Cpu<'a>>,
+    /// How many buffers each thread has put at the back of the queue, thread 1 first.
+    pub sealed: Vec<u32>,
+    /// How many of those were taken away again: the number of a thread's first segment that is left.
+    pub first: Vec<u32>,
+    /// The buffers that hold an event: by thread, and then by segment.
+    pub buffers: Vec<Buffer>,
 }
 
 /// Replays a schedule: the lines in order, whose turns are loads of the threads and micro steps of the
@@ -50,20 +61,33 @@ pub fn simulate<'a>(
     requires few { setup.now.threads ≤ MAX_THREADS }
     requires schedule { All (AreTurnsOf setup.now.threads) schedule.now }
     requires stamps { (1 ≤ setup.now.limits.cpus) × (1 ≤ setup.now.limits.migrate) }
+    requires sizes { (72 ≤ setup.now.size) × (setup.now.size ≤ 1048576) }
+    requires buffers { (setup.now.threads ≤ setup.now.max) × (setup.now.max ≤ 1024) }
     ensures waits { (line : ℕ) → (result ≡ Err (Waits line)) ↔ (waiting_line script.now.lines ≡ Some line) }
     ensures replayed { IfOk result (λ end. IsReplayed image.now (commands_of script.now.lines)
         schedule.now setup.now.threads setup.now.limits end.cpus.items) }
+    ensures recorded { IfOk result (λ end. IsRecorded image.now (commands_of script.now.lines)
+        schedule.now setup.now end.sealed.items end.first.items end.buffers.items) }
 {
     if let Some(line) = script.waits() {
         return Err(SimFault::Waits(line));
     }
     // Says that some accepted file holds the image.
     image.base();
+    image.sled_count();
     one_end();
     let mut patcher = Patcher::new(alloc, image, script, setup.threads)?;
     let mut cpus = new_threads(alloc, image, script, setup)?;
-    play(&mut cpus, &mut patcher, schedule.lines());
-    Ok(SimEnd { cpus })
+    let mut pool = Pool::new(alloc, setup)?;
+    let kept = room_for(alloc, setup.max)?;
+    play(&mut cpus, &mut patcher, &mut pool, schedule.lines());
+    let (sealed, first, buffers) = pool.collect(setup.threads, kept);
+    Ok(SimEnd {
+        cpus,
+        sealed,
+        first,
+        buffers,
+    })
 }
 
 /// All threads before their first loads, thread 1 first.
@@ -87,34 +111,45 @@ fn new_threads<'a>(
 }
 
 /// The lines of a schedule, and behind them each thread up to its end.
-fn play(cpus: &mut Vec<Cpu>, patcher: &mut Patcher, lines: &[Turns])
+fn play(cpus: &mut Vec<Cpu>, patcher: &mut Patcher, pool: &mut Pool, lines: &[Turns])
     requires play { AllPlay patcher.old cpus.old.items }
+    requires records { AllRecord patcher.old cpus.old.items pool.old }
     requires lines { All (AreTurnsOf (length cpus.old.items)) lines.now }
     ensures at { (cast : Cast) (threads : ℕ) (limits : Limits) (moment : Moment)
         → AllStandAt cast threads limits moment patcher.old cpus.old.items
         → (last : Moment)
         × AllRunOut cast (length cpus.old.items) 1 (fold (line_turns cast) moment lines.now) last
         × AllStandAt cast threads limits last patcher.new cpus.new.items }
+    ensures records { (r : Recording) (pooled : Pooled)
+        → AllRecordAt r pooled patcher.old cpus.old.items pool.old
+        → (last : Pooled)
+        × AllPooledRunOut r.cast (pooling_in r) (length cpus.old.items) 1 (fold (line_in r) pooled lines.now) last
+        × AllRecordAt r last patcher.new cpus.new.items pool.new }
     ensures ended { All Rests cpus.new.items }
 {
     for turns in lines {
-        take_turns(cpus, patcher, *turns);
+        take_turns(cpus, patcher, pool, *turns);
     }
-    run_all_out(cpus, patcher);
+    run_all_out(cpus, patcher, pool);
 }
 
 /// The turns of a line.
-fn take_turns(cpus: &mut Vec<Cpu>, patcher: &mut Patcher, turns: Turns)
+fn take_turns(cpus: &mut Vec<Cpu>, patcher: &mut Patcher, pool: &mut Pool, turns: Turns)
     requires play { AllPlay patcher.old cpus.old.items }
+    requires records { AllRecord patcher.old cpus.old.items pool.old }
     requires line { AreTurnsOf (length cpus.old.items) turns }
     ensures at { (cast : Cast) (threads : ℕ) (limits : Limits) (moment : Moment)
         → AllStandAt cast threads limits moment patcher.old cpus.old.items
         → AllStandAt cast threads limits (line_turns cast moment turns) patcher.new cpus.new.items }
+    ensures records { (r : Recording) (pooled : Pooled)
+        → AllRecordAt r pooled patcher.old cpus.old.items pool.old
+        → AllRecordAt r (line_in r pooled turns) patcher.new cpus.new.items pool.new }
 {
     match turns {
         Turns::Thread { thread, count } => make_loads(
             &mut cpus[thread as usize - 1],
             patcher,
+            pool,
             count,
         ),
         Turns::Patcher { count } => patcher.make_steps(u64::from(count)),
@@ -122,15 +157,21 @@ fn take_turns(cpus: &mut Vec<Cpu>, patcher: &mut Patcher, turns: Turns)
 }
 
 /// Each thread up to its end, thread 1 first.
-fn run_all_out(cpus: &mut Vec<Cpu>, patcher: &Patcher)
-    requires { AllPlay patcher.now cpus.old.items }
+fn run_all_out(cpus: &mut Vec<Cpu>, patcher: &Patcher, pool: &mut Pool)
+    requires play { AllPlay patcher.now cpus.old.items }
+    requires records { AllRecord patcher.now cpus.old.items pool.old }
     ensures at { (cast : Cast) (threads : ℕ) (limits : Limits) (moment : Moment)
         → AllStandAt cast threads limits moment patcher.now cpus.old.items
         → (last : Moment) × AllRunOut cast (length cpus.old.items) 1 moment last
         × AllStandAt cast threads limits last patcher.now cpus.new.items }
+    ensures records { (r : Recording) (pooled : Pooled)
+        → AllRecordAt r pooled patcher.now cpus.old.items pool.old
+        → (last : Pooled)
+        × AllPooledRunOut r.cast (pooling_in r) (length cpus.old.items) 1 pooled last
+        × AllRecordAt r last patcher.now cpus.new.items pool.new }
     ensures ended { All Rests cpus.new.items }
 {
     for i in 0..cpus.len() {
-        run_out(&mut cpus[i], patcher);
+        run_out(&mut cpus[i], patcher, pool);
     }
 }

@@ -4,6 +4,7 @@ use super::*;
 use std::alloc::{AllocError, Global};
 use std::test::Fail;
 
+mod buffers;
 mod replays;
 
 #[test]

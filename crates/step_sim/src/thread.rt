@@ -9,9 +9,12 @@ ghost use Rattle.machine_step.specs.PlainStep.{Passing};
 ghost use Rattle.machine_step.specs.Traced.{HasLoaded, IsGate, IsSameThread, loads_left};
 ghost use Rattle.step_sim.specs.Replay.{Cast, Moment, RunsOut, thread_turn, turns};
 ghost use Rattle.step_sim.specs.Standing.{HasBegun, Play, Rests, StandAt};
+ghost use Rattle.step_sim.specs.Pool.{Pooled, PooledRunsOut};
+ghost use Rattle.step_sim.specs.Recording.{RecordAt, Recording, Records, pooling_in, turn_in};
 
 use crate::along::a_replay_reads_along;
 use crate::patcher::Patcher;
+use crate::pool::Pool;
 use machine_step::{Cpu, Setup, Want, some_end};
 use patch_script::Script;
 use sled_words::MAX_THREADS;
@@ -70,19 +73,25 @@ fn next_word(cpu: &mut Cpu) -> Option<u32>
 }
 
 /// A turn of a thread: its next load. Tells whether there was one: a thread that has ended makes none.
-fn make_load(cpu: &mut Cpu, patcher: &Patcher) -> bool
-    requires { Play patcher.now cpu.old }
+fn make_load(cpu: &mut Cpu, patcher: &Patcher, pool: &mut Pool) -> bool
+    requires play { Play patcher.now cpu.old }
+    requires records { Records patcher.now cpu.old pool.old }
     ensures thread { IsSameThread cpu.old cpu.new }
     ensures at { (cast : Cast) (moment : Moment) → StandAt cast moment patcher.now cpu.old
         → StandAt cast (thread_turn cast cpu.old.thread moment) patcher.now cpu.new }
+    ensures records { (r : Recording) (pooled : Pooled) → RecordAt r pooled patcher.now cpu.old pool.old
+        → RecordAt r (turn_in r cpu.old.thread pooled) patcher.now cpu.new pool.new }
     ensures ended { OnFalse result (Rests cpu.new) }
     ensures nearer { OnTrue result (loads_left cpu.new < loads_left cpu.old) }
 {
     a_replay_reads_along();
     match next_word(cpu) {
         Some(word) => {
-            // The trace is none of this replay: an event is dropped.
-            let _event = cpu.give(patcher.load(word));
+            // Says that the passings, and so the events, fit 32 bits.
+            cpu.passings();
+            let thread = cpu.thread();
+            let event = cpu.give(patcher.load(word));
+            pool.note_any(thread, event);
             true
         }
         None => false,
@@ -90,26 +99,33 @@ fn make_load(cpu: &mut Cpu, patcher: &Patcher) -> bool
 }
 
 /// So many turns of a thread, or those up to its end where they are fewer.
-pub(crate) fn make_loads(cpu: &mut Cpu, patcher: &Patcher, count: u32)
-    requires { Play patcher.now cpu.old }
+pub(crate) fn make_loads(cpu: &mut Cpu, patcher: &Patcher, pool: &mut Pool, count: u32)
+    requires play { Play patcher.now cpu.old }
+    requires records { Records patcher.now cpu.old pool.old }
     ensures thread { IsSameThread cpu.old cpu.new }
     ensures at { (cast : Cast) (moment : Moment) → StandAt cast moment patcher.now cpu.old
         → StandAt cast (turns count (thread_turn cast cpu.old.thread) moment) patcher.now cpu.new }
+    ensures records { (r : Recording) (pooled : Pooled) → RecordAt r pooled patcher.now cpu.old pool.old
+        → RecordAt r (turns count (turn_in r cpu.old.thread) pooled) patcher.now cpu.new pool.new }
 {
     for _load in 0..count {
-        if !make_load(cpu, patcher) {
+        if !make_load(cpu, patcher, pool) {
             return;
         }
     }
 }
 
 /// All turns of a thread up to its end.
-pub(crate) fn run_out(cpu: &mut Cpu, patcher: &Patcher)
-    requires { Play patcher.now cpu.old }
+pub(crate) fn run_out(cpu: &mut Cpu, patcher: &Patcher, pool: &mut Pool)
+    requires play { Play patcher.now cpu.old }
+    requires records { Records patcher.now cpu.old pool.old }
     ensures thread { IsSameThread cpu.old cpu.new }
     ensures at { (cast : Cast) (moment : Moment) → StandAt cast moment patcher.now cpu.old
         → (last : Moment) × RunsOut cast cpu.old.thread moment last × StandAt cast last patcher.now cpu.new }
+    ensures records { (r : Recording) (pooled : Pooled) → RecordAt r pooled patcher.now cpu.old pool.old
+        → (last : Pooled) × PooledRunsOut r.cast (pooling_in r) cpu.old.thread pooled last
+        × RecordAt r last patcher.now cpu.new pool.new }
     ensures ended { Rests cpu.new }
 {
-    'loads: while make_load(cpu, patcher) {}
+    'loads: while make_load(cpu, patcher, pool) {}
 }

@@ -10,7 +10,7 @@ use xray_image::{Image, read_image};
 use xray_io::{MemSink, Wall};
 
 /// A function `main` that outputs an A: an entry sled, `mov eax, 0x41`, `out 1, al`, an exit sled.
-const OUTPUTS_AN_A: [u8; 170] = [
+pub(super) const OUTPUTS_AN_A: [u8; 170] = [
     // magic, version, base 0x1000
     0x58, 0x52, 0x49, 0x4D, 1, 0, 0, 0, 0x00, 0x10, 0, 0, 0, 0, 0, 0,
     // 29 bytes of code, 1 function, 2 map entries, entry function 0
@@ -30,7 +30,7 @@ const OUTPUTS_AN_A: [u8; 170] = [
 ];
 
 /// The limits of the threads.
-const LIMITS: Limits = Limits {
+pub(super) const LIMITS: Limits = Limits {
     fuel: 10_000_000,
     passings: 1_048_576,
     tick: 1,

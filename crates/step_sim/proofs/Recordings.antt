@@ -1,0 +1,234 @@
+-- The beginning and the end of a replay with buffers.
+use Rattle.std.proofs.Common.{◌≡◌, ℕ, zero, suc, ◌+◌, ◌-◌, ◌<◌, ◌≤◌, List, [], ◌∷◌, ◌++◌, Bool, true, false, Option, Some, None, refl, sym, subst, ap, ◌∙◌, inl, inr, arith, length, length-append, map, fold, get_or, drop, vec_len}
+use Rattle.std.specs.Prelude.{slice_get, unwrap_or, nat_lt, ◌&&◌, ◌==◌, if◌then◌else◌, filter}
+use Rattle.std.specs.List.{flat_map, zip}
+use Rattle.std.proofs.lemmas.Bool.{cases_eq}
+use Rattle.std.proofs.lemmas.List.{length-drop, length-map, length-replicate}
+use Rattle.std.proofs.lemmas.Option.{slice_get-get_or}
+use Rattle.xray_image.specs.Program.{IsAccepted, Program}
+use Rattle.patch_script.specs.declared.command.Command.{Command}
+use Rattle.patch_script.specs.Micros.{hold_of, start_of}
+use Rattle.sled_words.specs.Words.{word_count}
+use Rattle.fdr_record.specs.declared.event.Event.{Event}
+use Rattle.fdr_buffer.specs.Filled.{Filled}
+use Rattle.fdr_buffer.specs.Segments.{segments}
+use Rattle.machine_step.specs.declared.end.End.{End}
+use Rattle.machine_step.specs.declared.setup.Setup.{Setup}
+use Rattle.machine_step.specs.Events.{recorded}
+use Rattle.machine_step.specs.Loads.{Load, is_held_at, marks_of, marks_from}
+use Rattle.machine_step.specs.PlainStep.{Passing, PlainRun, State}
+use Rattle.machine_step.specs.Traced.{HasLoaded, Traced, sleds_of}
+use Rattle.step_sim.specs.declared.patcher.Patcher.{Patcher}
+use Rattle.step_sim.specs.declared.pool.Pool.{Pool}
+use Rattle.step_sim.specs.declared.turns.Turns.{Turns}
+use Rattle.step_sim.specs.declared.turns.Turns.TheVariants.{Thread, Patcher as PatcherTurns}
+use Rattle.step_sim.specs.Replay.{Cast, Moment, first_moment, of_thread, thread_turn, turns}
+use Rattle.step_sim.specs.Replayed.{cast_of}
+use Rattle.step_sim.specs.Pool.{AllPooledRunOut, Fresh, Item, Pooled, PooledRunsOut, Pooling, Segment, Stock, first_pooled, first_stock, pooled_line, pooled_lines, pooled_step, pooled_turn, queued, segments_among, stock_behind}
+use Rattle.step_sim.specs.Recorded.{IsRecorded, Stamp, buffers_behind, events_at, is_of, numbers_from, segments_at, stamp_of}
+use Rattle.step_sim.specs.Standing.{AllHaveBegun, AllStandAt, HasBegun, IsPatcherAt}
+use Rattle.step_sim.specs.Holding.{Histories, PoolHolds, segments_in}
+use Rattle.step_sim.specs.Recording.{AllRecordAt, IsTraced, Recording, histories, line_in, pooling_in}
+use Rattle.step_sim.proofs.Bounds.{Gathered, begins, gathered, item_sleds, run_alike}
+use Rattle.step_sim.proofs.Gathering.{all_gathered, first_are, flat_same, sealed_are}
+use Rattle.step_sim.proofs.OneRecorded.{history_is, holds_same}
+use Rattle.step_sim.proofs.PoolLemmas.{eqb_not}
+use Rattle.step_sim.proofs.ReplayAlong.{no_loads, of_thread_is}
+use Rattle.step_sim.proofs.SmallIds.{run_small}
+
+-- ---- the length of the queue
+
+queued_length : (item : Item) (stock : Stock) → length (queued item stock).queue ≡ length stock.queue
+queued_length item stock =
+    omega (arith, length-drop 1 (stock.queue ++ item ∷ []), length-append stock.queue (item ∷ []))
+
+behind_length : (thread before after : ℕ) (stock : Stock) → length (stock_behind thread before after stock).queue ≡ length stock.queue
+behind_length thread before after stock = by_test (nat_lt 0 before && (after == before + 1))
+  where
+    by_test : (b : Bool) → length (if b then queued (Segment thread (before - 1)) stock else stock).queue ≡ length stock.queue
+    by_test true = queued_length (Segment thread (before - 1)) stock
+    by_test false = refl
+
+
+
+
+turns_keep : (n : ℕ) (turn : Pooled → Pooled) → ((x : Pooled) → length (turn x).stock.queue ≡ length x.stock.queue) → (pooled : Pooled)
+    → length (turns n turn pooled).stock.queue ≡ length pooled.stock.queue
+turns_keep zero turn keeps pooled = refl
+turns_keep (suc n) turn keeps pooled = turns_keep n turn keeps (turn pooled) ∙ keeps pooled
+
+turn_keeps : (cast : Cast) (pooling : Pooling) (thread n : ℕ) (pooled : Pooled)
+    → length (turns n (pooled_turn cast pooling thread) pooled).stock.queue ≡ length pooled.stock.queue
+turn_keeps cast pooling thread n pooled =
+    turns_keep n (pooled_turn cast pooling thread) (λ x. behind_length thread (pooling.segment_count thread x.moment)
+    (pooling.segment_count thread (thread_turn cast thread x.moment)) x.stock) pooled
+
+line_keeps : (cast : Cast) (pooling : Pooling) (pooled : Pooled) (line : Turns)
+    → length (pooled_line cast pooling pooled line).stock.queue ≡ length pooled.stock.queue
+line_keeps cast pooling pooled (Thread thread count) = turn_keeps cast pooling thread count pooled
+line_keeps cast pooling pooled (PatcherTurns count) = turns_keep count (pooled_step cast) (λ x. refl) pooled
+
+lines_keep : (cast : Cast) (pooling : Pooling) (lines : List Turns) (pooled : Pooled)
+    → length (fold (pooled_line cast pooling) pooled lines).stock.queue ≡ length pooled.stock.queue
+lines_keep cast pooling [] pooled = refl
+lines_keep cast pooling (line ∷ lines) pooled = lines_keep cast pooling lines (pooled_line cast pooling pooled line) ∙ line_keeps cast pooling pooled line
+
+run_keeps : (cast : Cast) (pooling : Pooling) (n thread : ℕ) (before after : Pooled) → AllPooledRunOut cast pooling n thread before after
+    → length after.stock.queue ≡ length before.stock.queue
+run_keeps cast pooling zero thread before after e = ap (λ (x : Pooled). length x.stock.queue) e
+run_keeps cast pooling (suc n) thread before after (mid, (count, made, ends), rest) =
+    run_keeps cast pooling n (thread + 1) mid after rest ∙ ap (λ (x : Pooled). length x.stock.queue) made ∙ turn_keeps cast pooling thread count before
+
+-- ---- the beginning
+
+marks_none : (program : Program) (thread number : ℕ) (hold : Option ℕ) (sleds : List ℕ) → marks_from program thread hold number sleds [] ≡ []
+marks_none program thread number hold [] = refl
+marks_none program thread number hold (sled ∷ sleds) = by_held (is_held_at hold number) refl
+  where
+    by_held : (held : Bool) → is_held_at hold number ≡ held → marks_from program thread hold number (sled ∷ sleds) [] ≡ []
+    by_held true e = rw e refl
+    by_held false e = rw e refl
+
+recorded_none : (passed : List Passing) → recorded passed [] ≡ []
+recorded_none [] = refl
+recorded_none (p ∷ passed) = refl
+
+-- no thread has recorded an event at first
+no_events : (r : Recording) (k : ℕ) → histories r (first_moment r.cast) k ≡ []
+no_events r zero = refl
+no_events r (suc n) =
+    let none : of_thread (first_moment r.cast).loads (suc n) ≡ [] =
+    of_thread_is (first_moment r.cast).loads (suc n) ∙ no_loads r.cast.passings (suc n - 1) in
+    history_is r (first_moment r.cast) (suc n) (omega arith)
+    ∙ ap (λ (ls : List Load). recorded (of_thread r.passed (suc n))
+    (marks_of r.cast.program (suc n) (hold_of (suc n) r.cast.script) (of_thread r.cast.passings (suc n)) ls)) none
+    ∙ ap (recorded (of_thread r.passed (suc n)))
+    (marks_none r.cast.program (suc n) 0 (hold_of (suc n) r.cast.script) (of_thread r.cast.passings (suc n)))
+    ∙ recorded_none (of_thread r.passed (suc n))
+
+-- what a setup's replay is played with
+abbrev pub recording : Program → List Command → Setup → List (List Passing) → Recording
+recording program script setup passed = record {
+  cast = cast_of program script (map sleds_of passed);
+  limits = setup.limits;
+  threads = setup.threads;
+  passed = passed;
+  stamp = stamp_of setup;
+  spare = setup.max - setup.threads;
+}
+
+abbrev pub first_of : Recording → Pooled
+first_of r = first_pooled r.cast (pooling_in r)
+
+pub record Begun (program : Program) (script : List Command) (setup : Setup) (p : Patcher) (ts : List Traced) (pool : Pool) : Type 0 where
+  pub passed : List (List Passing)
+  pub count : length passed ≡ setup.threads
+  pub at : AllRecordAt (recording program script setup passed) (first_of (recording program script setup passed)) p ts pool
+
+pub begins_recording : (program : Program) (script : List Command) (setup : Setup) (p : Patcher) (ts : List Traced) (pool : Pool)
+    → length ts ≡ setup.threads → AllHaveBegun program script setup.threads setup.limits ts → ((number : ℕ) → hold_of number script ≡ None)
+    → IsPatcherAt program script (start_of program script) p → vec_len p.words ≡ word_count program setup.threads
+    → (bytes : List ℕ) × IsAccepted bytes program → length program.sleds ≤ 4096
+    → PoolHolds (stamp_of setup) setup.threads (λ _. []) (first_stock (setup.max - setup.threads)) pool
+    → Begun program script setup p ts pool
+begins_recording program script setup p ts pool count begun free patcher words (bytes, accepted) few holds = record {
+  passed = its.all;
+  count = its.count ∙ count;
+  at = record {
+    stands = begins program script setup.threads setup.limits p ts count begun free patcher words its;
+    traced = record {
+      run = its_run;
+      sleds = λ thread some within. item_sleds its.all (thread - 1);
+      small = λ thread some within.
+          let run = its_run thread some within in
+          run_small bytes program setup.limits thread (of_thread its.all thread) run.0 run.1 accepted few run.2;
+    };
+    holds = holds_same r.stamp r.threads (λ _. []) (histories r (first_moment r.cast)) (first_stock r.spare) pool (no_events r) holds;
+  };
+}
+  where
+    its : Gathered ts
+    its = gathered ts (λ i t found. ((begun i t found).passed, (begun i t found).loaded))
+
+    r : Recording
+    r = recording program script setup its.all
+
+    its_run : (thread : ℕ) → 0 < thread → thread ≤ setup.threads
+        → (end : End) × (last : State) × PlainRun program setup.limits thread (of_thread its.all thread) end last
+    its_run thread some within = by_thread (slice_get_there ts (thread - 1) (omega (arith, some, within, count)))
+      where
+        slice_get_there : (us : List Traced) (i : ℕ) → i < length us → (t : Traced) × (slice_get us i ≡ Some t)
+        slice_get_there [] i within = absurd (omega (arith, within))
+        slice_get_there (u ∷ us) zero within = (u, refl)
+        slice_get_there (u ∷ us) (suc i) within = slice_get_there us i (omega (arith, within))
+
+        by_thread : (t : Traced) × (slice_get ts (thread - 1) ≡ Some t)
+            → (end : End) × (last : State) × PlainRun program setup.limits thread (of_thread its.all thread) end last
+        by_thread (t, found) =
+            let is = (begun (thread - 1) t found).thread_is in
+            let loaded = its.own (thread - 1) t found in
+            let number : t.thread ≡ thread = omega (arith, is.thread_is, some) in
+            (loaded.end, loaded.last, run_alike t.program program t.limits setup.limits t.thread thread (of_thread its.all thread) loaded.end loaded.last
+            is.program_is is.limits_are number loaded.run)
+
+-- ---- the end
+
+-- where the turns of a schedule lead
+pub record Ended (r : Recording) (lines : List Turns) (count : ℕ) (p : Patcher) (ts : List Traced) (pool : Pool) : Type 0 where
+  pub last : Pooled
+  pub out : AllPooledRunOut r.cast (pooling_in r) count 1 (fold (line_in r) (first_of r) lines) last
+  pub at : AllRecordAt r last p ts pool
+
+pub ended : (r : Recording) (lines : List Turns) (count : ℕ) (p : Patcher) (ts : List Traced) (pool : Pool)
+    → (last : Pooled) × AllPooledRunOut r.cast (pooling_in r) count 1 (fold (line_in r) (first_of r) lines) last × AllRecordAt r last p ts pool
+    → Ended r lines count p ts pool
+ended r lines count p ts pool (last, out, at) = record { last = last; out = out; at = at }
+
+-- there is room for all buffers
+pub has_room_for_all : (r : Recording) (lines : List Turns) (count most room : ℕ) (p : Patcher) (ts : List Traced) (pool : Pool)
+    → Ended r lines count p ts pool → r.spare + r.threads ≤ most → room ≡ most → length pool.queue + length pool.hands.items ≤ room
+has_room_for_all r lines count most room p ts pool end few is =
+    let held : length pool.queue ≡ length end.last.stock.queue = ap length end.at.holds.queue ∙ length-map end.last.stock.queue _ in
+    let kept = run_keeps r.cast (pooling_in r) count 1 (fold (line_in r) (first_of r) lines) end.last end.out
+    ∙ lines_keep r.cast (pooling_in r) lines (first_of r) ∙ length-replicate r.spare Fresh in
+    omega (arith, held, kept, end.at.holds.hand_count, few, is)
+
+maps_same : (F G : ℕ → ℕ) (first n : ℕ) → ((t : ℕ) → first ≤ t → F t ≡ G t) → map F (numbers_from first n) ≡ map G (numbers_from first n)
+maps_same F G first zero same = refl
+maps_same F G first (suc n) same =
+    ap (λ (k : ℕ). k ∷ map F (numbers_from (first + 1) n)) (same first (omega arith))
+    ∙ ap (λ (ks : List ℕ). G first ∷ ks) (maps_same F G (first + 1) n (λ t low. same t (omega (arith, low))))
+
+pub is_recorded : (program : Program) (script : List Command) (schedule lines : List Turns) (setup : Setup) (passed : List (List Passing))
+    (count : ℕ) (p : Patcher) (ts : List Traced) (pool : Pool) (sealed first : List ℕ) (buffers : List Filled) → length passed ≡ setup.threads
+    → Ended (recording program script setup passed) lines count p ts pool → count ≡ setup.threads → lines ≡ schedule
+    → sealed ≡ pool.sealed.items → first ≡ pool.first.items
+    → buffers ≡ flat_map (λ t. filter (is_of t) pool.queue ++ filter (is_of t) pool.hands.items) (numbers_from 1 setup.threads)
+    → IsRecorded program script schedule setup sealed first buffers
+is_recorded program script schedule lines setup passed count p ts pool sealed first buffers passed_count end counted said seals firsts holds = record {
+  passed = passed;
+  passed_count = passed_count;
+  plain = end.at.traced.run;
+  last = end.last;
+  replay =
+      let long : count ≡ length (map sleds_of passed) = counted ∙ sym (length-map passed sleds_of ∙ passed_count) in
+      subst (λ (ls : List Turns). AllPooledRunOut r.cast (pooling_in r) (length r.cast.passings) 1 (pooled_lines r.cast (pooling_in r) ls) end.last) said
+      (subst (λ (n : ℕ). AllPooledRunOut r.cast (pooling_in r) n 1 (pooled_lines r.cast (pooling_in r) lines) end.last) long end.out);
+  sealed_are = seals ∙ sealed_are r.stamp r.threads its end.last.stock pool end.at.holds
+      ∙ maps_same (λ t. length (segments_in r.stamp its t) - 1) (λ t. length (segments_at r.cast passed setup.size t end.last.moment) - 1) 1 setup.threads
+      (λ t low. ap (λ (es : List Event). length (segments setup.size es) - 1) (history_is r end.last.moment t (omega (arith, low))));
+  first_are = firsts ∙ first_are r.stamp r.threads its end.last.stock pool end.at.holds;
+  buffers_are = holds ∙ all_gathered r.stamp r.threads its end.last.stock pool end.at.holds
+      ∙ flat_same
+      (λ t. buffers_behind r.stamp (segments_among t end.last.stock.taken) t (segments_in r.stamp its t))
+      (λ t. buffers_behind r.stamp (segments_among t end.last.stock.taken) t (segments_at r.cast passed setup.size t end.last.moment))
+      1 setup.threads
+      (λ t low high. ap (λ (es : List Event). buffers_behind r.stamp (segments_among t end.last.stock.taken) t (segments setup.size es))
+      (history_is r end.last.moment t (omega (arith, low))));
+}
+  where
+    r : Recording
+    r = recording program script setup passed
+
+    its : Histories
+    its = histories r end.last.moment
