@@ -1,5 +1,5 @@
 -- Words mean one thing over a desk that tells of every name.
-use Rattle.std.proofs.Common.{◌≡◌, ◌≢◌, ◌<◌, ◌≤◌, ◌+◌, ◌++◌, ◌∙◌, ◌↔◌, ℕ, zero, suc, List, [], ◌∷◌, length, map, Option, Some, None, Result, Ok, Err, inl, inr, refl, sym, ap, arith, subst, codes}
+use Rattle.std.proofs.Common.{◌≡◌, ◌≢◌, ◌<◌, ◌≤◌, ◌+◌, ◌++◌, ◌∙◌, ◌↔◌, ℕ, List, [], ◌∷◌, length, map, Option, Some, None, Result, Ok, Err, inl, inr, refl, sym, ap, arith, subst, codes}
 use Rattle.std.specs.Prelude.{MatchOption}
 use Rattle.std.specs.List.{flat_map, slice_get}
 use Rattle.std.proofs.lemmas.List.{length-map}
@@ -30,7 +30,7 @@ use Rattle.xray_program.specs.States.{SimPrints, ThreadRun, cast_with, state_tex
 use Rattle.xray_program.specs.Words.{Command, Sim, Plain, Extract, Asm, reading}
 use Rattle.xray_program.specs.declared.run_options.RunOptions.{RunOptions}
 use Rattle.xray_program.proofs.SimTurns.{AfterImage, AfterScript}
-use Rattle.xray_program.proofs.TextLists.{HasItem, item_behind, same_list}
+use Rattle.xray_program.proofs.TextLists.{item_behind, same_list}
 
 -- ---- inputs in their turn
 
