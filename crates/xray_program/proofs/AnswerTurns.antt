@@ -64,11 +64,10 @@ pub fails_answer : {X F : Type 0} (kind : List ℕ) (tells : F → Refusal) (wan
 fails_answer kind tells wanting limit answer held name before now bytes fault stops.BadLine of given is so = so
 fails_answer kind tells wanting limit answer held name before now bytes fault (stops.Unread n) of given is so = absurd so
 fails_answer kind tells wanting limit answer held name before now bytes fault (stops.TooLong n) of given is so = absurd so
-fails_answer kind tells wanting limit answer held name before now bytes fault (stops.Refused n refusal) of given is (same, refusals, named) =
-    (
-      same,
-      rw refusals of,
-      rw refusals (rejects_answer kind limit answer (λ f. refusal_text (tells f)) (held name) bytes fault given (is named)),
-    )
+fails_answer kind tells wanting limit answer held name before now bytes fault (stops.Refused n refusal) of given is (same, refusals, named) = (
+  same,
+  rw refusals of,
+  rw refusals (rejects_answer kind limit answer (λ f. refusal_text (tells f)) (held name) bytes fault given (is named)),
+)
 fails_answer kind tells wanting limit answer held name before now bytes fault (stops.Unwritten n) of given is so = so
 fails_answer kind tells wanting limit answer held name before now bytes fault stops.NoMemory of given is so = tt

@@ -6,7 +6,7 @@ use Rattle.xray_io.specs.Faults.{Rose}
 use Rattle.xray_io.specs.Sink.{Adds}
 use Rattle.xray_program.specs.declared.stop.Stop.{Stop}
 use Rattle.xray_program.specs.declared.stop.Stop.TheVariants as stops
-use Rattle.xray_program.specs.Answers.{LeavesAll, Reports, CouldNotRead, CouldNotWrite, TellsWriteFault, IsAnswer, IsSimulated}
+use Rattle.xray_program.specs.Answers.{LeavesAll, Reports, CouldNotRead, TellsWriteFault, IsAnswer, IsSimulated}
 use Rattle.xray_program.specs.Calls.{StopsCall, StopsJob}
 use Rattle.patch_script.specs.Refusals.{commands_of}
 use Rattle.step_sim.specs.declared.turns.Turns.{Turns}
@@ -17,7 +17,7 @@ use Rattle.xray_program.specs.Inputs.{Form, image_form, script_form, schedule_fo
 use Rattle.xray_program.specs.States.{SimPrints, cast_with}
 use Rattle.xray_program.specs.declared.run_options.RunOptions.{RunOptions}
 use Rattle.xray_program.proofs.SimTurns.{AfterImage, AfterScript, replay_done}
-use Rattle.xray_program.specs.Meaning.{Outcome, BadLine, TooLong, Refused, Done, ComesOfReplay, Take, Comes, Says, write_fault_line}
+use Rattle.xray_program.specs.Meaning.{Outcome, BadLine, TooLong, Refused, Done, ComesOfReplay, Take, Comes, Says}
 use Rattle.xray_program.specs.Outputs.{AreWhole}
 use Rattle.xray_program.specs.Stops.{answer_of, kind_text, refusal_text, stop_status, stop_line}
 use Rattle.xray_program.specs.declared.judged.Judged.{Judged}

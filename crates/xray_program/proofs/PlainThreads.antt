@@ -1,5 +1,5 @@
 -- Plain runs of threads, and their texts.
-use Rattle.std.proofs.Common.{◌≡◌, ◌⊎◌, ◌+◌, ◌++◌, ◌∙◌, ℕ, suc, List, [], ◌∷◌, length, map, Some, zero, inl, inr, refl, sym, ap, subst}
+use Rattle.std.proofs.Common.{◌≡◌, ◌⊎◌, ◌+◌, ◌++◌, ◌∙◌, ℕ, suc, List, [], ◌∷◌, length, map, Some, zero, inl, inr, refl, ap, subst}
 use Rattle.std.specs.List.{flat_map, slice_get}
 use Rattle.std.proofs.lemmas.List.{length-map, length_push}
 use Rattle.std.proofs.lemmas.List.Elements.{All-nil, All-push}
@@ -10,7 +10,7 @@ use Rattle.xray_program.specs.declared.run_options.RunOptions.{RunOptions}
 use Rattle.xray_program.specs.Jobs.{AreEnds, HasRegisters, end_text}
 use Rattle.xray_program.specs.Plain.{IsPlainText, PlainPrints}
 use Rattle.xray_program.specs.Setups.{limits_of}
-use Rattle.xray_program.proofs.TextLists.{HasItem, item_behind, joined_texts}
+use Rattle.xray_program.proofs.TextLists.{item_behind, joined_texts}
 
 -- what is printed of an end is what is printed of the last state of its run
 pub same_text : (program : Program) (options : RunOptions) (thread : ℕ) (e : PlainEnd)

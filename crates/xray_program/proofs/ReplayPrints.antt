@@ -16,14 +16,14 @@ use Rattle.machine_step.specs.PlainStep.{PlainRun}
 use Rattle.machine_step.specs.Texts.{state_text}
 use Rattle.machine_step.specs.Traced.{IsDone, Traced, sleds_of}
 use Rattle.step_sim.specs.declared.turns.Turns.{Turns}
-use Rattle.step_sim.specs.Replay.{Replay, of_thread}
+use Rattle.step_sim.specs.Replay.{Replay}
 use Rattle.step_sim.specs.Replayed.{HasRun, IsReplayed, cast_of}
 use Rattle.xray_program.specs.declared.run_options.RunOptions.{RunOptions}
 use Rattle.xray_program.specs.Jobs.{thread_text}
 use Rattle.xray_program.specs.Judged.{IsAnswerOrMemory}
 use Rattle.xray_program.specs.Meaning.{Outcome, Prints, ComesOfReplay, status_of}
 use Rattle.xray_program.specs.Setups.{limits_of}
-use Rattle.xray_program.specs.States.{SimPrints, ThreadRun, cast_with, state_texts}
+use Rattle.xray_program.specs.States.{SimPrints, ThreadRun, state_texts}
 
 -- the sleds at a place of a list of them
 abbrev sleds_at : List (List ℕ) → ℕ → List ℕ

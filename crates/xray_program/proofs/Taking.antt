@@ -1,6 +1,6 @@
 -- An input's turn, and what comes of a command by the turns of its inputs.
 use Rattle.std.specs.Prelude.{⊤, IfErr, IsErrAnd}
-use Rattle.std.proofs.Common.{◌≡◌, ◌≢◌, ◌⊎◌, ◌<◌, ◌≤◌, ◌+◌, ◌∙◌, ℕ, List, length, replicate, Result, Ok, Err, inl, inr, refl, sym, ap, arith, subst, codes}
+use Rattle.std.proofs.Common.{◌≡◌, ◌≢◌, ◌⊎◌, ◌<◌, ◌≤◌, ◌+◌, ◌∙◌, ℕ, List, length, replicate, Result, Ok, Err, inl, inr, refl, sym, ap, arith, subst}
 use Rattle.std.proofs.lemmas.List.{length-replicate}
 use Rattle.xray_io.specs.Desk.{Entry, Untold, Absent, Holds}
 use Rattle.xray_io.specs.Faults.{Rose}
@@ -13,7 +13,7 @@ use Rattle.xray_program.specs.Meaning.{Outcome, Unread, TooLong, Refused, Take, 
 use Rattle.xray_program.specs.Stops.{kind_text, refusal_text, stop_status, answer_of}
 use Rattle.xray_program.specs.declared.judged.Judged.{Judged}
 use Rattle.xray_program.specs.Judged.{IsJudgedSoFar}
-use Rattle.xray_program.specs.Takes.{Gives, GivesBytes, IsTooLong, Rejects, FailsToRead, Fails, IsReadStop, Stops, IsAnswerSoFar}
+use Rattle.xray_program.specs.Takes.{Gives, IsTooLong, FailsToRead, Fails, IsReadStop, Stops, IsAnswerSoFar}
 
 -- a name with too many bytes may hold bytes that are too many
 pub too_long : (limit : ℕ) (entry : Entry) → entry ≢ Absent

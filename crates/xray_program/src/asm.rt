@@ -7,8 +7,8 @@ ghost use Rattle.xray_program.specs.Takes.{Stops};
 ghost use Rattle.xray_program.specs.Words.{Asm};
 
 use crate::inputs::take_text;
-use crate::stop::Stop;
 use crate::judged::Judged;
+use crate::stop::Stop;
 use std::alloc::Global;
 use xray_io::Desk;
 

@@ -10,8 +10,8 @@ ghost use Rattle.xray_program.specs.Stops.{answer_of};
 ghost use Rattle.xray_program.specs.Words.{Sim, outputs_named, reading, texts};
 ghost use Rattle.xray_program.specs.declared.run_options.RunOptions.{RunOptions};
 
-use crate::stop::Stop;
 use crate::judged::take_inputs;
+use crate::stop::Stop;
 use crate::words::read_words;
 use std::alloc::Global;
 use std::sync::Wait;

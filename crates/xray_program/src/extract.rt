@@ -7,8 +7,8 @@ ghost use Rattle.xray_program.specs.Takes.{Stops};
 ghost use Rattle.xray_program.specs.Words.{Extract};
 
 use crate::inputs::take_image;
-use crate::stop::Stop;
 use crate::judged::Judged;
+use crate::stop::Stop;
 use std::alloc::Global;
 use xray_io::Desk;
 

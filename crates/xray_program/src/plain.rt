@@ -8,9 +8,9 @@ ghost use Rattle.xray_program.specs.Takes.{Stops};
 ghost use Rattle.xray_program.specs.Words.{Plain};
 
 use crate::inputs::take_image;
-use crate::stop::Stop;
 use crate::judged::Judged;
 use crate::run_options::RunOptions;
+use crate::stop::Stop;
 use machine_step::{PlainEnd, plain_run};
 use std::alloc::Global;
 use xray_image::Image;

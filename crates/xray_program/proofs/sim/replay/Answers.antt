@@ -1,4 +1,4 @@
-use Rattle.std.proofs.Common.{◌≡◌, inl, refl, sym, ap}
+use Rattle.std.proofs.Common.{inl, refl, sym, ap}
 use Rattle.std.specs.List.{flat_map}
 use Rattle.xray_program.specs.Jobs.{job_outputs, job_text, thread_text, IsPrintable}
 use Rattle.xray_program.specs.Meaning.{status_of}
