@@ -27,9 +27,9 @@ use Rattle.xray_io.specs.Desk.{Entry, Untold, Absent, Holds}
 use Rattle.xray_program.specs.Faults.{asm_fault_text, fault_text, schedule_fault_text, script_fault_text}
 use Rattle.xray_program.specs.Inputs.{Form, form_by, image_form, script_form, schedule_form, text_form}
 use Rattle.xray_program.specs.Meaning.{Outcome, BadLine, Unread, TooLong, Refused, Done, Prints, ComesOfReplay, Take, Comes, Means, MayHold, TellsAll}
-use Rattle.xray_program.specs.Plain.{IsPlainText, PlainPrints}
+use Rattle.xray_program.specs.Plain.{PlainPrints}
 use Rattle.xray_program.specs.Setups.{limits_of}
-use Rattle.xray_program.specs.States.{SimPrints, ThreadRun, cast_with, state_texts}
+use Rattle.xray_program.specs.States.{SimPrints, ThreadRun, state_texts}
 use Rattle.xray_program.specs.Words.{Command, Sim, Plain, Extract, Asm, reading}
 use Rattle.xray_program.specs.declared.run_options.RunOptions.{RunOptions}
 use Rattle.xray_program.proofs.OneMeaning.{Core, IsCore, core, sleds_are}
@@ -195,8 +195,7 @@ some_sim some replay bytes program lines schedule options accepted still =
     let count : length left.0 ≡ length cores = marks_count (cast_of program script sleds) schedule left.0 left.1 ∙ length-map cores _ in
     let own : map core runs ≡ cores = cores_are cores left.0 in
     let own_marks : map (λ (run : ThreadRun). run.marks) runs ≡ left.0 = marks_are cores left.0 count in
-    let own_sleds : map (λ (run : ThreadRun). sleds_of run.passed) runs ≡ sleds = sleds_are runs ∙ ap (map (λ (c : Core). sleds_of c.0)) own in
-    (
+    let own_sleds : map (λ (run : ThreadRun). sleds_of run.passed) runs ≡ sleds = sleds_are runs ∙ ap (map (λ (c : Core). sleds_of c.0)) own in (
       state_texts 1 runs,
       record {
         runs = runs;
