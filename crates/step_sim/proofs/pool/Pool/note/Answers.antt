@@ -10,7 +10,7 @@ returns-then-not-begun c =
     let hand : Filled = c.index_mut-hand.result.now in
     let same : hand ≡ c.index.result.now =
     same_hand old c.args.thread c.index.result.now hand c.requires.can c.index.ensures c.index_mut-hand.ensures.value in
-    let put = put_begun c.begin.new.self c.put.new.self hand.size c.args.thread 0 old.wall old.pid c.args.event.now c.begin.ensures c.put.ensures in
+    let put = put_begun c.begin.new.self c.put.new.self hand.size c.args.thread 0 old.wall old.pid c.args.event.now c.begin.ensures.begun c.put.ensures in
     first_notes old _ c.args.thread c.args.event.now hand c.put.new.self c.requires.can
     (ap (λ (b : Filled). b.begun) same ∙ sym c.begun.ensures ∙ c.if-not-begun.true)
     c.segments_hold_all.ensures.all c.index_mut-hand.ensures.value put refl refl refl refl refl refl

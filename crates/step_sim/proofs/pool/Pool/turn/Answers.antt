@@ -18,7 +18,7 @@ count_lost-requires c = λ begun.
 
 pub put-requires-clause-room : goal.put-requires-clause-room
 put-requires-clause-room c =
-    rw c.begin.ensures (turn_has_room c.args.self.now c.args.thread c.args.event.now c.index_mut-hand.result.now c.exchange.new.item
+    rw c.begin.ensures.begun (turn_has_room c.args.self.now c.args.thread c.args.event.now c.index_mut-hand.result.now c.exchange.new.item
     c.requires.can c.requires.full c.segments_hold_all.ensures.room c.index_mut-hand.ensures.value c.exchange.ensures.front)
 
 pub returns : goal.returns
@@ -28,7 +28,7 @@ returns c =
     let serial : c.index.result.now ≡ n + 1 =
     read_back old c.args.thread (n + 1) c.index.result.now c.requires.can c.index.ensures in
     let put = put_begun c.begin.new.self c.put.new.self c.exchange.new.item.size c.args.thread c.index.result.now old.wall old.pid c.args.event.now
-    c.begin.ensures c.put.ensures in
+    c.begin.ensures.begun c.put.ensures in
     turn_notes old _ c.args.thread n c.args.event.now c.index_mut-hand.result.now c.exchange.new.item c.put.new.self
     c.requires.can c.requires.full c.segments_hold_all.ensures.all c.segments_hold_all.ensures.some c.a_segment_grows.ensures.cut
     c.index_mut.ensures.value c.index_mut-hand.ensures.value c.exchange.ensures.front (put ∙ rw serial refl)
