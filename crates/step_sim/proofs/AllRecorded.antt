@@ -1,5 +1,5 @@
 -- All threads of a replay with buffers, from moment to moment.
-use Rattle.std.proofs.Common.{◌≡◌, ℕ, zero, suc, ◌+◌, ◌-◌, ◌<◌, ◌≤◌, List, [], ◌∷◌, ◌++◌, Some, refl, sym, subst, ap, ◌∙◌, arith, length, fold, take, get_or, min}
+use Rattle.std.proofs.Common.{◌≡◌, ℕ, zero, suc, ◌+◌, ◌<◌, ◌≤◌, List, [], Some, refl, sym, subst, ap, ◌∙◌, arith, length, fold, take, get_or}
 use Rattle.std.specs.Prelude.{◌==◌, if◌then◌else◌, slice_get, slice_set}
 use Rattle.std.proofs.lemmas.List.{take_all}
 use Rattle.std.proofs.lemmas.List.Sums.{fold_more}
@@ -11,7 +11,7 @@ use Rattle.step_sim.specs.declared.patcher.Patcher.{Patcher}
 use Rattle.step_sim.specs.declared.pool.Pool.{Pool}
 use Rattle.step_sim.specs.declared.turns.Turns.{Turns}
 use Rattle.step_sim.specs.declared.turns.Turns.TheVariants as turns_of
-use Rattle.step_sim.specs.Replay.{Cast, Moment, line_turns, of_thread, patcher_turn, thread_turn, turns}
+use Rattle.step_sim.specs.Replay.{Cast, Moment, line_turns, of_thread, thread_turn, turns}
 use Rattle.step_sim.specs.Pool.{AllPooledRunOut, Pooled, PooledRunsOut, Pooling, Stock, pooled_step}
 use Rattle.step_sim.specs.Standing.{AllStandAt, StandAt}
 use Rattle.step_sim.specs.Holding.{PoolHolds}
@@ -126,9 +126,12 @@ all_record_on lines p q ts us a b leads (r, pooled, at) = (r, fold (line_in r) p
 run_out_more : (cast : Cast) (pooling : Pooling) (n thread : ℕ) (before mid after : Pooled) → AllPooledRunOut cast pooling n thread before mid
     → PooledRunsOut cast pooling (thread + n) mid after → AllPooledRunOut cast pooling (n + 1) thread before after
 run_out_more cast pooling zero thread before mid after e run =
-    let here : thread + zero ≡ thread = omega arith in
-    (after, subst (λ (k : ℕ). PooledRunsOut cast pooling k before after) here
-    (subst (λ (x : Pooled). PooledRunsOut cast pooling (thread + zero) x after) e run), refl)
+    let here : thread + zero ≡ thread = omega arith in (
+      after,
+      subst (λ (k : ℕ). PooledRunsOut cast pooling k before after) here
+          (subst (λ (x : Pooled). PooledRunsOut cast pooling (thread + zero) x after) e run),
+      refl,
+    )
 run_out_more cast pooling (suc n) thread before mid after (first, runs, rest) run =
     let here : thread + suc n ≡ thread + 1 + n = omega arith in
     let count : suc n + 1 ≡ suc (n + 1) = omega arith in
@@ -161,9 +164,11 @@ one_records n p ts us old new a b c runs found same run r pooled at =
     let there : RecordAt r (turns count (turn_in r old.thread) here.0) p new c = subst (λ (x : Pooled). RecordAt r x p new c) out.1.1 out.2 in
     let all = turns_recorded r here.0 p us b c n count old new stands found same there in
     let e : out.0 ≡ turns count (turn_in r (n + 1)) here.0 =
-    out.1.1 ∙ ap (λ (k : ℕ). turns count (turn_in r k) here.0) number in
-    (out.0, run_out_more r.cast (pooling_in r) n 1 pooled here.0 out.0 here.1 own,
-    subst (λ (x : Pooled). AllRecordAt r x p (slice_set us n new) c) (sym e) all)
+    out.1.1 ∙ ap (λ (k : ℕ). turns count (turn_in r k) here.0) number in (
+      out.0,
+      run_out_more r.cast (pooling_in r) n 1 pooled here.0 out.0 here.1 own,
+      subst (λ (x : Pooled). AllRecordAt r x p (slice_set us n new) c) (sym e) all,
+    )
 
 pub run_records_on : (n : ℕ) (p : Patcher) (ts us : List Traced) (a b : Pool) → RunRecords n p ts a us b → AllRecord p ts a → AllRecord p us b
 run_records_on n p ts us a b runs (r, pooled, at) =

@@ -216,9 +216,13 @@ queue_serials stamp threads events stock pool thread holds =
 few_lost : (stamp : Stamp) (threads : ℕ) (events : Histories) (stock : Stock) (pool : Pool) (thread : ℕ)
     → PoolHolds stamp threads events stock pool → segments_among thread stock.taken ≤ length (segments_in stamp events thread) - 1
 few_lost stamp threads events stock pool thread holds =
-    omega (arith, ap length (holds.order thread), ap length (serials_of-append thread stock.taken stock.queue),
-    length-append (serials_of thread stock.taken) (serials_of thread stock.queue),
-    length-below (length (segments_in stamp events thread) - 1))
+    omega (
+      arith,
+      ap length (holds.order thread),
+      ap length (serials_of-append thread stock.taken stock.queue),
+      length-append (serials_of thread stock.taken) (serials_of thread stock.queue),
+      length-below (length (segments_in stamp events thread) - 1),
+    )
 
 gathered_of : (stamp : Stamp) (threads : ℕ) (events : Histories) (stock : Stock) (pool : Pool) (thread : ℕ) (hand : Filled)
     → 0 < thread → PoolHolds stamp threads events stock pool → slice_get pool.hands.items (thread - 1) ≡ Some hand

@@ -1,13 +1,11 @@
 -- One thread of a replay with buffers, from moment to moment.
-use Rattle.std.proofs.Common.{◌≡◌, ◌≢◌, ℕ, zero, suc, ◌+◌, ◌-◌, ◌<◌, ◌≤◌, ◌^◌, List, [], ◌∷◌, ◌++◌, Bool, true, false, Option, Some, None, refl, sym, subst, ap, ◌∙◌, inl, inr, arith, length, length-append, map}
-use Rattle.std.specs.Prelude.{All, IfSome, ◌==◌, if◌then◌else◌, filter, slice_get}
-use Rattle.std.specs.List.{zip}
+use Rattle.std.proofs.Common.{◌≡◌, ◌≢◌, ℕ, zero, suc, ◌+◌, ◌-◌, ◌<◌, ◌≤◌, ◌^◌, List, ◌++◌, Option, Some, None, refl, sym, subst, ap, ◌∙◌, inl, inr, arith, length}
+use Rattle.std.specs.Prelude.{All, IfSome, slice_get}
 use Rattle.std.proofs.lemmas.Bool.{cases_eq}
 use Rattle.std.proofs.lemmas.List.{append-nil}
 use Rattle.fdr_record.specs.declared.event.Event.{Event}
 use Rattle.fdr_buffer.specs.Segments.{segments}
-use Rattle.handler_word.specs.declared.mark.Mark.{Mark}
-use Rattle.machine_step.specs.Events.{event_of, events_in, recorded}
+use Rattle.machine_step.specs.Events.{events_in, recorded}
 use Rattle.patch_script.specs.Micros.{hold_of}
 use Rattle.machine_step.specs.declared.end.End.{End}
 use Rattle.machine_step.specs.Loads.{Load, marks_of}
@@ -115,9 +113,12 @@ its_run : (r : Recording) (pooled : Pooled) (p : Patcher) (old mid : Traced) (po
     → (end : End) × (last : State) × PlainRun mid.program mid.limits mid.thread (of_thread r.passed old.thread) end last
 its_run r pooled p old mid pool at same =
     let stands = at.stands.thread in
-    let run = at.traced.run old.thread stands.first (omega (arith, stands.last, at.threads_are)) in
-    (run.0, run.1, run_alike r.cast.program mid.program r.limits mid.limits old.thread mid.thread (of_thread r.passed old.thread) run.0 run.1
-    (sym (same.program ∙ stands.program_is)) (sym (same.limits ∙ at.limits_are)) (sym same.thread) run.2)
+    let run = at.traced.run old.thread stands.first (omega (arith, stands.last, at.threads_are)) in (
+      run.0,
+      run.1,
+      run_alike r.cast.program mid.program r.limits mid.limits old.thread mid.thread (of_thread r.passed old.thread) run.0 run.1
+          (sym (same.program ∙ stands.program_is)) (sym (same.limits ∙ at.limits_are)) (sym same.thread) run.2,
+    )
 
 its_small : (r : Recording) (pooled : Pooled) (p : Patcher) (old : Traced) (pool : Pool) → RecordAt r pooled p old pool
     → All IsSmall (of_thread r.passed old.thread)
@@ -143,8 +144,16 @@ can_note p old mid new pool (Some event) thread (r, pooled, at) same keeps gives
     ap (histories r pooled.moment) here ∙ events_of_marks r pooled.moment p old mid at.stands same keeps in
     let count : length (histories r pooled.moment thread) < 2 ^ 32 =
     omega (arith, ap length events, recorded_short passed mid.marks, few) in (
-      (r.stamp, r.threads, histories r pooled.moment, pooled.stock, at.holds, omega (arith, here, at.stands.thread.first),
-      omega (arith, here, at.stands.thread.last, at.threads_are), count),
+      (
+        r.stamp,
+        r.threads,
+        histories r pooled.moment,
+        pooled.stock,
+        at.holds,
+        omega (arith, here, at.stands.thread.first),
+        omega (arith, here, at.stands.thread.last, at.threads_are),
+        count,
+      ),
       event_small passed mid.marks new.marks event (its_small r pooled p old pool at) (gives passed run.0 run.1 run.2),
     )
 
@@ -170,10 +179,10 @@ load_recorded r pooled p old mid new pool pool' event thread at same keeps same'
     let noted = own r.stamp r.threads (histories r pooled.moment) (histories r turned) pooled.stock at.holds more
     (λ other apart. histories_other r pooled.moment old.thread other at.stands.thread.first apart) in
     let counts : (m : Moment) → length (segments_in r.stamp (histories r m) old.thread)
-        ≡ length (segments_at r.cast r.passed r.stamp.size old.thread m) =
+    ≡ length (segments_at r.cast r.passed r.stamp.size old.thread m) =
     λ m. ap (λ (es : List Event). length (segments r.stamp.size es)) (history_is r m old.thread at.stands.thread.first) in
     let stock : stock_behind old.thread (length (segments_in r.stamp (histories r pooled.moment) old.thread))
-        (length (segments_in r.stamp (histories r turned) old.thread)) pooled.stock ≡ (turn_in r old.thread pooled).stock =
+    (length (segments_in r.stamp (histories r turned) old.thread)) pooled.stock ≡ (turn_in r old.thread pooled).stock =
     ap (λ (n : ℕ). stock_behind old.thread n (length (segments_in r.stamp (histories r turned) old.thread)) pooled.stock) (counts pooled.moment)
     ∙ ap (λ (n : ℕ). stock_behind old.thread (length (segments_at r.cast r.passed r.stamp.size old.thread pooled.moment)) n pooled.stock) (counts turned) in
     record {

@@ -1,6 +1,6 @@
 -- The buffers of a replay from event to event.
 use Rattle.std.proofs.Common.{◌≡◌, ◌≢◌, ℕ, zero, suc, ◌+◌, ◌-◌, ◌<◌, ◌≤◌, ◌^◌, List, [], ◌∷◌, ◌++◌, Bool, true, false, Option, Some, None, refl, sym, subst, ap, ◌∙◌, inl, inr, arith, length, length-append, map, take, drop, append_assoc, eq-eqb, get_or}
-use Rattle.std.specs.Prelude.{◌⊎◌, ◌==◌, ◌&&◌, All, IsFalse, IsTrue, if◌then◌else◌, nat_lt, replicate, slice_get, slice_index, slice_set, unwrap_or, ⊤}
+use Rattle.std.specs.Prelude.{◌⊎◌, ◌==◌, ◌&&◌, All, IsFalse, IsTrue, if◌then◌else◌, nat_lt, replicate, slice_get, slice_index, slice_set, unwrap_or}
 use Rattle.std.proofs.lemmas.Bool.{cases_eq}
 use Rattle.std.proofs.lemmas.Bool.Decides.{nat_tests}
 use Rattle.std.proofs.lemmas.List.{append-nil, drop-map, get_or-set_other, get_or-set_same, take-map, map-append, take-append-drop, length-replicate, length-set}
@@ -344,17 +344,21 @@ fewer_lost stamp threads events stock pool thread serial owner number holds e =
     (front_of stock.queue item).is ∙ ap (λ (x : Item). x ∷ []) e in
     let all = serials_behind stamp threads events stock pool owner item holds in
     let split : serials_of owner ((stock.taken ++ Segment owner number ∷ []) ++ rest)
-        ≡ (serials_of owner stock.taken ++ number ∷ []) ++ serials_of owner rest =
+    ≡ (serials_of owner stock.taken ++ number ∷ []) ++ serials_of owner rest =
     serials_of-append owner (stock.taken ++ Segment owner number ∷ []) rest
     ∙ ap (λ (ns : List ℕ). ns ++ serials_of owner rest)
     (serials_of-append owner stock.taken (Segment owner number ∷ []) ∙ ap (λ (ns : List ℕ). serials_of owner stock.taken ++ ns) (serial_own owner number)) in
     let same : (serials_of owner stock.taken ++ number ∷ []) ++ serials_of owner rest
-        ≡ below (length (segments_in stamp events owner) - 1) ++ serials_of owner (item ∷ []) =
+    ≡ below (length (segments_in stamp events owner) - 1) ++ serials_of owner (item ∷ []) =
     sym split ∙ ap (λ (xs : List Item). serials_of owner ((stock.taken ++ xs) ++ rest)) (sym front) ∙ all in
-    omega (arith, ap length same, length-append (serials_of owner stock.taken ++ number ∷ []) (serials_of owner rest),
-    length-append (serials_of owner stock.taken) (number ∷ []),
-    length-append (below (length (segments_in stamp events owner) - 1)) (serials_of owner (item ∷ [])),
-    length-below (length (segments_in stamp events owner) - 1))
+    omega (
+      arith,
+      ap length same,
+      length-append (serials_of owner stock.taken ++ number ∷ []) (serials_of owner rest),
+      length-append (serials_of owner stock.taken) (number ∷ []),
+      length-append (below (length (segments_in stamp events owner) - 1)) (serials_of owner (item ∷ [])),
+      length-below (length (segments_in stamp events owner) - 1),
+    )
 
 -- the count of a list in which one was set
 set_at : (ns : List ℕ) (thread owner n : ℕ) → 0 < thread → 0 < owner → thread ≤ length ns
@@ -522,7 +526,13 @@ pub turn_holds : (stamp : Stamp) (threads : ℕ) (events later : Histories) (sto
     → PoolHolds stamp threads events stock old → Cuts stamp events later thread was.whole was.last next
     → n ≡ length (segments_in stamp events thread) → taken ∷ [] ≡ take 1 (old.queue ++ hand ∷ [])
     → next_hand ≡ record {
-      size = taken.size; begun = true; thread = thread; serial = n; wall = old.wall; pid = old.pid; events = next;
+      size = taken.size;
+      begun = true;
+      thread = thread;
+      serial = n;
+      wall = old.wall;
+      pid = old.pid;
+      events = next;
     }
     → new.hands.items ≡ slice_set old.hands.items (thread - 1) next_hand → new.queue ≡ drop 1 (old.queue ++ hand ∷ [])
     → new.sealed.items ≡ slice_set old.sealed.items (thread - 1) n → new.first.items ≡ lost_behind taken old.first.items
@@ -697,7 +707,13 @@ pub turn_notes : (old new : Pool) (thread n : ℕ) (event : Event) (hand taken n
     → AllSaid → SomeSaid → CutSaid → n ≡ get_or old.sealed.items (thread - 1) n → hand ≡ get_or old.hands.items (thread - 1) hand
     → taken ∷ [] ≡ take 1 (old.queue ++ hand ∷ [])
     → next_hand ≡ record {
-      size = taken.size; begun = true; thread = thread; serial = n + 1; wall = old.wall; pid = old.pid; events = event ∷ [];
+      size = taken.size;
+      begun = true;
+      thread = thread;
+      serial = n + 1;
+      wall = old.wall;
+      pid = old.pid;
+      events = event ∷ [];
     }
     → new.hands.items ≡ slice_set old.hands.items (thread - 1) next_hand → new.queue ≡ drop 1 (old.queue ++ hand ∷ [])
     → new.sealed.items ≡ slice_set old.sealed.items (thread - 1) (n + 1) → new.first.items ≡ lost_behind taken old.first.items
@@ -728,7 +744,13 @@ turn_notes old new thread n event hand taken next_hand (stamp', threads', events
 pub first_notes : (old new : Pool) (thread : ℕ) (event : Event) (hand next_hand : Filled) → CanNote old thread → hand.begun ≡ false → AllSaid
     → hand ≡ get_or old.hands.items (thread - 1) hand
     → next_hand ≡ record {
-      size = hand.size; begun = true; thread = thread; serial = 0; wall = old.wall; pid = old.pid; events = event ∷ [];
+      size = hand.size;
+      begun = true;
+      thread = thread;
+      serial = 0;
+      wall = old.wall;
+      pid = old.pid;
+      events = event ∷ [];
     }
     → new.hands.items ≡ slice_set old.hands.items (thread - 1) next_hand → new.queue ≡ old.queue → new.sealed.items ≡ old.sealed.items
     → new.first.items ≡ old.first.items → new.wall ≡ old.wall → new.pid ≡ old.pid → NotesEvent old new thread event

@@ -1,10 +1,8 @@
 -- The beginning and the end of a replay with buffers.
-use Rattle.std.proofs.Common.{◌≡◌, ℕ, zero, suc, ◌+◌, ◌-◌, ◌<◌, ◌≤◌, List, [], ◌∷◌, ◌++◌, Bool, true, false, Option, Some, None, refl, sym, subst, ap, ◌∙◌, inl, inr, arith, length, length-append, map, fold, get_or, drop, vec_len}
-use Rattle.std.specs.Prelude.{slice_get, unwrap_or, nat_lt, ◌&&◌, ◌==◌, if◌then◌else◌, filter}
-use Rattle.std.specs.List.{flat_map, zip}
-use Rattle.std.proofs.lemmas.Bool.{cases_eq}
+use Rattle.std.proofs.Common.{◌≡◌, ℕ, zero, suc, ◌+◌, ◌-◌, ◌<◌, ◌≤◌, List, [], ◌∷◌, ◌++◌, Bool, true, false, Option, Some, None, refl, sym, subst, ap, ◌∙◌, arith, length, length-append, map, fold, vec_len}
+use Rattle.std.specs.Prelude.{slice_get, nat_lt, ◌&&◌, ◌==◌, if◌then◌else◌, filter}
+use Rattle.std.specs.List.{flat_map}
 use Rattle.std.proofs.lemmas.List.{length-drop, length-map, length-replicate}
-use Rattle.std.proofs.lemmas.Option.{slice_get-get_or}
 use Rattle.xray_image.specs.Program.{IsAccepted, Program}
 use Rattle.patch_script.specs.declared.command.Command.{Command}
 use Rattle.patch_script.specs.Micros.{hold_of, start_of}
@@ -17,22 +15,21 @@ use Rattle.machine_step.specs.declared.setup.Setup.{Setup}
 use Rattle.machine_step.specs.Events.{recorded}
 use Rattle.machine_step.specs.Loads.{Load, is_held_at, marks_of, marks_from}
 use Rattle.machine_step.specs.PlainStep.{Passing, PlainRun, State}
-use Rattle.machine_step.specs.Traced.{HasLoaded, Traced, sleds_of}
+use Rattle.machine_step.specs.Traced.{Traced, sleds_of}
 use Rattle.step_sim.specs.declared.patcher.Patcher.{Patcher}
 use Rattle.step_sim.specs.declared.pool.Pool.{Pool}
 use Rattle.step_sim.specs.declared.turns.Turns.{Turns}
 use Rattle.step_sim.specs.declared.turns.Turns.TheVariants.{Thread, Patcher as PatcherTurns}
-use Rattle.step_sim.specs.Replay.{Cast, Moment, first_moment, of_thread, thread_turn, turns}
+use Rattle.step_sim.specs.Replay.{Cast, first_moment, of_thread, thread_turn, turns}
 use Rattle.step_sim.specs.Replayed.{cast_of}
-use Rattle.step_sim.specs.Pool.{AllPooledRunOut, Fresh, Item, Pooled, PooledRunsOut, Pooling, Segment, Stock, first_pooled, first_stock, pooled_line, pooled_lines, pooled_step, pooled_turn, queued, segments_among, stock_behind}
-use Rattle.step_sim.specs.Recorded.{IsRecorded, Stamp, buffers_behind, events_at, is_of, numbers_from, segments_at, stamp_of}
-use Rattle.step_sim.specs.Standing.{AllHaveBegun, AllStandAt, HasBegun, IsPatcherAt}
+use Rattle.step_sim.specs.Pool.{AllPooledRunOut, Fresh, Item, Pooled, Pooling, Segment, Stock, first_pooled, first_stock, pooled_line, pooled_lines, pooled_step, pooled_turn, queued, segments_among, stock_behind}
+use Rattle.step_sim.specs.Recorded.{IsRecorded, buffers_behind, is_of, numbers_from, segments_at, stamp_of}
+use Rattle.step_sim.specs.Standing.{AllHaveBegun, IsPatcherAt}
 use Rattle.step_sim.specs.Holding.{Histories, PoolHolds, segments_in}
-use Rattle.step_sim.specs.Recording.{AllRecordAt, IsTraced, Recording, histories, line_in, pooling_in}
+use Rattle.step_sim.specs.Recording.{AllRecordAt, Recording, histories, line_in, pooling_in}
 use Rattle.step_sim.proofs.Bounds.{Gathered, begins, gathered, item_sleds, run_alike}
 use Rattle.step_sim.proofs.Gathering.{all_gathered, first_are, flat_same, sealed_are}
 use Rattle.step_sim.proofs.OneRecorded.{history_is, holds_same}
-use Rattle.step_sim.proofs.PoolLemmas.{eqb_not}
 use Rattle.step_sim.proofs.ReplayAlong.{no_loads, of_thread_is}
 use Rattle.step_sim.proofs.SmallIds.{run_small}
 
@@ -48,9 +45,6 @@ behind_length thread before after stock = by_test (nat_lt 0 before && (after == 
     by_test : (b : Bool) → length (if b then queued (Segment thread (before - 1)) stock else stock).queue ≡ length stock.queue
     by_test true = queued_length (Segment thread (before - 1)) stock
     by_test false = refl
-
-
-
 
 turns_keep : (n : ℕ) (turn : Pooled → Pooled) → ((x : Pooled) → length (turn x).stock.queue ≡ length x.stock.queue) → (pooled : Pooled)
     → length (turns n turn pooled).stock.queue ≡ length pooled.stock.queue
@@ -167,9 +161,12 @@ begins_recording program script setup p ts pool count begun free patcher words (
         by_thread (t, found) =
             let is = (begun (thread - 1) t found).thread_is in
             let loaded = its.own (thread - 1) t found in
-            let number : t.thread ≡ thread = omega (arith, is.thread_is, some) in
-            (loaded.end, loaded.last, run_alike t.program program t.limits setup.limits t.thread thread (of_thread its.all thread) loaded.end loaded.last
-            is.program_is is.limits_are number loaded.run)
+            let number : t.thread ≡ thread = omega (arith, is.thread_is, some) in (
+              loaded.end,
+              loaded.last,
+              run_alike t.program program t.limits setup.limits t.thread thread (of_thread its.all thread) loaded.end loaded.last
+                  is.program_is is.limits_are number loaded.run,
+            )
 
 -- ---- the end
 

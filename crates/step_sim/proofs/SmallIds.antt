@@ -1,7 +1,7 @@
 -- The functions' ids of recorded events fit their records.
 use Rattle.std.proofs.Common.{◌≡◌, ℕ, zero, suc, ◌+◌, ◌<◌, ◌≤◌, ◌^◌, List, [], ◌∷◌, ◌++◌, Bool, true, false, Option, Some, None, refl, sym, subst, ap, ◌∙◌, inl, inr, arith, length, length-append, map, get_or}
 use Rattle.std.specs.Prelude.{All, MatchBool, ◌==◌, filter, if◌then◌else◌, not, slice_get}
-use Rattle.std.specs.List.{list_any, prefix_len, position_or_len, zip}
+use Rattle.std.specs.List.{list_any, prefix_len, zip}
 use Rattle.std.specs.Option.{option_map}
 use Rattle.std.proofs.lemmas.List.{get_or_push, length-map}
 use Rattle.std.proofs.lemmas.List.Elements.{All-append, All-cons, All-head, All-nil, All-tail}
@@ -9,7 +9,7 @@ use Rattle.std.proofs.lemmas.Option.{slice_get-map}
 use Rattle.std.proofs.lemmas.Slice.Zip.{length-zip}
 use Rattle.xray_image.specs.Container.{MapEntry, base_address}
 use Rattle.xray_image.specs.Units.{SledPlace, places_from}
-use Rattle.xray_image.specs.Program.{IsAccepted, Program, distinct, id_of, program_of, sled_of}
+use Rattle.xray_image.specs.Program.{IsAccepted, Program, distinct, id_of, sled_of}
 use Rattle.xray_image.specs.declared.sled.Sled.{Sled as XraySled}
 use Rattle.xray_image.specs.declared.unit.What.{What}
 use Rattle.xray_image.specs.declared.unit.What.TheVariants.{Plain, Sled, Pad}
@@ -43,8 +43,12 @@ distinct_short seen (x ∷ xs) = by_seen (list_any (λ y. y == x) seen) (distinc
 
 id_short : (entries : List MapEntry) (function : ℕ) → id_of entries function ≤ 1 + length entries
 id_short entries function =
-    omega (arith, prefix_short (λ f. not (f == function)) (distinct [] (map (λ e. e.function) entries)),
-    distinct_short [] (map (λ e. e.function) entries), length-map entries (λ e. e.function))
+    omega (
+      arith,
+      prefix_short (λ f. not (f == function)) (distinct [] (map (λ e. e.function) entries)),
+      distinct_short [] (map (λ e. e.function) entries),
+      length-map entries (λ e. e.function),
+    )
 
 sled_id : (entries : List MapEntry) (pair : SledPlace × MapEntry) → (sled_of entries pair).id ≤ 1 + length entries
 sled_id entries (place, entry) = id_short entries entry.function

@@ -1,5 +1,5 @@
 -- What the buffers of a replay hold, for the contracts of private functions.
-use Rattle.std.specs.Prelude.{◌≡◌, ◌<◌, ◌≤◌, ◌+◌, ◌-◌, ◌==◌, ◌^◌, ◌++◌, ℕ, zero, suc, List, [], ◌∷◌, length, map, slice_get, slice_index, slice_set, true, false, ◌≢◌, unwrap_or, All, ⊤, if◌then◌else◌, Some}
+use Rattle.std.specs.Prelude.{◌≡◌, ◌<◌, ◌≤◌, ◌+◌, ◌-◌, ◌^◌, ◌++◌, ℕ, zero, suc, List, [], ◌∷◌, length, map, slice_get, true, false, ◌≢◌, unwrap_or, All, ⊤, Some}
 use Rattle.fdr_record.specs.declared.event.Event.{Event}
 use Rattle.fdr_buffer.specs.Filled.{Filled, empty_buffer}
 use Rattle.fdr_buffer.specs.Segments.{has_room, segments}

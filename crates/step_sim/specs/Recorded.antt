@@ -101,6 +101,6 @@ pub record IsRecorded (program : Program) (script : List Command) (schedule : Li
   pub first_are : first ≡ map (λ thread. segments_among thread last.stock.taken) (numbers_from 1 setup.threads)
   pub buffers_are : let cast : Cast = cast_of program script (map sleds_of passed) in
       buffers ≡ flat_map
-          (λ thread. buffers_behind (stamp_of setup) (segments_among thread last.stock.taken) thread
-          (segments_at cast passed setup.size thread last.moment))
-          (numbers_from 1 setup.threads)
+      (λ thread. buffers_behind (stamp_of setup) (segments_among thread last.stock.taken) thread
+      (segments_at cast passed setup.size thread last.moment))
+      (numbers_from 1 setup.threads)

@@ -86,7 +86,11 @@ impl Pool {
     /// What the buffers leave: how many each thread has put in the queue, how many of those were taken
     /// away again, and those that hold a segment, by thread and then in their order. `kept` has to be
     /// empty, with room for all.
-    pub(crate) fn collect(self, threads: u32, mut kept: Vec<Buffer>) -> (Vec<u32>, Vec<u32>, Vec<Buffer>)
+    pub(crate) fn collect(
+        self,
+        threads: u32,
+        mut kept: Vec<Buffer>,
+    ) -> (Vec<u32>, Vec<u32>, Vec<Buffer>)
         requires empty { kept.items ≡ [] }
         requires room { length self.queue + vec_len self.hands ≤ vec_capacity kept }
         ensures sealed { result.0.items ≡ self.sealed.items }

@@ -1,4 +1,4 @@
-use Rattle.std.proofs.Common.{◌≡◌, ◌≢◌, ℕ, ◌+◌, ◌-◌, ◌≤◌, ◌++◌, drop, length, vec_len}
+use Rattle.std.proofs.Common.{◌≡◌, ◌≢◌, ℕ, ◌+◌, ◌-◌, ◌≤◌, ◌++◌, drop, vec_len}
 use Rattle.std.specs.Prelude.{filter, vec_capacity}
 use Rattle.step_sim.specs.Recorded.{is_of}
 use Rattle.step_sim.proofs.pool.take_of.Given as goal

@@ -28,15 +28,14 @@ take_turns-requires-clause-line c =
     subst (λ (n : ℕ). AreTurnsOf n line) (sym count) (c.requires.lines c.loop-turns.turns-index (Thread 0 0) (omega (arith, c.loop-turns-test.true)))
 
 pub loop-turns-preserved : goal.loop-turns-preserved
-loop-turns-preserved c =
-    (
-      line_more c.args.lines.now c.loop-turns.turns-index _ c.args.patcher.now c.loop-turns.patcher c.take_turns.new.patcher
-          c.args.cpus.now.items c.loop-turns.cpus.items c.take_turns.new.cpus.items (omega (arith, c.loop-turns-test.true))
-          c.loop-turns.invariant.0 c.take_turns.ensures.at,
-      line_records c.args.lines.now c.loop-turns.turns-index _ c.args.patcher.now c.loop-turns.patcher c.take_turns.new.patcher
-          c.args.cpus.now.items c.loop-turns.cpus.items c.take_turns.new.cpus.items c.args.pool.now c.loop-turns.pool c.take_turns.new.pool
-          (omega (arith, c.loop-turns-test.true)) c.loop-turns.invariant.1 c.take_turns.ensures.records,
-    )
+loop-turns-preserved c = (
+  line_more c.args.lines.now c.loop-turns.turns-index _ c.args.patcher.now c.loop-turns.patcher c.take_turns.new.patcher
+      c.args.cpus.now.items c.loop-turns.cpus.items c.take_turns.new.cpus.items (omega (arith, c.loop-turns-test.true))
+      c.loop-turns.invariant.0 c.take_turns.ensures.at,
+  line_records c.args.lines.now c.loop-turns.turns-index _ c.args.patcher.now c.loop-turns.patcher c.take_turns.new.patcher
+      c.args.cpus.now.items c.loop-turns.cpus.items c.take_turns.new.cpus.items c.args.pool.now c.loop-turns.pool c.take_turns.new.pool
+      (omega (arith, c.loop-turns-test.true)) c.loop-turns.invariant.1 c.take_turns.ensures.records,
+)
 
 pub run_all_out-requires-clause-play : goal.run_all_out-requires-clause-play
 run_all_out-requires-clause-play c =

@@ -1,4 +1,4 @@
-use Rattle.std.proofs.Common.{◌∙◌, ◌-◌, ℕ, sym, arith, map, length}
+use Rattle.std.proofs.Common.{◌∙◌, ℕ, sym, arith, map, length}
 use Rattle.patch_script.specs.Refusals.{commands_of}
 use Rattle.machine_step.specs.Traced.{sleds_of}
 use Rattle.step_sim.specs.Replay.{first_moment}

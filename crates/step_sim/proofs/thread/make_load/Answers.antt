@@ -54,5 +54,8 @@ returns-in-None-clause-records c = λ r pooled at.
 pub returns-in-Some-clause-nearer : goal.returns-in-Some-clause-nearer
 returns-in-Some-clause-nearer c =
     let said = c.in-Some.ensures in
-    omega (arith, said.nearer,
-    c.give-event.ensures.nearer (not_kept c.args.patcher.now c.args.cpu.now c.next_word.new.cpu c.load.result c.requires.play said.thread))
+    omega (
+      arith,
+      said.nearer,
+      c.give-event.ensures.nearer (not_kept c.args.patcher.now c.args.cpu.now c.next_word.new.cpu c.load.result c.requires.play said.thread),
+    )

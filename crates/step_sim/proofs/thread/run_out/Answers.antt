@@ -22,9 +22,12 @@ loads-preserved c =
     let said = c.loads-test.ensures in
     let made = c.loads.invariant.1 in (
       same_then _ _ _ c.loads.invariant.0 said.thread,
-      (made.0 + 1, one_more made.0 c.args.patcher.now c.args.cpu.now c.loads.cpu c.make_load.new.cpu c.loads.invariant.0 made.1 said.at,
-          record_more made.0 c.args.patcher.now c.args.cpu.now c.loads.cpu c.make_load.new.cpu c.args.pool.now c.loads.pool c.make_load.new.pool
-              c.loads.invariant.0 made.2 said.records),
+      (
+        made.0 + 1,
+        one_more made.0 c.args.patcher.now c.args.cpu.now c.loads.cpu c.make_load.new.cpu c.loads.invariant.0 made.1 said.at,
+        record_more made.0 c.args.patcher.now c.args.cpu.now c.loads.cpu c.make_load.new.cpu c.args.pool.now c.loads.pool c.make_load.new.pool
+            c.loads.invariant.0 made.2 said.records,
+      ),
     )
 
 pub returns-clause-thread : goal.returns-clause-thread

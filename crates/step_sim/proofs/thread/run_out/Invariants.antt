@@ -5,7 +5,7 @@ use Rattle.step_sim.proofs.OneThread.{LeadsOn}
 use Rattle.step_sim.proofs.thread.run_out.Given as goal
 
 abbrev pub invariant-loads : goal.invariant-loads
-invariant-loads l = 
+invariant-loads l =
     IsSameThread l.initial.cpu l.cpu
     × ((n : ℕ) × LeadsOn n l.patcher l.initial.cpu l.cpu × LeadsRecord n l.patcher l.initial.cpu l.initial.pool l.cpu l.pool)
 

@@ -1,4 +1,4 @@
-use Rattle.std.proofs.Common.{◌≡◌, ℕ, ◌+◌, ◌<◌, ◌≤◌, ◌++◌, length, vec_len}
+use Rattle.std.proofs.Common.{◌≡◌, ℕ, ◌+◌, ◌<◌, ◌≤◌, ◌++◌, vec_len}
 use Rattle.std.specs.Prelude.{filter, vec_capacity}
 use Rattle.std.specs.List.{flat_map}
 use Rattle.step_sim.specs.Recorded.{is_of, numbers_from}

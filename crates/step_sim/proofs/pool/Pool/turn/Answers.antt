@@ -7,8 +7,11 @@ use Rattle.step_sim.proofs.pool.Pool.turn.Goals as goal
 
 pub overflow_add-index_mut : goal.overflow_add-index_mut
 overflow_add-index_mut c =
-    omega (arith, turn_seals c.args.self.now c.args.thread c.index_mut.result.now c.args.event.now c.requires.can c.requires.full
-    c.segments_hold_all.ensures.all c.segments_hold_all.ensures.some c.index_mut.ensures.value)
+    omega (
+      arith,
+      turn_seals c.args.self.now c.args.thread c.index_mut.result.now c.args.event.now c.requires.can c.requires.full
+          c.segments_hold_all.ensures.all c.segments_hold_all.ensures.some c.index_mut.ensures.value,
+    )
 
 pub count_lost-requires : goal.count_lost-requires
 count_lost-requires c = λ begun.

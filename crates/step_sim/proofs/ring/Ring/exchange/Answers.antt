@@ -1,4 +1,4 @@
-use Rattle.std.proofs.Common.{◌≡◌, [], ◌∷◌, ◌++◌, drop, take, set, ap, ◌∙◌, arith}
+use Rattle.std.proofs.Common.{arith}
 use Rattle.step_sim.proofs.Queues.{turned_whole}
 use Rattle.step_sim.proofs.ring.Ring.exchange.Goals as goal
 
