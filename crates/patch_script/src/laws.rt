@@ -39,6 +39,7 @@ pub fn each_script_keeps_sleds()
 
 /// Stores that are made one by one give the code at each place: at first the words are those before the
 /// script, and a micro step brings each of them to its value at the next place.
+#[inline(always)]
 pub fn stores_give_the_code()
     ensures first { (program : Program) (script : List Command) (threads : ℕ)
         → AreCodeAt program script 0 (initial_words program threads) }
@@ -53,6 +54,7 @@ pub fn stores_give_the_code()
 /// How far the patcher may have come while a thread makes a passing: up to the first micro step that
 /// awaits it. The patcher stands within the bound as long as each await that it has passed is for no
 /// more passings than the thread had made before this one.
+#[inline(always)]
 pub fn awaits_bound_passings()
     ensures within { (program : Program) (script : List Command) (thread passing : ℕ)
         → bound_of program script thread passing ≤ total_of program script }

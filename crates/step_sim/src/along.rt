@@ -11,8 +11,8 @@ ghost use Rattle.step_sim.specs.Replay.{AllRunOut, Cast, Moment, first_moment, p
 use machine_step::what_follows_is_allowed;
 use patch_script::each_script_keeps_sleds;
 
-/// At each moment of a replay each thread has read along the script: at first, and behind each turn of
-/// a thread or of the patcher. So the value of the word that a thread wants next is allowed, and no
+/// At each moment of a replay the loads of each thread follow the script: at first, and behind each turn
+/// of a thread or of the patcher. So the value of the word that a thread wants next is allowed, and no
 /// passing has torn its sled.
 pub fn a_replay_reads_along()
     ensures first { (cast : Cast) → IsAlong cast (first_moment cast) }
