@@ -14,6 +14,7 @@ use sled_words::code_bytes;
 use std::sync::Wait;
 use std::test::Fail;
 use std::thread::{Threads, join_mut};
+use text_lines::count_lines;
 use xray_image::read_image;
 use xray_io::OpenGate;
 
@@ -42,7 +43,9 @@ fn unpatching_leaves_the_head_of_a_return_and_what_was_patched_behind_it(
     rt: HostRuntime,
 ) -> Result<(), Fail> {
     let image = read_image(rt.alloc(), &OUTPUTS_AN_A)?;
-    let script = read_script(rt.alloc(), b"patch\nunpatch\ngo\n", &image, 1)?;
+    let text = b"patch\nunpatch\ngo\n";
+    assert!(rt; count_lines(text) < 100);
+    let script = read_script(rt.alloc(), text, &image, 1)?;
     let (table, mut seat) = CodeTable::new(rt.alloc(), &image, script, 1)?;
     assert!(rt; table.word_count() == 12);
     run_prefix(&table, &mut seat);
@@ -63,7 +66,9 @@ fn unpatching_a_sled_that_was_never_patched_leaves_the_code_as_it_was(
     rt: HostRuntime,
 ) -> Result<(), Fail> {
     let image = read_image(rt.alloc(), &OUTPUTS_AN_A)?;
-    let script = read_script(rt.alloc(), b"go\nunpatch\n", &image, 1)?;
+    let text = b"go\nunpatch\n";
+    assert!(rt; count_lines(text) < 100);
+    let script = read_script(rt.alloc(), text, &image, 1)?;
     let (table, mut seat) = CodeTable::new(rt.alloc(), &image, script, 1)?;
     assert!(rt; table.word_count() == 12);
     run_script(&rt, &table, &mut seat, &OpenGate);
@@ -230,6 +235,7 @@ fn finish(
 #[test]
 fn two_threads_fetch_lawful_words_while_a_third_patches(rt: HostRuntime) -> Result<(), Fail> {
     let image = read_image(rt.alloc(), &OUTPUTS_AN_A)?;
+    assert!(rt; count_lines(LIVE) < 100);
     let script = read_script(rt.alloc(), LIVE, &image, 2)?;
     let (table, mut seat) = CodeTable::new(rt.alloc(), &image, script, 2)?;
     assert!(rt; table.word_count() == 14);

@@ -1,14 +1,16 @@
 //! The calls of a table one after the other, on an image with one function that outputs an A.
 
-ghost use Rattle.std.specs.Prelude.{◌≡◌, ◌*◌, ◌+◌, length, IfOk};
+ghost use Rattle.std.specs.Prelude.{◌≡◌, ◌<◌, ◌≤◌, ◌*◌, ◌+◌, length, IfOk};
 ghost use Rattle.sled_words.specs.Words.{word_count};
+ghost use Rattle.sled_rule.specs.Plans.{code_words};
 ghost use Rattle.sled_rule.specs.Seats.{patch_view, script_of, work_view, AllMet, IsPatcherOf, IsWorkerOf};
-ghost use Rattle.sled_rule.specs.Views.{advanced, ended_count, first_patch};
+ghost use Rattle.sled_rule.specs.Views.{ended_count, first_patch};
 
 use crate::{CodeTable, PatchSeat, WorkSeat};
 use patch_script::{Micro, read_script};
 use std::process::Abort;
 use std::test::Fail;
+use text_lines::count_lines;
 use xray_image::read_image;
 
 /// A function `main` that outputs an A: an entry sled at 0x1000, `mov eax, 0x41`, `out 1, al` and an exit sled at 0x1012.
@@ -37,22 +39,24 @@ fn begin<R: Abort + AllocGlobal>(rt: &R, text: &[u8]) -> Result<(CodeTable, Patc
     ensures first { IfOk result (λ t. patch_view t.1 ≡ first_patch (script_of t.0)) }
     ensures one { IfOk result (λ t. (script_of t.0).threads ≡ 1) }
 {
-    assert!(rt; text.len() < 64);
+    assert!(rt; count_lines(text) < 100);
     let image = read_image(rt.alloc(), &OUTPUTS_AN_A)?;
     let script = read_script(rt.alloc(), text, &image, 1)?;
     let made = CodeTable::new(rt.alloc(), &image, script, 1)?;
     Ok(made)
 }
 
-/// Makes a store, which is what the script says next.
-fn store(rt: &impl Abort, table: &CodeTable, seat: &mut PatchSeat)
+/// Makes some stores, which are what the script says next.
+fn store(rt: &impl Abort, table: &CodeTable, seat: &mut PatchSeat, stores: u32)
     requires { IsPatcherOf table.now seat.old }
     ensures own { IsPatcherOf table.now seat.new }
-    ensures view { patch_view seat.new ≡ advanced (patch_view seat.old) }
+    ensures given { (patch_view seat.new).given ≡ (patch_view seat.old).given }
 {
-    match table.next_micro(seat) {
-        Micro::Store { .. } => table.store_next(seat),
-        Micro::Await { .. } | Micro::End => panic!(rt; "no store"),
+    for _ in 0..stores {
+        match table.next_micro(seat) {
+            Micro::Store { .. } => table.store_next(seat),
+            Micro::Await { .. } | Micro::End => panic!(rt; "no store"),
+        }
     }
 }
 
@@ -81,6 +85,19 @@ fn finish(table: CodeTable, mut seat: PatchSeat, mut worker: WorkSeat, into: &mu
     table.close(seat, into);
 }
 
+/// The head of the first sled, as a thread finds it that was told of all stores so far.
+fn told_head(table: &CodeTable, patcher: &mut PatchSeat, worker: &mut WorkSeat) -> u64
+    requires patcher { IsPatcherOf table.now patcher.old }
+    requires worker { IsWorkerOf table.now worker.old }
+    requires some { 0 < code_words (script_of table.now) }
+    ensures worker { IsWorkerOf table.now worker.new }
+    ensures told { (patch_view patcher.old).place ≤ (work_view worker.new).seen }
+{
+    let note = table.note(patcher);
+    table.hear(worker, note);
+    table.fetch(worker, 0)
+}
+
 #[test]
 fn a_thread_fetches_what_was_stored(rt: HostRuntime) -> Result<(), Fail> {
     let (table, mut seat) = begin(&rt, b"go\npatch\n")?;
@@ -88,15 +105,11 @@ fn a_thread_fetches_what_was_stored(rt: HostRuntime) -> Result<(), Fail> {
     assert!(rt; table.code_word_count() == 11);
     let mut worker = table.split(&mut seat);
     assert!(rt; table.fetch(&mut worker, 0) == 0x09EB);
-    for _ in 0..4 {
-        store(&rt, &table, &mut seat);
-    }
+    store(&rt, &table, &mut seat, 4);
     assert!(rt; table.fetch(&mut worker, 0) == 0xBA41);
     assert!(rt; table.fetch(&mut worker, 1) == 1);
     assert!(rt; table.fetch(&mut worker, 4) == 0x2EC3);
-    for _ in 0..4 {
-        store(&rt, &table, &mut seat);
-    }
+    store(&rt, &table, &mut seat, 4);
     assert!(rt; table.fetch(&mut worker, 4) == 0xBA41);
     assert!(rt; seat.place() == 8);
     Ok(())
@@ -108,9 +121,7 @@ fn the_last_words_are_those_of_the_script_and_the_counts(rt: HostRuntime) -> Res
     assert!(rt; table.is_at_start(&seat));
     assert!(rt; table.word_count() == 12);
     let worker = table.split(&mut seat);
-    for _ in 0..8 {
-        store(&rt, &table, &mut seat);
-    }
+    store(&rt, &table, &mut seat, 8);
     let mut last = [0; 12];
     finish(table, seat, worker, &mut last);
     let words = [
@@ -150,12 +161,8 @@ fn a_thread_that_hears_a_note_fetches_nothing_older(rt: HostRuntime) -> Result<(
     assert!(rt; table.is_at_start(&seat));
     assert!(rt; table.code_word_count() == 11);
     let mut worker = table.split(&mut seat);
-    for _ in 0..4 {
-        store(&rt, &table, &mut seat);
-    }
-    let note = table.note(&mut seat);
-    table.hear(&mut worker, note);
-    assert!(rt; table.fetch(&mut worker, 0) == 0xBA41);
+    store(&rt, &table, &mut seat, 4);
+    assert!(rt; told_head(&table, &mut seat, &mut worker) == 0xBA41);
     Ok(())
 }
 
