@@ -1,6 +1,6 @@
 """A model of `xray`: how words are read, what is left on each status, and the commands `plain`, `extract` and `sim`.
 
-It is written from docs/FORMATS.md and docs/COMMANDS.md alone, and shares nothing with the program or its definitions. It
+It is written from docs/formats and docs/COMMANDS.md alone, and shares nothing with the program or its definitions. It
 is made to be read and not to be fast. What `asm` makes of a text is handed in: crates/asm_text/tools/random_texts.py has
 a model of that. worked_runs.py compares the model with results that were worked by hand.
 """
