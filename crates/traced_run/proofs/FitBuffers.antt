@@ -1,5 +1,5 @@
 -- What a run leaves in its buffers fits them.
-use Rattle.std.proofs.Common.{◌≡◌, ℕ, zero, suc, ◌+◌, ◌<◌, ◌≤◌, ◌^◌, List, [], ◌∷◌, ◌++◌, Bool, true, false, Some, refl, sym, ap, subst, ◌∙◌, arith, length, drop, map}
+use Rattle.std.proofs.Common.{◌≡◌, ℕ, zero, suc, ◌+◌, ◌<◌, ◌≤◌, ◌^◌, List, [], ◌∷◌, ◌++◌, Bool, true, false, Some, refl, sym, subst, arith, length, drop, map}
 use Rattle.std.specs.Prelude.{All, IsTrue, filter, if◌then◌else◌, slice_get}
 use Rattle.std.specs.List.{AllByRecursion, enumerate_from, flat_map, zip}
 use Rattle.std.proofs.lemmas.List.Concat.{flat_map-cons}
@@ -9,14 +9,13 @@ use Rattle.xray_image.specs.Program.{IsAccepted, Program}
 use Rattle.handler_word.specs.declared.mark.Mark.{Mark}
 use Rattle.handler_word.specs.MarkList.{is_recorded}
 use Rattle.fdr_record.specs.declared.event.Event.{Event}
-use Rattle.fdr_buffer.specs.Filled.{Filled}
-use Rattle.fdr_buffer.specs.Fits.{BufferFits, PreambleFits}
+use Rattle.fdr_buffer.specs.Fits.{BufferFits}
 use Rattle.fdr_buffer.specs.Segments.{EventFits, body, has_room, segments}
 use Rattle.machine_step.specs.declared.setup.Setup.{Setup}
 use Rattle.machine_step.specs.Events.{event_of, recorded}
 use Rattle.machine_step.specs.PlainStep.{Passing}
 use Rattle.traced_run.specs.Fits.{PassingFits, SetupFits}
-use Rattle.traced_run.specs.Kept.{Stamp, buffer_of, buffers_behind, kept_buffers, segments_of, stamp_of, thread_buffers}
+use Rattle.traced_run.specs.Kept.{buffer_of, kept_buffers, segments_of, stamp_of, thread_buffers}
 use Rattle.traced_run.specs.Runs.{IsRun, ThreadRun, events_of}
 use Rattle.traced_run.proofs.FitPassings.{run_fits}
 use Rattle.traced_run.proofs.Oldest.{HoldAll}

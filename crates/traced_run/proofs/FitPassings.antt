@@ -1,5 +1,5 @@
 -- The passings of a plain run fit the records of events.
-use Rattle.std.proofs.Common.{◌≡◌, ℕ, zero, suc, ◌+◌, ◌*◌, ◌/◌, ◌%◌, ◌<◌, ◌≤◌, ◌^◌, List, [], ◌∷◌, ◌++◌, Bool, true, false, Some, sym, subst, inl, inr, arith}
+use Rattle.std.proofs.Common.{◌≡◌, ℕ, zero, suc, ◌+◌, ◌*◌, ◌/◌, ◌<◌, ◌≤◌, ◌^◌, List, [], ◌∷◌, Bool, true, false, Some, sym, subst, inl, inr, arith}
 use Rattle.std.specs.Prelude.{All, MatchBool, ◌==◌, slice_get}
 use Rattle.std.proofs.lemmas.List.Elements.{All-append, All-cons, All-nil}
 use Rattle.std.proofs.lemmas.Nat.{mod_below}
@@ -14,56 +14,62 @@ use Rattle.machine_step.specs.PlainStep.{Ends, Next, Passing, PlainRun, PlainSte
 use Rattle.traced_run.specs.Fits.{PassingFits}
 use Rattle.traced_run.proofs.SmallIds.{small_id}
 
--- what the sleds of an image and the limits keep
-record Bounds (program : Program) (limits : Limits) : Type 0 where
-  ids : (k : ℕ) (sled : XraySled) → slice_get program.sleds k ≡ Some sled → sled.id < 2 ^ 28
-  some : 1 ≤ limits.cpus
-  few : limits.cpus < 2 ^ 16
+-- ---- what holds of each passing
 
-none_made : (made : List Passing) → made ≡ [] → All PassingFits made
-none_made made e = subst (All PassingFits) (sym e) (All-nil PassingFits)
+-- it holds of the passings of all sleds
+abbrev pub OfEach : (Passing → Type 0) → Program → Limits → ℕ → Type 0
+OfEach P program limits thread =
+    (s : State) (k : ℕ) (sled : XraySled) → slice_get program.sleds k ≡ Some sled → P (passing_at limits thread s k sled)
 
-passing_fits : (program : Program) (limits : Limits) (thread : ℕ) (s : State) (k : ℕ) (sled : XraySled) → Bounds program limits
-    → slice_get program.sleds k ≡ Some sled → PassingFits (passing_at limits thread s k sled)
-passing_fits program limits thread s k sled bounds found = record {
-  cpu =
-      let below = mod_below (thread + s.passings / limits.migrate) limits.cpus (omega (arith, bounds.some)) in
-      omega (arith, below, bounds.few);
-  id = bounds.ids k sled found;
-  counter = mod_below (limits.tsc + limits.tick * s.instructions) (2 ^ 64) (omega arith);
-}
+none_made : (P : Passing → Type 0) (made : List Passing) → made ≡ [] → All P made
+none_made P made e = subst (All P) (sym e) (All-nil P)
 
-unit_fits : (program : Program) (limits : Limits) (thread : ℕ) (s : State) (what : What) (made : List Passing) (next : Next)
-    → Bounds program limits → UnitStep program limits thread s what made next → All PassingFits made
-unit_fits program limits thread s (Plain instr) made next bounds step = none_made made step.0
-unit_fits program limits thread s Pad made next bounds step = none_made made step.0
-unit_fits program limits thread s (Sled k) made next bounds step = by_left (s.passings == limits.passings) step
+unit_each : (P : Passing → Type 0) (program : Program) (limits : Limits) (thread : ℕ) (s : State) (what : What) (made : List Passing) (next : Next)
+    → OfEach P program limits thread → UnitStep program limits thread s what made next → All P made
+unit_each P program limits thread s (Plain instr) made next each step = none_made P made step.0
+unit_each P program limits thread s Pad made next each step = none_made P made step.0
+unit_each P program limits thread s (Sled k) made next each step = by_left (s.passings == limits.passings) step
   where
     by_left : (left : Bool)
         → MatchBool left ((made ≡ []) × (next ≡ Ends ends.Passings s))
         ((sled : XraySled) × (slice_get program.sleds k ≡ Some sled)
         × (made ≡ passing_at limits thread s k sled ∷ [])
         × (next ≡ behind_passing limits (record s { passings = s.passings + 1 }) sled.kind))
-        → All PassingFits made
-    by_left true ended = none_made made ended.0
+        → All P made
+    by_left true ended = none_made P made ended.0
     by_left false (sled, found, e, goes) =
-        subst (All PassingFits) (sym e)
-        (All-cons PassingFits (passing_at limits thread s k sled) [] (passing_fits program limits thread s k sled bounds found) (All-nil PassingFits))
+        subst (All P) (sym e) (All-cons P (passing_at limits thread s k sled) [] (each s k sled found) (All-nil P))
 
-step_fits : (program : Program) (limits : Limits) (thread : ℕ) (s : State) (made : List Passing) (next : Next) → Bounds program limits
-    → PlainStep program limits thread s made next → All PassingFits made
-step_fits program limits thread s made next bounds (inl none) = none_made made none.1
-step_fits program limits thread s made next bounds (inr (u, has, at, step)) = unit_fits program limits thread s u.what made next bounds step
+step_each : (P : Passing → Type 0) (program : Program) (limits : Limits) (thread : ℕ) (s : State) (made : List Passing) (next : Next)
+    → OfEach P program limits thread → PlainStep program limits thread s made next → All P made
+step_each P program limits thread s made next each (inl none) = none_made P made none.1
+step_each P program limits thread s made next each (inr (u, has, at, step)) = unit_each P program limits thread s u.what made next each step
 
-steps_fit : (program : Program) (limits : Limits) (thread n : ℕ) (s : State) (passed : List Passing) (end : End) (last : State)
-    → Bounds program limits → RunsTo program limits thread n s passed end last → All PassingFits passed
-steps_fit program limits thread zero s passed end last bounds step = step_fits program limits thread s passed _ bounds step
-steps_fit program limits thread (suc n) s passed end last bounds (made, later, mid, step, rest, e) =
-    subst (All PassingFits) (sym e)
-    (All-append PassingFits made later (step_fits program limits thread s made _ bounds step)
-    (steps_fit program limits thread n mid later end last bounds rest))
+steps_each : (P : Passing → Type 0) (program : Program) (limits : Limits) (thread n : ℕ) (s : State) (passed : List Passing) (end : End) (last : State)
+    → OfEach P program limits thread → RunsTo program limits thread n s passed end last → All P passed
+steps_each P program limits thread zero s passed end last each step = step_each P program limits thread s passed _ each step
+steps_each P program limits thread (suc n) s passed end last each (made, later, mid, step, rest, e) =
+    subst (All P) (sym e)
+    (All-append P made later (step_each P program limits thread s made _ each step)
+    (steps_each P program limits thread n mid later end last each rest))
+
+-- ---- ids and stamps
+
+pub run_ids : (bytes : List ℕ) (program : Program) (limits : Limits) (thread : ℕ) (passed : List Passing) (end : End) (last : State)
+    → IsAccepted bytes program → PlainRun program limits thread passed end last → All (λ p. p.id < 2 ^ 28) passed
+run_ids bytes program limits thread passed end last accepted (n, run) =
+    steps_each (λ p. p.id < 2 ^ 28) program limits thread n _ passed end last (λ s k sled found. small_id bytes program k sled accepted found) run
 
 pub run_fits : (bytes : List ℕ) (program : Program) (limits : Limits) (thread : ℕ) (passed : List Passing) (end : End) (last : State)
     → IsAccepted bytes program → 1 ≤ limits.cpus → limits.cpus < 2 ^ 16 → PlainRun program limits thread passed end last → All PassingFits passed
 run_fits bytes program limits thread passed end last accepted some few (n, run) =
-    steps_fit program limits thread n _ passed end last (record { ids = λ k sled found. small_id bytes program k sled accepted found; some = some; few = few }) run
+    steps_each PassingFits program limits thread n _ passed end last each run
+  where
+    each : OfEach PassingFits program limits thread
+    each s k sled found = record {
+      cpu =
+          let below = mod_below (thread + s.passings / limits.migrate) limits.cpus (omega (arith, some)) in
+          omega (arith, below, few);
+      id = small_id bytes program k sled accepted found;
+      counter = mod_below (limits.tsc + limits.tick * s.instructions) (2 ^ 64) (omega arith);
+    }

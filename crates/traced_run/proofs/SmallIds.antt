@@ -20,21 +20,24 @@ several_count X item zero bytes found e =
     let start : List X × List ℕ = ([], bytes) in
     let same : start ≡ found = cc in
     ap (λ (p : List X × List ℕ). length p.0) (sym same)
-several_count X item (suc n) bytes found e = by_first (item bytes) e
+several_count X item (suc n) bytes found e = by_first (several_count X item n) (item bytes) e
   where
-    by_others : (first : X × List ℕ) (others : Option (List X × List ℕ)) → several item n first.1 ≡ others
+    Counts : Type 0
+    Counts = (rest : List ℕ) (others : List X × List ℕ) → several item n rest ≡ Some others → length others.0 ≡ n
+
+    by_others : Counts → (first : X × List ℕ) (others : Option (List X × List ℕ)) → several item n first.1 ≡ others
         → option_map (λ others. (first.0 ∷ others.0, others.1)) others ≡ Some found → length found.0 ≡ suc n
-    by_others first None is e = absurd cc
-    by_others first (Some others) is e =
+    by_others counts first None is e = absurd cc
+    by_others counts first (Some others) is e =
         let both : List X × List ℕ = (first.0 ∷ others.0, others.1) in
         let same : both ≡ found = cc in
-        ap (λ (p : List X × List ℕ). length p.0) (sym same) ∙ ap suc (several_count X item n first.1 others is)
+        ap (λ (p : List X × List ℕ). length p.0) (sym same) ∙ ap suc (counts first.1 others is)
 
-    by_first : (first : Option (X × List ℕ))
+    by_first : Counts → (first : Option (X × List ℕ))
         → option_and_then (λ first. option_map (λ others. (first.0 ∷ others.0, others.1)) (several item n first.1)) first ≡ Some found
         → length found.0 ≡ suc n
-    by_first None e = absurd cc
-    by_first (Some first) e = by_others first (several item n first.1) refl e
+    by_first counts None e = absurd cc
+    by_first counts (Some first) e = by_others counts first (several item n first.1) refl e
 
 -- the parts of a file with these functions and entries
 abbrev parts_with : List ℕ → List Function → List MapEntry × List ℕ → Parts

@@ -37,9 +37,13 @@ pub fn a_run_without_losses_is_whole()
     segments_hold_all();
 }
 
-/// The stamps and ids of a plain run's passings fit the records of events.
+/// The ids of a plain run's passings fit the records of events, and so do their stamps, where there is
+/// a processor and no more than its field can count.
 pub fn passings_fit()
-    ensures { (bytes : List ℕ) (program : Program) (limits : Limits) (thread : ℕ)
+    ensures ids { (bytes : List ℕ) (program : Program) (limits : Limits) (thread : ℕ)
+        (passed : List Passing) (end : End) (last : State) → IsAccepted bytes program
+        → PlainRun program limits thread passed end last → All (λ p. p.id < 2 ^ 28) passed }
+    ensures all { (bytes : List ℕ) (program : Program) (limits : Limits) (thread : ℕ)
         (passed : List Passing) (end : End) (last : State) → IsAccepted bytes program
         → 1 ≤ limits.cpus → limits.cpus < 2 ^ 16 → PlainRun program limits thread passed end last
         → All PassingFits passed }
