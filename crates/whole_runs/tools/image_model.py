@@ -1,6 +1,6 @@
 """A model of image files: their units, their functions and sleds, why one is refused, and the sled map's text.
 
-It is written from docs/FORMATS.md alone, and shares nothing with the program or its definitions.
+It is written from docs/formats alone, and shares nothing with the program or its definitions.
 """
 import bisect
 import dataclasses

@@ -1,6 +1,6 @@
 """A model of `xray`: how words are read, what each command does, and what is left on each status.
 
-It is written from docs/FORMATS.md and docs/COMMANDS.md alone, and shares nothing with the program or its definitions. It
+It is written from docs/formats and docs/COMMANDS.md alone, and shares nothing with the program or its definitions. It
 is made to be read and not to be fast. What is read and made stands in modules of its own: images (image_model), plain runs
 (machine_model), scripts and replays (replay_model), traces (trace_model) and reports on them (report_model). What `asm` makes
 of a text is handed in: crates/asm_text/tools/random_texts.py has a model of that. worked_runs.py and worked_traces.py compare
