@@ -1,21 +1,16 @@
 -- A replay before its first turn.
-use Rattle.std.proofs.Common.{◌≡◌, ℕ, ◌≤◌, List, [], None, refl, sym, ap, subst, ◌∙◌, length, map, vec_len}
-use Rattle.std.specs.Prelude.{vec_capacity}
-use Rattle.xray_image.specs.Program.{IsAccepted, Program}
-use Rattle.sled_words.specs.Words.{word_count}
+use Rattle.std.proofs.Common.{◌≡◌, ℕ, List, sym, ap, subst, ◌∙◌, map}
+use Rattle.xray_image.specs.Program.{Program}
 use Rattle.patch_script.specs.declared.command.Command.{Command}
-use Rattle.patch_script.specs.Micros.{hold_of, start_of}
+use Rattle.patch_script.specs.Micros.{start_of}
 use Rattle.patch_script.specs.Refusals.{commands_of}
 use Rattle.machine_step.specs.declared.setup.Setup.{Setup}
 use Rattle.machine_step.specs.Traced.{sleds_of}
-use Rattle.traced_run.specs.Kept.{stamp_of}
 use Rattle.step_sim.specs.declared.start.SimStart.TheInside.{Inside}
-use Rattle.step_sim.specs.Pool.{first_stock}
-use Rattle.step_sim.specs.Holding.{PoolHolds}
 use Rattle.step_sim.specs.Recording.{AllRecord}
 use Rattle.step_sim.specs.Replay.{first_moment}
-use Rattle.step_sim.specs.Replayed.{cast_of, spare_of}
-use Rattle.step_sim.specs.Standing.{AllHaveBegun, AllPlay, IsPatcherAt}
+use Rattle.step_sim.specs.Replayed.{cast_of}
+use Rattle.step_sim.specs.Standing.{AllPlay, IsPatcherAt}
 use Rattle.step_sim.specs.Starting.{HoldsStart, IsAtStart, start_in}
 use Rattle.step_sim.specs.Starts.{Start}
 use Rattle.step_sim.proofs.Recordings.{Begun, SmallIds, begins_recording, first_of, recording}

@@ -1,12 +1,11 @@
 -- Segments among the items of a queue, counted thread by thread.
-use Rattle.std.proofs.Common.{◌≡◌, ◌≢◌, ℕ, zero, suc, ◌+◌, ◌-◌, ◌<◌, ◌≤◌, List, [], ◌∷◌, ◌++◌, Bool, true, false, Some, refl, sym, ap, ◌∙◌, inl, inr, arith, length, length-append, map, take}
+use Rattle.std.proofs.Common.{◌≡◌, ◌≢◌, ℕ, zero, suc, ◌+◌, ◌-◌, ◌<◌, ◌≤◌, List, [], ◌∷◌, ◌++◌, Some, refl, ap, ◌∙◌, inl, inr, arith, length, take}
 use Rattle.std.specs.Prelude.{◌==◌, if◌then◌else◌, replicate, slice_get, sum_by}
 use Rattle.std.specs.List.{AllByRecursion}
 use Rattle.std.proofs.lemmas.Bool.{cases_eq}
 use Rattle.std.proofs.lemmas.List.Sums.{sum_by-cons}
 use Rattle.traced_run.specs.Runs.{ThreadRun}
 use Rattle.step_sim.specs.Pool.{Fresh, Item, Segment, segments_among, serials_of}
-use Rattle.step_sim.specs.Recorded.{numbers_from}
 use Rattle.step_sim.proofs.PoolLemmas.{eqb_is, eqb_not}
 
 -- ---- sums over threads

@@ -1,14 +1,13 @@
 -- The runs of threads that have ended.
-use Rattle.std.proofs.Common.{◌≡◌, ℕ, zero, suc, ◌+◌, ◌-◌, ◌<◌, ◌≤◌, List, [], ◌∷◌, ◌++◌, Option, Some, None, refl, sym, subst, ap, ◌∙◌, arith, length, map}
+use Rattle.std.proofs.Common.{◌≡◌, ℕ, zero, suc, ◌+◌, ◌-◌, ◌<◌, ◌≤◌, List, [], ◌∷◌, ◌++◌, Option, Some, refl, sym, subst, ap, ◌∙◌, arith, length, map}
 use Rattle.std.specs.Prelude.{slice_get, unwrap_or}
 use Rattle.std.specs.List.{enumerate_from, flat_map}
 use Rattle.xray_image.specs.Program.{IsAccepted}
 use Rattle.patch_script.specs.Micros.{hold_of}
 use Rattle.handler_word.specs.declared.mark.Mark.{Mark}
 use Rattle.fdr_buffer.specs.Filled.{Filled}
-use Rattle.machine_step.specs.declared.end.End.{End}
 use Rattle.machine_step.specs.Loads.{marks_of}
-use Rattle.machine_step.specs.PlainStep.{Passing, PlainRun, State}
+use Rattle.machine_step.specs.PlainStep.{Passing, PlainRun}
 use Rattle.machine_step.specs.Traced.{Traced, sleds_of, state_at}
 use Rattle.traced_run.specs.Left.{HasRun}
 use Rattle.traced_run.specs.Runs.{ThreadRun}

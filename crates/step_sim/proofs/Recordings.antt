@@ -1,15 +1,12 @@
 -- The beginning and the end of a replay with buffers.
-use Rattle.std.proofs.Common.{◌≡◌, ℕ, zero, suc, ◌+◌, ◌-◌, ◌<◌, ◌≤◌, ◌^◌, List, [], ◌∷◌, ◌++◌, Bool, true, false, Option, Some, None, refl, sym, subst, ap, ◌∙◌, arith, length, length-append, map, fold, vec_len}
-use Rattle.std.specs.Prelude.{slice_get, nat_lt, ◌&&◌, ◌==◌, if◌then◌else◌, filter}
-use Rattle.std.specs.List.{All, flat_map}
+use Rattle.std.proofs.Common.{◌≡◌, ℕ, zero, suc, ◌+◌, ◌-◌, ◌<◌, ◌≤◌, ◌^◌, List, [], ◌∷◌, ◌++◌, Bool, true, false, Option, Some, None, refl, ap, ◌∙◌, arith, length, length-append, map, fold, vec_len}
+use Rattle.std.specs.Prelude.{slice_get, nat_lt, ◌&&◌, ◌==◌, if◌then◌else◌}
+use Rattle.std.specs.List.{All}
 use Rattle.std.proofs.lemmas.List.{length-drop, length-map, length-replicate}
 use Rattle.xray_image.specs.Program.{IsAccepted, Program}
 use Rattle.patch_script.specs.declared.command.Command.{Command}
 use Rattle.patch_script.specs.Micros.{hold_of, start_of}
 use Rattle.sled_words.specs.Words.{word_count}
-use Rattle.fdr_record.specs.declared.event.Event.{Event}
-use Rattle.fdr_buffer.specs.Filled.{Filled}
-use Rattle.fdr_buffer.specs.Segments.{segments}
 use Rattle.machine_step.specs.declared.end.End.{End}
 use Rattle.machine_step.specs.declared.limits.Limits.{Limits}
 use Rattle.machine_step.specs.declared.setup.Setup.{Setup}
@@ -23,14 +20,12 @@ use Rattle.step_sim.specs.declared.turns.Turns.{Turns}
 use Rattle.step_sim.specs.declared.turns.Turns.TheVariants.{Thread, Patcher as PatcherTurns}
 use Rattle.step_sim.specs.Replay.{Cast, first_moment, of_thread, thread_turn, turns}
 use Rattle.step_sim.specs.Replayed.{cast_of}
-use Rattle.step_sim.specs.Pool.{AllPooledRunOut, Fresh, Item, Pooled, Pooling, Segment, Stock, first_pooled, first_stock, pooled_line, pooled_lines, pooled_step, pooled_turn, queued, segments_among, stock_behind}
-use Rattle.traced_run.specs.Kept.{buffers_behind, stamp_of}
-use Rattle.step_sim.specs.Recorded.{is_of, numbers_from, segments_at}
+use Rattle.step_sim.specs.Pool.{AllPooledRunOut, Fresh, Item, Pooled, Pooling, Segment, Stock, first_pooled, first_stock, pooled_line, pooled_step, pooled_turn, queued, stock_behind}
+use Rattle.traced_run.specs.Kept.{stamp_of}
 use Rattle.step_sim.specs.Standing.{AllHaveBegun, IsPatcherAt}
-use Rattle.step_sim.specs.Holding.{Histories, PoolHolds, segments_in}
+use Rattle.step_sim.specs.Holding.{PoolHolds}
 use Rattle.step_sim.specs.Recording.{AllRecordAt, Recording, histories, line_in, pooling_in}
 use Rattle.step_sim.proofs.Bounds.{Gathered, begins, gathered, item_sleds, run_alike}
-use Rattle.step_sim.proofs.Gathering.{all_gathered, first_are, flat_same, sealed_are}
 use Rattle.step_sim.proofs.OneRecorded.{history_is, holds_same}
 use Rattle.step_sim.proofs.ReplayAlong.{no_loads, of_thread_is}
 

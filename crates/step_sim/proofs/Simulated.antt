@@ -1,37 +1,35 @@
 -- What a replay leaves when all threads have ended.
-use Rattle.std.proofs.Common.{◌≡◌, ℕ, zero, suc, ◌+◌, ◌-◌, ◌<◌, ◌≤◌, ◌^◌, List, [], ◌∷◌, ◌++◌, Option, Some, refl, sym, subst, ap, ◌∙◌, arith, length, length-append, map, fold, get_or}
+use Rattle.std.proofs.Common.{◌≡◌, ℕ, zero, suc, ◌+◌, ◌-◌, ◌<◌, ◌^◌, List, [], ◌∷◌, ◌++◌, Option, Some, refl, sym, subst, ap, ◌∙◌, arith, length, length-append, map, fold, get_or}
 use Rattle.std.specs.Prelude.{filter, slice_get}
 use Rattle.std.specs.List.{All, flat_map}
-use Rattle.std.proofs.lemmas.List.{length-map, length-replicate}
+use Rattle.std.proofs.lemmas.List.{length-map}
 use Rattle.std.proofs.lemmas.List.Elements.{All-from_get_or, recursion_from_All}
 use Rattle.std.proofs.lemmas.Option.{get_or_from_slice_get, slice_get_within}
 use Rattle.xray_image.specs.Program.{IsAccepted, Program}
 use Rattle.patch_script.specs.declared.command.Command.{Command}
 use Rattle.patch_script.specs.Micros.{hold_of}
-use Rattle.handler_word.specs.declared.mark.Mark.{Mark}
 use Rattle.fdr_record.specs.declared.event.Event.{Event}
 use Rattle.fdr_buffer.specs.Filled.{Filled}
 use Rattle.machine_step.specs.declared.setup.Setup.{Setup}
 use Rattle.machine_step.specs.Loads.{marks_of}
 use Rattle.machine_step.specs.PlainStep.{Passing, PlainRun}
 use Rattle.machine_step.specs.Traced.{Traced, sleds_of}
-use Rattle.traced_run.specs.Kept.{buffers_behind, kept_buffers, segment_count, segments_of, stamp_of, thread_buffers}
-use Rattle.traced_run.specs.Left.{HasRun, Leaves}
-use Rattle.traced_run.specs.Losses.{AreLost}
-use Rattle.traced_run.specs.Runs.{IsRun, ThreadRun, events_of}
+use Rattle.traced_run.specs.Kept.{buffers_behind, kept_buffers, segment_count, segments_of, thread_buffers}
+use Rattle.traced_run.specs.Left.{HasRun}
+use Rattle.traced_run.specs.Runs.{ThreadRun, events_of}
 use Rattle.step_sim.specs.declared.patcher.Patcher.{Patcher}
 use Rattle.step_sim.specs.declared.pool.Pool.{Pool}
 use Rattle.step_sim.specs.declared.turns.Turns.{Turns}
 use Rattle.step_sim.specs.Replay.{marks_at, of_thread}
-use Rattle.step_sim.specs.Replayed.{IsReplayOf, IsSimulated, cast_of, cast_with, passed_of, spare_of}
+use Rattle.step_sim.specs.Replayed.{IsSimulated, cast_of, cast_with, passed_of, spare_of}
 use Rattle.step_sim.specs.Pool.{AllPooledRunOut, Pooled, PooledReplay, pooled_lines, segments_among}
 use Rattle.step_sim.specs.Recorded.{is_of, numbers_from, pooling_of, segments_held}
 use Rattle.step_sim.specs.Schedules.{AreTurnsOf}
 use Rattle.step_sim.specs.Standing.{Rests}
-use Rattle.step_sim.specs.Holding.{IsHand, PoolHolds, opened, segments_in, unbegun}
+use Rattle.step_sim.specs.Holding.{IsHand, opened, segments_in, unbegun}
 use Rattle.step_sim.specs.Recording.{AllRecordAt, Recording, histories, line_in, pooling_in}
 use Rattle.step_sim.proofs.Bounds.{OneEnd}
-use Rattle.step_sim.proofs.EndedRuns.{AllRuns, IsRunOf, all_runs, enumerated_buffers, enumerated_map, items_are, marks_in, of_thread_at, runs_map}
+use Rattle.step_sim.proofs.EndedRuns.{AllRuns, all_runs, enumerated_buffers, enumerated_map, items_are, marks_in, of_thread_at, runs_map}
 use Rattle.step_sim.proofs.Gathering.{all_gathered, first_are, sealed_are}
 use Rattle.step_sim.proofs.PoolLemmas.{AllSaid, SomeSaid, nonempty_count}
 use Rattle.step_sim.proofs.Recordings.{Ended, first_of, recording}

@@ -1,5 +1,5 @@
 -- The functions' ids of recorded events fit their records.
-use Rattle.std.proofs.Common.{◌≡◌, ℕ, suc, ◌<◌, ◌≤◌, ◌^◌, List, [], ◌∷◌, ◌++◌, Bool, true, false, subst, refl, arith, length, length-append, map, get_or}
+use Rattle.std.proofs.Common.{◌≡◌, suc, ◌<◌, ◌≤◌, ◌^◌, List, [], ◌∷◌, ◌++◌, Bool, true, false, subst, refl, arith, length, length-append, map, get_or}
 use Rattle.std.specs.Prelude.{All, filter, if◌then◌else◌}
 use Rattle.std.specs.List.{zip}
 use Rattle.std.proofs.lemmas.List.{get_or_push}

@@ -1,9 +1,9 @@
 -- How many segments are lost: what stands in the queue, and what was taken away from it, through a replay.
-use Rattle.std.proofs.Common.{◌≡◌, ℕ, zero, suc, ◌+◌, ◌-◌, ◌<◌, ◌≤◌, List, [], ◌∷◌, ◌++◌, Bool, true, false, Some, refl, sym, subst, ap, ◌∙◌, arith, length, length-append, fold, get_or, append_assoc, drop, take}
+use Rattle.std.proofs.Common.{◌≡◌, ℕ, zero, suc, ◌+◌, ◌-◌, ◌<◌, ◌≤◌, List, [], ◌∷◌, ◌++◌, Bool, true, false, Some, refl, sym, subst, ap, ◌∙◌, arith, length, length-append, fold, append_assoc, drop, take}
 use Rattle.std.specs.Prelude.{◌&&◌, ◌==◌, if◌then◌else◌, nat_lt, replicate, slice_get, sum_by}
-use Rattle.std.specs.List.{All, AllByRecursion}
+use Rattle.std.specs.List.{AllByRecursion}
 use Rattle.std.proofs.lemmas.List.{append-nil, length-take, take-append-drop}
-use Rattle.std.proofs.lemmas.List.Elements.{All-from_recursion, recursion_from_All}
+use Rattle.std.proofs.lemmas.List.Elements.{All-from_recursion}
 use Rattle.std.proofs.Math.Seq.{take-append_seam}
 use Rattle.fdr_record.specs.declared.event.Event.{Event}
 use Rattle.fdr_buffer.specs.Segments.{segments}
@@ -13,20 +13,20 @@ use Rattle.handler_word.specs.declared.mark.Mark.{Mark}
 use Rattle.machine_step.specs.Traced.{Traced}
 use Rattle.traced_run.specs.Kept.{segment_count, segments_of}
 use Rattle.traced_run.specs.Losses.{AreLost, recycled_of}
-use Rattle.traced_run.specs.Runs.{ThreadRun, events_of}
+use Rattle.traced_run.specs.Runs.{ThreadRun}
 use Rattle.step_sim.specs.declared.pool.Pool.{Pool}
 use Rattle.step_sim.specs.declared.turns.Turns.{Turns}
 use Rattle.step_sim.specs.declared.turns.Turns.TheVariants.{Thread, Patcher}
 use Rattle.step_sim.specs.Pool.{AllPooledRunOut, Fresh, Item, Pooled, Pooling, Segment, Stock, first_stock, pooled_line, pooled_step, pooled_turn, queued, segments_among, serials_of, stock_behind}
-use Rattle.step_sim.specs.Holding.{PoolHolds, segments_in}
+use Rattle.step_sim.specs.Holding.{segments_in}
 use Rattle.step_sim.specs.Recording.{PoolAt, Recording, histories}
 use Rattle.step_sim.specs.Replay.{Cast, of_thread, thread_turn, turns}
 use Rattle.step_sim.specs.Schedules.{AreTurnsOf}
-use Rattle.step_sim.proofs.Counting.{IsItemOf, IsSegmentOf, all_segments, first_segments, fresh_serials, front_items, pushed_items, segment_items, summed, summed_among, summed_runs, summed_same}
-use Rattle.step_sim.proofs.EndedRuns.{IsRunOf, marks_in}
+use Rattle.step_sim.proofs.Counting.{IsItemOf, IsSegmentOf, all_segments, first_segments, fresh_serials, front_items, pushed_items, segment_items, summed, summed_among, summed_runs}
+use Rattle.step_sim.proofs.EndedRuns.{IsRunOf}
 use Rattle.step_sim.proofs.Gathering.{few_lost}
 use Rattle.step_sim.proofs.OneRecorded.{history_is}
-use Rattle.step_sim.proofs.PoolLemmas.{length-below, serials_of-append}
+use Rattle.step_sim.proofs.PoolLemmas.{length-below}
 
 -- ---- the stock
 

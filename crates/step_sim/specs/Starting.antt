@@ -1,11 +1,9 @@
 -- A replay before its first turn.
 use Rattle.std.specs.Prelude.{◌≡◌, ◌≤◌, ℕ, List, [], None, length, vec_capacity, vec_len}
-use Rattle.xray_image.specs.Program.{IsAccepted, Program}
+use Rattle.xray_image.specs.Program.{IsAccepted}
 use Rattle.sled_words.specs.Words.{word_count}
-use Rattle.patch_script.specs.declared.command.Command.{Command}
 use Rattle.patch_script.specs.Micros.{hold_of, start_of}
 use Rattle.patch_script.specs.Refusals.{commands_of}
-use Rattle.machine_step.specs.declared.setup.Setup.{Setup}
 use Rattle.traced_run.specs.Kept.{stamp_of}
 use Rattle.step_sim.specs.declared.start.SimStart.TheInside.{Inside}
 use Rattle.step_sim.specs.Pool.{first_stock}
