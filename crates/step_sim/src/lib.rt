@@ -3,11 +3,11 @@
 
 mod along;
 mod fault;
-mod fault_words;
 mod laws;
 mod line;
 mod patcher;
 mod pool;
+mod refusal;
 mod replay;
 mod ring;
 mod schedule;
