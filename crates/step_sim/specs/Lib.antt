@@ -10,3 +10,4 @@ pub mod Replayed
 pub mod Standing
 pub mod Starts
 pub mod Starting
+pub mod FaultWords
