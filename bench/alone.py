@@ -24,12 +24,12 @@ class Measured:
 
 def measured(words, folder, output=None):
     """Runs a command in a folder; what it prints goes to a file there, or nowhere, and its standard error to `err`."""
-    told, tell = os.pipe()
+    reading, writing = os.pipe()
     with open(os.devnull if output is None else folder / output, "wb") as out, open(folder / "err", "wb") as err:
-        words = [sys.executable, os.path.abspath(__file__), str(tell), *map(str, words)]
-        subprocess.run(words, cwd=folder, stdout=out, stderr=err, pass_fds=[tell], check=True)
-    os.close(tell)
-    with os.fdopen(told) as stream:
+        words = [sys.executable, os.path.abspath(__file__), str(writing), *map(str, words)]
+        subprocess.run(words, cwd=folder, stdout=out, stderr=err, pass_fds=[writing], check=True)
+    os.close(writing)
+    with os.fdopen(reading) as stream:
         status, processor, elapsed, memory = stream.read().split()
     return Measured(int(status), float(processor), float(elapsed), int(memory))
 
@@ -46,14 +46,14 @@ def megabytes(count):
     return f"{count / 1e6:.0f} MB"
 
 
-def run_alone(tell, words):
+def run_alone(writing, words):
     """Runs a command, and prints what it took on a descriptor."""
     begin = time.perf_counter()
     process = subprocess.Popen(words)
     _, status, used = os.wait4(process.pid, 0)
     elapsed = time.perf_counter() - begin
     process.returncode = os.waitstatus_to_exitcode(status)
-    os.write(tell, f"{process.returncode} {used.ru_utime + used.ru_stime} {elapsed} {used.ru_maxrss * 1024}".encode())
+    os.write(writing, f"{process.returncode} {used.ru_utime + used.ru_stime} {elapsed} {used.ru_maxrss * 1024}".encode())
 
 
 def built_program():

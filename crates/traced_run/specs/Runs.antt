@@ -9,7 +9,7 @@ use Rattle.machine_step.specs.Events.{recorded}
 use Rattle.machine_step.specs.PlainStep.{Passing, PlainRun, State}
 
 -- How one thread of a run goes: the passings of its plain run, its end and its last state; the marks of its passings; and how many of
--- the segments of its events are lost.
+-- the segments of its events were lost when their buffers were taken again: its oldest ones.
 pub record ThreadRun : Type 0 where
   pub passed : List Passing
   pub end : End

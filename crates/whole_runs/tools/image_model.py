@@ -25,7 +25,7 @@ class Refused(Exception):
 
     def __init__(self, *words):
         super().__init__(*words)
-        self.told = " ".join(str(word) for word in words)
+        self.reason = " ".join(str(word) for word in words)
 
 
 # ---- Instructions and units
@@ -144,7 +144,7 @@ def unit(code, place):
     try:
         return instruction(code, place)
     except Refused as fault:
-        raise Refused("Code", place, fault.told)
+        raise Refused("Code", place, fault.reason)
 
 
 def units_of(code):

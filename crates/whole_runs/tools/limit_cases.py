@@ -48,7 +48,7 @@ def full_image_file(past):
 
 
 def entered_file(count):
-    """An image of so many entry sleds, behind which a thread comes to no unit."""
+    """An image with this number of entry sleds. After the last one a thread comes to no unit."""
     code = (ENTRY_SLED + DISPLACEMENT + ALIGNMENT) * count
     return image_file(code, sleds=[(12 * sled, 0) for sled in range(count)])
 
@@ -76,7 +76,7 @@ def full_command_list(past):
 
 
 def full_micro_step_list(past):
-    """As many micro steps as there may be, behind `go`; the schedule leaves one, or none."""
+    """As many micro steps as there may be after `go`. The schedule leaves one of them, or none."""
     script = b"go\n" + b"patch\n" * (replay_model.COMMAND_LIMIT - 1)
     steps = 4 * image_model.SLED_LIMIT * (replay_model.COMMAND_LIMIT - 1)
     return replay(image=entered_file(image_model.SLED_LIMIT), script=script, schedule=b"p %d\n" % (steps - 1 + past))
@@ -128,7 +128,7 @@ def full_stack(past):
 
 
 def full_stack_without_fuel(past):
-    """The fuel ends one instruction before the stack would, or with it: that is told, and not the full stack."""
+    """The fuel ends one instruction before the stack would, or with it. The end is then the fuel's."""
     code = PUSH * (machine_model.STACK_LIMIT + 1)
     return Case([b"plain", b"i", b"--fuel", str(machine_model.STACK_LIMIT - past).encode()], {b"i": image_file(code)})
 
@@ -167,7 +167,7 @@ def latest_wall(past):
 
 
 def last_counter(past):
-    """The counter wraps behind its last value."""
+    """The counter wraps after its last value."""
     return traced("--tsc", model.LARGEST_64 - 2 + past, "--tick=1", image=straight_file(OUT * 2), script=TRACED)
 
 

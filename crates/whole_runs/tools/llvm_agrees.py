@@ -164,7 +164,7 @@ class Llvm:
         return subprocess.run([self.program, *words, self.path], capture_output=True, text=True).stdout
 
     def events(self):
-        """The header's lines, and each event with its process and thread, as `convert` prints them: without those that are 0."""
+        """The header's lines, and each event with its process and thread. LLVM prints neither of these where it is 0."""
         text = self.text("convert", "-output-format=yaml", "-sort=0")
         item = re.compile(
             r"  - \{ type: 0, func-id: (\d+), function: '(\d+)', cpu: (\d+), (?:thread: (\d+), )?(?:process: (\d+), )?"
@@ -398,14 +398,14 @@ def main():
         is_kept = False
         for command, differences in COMPARISONS.items():
             try:
-                told = differences(example, Llvm(given.llvm_xray, path))
+                differ_here = differences(example, Llvm(given.llvm_xray, path))
                 compared[command] += 1
             except LeftOut as known:
                 left_out[command, known.why] += 1
                 continue
-            for line in told:
+            for line in differ_here:
                 print(f"differs: {path}: {command}: {line}")
-            is_kept = is_kept or bool(told)
+            is_kept = is_kept or bool(differ_here)
         differ += is_kept
         if not is_kept:
             path.unlink()

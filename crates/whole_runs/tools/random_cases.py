@@ -2,7 +2,6 @@
 import dataclasses
 
 import image_model
-import xray_model as model
 from random_images import assembled_draft, calling_draft, random_image, texts, units_draft
 from random_scripts import random_schedule, random_script
 from random_traces import random_trace
@@ -45,9 +44,9 @@ TRACE_VALUES = {
     "wall": (0.9, [0, 1, 1_700_000_000, LARGEST_64]),
 }
 WRONG_TRACE_WORDS = [
-    "--buffer-size=71", "--buffer-size=1048577", "--buffer-max=0", "--buffer-max=1025", "--cpus=0", "--cpus=65536", "--migrate=0",
-    "--migrate=1048577", "--pid=2147483648", "--wall=18446744073709551616", "--tick=18446744073709551616", "--tsc=-1",
-    "--buffer-size=1048576", "--size=72",
+    "--buffer-size=71", "--buffer-size=1048577", "--buffer-max=0", "--buffer-max=1025", "--cpus=0", "--cpus=65536",
+    "--migrate=0", "--migrate=1048577", "--pid=2147483648", "--wall=18446744073709551616", "--tick=18446744073709551616",
+    "--tsc=-1", "--buffer-size=1048576", "--size=72",
 ]  # fmt: skip
 SIZES = [72, 72, 73, 79, 80, 88, 95, 96, 97, 104, 120, 200, 200, 1000, 16_384]
 REPORT_VALUES = {
@@ -58,7 +57,8 @@ REPORT_VALUES = {
 }
 FORMATS = {"account": ["text", "csv"], "stack": ["human", "flame"], "convert": ["yaml"]}
 WRONG_REPORT_WORDS = [
-    "--sort=func", "--sort", "--sort=", "--sort=Count", "--sortorder=dsc", "--sortorder=ascending", "--top=-1", "--top=4294967296",
+    "--sort=func", "--sort", "--sort=", "--sort=Count", "--sortorder=dsc", "--sortorder=ascending", "--top=-1",
+    "--top=4294967296",
     "--format=json", "--format=yaml", "--format=text", "--format=flame", "--instr_map=i", "-instr_map=i", "--threads=1",
     "--format", "--top",
 ]  # fmt: skip

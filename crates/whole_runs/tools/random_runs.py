@@ -40,7 +40,7 @@ from limit_cases import limit_cases  # noqa: E402
 from random_cases import STDIN, random_case  # noqa: E402
 from random_images import ROOT, texts  # noqa: E402
 
-# One run in so many is at a limit or one past it, by turns.
+# One run in this many is at a limit or one past it, by turns.
 LIMIT_EVERY = 40
 
 
@@ -117,8 +117,8 @@ def answer_of(outcome):
     """An answer without its name and its numbers."""
     if outcome.status == 0:
         return "done"
-    told = outcome.error.decode(errors="replace").rsplit(": ", 1)[-1].split()
-    return f"{outcome.status}: " + " ".join(word for word in told if not word.isdigit())
+    words = outcome.error.decode(errors="replace").rsplit(": ", 1)[-1].split()
+    return f"{outcome.status}: " + " ".join(word for word in words if not word.isdigit())
 
 
 @dataclasses.dataclass(frozen=True)
@@ -131,7 +131,7 @@ class Result:
     answer: str
     ends: list
     marks: list
-    told: list
+    differs: list
     reports: int
     recycled: int
 
@@ -147,12 +147,13 @@ def outcome_differences(expects, comes):
 def reported(xray, folder, trace, forms):
     """A line for each difference of the reports on a trace that was written, and how many reports there were."""
     (folder / "written").write_bytes(trace)
-    told, commands = [], [command for command in model.REPORTS if command in forms]
+    differs, commands = [], [command for command in model.REPORTS if command in forms]
     for command in commands:
         words = [command.encode(), b"written"]
         expects = model.outcome(words, model.World({"written": trace}), forms=forms)
-        told += [f"{command} of the trace: {line}" for line in outcome_differences(expects, run(xray, folder, words))]
-    return told, len(commands)
+        comes = run(xray, folder, words)
+        differs += [f"{command} of the trace: {line}" for line in outcome_differences(expects, comes)]
+    return differs, len(commands)
 
 
 def compared(xray, folder, number, cases):
@@ -163,23 +164,23 @@ def compared(xray, folder, number, cases):
     begin = int(time.time())
     comes, files = came(xray, here, case)
     expects = expected(case, cases.forms, wall_in(files, begin, time.time() + 1))
-    told = outcome_differences(expects, comes)
+    differs = outcome_differences(expects, comes)
     left = files_expected(case, expects)
-    told += [f"file {name!r} differs" for name in sorted({*left, *files}) if left.get(name) != files.get(name)]
+    differs += [f"file {name!r} differs" for name in sorted({*left, *files}) if left.get(name) != files.get(name)]
     reports, recycled = 0, 0
     if case.words[:1] == [b"sim"] and expects.status == 0 and expects.written:
         trace, audit = expects.written.values()
         lines, reports = reported(xray, here, trace, cases.forms)
-        told += lines
+        differs += lines
         recycled = int(audit.split()[-1])
-    if told:
-        told.insert(0, f"differs: {here}: {case.words!r}" + (" > /dev/full" if case.is_output_full else ""))
+    if differs:
+        differs.insert(0, f"differs: {here}: {case.words!r}" + (" > /dev/full" if case.is_output_full else ""))
     else:
         shutil.rmtree(here)
     printed = [line.split() for line in expects.output.decode().splitlines()]
     ends = [words[2] for words in printed if words[:1] == ["thread"]]
     marks = [(run[0], int(run[1:])) for words in printed if words[:1] == ["marks"] for run in words[1:] if run != "-"]
-    return Result(answer_of(expects), ends, marks, told, reports, recycled)
+    return Result(answer_of(expects), ends, marks, differs, reports, recycled)
 
 
 def arguments():
@@ -212,9 +213,9 @@ def main():
             recycled += result.recycled
             for mark, count in result.marks:
                 marks[mark] += count
-            if result.told:
+            if result.differs:
                 differ += 1
-                print("\n    ".join(result.told))
+                print("\n    ".join(result.differs))
     if not any(folder.iterdir()):
         folder.rmdir()
     for name, counts in (("answers", answers), ("ends of threads", ends), ("marks", marks)):

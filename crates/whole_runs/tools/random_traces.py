@@ -43,7 +43,8 @@ class Draft:
 
 
 def counter(draw):
-    return draw.choice([0, 1, 5, draw.randrange(1000), WORD_32 - 1, WORD_32, WORD_64 - 1, WORD_64 - 20, draw.randrange(WORD_64)])
+    edges = [WORD_32 - 1, WORD_32, WORD_64 - 20, WORD_64 - 1]
+    return draw.choice([0, 1, 5, draw.randrange(1000), *edges, draw.randrange(WORD_64)])
 
 
 def rest(draw):

@@ -34,7 +34,7 @@ def number_of(word):
 
 # ---- Scripts
 
-# The commands, with what stands behind them.
+# The commands, with what they take.
 COMMANDS = {
     "patch": "", "unpatch": "", "patch_function": "I", "unpatch_function": "I", "set_handler": "", "remove_handler": "",
     "init": "", "finalize": "", "go": "", "hold": "TN", "release": "T", "await": "TN",
@@ -84,7 +84,7 @@ class ScriptReader:
         return Command(line, name, numbers)
 
     def fault(self, command):
-        """Why a command may not stand behind those before it; the first of the rows that applies."""
+        """Why a command may not follow those before it; the first of the rows that applies."""
         match command.name, command.numbers:
             case ("patch_function" | "unpatch_function"), (number,) if not 1 <= number <= self.ids:
                 return "Function"
@@ -124,7 +124,7 @@ class ScriptReader:
 
 
 def commands_of(text, image, threads):
-    """The commands of a script, which is read for an image and so many threads."""
+    """The commands of a script, which is read for an image and a number of threads."""
     lines = word_lines(text)
     reader = ScriptReader(max(image.ids, default=0), threads)
     for line, words in enumerate(lines, start=1):
@@ -174,7 +174,7 @@ class Words:
         return (image.trampolines[entry.kind] - (image.base + sled.end)) % (1 << 32)
 
     def stores(self, commands):
-        """The micro steps of a script that doesn't wait, as (word, value), each made before the next one is told."""
+        """The micro steps of a script that doesn't wait, as (word, value), each made before the next one is given."""
         for command in commands:
             for word, value in self.stores_of(command):
                 self.values[word] = value
@@ -205,10 +205,10 @@ class Words:
         return [sled for sled, number in enumerate(self.ids) if not function or number == function[0]]
 
     def unpatched_head(self, sled):
-        """At an exit sled the low byte becomes that of a return, and the high byte stays."""
+        """What unpatching stores in a head: at an exit sled the low byte is that of a return, and the high byte stays."""
         if self.sleds[sled].name == "entry":
             return ENTRY_HEAD
-        return self.values[4 * sled] // 256 * 256 + 0xC3
+        return EXIT_HEAD if self.values[4 * sled] == EXIT_HEAD else RETURN_HEAD
 
 
 # ---- Threads whose sleds are patched while they run

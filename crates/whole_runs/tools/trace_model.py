@@ -120,7 +120,7 @@ def file_bytes(trace):
 
 
 def segments_of(events, size):
-    """The events of a thread, cut into as few lists as go into buffers of this size one after the other."""
+    """The events of a thread in lists, each as long as fits in a buffer of this size."""
     segments = []
     for event in events:
         if segments and PREAMBLE_LENGTH + len(events_bytes([*segments[-1], event])) <= size:
@@ -267,7 +267,7 @@ def records_to(reader, end):
 
 
 def events_in(records):
-    """The events of a block: each counter is the last whole one plus all deltas behind it, in 64 bits."""
+    """The events of a block: each counter is the last whole one plus all deltas after it, in 64 bits."""
     events = []
     for kind, fields in records:
         if kind == NEW_CPU:
@@ -283,7 +283,7 @@ def events_in(records):
 
 # ---- The audit
 
-# The words of the second line that are options of the same name; `wall` stands behind these.
+# The words of the second line that are options of the same name; `wall` follows these.
 AUDITED = [
     "threads", "buffer-size", "buffer-max", "fuel", "passings", "tick", "tsc", "cpus", "migrate", "pid",
 ]  # fmt: skip

@@ -8,7 +8,7 @@ usage: crates/whole_runs/tools/worked_runs.py [PROGRAM] [--with COMMANDS]
 
 The images are made of assembler texts by the assembler's own model. Each run says its words, its inputs i (image), s
 (script) and c (schedule), and what has to come of it: the status, and standard output or its lines of marks, or the line on
-standard error. The stores that scripts make are compared too. A difference is told, and then the status is 1.
+standard error. The stores that scripts make are compared too. A difference is reported, and then the status is 1.
 worked_traces.py does the same with traces and the reports on them.
 """
 import argparse
@@ -177,8 +177,8 @@ def program_leaves(program, run, commands):
     return model.Outcome(done.returncode, done.stdout, done.stderr)
 
 
-def told(outcome, run):
-    """What a run leaves, in the form in which `comes` tells it."""
+def said(outcome, run):
+    """What a run leaves, in the form in which `comes` says it."""
     if outcome.status != 0:
         return outcome.error.decode().removesuffix("\n")
     output = outcome.output.decode()
@@ -190,7 +190,7 @@ def told(outcome, run):
 def run_differences(name, leaves):
     for run in RUNS:
         outcome = leaves(run)
-        if outcome.status != run.status or told(outcome, run) != run.comes:
+        if outcome.status != run.status or said(outcome, run) != run.comes:
             yield f"{name}: {run.words}, script {run.script[:60]!r}, schedule {run.schedule!r}: {outcome}"
 
 

@@ -5,13 +5,14 @@ usage: crates/whole_runs/tools/worked_traces.py [PROGRAM] [--with COMMANDS]
     PROGRAM: a built program, which is then compared with the same results; without it the model alone is
     --with: which of sim, account, stack and convert PROGRAM has, joined by commas; all of them if left out
 
-Each row begins with some files and goes through runs over them, in order: a replay leaves a trace t and an audit a, which the
-reports behind it read. A run says what it prints, or one of the lines, and what the files are that it leaves. Traces are
-written here as hexadecimal bytes, record by record. A difference is reported, and then the status is 1.
+Each row begins with some files and goes through runs over them, in order. A replay leaves a trace t and an audit a, which the
+reports after it read. A run says what it prints, or some of the lines, and which files it leaves. Traces are written here as
+hexadecimal bytes, record by record. A difference is reported, and then the status is 1.
 """
 import argparse
 import dataclasses
 import pathlib
+import random
 import subprocess
 import sys
 import tempfile
@@ -19,6 +20,7 @@ import tempfile
 sys.dont_write_bytecode = True  # the modules stand in the repository, and their compiled forms don't
 import image_model  # noqa: E402
 import replay_model  # noqa: E402
+import trace_model  # noqa: E402
 import xray_model as model  # noqa: E402
 from worked_runs import CALL, STRAIGHT_LINE, TAIL_JUMP, TRACED, image, lines  # noqa: E402
 
@@ -109,7 +111,9 @@ def refused(words, line, status=2):
 
 
 CSV_HEAD = "funcid,count,min,med,90p,99p,max,sum,entries,exits,function"
-TEXT_HEAD = "    funcid      count        min        med        90p        99p        max        sum    entries      exits function"
+TEXT_HEAD = (
+    "    funcid      count        min        med        90p        99p        max        sum    entries      exits function"
+)
 STACK_HEAD = "     count        sum       self stack"
 SETUP = (
     "threads=1 buffer-size=16384 buffer-max=100 fuel=10000000 passings=1048576 tick=1 tsc=0 cpus=1 migrate=1048576 pid=1 "
@@ -131,7 +135,7 @@ REPLAYS = [
         "a call is recorded, and all reports print it",
         Run("account t i", " / ".join([
             "Functions with latencies: 1", TEXT_HEAD,
-            "         1          1          2          2          2          2          2          2          0          0 main",
+            "         1          1" + 6 * "          2" + "          0          0 main",
         ])),
         Run("account t --format csv", f"{CSV_HEAD} / 1,1,2,2,2,2,2,2,0,0,#1"),
         Run("stack t i", f"{STACK_HEAD} /          1          2          2 main"),
@@ -264,7 +268,8 @@ REPLAYS = [
         has=("marks +4",),
         leaves={
             "t": header() + block(
-                "05", "10 00 00 00 00 00 00 00", "14 00 00 00 00 00 00 00", "20 00 00 00 01 00 00 00", "22 00 00 00 00 00 00 00",
+                "05", "10 00 00 00 00 00 00 00", "14 00 00 00 00 00 00 00",
+                "20 00 00 00 01 00 00 00", "22 00 00 00 00 00 00 00",
             ),
         },
     ),
@@ -370,7 +375,7 @@ REPORTS = [
         Run("account t --format csv", f"{CSV_HEAD} / 1,1,7,7,7,7,7,7,0,1,#1"),
     ),
     reported(
-        "a name of 255 characters, and an image that is refused behind a good trace",
+        "a name of 255 characters, and an image that is refused after a good trace",
         header() + calls_of([4]),
         Run("stack t i --format flame", f"{LONG_NAME} 4"),
         refused("stack t t", "t: image Magic"),
@@ -394,7 +399,7 @@ REPORTS = [
 ]  # fmt: skip
 
 
-# What comes to which refusal: bytes of a file, or its blocks, behind the header.
+# Refusals, each with a file that comes to it.
 PREAMBLE = [padded("01 01"), padded("09"), padded("13 01")]
 
 
@@ -508,7 +513,7 @@ def row_differences(name, world, row, commands):
     for run in row.runs:
         command, *_ = run.words.split()
         if command in commands:
-            yield from (f"{name}: {row.shows}: {run.words}: {told}" for told in run_differences(world, run))
+            yield from (f"{name}: {row.shows}: {run.words}: {line}" for line in run_differences(world, run))
 
 
 def unpatched_exit_differences():
@@ -522,12 +527,26 @@ def unpatched_exit_differences():
         yield f"model: an unpatched exit sled is {left.hex()}"
 
 
+def segment_differences():
+    """Segments that grow event by event are those of all events at once."""
+    draw = random.Random(1)
+    for _ in range(200):
+        size, tsc, events = draw.choice([72, 73, 80, 88, 96, 97, 200, 400]), 0, []
+        grown = trace_model.Recorded(size)
+        for _ in range(draw.randrange(40)):
+            tsc = draw.choice([tsc, tsc + 1, tsc + draw.randrange(1 << 33), draw.randrange(1 << 64)]) % (1 << 64)
+            events.append(trace_model.Event(draw.choice([0, 0, 0, 1]), 1, ENTERED, tsc))
+            grown.add(events[-1])
+        if grown.segments != trace_model.segments_of(events, size):
+            yield f"model: {grown.segments} are no segments of {events} for {size} bytes"
+
+
 def main():
     parser = argparse.ArgumentParser(description="Compares the model with traces and reports that were worked by hand.")
     parser.add_argument("program", nargs="?", type=pathlib.Path, metavar="PROGRAM")
     parser.add_argument("--with", dest="commands", default=",".join(model.LATER), metavar="COMMANDS")
     given = parser.parse_args()
-    differ = list(unpatched_exit_differences())
+    differ = [*unpatched_exit_differences(), *segment_differences()]
     for row in ROWS:
         differ += row_differences("model", Modelled(row.files), row, model.LATER)
         if given.program is not None:

@@ -177,10 +177,10 @@ class Outcome:
 class Failed(Exception):
     """An input or an output fails; what was written before that stands."""
 
-    def __init__(self, status, told, written=None):
-        super().__init__(status, told)
+    def __init__(self, status, reason, written=None):
+        super().__init__(status, reason)
         self.status = status
-        self.told = told
+        self.reason = reason
         self.written = written or {}
 
 
@@ -194,7 +194,7 @@ def taken(world, name, kind, limit, read):
     try:
         return read(content)
     except Refused as refused:
-        raise Failed(2, f"{name}: {kind} {refused.told}")
+        raise Failed(2, f"{name}: {kind} {refused.reason}")
 
 
 def taken_image(world, name):
@@ -254,7 +254,7 @@ def report(world, command, names, options):
     try:
         return REPORTS[command](trace, image, options)
     except Refused as refused:
-        raise Failed(2, f"{trace_name}: trace {refused.told}")
+        raise Failed(2, f"{trace_name}: trace {refused.reason}")
 
 
 def results(command, names, options, world, assemble):
@@ -297,4 +297,4 @@ def outcome(words, world, assemble=None, forms=FORMS):
     except BadLine:
         return Outcome(1, b"", b"xray: bad command line\n")
     except Failed as failed:
-        return Outcome(failed.status, b"", f"xray: {failed.told}\n".encode(), failed.written)
+        return Outcome(failed.status, b"", f"xray: {failed.reason}\n".encode(), failed.written)

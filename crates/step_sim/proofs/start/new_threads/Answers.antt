@@ -1,7 +1,7 @@
 use Rattle.std.proofs.Common.{arith}
 use Rattle.patch_script.specs.Refusals.{commands_of}
 use Rattle.step_sim.proofs.Bounds.{none_begun, one_begun}
-use Rattle.step_sim.proofs.replay.new_threads.Goals as goal
+use Rattle.step_sim.proofs.start.new_threads.Goals as goal
 
 pub loop-number-init : goal.loop-number-init
 loop-number-init c =
