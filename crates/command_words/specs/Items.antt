@@ -68,5 +68,5 @@ values_of name items = filter_map (value_of name) items
 -- an item is a file name, or one of the options of these names with a value
 abbrev pub is_among : List (List ℕ) → Item → Bool
 is_among names (File name) = true
-is_among names (Given option value) = list_any (λ name. bytes_eq option (dashed name)) names
+is_among names (Given option value) = list_any (λ name. bytes_eq (dashed name) option) names
 is_among names (Bare option) = false
