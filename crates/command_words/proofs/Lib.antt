@@ -6,3 +6,5 @@ pub mod Texts
 pub mod Built
 pub mod Pairs
 pub mod Cuts
+pub mod Gathering
+pub mod NumberLemmas

@@ -1,5 +1,6 @@
 -- The numbers that the values of options stand for.
-use Rattle.std.specs.Prelude.{◌<◌, ◌≤◌, ℕ, ◌&&◌, Bool, List, length, nat_le, nat_lt, if◌then◌else◌, Option, Some, None, position}
+use Rattle.std.specs.Prelude.{◌<◌, ◌≤◌, ℕ, ◌&&◌, Bool, List, length, nat_le, nat_lt, if◌then◌else◌, Option, Some, None}
+use Rattle.std.specs.List.{position_from}
 use Rattle.std.specs.Str.{all_ascii_digits, bytes_eq}
 use Rattle.std.specs.Str.Parse.{digits_value, without_leading_plus}
 
@@ -19,7 +20,7 @@ number_within least most word =
 -- the number that a value stands for: the one that it writes, or its place among the words that are listed, from 0
 abbrev pub number_of : Values → List ℕ → Option ℕ
 number_of (Number least most) value = number_within least most value
-number_of (Listed words) value = position (bytes_eq value) words
+number_of (Listed words) value = position_from (bytes_eq value) 0 words
 
 -- a value may stand for this number
 abbrev pub IsAmongValues : Values → ℕ → Type 0

@@ -24,12 +24,23 @@ pub record CommandRow : Type 0 where
   pub files : List FileRow
   pub options : List OptionRow
 
--- the file may be absent
+-- a file of this role may be absent
+abbrev pub may_be_absent : Role → Bool
+may_be_absent Input = false
+may_be_absent OptionalInput = true
+may_be_absent Output = false
+
+-- a file of this role is written
+abbrev pub is_written : Role → Bool
+is_written Input = false
+is_written OptionalInput = false
+is_written Output = true
+
 abbrev pub is_optional : FileRow → Bool
-is_optional file = elim file.role [ Input ↦ false | OptionalInput ↦ true | Output ↦ false ]
+is_optional file = may_be_absent file.role
 
 abbrev pub is_output : FileRow → Bool
-is_output file = elim file.role [ Input ↦ false | OptionalInput ↦ false | Output ↦ true ]
+is_output file = is_written file.role
 
 -- what the files of a command are called, and what its options are
 abbrev pub labels_of : CommandRow → List (List ℕ)

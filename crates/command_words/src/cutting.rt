@@ -10,7 +10,7 @@ ghost use Rattle.command_words.specs.Rows.{is_row};
 ghost use Rattle.command_words.specs.Views.{file_view, line_view, option_view, row_view};
 
 use crate::line::Line;
-use crate::rows::{CommandRow, FileRow, OptionRow, Role};
+use crate::rows::{CommandRow, FileRow, OptionRow};
 use clap::error::ErrorKind;
 use clap::{Arg, ArgAction, ArgMatches};
 use std::alloc::{AllocError, Global};
@@ -66,7 +66,7 @@ fn with_file<'a>(
     ensures { IfOk result (λ c. app_of c ≡ with_rule (app_of command.entry) (file_rule (file_view file.now))) }
 {
     let positional = Arg::new(alloc, file.label)
-        .required(file.role != Role::OptionalInput)
+        .required(!file.role.may_be_absent())
         .action(ArgAction::Set);
     command.arg(positional)
 }
@@ -185,8 +185,11 @@ fn given_in<'a>(
 fn outputs_differ(files: &[FileRow], names: &[&str]) -> bool
     ensures { result ≡ outputs_differ (map file_view files.now) (map (λ name. name.now) names.now) }
 {
-    for (file, name) in files.iter().zip(names) {
-        if file.role == Role::Output && count_of(name, names) != 1 {
+    for (place, file) in files.iter().enumerate() {
+        let Some(name) = names.get(place) else {
+            return true;
+        };
+        if file.role.is_written() && count_of(name, names) != 1 {
             return false;
         }
     }

@@ -1,5 +1,6 @@
 //! A line: the words behind a command, cut into the names of its files and the values of its options.
-ghost use Rattle.std.specs.Prelude.{◌≡◌, ◌<◌, ◌≤◌, IfSome, length, map, option_copied, position, true};
+ghost use Rattle.std.specs.Prelude.{◌≡◌, ◌<◌, ◌≤◌, IfSome, length, option_copied, true};
+ghost use Rattle.std.specs.List.{position_from};
 ghost use Rattle.std.specs.Str.{bytes_eq};
 ghost use Rattle.command_words.specs.Lines.{number_in, value_in};
 ghost use Rattle.command_words.specs.Numbers.{IsAmongValues, number_of, number_within};
@@ -22,9 +23,9 @@ impl<'a> Line<'a> {
     pub(crate) fn value(&self, name: &str) -> Option<&'a str>
         ensures { option_copied result ≡ value_in name.now (line_view self.now) }
     {
-        for (given, value) in &self.given {
-            if *given == name {
-                return Some(value);
+        for given in &self.given {
+            if given.0 == name {
+                return Some(given.1);
             }
         }
         None
@@ -48,6 +49,7 @@ impl OptionRow {
 
 impl Values {
     /// The number that a value stands for. None where it is none of these values.
+    #[tactic(auto, using(crate::proofs::Gathering::position_of_texts))]
     pub(crate) fn number_of(&self, value: &str) -> Option<u64>
         ensures number { result ≡ number_of (values_view self.now) value.now }
         ensures within { IfSome result (IsAmongValues (values_view self.now)) }
@@ -73,8 +75,13 @@ fn number_within(least: u64, most: u64, word: &str) -> Option<u64>
 
 /// The place of a word among words, from 0.
 fn place_of(word: &str, words: &[&str]) -> Option<u64>
-    ensures place { result ≡ position (bytes_eq word.now) (map (λ w. w.now) words.now) }
+    ensures place { result ≡ position_from (λ one. bytes_eq word.now one.now) 0 words.now }
     ensures within { IfSome result (λ place. place < length words.now) }
 {
-    words.iter().position(|one| word == *one).map(|place| place as u64)
+    for (place, one) in words.iter().enumerate() {
+        if word == *one {
+            return Some(place as u64);
+        }
+    }
+    None
 }

@@ -1,4 +1,7 @@
 //! The rows of the tables: an option, a file of a command, and a command.
+ghost use Rattle.std.specs.Prelude.{◌≡◌};
+ghost use Rattle.command_words.specs.Rows.{is_written, may_be_absent};
+
 /// What the value of an option may be.
 #[derive(Clone, Copy, Debug)]
 pub(crate) enum Values {
@@ -25,7 +28,7 @@ pub(crate) struct OptionRow {
 }
 
 /// What a command does with a file.
-#[derive(Clone, Copy, Debug, PartialEq, Eq)]
+#[derive(Clone, Copy, Debug)]
 pub(crate) enum Role {
     /// It reads the file.
     Input,
@@ -33,6 +36,28 @@ pub(crate) enum Role {
     OptionalInput,
     /// It writes the file. No other file of the command has its name.
     Output,
+}
+
+impl Role {
+    /// Whether a file of this role may be absent.
+    pub(crate) fn may_be_absent(self) -> bool
+        ensures { result ≡ may_be_absent self }
+    {
+        match self {
+            Role::OptionalInput => true,
+            Role::Input | Role::Output => false,
+        }
+    }
+
+    /// Whether a file of this role is written.
+    pub(crate) fn is_written(self) -> bool
+        ensures { result ≡ is_written self }
+    {
+        match self {
+            Role::Output => true,
+            Role::Input | Role::OptionalInput => false,
+        }
+    }
 }
 
 /// A file of a command.
