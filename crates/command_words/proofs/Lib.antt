@@ -8,3 +8,4 @@ pub mod Pairs
 pub mod Cuts
 pub mod Gathering
 pub mod NumberLemmas
+pub mod Readings
