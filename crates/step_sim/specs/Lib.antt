@@ -8,3 +8,5 @@ pub mod Schedules
 pub mod Readings
 pub mod Replayed
 pub mod Standing
+pub mod Starts
+pub mod Starting
