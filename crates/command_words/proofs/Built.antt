@@ -136,13 +136,12 @@ ids_are place (file ∷ files) names = ap (λ ids. file.label ∷ ids) (ids_are 
 each_only : (rules : List Rule) → are_distinct (map (λ rule. rule.id) rules) ≡ true → Each (λ rule. arg_by_id rules rule.id ≡ Some rule) rules
 each_only [] distinct = tt
 each_only (rule ∷ rules) distinct =
-    let parts = distinct_parts rule.id (map (λ rule. rule.id) rules) distinct in
-    (
+    let parts = distinct_parts rule.id (map (λ rule. rule.id) rules) distinct in (
       rw (same_text rule.id) refl,
       each_with (λ other. bytes_eq rule.id other.id ≡ false) (λ other. arg_by_id rules other.id ≡ Some other) (λ other. arg_by_id (rule ∷ rules) other.id ≡ Some other) rules
-      (λ other differ found. rw differ found)
-      (each_mapped (λ id. bytes_eq rule.id id ≡ false) (λ rule. rule.id) rules parts.0)
-      (each_only rules parts.1),
+          (λ other differ found. rw differ found)
+          (each_mapped (λ id. bytes_eq rule.id id ≡ false) (λ rule. rule.id) rules parts.0)
+          (each_only rules parts.1),
     )
 
 -- the rest of what makes an argument take one value

@@ -9,3 +9,4 @@ pub mod Cuts
 pub mod Gathering
 pub mod NumberLemmas
 pub mod Readings
+pub mod Rows

@@ -224,8 +224,7 @@ module _ (files : List FileRow) (names : List Text) where
   apart [] option distinct among = tt
   apart (file ∷ left) option distinct among =
       let parts = distinct_parts file.label (map (λ file. file.label) left ++ names) distinct in
-      let others = (each_append (λ text. bytes_eq file.label text ≡ false) (map (λ file. file.label) left) names parts.0).1 in
-      (
+      let others = (each_append (λ text. bytes_eq file.label text ≡ false) (map (λ file. file.label) left) names parts.0).1 in (
         other_way file.label option (each_among (λ text. bytes_eq file.label text ≡ false) names option others among),
         apart left option parts.1 among,
       )

@@ -16,6 +16,8 @@ mod line;
 mod rows;
 mod run_options;
 mod tables;
+#[cfg(test)]
+mod tests;
 mod words;
 
 pub use run_options::{Bounds, Buffers, RunOptions, Stamps};

@@ -6,7 +6,8 @@ ghost use Rattle.command_words.specs.Words.{bounds_in, buffers_in, have_room, ru
 
 use crate::line::Line;
 use crate::tables::{
-    BUFFER_MAX, BUFFER_SIZE, CPUS, FREQUENCY, FUEL, MIGRATE, PASSINGS, PID, THREADS, TICK, TSC, WALL,
+    BUFFER_MAX, BUFFER_SIZE, CPUS, FREQUENCY, FUEL, MIGRATE, PASSINGS, PID, THREADS, TICK, TSC,
+    WALL,
 };
 use xray_io::Wall;
 
@@ -161,5 +162,9 @@ pub(crate) fn run_options_in(wall: Wall, line: &Line<'_>) -> Option<RunOptions>
         pid: pid as u32,
         wall,
     };
-    if options.have_room() { Some(options) } else { None }
+    if options.have_room() {
+        Some(options)
+    } else {
+        None
+    }
 }
