@@ -90,7 +90,7 @@ no_place : (names : List Text) (place : ℕ) → arg_by_index (map built_option 
 no_place [] place = refl
 no_place (name ∷ names) place = no_place names place
 
--- behind so many files stands the next one, at the next place
+-- after so many files comes the next one, at the next place
 pub at_place : (from : ℕ) (before files : List FileRow) (names : List Text) (place : ℕ) → length before + from ≡ place
     → arg_by_index (rules_from from (before ++ files) names) place ≡ first_built place files
 at_place from [] [] names place here = no_place names place

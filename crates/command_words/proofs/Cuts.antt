@@ -61,7 +61,7 @@ misses_past files pair pairs differ =
     (λ file differs _. rw differs refl) differ differ)
 
 module _ (names : List Text) where
-  -- an option's pair, before the pairs behind it, is no file's
+  -- an option's pair, before the pairs after it, is no file's
   misses_option : (files : List FileRow) (option value : Text) (pairs : List Pair) → are_distinct (map (λ file. file.label) files ++ names) ≡ true
       → list_any (λ name. bytes_eq (dashed name) option) names ≡ true → misses files (named_pair (undashed option) value pairs) ≡ misses files pairs
   misses_option files option value pairs distinct among = go option (optional option) among

@@ -32,12 +32,12 @@ pub value_of_row : (matches : ArgMatches) (id : Text) (answer : Option (Bor Text
     → first_of id (rows_in matches) ≡ option_copied answer
 value_of_row matches id answer gives = sym (first_value-rows (found_of matches) id) ∙ sym gives
 
--- the next file, before those behind it
+-- the next file, before those after it
 pub names_from : (files : List FileRow) (i : ℕ) (d : FileRow) (rows : List Row) → i < length files
     → names_in (map file_view (drop i files)) rows ≡ cons_option (first_of (get_or files i d).label.now rows) (names_in (map file_view (drop (i + 1) files)) rows)
 names_from files i d rows within = rw (add-one, drop-cons files i d) refl
 
--- the next option, before those behind it
+-- the next option, before those after it
 pub given_from : (options : List OptionRow) (i : ℕ) (d : OptionRow) (rows : List Row) → i < length options
     → given_in (map option_view (drop i options)) rows
     ≡ cons_option (option_map (λ value. ((get_or options i d).name.now, value)) (first_of (get_or options i d).name.now rows)) (given_in (map option_view (drop (i + 1) options)) rows)
@@ -76,53 +76,53 @@ abbrev pub pair_view : Bor Text × Bor Text → Text × Text
 pair_view pair = (pair.0.now, pair.1.now)
 
 -- the first option of a name from a place on
-abbrev pub given_behind : Text → List (Bor Text × Bor Text) → ℕ → Option (Text × Text)
-given_behind name pairs i = find (λ (given : Text × Text). bytes_eq given.0 name) (map pair_view (drop i pairs))
+abbrev pub given_from_place : Text → List (Bor Text × Bor Text) → ℕ → Option (Text × Text)
+given_from_place name pairs i = find (λ (given : Text × Text). bytes_eq given.0 name) (map pair_view (drop i pairs))
 
 -- ---- the names of outputs
 
 -- the outputs from a place on, and a test that each passes
-abbrev pub outputs_behind : List FileRow → List (Bor Text) → ℕ → List Text
-outputs_behind files names i = outputs_in (map file_view (drop i files)) (map (λ name. name.now) (drop i names))
+abbrev pub outputs_from : List FileRow → List (Bor Text) → ℕ → List Text
+outputs_from files names i = outputs_in (map file_view (drop i files)) (map (λ name. name.now) (drop i names))
 
-abbrev pub pass_behind : (Text → Bool) → List FileRow → List (Bor Text) → ℕ → Bool
-pass_behind p files names i = list_all p (outputs_behind files names i)
+abbrev pub pass_from : (Text → Bool) → List FileRow → List (Bor Text) → ℕ → Bool
+pass_from p files names i = list_all p (outputs_from files names i)
 
 -- the next name is no output's, or passes
 pub pass_next : (p : Text → Bool) (files : List FileRow) (names : List (Bor Text)) (i : ℕ) (d : FileRow) (e : Bor Text) → i < length files → i < length names
-    → pass_behind p files names i ≡ (if is_written (get_or files i d).role then p (get_or names i e).now && pass_behind p files names (i + 1) else pass_behind p files names (i + 1))
+    → pass_from p files names i ≡ (if is_written (get_or files i d).role then p (get_or names i e).now && pass_from p files names (i + 1) else pass_from p files names (i + 1))
 pass_next p files names i d e in_files in_names = rw (add-one, drop-cons files i d, drop-cons names i e) (go (is_written (get_or files i d).role))
   where
-    go : (b : Bool) → list_all p (if b then (get_or names i e).now ∷ outputs_behind files names (suc i) else outputs_behind files names (suc i))
-        ≡ (if b then p (get_or names i e).now && pass_behind p files names (suc i) else pass_behind p files names (suc i))
+    go : (b : Bool) → list_all p (if b then (get_or names i e).now ∷ outputs_from files names (suc i) else outputs_from files names (suc i))
+        ≡ (if b then p (get_or names i e).now && pass_from p files names (suc i) else pass_from p files names (suc i))
     go true = refl
     go false = refl
 
--- behind the last name there is no output
-pub pass_end : (p : Text → Bool) (files : List FileRow) (names : List (Bor Text)) (i : ℕ) → length names ≤ i → pass_behind p files names i ≡ true
+-- after the last name there is no output
+pub pass_end : (p : Text → Bool) (files : List FileRow) (names : List (Bor Text)) (i : ℕ) → length names ≤ i → pass_from p files names i ≡ true
 pass_end p files names i beyond = rw (drop_all i names beyond) (go (map file_view (drop i files)))
   where
     go : (files : List rows.FileRow) → list_all p (outputs_in files []) ≡ true
     go [] = refl
     go (file ∷ files) = refl
 
--- so an output whose name fails decides, and else what is behind does
+-- so an output whose name fails decides, and else what comes after it does
 pub pass_fails : (p : Text → Bool) (files : List FileRow) (names : List (Bor Text)) (i : ℕ) (d : FileRow) (e : Bor Text) → i < length files → i < length names
-    → is_written (get_or files i d).role ≡ true → p (get_or names i e).now ≡ false → pass_behind p files names i ≡ false
+    → is_written (get_or files i d).role ≡ true → p (get_or names i e).now ≡ false → pass_from p files names i ≡ false
 pass_fails p files names i d e in_files in_names written fails = pass_next p files names i d e in_files in_names ∙ rw (written, fails) refl
 
 pub pass_skips : (p : Text → Bool) (files : List FileRow) (names : List (Bor Text)) (i : ℕ) (d : FileRow) (e : Bor Text) → i < length files → i < length names
-    → is_written (get_or files i d).role ≡ false → pass_behind p files names i ≡ pass_behind p files names (i + 1)
+    → is_written (get_or files i d).role ≡ false → pass_from p files names i ≡ pass_from p files names (i + 1)
 pass_skips p files names i d e in_files in_names read = pass_next p files names i d e in_files in_names ∙ rw read refl
 
 pub pass_passes : (p : Text → Bool) (files : List FileRow) (names : List (Bor Text)) (i : ℕ) (e : Bor Text) → i < length files → i < length names
-    → p (get_or names i e).now ≡ true → pass_behind p files names i ≡ pass_behind p files names (i + 1)
+    → p (get_or names i e).now ≡ true → pass_from p files names i ≡ pass_from p files names (i + 1)
 pass_passes p files names i e in_files in_names passes =
     pass_next p files names i blank e in_files in_names ∙ rw passes (go (is_written (get_or files i blank).role))
   where
     blank : FileRow
     blank = record { label = record { ref_ptr = (0, 0); now = [] }; role = Input }
 
-    go : (b : Bool) → (if b then pass_behind p files names (i + 1) else pass_behind p files names (i + 1)) ≡ pass_behind p files names (i + 1)
+    go : (b : Bool) → (if b then pass_from p files names (i + 1) else pass_from p files names (i + 1)) ≡ pass_from p files names (i + 1)
     go true = refl
     go false = refl

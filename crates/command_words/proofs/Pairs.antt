@@ -66,7 +66,7 @@ optional (x ∷ y ∷ name) = go (eqb_tells x 45) (eqb_tells y 45)
 
 -- ---- the pairs of items
 
--- an option's value, before the pairs of the items behind it
+-- an option's value, before the pairs of the items after it
 abbrev pub named_pair : Option Text → Text → List Pair → List Pair
 named_pair None value pairs = pairs
 named_pair (Some name) value pairs = (name, value) ∷ pairs

@@ -20,7 +20,7 @@ nothing = refl
 defaults : says (codes "plain" ∷ codes "i" ∷ []) ≡ plain_i 1
 defaults = refl
 
--- an option is one word or two, before a name or behind it
+-- an option is one word or two, before a name or after it
 one_word : says (codes "plain" ∷ codes "--threads=7" ∷ codes "i" ∷ []) ≡ plain_i 7
 one_word = refl
 
@@ -39,7 +39,7 @@ dashed_value = refl
 shortened : says (codes "plain" ∷ codes "--thread=7" ∷ codes "i" ∷ []) ≡ None
 shortened = refl
 
--- behind -- all words are names, and one dash alone is a name
+-- after -- all words are names, and one dash alone is a name
 names_only : says (codes "extract" ∷ codes "--" ∷ codes "--help" ∷ []) ≡ Some (Extract (codes "--help"))
 names_only = refl
 

@@ -15,7 +15,7 @@ use Rattle.clap.specs.declared.error.kind.ErrorKind.{ErrorKind}
 use Rattle.clap.specs.declared.error.kind.ErrorKind.TheVariants.{InvalidValue, UnknownArgument}
 use Rattle.clap.specs.Lexer.{usize_max}
 use Rattle.command_words.specs.Clapped.{after}
-use Rattle.command_words.specs.Items.{Item, File, Given, Bare, is_name, is_equals, items_behind}
+use Rattle.command_words.specs.Items.{Item, File, Given, Bare, is_name, is_equals, items_after}
 use Rattle.command_words.proofs.Arguments.{Each, IsOne, after_else, arg_by_option, found_each, leaf, run, run_none, use_is, used_by, used_one}
 use Rattle.command_words.proofs.WordShapes.{IsText, Shaped, named, dashes, long, short, before_cons, after_cons, before_none, first_char, shaped}
 
@@ -98,7 +98,7 @@ positional_walk rules a one word place small rows pending waiting trailing =
     let next : min (place + 1) usize_max ≡ suc place = omega arith in
     rw (one.range, one.action, one.trailing, and-false (is_pending a pending), or-false trailing, next) refl
 
--- the word's turn, and then the words behind it, whose outcome is `rest` of the walk
+-- the word's turn, and then the words after it, whose outcome is `rest` of the walk
 positional_turn : (rules : List Rule) (command word : Text) (place : ℕ) (items : List Item) (rest : Walk → Option (List Row)) (rows : List Row) (pending : Pending) (waiting : Waiting) (trailing : Bool)
     → Each (IsOne rules) rules
     → ((rows : List Row) (pending : Pending) → rest (walk_at (holds rows pending) idle (suc place) trailing) ≡ run rules (finish rules (holds rows pending)) (suc place) items)
@@ -123,7 +123,7 @@ positional_turn rules command word place items rest rows pending waiting trailin
         rw (e, positional_faults rules a got.0 (holds rows pending), positional_walk rules a got.0 word place got.1 rows pending waiting trailing)
         (known a got.0 got.1 (settle_fault rules false (holds rows pending)) refl)
 
--- words behind the word --
+-- words after the word --
 trailed : (rules : List Rule) (command : Text) → Each (IsOne rules) rules → (words : List Text) (rows : List Row) (pending : Pending) (waiting : Waiting) (place : ℕ)
     → outcome command rules (walk_at (holds rows pending) waiting place true) words ≡ run rules (finish rules (holds rows pending)) place (map File words)
 unfolding walked
@@ -139,12 +139,12 @@ run_given : (rules : List Rule) (o : Option Rule) (v : Text) (rows : Option (Lis
 run_given rules o v rows place items none = rw none (run_none rules place items)
 
 run_unknown : (rules : List Rule) (word : Text) (rows : Option (List Row)) (place : ℕ) (words : List Text) → arg_by_option rules word ≡ None
-    → run rules rows place (items_behind (Some word) words) ≡ None
+    → run rules rows place (items_after (Some word) words) ≡ None
 run_unknown rules word rows place [] none = refl
 run_unknown rules word rows place (v ∷ words) none = go (is_name v)
   where
-    go : (b : Bool) → run rules rows place (if b then Given word v ∷ items_behind None words else Bare word ∷ []) ≡ None
-    go true = run_given rules (arg_by_option rules word) v rows place (items_behind None words) none
+    go : (b : Bool) → run rules rows place (if b then Given word v ∷ items_after None words else Bare word ∷ []) ≡ None
+    go true = run_given rules (arg_by_option rules word) v rows place (items_after None words) none
     go false = refl
 
 short_fails : (rules : List Rule) → Each (IsOne rules) rules → (y : ℕ) (ys : List ℕ) → IsText (45 ∷ y ∷ ys) → (h : Held) (n k : ℕ) → n ≡ suc k
@@ -172,7 +172,7 @@ not_long y ys other = go (y == 61) refl
 
 -- and the items have none
 short_items : (rules : List Rule) (y : ℕ) (ys : List ℕ) → (y == 45) ≡ false → (rows : Option (List Row)) (place : ℕ) (words : List Text)
-    → run rules rows place (items_behind None ((45 ∷ y ∷ ys) ∷ words)) ≡ None
+    → run rules rows place (items_after None ((45 ∷ y ∷ ys) ∷ words)) ≡ None
 short_items rules y ys other rows place words = rw other (go (list_any is_equals (45 ∷ y ∷ ys)))
   where
     given : arg_by_option rules (before_first is_equals (45 ∷ y ∷ ys)) ≡ None
@@ -182,9 +182,9 @@ short_items rules y ys other rows place words = rw other (go (list_any is_equals
     bare = rw other refl
 
     go : (b : Bool) → run rules rows place (if b
-        then Given (before_first is_equals (45 ∷ y ∷ ys)) (after_first is_equals (45 ∷ y ∷ ys)) ∷ items_behind None words
-        else items_behind (Some (45 ∷ y ∷ ys)) words) ≡ None
-    go true = run_given rules (arg_by_option rules (before_first is_equals (45 ∷ y ∷ ys))) (after_first is_equals (45 ∷ y ∷ ys)) rows place (items_behind None words) given
+        then Given (before_first is_equals (45 ∷ y ∷ ys)) (after_first is_equals (45 ∷ y ∷ ys)) ∷ items_after None words
+        else items_after (Some (45 ∷ y ∷ ys)) words) ≡ None
+    go true = run_given rules (arg_by_option rules (before_first is_equals (45 ∷ y ∷ ys))) (after_first is_equals (45 ∷ y ∷ ys)) rows place (items_after None words) given
     go false = run_unknown rules (45 ∷ y ∷ ys) rows place words bare
 
 -- ---- options of the command's
@@ -213,15 +213,15 @@ opened rules rows place items (kind ∷ kinds) = sym (run_none rules place items
 -- ---- words before the word --
 
 module _ (rules : List Rule) (command : Text) (each : Each (IsOne rules) rules) where
-  -- the words behind, where nothing waits
+  -- the words that are left, where nothing waits
   abbrev Idle : List Text → Type 0
   Idle words = (rows : List Row) (pending : Pending) (place : ℕ)
-      → outcome command rules (walk_at (holds rows pending) idle place false) words ≡ run rules (finish rules (holds rows pending)) place (items_behind None words)
+      → outcome command rules (walk_at (holds rows pending) idle place false) words ≡ run rules (finish rules (holds rows pending)) place (items_after None words)
 
   -- and where an option wants its value
   abbrev Wants : List Text → Type 0
   Wants words = (word : Text) (a : Rule) (rows : List Row) (place : ℕ) → arg_by_option rules word ≡ Some a → IsOne rules a
-      → outcome command rules (walk_at (holds rows (Some (a.id, []))) (option a.id) place false) words ≡ run rules (Some rows) place (items_behind (Some word) words)
+      → outcome command rules (walk_at (holds rows (Some (a.id, []))) (option a.id) place false) words ≡ run rules (Some rows) place (items_after (Some word) words)
 
   -- an option with two dashes, as one word with its value or alone
   abbrev Met : Text → Option Rule → Option Text → List Row → Pending → Held × Step
@@ -233,37 +233,37 @@ module _ (rules : List Rule) (command : Text) (each : Each (IsOne rules) rules) 
       (outcome command rules (after_step rules x (walk_at (holds rows pending) idle place false) (Met x o v rows pending).0 (Met x o v rows pending).1) xs)
 
   with_value : (x : Text) (xs : List Text) → Idle xs → (n v : Text) (rows : List Row) (pending : Pending) (place : ℕ)
-      → long_turn x xs (arg_by_long rules n) (Some v) rows pending place ≡ run rules (used_by (arg_by_long rules n) v (finish rules (holds rows pending))) place (items_behind None xs)
+      → long_turn x xs (arg_by_long rules n) (Some v) rows pending place ≡ run rules (used_by (arg_by_long rules n) v (finish rules (holds rows pending))) place (items_after None xs)
   with_value x xs idles n v rows pending place = go (arg_by_long rules n) refl
     where
       go : (o : Option Rule) → arg_by_long rules n ≡ o
-          → long_turn x xs o (Some v) rows pending place ≡ run rules (used_by o v (finish rules (holds rows pending))) place (items_behind None xs)
-      go None e = sym (run_none rules place (items_behind None xs))
+          → long_turn x xs o (Some v) rows pending place ≡ run rules (used_by o v (finish rules (holds rows pending))) place (items_after None xs)
+      go None e = sym (run_none rules place (items_after None xs))
       go (Some a) e =
           let one = long_is_one rules n a each e in
           let before = (settled rules (holds rows pending)).rows in
           let takes : takes_values a ≡ true = rw one.range refl in
           rw (takes, idles (used a (v ∷ []) before) None place)
-          (settled_use rules a one v before place (items_behind None xs) (settle_fault rules false (holds rows pending)) (use_fault false a (v ∷ []) before) refl)
+          (settled_use rules a one v before place (items_after None xs) (settle_fault rules false (holds rows pending)) (use_fault false a (v ∷ []) before) refl)
 
   without_value : (x : Text) (xs : List Text) → Wants xs → (n : Text) → arg_by_option rules x ≡ arg_by_long rules n → (rows : List Row) (pending : Pending) (place : ℕ)
-      → long_turn x xs (arg_by_long rules n) None rows pending place ≡ run rules (finish rules (holds rows pending)) place (items_behind (Some x) xs)
+      → long_turn x xs (arg_by_long rules n) None rows pending place ≡ run rules (finish rules (holds rows pending)) place (items_after (Some x) xs)
   without_value x xs wants n same rows pending place = go (arg_by_long rules n) refl
     where
-      go : (o : Option Rule) → arg_by_long rules n ≡ o → long_turn x xs o None rows pending place ≡ run rules (finish rules (holds rows pending)) place (items_behind (Some x) xs)
+      go : (o : Option Rule) → arg_by_long rules n ≡ o → long_turn x xs o None rows pending place ≡ run rules (finish rules (holds rows pending)) place (items_after (Some x) xs)
       go None e = sym (run_unknown rules x (finish rules (holds rows pending)) place xs (same ∙ e))
       go (Some a) e =
           let one = long_is_one rules n a each e in
           let before = (settled rules (holds rows pending)).rows in
           let takes : takes_values a ≡ true = rw one.range refl in
-          rw (takes, wants x a before place (same ∙ e) one) (opened rules before place (items_behind (Some x) xs) (settle_fault rules false (holds rows pending)))
+          rw (takes, wants x a before place (same ∙ e) one) (opened rules before place (items_after (Some x) xs) (settle_fault rules false (holds rows pending)))
 
   idle_step : (x : Text) (xs : List Text) → Shaped x → IsText x → Idle xs → Wants xs → (rows : List Row) (pending : Pending) (place : ℕ)
-      → outcome command rules (walk_at (holds rows pending) idle place false) (x ∷ xs) ≡ run rules (finish rules (holds rows pending)) place (items_behind None (x ∷ xs))
+      → outcome command rules (walk_at (holds rows pending) idle place false) (x ∷ xs) ≡ run rules (finish rules (holds rows pending)) place (items_after None (x ∷ xs))
   unfolding walked
   idle_step x xs (named _ is none none2 other) text idles wants rows pending place =
       outcome_next command rules (walk_at (holds rows pending) idle place false) x xs
-      ∙ rw (other, none, none2, is) (positional_turn rules command x place (items_behind None xs) (λ walk. outcome command rules walk xs) rows pending idle false each (λ rows pending. idles rows pending (suc place)))
+      ∙ rw (other, none, none2, is) (positional_turn rules command x place (items_after None xs) (λ walk. outcome command rules walk xs) rows pending idle false each (λ rows pending. idles rows pending (suc place)))
   idle_step _ xs dashes text idles wants rows pending place =
       outcome_next command rules (walk_at (holds rows pending) idle place false) _ xs ∙ trailed rules command each xs rows pending idle place
   idle_step _ xs (long t ts) text idles wants rows pending place =
@@ -271,7 +271,7 @@ module _ (rules : List Rule) (command : Text) (each : Each (IsOne rules) rules) 
     where
       go : (b : Bool) → list_any is_equals (t ∷ ts) ≡ b
           → long_turn (45 ∷ 45 ∷ t ∷ ts) xs (arg_by_long rules (before_first is_equals (t ∷ ts))) (if list_any is_equals (t ∷ ts) then Some (after_first is_equals (t ∷ ts)) else None) rows pending place
-          ≡ run rules (finish rules (holds rows pending)) place (items_behind None ((45 ∷ 45 ∷ t ∷ ts) ∷ xs))
+          ≡ run rules (finish rules (holds rows pending)) place (items_after None ((45 ∷ 45 ∷ t ∷ ts) ∷ xs))
       go true e =
           rw (e, option_name rules t ts, option_value t ts)
           (with_value (45 ∷ 45 ∷ t ∷ ts) xs idles (before_first is_equals (t ∷ ts)) (after_first is_equals (t ∷ ts)) rows pending place)
@@ -283,14 +283,14 @@ module _ (rules : List Rule) (command : Text) (each : Each (IsOne rules) rules) 
       ∙ sym (short_items rules y ys other (finish rules (holds rows pending)) place xs)
 
   wants_step : (x : Text) (xs : List Text) → Shaped x → IsText x → Idle xs → (word : Text) (a : Rule) (rows : List Row) (place : ℕ) → arg_by_option rules word ≡ Some a → IsOne rules a
-      → outcome command rules (walk_at (holds rows (Some (a.id, []))) (option a.id) place false) (x ∷ xs) ≡ run rules (Some rows) place (items_behind (Some word) (x ∷ xs))
+      → outcome command rules (walk_at (holds rows (Some (a.id, []))) (option a.id) place false) (x ∷ xs) ≡ run rules (Some rows) place (items_after (Some word) (x ∷ xs))
   unfolding walked
   wants_step x xs (named _ is none none2 other) text idles word a rows place found one =
       let same : bytes_eq a.id a.id ≡ true = (found_each (IsOne rules) (λ b. bytes_eq b.id a.id) rules a each one.only).1 in
       let most : most_values a ≡ 1 = rw one.range refl in
       outcome_next command rules (walk_at (holds rows (Some (a.id, []))) (option a.id) place false) x xs
       ∙ rw (other, none, none2, is, one.only, same, most, found)
-      (idles rows (Some (a.id, x ∷ [])) place ∙ ap (λ o. run rules o place (items_behind None xs)) (finish_one rules a one rows x))
+      (idles rows (Some (a.id, x ∷ [])) place ∙ ap (λ o. run rules o place (items_after None xs)) (finish_one rules a one rows x))
   wants_step _ xs dashes text idles word a rows place found one =
       let h = holds rows (Some (a.id, [])) in
       let failed : finish rules h ≡ None = ap (λ f. after f (Some (settled rules h).rows)) (open_fails rules a one rows) in
@@ -324,5 +324,5 @@ module _ (rules : List Rule) (command : Text) (each : Each (IsOne rules) rules) 
       (idle_step x xs (shaped x) texts.0 more.0 more.1, wants_step x xs (shaped x) texts.0 more.0)
 
   -- clap's walk over words is a run over the items that they say
-  pub walk_is : (words : List Text) → Each IsText words → outcome command rules (walk_from nothing_held) words ≡ run rules (Some []) 1 (items_behind None words)
+  pub walk_is : (words : List Text) → Each IsText words → outcome command rules (walk_from nothing_held) words ≡ run rules (Some []) 1 (items_after None words)
   walk_is words texts = (both_walk words texts).0 [] None 1

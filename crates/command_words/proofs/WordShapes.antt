@@ -25,12 +25,12 @@ shaped (x ∷ []) = go (x == 45) refl
     go false e = named (x ∷ []) refl (rw e refl) (rw e refl) (rw e refl)
 shaped (x ∷ y ∷ rest) = go (x == 45) refl (y == 45) refl
   where
-    behind_dashes : (rest : List ℕ) → Shaped (45 ∷ 45 ∷ rest)
-    behind_dashes [] = dashes
-    behind_dashes (first ∷ more) = long first more
+    after_dashes : (rest : List ℕ) → Shaped (45 ∷ 45 ∷ rest)
+    after_dashes [] = dashes
+    after_dashes (first ∷ more) = long first more
 
     go : (b : Bool) → (x == 45) ≡ b → (d : Bool) → (y == 45) ≡ d → Shaped (x ∷ y ∷ rest)
-    go true e true f = rw (eqb-true x 45 e, eqb-true y 45 f) (behind_dashes rest)
+    go true e true f = rw (eqb-true x 45 e, eqb-true y 45 f) (after_dashes rest)
     go true e false f = rw (eqb-true x 45 e) (short y rest f)
     go false e d f = named (x ∷ y ∷ rest) (rw e refl) (rw e refl) (rw e refl) (rw e refl)
 
@@ -38,7 +38,7 @@ shaped (x ∷ y ∷ rest) = go (x == 45) refl (y == 45) refl
 abbrev pub IsText : List ℕ → Type 0
 IsText word = encode_utf8_all (chars word) ≡ word
 
--- so a character stands behind a first dash
+-- so a character comes after a first dash
 pub first_char : (y : ℕ) (rest : List ℕ) → IsText (45 ∷ y ∷ rest) → (x : ℕ) × (slice_get (chars (y ∷ rest)) 0 ≡ Some x)
 unfolding chars encode_utf8
 first_char y rest text = go (chars (y ∷ rest)) refl
@@ -50,7 +50,7 @@ first_char y rest text = go (chars (y ∷ rest)) refl
         absurd (omega arith)
     go (x ∷ xs) e = (x, rw e refl)
 
--- what stands before and behind the first byte that passes, past one that doesn't
+-- what stands before and after the first byte that passes, past one that doesn't
 pub before_cons : (p : ℕ → Bool) (x : ℕ) (xs : List ℕ) → p x ≡ false → before_first p (x ∷ xs) ≡ x ∷ before_first p xs
 before_cons p x xs fails =
     let next : 1 + position_or_len p xs ≡ suc (position_or_len p xs) = omega arith in

@@ -1,4 +1,4 @@
--- What clap is asked: a command by its row, which is given the words behind its own; and what clap makes of these.
+-- What clap is asked: a command by its row, which is given the words after its own; and what clap makes of these.
 use Rattle.std.specs.Prelude.{List, [], ◌∷◌, true, not, Option, Some, None, fold, map, option_map}
 use Rattle.std.specs.List.{filter_map}
 use Rattle.clap.specs.Faults.{fault_of}
@@ -21,7 +21,7 @@ option_rule name = record (new_rule name) { long = Some name; action = Some Set 
 abbrev pub file_rule : FileRow → Rule
 file_rule file = record (new_rule file.label) { action = Some Set; required = not (is_optional file) }
 
--- a command with no arguments, which is given the words behind its own, and knows none for help and version
+-- a command with no arguments, which is given the words after its own, and knows none for help and version
 abbrev pub bare_app : Text → App
 bare_app word = on_top (λ s. record s { no_binary_name = true; disable_help_flag = true; disable_version_flag = true }) (new_app word)
 

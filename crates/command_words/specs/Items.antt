@@ -1,4 +1,4 @@
--- What the words behind a command say: file names, and options with their values.
+-- What the words after a command say: file names, and options with their values.
 use Rattle.std.specs.Prelude.{ℕ, ◌==◌, List, [], ◌∷◌, Bool, true, false, not, if◌then◌else◌, Option, Some, None, codes, map, String, string_bytes}
 use Rattle.std.specs.List.{after_first, before_first, filter_map, list_any}
 use Rattle.std.specs.Str.{bytes_eq}
@@ -23,23 +23,23 @@ is_name word = true
 abbrev pub is_equals : ℕ → Bool
 is_equals byte = byte == 61
 
--- What words say, where an option may stand before them that wants its value: that is the next word, if it could be a name. Behind a
+-- What words say, where an option may stand before them that wants its value: that is the next word, if it could be a name. After a
 -- word -- all words are file names.
-abbrev pub items_behind : Option (List ℕ) → List (List ℕ) → List Item
-items_behind None [] = []
-items_behind (Some option) [] = Bare option ∷ []
-items_behind (Some option) (value ∷ words) =
-    if is_name value then Given option value ∷ items_behind None words else Bare option ∷ []
-items_behind None (word ∷ words) =
+abbrev pub items_after : Option (List ℕ) → List (List ℕ) → List Item
+items_after None [] = []
+items_after (Some option) [] = Bare option ∷ []
+items_after (Some option) (value ∷ words) =
+    if is_name value then Given option value ∷ items_after None words else Bare option ∷ []
+items_after None (word ∷ words) =
     if bytes_eq word (codes "--") then map File words
-    else if is_name word then File word ∷ items_behind None words
+    else if is_name word then File word ∷ items_after None words
     else if list_any is_equals word
-    then Given (before_first is_equals word) (after_first is_equals word) ∷ items_behind None words
-    else items_behind (Some word) words
+    then Given (before_first is_equals word) (after_first is_equals word) ∷ items_after None words
+    else items_after (Some word) words
 
--- what the words behind a command say, from the first on
+-- what the words after a command say, from the first on
 abbrev pub items_of : List (List ℕ) → List Item
-items_of words = items_behind None words
+items_of words = items_after None words
 
 -- the name, where an item is one
 abbrev pub file_of : Item → Option (List ℕ)

@@ -1,4 +1,4 @@
--- What the words behind a command say by its row: its files, and the options that they give, each with its value.
+-- What the words after a command say by its row: its files, and the options that they give, each with its value.
 use Rattle.std.specs.Prelude.{ℕ, ◌==◌, ◌&&◌, List, [], ◌∷◌, length, Bool, true, false, if◌then◌else◌, Option, Some, None, count_by, find, nat_le, option_map, slice_get}
 use Rattle.std.specs.List.{filter_map, list_all}
 use Rattle.std.specs.Option.{option_map_or}
@@ -22,7 +22,7 @@ have_only names items = list_all (is_among names) items
 abbrev pub comes_once : List Item → List ℕ → Bool
 comes_once items name = nat_le (length (values_of name items)) 1
 
--- each file has a name, in their order, but those behind the last name that may be absent
+-- each file has a name, in their order, but those after the last name that may be absent
 abbrev pub fit : List FileRow → List (List ℕ) → Bool
 fit files [] = list_all is_optional files
 fit [] (name ∷ names) = false

@@ -1,4 +1,4 @@
--- The ranges of what a command holds.
+-- The ranges of what a command holds: what the machine that replays a schedule asks of its setup, and of what bounds its threads.
 use Rattle.std.specs.Prelude.{◌+◌, ◌*◌, ◌≤◌, ℕ}
 use Rattle.command_words.specs.declared.run_options.Bounds.{Bounds}
 use Rattle.command_words.specs.declared.run_options.Buffers.{Buffers}

@@ -15,7 +15,7 @@ use clap::error::ErrorKind;
 use clap::{Arg, ArgAction, ArgMatches};
 use std::alloc::{AllocError, Global};
 
-/// The line that the words behind a command say by its row; None where they say none.
+/// The line that the words after a command say by its row; None where they say none.
 pub(crate) fn cut_line<'a>(
     alloc: Global,
     row: &CommandRow,
@@ -46,7 +46,7 @@ fn clap_command<'a>(alloc: Global, row: &CommandRow) -> Result<clap::Command<'a>
     with_options(alloc, command, row.options)
 }
 
-/// A command with no arguments, which is given the words behind its own, and knows none for help or
+/// A command with no arguments, which is given the words after its own, and knows none for help or
 /// version.
 fn bare_command<'a>(alloc: Global, word: &'a str) -> clap::Command<'a>
     ensures { app_of result ≡ bare_app word.entry.now }

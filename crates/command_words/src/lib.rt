@@ -2,7 +2,7 @@
 //! files and its options.
 //!
 //! One table has the options and one the commands (`tables`); the rows of both are plain data
-//! (`rows`). `clap` cuts the words behind a command into file names and options by the command's row
+//! (`rows`). `clap` cuts the words after a command into file names and options by the command's row
 //! (`cutting`), which gives a line (`line`): the names in their order, and for each option that is
 //! given its value. The numbers, listed words, defaults and rules of options are read from the line
 //! (`run_options`, `words`).

@@ -1,4 +1,4 @@
-//! A line: the words behind a command, cut into the names of its files and the values of its options.
+//! A line: the words after a command, cut into the names of its files and the values of its options.
 ghost use Rattle.std.specs.Prelude.{◌≡◌, ◌<◌, ◌≤◌, IfSome, length, option_copied, true};
 ghost use Rattle.std.specs.List.{position_from};
 ghost use Rattle.std.specs.Str.{bytes_eq};
@@ -9,7 +9,7 @@ ghost use Rattle.command_words.specs.Views.{line_view, option_view, values_view}
 
 use crate::rows::{OptionRow, Values};
 
-/// What the words behind a command say by the command's row.
+/// What the words after a command say by the command's row.
 #[derive(Drop)]
 pub(crate) struct Line<'a> {
     /// The names of the files, in their order.

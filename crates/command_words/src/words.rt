@@ -51,7 +51,7 @@ pub enum Command<'a> {
     },
 }
 
-/// The command that words say at a wall time; None where they say none. The words are those behind
+/// The command that words say at a wall time; None where they say none. The words are those after
 /// the program's own name. A run begins at the wall time, unless the words say another.
 ///
 /// # Errors
