@@ -9,4 +9,4 @@ pub mod Cuts
 pub mod Gathering
 pub mod NumberLemmas
 pub mod Readings
-pub mod Rows
+pub mod WorkedLines
