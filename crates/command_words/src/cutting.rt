@@ -121,7 +121,8 @@ fn matches_of<'a>(
     words: &'a [String],
 ) -> Result<Option<ArgMatches<'a>>, AllocError>
     requires { is_simple_and_free (app_of command) ≡ true }
-    ensures { IfOk result (λ found. option_map rows_in found ≡ clap_rows (app_of command.entry) (texts words.entry.now)) }
+    ensures { IfOk result (λ found.
+        option_map rows_in found ≡ clap_rows (app_of command.entry) (texts words.entry.now)) }
 {
     match command.try_get_matches_from(words) {
         Ok(matches) => Ok(Some(matches)),
