@@ -1,0 +1,6 @@
+//! The account of a trace: how often each function was called, and how long its calls took.
+#![tactic(auto)]
+
+mod row;
+
+pub use row::{AccountRow, SortKey};
