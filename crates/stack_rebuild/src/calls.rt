@@ -1,47 +1,153 @@
 //! The open calls of a thread.
 
-ghost use Rattle.std.specs.Prelude.{◌≡◌, ◌<◌, ◌+◌, ◌^◌, ◌==◌, ◌++◌, ℕ, [], ◌∷◌, length, reverse, if◌then◌else◌, MatchOption, IfOk, OnOk, OnErr, count_by};
-ghost use Rattle.stack_rebuild.specs.Calls.{from_innermost, cycles_between, left_open, pair_at, pair_of_call, standing_behind};
-ghost use Rattle.stack_rebuild.specs.Counts.{AreCountsOf, count_in, is_of};
+ghost use Rattle.std.specs.Prelude.{◌≡◌, ◌<◌, ◌++◌, [], ◌∷◌, reverse, MatchOption, IfOk, OnOk, IsTrue, count_by};
+ghost use Rattle.stack_rebuild.specs.Calls.{cycles_between, from_innermost, pair_at, standing_after, standing_behind};
+ghost use Rattle.stack_rebuild.specs.Counts.{AreCountsOf, is_of};
 
 use crate::call::{Call, Pair};
+use crate::counts::{count_down, count_of, count_up};
 use fdr_record::{Event, Kind};
 use std::alloc::{AllocError, Global};
 use std::collections::HashMap;
 use std::marker::Model;
 use xray_io::NoMemory;
 
-/// Counts one more call of a function.
-fn count_up(counts: &mut HashMap<u32, usize>, func: u32) -> Result<(), AllocError>
-    requires { count_in counts.old func < 2 ^ 63 }
-    ensures ok { OnOk result ((other : ℕ) → count_in counts.new other
-        ≡ (if func == other then count_in counts.old other + 1 else count_in counts.old other)) }
-    ensures err { OnErr result ((other : ℕ) →
-        count_in counts.new other ≡ count_in counts.old other) }
-{
-    match counts.get_mut(&func) {
-        Some(count) => *count += 1,
-        None => {
-            counts.insert(func, 1)?;
+/// Where a thread stands after its events so far: how many they were, and which calls are open.
+/// Contracts see these two.
+///
+/// An entry opens a call. An exit or tail exit ends the innermost open call of its function, and with
+/// it those that were made in it, whose exits were lost; where no call of the function is open, it
+/// changes nothing. Each event takes a bounded number of look-ups, beside a step for each call that it
+/// ends.
+#[derive(Debug, Drop)]
+pub struct ThreadCalls {
+    /// How many events there were.
+    events: usize,
+    /// The open calls, the outermost first.
+    calls: Vec<Call>,
+    /// How many calls of each function are open.
+    counts: HashMap<u32, usize>,
+}
+
+impl Model for ThreadCalls {
+    ghost use Rattle.stack_rebuild.specs.Calls.{Standing};
+
+    ghost Value = { Standing };
+
+    ghost use Rattle.stack_rebuild.specs.ThreadCalls.{standing_in, IsCounted};
+
+    ghost view = { standing_in };
+
+    ghost invariant = { IsCounted };
+}
+
+impl ThreadCalls {
+    /// A thread before its first event.
+    pub fn new(alloc: Global) -> ThreadCalls
+        ensures { result ≡ standing_after [] }
+    {
+        ThreadCalls {
+            events: 0,
+            calls: Vec::new(alloc),
+            counts: HashMap::new(alloc),
         }
     }
-    Ok(())
-}
 
-/// Counts one call of a function less.
-fn count_down(counts: &mut HashMap<u32, usize>, func: u32)
-    requires { 0 < count_in counts.old func }
-    ensures { (other : ℕ) → count_in counts.old other
-        ≡ (if func == other then count_in counts.new other + 1 else count_in counts.new other) }
-{
-    if let Some(count) = counts.get_mut(&func) {
-        *count -= 1;
+    /// Goes on by the thread's next event, and answers the pair that it makes. After `NoMemory` the
+    /// thread is lost: nothing is said of where it stands.
+    pub fn take(&mut self, event: &Event) -> Result<Option<Pair>, NoMemory>
+        ensures pair { IfOk result (λ pair.
+            pair ≡ pair_at event.now self.old.events self.old.calls) }
+        ensures stands { OnOk result (self.new ≡ standing_behind event.now self.old) }
+    {
+        let at = self.events;
+        // No memory holds a trace of more events.
+        self.events = at.checked_add(1).ok_or(NoMemory)?;
+        match event.kind {
+            Kind::Entry => {
+                let call = Call {
+                    entry: at,
+                    func: event.func,
+                    tsc: event.tsc,
+                };
+                open_call(&mut self.calls, &mut self.counts, call)?;
+                Ok(None)
+            }
+            Kind::Exit | Kind::TailExit => {
+                match end_call(&mut self.calls, &mut self.counts, event.func) {
+                    Some(call) => Ok(Some(pair_with(event, at, &call))),
+                    None => Ok(None),
+                }
+            }
+        }
     }
 }
 
-/// How many calls of a function there are.
-fn count_of(counts: &HashMap<u32, usize>, func: u32) -> usize
-    ensures { result ≡ count_in counts.now func }
+/// The pair that an exit at a position makes with the call that it ends.
+fn pair_with(event: &Event, at: usize, ended: &Call) -> Pair
+    ensures { result ≡ record {
+      func = event.now.func;
+      entry = ended.now.entry;
+      exit = at;
+      duration = cycles_between ended.now.tsc event.now.tsc;
+    } }
 {
-    counts.get(&func).copied().unwrap_or(0)
+    Pair {
+        func: event.func,
+        entry: ended.entry,
+        exit: at,
+        duration: event.tsc.wrapping_sub(ended.tsc),
+    }
+}
+
+/// Opens a call inside those that are open.
+fn open_call(
+    calls: &mut Vec<Call>,
+    counts: &mut HashMap<u32, usize>,
+    call: Call,
+) -> Result<(), AllocError>
+    requires { AreCountsOf calls.old.items counts.old }
+    ensures ok { OnOk result (calls.new.items ≡ calls.old.items ++ call ∷ []) }
+    ensures counted { AreCountsOf calls.new.items counts.new }
+{
+    calls.push(call)?;
+    match count_up(counts, call.func) {
+        Ok(()) => Ok(()),
+        Err(error) => {
+            calls.pop();
+            Err(error)
+        }
+    }
+}
+
+/// Ends the innermost open call of a function, and with it those that were made in it.
+fn end_call(calls: &mut Vec<Call>, counts: &mut HashMap<u32, usize>, func: u32) -> Option<Call>
+    requires { AreCountsOf calls.old.items counts.old }
+    ensures ended { MatchOption result
+        ((from_innermost func (reverse calls.old.items) ≡ [])
+        × (calls.new.items ≡ calls.old.items))
+        (λ call. from_innermost func (reverse calls.old.items)
+        ≡ call ∷ reverse calls.new.items) }
+    ensures counted { AreCountsOf calls.new.items counts.new }
+{
+    if !is_innermost(calls, func) && count_of(counts, func) == 0 {
+        return None;
+    }
+    'ending: while let Some(call) = calls.pop() {
+        count_down(counts, call.func);
+        if call.func == func {
+            return Some(call);
+        }
+    }
+    None
+}
+
+/// Whether the innermost open call is of this function.
+fn is_innermost(calls: &[Call], func: u32) -> bool
+    ensures { IsTrue result → 0 < count_by (is_of func) calls.now }
+{
+    match calls.last() {
+        Some(call) => call.func == func,
+        None => false,
+    }
 }

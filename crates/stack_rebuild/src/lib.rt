@@ -4,7 +4,11 @@
 
 mod call;
 mod calls;
+mod counts;
+mod matching;
 mod rows;
 
 pub use call::{Call, Pair};
+pub use calls::ThreadCalls;
+pub use matching::{pairs, thread_events};
 pub use rows::{Path, StackFault, StackRow};
