@@ -1,3 +1,4 @@
-pub mod Ascending
 pub mod Account
+pub mod Ascending
 pub mod Ordered
+pub mod Tallies

@@ -2,5 +2,7 @@
 #![tactic(auto)]
 
 mod row;
+mod scan;
+mod tally;
 
 pub use row::{AccountRow, SortKey};
