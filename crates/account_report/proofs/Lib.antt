@@ -1,2 +1,4 @@
 pub mod Tallying
 pub mod Standing
+pub mod Rising
+pub mod Rows

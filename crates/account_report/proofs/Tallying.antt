@@ -111,7 +111,7 @@ pub reached_more : (thread : ℕ) (h : List Logged) (events : List Event) (i : �
     → i < length events → Reached thread (going_on thread (take i events) h) calls tallies → pair ≡ pair_at (get_or events i d) calls.events calls.calls
     → calls' ≡ standing_behind (get_or events i d) calls
     → ((func : ℕ) → tally_in tallies' func ≡ cond (nat_eq (get_or events i d).func func)
-        (with_event (get_or events i d).kind (durations_in pair) (tally_in tallies func)) (tally_in tallies func))
+    (with_event (get_or events i d).kind (durations_in pair) (tally_in tallies func)) (tally_in tallies func))
     → ((func : ℕ) → is_some (get nat_eq tallies' func) ≡ (nat_eq (get_or events i d).func func || is_some (get nat_eq tallies func)))
     → Reached thread (going_on thread (take (i + 1) events) h) calls' tallies'
 reached_more thread h events i d pair calls calls' tallies tallies' within reached made stands each present =

@@ -30,20 +30,23 @@ is_exit_of func l = (l.event.func == func) && leaves l.event.kind
 abbrev pub durations_of : ℕ → List Logged → List ℕ
 durations_of func history = map (λ pair. pair.duration) (filter (λ pair. pair.func == func) (all_pairs history))
 
--- the row of a function with these durations, and as many entries and exits. Each pair has one entry and one exit of it
-abbrev pub row_with : ℕ → List ℕ → ℕ → ℕ → AccountRow
-row_with func durations entries exits = let n = length durations in record {
+-- the row of a function with these durations, in ascending order, and as many entries and exits. Each pair has one entry and one exit
+abbrev pub row_from : ℕ → List ℕ → ℕ → ℕ → AccountRow
+row_from func durations entries exits = let n = length durations in record {
   func = func;
   count = n;
-  min = slice_index (ascending durations) 0;
-  med = slice_index (ascending durations) (n / 2);
-  p90 = slice_index (ascending durations) (9 * n / 10);
-  p99 = slice_index (ascending durations) (99 * n / 100);
-  max = slice_index (ascending durations) (n - 1);
+  min = slice_index durations 0;
+  med = slice_index durations (n / 2);
+  p90 = slice_index durations (9 * n / 10);
+  p99 = slice_index durations (99 * n / 100);
+  max = slice_index durations (n - 1);
   sum = sum durations;
   entries = entries - n;
   exits = exits - n;
 }
+
+abbrev pub row_with : ℕ → List ℕ → ℕ → ℕ → AccountRow
+row_with func durations entries exits = row_from func (ascending durations) entries exits
 
 abbrev pub row_of : List Logged → ℕ → AccountRow
 row_of history func = row_with func (durations_of func history) (count_by (is_entry_of func) history) (count_by (is_exit_of func) history)

@@ -11,7 +11,8 @@ use Rattle.fdr_record.specs.declared.event.Kind.TheVariants.{Entry, Exit, TailEx
 use Rattle.stack_rebuild.specs.declared.call.Pair.{Pair}
 use Rattle.stack_rebuild.specs.Calls.{Standing, standing_after}
 use Rattle.stack_rebuild.specs.Histories.{Logged, logged, of_thread}
-use Rattle.account_report.specs.Account.{durations_of, is_entry_of, is_exit_of}
+use Rattle.account_report.specs.declared.row.AccountRow.{AccountRow}
+use Rattle.account_report.specs.Account.{durations_of, is_entry_of, is_exit_of, row_with}
 
 -- the durations of a function, and how many entries and exits it had
 pub record Tallied : Type 0 where
@@ -69,3 +70,7 @@ going_on thread events history = reverse (map (logged thread) events) ++ history
 pub record Reached (thread : ℕ) (history : List Logged) (calls : Standing) (tallies : Table Tallied) : Type 0 where
   pub stands : calls ≡ standing_after (of_thread thread history)
   pub tallied : AreTallies tallies history
+
+-- the row of a function in a table
+abbrev pub row_of_entry : ℕ × Tallied → AccountRow
+row_of_entry (func, tally) = row_with func tally.durations tally.entries tally.exits

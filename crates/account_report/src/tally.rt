@@ -1,9 +1,11 @@
 //! What is kept of each function while the events go by.
 
-ghost use Rattle.std.specs.Prelude.{◌≡◌, ◌==◌, ◌||◌, ℕ, nat_eq, is_some, if◌then◌else◌, OnOk};
+ghost use Rattle.std.specs.Prelude.{◌≡◌, ◌==◌, ◌||◌, ℕ, nat_eq, is_some, if◌then◌else◌, OnOk, slice_index};
 ghost use Rattle.std.specs.HashMap.{get};
+ghost use Rattle.account_report.specs.Account.{row_from, row_with};
 ghost use Rattle.account_report.specs.Tallies.{durations_in, no_tally, tally_in, with_event};
 
+use crate::row::AccountRow;
 use fdr_record::{Event, Kind};
 use stack_rebuild::Pair;
 use std::alloc::Global;
@@ -59,6 +61,45 @@ impl Tally {
         }
         Ok(())
     }
+
+    /// The row of the function, whose id it is.
+    pub(crate) fn into_row(self, func: u32) -> AccountRow
+        ensures { result ≡ row_with func self.durations self.entries self.exits }
+    {
+        let Tally {
+            mut durations,
+            entries,
+            exits,
+        } = self;
+        durations.sort_unstable();
+        row(func, &durations, entries, exits)
+    }
+}
+
+/// The row of a function with these durations, which are in ascending order.
+fn row(func: u32, durations: &[u64], entries: u64, exits: u64) -> AccountRow
+    ensures { result ≡ row_from func durations.now entries exits }
+{
+    let n = durations.len();
+    AccountRow {
+        func,
+        count: n as u64,
+        min: item(durations, 0),
+        med: item(durations, n / 2),
+        p90: item(durations, (9 * n as u128 / 10) as usize),
+        p99: item(durations, (99 * n as u128 / 100) as usize),
+        max: item(durations, n.saturating_sub(1)),
+        sum: durations.iter().map(|duration| u128::from(*duration)).sum(),
+        entries: entries.saturating_sub(n as u64),
+        exits: exits.saturating_sub(n as u64),
+    }
+}
+
+/// The item at a place, and 0 where there is none.
+fn item(durations: &[u64], place: usize) -> u64
+    ensures { result ≡ slice_index durations.now place }
+{
+    durations.get(place).copied().unwrap_or(0)
 }
 
 /// One more event, and the pair that it makes.

@@ -11,7 +11,7 @@ returns-clause-stands c = λ history stand tallied.
     record { stands = c.take_out-calls.ensures.taken ∙ stand.each thread; tallied = tallied } in
     let reached : Reached thread (going_on thread c.args.block.now.events history) c.add_events.new.calls c.add_events.new.tallies =
     subst (λ (events : List Event). Reached thread (going_on thread events history) c.add_events.new.calls c.add_events.new.tallies)
-        c.as_slice.ensures (c.in_ok-add_events.ensures thread history before) in
+    c.as_slice.ensures (c.in_ok-add_events.ensures thread history before) in
     stands_behind thread c.args.block.now.events history c.args.threads.now c.take_out-calls.new.threads c.insert.new.self c.add_events.new.calls
     stand c.take_out-calls.ensures.others c.in_ok-insert.ensures.updates.0 reached.stands
 
