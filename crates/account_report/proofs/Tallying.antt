@@ -12,7 +12,7 @@ use Rattle.fdr_record.specs.declared.event.Kind.{Kind}
 use Rattle.fdr_record.specs.declared.event.Kind.TheVariants.{Entry, Exit, TailExit}
 use Rattle.stack_rebuild.specs.declared.call.Call.{Call}
 use Rattle.stack_rebuild.specs.declared.call.Pair.{Pair}
-use Rattle.stack_rebuild.specs.Calls.{Standing, from_innermost, open_calls, pair_at, pair_at_kind, pair_of_call, standing_after, standing_behind}
+use Rattle.stack_rebuild.specs.Calls.{Standing, from_innermost, open_calls, pair_at, pair_at_kind, pair_of_call, standing_after, next_standing}
 use Rattle.stack_rebuild.specs.Histories.{Logged, logged, of_thread, all_pairs}
 use Rattle.account_report.specs.Account.{durations_of, enters, leaves, is_entry_of, is_exit_of}
 use Rattle.account_report.specs.Tallies.{AreTallies, Reached, Table, Tallied, durations_in, going_on, has_event, tally_in, tally_of, with_event}
@@ -91,13 +91,13 @@ going_on-more thread events i d h within =
 
 -- one more event of the thread
 reached_behind : (thread : ℕ) (h : List Logged) (e : Event) (pair : Option Pair) (calls calls' : Standing) (tallies tallies' : Table Tallied)
-    → Reached thread h calls tallies → pair ≡ pair_at e calls.events calls.calls → calls' ≡ standing_behind e calls
+    → Reached thread h calls tallies → pair ≡ pair_at e calls.events calls.calls → calls' ≡ next_standing e calls
     → ((func : ℕ) → tally_in tallies' func ≡ cond (nat_eq e.func func) (with_event e.kind (durations_in pair) (tally_in tallies func)) (tally_in tallies func))
     → ((func : ℕ) → is_some (get nat_eq tallies' func) ≡ (nat_eq e.func func || is_some (get nat_eq tallies func)))
     → Reached thread (logged thread e ∷ h) calls' tallies'
 reached_behind thread h e pair calls calls' tallies tallies' reached made stands each present =
     let made_after : pair ≡ pair_after (logged thread e) h = made ∙ ap (λ (s : Standing). pair_at e s.events s.calls) reached.stands in record {
-      stands = stands ∙ (ap (standing_behind e) reached.stands ∙ ap standing_after (sym (of_thread-own thread e h)));
+      stands = stands ∙ (ap (next_standing e) reached.stands ∙ ap standing_after (sym (of_thread-own thread e h)));
       tallied = record {
         each = λ func. each func
             ∙ (ap (λ (t : Tallied). cond (nat_eq e.func func) (with_event e.kind (durations_in pair) t) t) (reached.tallied.each func)
@@ -109,7 +109,7 @@ reached_behind thread h e pair calls calls' tallies tallies' reached made stands
 
 pub reached_more : (thread : ℕ) (h : List Logged) (events : List Event) (i : ℕ) (d : Event) (pair : Option Pair) (calls calls' : Standing) (tallies tallies' : Table Tallied)
     → i < length events → Reached thread (going_on thread (take i events) h) calls tallies → pair ≡ pair_at (get_or events i d) calls.events calls.calls
-    → calls' ≡ standing_behind (get_or events i d) calls
+    → calls' ≡ next_standing (get_or events i d) calls
     → ((func : ℕ) → tally_in tallies' func ≡ cond (nat_eq (get_or events i d).func func)
     (with_event (get_or events i d).kind (durations_in pair) (tally_in tallies func)) (tally_in tallies func))
     → ((func : ℕ) → is_some (get nat_eq tallies' func) ≡ (nat_eq (get_or events i d).func func || is_some (get nat_eq tallies func)))

@@ -1,7 +1,7 @@
 -- Lists in order.
 use Rattle.std.specs.Prelude.{◌==◌, Bool, ℕ, List, [], ◌∷◌, nat_lt, if◌then◌else◌}
 
--- an item goes into a list in order: in front of the first one that it comes before
+-- an item goes into a list in order: before the first one that it precedes
 abbrev pub put_in : {X : Type 0} → (X → X → Bool) → X → List X → List X
 put_in before x [] = x ∷ []
 put_in before x (y ∷ ys) = if before x y then x ∷ y ∷ ys else y ∷ put_in before x ys

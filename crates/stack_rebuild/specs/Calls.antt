@@ -24,19 +24,19 @@ abbrev pub left_open : List Call → List Call → List Call
 left_open calls [] = calls
 left_open calls (ended ∷ outer) = outer
 
--- the calls that are open behind an event at a position, from those before it
-abbrev pub open_behind_kind : Kind → Event → ℕ → List Call → List Call
-open_behind_kind Entry e at calls = record { entry = at; func = e.func; tsc = e.tsc } ∷ calls
-open_behind_kind Exit e at calls = left_open calls (from_innermost e.func calls)
-open_behind_kind TailExit e at calls = left_open calls (from_innermost e.func calls)
+-- the calls that are open after an event at a position, from those before it
+abbrev pub open_after_kind : Kind → Event → ℕ → List Call → List Call
+open_after_kind Entry e at calls = record { entry = at; func = e.func; tsc = e.tsc } ∷ calls
+open_after_kind Exit e at calls = left_open calls (from_innermost e.func calls)
+open_after_kind TailExit e at calls = left_open calls (from_innermost e.func calls)
 
-abbrev pub open_behind : Event → ℕ → List Call → List Call
-open_behind e at calls = open_behind_kind e.kind e at calls
+abbrev pub open_after : Event → ℕ → List Call → List Call
+open_after e at calls = open_after_kind e.kind e at calls
 
 -- the calls that are open after a history
 abbrev pub open_calls : List Event → List Call
 open_calls [] = []
-open_calls (e ∷ before) = open_behind e (length before) (open_calls before)
+open_calls (e ∷ before) = open_after e (length before) (open_calls before)
 
 -- the pair that an exit at a position makes with the call that it ends
 abbrev pub pair_of_call : Event → ℕ → List Call → Option Pair
@@ -69,6 +69,6 @@ pub record Standing : Type 0 where
 abbrev pub standing_after : List Event → Standing
 standing_after history = record { events = length history; calls = open_calls history }
 
--- where it stands behind one more event
-abbrev pub standing_behind : Event → Standing → Standing
-standing_behind e before = record { events = suc before.events; calls = open_behind e before.events before.calls }
+-- where it stands after one more event
+abbrev pub next_standing : Event → Standing → Standing
+next_standing e before = record { events = suc before.events; calls = open_after e before.events before.calls }

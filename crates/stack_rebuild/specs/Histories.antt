@@ -11,7 +11,7 @@ use Rattle.stack_rebuild.specs.Calls.{open_calls, pair_at}
 -- the events of a thread: those of its blocks, in the order of the file
 abbrev pub events_of : ℕ → List Block → List Event
 events_of thread [] = []
-events_of thread (block ∷ behind) = if block.thread == thread then block.events ++ events_of thread behind else events_of thread behind
+events_of thread (block ∷ later) = if block.thread == thread then block.events ++ events_of thread later else events_of thread later
 
 -- an event, and the thread that recorded it
 pub record Logged : Type 0 where

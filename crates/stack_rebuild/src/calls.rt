@@ -1,7 +1,7 @@
 //! The open calls of a thread.
 
 ghost use Rattle.std.specs.Prelude.{◌≡◌, ◌<◌, ◌++◌, [], ◌∷◌, reverse, MatchOption, IfOk, OnOk, IsTrue, count_by};
-ghost use Rattle.stack_rebuild.specs.Calls.{cycles_between, from_innermost, pair_at, standing_after, standing_behind};
+ghost use Rattle.stack_rebuild.specs.Calls.{cycles_between, from_innermost, pair_at, standing_after, next_standing};
 ghost use Rattle.stack_rebuild.specs.Counts.{AreCountsOf, is_of};
 
 use crate::call::{Call, Pair};
@@ -58,7 +58,7 @@ impl ThreadCalls {
     pub fn take(&mut self, event: &Event) -> Result<Option<Pair>, NoMemory>
         ensures pair { IfOk result (λ pair.
             pair ≡ pair_at event.now self.old.events self.old.calls) }
-        ensures stands { OnOk result (self.new ≡ standing_behind event.now self.old) }
+        ensures stands { OnOk result (self.new ≡ next_standing event.now self.old) }
     {
         let at = self.events;
         // No memory holds a trace of more events.

@@ -19,4 +19,4 @@ returns c =
     let up : IsNonDecreasingBy (λ (r : AccountRow). r.func) rows =
     IsNonDecreasingBy-from_sort_by_key (λ (r : AccountRow). r.func) rows c.sort_unstable_by_key.ensures.sorted (λ a r q k. search rules) in
     rows_sorted history es rows c.in_ok-rows.ensures.unique told c.in_ok-tallies.ensures.present
-        (subst (λ (rs : List AccountRow). IsPermutation rs rows) c.in_ok-rows.ensures.rows c.sort_unstable_by_key.ensures.permutation) up
+    (subst (λ (rs : List AccountRow). IsPermutation rs rows) c.in_ok-rows.ensures.rows c.sort_unstable_by_key.ensures.permutation) up
