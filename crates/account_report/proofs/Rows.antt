@@ -59,7 +59,7 @@ count-keys k ((func, tally) ∷ es) distinct =
         omega (arith, count-cons k func (keys_of es), ap {B = ℕ} (λ b. cond b 1 0) is, behind, ap {B = ℕ} (λ (o : Option Tallied). cond (is_some o) 1 0) none)
     by_first false is behind = omega (arith, count-cons k func (keys_of es), ap {B = ℕ} (λ b. cond b 1 0) is, behind)
 
-flipped : (a b : ℕ) → nat_eq a b ≡ nat_eq b a
+pub flipped : (a b : ℕ) → nat_eq a b ≡ nat_eq b a
 flipped a b = by_first (nat_eq a b) refl (nat_eq b a) refl
   where
     by_first : (p : Bool) → nat_eq a b ≡ p → (q : Bool) → nat_eq b a ≡ q → p ≡ q
