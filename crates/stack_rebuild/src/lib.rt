@@ -7,6 +7,7 @@ mod calls;
 mod counts;
 mod matching;
 mod rows;
+mod tree;
 
 pub use call::{Call, Pair};
 pub use calls::ThreadCalls;
