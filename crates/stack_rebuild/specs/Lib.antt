@@ -1,5 +1,6 @@
 pub mod Calls
 pub mod Counts
+pub mod Frames
 pub mod Histories
 pub mod Paths
 pub mod Stacks

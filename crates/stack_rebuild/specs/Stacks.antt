@@ -14,10 +14,12 @@ use Rattle.stack_rebuild.specs.declared.rows.StackFault.TheVariants.{Deep}
 use Rattle.stack_rebuild.specs.Calls.{open_calls, from_innermost, pair_at}
 use Rattle.stack_rebuild.specs.Histories.{Logged, history_of, of_thread}
 
--- a call that ended: its thread, its pair, its path, and the entry of the call that it was made in, if one was open
+-- a call that ended: its thread, how long it took, how long without the calls that were made directly in it, its path, and the entry of the
+-- call that it was made in, if one was open
 pub record Ended : Type 0 where
   pub thread : ℕ
-  pub pair : Pair
+  pub duration : ℕ
+  pub own : ℕ
   pub path : List ℕ
   pub parent : Option ℕ
 
@@ -31,9 +33,25 @@ parent_in [] = None
 parent_in (call ∷ []) = None
 parent_in (call ∷ parent ∷ outer) = Some parent.entry
 
--- the call that a pair ends
-abbrev pub ended_with : ℕ → List Call → Pair → Ended
-ended_with thread calls pair = record { thread = thread; pair = pair; path = path_to calls; parent = parent_in calls }
+-- whether a call was made in the call with this entry
+abbrev pub is_entry : ℕ → Option ℕ → Bool
+is_entry entry None = false
+is_entry entry (Some parent) = parent == entry
+
+-- how long the calls took that were made directly in the call of a thread with this entry
+abbrev pub inner_time : ℕ → ℕ → List Ended → ℕ
+inner_time thread entry ended = sum_by (λ call. call.duration) (filter (λ call. (call.thread == thread) && is_entry entry call.parent) ended)
+
+-- the call that ends with a pair. The calls that were made in it have ended before, and its own time is 0 where they took longer
+abbrev pub ended_with : ℕ → List Ended → List Call → Option Pair → List Ended
+ended_with thread earlier calls None = []
+ended_with thread earlier calls (Some pair) = record {
+  thread = thread;
+  duration = pair.duration;
+  own = pair.duration - inner_time thread pair.entry earlier;
+  path = path_to calls;
+  parent = parent_in calls;
+} ∷ []
 
 -- the calls that ended in a history, in the order of their ends
 abbrev pub all_ended : List Logged → List Ended
@@ -41,20 +59,7 @@ all_ended [] = []
 all_ended (l ∷ before) =
     let own = of_thread l.thread before in
     all_ended before
-    ++ map (ended_with l.thread (from_innermost l.event.func (open_calls own))) (option_to_list (pair_at l.event (length own) (open_calls own)))
-
--- whether a call was made in the call with this entry
-abbrev pub is_entry : ℕ → Option ℕ → Bool
-is_entry entry None = false
-is_entry entry (Some parent) = parent == entry
-
--- the calls that were made directly in a call
-abbrev pub children_in : List Ended → Ended → List Ended
-children_in all call = filter (λ other. (other.thread == call.thread) && is_entry call.pair.entry other.parent) all
-
--- a call's own time: its duration without those of its children, or 0 where these are longer
-abbrev pub own_time : List Ended → Ended → ℕ
-own_time all call = call.pair.duration - sum_by (λ child. child.pair.duration) (children_in all call)
+    ++ ended_with l.thread (all_ended before) (from_innermost l.event.func (open_calls own)) (pair_at l.event (length own) (open_calls own))
 
 -- a path before another one: the first function that differs decides, and a path stands before those that go on from it
 abbrev pub path_before : List ℕ → List ℕ → Bool
@@ -74,18 +79,22 @@ abbrev pub paths_of : List Ended → List (List ℕ)
 paths_of [] = []
 paths_of (call ∷ calls) = with_path call.path (paths_of calls)
 
+-- the calls along a path
+abbrev pub along : List ℕ → List Ended → List Ended
+along path ended = filter (λ call. same_path path call.path) ended
+
 -- the row of a path: its calls, all of their time, and their own time
 abbrev pub row_of : List Ended → List ℕ → StackRow
-row_of all path = let calls = filter (λ call. same_path path call.path) all in record {
+row_of ended path = record {
   path = path;
-  count = length calls;
-  sum = sum_by (λ call. call.pair.duration) calls;
-  own = sum_by (own_time all) calls;
+  count = length (along path ended);
+  sum = sum_by (λ call. call.duration) (along path ended);
+  own = sum_by (λ call. call.own) (along path ended);
 }
 
 -- the rows of a trace, ordered by their paths
 abbrev pub stack_of : Trace → List StackRow
-stack_of trace = let all = all_ended (history_of trace) in map (row_of all) (paths_of all)
+stack_of trace = let ended = all_ended (history_of trace) in map (row_of ended) (paths_of ended)
 
 -- how many calls of a thread may be open at once
 abbrev pub most_open : ℕ

@@ -1,6 +1,6 @@
 //! The open calls of a thread.
 
-ghost use Rattle.std.specs.Prelude.{◌≡◌, ◌<◌, ◌++◌, [], ◌∷◌, reverse, MatchOption, IfOk, OnOk, IsTrue, count_by};
+ghost use Rattle.std.specs.Prelude.{◌≡◌, ◌<◌, ◌++◌, [], ◌∷◌, reverse, length, MatchOption, IfOk, OnOk, IsTrue, count_by};
 ghost use Rattle.stack_rebuild.specs.Calls.{cycles_between, from_innermost, pair_at, standing_after, next_standing};
 ghost use Rattle.stack_rebuild.specs.Counts.{AreCountsOf, is_of};
 
@@ -51,6 +51,13 @@ impl ThreadCalls {
             calls: Vec::new(alloc),
             counts: HashMap::new(alloc),
         }
+    }
+
+    /// How many calls are open.
+    pub fn depth(&self) -> usize
+        ensures { result ≡ length self.now.calls }
+    {
+        self.calls.len()
     }
 
     /// Goes on by the thread's next event, and answers the pair that it makes. After `NoMemory` the

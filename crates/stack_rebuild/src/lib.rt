@@ -5,6 +5,7 @@
 mod call;
 mod calls;
 mod counts;
+mod frames;
 mod matching;
 mod rows;
 mod tree;

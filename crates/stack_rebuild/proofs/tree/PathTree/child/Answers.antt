@@ -27,9 +27,9 @@ returns-in_ok-insert-in-None-clause-sound c =
     last ∙ (ap length c.in_ok-push-in-None.ensures.items ∙ (length-append links (link ∷ []) ∙ one_more links)) in
     let P : List Link → Type 0 = λ ls. IsTree ls c.insert.new.self in
     let put : (key : ℕ × ℕ)
-        → child_in c.insert.new.self key ≡ cond (same_key (c.args.parent, c.args.func) key) (Some (suc (length links))) (child_in c.args.self.now.children key) =
+    → child_in c.insert.new.self key ≡ cond (same_key (c.args.parent, c.args.func) key) (Some (suc (length links))) (child_in c.args.self.now.children key) =
     λ key. c.in_ok-insert-in-None.ensures.updates.0 key
-        ∙ ap (λ (n : ℕ). cond (same_key (c.args.parent, c.args.func) key) (Some n) (child_in c.args.self.now.children key)) number in
+    ∙ ap (λ (n : ℕ). cond (same_key (c.args.parent, c.args.func) key) (Some n) (child_in c.args.self.now.children key)) number in
     subst P (sym c.in_ok-push-in-None.ensures.items)
     (tree_more links c.args.self.now.children c.insert.new.self link c.requires.sound c.requires.within absent put)
 
