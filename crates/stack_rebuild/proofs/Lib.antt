@@ -1,2 +1,5 @@
+pub mod Ending
+pub mod Framing
 pub mod Opening
 pub mod Paths
+pub mod Totals
