@@ -7,7 +7,8 @@ ghost use Rattle.xray_io.specs.Sink.{Adds, AddsPrefix};
 ghost use Rattle.xray_io.specs.Text.{sink_of, loan_of, Gains, Breaks};
 ghost use Rattle.fdr_record.specs.declared.rec.Rec.TheVariants.{Extents};
 ghost use Rattle.fdr_record.specs.Records.{record_bytes};
-ghost use Rattle.fdr_file.specs.Files.{block_bytes, file_bytes, flags_of, header_bytes};
+ghost use Rattle.fdr_file.specs.Files.{block_bytes, file_bytes, flags_of, header_bytes, trace_told, BlockFits, HeaderFits};
+ghost use Rattle.fdr_file.specs.Grammar.{IsTrace};
 
 use crate::Header;
 use crate::header::{CONSTANT, FDR, NONSTOP, RESERVED};
@@ -35,6 +36,8 @@ fn extents(size: u64) -> [u8; METADATA_BYTES]
 
 /// Adds a header.
 fn add_header<S: Sink>(text: &mut Text<S>, header: &Header) -> Result<(), WriteFault>
+    requires { header.now.version ≡ 3 }
+    ensures fits { HeaderFits header.now }
     ensures gains { OnOk result (Gains S.written text.old text.new (header_bytes header.now)) }
     ensures breaks { OnErr result
         (Breaks S.written text.old (sink_of text.new) (header_bytes header.now)) }
@@ -61,6 +64,8 @@ fn add_header<S: Sink>(text: &mut Text<S>, header: &Header) -> Result<(), WriteF
 
 /// Adds a block: extents, and the bytes of a buffer.
 fn add_block<S: Sink>(text: &mut Text<S>, buffer: &Buffer) -> Result<(), WriteFault>
+    requires { IsTrue buffer.now.begun }
+    ensures fits { BlockFits buffer.now }
     ensures gains { OnOk result (Gains S.written text.old text.new (block_bytes buffer.now)) }
     ensures breaks { OnErr result
         (Breaks S.written text.old (sink_of text.new) (block_bytes buffer.now)) }
@@ -77,6 +82,8 @@ fn add_block<S: Sink>(text: &mut Text<S>, buffer: &Buffer) -> Result<(), WriteFa
 
 /// Adds the blocks of buffers.
 fn add_blocks<S: Sink>(text: &mut Text<S>, buffers: &[Buffer]) -> Result<(), WriteFault>
+    requires { All (λ buffer. IsTrue buffer.begun) buffers.now }
+    ensures fit { OnOk result (All BlockFits buffers.now) }
     ensures gains { OnOk result
         (Gains S.written text.old text.new (flat_map block_bytes buffers.now)) }
     ensures breaks { OnErr result
@@ -100,6 +107,10 @@ fn add_file<S: Sink>(
     header: &Header,
     buffers: &[Buffer],
 ) -> Result<(), WriteFault>
+    requires version { header.now.version ≡ 3 }
+    requires begun { All (λ buffer. IsTrue buffer.begun) buffers.now }
+    ensures trace { OnOk result
+        (IsTrace (file_bytes header.now buffers.now) (trace_told header.now buffers.now)) }
     ensures gains { OnOk result
         (Gains S.written text.old text.new (file_bytes header.now buffers.now)) }
     ensures breaks { OnErr result
@@ -118,7 +129,8 @@ fn add_file<S: Sink>(
 /// Writes a trace file of version 3: the header, and for each buffer a block, a `BufferExtents` record
 /// with the number of the buffer's bytes, and these bytes. LLVM's runtime flushes its buffers so
 /// (`fdrLoggingFlush` of `xray_fdr_logging.cpp`). Each buffer has to be begun, so that its block has a
-/// preamble. Takes no memory.
+/// preamble. What is written is a trace by the grammar, which reads back as the header and the events
+/// of the buffers, in order. Takes no memory.
 ///
 /// On `WriteFault` a front of the file was written, and the sink counted a fault.
 pub fn write_file<S: Sink>(
@@ -130,6 +142,8 @@ pub fn write_file<S: Sink>(
     requires begun { All (λ buffer. IsTrue buffer.begun) buffers.now }
     ensures all { OnOk result
         (Adds (S.written sink.old) (S.written sink.new) (file_bytes header.now buffers.now)) }
+    ensures trace { OnOk result
+        (IsTrace (file_bytes header.now buffers.now) (trace_told header.now buffers.now)) }
     ensures front { OnErr result
         (AddsPrefix (S.written sink.old) (S.written sink.new) (file_bytes header.now buffers.now)) }
     ensures failed { OnErr result (Rose (S.faults sink.old) (S.faults sink.new)) }

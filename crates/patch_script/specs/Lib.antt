@@ -1,5 +1,6 @@
 pub mod Micros
 pub mod CodeAt
+pub mod Bounds
 pub mod Values
 pub mod Patched
 pub mod StoredWords
@@ -13,3 +14,4 @@ pub mod Standing
 pub mod Placing
 pub mod Scripts
 pub mod Drafts
+pub mod FaultWords

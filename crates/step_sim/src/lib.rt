@@ -3,6 +3,7 @@
 
 mod along;
 mod fault;
+mod fault_words;
 mod laws;
 mod line;
 mod patcher;
@@ -11,6 +12,7 @@ mod replay;
 mod ring;
 mod schedule;
 mod sim_fault;
+mod start;
 #[cfg(test)]
 mod tests;
 mod thread;
@@ -22,4 +24,5 @@ pub use laws::{buffers_change_no_replay, one_pooled_replay, one_replay, some_rep
 pub use replay::{SimEnd, simulate};
 pub use schedule::{Schedule, read_schedule};
 pub use sim_fault::SimFault;
+pub use start::SimStart;
 pub use turns::Turns;

@@ -1,0 +1,87 @@
+-- What the laws of scripts say of a table's script.
+use Rattle.std.proofs.Common.{◌≡◌, ℕ, zero, suc, ◌+◌, ◌<◌, ◌≤◌, List, [], ◌∷◌, length, sym, arith, unwrap_or}
+use Rattle.std.specs.Prelude.{slice_get, slice_index}
+use Rattle.xray_image.specs.Program.{Program}
+use Rattle.sled_words.specs.Parts.{initial_words}
+use Rattle.patch_script.specs.declared.command.Command.{Command}
+use Rattle.patch_script.specs.declared.micro.Micro.{Micro}
+use Rattle.patch_script.specs.declared.micro.Micro.TheVariants.{Store, Await, End}
+use Rattle.patch_script.specs.Bounds.{bound_of}
+use Rattle.patch_script.specs.CodeAt.{code_at, stored_in}
+use Rattle.patch_script.specs.Micros.{micros, micro_at, start_of, total_of}
+use Rattle.patch_script.specs.Plans.{Plan}
+use Rattle.patch_script.specs.Refusals.{commands_of}
+use Rattle.patch_script.specs.StoredWords.{AreCodeAt}
+use Rattle.sled_rule.specs.Plans.{code_in, bound_in, start_in, total_in, micro_in}
+
+-- the code behind one more micro step
+abbrev pub CodeNext : Plan → Type 0
+CodeNext plan = (place word : ℕ) → code_in plan (place + 1) word ≡ unwrap_or (stored_in word (micro_in plan place)) (code_in plan place word)
+
+pub code_next : ((program : Program) (script : List Command) (place word : ℕ)
+    → code_at program script (place + 1) word ≡ unwrap_or (stored_in word (micro_at program script place)) (code_at program script place word))
+    → (plan : Plan) → CodeNext plan
+unfolding code_in micro_in
+code_next said plan place word = said plan.program (commands_of plan.lines) place word
+
+-- the code before any micro step
+pub code_first : ((program : Program) (script : List Command) (threads : ℕ) → AreCodeAt program script 0 (initial_words program threads))
+    → (plan : Plan) (word : ℕ) → word < length (initial_words plan.program plan.threads)
+    → slice_index (initial_words plan.program plan.threads) word ≡ code_in plan 0 word
+unfolding code_in
+code_first said plan word within = said plan.program (commands_of plan.lines) plan.threads word within
+
+-- a place behind no await for more passings than a thread has made is within the bound of its passing
+abbrev pub BoundReached : Plan → Type 0
+BoundReached plan = (thread passing place : ℕ) → place ≤ total_in plan
+    → ((i count : ℕ) → i < place → micro_in plan i ≡ Await thread count → count ≤ passing) → place ≤ bound_in plan thread passing
+
+pub bound_reached : ((program : Program) (script : List Command) (thread passing place : ℕ) → place ≤ total_of program script
+    → ((i count : ℕ) → i < place → micro_at program script i ≡ Await thread count → count ≤ passing) → place ≤ bound_of program script thread passing)
+    → (plan : Plan) → BoundReached plan
+unfolding bound_in total_in micro_in
+bound_reached said plan thread passing place within few = said plan.program (commands_of plan.lines) thread passing place within few
+
+-- ---- what the methods of scripts answer
+
+pub micro_is : (plan : Plan) (place : ℕ) (micro : Micro) → micro ≡ micro_at plan.program (commands_of plan.lines) place → micro_in plan place ≡ micro
+unfolding micro_in
+micro_is plan place micro is = sym is
+
+pub start_is : (plan : Plan) (start : ℕ) → start ≡ start_of plan.program (commands_of plan.lines) → start_in plan ≡ start
+unfolding start_in
+start_is plan start is = sym is
+
+pub total_is : (plan : Plan) (total : ℕ) → total ≡ total_of plan.program (commands_of plan.lines) → total_in plan ≡ total
+unfolding total_in
+total_is plan total is = sym is
+
+-- ---- a store or an await stands within the script
+
+store_before_end : (steps : List Micro) (place word value : ℕ) → unwrap_or (slice_get steps place) End ≡ Store word value → place < length steps
+store_before_end [] place word value is = cc
+store_before_end (step ∷ steps) zero word value is = omega arith
+store_before_end (step ∷ steps) (suc place) word value is = let rest = store_before_end steps place word value is in omega arith
+
+await_before_end : (steps : List Micro) (place thread count : ℕ) → unwrap_or (slice_get steps place) End ≡ Await thread count → place < length steps
+await_before_end [] place thread count is = cc
+await_before_end (step ∷ steps) zero thread count is = omega arith
+await_before_end (step ∷ steps) (suc place) thread count is = let rest = await_before_end steps place thread count is in omega arith
+
+pub store_within : (plan : Plan) (place word value : ℕ) → micro_in plan place ≡ Store word value → place < total_in plan
+unfolding micro_in total_in
+store_within plan place word value is = store_before_end (micros plan.program (commands_of plan.lines)) place word value is
+
+pub await_within : (plan : Plan) (place thread count : ℕ) → micro_in plan place ≡ Await thread count → place < total_in plan
+unfolding micro_in total_in
+await_within plan place thread count is = await_before_end (micros plan.program (commands_of plan.lines)) place thread count is
+
+-- ---- the code behind a store, and behind an await
+
+pub code_stored : (plan : Plan) → CodeNext plan → (place word value w : ℕ) → micro_in plan place ≡ Store word value
+    → code_in plan (place + 1) w ≡ unwrap_or (stored_in w (Store word value)) (code_in plan place w)
+code_stored plan next place word value w is = rw is at next place w
+
+pub code_awaited : (plan : Plan) → CodeNext plan → (place thread count w : ℕ) → micro_in plan place ≡ Await thread count
+    → code_in plan (place + 1) w ≡ code_in plan place w
+code_awaited plan next place thread count w is = rw is at next place w

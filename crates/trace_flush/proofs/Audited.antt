@@ -1,0 +1,44 @@
+-- The audit of a run.
+use Rattle.std.proofs.Common.{◌≡◌, ℕ, zero, suc, ◌+◌, ◌-◌, List, [], ◌∷◌, Some, refl, sym, subst, ap, ◌∙◌, arith, length, map}
+use Rattle.std.specs.Prelude.{slice_get}
+use Rattle.std.specs.List.{enumerate_from, zip}
+use Rattle.handler_word.specs.declared.mark.Mark.{Mark}
+use Rattle.machine_step.specs.declared.end.End.{End}
+use Rattle.machine_step.specs.declared.setup.Setup.{Setup}
+use Rattle.machine_step.specs.Traced.{Traced}
+use Rattle.fdr_buffer.specs.Filled.{Filled}
+use Rattle.traced_run.specs.Kept.{segment_count}
+use Rattle.traced_run.specs.Left.{HasRun, Leaves}
+use Rattle.traced_run.specs.Runs.{ThreadRun}
+use Rattle.trace_flush.specs.declared.line.AuditLine.{AuditLine}
+use Rattle.trace_flush.specs.Audit.{Account, accounts}
+use Rattle.trace_flush.specs.Lines.{account_of, accounts_of, end_of, line_of, lines_of}
+
+one_account : (setup : Setup) (number : ℕ) (run : ThreadRun) (t : Traced) → HasRun number run t
+    → (line_of t (segment_count setup.size run) run.lost, t.marks) ≡ account_of setup (number, run)
+one_account setup number run t has = rw (has.thread, has.done, has.marks) refl
+
+all_accounts : (setup : Setup) (k : ℕ) (runs : List ThreadRun) (cpus : List Traced) → length cpus ≡ length runs
+    → ((i : ℕ) (run : ThreadRun) (t : Traced) → slice_get runs i ≡ Some run → slice_get cpus i ≡ Some t → HasRun (k + i) run t)
+    → accounts (lines_of cpus (map (segment_count setup.size) runs) (map (λ run. run.lost) runs)) cpus ≡ map (account_of setup) (enumerate_from k runs)
+all_accounts setup k [] [] same has = refl
+all_accounts setup k [] (t ∷ cpus) same has = absurd (omega (arith, same))
+all_accounts setup k (run ∷ runs) [] same has = absurd (omega (arith, same))
+all_accounts setup k (run ∷ runs) (t ∷ cpus) same has =
+    let here : k + zero ≡ k = omega arith in
+    let rest = accounts (lines_of cpus (map (segment_count setup.size) runs) (map (λ r. r.lost) runs)) cpus in
+    ap (λ (a : Account). a ∷ rest) (one_account setup k run t (subst (λ (n : ℕ). HasRun n run t) here (has zero run t refl refl)))
+    ∙ ap (λ (as : List Account). account_of setup (k, run) ∷ as)
+    (all_accounts setup (k + 1) runs cpus (omega (arith, same))
+    (λ i r u found there. subst (λ (n : ℕ). HasRun n r u) (behind i) (has (suc i) r u found there)))
+  where
+    behind : (i : ℕ) → k + suc i ≡ k + 1 + i
+    behind i = omega arith
+
+pub run_is_audited : (setup : Setup) (runs : List ThreadRun) (cpus : List Traced) (segments first : List ℕ) (buffers : List Filled)
+    → Leaves setup runs cpus segments first buffers → accounts (lines_of cpus segments first) cpus ≡ accounts_of setup runs
+run_is_audited setup runs cpus segments first buffers left =
+    ap (λ (ns : List ℕ). accounts (lines_of cpus ns first) cpus) left.segments_are
+    ∙ ap (λ (ns : List ℕ). accounts (lines_of cpus (map (segment_count setup.size) runs) ns) cpus) left.first_are
+    ∙ all_accounts setup 1 runs cpus left.count
+    (λ i run t found there. let flipped : i + 1 ≡ 1 + i = omega arith in subst (λ (n : ℕ). HasRun n run t) flipped (left.cpus_are i run t found there))
