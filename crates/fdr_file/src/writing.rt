@@ -1,10 +1,9 @@
 //! Traces as the bytes of a file.
 
-ghost use Rattle.std.specs.Prelude.{◌≡◌, ◌≤◌, List, ℕ, Option, All, IsTrue, OnOk, OnErr};
+ghost use Rattle.std.specs.Prelude.{◌≡◌, All, IsTrue, OnOk};
 ghost use Rattle.std.specs.List.{flat_map};
-ghost use Rattle.xray_io.specs.Faults.{Rose};
-ghost use Rattle.xray_io.specs.Sink.{Adds, AddsPrefix};
-ghost use Rattle.xray_io.specs.Text.{sink_of, loan_of, Gains, Breaks};
+ghost use Rattle.xray_io.specs.Text.{AddsText};
+ghost use Rattle.xray_io.specs.Writes.{WritesText};
 ghost use Rattle.fdr_record.specs.declared.rec.Rec.TheVariants.{Extents};
 ghost use Rattle.fdr_record.specs.Records.{record_bytes};
 ghost use Rattle.fdr_file.specs.Files.{block_bytes, file_bytes, flags_of, header_bytes, trace_told, BlockFits, HeaderFits};
@@ -14,7 +13,7 @@ use crate::Header;
 use crate::header::{CONSTANT, FDR, NONSTOP, RESERVED};
 use fdr_buffer::Buffer;
 use fdr_record::{METADATA_BYTES, Rec, put_rec};
-use xray_io::{Piece, Sink, Text, WriteFault, text_adds_up};
+use xray_io::{Piece, Sink, Text, WriteFault};
 
 /// A header's flags as a number.
 fn flags(header: &Header) -> u32
@@ -38,14 +37,8 @@ fn extents(size: u64) -> [u8; METADATA_BYTES]
 fn add_header<S: Sink>(text: &mut Text<S>, header: &Header) -> Result<(), WriteFault>
     requires { header.now.version ≡ 3 }
     ensures fits { HeaderFits header.now }
-    ensures gains { OnOk result (Gains S.written text.old text.new (header_bytes header.now)) }
-    ensures breaks { OnErr result
-        (Breaks S.written text.old (sink_of text.new) (header_bytes header.now)) }
-    ensures failed { OnErr result
-        (Rose (S.faults (sink_of text.old)) (S.faults (sink_of text.new))) }
-    ensures later { S.faults (sink_of text.old) ≤ S.faults (sink_of text.new) }
-    ensures follows { S.follows (sink_of text.old) (sink_of text.new) }
-    ensures loan { loan_of text.new ≡ loan_of text.old }
+    ensures adds { AddsText S.written S.faults S.along text.old text.new
+        (header_bytes header.now) result }
 {
     let version = header.version.to_le_bytes();
     let form = FDR.to_le_bytes();
@@ -66,14 +59,8 @@ fn add_header<S: Sink>(text: &mut Text<S>, header: &Header) -> Result<(), WriteF
 fn add_block<S: Sink>(text: &mut Text<S>, buffer: &Buffer) -> Result<(), WriteFault>
     requires { IsTrue buffer.now.begun }
     ensures fits { BlockFits buffer.now }
-    ensures gains { OnOk result (Gains S.written text.old text.new (block_bytes buffer.now)) }
-    ensures breaks { OnErr result
-        (Breaks S.written text.old (sink_of text.new) (block_bytes buffer.now)) }
-    ensures failed { OnErr result
-        (Rose (S.faults (sink_of text.old)) (S.faults (sink_of text.new))) }
-    ensures later { S.faults (sink_of text.old) ≤ S.faults (sink_of text.new) }
-    ensures follows { S.follows (sink_of text.old) (sink_of text.new) }
-    ensures loan { loan_of text.new ≡ loan_of text.old }
+    ensures adds { AddsText S.written S.faults S.along text.old text.new
+        (block_bytes buffer.now) result }
 {
     let bytes = buffer.bytes();
     let extents = extents(bytes.len() as u64);
@@ -84,17 +71,9 @@ fn add_block<S: Sink>(text: &mut Text<S>, buffer: &Buffer) -> Result<(), WriteFa
 fn add_blocks<S: Sink>(text: &mut Text<S>, buffers: &[Buffer]) -> Result<(), WriteFault>
     requires { All (λ buffer. IsTrue buffer.begun) buffers.now }
     ensures fit { OnOk result (All BlockFits buffers.now) }
-    ensures gains { OnOk result
-        (Gains S.written text.old text.new (flat_map block_bytes buffers.now)) }
-    ensures breaks { OnErr result
-        (Breaks S.written text.old (sink_of text.new) (flat_map block_bytes buffers.now)) }
-    ensures failed { OnErr result
-        (Rose (S.faults (sink_of text.old)) (S.faults (sink_of text.new))) }
-    ensures later { S.faults (sink_of text.old) ≤ S.faults (sink_of text.new) }
-    ensures follows { S.follows (sink_of text.old) (sink_of text.new) }
-    ensures loan { loan_of text.new ≡ loan_of text.old }
+    ensures adds { AddsText S.written S.faults S.along text.old text.new
+        (flat_map block_bytes buffers.now) result }
 {
-    text_adds_up::<S>();
     for buffer in buffers {
         add_block(text, buffer)?;
     }
@@ -111,17 +90,9 @@ fn add_file<S: Sink>(
     requires begun { All (λ buffer. IsTrue buffer.begun) buffers.now }
     ensures trace { OnOk result
         (IsTrace (file_bytes header.now buffers.now) (trace_told header.now buffers.now)) }
-    ensures gains { OnOk result
-        (Gains S.written text.old text.new (file_bytes header.now buffers.now)) }
-    ensures breaks { OnErr result
-        (Breaks S.written text.old (sink_of text.new) (file_bytes header.now buffers.now)) }
-    ensures failed { OnErr result
-        (Rose (S.faults (sink_of text.old)) (S.faults (sink_of text.new))) }
-    ensures later { S.faults (sink_of text.old) ≤ S.faults (sink_of text.new) }
-    ensures follows { S.follows (sink_of text.old) (sink_of text.new) }
-    ensures loan { loan_of text.new ≡ loan_of text.old }
+    ensures adds { AddsText S.written S.faults S.along text.old text.new
+        (file_bytes header.now buffers.now) result }
 {
-    text_adds_up::<S>();
     add_header(text, header)?;
     add_blocks(text, buffers)
 }
@@ -132,7 +103,7 @@ fn add_file<S: Sink>(
 /// preamble. What is written is a trace by the grammar, which reads back as the header and the events
 /// of the buffers, in order. Takes no memory.
 ///
-/// On `WriteFault` a front of the file was written, and the sink counted a fault.
+/// On `WriteFault` a prefix of the file was written, and the sink counted a fault.
 pub fn write_file<S: Sink>(
     header: &Header,
     buffers: &[Buffer],
@@ -140,15 +111,10 @@ pub fn write_file<S: Sink>(
 ) -> Result<(), WriteFault>
     requires version { header.now.version ≡ 3 }
     requires begun { All (λ buffer. IsTrue buffer.begun) buffers.now }
-    ensures all { OnOk result
-        (Adds (S.written sink.old) (S.written sink.new) (file_bytes header.now buffers.now)) }
     ensures trace { OnOk result
         (IsTrace (file_bytes header.now buffers.now) (trace_told header.now buffers.now)) }
-    ensures front { OnErr result
-        (AddsPrefix (S.written sink.old) (S.written sink.new) (file_bytes header.now buffers.now)) }
-    ensures failed { OnErr result (Rose (S.faults sink.old) (S.faults sink.new)) }
-    ensures later { S.faults sink.old ≤ S.faults sink.new }
-    ensures follows { S.follows sink.old sink.new }
+    ensures writes { WritesText S.written S.faults S.along sink.old sink.new
+        (file_bytes header.now buffers.now) result }
 {
     let mut text = Text::new(sink);
     add_file(&mut text, header, buffers)?;

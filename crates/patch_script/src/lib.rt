@@ -7,7 +7,6 @@
 
 mod command;
 mod fault;
-mod fault_words;
 mod first_patches;
 mod keyword;
 mod laws;
@@ -15,6 +14,7 @@ mod line;
 mod micro;
 mod placed;
 mod reading;
+mod refusal;
 mod script;
 mod sleds;
 mod standing;

@@ -1,6 +1,6 @@
 -- What the laws of scripts say of a table's script.
-use Rattle.std.proofs.Common.{◌≡◌, ℕ, zero, suc, ◌+◌, ◌<◌, ◌≤◌, List, [], ◌∷◌, length, sym, arith, unwrap_or}
-use Rattle.std.specs.Prelude.{slice_get, slice_index}
+use Rattle.std.proofs.Common.{◌≡◌, ℕ, zero, suc, ◌+◌, ◌<◌, ◌≤◌, List, [], ◌∷◌, length, sym, subst, ◌∙◌, inl, inr, arith, unwrap_or}
+use Rattle.std.specs.Prelude.{◌↔◌, ◌⊎◌, slice_get, slice_index}
 use Rattle.xray_image.specs.Program.{Program}
 use Rattle.sled_words.specs.Parts.{initial_words}
 use Rattle.patch_script.specs.declared.command.Command.{Command}
@@ -9,10 +9,10 @@ use Rattle.patch_script.specs.declared.micro.Micro.TheVariants.{Store, Await, En
 use Rattle.patch_script.specs.Bounds.{bound_of}
 use Rattle.patch_script.specs.CodeAt.{code_at, stored_in}
 use Rattle.patch_script.specs.Micros.{micros, micro_at, start_of, total_of}
-use Rattle.patch_script.specs.Plans.{Plan}
+use Rattle.patch_script.specs.Plans.{Plan, IsWithin}
 use Rattle.patch_script.specs.Refusals.{commands_of}
 use Rattle.patch_script.specs.StoredWords.{AreCodeAt}
-use Rattle.sled_rule.specs.Plans.{code_in, bound_in, start_in, total_in, micro_in}
+use Rattle.sled_rule.specs.Plans.{code_in, bound_in, start_in, total_in, micro_in, code_words}
 
 -- the code behind one more micro step
 abbrev pub CodeNext : Plan → Type 0
@@ -80,8 +80,34 @@ await_within plan place thread count is = await_before_end (micros plan.program 
 
 pub code_stored : (plan : Plan) → CodeNext plan → (place word value w : ℕ) → micro_in plan place ≡ Store word value
     → code_in plan (place + 1) w ≡ unwrap_or (stored_in w (Store word value)) (code_in plan place w)
-code_stored plan next place word value w is = rw is at next place w
+code_stored plan next place word value w is =
+    subst (λ (m : Micro). code_in plan (place + 1) w ≡ unwrap_or (stored_in w m) (code_in plan place w)) is (next place w)
 
 pub code_awaited : (plan : Plan) → CodeNext plan → (place thread count w : ℕ) → micro_in plan place ≡ Await thread count
     → code_in plan (place + 1) w ≡ code_in plan place w
-code_awaited plan next place thread count w is = rw is at next place w
+code_awaited plan next place thread count w is =
+    subst (λ (m : Micro). code_in plan (place + 1) w ≡ unwrap_or (stored_in w m) (code_in plan place w)) is (next place w)
+
+-- the end stands at the last place
+pub end_is : (plan script : Plan) (place at : ℕ) (IsEnd : Type 0) → script ≡ plan → place ≡ at → at ≤ total_in script
+    → IsEnd ↔ (total_of plan.program (commands_of plan.lines) ≤ place) → IsEnd ↔ (at ≡ total_in plan)
+unfolding total_in
+end_is plan script place at IsEnd same here within said =
+    let bound : at ≤ total_of plan.program (commands_of plan.lines) = subst (λ (z : Plan). at ≤ total_of z.program (commands_of z.lines)) same within in (
+      λ is. let past = said.0 is in omega arith,
+      λ is. said.1 (omega arith),
+    )
+
+-- a word that the script stores in is none of the progress words
+pub stored_here : (plan : Plan) (word value : ℕ) → IsWithin plan (Store word value) → word < code_words plan
+unfolding code_words
+stored_here plan word value within = within
+
+-- a store is neither an await nor the end, and an await is neither a store nor the end
+pub is_store : (micro : Micro) (word value : ℕ) → micro ≡ Store word value → ((thread : ℕ) × (count : ℕ) × (micro ≡ Await thread count)) ⊎ (micro ≡ End) → ⊥
+is_store micro word value is (inl (thread, count, other)) = let both : Store word value ≡ Await thread count = sym is ∙ other in cc
+is_store micro word value is (inr other) = let both : Store word value ≡ End = sym is ∙ other in cc
+
+pub is_await : (micro : Micro) (thread count : ℕ) → micro ≡ Await thread count → ((word : ℕ) × (value : ℕ) × (micro ≡ Store word value)) ⊎ (micro ≡ End) → ⊥
+is_await micro thread count is (inl (word, value, other)) = let both : Await thread count ≡ Store word value = sym is ∙ other in cc
+is_await micro thread count is (inr other) = let both : Await thread count ≡ End = sym is ∙ other in cc

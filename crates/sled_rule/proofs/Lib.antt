@@ -5,5 +5,6 @@ pub mod Working
 pub mod Patching
 pub mod Comings
 pub mod Starting
+pub mod Staying
 pub mod Ending
 pub mod LoadsOf

@@ -1,5 +1,5 @@
 -- A script as the table's rule speaks of it: what stands where, and when.
-use Rattle.std.specs.Prelude.{◌≡◌, ℕ, ◌+◌, ◌*◌}
+use Rattle.std.specs.Prelude.{◌≡◌, ℕ}
 use Rattle.sled_words.specs.Words.{code_word_count}
 use Rattle.patch_script.specs.declared.micro.Micro.{Micro}
 use Rattle.patch_script.specs.declared.micro.Micro.TheVariants.{Store, Await}

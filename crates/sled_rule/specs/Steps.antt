@@ -3,7 +3,6 @@ use Rattle.std.specs.Prelude.{◌≡◌, ℕ, ◌<◌, ◌≤◌, [], slice_inde
 use mathlib.Core.Option.{some}
 use lib.ListN.{get_elem?}
 use Rattle.atomic_table.specs.Table.{Me, Step}
-use Rattle.xray_image.specs.Program.{Program}
 use Rattle.patch_script.specs.declared.micro.Micro.TheVariants.{Await}
 use Rattle.patch_script.specs.Plans.{Plan}
 use Rattle.sled_rule.specs.declared.views.Met.{Met}

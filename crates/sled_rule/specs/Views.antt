@@ -1,8 +1,6 @@
 -- What seats know, and how it changes.
-use Rattle.std.specs.Prelude.{◌≡◌, ℕ, ◌+◌, max, [], ◌∷◌, ◌++◌, List, nat_lt, replicate, slice_index, slice_set, if◌then◌else◌}
+use Rattle.std.specs.Prelude.{ℕ, ◌+◌, max, [], ◌∷◌, ◌++◌, nat_lt, replicate, slice_index, slice_set, if◌then◌else◌}
 use Rattle.patch_script.specs.Plans.{Plan}
-use Rattle.sled_rule.specs.declared.views.Load.{Load}
-use Rattle.sled_rule.specs.declared.views.Met.{Met}
 use Rattle.sled_rule.specs.declared.views.PatchView.{PatchView}
 use Rattle.sled_rule.specs.declared.views.WorkView.{WorkView}
 use Rattle.sled_rule.specs.declared.views.NoteView.{NoteView}

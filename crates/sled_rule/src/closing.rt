@@ -15,6 +15,13 @@ use atomic_table::Closed;
 use std::alloc::Global;
 
 impl CodeTable {
+    /// How many words there are by number: those before the progress words, and one for each thread.
+    pub fn word_count(&self) -> u32
+        ensures { result ≡ word_count (script_of self.now).program (script_of self.now).threads }
+    {
+        self.code_len as u32 + self.threads
+    }
+
     /// Ends the table, and writes its last words into a slice, each at its number: those of the script at the place, and
     /// the progress words of the threads. All seats that were given were met.
     pub fn close(self, seat: PatchSeat, into: &mut [u64])
@@ -32,7 +39,7 @@ impl CodeTable {
         let CodeTable {
             script: _,
             threads: _,
-            code_words,
+            code_len,
             table,
         } = self;
         let PatchSeat {
@@ -41,28 +48,28 @@ impl CodeTable {
             seat: last,
         } = seat;
         let closed = table.close_with(last);
-        copy_words(&closed, code_words, into);
+        copy_words(&closed, code_len, into);
         closed.free();
     }
 }
 
 /// Copies the words to their numbers: the first ones, and then those that stand a line apart.
-fn copy_words(closed: &Closed<(), Global>, code_words: usize, into: &mut [u64])
+fn copy_words(closed: &Closed<(), Global>, code_len: usize, into: &mut [u64])
     requires full { IsFull closed.now.words }
-    requires few { code_words ≤ length into.old }
-    requires room { slots_len closed.now.words ≡ code_words + 8 * (length into.old - code_words + 1) }
+    requires few { code_len ≤ length into.old }
+    requires room { slots_len closed.now.words ≡ code_len + 8 * (length into.old - code_len + 1) }
     requires small { length into.old ≤ 16434 }
-    ensures code { (word : ℕ) → word < code_words
+    ensures code { (word : ℕ) → word < code_len
         → get_elem? (slots_items closed.now.words) word ≡ some (slice_index into.new word) }
-    ensures progress { (thread : ℕ) → 0 < thread → code_words + thread ≤ length into.old
-        → get_elem? (slots_items closed.now.words) (code_words + 8 * thread)
-        ≡ some (slice_index into.new (code_words + thread - 1)) }
+    ensures progress { (thread : ℕ) → 0 < thread → code_len + thread ≤ length into.old
+        → get_elem? (slots_items closed.now.words) (code_len + 8 * thread)
+        ≡ some (slice_index into.new (code_len + thread - 1)) }
 {
     for word in 0..into.len() {
-        into[word] = if word < code_words {
+        into[word] = if word < code_len {
             closed.word(word)
         } else {
-            closed.word(code_words + LINE * (word - code_words + 1))
+            closed.word(code_len + LINE * (word - code_len + 1))
         };
     }
 }

@@ -12,6 +12,8 @@ mod patcher;
 mod plays;
 mod seats;
 mod table;
+#[cfg(test)]
+mod tests;
 mod views;
 mod worker;
 

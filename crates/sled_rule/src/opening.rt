@@ -34,13 +34,15 @@ impl CodeTable {
         ensures view { IfOk result (λ made. patch_view made.1 ≡ first_patch script) }
     {
         stores_give_the_code();
-        let code_words = 4 * image.sled_count() as usize + 2 + threads as usize;
-        let words = opening_words(alloc, image, threads, code_words)?;
+        // Says that there are few micro steps.
+        script.total();
+        let code_len = 4 * image.sled_count() as usize + 2 + threads as usize;
+        let words = opening_words(alloc, image, threads, code_len)?;
         let (table, seat) = Table::of_words(alloc, &words, &script)?;
         let table = CodeTable {
             script,
             threads,
-            code_words,
+            code_len,
             table,
         };
         let seat = PatchSeat {
@@ -64,16 +66,16 @@ fn opening_words(
     alloc: Global,
     image: &Image,
     threads: u32,
-    code_words: usize,
+    code_len: usize,
 ) -> Result<Vec<u64>, NoMemory>
     requires few { threads ≤ MAX_THREADS }
-    requires words { code_words ≡ code_word_count image.now threads }
+    requires words { code_len ≡ code_word_count image.now threads }
     ensures { IfOk result (λ words. words.items
         ≡ words_before image.now threads ++ replicate (8 + 7 * threads) 0) }
 {
     // Says that there are few sleds.
     image.sled_count();
     let mut words = initial_words(alloc, image, threads)?;
-    words.resize(code_words + LINE * (threads as usize + 1), 0)?;
+    words.resize(code_len + LINE * (threads as usize + 1), 0)?;
     Ok(words)
 }

@@ -2,6 +2,7 @@
 
 ghost use Rattle.std.specs.Prelude.{◌≡◌, ◌<◌, ◌≤◌, ◌↔◌, ℕ, [], slice_index, true, IsTrue};
 ghost use Rattle.patch_script.specs.declared.micro.Micro.TheVariants.{Await};
+ghost use Rattle.patch_script.specs.Plans.{IsWithin};
 ghost use Rattle.sled_rule.specs.declared.views.View.TheVariants.{Patch};
 ghost use Rattle.sled_rule.specs.Plans.{micro_in, start_in, total_in, IsAwaitAt, IsStoreAt};
 ghost use Rattle.sled_rule.specs.Seats.{patch_view, work_view, note_view, tally_view, script_of, IsPatcherOf, IsWorkerOf, IsNoteOf, IsTallyOf, IsLooked};
@@ -20,6 +21,7 @@ impl CodeTable {
     pub fn next_micro(&self, seat: &PatchSeat) -> Micro
         requires own { IsPatcherOf self.now seat.now }
         ensures micro { micro_in (script_of self.now) (patch_view seat.now).place ≡ result }
+        ensures within { IsWithin (script_of self.now) result }
         ensures end { (result ≡ Micro.End) ↔ ((patch_view seat.now).place ≡ total_in (script_of self.now)) }
     {
         self.script.micro(seat.place)
@@ -41,9 +43,7 @@ impl CodeTable {
         ensures view { patch_view seat.new ≡ advanced (patch_view seat.old) }
     {
         stores_give_the_code();
-        // Says that there are few micro steps.
-        self.script.total();
-        match self.script.micro(seat.place) {
+        match self.next_micro(seat) {
             Micro::Store { word, value } => {
                 self.table
                     .shared
@@ -58,7 +58,7 @@ impl CodeTable {
     /// it has. It loads the thread's progress word once.
     pub fn look(&self, seat: &mut PatchSeat) -> bool
         requires own { IsPatcherOf self.now seat.old }
-        requires await { IsAwaitAt (script_of self.now) (patch_view seat.old).place }
+        requires waits { IsAwaitAt (script_of self.now) (patch_view seat.old).place }
         ensures own { IsPatcherOf self.now seat.new }
         ensures looked { IsLooked (patch_view seat.old) result (patch_view seat.new) }
         // An await whose count is known to be reached is passed.
@@ -66,16 +66,15 @@ impl CodeTable {
             → micro_in (script_of self.now) (patch_view seat.old).place ≡ Await thread count
             → count ≤ slice_index (patch_view seat.old).known thread → result ≡ true }
     {
-        // Says that there are few micro steps.
-        self.script.total();
-        match self.script.micro(seat.place) {
+        match self.next_micro(seat) {
             Micro::Await { thread, count } => {
                 let value = self.load_progress(&mut seat.seat, thread, count);
-                let reached = value >= u64::from(count);
-                if reached {
+                if value < u64::from(count) {
+                    false
+                } else {
                     seat.place += 1;
+                    true
                 }
-                reached
             }
             Micro::Store { .. } | Micro::End => unreachable!(),
         }
@@ -84,18 +83,18 @@ impl CodeTable {
     /// Loads the progress word of a thread that the micro step at the place awaits.
     fn load_progress(&self, seat: &mut Seat<(), View>, thread: u32, count: u32) -> u64
         requires table { seat.old.table_id ≡ self.now.table.shared.table_id }
-        requires script { (patch_of seat.old.me.0).script ≡ self.now.script }
+        requires script { (patch_of seat.old.me.0).script ≡ script_of self.now }
         requires is { seat.old.me.0 ≡ Patch (patch_of seat.old.me.0) }
         requires bare { seat.old.me.1 ≡ [] }
-        requires thread { thread ≤ self.now.script.threads }
-        requires step { micro_in self.now.script (patch_of seat.old.me.0).place ≡ Await thread count }
+        requires thread { thread ≤ (script_of self.now).threads }
+        requires step { micro_in (script_of self.now) (patch_of seat.old.me.0).place ≡ Await thread count }
         ensures table { seat.new.table_id ≡ seat.old.table_id }
         ensures grows { slice_index (patch_of seat.old.me.0).known thread ≤ result }
         ensures view { seat.new.me.0 ≡ Patch (looked_at (patch_of seat.old.me.0) thread count result) }
         ensures bare { seat.new.me.1 ≡ [] }
     {
         stores_give_the_code();
-        let word = self.code_words + LINE * thread as usize;
+        let word = self.code_len + LINE * thread as usize;
         self.table.shared.load::<Look>(seat, word)
     }
 

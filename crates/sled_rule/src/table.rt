@@ -1,7 +1,7 @@
 //! The table, how it begins, and how it ends.
 
 ghost use Rattle.std.specs.Prelude.{◌≡◌, ◌+◌, ◌*◌, ◌<◌, ◌≤◌};
-ghost use Rattle.sled_rule.specs.Plans.{code_words};
+ghost use Rattle.sled_rule.specs.Plans.{code_words, total_in};
 ghost use Rattle.sled_rule.specs.Rule.{slot_count};
 
 use crate::law::CodeRule;
@@ -22,13 +22,14 @@ pub struct CodeTable {
     pub(crate) script: Script,
     pub(crate) threads: u32,
     /// How many words there are before the progress words.
-    pub(crate) code_words: usize,
+    pub(crate) code_len: usize,
     pub(crate) table: Table<(), View, Script, CodeRule, Global>,
     ghost key: { table.shared.key ≡ script },
     ghost all_threads: { threads ≡ script.threads },
     ghost few_threads: { threads ≤ 16 },
-    ghost counted: { code_words ≡ code_words script },
-    ghost few_words: { code_words ≤ 16402 },
+    ghost counted: { code_len ≡ code_words script },
+    ghost few_words: { code_len ≤ 16402 },
+    ghost few_steps: { total_in script ≤ 16777216 },
     ghost no_slots: { table.shared.table_id.slots ≡ 0 },
     ghost sized: { table.shared.table_id.words ≡ slot_count script },
 }

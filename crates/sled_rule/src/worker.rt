@@ -17,7 +17,7 @@ impl CodeTable {
     pub fn code_word_count(&self) -> u32
         ensures { result ≡ code_words (script_of self.now) }
     {
-        self.code_words as u32
+        self.code_len as u32
     }
 
     /// Loads a word: its value at a place of the script that isn't before what the seat has seen, which becomes that place.
@@ -64,7 +64,7 @@ impl CodeTable {
         ensures own { IsWorkerOf self.now seat.new }
         ensures view { work_view seat.new ≡ counting (work_view seat.old) count }
     {
-        let word = self.code_words + LINE * seat.thread as usize;
+        let word = self.code_len + LINE * seat.thread as usize;
         self.table
             .shared
             .store::<Count>(&mut seat.seat, word, count);

@@ -23,3 +23,5 @@ pub mod StockRuns
 pub mod Beginnings
 pub mod Simulated
 pub mod Waiting
+pub mod OneRun
+pub mod SomeRun

@@ -4,9 +4,10 @@ use Rattle.std.specs.Prelude.{slice_get}
 use Rattle.xray_image.specs.Program.{IsAccepted, Program}
 use Rattle.patch_script.specs.declared.command.Command.{Command}
 use Rattle.handler_word.specs.declared.mark.Mark.{Mark}
+use Rattle.machine_step.specs.declared.end.End.{End}
 use Rattle.machine_step.specs.declared.limits.Limits.{Limits}
 use Rattle.machine_step.specs.declared.setup.Setup.{Setup}
-use Rattle.machine_step.specs.PlainStep.{Passing, PlainRun}
+use Rattle.machine_step.specs.PlainStep.{Passing, PlainRun, State}
 use Rattle.machine_step.specs.Traced.{sleds_of}
 use Rattle.traced_run.specs.Runs.{IsRun, ThreadRun}
 use Rattle.step_sim.specs.declared.turns.Turns.{Turns}
@@ -52,9 +53,18 @@ passed_same one bytes program limits k (run ∷ runs) (other ∷ others) accepte
     (passed_same one bytes program limits (k + 1) runs others accepted (omega (arith, same))
     (rest_plain program limits k run runs plain) (rest_plain program limits k other others plain'))
 
+-- a run of these parts
+abbrev made_of : List Passing → End → State → List Mark → ℕ → ThreadRun
+made_of passed end last marks lost = record { passed = passed; end = end; last = last; marks = marks; lost = lost }
+
 same_run : (run other : ThreadRun) → run.passed ≡ other.passed → run.end ≡ other.end → run.last ≡ other.last → run.marks ≡ other.marks
     → run.lost ≡ other.lost → run ≡ other
-same_run run other a b c d e = cc
+same_run run other a b c d e =
+    ap (λ (x : List Passing). made_of x run.end run.last run.marks run.lost) a
+    ∙ ap (λ (x : End). made_of other.passed x run.last run.marks run.lost) b
+    ∙ ap (λ (x : State). made_of other.passed other.end x run.marks run.lost) c
+    ∙ ap (λ (x : List Mark). made_of other.passed other.end other.last x run.lost) d
+    ∙ ap (λ (x : ℕ). made_of other.passed other.end other.last other.marks x) e
 
 runs_same : OneEnd → (bytes : List ℕ) (program : Program) (limits : Limits) (k : ℕ) (runs others : List ThreadRun) → IsAccepted bytes program
     → length runs ≡ length others → ArePlain program limits k runs → ArePlain program limits k others

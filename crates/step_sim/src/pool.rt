@@ -97,12 +97,7 @@ impl Pool {
     }
 
     /// What the buffers leave. `kept` and `segments` have to be empty, with room for all.
-    pub(crate) fn collect(
-        self,
-        threads: u32,
-        mut kept: Vec<Buffer>,
-        mut segments: Vec<u32>,
-    ) -> Left
+    pub(crate) fn collect(self, threads: u32, mut kept: Vec<Buffer>, mut segments: Vec<u32>) -> Left
         requires empty { kept.items ≡ [] }
         requires room { length self.queue + vec_len self.hands ≤ vec_capacity kept }
         requires uncounted { segments.items ≡ [] }

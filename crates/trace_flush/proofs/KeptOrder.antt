@@ -1,5 +1,5 @@
 -- The buffers of a run stand in the order of a flush, and hold events.
-use Rattle.std.proofs.Common.{◌≡◌, ◌≢◌, ◌<◌, ◌≤◌, ℕ, zero, suc, ◌+◌, List, [], ◌∷◌, ◌++◌, true, inl, inr, refl, sym, subst, ap, ◌∙◌, arith, length, drop, map, lt-ltb}
+use Rattle.std.proofs.Common.{◌≡◌, ◌≢◌, ◌<◌, ◌≤◌, ℕ, zero, suc, ◌+◌, List, [], ◌∷◌, ◌++◌, inl, inr, refl, sym, subst, ap, ◌∙◌, arith, length, drop, map, lt-ltb}
 use Rattle.std.specs.Prelude.{All, AllPairs, filter}
 use Rattle.std.specs.List.{AllByRecursion, enumerate_from, flat_map}
 use Rattle.std.proofs.lemmas.List.Concat.{flat_map-cons}
@@ -23,7 +23,7 @@ Ordered [] = Unit {0}
 Ordered (x ∷ xs) = AllByRecursion (IsBefore x) xs × Ordered xs
 
 to_pairs : (xs : List Filled) → Ordered xs → AllPairs IsBefore xs
-to_pairs [] is i j d ahead within = absurd (omega (arith, within))
+to_pairs [] is = λ i j d ahead within. absurd (omega (arith, within))
 to_pairs (x ∷ xs) (here, rest) = AllPairs-cons IsBefore x xs (All-from_recursion (IsBefore x) xs here) (to_pairs xs rest)
 
 joined_all : (x : Filled) (xs ys : List Filled) → AllByRecursion (IsBefore x) xs → AllByRecursion (IsBefore x) ys → AllByRecursion (IsBefore x) (xs ++ ys)

@@ -1,11 +1,11 @@
 -- The trace of a run.
-use Rattle.std.proofs.Common.{◌≡◌, ◌≢◌, ℕ, zero, suc, ◌+◌, ◌-◌, ◌<◌, ◌≤◌, List, [], ◌∷◌, ◌++◌, true, false, Option, Some, refl, sym, subst, ap, ◌∙◌, arith, length, drop, map, append_assoc}
-use Rattle.std.specs.Prelude.{All, ◌==◌, filter, slice_get}
+use Rattle.std.proofs.Common.{◌≡◌, ◌≢◌, ℕ, zero, suc, ◌+◌, ◌<◌, List, [], ◌∷◌, ◌++◌, true, Option, Some, inl, inr, refl, sym, subst, ap, ◌∙◌, arith, drop, map}
+use Rattle.std.specs.Prelude.{All, filter, slice_get}
 use Rattle.std.specs.List.{enumerate_from, flat_map}
 use Rattle.std.proofs.lemmas.Bool.Decides.{eqb_tells}
 use Rattle.std.proofs.lemmas.List.{append-nil, map-append}
 use Rattle.std.proofs.lemmas.List.Concat.{flat_map-cons}
-use Rattle.std.proofs.lemmas.List.Elements.{All-append, All-from_recursion, filter-append, recursion_from_All}
+use Rattle.std.proofs.lemmas.List.Elements.{All-append, All-from_recursion, filter-append}
 use Rattle.xray_image.specs.Program.{IsAccepted, Program}
 use Rattle.fdr_record.specs.declared.event.Event.{Event}
 use Rattle.fdr_buffer.specs.Filled.{Filled}
@@ -16,7 +16,7 @@ use Rattle.fdr_file.specs.Files.{BlockFits, HeaderFits, block_told, file_bytes, 
 use Rattle.fdr_file.specs.Grammar.{IsTrace}
 use Rattle.machine_step.specs.declared.setup.Setup.{Setup}
 use Rattle.traced_run.specs.Fits.{SetupFits}
-use Rattle.traced_run.specs.Kept.{buffer_of, buffers_behind, kept_buffers, kept_of, segments_of, stamp_of, thread_buffers}
+use Rattle.traced_run.specs.Kept.{buffer_of, kept_buffers, kept_of, segments_of, stamp_of, thread_buffers}
 use Rattle.traced_run.specs.Losses.{recycled_of}
 use Rattle.traced_run.specs.Runs.{IsRun, ThreadRun, events_of}
 use Rattle.trace_flush.specs.Flush.{IsTraceOf, block_of, header_of, is_of, thread_blocks, trace_bytes}

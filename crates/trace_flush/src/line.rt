@@ -41,9 +41,10 @@ pub fn add_audit_lines(cpus: &[Cpu], segments: &[u32], first: &[u32], lines: &mu
     ensures capacity { vec_capacity lines.new ≡ vec_capacity lines.old }
 {
     for i in 0..cpus.len() {
+        let cpu = &cpus[i];
         lines.push_reserved(AuditLine {
-            thread: cpus[i].thread(),
-            end: end(&cpus[i]),
+            thread: cpu.thread(),
+            end: end(cpu),
             segments: segments[i],
             first: first[i],
         });
