@@ -1,5 +1,1 @@
-pub mod Ending
-pub mod Framing
 pub mod Opening
-pub mod Paths
-pub mod Totals
