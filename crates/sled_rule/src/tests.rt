@@ -32,7 +32,7 @@ const OUTPUTS_AN_A: [u8; 170] = [
 ];
 
 /// The patcher at the start of a script for one thread.
-fn begin(rt: &HostRuntime, text: &[u8]) -> Result<(CodeTable, PatchSeat), Fail>
+fn begin<R: Abort + AllocGlobal>(rt: &R, text: &[u8]) -> Result<(CodeTable, PatchSeat), Fail>
     ensures own { IfOk result (λ t. IsPatcherOf t.0 t.1) }
     ensures first { IfOk result (λ t. patch_view t.1 ≡ first_patch (script_of t.0)) }
     ensures one { IfOk result (λ t. (script_of t.0).threads ≡ 1) }

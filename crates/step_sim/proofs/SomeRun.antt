@@ -131,20 +131,23 @@ length-numbers_from first (suc n) = ap suc (length-numbers_from (first + 1) n)
 
 pub some_run_of : SomeEnd → SomeMarks → (bytes : List ℕ) (program : Program) (script : List Command) (schedule : List Turns) (setup : Setup)
     → IsAccepted bytes program → ((thread : ℕ) → hold_of thread script ≡ None) → (runs : List ThreadRun) × IsReplayOf program script schedule setup runs
-some_run_of ends some bytes program script schedule setup accepted free = (made.all, record {
-  run = record {
-    count = made.count ∙ base.count;
-    plain = λ i run e.
-        let flipped : 1 + i ≡ i + 1 = omega arith in
-        subst (λ (t : ℕ). PlainRun program setup.limits t run.passed run.end run.last) flipped (made.plain i run e);
-  };
-  last = last;
-  replay = subst (λ (ps : List (List Passing)). PooledReplay (cast_of program script (map sleds_of ps))
-      (pooling_of (cast_of program script (map sleds_of ps)) ps setup.size (spare_of setup)) schedule last) (sym made.passed) there.1;
-  marks = made.marks_are
-      ∙ ap (λ (ps : List (List Passing)). marks_at (cast_of program script (map sleds_of ps)) last.moment) (sym made.passed);
-  lost = made.lost_are;
-})
+some_run_of ends some bytes program script schedule setup accepted free = (
+  made.all,
+  record {
+    run = record {
+      count = made.count ∙ base.count;
+      plain = λ i run e.
+          let flipped : 1 + i ≡ i + 1 = omega arith in
+          subst (λ (t : ℕ). PlainRun program setup.limits t run.passed run.end run.last) flipped (made.plain i run e);
+    };
+    last = last;
+    replay = subst (λ (ps : List (List Passing)). PooledReplay (cast_of program script (map sleds_of ps))
+        (pooling_of (cast_of program script (map sleds_of ps)) ps setup.size (spare_of setup)) schedule last) (sym made.passed) there.1;
+    marks = made.marks_are
+        ∙ ap (λ (ps : List (List Passing)). marks_at (cast_of program script (map sleds_of ps)) last.moment) (sym made.passed);
+    lost = made.lost_are;
+  },
+)
   where
     base : Bases program setup.limits 1 setup.threads
     base = bases ends bytes program setup.limits 1 setup.threads accepted

@@ -63,8 +63,8 @@ few_entries bytes parts e = by_length (nat_lt (length bytes) (64 + code_length b
 
     by_length : (short : Bool)
         → (if short then None
-           else option_and_then (λ functions. option_map (parts_with bytes functions.0) (several map_entry_at (entry_count bytes) functions.1))
-           (several function_at (function_count bytes) (drop (64 + code_length bytes) bytes)))
+        else option_and_then (λ functions. option_map (parts_with bytes functions.0) (several map_entry_at (entry_count bytes) functions.1))
+        (several function_at (function_count bytes) (drop (64 + code_length bytes) bytes)))
         ≡ Some parts → length parts.entries ≡ entry_count bytes
     by_length true e = absurd cc
     by_length false e = by_functions (several function_at (function_count bytes) (drop (64 + code_length bytes) bytes)) e
