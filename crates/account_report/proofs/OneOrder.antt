@@ -1,5 +1,5 @@
 -- Lists in strict order: there is one with given items.
-use Rattle.std.proofs.Common.{◌≡◌, ◌⊎◌, ◌+◌, ◌<◌, ◌≤◌, ◌∙◌, ℕ, zero, suc, Bool, true, false, cond, List, [], ◌∷◌, length, map, refl, ap, sym, subst, arith, nat_eq, get_or, inl, inr}
+use Rattle.std.proofs.Common.{◌≡◌, ◌⊎◌, ◌+◌, ◌<◌, ◌∙◌, ℕ, zero, suc, Bool, true, false, cond, List, [], ◌∷◌, length, map, refl, ap, sym, subst, arith, nat_eq, get_or, inl, inr}
 use Rattle.std.specs.Prelude.{Contains, IsPermutation}
 use Rattle.std.specs.Cmp.{IsStrictWeakOrder}
 use Rattle.std.specs.List.{IsDistinct, AllByRecursion}
@@ -54,6 +54,7 @@ same_strict {X} before laws (x ∷ xs) (y ∷ ys) up also to from =
     by_places (inl is) there = is
     by_places (inr after) (inl is) = sym is
     by_places (inr after) (inr there) = absurd (never_both before laws x y (up.0 y there) (also.0 x after))
+
     rest_of : (a : X) (later : List X) (b : X) (others : List X) → ((w : X) → IsIn w later → before a w ≡ true) → a ≡ b → (z : X) → IsIn z later → IsIn z (b ∷ others) → IsIn z others
     rest_of a later b others strict same z is (inr after) = after
     rest_of a later b others strict same z is (inl here) =
@@ -151,9 +152,11 @@ strict-put_in {X} number before laws decides x (y ∷ ys) apart strict =
     first_of_all : before x y ≡ true → (z : X) → IsIn z (y ∷ ys) → before x z ≡ true
     first_of_all is z (inl here) = subst (λ (w : X). before x w ≡ true) (sym here) is
     first_of_all is z (inr there) = precedes_all before laws x y z is (strict.0 z there)
+
     still_first : before y x ≡ true → (z : X) → (z ≡ x) ⊎ IsIn z ys → before y z ≡ true
     still_first is z (inl own) = subst (λ (w : X). before y w ≡ true) (sym own) is
     still_first is z (inr there) = strict.0 z there
+
     by_first : (b : Bool) → before x y ≡ b → Strict before (put_in before x ys) → Strict before (cond b (x ∷ y ∷ ys) (y ∷ put_in before x ys))
     by_first true is later = (first_of_all is, strict)
     by_first false is later = (λ z there. still_first (decides x y (apart y (inl refl)) is) z (in-put_in before x ys z there), later)
@@ -163,8 +166,8 @@ strict-ordered_by : {X : Type 0} (number : X → ℕ) (before : X → X → Bool
 strict-ordered_by number before laws decides [] distinct = tt
 strict-ordered_by number before laws decides (x ∷ xs) distinct =
     strict-put_in number before laws decides x (ordered_by before xs)
-        (λ y is. apart_from_distinct number x xs (IsDistinct-head nat_eq (number x) (map number xs) distinct) y (in-ordered_by before xs y is))
-        (strict-ordered_by number before laws decides xs (IsDistinct-tail nat_eq (number x) (map number xs) distinct))
+    (λ y is. apart_from_distinct number x xs (IsDistinct-head nat_eq (number x) (map number xs) distinct) y (in-ordered_by before xs y is))
+    (strict-ordered_by number before laws decides xs (IsDistinct-tail nat_eq (number x) (map number xs) distinct))
 
 -- what a sort leaves of items with different numbers is the items put in order
 pub one_order : {X : Type 0} (number : X → ℕ) (before : X → X → Bool) → IsStrictWeakOrder before → Decides number before → (xs sorted : List X)
@@ -172,6 +175,6 @@ pub one_order : {X : Type 0} (number : X → ℕ) (before : X → X → Bool) �
 one_order number before laws decides xs sorted distinct same up =
     let also = IsDistinct-IsPermutation nat_eq flipped (map number xs) (map number sorted) (IsPermutation-map number xs sorted same) distinct in
     same_strict before laws sorted (ordered_by before xs) (strict_from_sorted number before laws decides sorted also up)
-        (strict-ordered_by number before laws decides xs distinct)
-        (λ z is. ordered_by-in before xs z (in_permutation sorted xs (IsPermutation-sym xs sorted same) z is))
-        (λ z is. in_permutation xs sorted same z (in-ordered_by before xs z is))
+    (strict-ordered_by number before laws decides xs distinct)
+    (λ z is. ordered_by-in before xs z (in_permutation sorted xs (IsPermutation-sym xs sorted same) z is))
+    (λ z is. in_permutation xs sorted same z (in-ordered_by before xs z is))

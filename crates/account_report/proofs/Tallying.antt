@@ -1,12 +1,12 @@
 -- What one more event changes of what a history tells of a function.
-use Rattle.std.proofs.Common.{◌≡◌, ◌+◌, ◌++◌, ◌∙◌, ℕ, Bool, true, false, cond, ◌&&◌, ◌||◌, List, [], ◌∷◌, length, map, reverse, take, count_by, refl, ap, sym, subst, arith, nat_eq, ◌<◌, get_or, Option, is_some}
+use Rattle.std.proofs.Common.{◌≡◌, ◌+◌, ◌++◌, ◌∙◌, ℕ, Bool, true, false, cond, ◌&&◌, ◌||◌, List, [], ◌∷◌, length, map, reverse, take, refl, ap, sym, subst, arith, nat_eq, ◌<◌, get_or, Option, is_some}
 use Rattle.std.specs.Prelude.{filter}
 use Rattle.std.specs.HashMap.{get}
 use Rattle.std.specs.Option.{option_to_list}
-use Rattle.std.proofs.lemmas.List.{append-nil, append_assoc, map-append, reverse-append, take_more}
+use Rattle.std.proofs.lemmas.List.{append-nil, map-append, reverse-append, take_more}
 use Rattle.std.proofs.lemmas.List.Elements.{filter-append}
 use Rattle.std.proofs.lemmas.List.Sums.{sum_by-cons}
-use Rattle.std.proofs.lemmas.Bool.{eq-eqb, eqb-true}
+use Rattle.std.proofs.lemmas.Bool.{eq-eqb}
 use Rattle.fdr_record.specs.declared.event.Event.{Event}
 use Rattle.fdr_record.specs.declared.event.Kind.{Kind}
 use Rattle.fdr_record.specs.declared.event.Kind.TheVariants.{Entry, Exit, TailExit}
@@ -15,7 +15,7 @@ use Rattle.stack_rebuild.specs.declared.call.Pair.{Pair}
 use Rattle.stack_rebuild.specs.Calls.{Standing, from_innermost, open_calls, pair_at, pair_at_kind, pair_of_call, standing_after, next_standing}
 use Rattle.stack_rebuild.specs.Histories.{Logged, logged, of_thread, all_pairs}
 use Rattle.account_report.specs.Account.{durations_of, enters, leaves, is_entry_of, is_exit_of}
-use Rattle.account_report.specs.Tallies.{AreTallies, Reached, Table, Tallied, durations_in, going_on, has_event, tally_in, tally_of, with_event}
+use Rattle.account_report.specs.Tallies.{Reached, Table, Tallied, durations_in, going_on, tally_in, tally_of, with_event}
 
 -- the pair that an event makes after a history
 abbrev pub pair_after : Logged → List Logged → Option Pair

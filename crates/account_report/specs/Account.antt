@@ -1,6 +1,5 @@
 -- The account of a trace: what its functions took.
-use Rattle.std.specs.Prelude.{◌+◌, ◌-◌, ◌*◌, ◌/◌, ◌==◌, ◌&&◌, Bool, true, false, ℕ, List, [], ◌∷◌, length, map, filter, sum, count_by, slice_index}
-use Rattle.fdr_record.specs.declared.event.Event.{Event}
+use Rattle.std.specs.Prelude.{◌-◌, ◌*◌, ◌/◌, ◌==◌, ◌&&◌, Bool, true, false, ℕ, List, length, map, filter, sum, count_by, slice_index}
 use Rattle.fdr_record.specs.declared.event.Kind.{Kind}
 use Rattle.fdr_record.specs.declared.event.Kind.TheVariants.{Entry, Exit, TailExit}
 use Rattle.fdr_file.specs.declared.trace.Trace.{Trace}

@@ -1,5 +1,5 @@
 -- What is kept of each function while the events go by, for the contracts of private functions.
-use Rattle.std.specs.Prelude.{◌≡◌, ◌+◌, ◌==◌, ◌||◌, Bool, true, false, ℕ, suc, List, [], ◌∷◌, ◌++◌, map, reverse, count_by, nat_eq, unwrap_or, is_some, Option, Some, None, if◌then◌else◌}
+use Rattle.std.specs.Prelude.{◌≡◌, ◌+◌, ◌==◌, Bool, ℕ, List, [], ◌++◌, map, reverse, count_by, nat_eq, unwrap_or, is_some, Option}
 use Rattle.std.specs.List.{list_any}
 use Rattle.std.specs.Option.{option_to_list}
 use Rattle.std.specs.HashMap.{get, HashMap}
