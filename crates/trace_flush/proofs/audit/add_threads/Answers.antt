@@ -3,10 +3,13 @@ use Rattle.std.specs.List.{flat_map}
 use Rattle.std.specs.Slice.Iter.{iter_rest}
 use Rattle.std.specs.Iterator.Adapters.{zip_first, zip_second}
 use Rattle.std.proofs.lemmas.Slice.Zip.{zip_turn, zip_end}
-use Rattle.xray_io.specs.Text.{AddsText, adds_more, adds_within, adds_failed}
+use Rattle.xray_io.specs.Text.{AddsText, adds_nothing, adds_more, adds_within, adds_failed}
 use Rattle.trace_flush.specs.Audit.{accounts, thread_lines}
 use Rattle.trace_flush.proofs.AuditText.{accounts_more, accounts_split, accounts_all}
 use Rattle.trace_flush.proofs.audit.add_threads.Goals as goal
+
+pub threads-init : goal.threads-init
+threads-init g c = adds_nothing g.met.S.Sink.along_none c.args.text.now
 
 pub threads-preserved : goal.threads-preserved
 threads-preserved g c =
