@@ -23,6 +23,7 @@ mod name_table;
 mod names;
 mod numbers;
 mod operands;
+mod refusal;
 mod registers;
 mod statement;
 mod targets;

@@ -14,3 +14,4 @@ pub mod Standing
 pub mod Placing
 pub mod Scripts
 pub mod Drafts
+pub mod FaultWords

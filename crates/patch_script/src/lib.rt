@@ -14,6 +14,7 @@ mod line;
 mod micro;
 mod placed;
 mod reading;
+mod refusal;
 mod script;
 mod sleds;
 mod standing;

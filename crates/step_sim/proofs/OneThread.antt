@@ -96,7 +96,9 @@ word_wanted cast m p old mid word at same keeps wants =
 
 pub none_wanted : (cast : Cast) (m : Moment) (p : Patcher) (old mid : Traced) → StandAt cast m p old → IsSameThread old mid
     → KeepsLoads old mid → Rests mid → wanted_by cast old.thread m ≡ None
-none_wanted cast m p old mid at same keeps (end, wants, ends) =
+none_wanted cast m p old mid at same keeps rests =
+    let end = rests.end in
+    let wants = rests.wants in
     let loaded = keeps at.thread.passed _ at.thread.loaded in
     let next : (wanted_behind mid at.thread.passed (of_thread m.loads old.thread) ≡ None) × (end ≡ loaded.end) =
     subst (IsWant mid at.thread.passed (wanted_behind mid at.thread.passed (of_thread m.loads old.thread)) loaded.end) wants loaded.wants in

@@ -13,6 +13,7 @@ mod ids;
 mod image;
 mod laws;
 mod parts;
+mod refusal;
 mod running_sums;
 mod sled;
 mod sled_map;

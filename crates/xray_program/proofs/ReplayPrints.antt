@@ -1,6 +1,7 @@
 -- The threads that a replay leaves are printed as `sim` prints.
 use Rattle.std.specs.Prelude.{MatchOption}
-use Rattle.std.proofs.Common.{◌≡◌, ◌+◌, ◌-◌, ◌++◌, ◌∙◌, ℕ, zero, suc, List, [], ◌∷◌, length, map, Option, Some, None, inl, refl, sym, ap, arith, subst}
+use Rattle.std.proofs.lemmas.Option.{slice_get_within}
+use Rattle.std.proofs.Common.{◌≡◌, ◌<◌, ◌+◌, ◌-◌, ◌++◌, ◌∙◌, ℕ, zero, suc, List, [], ◌∷◌, length, map, Option, Some, None, inl, refl, sym, ap, arith, subst}
 use Rattle.std.specs.Prelude.{unwrap_or}
 use Rattle.std.specs.List.{All, flat_map, slice_get}
 use Rattle.std.proofs.lemmas.List.{length-map}
@@ -16,14 +17,119 @@ use Rattle.machine_step.specs.PlainStep.{PlainRun}
 use Rattle.machine_step.specs.Texts.{state_text}
 use Rattle.machine_step.specs.Traced.{IsDone, Traced, sleds_of}
 use Rattle.step_sim.specs.declared.turns.Turns.{Turns}
-use Rattle.step_sim.specs.Replay.{Replay}
-use Rattle.step_sim.specs.Replayed.{HasRun, IsReplayed, cast_of}
+use Rattle.step_sim.specs.Replay.{Cast, Replay, marks_at, of_thread}
+use Rattle.step_sim.specs.Replayed.{IsSimulated, cast_of, cast_with, passed_of, pooling_with}
+use Rattle.step_sim.specs.Pool.{Pooled, PooledReplay, Pooling}
+use Rattle.fdr_buffer.specs.Filled.{Filled}
+use Rattle.machine_step.specs.declared.end.End.{End}
+use Rattle.machine_step.specs.declared.setup.Setup.{Setup}
+use Rattle.machine_step.specs.declared.want.Want.TheVariants.{Done}
+use Rattle.machine_step.specs.PlainStep.{Passing, State}
+use Rattle.traced_run.specs.Left.{Leaves}
+use Rattle.traced_run.specs.Runs.{ThreadRun as Run}
 use Rattle.xray_program.specs.declared.run_options.RunOptions.{RunOptions}
 use Rattle.xray_program.specs.Jobs.{thread_text}
 use Rattle.xray_program.specs.Judged.{IsAnswerOrMemory}
 use Rattle.xray_program.specs.Meaning.{Outcome, Prints, ComesOfReplay, status_of}
 use Rattle.xray_program.specs.Setups.{limits_of}
 use Rattle.xray_program.specs.States.{SimPrints, ThreadRun, state_texts}
+
+-- ---- what a replay leaves
+
+-- the thread has ended as its plain run ends, which passes these sleds
+record HasRun (program : Program) (limits : Limits) (number : ℕ) (sleds : List ℕ) (t : Traced) : Type 0 where
+  passed : List Passing
+  end : End
+  last : State
+  run : PlainRun program limits number passed end last
+  sleds_are : sleds ≡ sleds_of passed
+  thread : t.thread ≡ number
+  done : t.want ≡ Done end
+  registers : t.registers ≡ last.registers
+  zero_flag : t.zero_flag ≡ last.zero_flag
+  output : t.output ≡ last.output
+  instructions : t.instructions ≡ last.instructions
+  passings : length t.marks ≡ last.passings
+
+-- the threads of a replay: each has run as its plain run does, and their marks are those that the schedule leaves
+pub record IsReplayed (program : Program) (script : List Command) (schedule : List Turns) (threads : ℕ) (limits : Limits) (ts : List Traced) : Type 0 where
+  pub count : length ts ≡ threads
+  pub passings : List (List ℕ)
+  plain : (i : ℕ) (t : Traced) → slice_get ts i ≡ Some t → HasRun program limits (i + 1) (of_thread passings (i + 1)) t
+  pub marks : Replay (cast_of program script passings) schedule (map (λ t. t.marks) ts)
+
+-- the law that a replay with buffers is one without them
+abbrev pub IsOneReplay : Type 0
+IsOneReplay =
+    (cast : Cast) (pooling : Pooling) (schedule : List Turns) (last : Pooled) → PooledReplay cast pooling schedule last
+    → Replay cast schedule (marks_at cast last.moment)
+
+item_at : (runs : List Run) (i : ℕ) → i < length runs → (run : Run) × (slice_get runs i ≡ Some run)
+item_at [] i within = absurd (omega (arith, within))
+item_at (run ∷ runs) zero within = (run, refl)
+item_at (run ∷ runs) (suc i) within = item_at runs i (omega (arith, within))
+
+sleds_there : (runs : List Run) (i : ℕ) (run : Run) → slice_get runs i ≡ Some run
+    → of_thread (map sleds_of (passed_of runs)) (i + 1) ≡ sleds_of run.passed
+sleds_there runs i run found =
+    let back : i + 1 - 1 ≡ i = omega arith in
+    let none : List ℕ = [] in
+    ap (λ (k : ℕ). unwrap_or (slice_get (map sleds_of (passed_of runs)) k) none) back ∙ at_place runs i found
+  where
+    some_run : (a b : Run) → ◌≡◌ {A = Option Run} (Some a) (Some b) → a ≡ b
+    some_run a b e = cc
+
+    at_place : (runs : List Run) (i : ℕ) → slice_get runs i ≡ Some run → unwrap_or (slice_get (map sleds_of (passed_of runs)) i) [] ≡ sleds_of run.passed
+    at_place [] zero e = absurd cc
+    at_place [] (suc i) e = absurd cc
+    at_place (first ∷ rest) zero e = ap (λ (r : Run). sleds_of r.passed) (some_run first run e)
+    at_place (first ∷ rest) (suc i) e = at_place rest i e
+
+marks_of_all : (runs : List Run) (ts : List Traced) → length ts ≡ length runs
+    → ((i : ℕ) (run : Run) (t : Traced) → slice_get runs i ≡ Some run → slice_get ts i ≡ Some t → t.marks ≡ run.marks)
+    → map (λ t. t.marks) ts ≡ map (λ run. run.marks) runs
+marks_of_all [] [] same each = refl
+marks_of_all [] (t ∷ ts) same each = absurd (omega (arith, same))
+marks_of_all (run ∷ runs) [] same each = absurd (omega (arith, same))
+marks_of_all (run ∷ runs) (t ∷ ts) same each =
+    ap (λ (ms : List Mark). ms ∷ map (λ (u : Traced). u.marks) ts) (each zero run t refl refl)
+    ∙ ap (λ (all : List (List Mark)). run.marks ∷ all) (marks_of_all runs ts (omega (arith, same)) (λ i. each (suc i)))
+
+pub simulated : IsOneReplay → (program : Program) (script : List Command) (schedule : List Turns) (setup : Setup) (ts : List Traced)
+    (sealed segments first : List ℕ) (buffers : List Filled) → IsSimulated program script schedule setup ts sealed segments first buffers
+    → IsReplayed program script schedule setup.threads setup.limits ts
+simulated law program script schedule setup ts sealed segments first buffers is = record {
+  count = left.count ∙ is.replay.run.count;
+  passings = map sleds_of (passed_of runs);
+  plain = λ i t found.
+      let item = item_at runs i (omega (arith, slice_get_within ts i t found, left.count)) in
+      let has = left.cpus_are i item.0 t item.1 found in
+      record {
+        passed = item.0.passed;
+        end = item.0.end;
+        last = item.0.last;
+        run = is.replay.run.plain i item.0 item.1;
+        sleds_are = sleds_there runs i item.0 item.1;
+        thread = has.thread;
+        done = has.done;
+        registers = has.registers;
+        zero_flag = has.zero_flag;
+        output = has.output;
+        instructions = has.instructions;
+        passings = has.passings;
+      };
+  marks = subst (Replay (cast_with program script runs) schedule) (sym (marks_of_all runs ts left.count
+      (λ i run t found there. (left.cpus_are i run t found there).marks) ∙ is.replay.marks))
+      (law (cast_with program script runs) (pooling_with program script setup runs) schedule is.replay.last is.replay.replay);
+}
+  where
+    runs : List Run
+    runs = is.runs
+
+    left : Leaves setup runs ts segments first buffers
+    left = is.leaves
+
+-- ---- what is printed of it
 
 -- the sleds at a place of a list of them
 abbrev sleds_at : List (List ℕ) → ℕ → List ℕ
@@ -98,7 +204,7 @@ replay_printed program script schedule options ts is =
     let have = runs_of program limits 1 is.passings ts counted
     (λ i t at. subst (λ (n : ℕ). HasRun program limits n (sleds_at is.passings i) t) (flipped i)
     (subst (λ (s : List ℕ). HasRun program limits (i + 1) s t) (ap (sleds_at is.passings) (back i)) (is.plain i t at)))
-    (λ i t at. let of = is.thread i t at in of.thread_is ∙ flipped i) in
+    (λ i t at. (is.plain i t at).thread ∙ flipped i) in
     record {
       runs = have.runs;
       threads = have.count ∙ is.count;

@@ -17,7 +17,7 @@ use crate::run_options::RunOptions;
 use crate::stop::Stop;
 use patch_script::Script;
 use std::alloc::Global;
-use step_sim::{Schedule, SimFault, simulate};
+use step_sim::{Schedule, SimFault, buffers_change_no_replay, simulate};
 use xray_image::Image;
 use xray_io::{Desk, Wall};
 
@@ -79,6 +79,7 @@ pub(crate) fn replay<'a, 't>(
         → ComesOfReplay script_name.now options image.now script.now schedule.now outcome
         → IsAnswerOrMemory outcome (answer_of result) }
 {
+    buffers_change_no_replay();
     match simulate(alloc, image, script, schedule, &options.setup(wall)) {
         Ok(end) => Ok(Job::States(end.cpus)),
         Err(SimFault::Waits(line)) => Err(Stop::Refused {

@@ -1,0 +1,6 @@
+pub mod Tallying
+pub mod Standing
+pub mod Rising
+pub mod Rows
+pub mod OneOrder
+pub mod RowOrder

@@ -1,0 +1,114 @@
+-- The rows of a table that tells what a history tells.
+use Rattle.std.proofs.Common.{◌≡◌, ◌∙◌, ℕ, Bool, true, false, cond, ◌||◌, List, [], ◌∷◌, map, refl, ap, sym, subst, arith, nat_eq, Option, Some, None, is_some}
+use Rattle.std.specs.Prelude.{IsPermutation, All}
+use Rattle.std.specs.Cmp.{nat_eq_equiv}
+use Rattle.std.specs.List.{IsDistinct}
+use Rattle.std.specs.List.Sorted.{IsNonDecreasingBy}
+use Rattle.std.specs.Map.{keys_of, lookup}
+use Rattle.std.proofs.lemmas.Bool.{eqb-true, eq-eqb}
+use Rattle.std.proofs.lemmas.Map.{lookup-none}
+use Rattle.std.proofs.lemmas.Map.Entries.{none_past_head}
+use Rattle.std.proofs.lemmas.Map.Keys.{IsDistinct-tail}
+use Rattle.std.proofs.lemmas.List.Elements.{All-cons, All-head, All-nil, All-tail}
+use Rattle.std.proofs.lemmas.List.Sorted.{All-permutation, IsPermutation-map, sum_by-IsPermutation}
+use Rattle.stack_rebuild.specs.Histories.{Logged}
+use Rattle.account_report.specs.declared.row.AccountRow.{AccountRow}
+use Rattle.account_report.specs.Account.{functions_in, row_of}
+use Rattle.account_report.specs.Tallies.{Tallied, has_event, row_of_entry, tally_of}
+use Rattle.account_report.proofs.Rising.{count, count-cons, count-each_once, rises-each_once, rises_from_sorted, same_rising}
+
+abbrev Entries : Type 0
+Entries = List (ℕ × Tallied)
+
+-- the row of an entry
+entry_told : (history : List Logged) (func : ℕ) (tally : Tallied) → tally ≡ tally_of history func → row_of_entry (func, tally) ≡ row_of history func
+entry_told history func tally told = ap (λ (t : Tallied). row_of_entry (func, t)) told
+
+found_here : (func : ℕ) (tally : Tallied) (es : Entries) → lookup (nat_eq func) ((func, tally) ∷ es) ≡ Some tally
+found_here func tally es = ap (λ b. cond b (Some tally) (lookup (nat_eq func) es)) (eq-eqb func func refl)
+
+-- what an entry behind the first one has is found there
+found_behind : (k : ℕ) (v : Tallied) (e : ℕ × Tallied) (es : Entries) → IsDistinct nat_eq (keys_of (e ∷ es)) → lookup (nat_eq k) es ≡ Some v
+    → lookup (nat_eq k) (e ∷ es) ≡ Some v
+found_behind k v e es distinct found = by_first (nat_eq k e.0) refl
+  where
+    by_first : (b : Bool) → nat_eq k e.0 ≡ b → cond b (Some e.1) (lookup (nat_eq k) es) ≡ Some v
+    by_first true is = let none : lookup (nat_eq k) es ≡ None = lookup-none (nat_eq k) es (none_past_head nat_eq_equiv k e es distinct is) in cc
+    by_first false is = found
+
+pub entries_told : (history : List Logged) (es : Entries) → IsDistinct nat_eq (keys_of es)
+    → ((k : ℕ) (v : Tallied) → lookup (nat_eq k) es ≡ Some v → v ≡ tally_of history k) → map row_of_entry es ≡ map (row_of history) (keys_of es)
+entries_told history [] distinct told = refl
+entries_told history ((func, tally) ∷ es) distinct told =
+    let first : row_of_entry (func, tally) ≡ row_of history func = entry_told history func tally (told func tally (found_here func tally es)) in
+    let behind : map row_of_entry es ≡ map (row_of history) (keys_of es) =
+    entries_told history es (IsDistinct-tail nat_eq func (keys_of es) distinct) (λ k v found. told k v (found_behind k v (func, tally) es distinct found)) in
+    ap (λ (row : AccountRow). row ∷ map row_of_entry es) first ∙ ap (λ (rows : List AccountRow). row_of history func ∷ rows) behind
+
+-- each function of a table is there once
+count-keys : (k : ℕ) (es : Entries) → IsDistinct nat_eq (keys_of es) → count k (keys_of es) ≡ cond (is_some (lookup (nat_eq k) es)) 1 0
+count-keys k [] distinct = refl
+count-keys k ((func, tally) ∷ es) distinct =
+    by_first (nat_eq k func) refl (count-keys k es (IsDistinct-tail nat_eq func (keys_of es) distinct)) ∙ refl
+  where
+    by_first : (b : Bool) → nat_eq k func ≡ b → count k (keys_of es) ≡ cond (is_some (lookup (nat_eq k) es)) 1 0
+        → count k (func ∷ keys_of es) ≡ cond (is_some (cond b (Some tally) (lookup (nat_eq k) es))) 1 0
+    by_first true is behind =
+        let none : lookup (nat_eq k) es ≡ None = lookup-none (nat_eq k) es (none_past_head nat_eq_equiv k (func, tally) es distinct is) in
+        omega (arith, count-cons k func (keys_of es), ap {B = ℕ} (λ b. cond b 1 0) is, behind, ap {B = ℕ} (λ (o : Option Tallied). cond (is_some o) 1 0) none)
+    by_first false is behind = omega (arith, count-cons k func (keys_of es), ap {B = ℕ} (λ b. cond b 1 0) is, behind)
+
+pub flipped : (a b : ℕ) → nat_eq a b ≡ nat_eq b a
+flipped a b = by_first (nat_eq a b) refl (nat_eq b a) refl
+  where
+    by_first : (p : Bool) → nat_eq a b ≡ p → (q : Bool) → nat_eq b a ≡ q → p ≡ q
+    by_first true is true also = refl
+    by_first false is false also = refl
+    by_first true is false also = let e : nat_eq b a ≡ true = eq-eqb b a (sym (eqb-true a b is)) in cc
+    by_first false is true also = let e : nat_eq a b ≡ true = eq-eqb a b (sym (eqb-true b a also)) in cc
+
+count-functions : (k : ℕ) (history : List Logged) → count k (functions_in history) ≡ cond (has_event history k) 1 0
+count-functions k [] = refl
+count-functions k (l ∷ history) =
+    count-each_once k l.event.func (map (λ x. x.event.func) history)
+    ∙ (ap (λ b. cond b 1 (count k (functions_in history))) (flipped k l.event.func) ∙ by_first (nat_eq l.event.func k) (count-functions k history))
+  where
+    by_first : (b : Bool) → count k (functions_in history) ≡ cond (has_event history k) 1 0
+        → cond b 1 (count k (functions_in history)) ≡ cond (b || has_event history k) 1 0
+    by_first true behind = refl
+    by_first false behind = behind
+
+-- rows of which each is that of its function are those of their functions
+rows_of_functions : (history : List Logged) (rows : List AccountRow) → All (λ (r : AccountRow). r ≡ row_of history r.func) rows
+    → rows ≡ map (row_of history) (map (λ (r : AccountRow). r.func) rows)
+rows_of_functions history [] all = refl
+rows_of_functions history (r ∷ rows) all =
+    ap (λ (x : AccountRow). x ∷ rows) (All-head (λ (x : AccountRow). x ≡ row_of history x.func) r rows all)
+    ∙ ap (λ (xs : List AccountRow). row_of history r.func ∷ xs) (rows_of_functions history rows (All-tail (λ (x : AccountRow). x ≡ row_of history x.func) r rows all))
+
+each_its_own : (history : List Logged) (funcs : List ℕ) → All (λ (r : AccountRow). r ≡ row_of history r.func) (map (row_of history) funcs)
+each_its_own history [] = All-nil (λ (r : AccountRow). r ≡ row_of history r.func)
+each_its_own history (f ∷ funcs) = All-cons (λ (r : AccountRow). r ≡ row_of history r.func) (row_of history f) (map (row_of history) funcs) refl (each_its_own history funcs)
+
+functions_again : (history : List Logged) (funcs : List ℕ) → map (λ (r : AccountRow). r.func) (map (row_of history) funcs) ≡ funcs
+functions_again history [] = refl
+functions_again history (f ∷ funcs) = ap (λ (fs : List ℕ). f ∷ fs) (functions_again history funcs)
+
+-- the rows of a table, sorted by their functions, are the account
+pub rows_sorted : (history : List Logged) (es : Entries) (rows : List AccountRow) → IsDistinct nat_eq (keys_of es)
+    → ((k : ℕ) (v : Tallied) → lookup (nat_eq k) es ≡ Some v → v ≡ tally_of history k)
+    → ((k : ℕ) → is_some (lookup (nat_eq k) es) ≡ has_event history k)
+    → IsPermutation (map row_of_entry es) rows → IsNonDecreasingBy (λ (r : AccountRow). r.func) rows
+    → rows ≡ map (row_of history) (functions_in history)
+rows_sorted history es rows distinct told present same up =
+    let func : AccountRow → ℕ = λ r. r.func in
+    let listed : IsPermutation (map (row_of history) (keys_of es)) rows =
+    subst (λ (rs : List AccountRow). IsPermutation rs rows) (entries_told history es distinct told) same in
+    let own = All-permutation (λ (r : AccountRow). r ≡ row_of history r.func) _ rows listed (each_its_own history (keys_of es)) in
+    let keys : IsPermutation (keys_of es) (map func rows) =
+    subst (λ (fs : List ℕ). IsPermutation fs (map func rows)) (functions_again history (keys_of es)) (IsPermutation-map func _ rows listed) in
+    let funcs : map func rows ≡ functions_in history =
+    same_rising (map func rows) (functions_in history) (rises_from_sorted func rows up) (rises-each_once (map (λ x. x.event.func) history))
+    (λ k. sum_by-IsPermutation (λ x. cond (nat_eq k x) 1 0) (keys_of es) (map func rows) keys
+    ∙ (count-keys k es distinct ∙ (ap {B = ℕ} (λ b. cond b 1 0) (present k) ∙ sym (count-functions k history)))) in
+    rows_of_functions history rows own ∙ ap (map (row_of history)) funcs

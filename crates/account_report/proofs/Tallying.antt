@@ -1,0 +1,123 @@
+-- What one more event changes of what a history tells of a function.
+use Rattle.std.proofs.Common.{◌≡◌, ◌+◌, ◌++◌, ◌∙◌, ℕ, Bool, true, false, cond, ◌&&◌, ◌||◌, List, [], ◌∷◌, length, map, reverse, take, refl, ap, sym, subst, arith, nat_eq, ◌<◌, get_or, Option, is_some}
+use Rattle.std.specs.Prelude.{filter}
+use Rattle.std.specs.HashMap.{get}
+use Rattle.std.specs.Option.{option_to_list}
+use Rattle.std.proofs.lemmas.List.{append-nil, map-append, reverse-append, take_more}
+use Rattle.std.proofs.lemmas.List.Elements.{filter-append}
+use Rattle.std.proofs.lemmas.List.Sums.{sum_by-cons}
+use Rattle.std.proofs.lemmas.Bool.{eq-eqb}
+use Rattle.fdr_record.specs.declared.event.Event.{Event}
+use Rattle.fdr_record.specs.declared.event.Kind.{Kind}
+use Rattle.fdr_record.specs.declared.event.Kind.TheVariants.{Entry, Exit, TailExit}
+use Rattle.stack_rebuild.specs.declared.call.Call.{Call}
+use Rattle.stack_rebuild.specs.declared.call.Pair.{Pair}
+use Rattle.stack_rebuild.specs.Calls.{Standing, from_innermost, open_calls, pair_at, pair_at_kind, pair_of_call, standing_after, next_standing}
+use Rattle.stack_rebuild.specs.Histories.{Logged, logged, of_thread, all_pairs}
+use Rattle.account_report.specs.Account.{durations_of, enters, leaves, is_entry_of, is_exit_of}
+use Rattle.account_report.specs.Tallies.{Reached, Table, Tallied, durations_in, going_on, tally_in, tally_of, with_event}
+
+-- the pair that an event makes after a history
+abbrev pub pair_after : Logged → List Logged → Option Pair
+pair_after l before = let own = of_thread l.thread before in pair_at l.event (length own) (open_calls own)
+
+-- a pair is one of the function of its event
+abbrev is_pair_of : ℕ → Pair → Bool
+is_pair_of func pair = nat_eq pair.func func
+
+none_kept : (b : Bool) → [] ≡ cond b [] (let none : List Pair = [] in none)
+none_kept true = refl
+none_kept false = refl
+
+call_kept : (e : Event) (at func : ℕ) (ended : List Call)
+    → filter (is_pair_of func) (option_to_list (pair_of_call e at ended)) ≡ cond (nat_eq e.func func) (option_to_list (pair_of_call e at ended)) []
+call_kept e at func [] = none_kept (nat_eq e.func func)
+call_kept e at func (call ∷ outer) = refl
+
+kind_kept : (k : Kind) (e : Event) (at func : ℕ) (calls : List Call)
+    → filter (is_pair_of func) (option_to_list (pair_at_kind k e at calls)) ≡ cond (nat_eq e.func func) (option_to_list (pair_at_kind k e at calls)) []
+kind_kept Entry e at func calls = none_kept (nat_eq e.func func)
+kind_kept Exit e at func calls = call_kept e at func (from_innermost e.func calls)
+kind_kept TailExit e at func calls = call_kept e at func (from_innermost e.func calls)
+
+map_cond : (b : Bool) (pairs : List Pair) → map (λ pair. pair.duration) (cond b pairs []) ≡ cond b (map (λ pair. pair.duration) pairs) []
+map_cond true pairs = refl
+map_cond false pairs = refl
+
+durations_of-cons : (func : ℕ) (l : Logged) (h : List Logged)
+    → durations_of func (l ∷ h) ≡ durations_of func h ++ cond (nat_eq l.event.func func) (durations_in (pair_after l h)) []
+durations_of-cons func l h =
+    let made = option_to_list (pair_after l h) in
+    let duration : Pair → ℕ = λ pair. pair.duration in
+    let own = of_thread l.thread h in
+    ap (map duration) (filter-append (is_pair_of func) (all_pairs h) made)
+    ∙ (map-append duration (filter (is_pair_of func) (all_pairs h)) (filter (is_pair_of func) made)
+    ∙ ap (λ (ds : List ℕ). durations_of func h ++ ds)
+    (ap (map duration) (kind_kept l.event.kind l.event (length own) func (open_calls own)) ∙ map_cond (nat_eq l.event.func func) made))
+
+abbrev tallied_as : List ℕ → ℕ → ℕ → Tallied
+tallied_as durations entries exits = record { durations = durations; entries = entries; exits = exits }
+
+same_tally : (x y : Tallied) → x.durations ≡ y.durations → x.entries ≡ y.entries → x.exits ≡ y.exits → x ≡ y
+same_tally x y d e f =
+    ap (λ (n : List ℕ). tallied_as n x.entries x.exits) d
+    ∙ (ap (λ (n : ℕ). tallied_as y.durations n x.exits) e ∙ ap (λ (n : ℕ). tallied_as y.durations y.entries n) f)
+
+-- the tally behind an event: a new one with these three is the old one, or that with the event
+counted : (b : Bool) (k : Kind) (ds : List ℕ) (old new : Tallied) → new.durations ≡ old.durations ++ cond b ds []
+    → new.entries ≡ cond (b && enters k) 1 0 + old.entries → new.exits ≡ cond (b && leaves k) 1 0 + old.exits → new ≡ cond b (with_event k ds old) old
+counted true Entry ds old new d e f = same_tally new _ d (omega arith) (omega arith)
+counted true Exit ds old new d e f = same_tally new _ d (omega arith) (omega arith)
+counted true TailExit ds old new d e f = same_tally new _ d (omega arith) (omega arith)
+counted false k ds old new d e f = same_tally new old (d ∙ append-nil old.durations) (omega arith) (omega arith)
+
+pub tally_of-cons : (l : Logged) (h : List Logged) (func : ℕ)
+    → tally_of (l ∷ h) func ≡ cond (nat_eq l.event.func func) (with_event l.event.kind (durations_in (pair_after l h)) (tally_of h func)) (tally_of h func)
+tally_of-cons l h func =
+    counted (nat_eq l.event.func func) l.event.kind (durations_in (pair_after l h)) (tally_of h func) (tally_of (l ∷ h) func) (durations_of-cons func l h)
+    (sum_by-cons (λ x. cond (is_entry_of func x) 1 0) l h) (sum_by-cons (λ x. cond (is_exit_of func x) 1 0) l h)
+
+-- an event of the thread goes to its part of a history, and one of another thread doesn't
+pub of_thread-own : (thread : ℕ) (e : Event) (h : List Logged) → of_thread thread (logged thread e ∷ h) ≡ e ∷ of_thread thread h
+of_thread-own thread e h = ap (λ b. cond b (e ∷ of_thread thread h) (of_thread thread h)) (eq-eqb thread thread refl)
+
+-- a history that goes on by events goes on by one more
+going_on-more : (thread : ℕ) (events : List Event) (i : ℕ) (d : Event) (h : List Logged) → i < length events
+    → going_on thread (take (i + 1) events) h ≡ logged thread (get_or events i d) ∷ going_on thread (take i events) h
+going_on-more thread events i d h within =
+    ap (λ (es : List Event). going_on thread es h) (take_more events i d within)
+    ∙ (ap (λ (ls : List Logged). reverse ls ++ h) (map-append (logged thread) (take i events) (get_or events i d ∷ []))
+    ∙ ap (λ (ls : List Logged). ls ++ h) (reverse-append (map (logged thread) (take i events)) (logged thread (get_or events i d) ∷ [])))
+
+-- one more event of the thread
+reached_behind : (thread : ℕ) (h : List Logged) (e : Event) (pair : Option Pair) (calls calls' : Standing) (tallies tallies' : Table Tallied)
+    → Reached thread h calls tallies → pair ≡ pair_at e calls.events calls.calls → calls' ≡ next_standing e calls
+    → ((func : ℕ) → tally_in tallies' func ≡ cond (nat_eq e.func func) (with_event e.kind (durations_in pair) (tally_in tallies func)) (tally_in tallies func))
+    → ((func : ℕ) → is_some (get nat_eq tallies' func) ≡ (nat_eq e.func func || is_some (get nat_eq tallies func)))
+    → Reached thread (logged thread e ∷ h) calls' tallies'
+reached_behind thread h e pair calls calls' tallies tallies' reached made stands each present =
+    let made_after : pair ≡ pair_after (logged thread e) h = made ∙ ap (λ (s : Standing). pair_at e s.events s.calls) reached.stands in record {
+      stands = stands ∙ (ap (next_standing e) reached.stands ∙ ap standing_after (sym (of_thread-own thread e h)));
+      tallied = record {
+        each = λ func. each func
+            ∙ (ap (λ (t : Tallied). cond (nat_eq e.func func) (with_event e.kind (durations_in pair) t) t) (reached.tallied.each func)
+            ∙ (ap (λ (p : Option Pair). cond (nat_eq e.func func) (with_event e.kind (durations_in p) (tally_of h func)) (tally_of h func)) made_after
+            ∙ sym (tally_of-cons (logged thread e) h func)));
+        present = λ func. present func ∙ ap (λ (b : Bool). nat_eq e.func func || b) (reached.tallied.present func);
+      };
+    }
+
+pub reached_more : (thread : ℕ) (h : List Logged) (events : List Event) (i : ℕ) (d : Event) (pair : Option Pair) (calls calls' : Standing) (tallies tallies' : Table Tallied)
+    → i < length events → Reached thread (going_on thread (take i events) h) calls tallies → pair ≡ pair_at (get_or events i d) calls.events calls.calls
+    → calls' ≡ next_standing (get_or events i d) calls
+    → ((func : ℕ) → tally_in tallies' func ≡ cond (nat_eq (get_or events i d).func func)
+    (with_event (get_or events i d).kind (durations_in pair) (tally_in tallies func)) (tally_in tallies func))
+    → ((func : ℕ) → is_some (get nat_eq tallies' func) ≡ (nat_eq (get_or events i d).func func || is_some (get nat_eq tallies func)))
+    → Reached thread (going_on thread (take (i + 1) events) h) calls' tallies'
+reached_more thread h events i d pair calls calls' tallies tallies' within reached made stands each present =
+    subst (λ (history : List Logged). Reached thread history calls' tallies') (sym (going_on-more thread events i d h within))
+    (reached_behind thread (going_on thread (take i events) h) (get_or events i d) pair calls calls' tallies tallies' reached made stands each present)
+
+-- what stands where a slice has nothing
+abbrev pub no_event : Event
+no_event = record { cpu = 0; func = 0; kind = Entry; tsc = 0 }

@@ -1,0 +1,4 @@
+pub mod Account
+pub mod Ascending
+pub mod Ordered
+pub mod Tallies

@@ -1,0 +1,76 @@
+-- What is kept of each function while the events go by, for the contracts of private functions.
+use Rattle.std.specs.Prelude.{◌≡◌, ◌+◌, ◌==◌, Bool, ℕ, List, [], ◌++◌, map, reverse, count_by, nat_eq, unwrap_or, is_some, Option}
+use Rattle.std.specs.List.{list_any}
+use Rattle.std.specs.Option.{option_to_list}
+use Rattle.std.specs.HashMap.{get, HashMap}
+use Rattle.std.specs.declared.hash.FoldHasher.{FoldHasher}
+use Rattle.std.specs.declared.hash.BuildHasherDefault.{BuildHasherDefault}
+use Rattle.fdr_record.specs.declared.event.Event.{Event}
+use Rattle.fdr_record.specs.declared.event.Kind.{Kind}
+use Rattle.fdr_record.specs.declared.event.Kind.TheVariants.{Entry, Exit, TailExit}
+use Rattle.stack_rebuild.specs.declared.call.Pair.{Pair}
+use Rattle.stack_rebuild.specs.Calls.{Standing, standing_after}
+use Rattle.stack_rebuild.specs.Histories.{Logged, logged, of_thread}
+use Rattle.account_report.specs.declared.row.AccountRow.{AccountRow}
+use Rattle.account_report.specs.Account.{durations_of, is_entry_of, is_exit_of, row_with}
+
+-- the durations of a function, and how many entries and exits it had
+pub record Tallied : Type 0 where
+  pub durations : List ℕ
+  pub entries : ℕ
+  pub exits : ℕ
+
+abbrev pub no_tally : Tallied
+no_tally = record { durations = []; entries = 0; exits = 0 }
+
+abbrev pub tally_of : List Logged → ℕ → Tallied
+tally_of history func = record {
+  durations = durations_of func history;
+  entries = count_by (is_entry_of func) history;
+  exits = count_by (is_exit_of func) history;
+}
+
+-- an event of the function, and the pair that it makes
+abbrev pub with_event : Kind → List ℕ → Tallied → Tallied
+with_event Entry durations tally = record tally { durations = tally.durations ++ durations; entries = tally.entries + 1 }
+with_event Exit durations tally = record tally { durations = tally.durations ++ durations; exits = tally.exits + 1 }
+with_event TailExit durations tally = record tally { durations = tally.durations ++ durations; exits = tally.exits + 1 }
+
+abbrev pub durations_in : Option Pair → List ℕ
+durations_in pair = map (λ p. p.duration) (option_to_list pair)
+
+-- tables by a number
+abbrev pub Table : Type 0 → Type 0
+Table X = HashMap ℕ X (BuildHasherDefault FoldHasher)
+
+abbrev pub tally_in : Table Tallied → ℕ → Tallied
+tally_in tallies func = unwrap_or (get nat_eq tallies func) no_tally
+
+abbrev pub standing_in : Table Standing → ℕ → Standing
+standing_in threads thread = unwrap_or (get nat_eq threads thread) (standing_after [])
+
+-- a function has an event in a history
+abbrev pub has_event : List Logged → ℕ → Bool
+has_event history func = list_any (λ l. l.event.func == func) history
+
+-- each thread stands where its part of a history brings it
+pub record AreStanding (threads : Table Standing) (history : List Logged) : Type 0 where
+  pub each : (thread : ℕ) → standing_in threads thread ≡ standing_after (of_thread thread history)
+
+-- what is kept of the functions is what a history tells of them
+pub record AreTallies (tallies : Table Tallied) (history : List Logged) : Type 0 where
+  pub each : (func : ℕ) → tally_in tallies func ≡ tally_of history func
+  pub present : (func : ℕ) → is_some (get nat_eq tallies func) ≡ has_event history func
+
+-- a history that goes on by the events of a thread
+abbrev pub going_on : ℕ → List Event → List Logged → List Logged
+going_on thread events history = reverse (map (logged thread) events) ++ history
+
+-- a thread and the functions after a history
+pub record Reached (thread : ℕ) (history : List Logged) (calls : Standing) (tallies : Table Tallied) : Type 0 where
+  pub stands : calls ≡ standing_after (of_thread thread history)
+  pub tallied : AreTallies tallies history
+
+-- the row of a function in a table
+abbrev pub row_of_entry : ℕ × Tallied → AccountRow
+row_of_entry (func, tally) = row_with func tally.durations tally.entries tally.exits

@@ -1,0 +1,36 @@
+//! The rows of the account.
+
+ghost use Rattle.std.specs.Prelude.{◌≡◌, nat_eq, map, IfOk};
+ghost use Rattle.std.specs.HashMap.{IsUnique};
+ghost use Rattle.account_report.specs.Account.{account_of};
+ghost use Rattle.account_report.specs.Tallies.{row_of_entry};
+
+use crate::row::AccountRow;
+use crate::scan::tallies;
+use crate::tally::Tally;
+use fdr_file::Trace;
+use std::alloc::Global;
+use std::collections::HashMap;
+use xray_io::NoMemory;
+
+/// The account of a trace: a row for each function that has an event, in ascending order of their ids.
+/// The time is linear in the number of events, but for the sorting of the durations.
+pub fn account(alloc: Global, trace: &Trace) -> Result<Vec<AccountRow>, NoMemory>
+    ensures { IfOk result (λ rows. rows.items ≡ account_of trace.now) }
+{
+    let mut rows = rows_of(alloc, tallies(alloc, trace)?)?;
+    rows.sort_unstable_by_key(|row| row.func);
+    Ok(rows)
+}
+
+/// A row for each function of a table, in the table's order.
+fn rows_of(alloc: Global, tallies: HashMap<u32, Tally>) -> Result<Vec<AccountRow>, NoMemory>
+    ensures rows { IfOk result (λ rows. rows.items ≡ map row_of_entry tallies.entries) }
+    ensures unique { IsUnique nat_eq tallies }
+{
+    let mut rows = Vec::with_capacity(alloc, tallies.len())?;
+    'listing: for (func, tally) in tallies {
+        rows.push(tally.into_row(func))?;
+    }
+    Ok(rows)
+}

@@ -1,0 +1,128 @@
+//! What is kept of each function while the events go by.
+
+ghost use Rattle.std.specs.Prelude.{◌≡◌, ◌==◌, ◌||◌, ℕ, nat_eq, is_some, if◌then◌else◌, OnOk, slice_index};
+ghost use Rattle.std.specs.HashMap.{get};
+ghost use Rattle.account_report.specs.Account.{row_from, row_with};
+ghost use Rattle.account_report.specs.Tallies.{durations_in, no_tally, tally_in, with_event};
+
+use crate::row::AccountRow;
+use fdr_record::{Event, Kind};
+use stack_rebuild::Pair;
+use std::alloc::Global;
+use std::collections::HashMap;
+use std::marker::Model;
+use xray_io::NoMemory;
+
+/// The durations of a function's pairs, and how many entries and exits it had.
+#[derive(Debug, Drop)]
+pub(crate) struct Tally {
+    durations: Vec<u64>,
+    entries: u64,
+    exits: u64,
+}
+
+impl Model for Tally {
+    ghost use Rattle.account_report.specs.Tallies.{Tallied};
+
+    ghost Value = { Tallied };
+
+    ghost view = { λ t. record {
+      durations = t.durations.items;
+      entries = t.entries;
+      exits = t.exits;
+    } };
+}
+
+impl Tally {
+    /// A function without an event.
+    fn new(alloc: Global) -> Tally
+        ensures { result ≡ no_tally }
+    {
+        Tally {
+            durations: Vec::new(alloc),
+            entries: 0,
+            exits: 0,
+        }
+    }
+
+    /// One more event, and the pair that it makes.
+    fn add(&mut self, kind: Kind, pair: &Option<Pair>) -> Result<(), NoMemory>
+        ensures { OnOk result (self.new ≡ with_event kind (durations_in pair.now) self.old) }
+    {
+        if let Some(pair) = pair {
+            self.durations.push(pair.duration)?;
+        }
+        // No memory holds a trace of more events.
+        match kind {
+            Kind::Entry => self.entries = self.entries.checked_add(1).ok_or(NoMemory)?,
+            Kind::Exit | Kind::TailExit => {
+                self.exits = self.exits.checked_add(1).ok_or(NoMemory)?;
+            }
+        }
+        Ok(())
+    }
+
+    /// The row of the function, whose id it is.
+    pub(crate) fn into_row(self, func: u32) -> AccountRow
+        ensures { result ≡ row_with func self.durations self.entries self.exits }
+    {
+        let Tally {
+            mut durations,
+            entries,
+            exits,
+        } = self;
+        durations.sort_unstable();
+        row(func, &durations, entries, exits)
+    }
+}
+
+/// The row of a function with these durations, which are in ascending order.
+fn row(func: u32, durations: &[u64], entries: u64, exits: u64) -> AccountRow
+    ensures { result ≡ row_from func durations.now entries exits }
+{
+    let n = durations.len();
+    AccountRow {
+        func,
+        count: n as u64,
+        min: item(durations, 0),
+        med: item(durations, n / 2),
+        p90: item(durations, (9 * n as u128 / 10) as usize),
+        p99: item(durations, (99 * n as u128 / 100) as usize),
+        max: item(durations, n.saturating_sub(1)),
+        sum: durations.iter().map(|duration| u128::from(*duration)).sum(),
+        entries: entries.saturating_sub(n as u64),
+        exits: exits.saturating_sub(n as u64),
+    }
+}
+
+/// The item at a place, and 0 where there is none.
+fn item(durations: &[u64], place: usize) -> u64
+    ensures { result ≡ slice_index durations.now place }
+{
+    durations.get(place).copied().unwrap_or(0)
+}
+
+/// One more event, and the pair that it makes.
+pub(crate) fn add_event(
+    alloc: Global,
+    tallies: &mut HashMap<u32, Tally>,
+    event: &Event,
+    pair: &Option<Pair>,
+) -> Result<(), NoMemory>
+    ensures tallied { OnOk result ((func : ℕ) → tally_in tallies.new func
+        ≡ (if event.now.func == func
+        then with_event event.now.kind (durations_in pair.now) (tally_in tallies.old func)
+        else tally_in tallies.old func)) }
+    ensures present { OnOk result ((func : ℕ) → is_some (get nat_eq tallies.new func)
+        ≡ ((event.now.func == func) || is_some (get nat_eq tallies.old func))) }
+{
+    match tallies.get_mut(&event.func) {
+        Some(tally) => tally.add(event.kind, pair),
+        None => {
+            let mut tally = Tally::new(alloc);
+            tally.add(event.kind, pair)?;
+            tallies.insert(event.func, tally)?;
+            Ok(())
+        }
+    }
+}

@@ -1,0 +1,41 @@
+-- The histories of a trace, whose threads' events come block by block. A history is listed from the last event to the first.
+use Rattle.std.specs.Prelude.{◌==◌, ℕ, List, [], ◌∷◌, ◌++◌, length, reverse, map, if◌then◌else◌}
+use Rattle.std.specs.List.{flat_map}
+use Rattle.std.specs.Option.{option_to_list}
+use Rattle.fdr_record.specs.declared.event.Event.{Event}
+use Rattle.fdr_file.specs.declared.trace.Block.{Block}
+use Rattle.fdr_file.specs.declared.trace.Trace.{Trace}
+use Rattle.stack_rebuild.specs.declared.call.Pair.{Pair}
+use Rattle.stack_rebuild.specs.Calls.{open_calls, pair_at}
+
+-- the events of a thread: those of its blocks, in the order of the file
+abbrev pub events_of : ℕ → List Block → List Event
+events_of thread [] = []
+events_of thread (block ∷ later) = if block.thread == thread then block.events ++ events_of thread later else events_of thread later
+
+-- an event, and the thread that recorded it
+pub record Logged : Type 0 where
+  pub thread : ℕ
+  pub event : Event
+
+abbrev pub logged : ℕ → Event → Logged
+logged thread event = record { thread = thread; event = event }
+
+-- all events of blocks, in the order of the file
+abbrev pub all_events : List Block → List Logged
+all_events blocks = flat_map (λ block. map (logged block.thread) block.events) blocks
+
+-- what a whole trace comes to
+abbrev pub history_of : Trace → List Logged
+history_of trace = reverse (all_events trace.blocks)
+
+-- the part of a history that is of one thread
+abbrev pub of_thread : ℕ → List Logged → List Event
+of_thread thread [] = []
+of_thread thread (l ∷ before) = if l.thread == thread then l.event ∷ of_thread thread before else of_thread thread before
+
+-- the pairs that a history makes, each within its thread, in the order of their exits
+abbrev pub all_pairs : List Logged → List Pair
+all_pairs [] = []
+all_pairs (l ∷ before) =
+    let own = of_thread l.thread before in all_pairs before ++ option_to_list (pair_at l.event (length own) (open_calls own))

@@ -1,0 +1,11 @@
+//! The calls that a trace's events make: which are open, and which entry each exit belongs to.
+#![tactic(auto)]
+
+mod call;
+mod calls;
+mod counts;
+mod matching;
+
+pub use call::{Call, Pair};
+pub use calls::ThreadCalls;
+pub use matching::{pairs, thread_events};
