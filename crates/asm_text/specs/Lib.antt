@@ -15,3 +15,4 @@ pub mod FirstPass
 pub mod Laying
 pub mod LaidTexts
 pub mod Files
+pub mod FaultWords

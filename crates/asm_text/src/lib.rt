@@ -10,6 +10,7 @@ mod assembling;
 mod code;
 mod ending;
 mod fault;
+mod fault_words;
 mod fields;
 mod file;
 mod first_pass;

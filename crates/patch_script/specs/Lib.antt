@@ -13,3 +13,4 @@ pub mod Standing
 pub mod Placing
 pub mod Scripts
 pub mod Drafts
+pub mod FaultWords

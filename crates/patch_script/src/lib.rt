@@ -7,6 +7,7 @@
 
 mod command;
 mod fault;
+mod fault_words;
 mod first_patches;
 mod keyword;
 mod laws;

@@ -8,3 +8,4 @@ pub mod Schedules
 pub mod Readings
 pub mod Replayed
 pub mod Standing
+pub mod FaultWords

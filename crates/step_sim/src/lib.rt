@@ -3,6 +3,7 @@
 
 mod along;
 mod fault;
+mod fault_words;
 mod laws;
 mod line;
 mod patcher;

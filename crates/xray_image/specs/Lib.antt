@@ -14,3 +14,4 @@ pub mod Extract
 pub mod Judging
 pub mod UnitTable
 pub mod RunningSums
+pub mod FaultWords

@@ -5,6 +5,7 @@ mod branches;
 mod code_units;
 mod extract;
 mod fault;
+mod fault_words;
 mod fields;
 pub mod format;
 mod functions;

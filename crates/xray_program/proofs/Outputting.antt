@@ -6,6 +6,7 @@ use Rattle.xray_io.specs.DeskFile.{bytes_of}
 use Rattle.xray_io.specs.Faults.{Rose}
 use Rattle.xray_io.specs.Sink.{Adds, AddsPrefix}
 use Rattle.xray_program.specs.Outputs.{made_to_hold, AreWhole, AreUntouched, FailsAt}
+use Rattle.xray_program.specs.World.{DeskView}
 
 -- ---- what is written at the end of a name that is held
 
@@ -62,33 +63,33 @@ none_touched : (old new : List ℕ → Entry) → AreUntouched [] old new
 none_touched old new = All-nil (λ output. new output.0 ≡ old output.0)
 
 -- its creation failed
-pub fails_created : (name bytes : List ℕ) (old new : List ℕ → Entry) (before now : ℕ) → new ≡ old → Rose before now
-    → FailsAt ((name, bytes) ∷ []) old new before now name
-fails_created name bytes old new before now same rose = record {
+pub fails_created : (name bytes : List ℕ) (old new : DeskView) → new.held ≡ old.held → Rose old.write_faults new.write_faults
+    → FailsAt ((name, bytes) ∷ []) old new name
+fails_created name bytes old new same rose = record {
   earlier = [];
   bytes = bytes;
   later = [];
   order = refl;
   fault = rose;
-  whole = none_whole old new;
-  front = inl (ap (λ (h : List ℕ → Entry). h name) same);
-  untouched = none_touched old new;
+  whole = none_whole old.held new.held;
+  prefix = inl (ap (λ (h : List ℕ → Entry). h name) same);
+  untouched = none_touched old.held new.held;
 }
 
 -- its writing failed
-pub fails_written : (name bytes : List ℕ) (old created new : List ℕ → Entry) (before mid now : ℕ)
-    → created name ≡ empty_entry (old name) → before ≤ mid
-    → (count : ℕ) × (count ≤ length bytes) × (new name ≡ longer_entry (created name) (take count bytes)) → Rose mid now
-    → FailsAt ((name, bytes) ∷ []) old new before now name
-fails_written name bytes old created new before mid now is up (count, within, more) rose = record {
+pub fails_written : (name bytes : List ℕ) (old created new : DeskView)
+    → created.held name ≡ empty_entry (old.held name) → old.write_faults ≤ created.write_faults
+    → (count : ℕ) × (count ≤ length bytes) × (new.held name ≡ longer_entry (created.held name) (take count bytes))
+    → Rose created.write_faults new.write_faults → FailsAt ((name, bytes) ∷ []) old new name
+fails_written name bytes old created new is up (count, within, more) rose = record {
   earlier = [];
   bytes = bytes;
   later = [];
   order = refl;
   fault = omega arith;
-  whole = none_whole old new;
-  front = inr (count, within, made (old name) (created name) (new name) (take count bytes) is more);
-  untouched = none_touched old new;
+  whole = none_whole old.held new.held;
+  prefix = inr (count, within, made (old.held name) (created.held name) (new.held name) (take count bytes) is more);
+  untouched = none_touched old.held new.held;
 }
 
 -- a name that isn't that of the only output

@@ -1,5 +1,4 @@
 -- The threads that a replay leaves are printed as `sim` prints.
-use Rattle.std.specs.Prelude.{MatchOption}
 use Rattle.std.proofs.Common.{◌≡◌, ◌+◌, ◌-◌, ◌++◌, ◌∙◌, ℕ, zero, suc, List, [], ◌∷◌, length, map, Option, Some, None, inl, refl, sym, ap, arith, subst}
 use Rattle.std.specs.Prelude.{unwrap_or}
 use Rattle.std.specs.List.{All, flat_map, slice_get}
@@ -8,7 +7,7 @@ use Rattle.std.proofs.lemmas.List.Elements.{All-cons, All-nil}
 use Rattle.std.proofs.lemmas.List.FromFn.{length-enumerate_from}
 use Rattle.xray_image.specs.Program.{Program}
 use Rattle.patch_script.specs.declared.command.Command.{Command}
-use Rattle.patch_script.specs.Plans.{Plan, waiting_line}
+use Rattle.patch_script.specs.Plans.{Plan}
 use Rattle.patch_script.specs.Refusals.{commands_of}
 use Rattle.handler_word.specs.declared.mark.Mark.{Mark}
 use Rattle.machine_step.specs.declared.limits.Limits.{Limits}
@@ -18,12 +17,10 @@ use Rattle.machine_step.specs.Traced.{IsDone, Traced, sleds_of}
 use Rattle.step_sim.specs.declared.turns.Turns.{Turns}
 use Rattle.step_sim.specs.Replay.{Replay}
 use Rattle.step_sim.specs.Replayed.{HasRun, IsReplayed, cast_of}
-use Rattle.xray_program.specs.declared.run_options.RunOptions.{RunOptions}
-use Rattle.xray_program.specs.Jobs.{thread_text}
-use Rattle.xray_program.specs.Judged.{IsAnswerOrMemory}
-use Rattle.xray_program.specs.Meaning.{Outcome, Prints, ComesOfReplay, status_of}
-use Rattle.xray_program.specs.Setups.{limits_of}
-use Rattle.xray_program.specs.States.{SimPrints, ThreadRun, state_texts}
+use Rattle.machine_step.specs.declared.setup.Setup.{Setup}
+use Rattle.xray_program.specs.Ends.{thread_text}
+use Rattle.xray_program.specs.Sim.{IsReplayOf}
+use Rattle.xray_program.specs.Traced.{ThreadRun, Traces, state_texts}
 
 -- the sleds at a place of a list of them
 abbrev sleds_at : List (List ℕ) → ℕ → List ℕ
@@ -88,11 +85,12 @@ runs_of program limits number (sleds ∷ passings) (t ∷ ts) same own is =
         subst (λ (n : ℕ). PlainRun program limits n other.passed other.end other.last) (sym (later k)) (behind k other at)
 
 -- all threads of a replay
-pub replay_printed : (program : Program) (script : List Command) (schedule : List Turns) (options : RunOptions) (ts : List Traced)
-    → IsReplayed program script schedule options.threads (limits_of options) ts
-    → SimPrints program script schedule options (flat_map thread_text ts)
-replay_printed program script schedule options ts is =
-    let limits = limits_of options in
+pub replay_printed : (program : Program) (plan : Plan) (schedule : List Turns) (setup : Setup) (ts : List Traced)
+    → IsReplayed program (commands_of plan.lines) schedule setup.threads setup.limits ts
+    → Traces (IsReplayOf program plan schedule) program setup [] (flat_map thread_text ts)
+replay_printed program plan schedule setup ts is =
+    let script = commands_of plan.lines in
+    let limits = setup.limits in
     let counted : length is.passings ≡ length ts = sym (length-enumerate_from 1 is.passings) ∙ sym (length-map _ _)
     ∙ sym (ap (λ (all : List (List Mark)). length all) is.marks.2) ∙ length-map _ _ in
     let have = runs_of program limits 1 is.passings ts counted
@@ -101,11 +99,14 @@ replay_printed program script schedule options ts is =
     (λ i t at. let of = is.thread i t at in of.thread_is ∙ flipped i) in
     record {
       runs = have.runs;
-      threads = have.count ∙ is.count;
-      plain = λ k run at. subst (λ (n : ℕ). PlainRun program limits n run.passed run.end run.last) (sym (flipped k)) (have.plain k run at);
-      replayed = subst (λ (ps : List (List ℕ)). Replay (cast_of program script ps) schedule (map (λ run. run.marks) have.runs)) (sym have.sleds)
+      run = record {
+        count = have.count ∙ is.count;
+        plain = λ k run at. subst (λ (n : ℕ). PlainRun program limits n run.passed run.end run.last) (sym (flipped k)) (have.plain k run at);
+      };
+      lawful = subst (λ (ps : List (List ℕ)). Replay (cast_of program script ps) schedule (map (λ run. run.marks) have.runs)) (sym have.sleds)
           (subst (λ (ms : List (List Mark)). Replay (cast_of program script is.passings) schedule ms) (sym have.marks) is.marks);
-      prints = have.texts;
+      outputs_are = refl;
+      text_is = have.texts;
     }
   where
     flipped : (i : ℕ) → i + 1 ≡ 1 + i
@@ -119,30 +120,7 @@ each_one : (P : Traced → Type 0) (ts : List Traced) → ((i : ℕ) (t : Traced
 each_one P [] each = All-nil P
 each_one P (t ∷ ts) each = All-cons P t ts (each zero t refl) (each_one P ts (λ i u at. each (suc i) u at))
 
-pub replay_ended : (program : Program) (script : List Command) (schedule : List Turns) (options : RunOptions) (ts : List Traced)
-    → IsReplayed program script schedule options.threads (limits_of options) ts → All (λ t. IsDone t.want) ts
-replay_ended program script schedule options ts is =
+pub replay_ended : (program : Program) (script : List Command) (schedule : List Turns) (setup : Setup) (ts : List Traced)
+    → IsReplayed program script schedule setup.threads setup.limits ts → All (λ t. IsDone t.want) ts
+replay_ended program script schedule setup ts is =
     each_one (λ t. IsDone t.want) ts (λ i t at. let has = is.plain i t at in rw has.done tt)
-
--- ---- what comes of a replay, by whether somebody may wait in its script
-
-none_matches : (found : Option ℕ) (P : Type 0) (Q : ℕ → Type 0) → ((n : ℕ) → found ≡ Some n → ⊥) → P → MatchOption found P Q
-none_matches None P Q never holds = holds
-none_matches (Some n) P Q never holds = absurd (never n refl)
-
-of_none : (found : Option ℕ) (P : Type 0) (Q : ℕ → Type 0) → ((n : ℕ) → found ≡ Some n → ⊥) → MatchOption found P Q → P
-of_none None P Q never holds = holds
-of_none (Some n) P Q never holds = absurd (never n refl)
-
--- nobody may wait
-pub still_prints : (name : List ℕ) (options : RunOptions) (program : Program) (plan : Plan) (turns : List Turns) (outcome : Outcome)
-    → ((line : ℕ) → waiting_line plan.lines ≡ Some line → ⊥)
-    → Prints (SimPrints program (commands_of plan.lines) turns options) outcome → ComesOfReplay name options program plan turns outcome
-still_prints name options program plan turns outcome still prints = none_matches (waiting_line plan.lines) _ _ still prints
-
-pub still_answers : (name : List ℕ) (options : RunOptions) (program : Program) (plan : Plan) (turns : List Turns) (outcome : Outcome)
-    → ((line : ℕ) → waiting_line plan.lines ≡ Some line → ⊥) → ComesOfReplay name options program plan turns outcome
-    → IsAnswerOrMemory outcome 0
-still_answers name options program plan turns outcome still comes =
-    let prints = of_none (waiting_line plan.lines) (Prints (SimPrints program (commands_of plan.lines) turns options) outcome) _ still comes in
-    inl (sym (ap status_of prints.2))

@@ -2,8 +2,9 @@
 ghost use Rattle.std.specs.Prelude.{◌≡◌, ◌≢◌, ◌≤◌, ℕ, List, [], ◌∷◌, length, take, IfErr, OnOk, OnErr};
 ghost use Rattle.xray_io.specs.Desk.{Absent, longer_entry};
 ghost use Rattle.xray_io.specs.Faults.{Rose};
-ghost use Rattle.xray_program.specs.Calls.{StopsOutputs};
 ghost use Rattle.xray_program.specs.Outputs.{AreWhole};
+ghost use Rattle.xray_program.specs.Works.{StopsOutputs};
+ghost use Rattle.xray_program.specs.World.{desk_view};
 
 use crate::stop::Stop;
 use xray_io::{Desk, DeskFile, WriteFault, write_all};
@@ -16,9 +17,8 @@ pub(crate) fn write_output<'a, D: Desk>(
 ) -> Result<(), Stop<'a>>
     ensures whole { OnOk result (AreWhole ((name.now, bytes.now) ∷ [])
         (D.held desk.old) (D.held desk.new)) }
-    ensures stops { IfErr result (StopsOutputs ((name.now, bytes.now) ∷ [])
-        (D.held desk.old) (D.held desk.new)
-        (D.write_faults desk.old) (D.write_faults desk.new)) }
+    ensures stops { let seen = desk_view D.held D.read_faults D.write_faults in
+        IfErr result (StopsOutputs ((name.now, bytes.now) ∷ []) (seen desk.old) (seen desk.new)) }
     ensures others { (other : List ℕ) → other ≢ name.now
         → D.held desk.new other ≡ D.held desk.old other }
 {

@@ -1,0 +1,50 @@
+//! The words of a refusal.
+ghost use Rattle.std.specs.Prelude.{◌≡◌, ◌++◌, decimal};
+ghost use Rattle.xray_io.specs.Piece.{piece_text};
+ghost use Rattle.fault_words.specs.Words.{words_text};
+
+use xray_io::Piece;
+
+/// The words of a refusal, its name and its values, as the pieces of a text.
+#[derive(Clone, Copy, Debug, PartialEq, Eq)]
+pub struct Words {
+    /// The first piece.
+    pub first: Piece<'static>,
+    /// The second, which may be empty, as may those behind it.
+    pub second: Piece<'static>,
+    /// The third.
+    pub third: Piece<'static>,
+    /// The fourth.
+    pub fourth: Piece<'static>,
+}
+
+/// What stands in the place of a piece that there isn't.
+const NOTHING: Piece = Piece::Bytes(b"");
+
+impl Words {
+    /// A name alone.
+    pub fn name(name: &'static [u8]) -> Words
+        ensures { words_text result ≡ name.now }
+    {
+        Words::two(Piece::Bytes(name), NOTHING)
+    }
+
+    /// A name, with a blank at its end, and a number.
+    pub fn numbered(name: &'static [u8], number: u32) -> Words
+        ensures { words_text result ≡ name.now ++ decimal number }
+    {
+        Words::two(Piece::Bytes(name), Piece::Number(u128::from(number)))
+    }
+
+    /// Two pieces.
+    pub fn two(first: Piece<'static>, second: Piece<'static>) -> Words
+        ensures { words_text result ≡ piece_text first.entry ++ piece_text second.entry }
+    {
+        Words {
+            first,
+            second,
+            third: NOTHING,
+            fourth: NOTHING,
+        }
+    }
+}
