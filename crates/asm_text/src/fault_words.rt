@@ -8,7 +8,7 @@ impl Fault for AsmFault {
 
     ghost told = { asm_words };
 
-    fn refusal(&self) -> Option<Words> {
+    fn refusal(&self) -> Option<Words<'static>> {
         match *self {
             AsmFault::Syntax(line) => Some(Words::numbered(b"Syntax ", line)),
             AsmFault::Register(line) => Some(Words::numbered(b"Register ", line)),

@@ -11,6 +11,6 @@ pub trait Fault: Drop {
     ghost told: { Self → Option (List ℕ) };
 
     /// The words of the refusal; `None` where memory ran out.
-    fn refusal(&self) -> Option<Words>
+    fn refusal(&self) -> Option<Words<'static>>
         ensures { option_map words_text result ≡ told self.now };
 }

@@ -7,37 +7,37 @@ use xray_io::Piece;
 
 /// The words of a refusal, its name and its values, as the pieces of a text.
 #[derive(Clone, Copy, Debug, PartialEq, Eq)]
-pub struct Words {
+pub struct Words<'a> {
     /// The first piece.
-    pub first: Piece<'static>,
+    pub first: Piece<'a>,
     /// The second, which may be empty, as may those behind it.
-    pub second: Piece<'static>,
+    pub second: Piece<'a>,
     /// The third.
-    pub third: Piece<'static>,
+    pub third: Piece<'a>,
     /// The fourth.
-    pub fourth: Piece<'static>,
+    pub fourth: Piece<'a>,
 }
 
 /// What stands in the place of a piece that there isn't.
 const NOTHING: Piece = Piece::Bytes(b"");
 
-impl Words {
+impl<'a> Words<'a> {
     /// A name alone.
-    pub fn name(name: &'static [u8]) -> Words
+    pub fn name(name: &'a [u8]) -> Self
         ensures { words_text result ≡ name.now }
     {
         Words::two(Piece::Bytes(name), NOTHING)
     }
 
     /// A name, with a blank at its end, and a number.
-    pub fn numbered(name: &'static [u8], number: u32) -> Words
+    pub fn numbered(name: &'a [u8], number: u32) -> Self
         ensures { words_text result ≡ name.now ++ decimal number }
     {
         Words::two(Piece::Bytes(name), Piece::Number(u128::from(number)))
     }
 
     /// Two pieces.
-    pub fn two(first: Piece<'static>, second: Piece<'static>) -> Words
+    pub fn two(first: Piece<'a>, second: Piece<'a>) -> Self
         ensures { words_text result ≡ piece_text first.entry ++ piece_text second.entry }
     {
         Words {

@@ -8,7 +8,7 @@ impl Fault for ScriptFault {
 
     ghost told = { script_words };
 
-    fn refusal(&self) -> Option<Words> {
+    fn refusal(&self) -> Option<Words<'static>> {
         match *self {
             ScriptFault::Limit(line) => Some(Words::numbered(b"Limit ", line)),
             ScriptFault::Syntax(line) => Some(Words::numbered(b"Syntax ", line)),

@@ -10,7 +10,7 @@ impl Fault for ScheduleFault {
 
     ghost told = { schedule_words };
 
-    fn refusal(&self) -> Option<Words> {
+    fn refusal(&self) -> Option<Words<'static>> {
         match *self {
             ScheduleFault::Syntax(line) => Some(Words::numbered(b"Syntax ", line)),
             ScheduleFault::Thread(line) => Some(Words::numbered(b"Thread ", line)),
@@ -25,7 +25,7 @@ impl Fault for SimFault {
 
     ghost told = { sim_words };
 
-    fn refusal(&self) -> Option<Words> {
+    fn refusal(&self) -> Option<Words<'static>> {
         match *self {
             SimFault::Waits(line) => Some(Words::numbered(b"Waits ", line)),
             SimFault::NoMemory => None,

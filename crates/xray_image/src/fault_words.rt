@@ -15,7 +15,7 @@ impl Fault for ImageFault {
 
     ghost told = { image_words };
 
-    fn refusal(&self) -> Option<Words> {
+    fn refusal(&self) -> Option<Words<'static>> {
         match *self {
             ImageFault::Short => Some(Words::name(b"Short")),
             ImageFault::Magic => Some(Words::name(b"Magic")),
@@ -35,7 +35,7 @@ impl Fault for ImageFault {
 }
 
 /// The words for a field of the header that is beyond its limits.
-fn limit(which: Which) -> Words
+fn limit(which: Which) -> Words<'static>
     ensures { words_text result ≡ codes "Limit " ++ field_words which }
 {
     Words::two(Piece::Bytes(b"Limit "), Piece::Bytes(field_name(which)))
@@ -55,7 +55,7 @@ fn field_name(which: Which) -> &'static [u8]
 }
 
 /// The words for a place of the code at which no instruction stands.
-fn code(place: u32, fault: DecodeFault) -> Words
+fn code(place: u32, fault: DecodeFault) -> Words<'static>
     ensures { words_text result ≡ codes "Code " ++ decimal place ++ codes " " ++ decode_words fault }
 {
     let (third, fourth) = decode_pieces(fault);

@@ -69,7 +69,7 @@ pub(crate) fn deliver<'a, W: Outputs<'a>, P: Printed, D: Desk, O: Sink>(
     out: &mut O,
     outputs: &W,
     text: &P,
-    trouble: Option<Words>,
+    trouble: Option<Words<'a>>,
 ) -> Result<(), Stop<'a>>
     requires { P.ready text.now }
     ensures delivers { let seen = desk_view D.held D.read_faults D.write_faults in

@@ -86,7 +86,7 @@ pub(crate) fn take_maybe<'a, K: Kind, D: Desk>(
 }
 
 /// What an input's fault comes to: want of memory, or a refusal with its words.
-pub(crate) fn fault_stop<'a, F: Fault>(name: &'a str, kind: &'static str, fault: &F) -> Stop<'a>
+pub(crate) fn fault_stop<'a, F: Fault>(name: &'a str, kind: &'a str, fault: &F) -> Stop<'a>
     ensures { IsFaultStop name.now kind.now (F.told fault.now) result }
 {
     match fault.refusal() {

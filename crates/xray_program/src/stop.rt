@@ -30,12 +30,12 @@ pub(crate) enum Stop<'a> {
         /// The input's name.
         name: &'a str,
         /// The word for the kind of input.
-        kind: &'static str,
+        kind: &'a str,
         /// The words for what is wrong with it.
-        words: Words,
+        words: Words<'a>,
     },
     /// All was written, and something is wrong all the same, which these words say.
-    Fell(Words),
+    Fell(Words<'a>),
     /// An output can't be written. The standard output is named `output`.
     Unwritten(&'a str),
     /// Memory ran out.
@@ -89,7 +89,7 @@ impl Stop<'_> {
 }
 
 /// The line on err for an input that is refused.
-fn refused_line<'x>(name: &'x str, kind: &'x str, words: &Words) -> [Piece<'x>; 10]
+fn refused_line<'x>(name: &'x str, kind: &'x str, words: &Words<'x>) -> [Piece<'x>; 10]
     ensures { text_of result ≡ line_of (Refused name.now kind.now (words_text words.now)) }
 {
     [
@@ -107,7 +107,7 @@ fn refused_line<'x>(name: &'x str, kind: &'x str, words: &Words) -> [Piece<'x>; 
 }
 
 /// The line on err for a trouble in what was written.
-fn fallen_line<'x>(trouble: &Words) -> [Piece<'x>; 6]
+fn fallen_line<'x>(trouble: &Words<'x>) -> [Piece<'x>; 6]
     ensures { text_of result ≡ err_line (words_text trouble.now) }
 {
     [
