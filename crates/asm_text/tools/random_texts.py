@@ -6,7 +6,7 @@ usage: crates/asm_text/tools/random_texts.py [PROGRAM] [--texts N] [--seed N]
     --texts: how many texts, 1000 if left out
     --seed: what the texts and thresholds are drawn by, 1 if left out
 
-The model is written from docs/FORMATS.md alone, with statuses and lines on standard error from docs/COMMANDS.md. It
+The model is written from docs/formats alone, with statuses and lines on standard error from docs/COMMANDS.md. It
 shares nothing with the assembler or its definitions. Most texts are small programs with all lines of the language,
 written in all ways, and many with a fault; the others are at a limit of the language or one past it.
 

@@ -1,5 +1,5 @@
 -- What the fields of a buffer tell, and how it fills.
-use Rattle.std.proofs.Common.{◌≡◌, Vec, Global, ℕ, ◌+◌, ◌-◌, ◌^◌, ◌<◌, ◌≤◌, true, leb, ltb, lt-ltb, List, [], ◌∷◌, ◌++◌, length, take, drop, Option, Some, None, refl, sym, ap, subst, ◌∙◌, append_assoc, arith, inl, inr}
+use Rattle.std.proofs.Common.{◌≡◌, Vec, Global, ℕ, ◌+◌, ◌-◌, ◌^◌, ◌<◌, ◌≤◌, true, leb, ltb, lt-ltb, lit<, List, [], ◌∷◌, ◌++◌, length, take, drop, Option, Some, None, refl, sym, ap, subst, ◌∙◌, append_assoc, arith, inl, inr}
 use Rattle.std.proofs.lemmas.Bool.{cases_Bool, ltb-true, ltb-false, leb-true}
 use Rattle.std.proofs.lemmas.Bool.Decides.{leb_tells, eqb_tells}
 use Rattle.std.proofs.lemmas.List.{length-append, length-take, with_items_is}
@@ -14,6 +14,7 @@ use Rattle.fdr_buffer.specs.Segments.{bytes_of, is_out_of_reach, records_of, rec
 use Rattle.fdr_buffer.specs.declared.lead.Lead.{Lead}
 use Rattle.fdr_buffer.specs.Leads.{lead_records}
 use Rattle.fdr_buffer.specs.Filled.{Filled, empty_buffer, used_bytes, last_of}
+use Rattle.fdr_buffer.specs.Fits.{BufferFits, PreambleFits}
 use Rattle.fdr_buffer.specs.Telling.{events_in}
 use Rattle.fdr_buffer.specs.Buffer.{filled_with, events_told, filled_in, Holds, IsFilled}
 use Rattle.fdr_buffer.proofs.Records.{last_of-push, segment_bytes-push}
@@ -96,6 +97,7 @@ holds_more a b events event h g begun room =
       least = omega (arith, h.least, g.size);
       most = omega (arith, h.most, g.size);
       within = omega (arith, within, g.used, g.size);
+      preamble = rw (g.thread, g.wall, g.pid) (record { thread = h.preamble.thread; secs = h.preamble.secs; micros = h.preamble.micros; pid = h.preamble.pid });
       bytes = rw (still_begun a b event g begun, g.thread, g.wall, g.pid) (g.bytes ∙ ap (λ (x : List ℕ). x ++ bytes_of (records_of a.last event)) old ∙ joined);
       unbegun = λ none. absurd (omega (arith, none, ltb-true 0 b.used (still_begun a b event g begun)));
       last = g.last ∙ sym (last_of-push events event);
@@ -129,11 +131,12 @@ more_is a b events event g begun h =
     filled_is b (events ++ event ∷ []) h ∙ rw (still_begun a b event g begun, begun, g.size, g.thread, g.serial, g.wall, g.pid) refl
 
 -- a buffer without events
-pub holds_none : (a : Inside) → 72 ≤ length a.bytes.items → length a.bytes.items ≤ 1048576 → a.used ≤ length a.bytes.items → take a.used a.bytes.items ≡ used_bytes (filled_with a []) → a.last ≡ None → a.count ≡ 0 → Holds a []
-holds_none a least most within bytes last count = record {
+pub holds_none : (a : Inside) → 72 ≤ length a.bytes.items → length a.bytes.items ≤ 1048576 → a.used ≤ length a.bytes.items → PreambleFits (filled_with a []) → take a.used a.bytes.items ≡ used_bytes (filled_with a []) → a.last ≡ None → a.count ≡ 0 → Holds a []
+holds_none a least most within preamble bytes last count = record {
   least = least;
   most = most;
   within = within;
+  preamble = preamble;
   bytes = bytes;
   unbegun = λ none. refl;
   last = last;
@@ -194,16 +197,17 @@ begun_as a bytes used thread serial wall pid = record { bytes = with_items a.byt
 
 -- beginning a segment leaves a buffer without events
 pub begin_leaves : (a : Inside) (now : Filled) (bytes : List ℕ) (used thread serial : ℕ) (wall : Wall) (pid : ℕ) → filled_in a ≡ now → IsFilled a
-    → length bytes ≡ length a.bytes.items → take used bytes ≡ body thread wall pid [] → used ≡ 48
+    → (thread < 2 ^ 32) × (wall.secs < 2 ^ 64) × (wall.micros < 2 ^ 32) × (pid < 2 ^ 32) → length bytes ≡ length a.bytes.items → take used bytes ≡ body thread wall pid [] → used ≡ 48
     → IsFilled (begun_as a bytes used thread serial wall pid)
     × (filled_in (begun_as a bytes used thread serial wall pid) ≡ record { size = now.size; begun = true; thread = thread; serial = serial; wall = wall; pid = pid; events = [] })
-begin_leaves a now bytes used thread serial wall pid seen filled size written next =
+begin_leaves a now bytes used thread serial wall pid seen filled (thread_fits, secs_fit, micros_fit, pid_fits) size written next =
     let b = begun_as a bytes used thread serial wall pid in
     let begun : ltb 0 used ≡ true = lt-ltb 0 used (omega arith) in
     let over = with_items_is a.bytes bytes (size ∙ sym a.bytes.ok.0) in
     let long : length b.bytes.items ≡ length a.bytes.items = ap length over ∙ size in
     let told : take used b.bytes.items ≡ body thread wall pid [] = ap (take used) over ∙ written in
-    let holds : Holds b [] = holds_none b (omega (arith, filled.least, long)) (omega (arith, filled.most, long)) (omega (arith, filled.least, long)) (rw begun told) refl refl in
+    let holds : Holds b [] = holds_none b (omega (arith, filled.least, long)) (omega (arith, filled.most, long)) (omega (arith, filled.least, long))
+    (record { thread = thread_fits; secs = secs_fit; micros = micros_fit; pid = pid_fits }) (rw begun told) refl refl in
     let size' : length b.bytes.items ≡ now.size = long ∙ ap (λ (v : Filled). v.size) seen in
     (is_filled b [] holds, filled_is b [] holds ∙ rw (begun, size') refl)
 
@@ -215,5 +219,16 @@ pub new_leaves : (bytes : Vec ℕ Global) (size : ℕ) → 72 ≤ size → size 
 new_leaves bytes size least most e =
     let b = unbegun bytes in
     let long : length bytes.items ≡ size = sym bytes.ok.0 ∙ e in
-    let holds : Holds b [] = holds_none b (omega arith) (omega arith) (omega arith) refl refl refl in
+    let holds : Holds b [] = holds_none b (omega arith) (omega arith) (omega arith)
+    (record { thread = lit< tt; secs = lit< tt; micros = lit< tt; pid = lit< tt }) refl refl refl in
     (is_filled b [] holds, filled_is b [] holds ∙ rw long refl)
+
+-- what a buffer holds fits
+pub holds_fits : (a : Inside) (now : Filled) → filled_in a ≡ now → IsFilled a → BufferFits now
+holds_fits a now seen holds =
+    subst BufferFits seen (record {
+      preamble = holds.preamble;
+      events = holds.fit;
+      within = omega (arith, ap length holds.bytes, length-take a.used a.bytes.items);
+      most = holds.most;
+    })

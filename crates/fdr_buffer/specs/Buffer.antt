@@ -5,6 +5,7 @@ use Rattle.fdr_buffer.specs.declared.buffer.TheConstants.{LEAST, LARGEST}
 use Rattle.fdr_buffer.specs.declared.buffer.Buffer.TheInside.{Inside}
 use Rattle.fdr_buffer.specs.Segments.{preamble_length, EventFits}
 use Rattle.fdr_buffer.specs.Filled.{Filled, used_bytes, last_of}
+use Rattle.fdr_buffer.specs.Fits.{PreambleFits}
 use Rattle.fdr_buffer.specs.Telling.{events_in}
 
 -- the buffer with these events
@@ -24,6 +25,7 @@ pub record Holds (a : Inside) (events : List Event) : Type 0 where
   pub least : LEAST ≤ length a.bytes.items
   pub most : length a.bytes.items ≤ LARGEST
   pub within : a.used ≤ length a.bytes.items
+  pub preamble : PreambleFits (filled_with a events)
   pub bytes : take a.used a.bytes.items ≡ used_bytes (filled_with a events)
   pub unbegun : a.used ≡ 0 → events ≡ []
   pub last : a.last ≡ last_of events

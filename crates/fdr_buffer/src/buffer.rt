@@ -3,6 +3,7 @@
 ghost use Rattle.std.specs.Prelude.{◌≡◌, ◌<◌, ◌≤◌, ◌^◌, [], ◌∷◌, ◌++◌, true, length, IsTrue, IfOk};
 ghost use Rattle.fdr_buffer.specs.Segments.{has_room};
 ghost use Rattle.fdr_buffer.specs.Filled.{empty_buffer, used_bytes};
+ghost use Rattle.fdr_buffer.specs.Fits.{BufferFits};
 
 use crate::lead::Lead;
 use crate::writing::{put_event, put_preamble};
@@ -120,7 +121,9 @@ impl Buffer {
 
     /// The bytes of the segment, with its preamble: none where the buffer isn't begun.
     pub fn bytes(&self) -> &[u8]
-        ensures { result.now ≡ used_bytes self.now }
+        ensures bytes { result.now ≡ used_bytes self.now }
+        // What every buffer holds fits its records and its size.
+        ensures fits { BufferFits self.now }
     {
         &self.bytes[..self.used]
     }

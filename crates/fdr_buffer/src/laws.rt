@@ -1,10 +1,11 @@
 //! What follows for segments. Each law is the contract of a function that does nothing.
 
-ghost use Rattle.std.specs.Prelude.{◌≡◌, ◌≢◌, ◌≤◌, [], ◌∷◌, ◌++◌, List, ℕ, All, IsTrue, IsFalse};
+ghost use Rattle.std.specs.Prelude.{◌≡◌, ◌≢◌, ◌≤◌, [], ◌∷◌, ◌++◌, List, ℕ, All, IsTrue, IsFalse, length};
 ghost use Rattle.std.specs.List.{flat_map};
+ghost use Rattle.xray_io.specs.declared.faults.Wall.{Wall};
 ghost use Rattle.fdr_record.specs.declared.event.Event.{Event};
 ghost use Rattle.fdr_buffer.specs.declared.buffer.TheConstants.{LEAST};
-ghost use Rattle.fdr_buffer.specs.Segments.{has_room, segments};
+ghost use Rattle.fdr_buffer.specs.Segments.{body, has_room, segments};
 
 /// One event more begins the first segment, joins the last one where there is room, and else begins
 /// one more. So buffers that are filled by `fits` and `put`, each taken where the one before has no
@@ -34,4 +35,10 @@ pub fn segments_hold_all()
     ensures some { (size : ℕ) (events : List Event) → All (λ s. s ≢ []) (segments size events) }
     ensures room { (size : ℕ) (events : List Event) → LEAST ≤ size
         → All (λ s. IsTrue (has_room size s)) (segments size events) }
+{}
+
+/// Events with room in a buffer of a size have no more bytes, with their preamble, than the size.
+pub fn a_body_has_room()
+    ensures { (size thread : ℕ) (wall : Wall) (pid : ℕ) (events : List Event)
+        → IsTrue (has_room size events) → length (body thread wall pid events) ≤ size }
 {}

@@ -9,7 +9,7 @@ mod lead;
 mod writing;
 
 pub use buffer::{Buffer, LARGEST, LEAST};
-pub use laws::{a_segment_grows, one_event_fits, segments_hold_all};
+pub use laws::{a_body_has_room, a_segment_grows, one_event_fits, segments_hold_all};
 
 #[cfg(test)]
 mod tests;

@@ -14,6 +14,8 @@ pub(crate) fn put_preamble(bytes: &mut [u8], thread: u32, wall: Wall, pid: u32) 
     requires { preamble_length ≤ length bytes.old }
     ensures bytes { take result bytes.new ≡ body thread wall pid [] }
     ensures next { result ≡ preamble_length }
+    ensures secs { wall.secs < 2 ^ 64 }
+    ensures micros { wall.micros < 2 ^ 32 }
 {
     let at = put_rec(&Rec::NewBuffer { thread }, bytes, 0);
     let at = put_rec(&Rec::WallTime { wall }, bytes, at);

@@ -17,7 +17,7 @@ use Rattle.fdr_buffer.specs.Filled.{Filled, used_bytes}
 use Rattle.fdr_file.specs.declared.header.Header.{Header}
 use Rattle.fdr_file.specs.Events.{counter_at, cpu_of, deltas_since, events_behind, whole_counter}
 use Rattle.fdr_file.specs.Grammar.{AreBlocks, AreSpelled, BeginWithCpu, IsBlock, IsHeader, IsInner, IsTrace, block_records}
-use Rattle.fdr_file.specs.Files.{BufferFits, HeaderFits, block_bytes, block_told, file_bytes, flags_of, header_bytes, trace_told}
+use Rattle.fdr_file.specs.Files.{BlockFits, HeaderFits, block_bytes, block_told, file_bytes, flags_of, header_bytes, trace_told}
 
 -- ---- the bytes of records
 
@@ -153,8 +153,9 @@ body_spelled : (b : Filled) → b.begun ≡ true → bytes_of (block_records (bl
 body_spelled b begun =
     rw begun (flat_map-append record_bytes (NewBuffer b.thread ∷ WallTime b.wall ∷ Pid b.pid ∷ []) (records_behind None b.events))
 
-block_is : (b : Filled) → BufferFits b → IsBlock (block_bytes b) (block_told b)
-block_is b fits =
+block_is : (b : Filled) → BlockFits b → IsBlock (block_bytes b) (block_told b)
+block_is b block =
+    let fits = block.fits in
     let records = records_behind None b.events in
     let all = tell_all None b.events (Pid b.pid ∷ WallTime b.wall ∷ NewBuffer b.thread ∷ []) (recursion_from_All EventFits b.events fits.events) tt in
     record {
@@ -162,15 +163,15 @@ block_is b fits =
       body = used_bytes b;
       parts = refl;
       named = spells_own (Extents (length (used_bytes b)));
-      few = fits.few;
+      few = omega (arith, fits.within, fits.most);
       records = records;
-      spelled = subst (AreSpelled (block_records (block_told b) records)) (body_spelled b fits.begun) (spelled_own (block_records (block_told b) records) (fits.thread, ((fits.secs, fits.micros), (fits.pid, all.fit))));
+      spelled = subst (AreSpelled (block_records (block_told b) records)) (body_spelled b block.begun) (spelled_own (block_records (block_told b) records) (fits.preamble.thread, ((fits.preamble.secs, fits.preamble.micros), (fits.preamble.pid, all.fit))));
       inner = all.inner;
       based = based b.events;
       told = sym all.told;
     }
 
-blocks_are : (buffers : List Filled) → AllByRecursion BufferFits buffers → AreBlocks (map block_told buffers) (flat_map block_bytes buffers)
+blocks_are : (buffers : List Filled) → AllByRecursion BlockFits buffers → AreBlocks (map block_told buffers) (flat_map block_bytes buffers)
 blocks_are [] fit = refl
 blocks_are (b ∷ buffers) (here, rest) = (block_bytes b, flat_map block_bytes buffers, flat_map-cons block_bytes b buffers, block_is b here, blocks_are buffers rest)
 
@@ -208,11 +209,11 @@ header_is header fits = record {
   whole = refl;
 }
 
-pub file_is_trace : (header : Header) (buffers : List Filled) → HeaderFits header → All BufferFits buffers → IsTrace (file_bytes header buffers) (trace_told header buffers)
+pub file_is_trace : (header : Header) (buffers : List Filled) → HeaderFits header → All BlockFits buffers → IsTrace (file_bytes header buffers) (trace_told header buffers)
 file_is_trace header buffers header_fits fit = record {
   front = header_bytes header;
   behind = flat_map block_bytes buffers;
   parts = refl;
   header = header_is header header_fits;
-  blocks = blocks_are buffers (recursion_from_All BufferFits buffers fit);
+  blocks = blocks_are buffers (recursion_from_All BlockFits buffers fit);
 }

@@ -1,11 +1,11 @@
 -- The bytes of a trace file, as it is written.
-use Rattle.std.specs.Prelude.{◌≡◌, ◌<◌, ◌^◌, ℕ, ◌+◌, List, ◌++◌, All, IsTrue, length, map, replicate, if◌then◌else◌}
+use Rattle.std.specs.Prelude.{◌≡◌, ◌<◌, ◌^◌, ℕ, ◌+◌, List, ◌++◌, IsTrue, length, map, replicate, if◌then◌else◌}
 use Rattle.std.specs.List.{flat_map}
 use Rattle.byteorder.specs.Endian.{little_bytes}
 use Rattle.fdr_record.specs.declared.rec.Rec.TheVariants.{Extents}
 use Rattle.fdr_record.specs.Records.{record_bytes}
 use Rattle.fdr_buffer.specs.Filled.{Filled, used_bytes}
-use Rattle.fdr_buffer.specs.Segments.{EventFits}
+use Rattle.fdr_buffer.specs.Fits.{BufferFits}
 use Rattle.fdr_file.specs.declared.header.Header.{Header}
 use Rattle.fdr_file.specs.declared.trace.Block.{Block}
 use Rattle.fdr_file.specs.declared.trace.Trace.{Trace}
@@ -44,12 +44,7 @@ pub record HeaderFits (header : Header) : Type 0 where
   pub frequency : header.frequency < 2 ^ 64
   pub size : header.size < 2 ^ 64
 
--- a buffer that was begun, with fields as the program's types bound them, and functions' ids below 2^28
-pub record BufferFits (buffer : Filled) : Type 0 where
+-- a buffer that was begun, and so has a preamble, and that fits its records
+pub record BlockFits (buffer : Filled) : Type 0 where
   pub begun : IsTrue buffer.begun
-  pub thread : buffer.thread < 2 ^ 32
-  pub secs : buffer.wall.secs < 2 ^ 64
-  pub micros : buffer.wall.micros < 2 ^ 32
-  pub pid : buffer.pid < 2 ^ 32
-  pub events : All EventFits buffer.events
-  pub few : length (used_bytes buffer) < 2 ^ 64
+  pub fits : BufferFits buffer

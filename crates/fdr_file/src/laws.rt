@@ -5,7 +5,7 @@ ghost use Rattle.fdr_buffer.specs.Filled.{Filled};
 ghost use Rattle.fdr_record.specs.Refusals.{Answers};
 ghost use Rattle.fdr_file.specs.declared.header.Header.{Header};
 ghost use Rattle.fdr_file.specs.declared.trace.Trace.{Trace};
-ghost use Rattle.fdr_file.specs.Files.{file_bytes, trace_told, BufferFits, HeaderFits};
+ghost use Rattle.fdr_file.specs.Files.{file_bytes, trace_told, BlockFits, HeaderFits};
 ghost use Rattle.fdr_file.specs.Grammar.{IsTrace};
 ghost use Rattle.fdr_file.specs.Traces.{record_in, trace_of};
 
@@ -40,8 +40,8 @@ pub fn what_is_read_is_a_trace()
 /// the events of the buffers, in order.
 pub fn a_file_reads_back()
     ensures trace { (header : Header) (buffers : List Filled) → HeaderFits header
-        → All BufferFits buffers → IsTrace (file_bytes header buffers) (trace_told header buffers) }
+        → All BlockFits buffers → IsTrace (file_bytes header buffers) (trace_told header buffers) }
     ensures read { (header : Header) (buffers : List Filled) → HeaderFits header
-        → All BufferFits buffers
+        → All BlockFits buffers
         → trace_of (file_bytes header buffers) ≡ Ok (trace_told header buffers) }
 {}

@@ -10,15 +10,21 @@ pub enum Kind {
     TailExit,
 }
 
-/// One event of a thread: that it entered or left a function, where and when.
+/// One event of a thread: that it entered or left a function, where and when. It takes 16 bytes: its
+/// widest field stands first.
 #[derive(Clone, Copy, Debug, PartialEq, Eq)]
 pub struct Event {
-    /// The number of the CPU that the thread was on.
-    pub cpu: u16,
-    /// The id of the function, from 1. A function record has 28 bits for it.
-    pub func: u32,
-    /// What happened.
-    pub kind: Kind,
     /// The counter at the passing, as a processor's time-stamp counter counts cycles.
     pub tsc: u64,
+    /// The id of the function, from 1. A function record has 28 bits for it.
+    pub func: u32,
+    /// The number of the CPU that the thread was on.
+    pub cpu: u16,
+    /// What happened.
+    pub kind: Kind,
 }
+
+/// How many bytes an event takes in memory.
+pub const EVENT_BYTES: usize = size_of::<Event>();
+
+const _: () = prove!(EVENT_BYTES == 16);

@@ -1,6 +1,6 @@
 -- Runs of marks: what stands in front of a list, and how their text is put together.
 use Rattle.std.proofs.Common.{◌≡◌, ◌≢◌, ◌<◌, ◌≤◌, ◌+◌, ◌-◌, ℕ, zero, suc, List, [], ◌∷◌, ◌++◌, length, drop, replicate, Bool, refl, sym, ap, ◌∙◌, arith, append_assoc, add-one, eq-eqb}
-use Rattle.std.specs.Prelude.{◌==◌, true, false, map, slice_get, Some, Option}
+use Rattle.std.specs.Prelude.{◌==◌, true, false, map, slice_get, Some, Option, Ok}
 use Rattle.std.specs.List.{flat_map, join_with_byte}
 use Rattle.std.proofs.Math.Seq.{drop-cons}
 use Rattle.std.proofs.lemmas.Bool.{eqb-true, ne_eqb}
@@ -10,7 +10,8 @@ use Rattle.std.proofs.lemmas.Option.{slice_get_within, get_or_from_slice_get}
 use Rattle.handler_word.specs.declared.mark.Mark.{Mark}
 use Rattle.handler_word.specs.declared.mark.Mark.TheVariants.{Skipped, NoHandler, NotLogging, Recorded}
 use Rattle.handler_word.specs.Runs.{mark_byte, onto_runs, runs_of, run_text, runs_text}
-use Rattle.xray_io.specs.Text.{Gains}
+use Rattle.xray_io.specs.Calls.{Write}
+use Rattle.xray_io.specs.Text.{AddsText}
 use Rattle.xray_io.specs.declared.text.Text.{Text}
 
 -- marks that are printed alike are the same
@@ -109,8 +110,8 @@ pub next_and_later : (marks : List Mark) (run : Mark × ℕ) (behind : List Mark
     → (32 ∷ run_text run) ++ later_runs behind ≡ later_runs marks
 next_and_later marks run behind front = sym (ap (flat_map (λ run. 32 ∷ run_text run)) front)
 
--- a text has the runs of all marks before one of a number
-pub record HasRunsTo {S : Type 0} (written : S → Option (List ℕ)) (old new : Text S) (marks : List Mark) (end : ℕ) : Type 0 where
+-- a text was given the runs of all marks before one of a number
+pub record HasRunsTo {S : Type 0} (written : S → Option (List ℕ)) (faults : S → ℕ) (along : S → S → List Write → Type 0) (old new : Text S) (marks : List Mark) (end : ℕ) : Type 0 where
   pub given : List ℕ
-  pub gains : Gains written old new given
+  pub adds : AddsText written faults along old new given (Ok tt)
   pub whole : given ++ later_runs (drop end marks) ≡ runs_text marks

@@ -1,26 +1,20 @@
 //! The text of marks: each run of equal marks as its character and its length.
 
-ghost use Rattle.std.specs.Prelude.{◌≡◌, ◌<◌, ◌≤◌, ◌+◌, [], ◌∷◌, ◌++◌, length, drop, OnOk, OnErr};
+ghost use Rattle.std.specs.Prelude.{◌≡◌, ◌<◌, ◌≤◌, ◌+◌, [], ◌∷◌, ◌++◌, length, drop};
 ghost use Rattle.handler_word.specs.Runs.{mark_byte, runs_of, run_text, runs_text};
-ghost use Rattle.xray_io.specs.Faults.{Rose};
-ghost use Rattle.xray_io.specs.Sink.{Adds, AddsPrefix};
-ghost use Rattle.xray_io.specs.Text.{sink_of, loan_of, Gains, Breaks};
+ghost use Rattle.xray_io.specs.Text.{AddsText};
+ghost use Rattle.xray_io.specs.Writes.{WritesText};
 
 use crate::{Mark, Marks};
-use xray_io::{Piece, Sink, Text, WriteFault, text_adds_up};
+use xray_io::{Piece, Sink, Text, WriteFault};
 
 /// Writes the runs of marks, as `.3 n1 +20`: each longest run of equal marks as its character and its
 /// length, a space between them, or `-` for no marks. Takes no memory.
 ///
 /// On `WriteFault` a front of the text was written, and the sink counted a fault.
 pub fn write_runs<S: Sink>(marks: &Marks, sink: &mut S) -> Result<(), WriteFault>
-    ensures all { OnOk result
-        (Adds (S.written sink.old) (S.written sink.new) (runs_text marks.now.items)) }
-    ensures front { OnErr result
-        (AddsPrefix (S.written sink.old) (S.written sink.new) (runs_text marks.now.items)) }
-    ensures failed { OnErr result (Rose (S.faults sink.old) (S.faults sink.new)) }
-    ensures later { S.faults sink.old ≤ S.faults sink.new }
-    ensures follows { S.follows sink.old sink.new }
+    ensures { WritesText S.written S.faults S.along sink.old sink.new
+        (runs_text marks.now.items) result }
 {
     let mut text = Text::new(sink);
     add_runs(&mut text, marks)?;
@@ -29,20 +23,12 @@ pub fn write_runs<S: Sink>(marks: &Marks, sink: &mut S) -> Result<(), WriteFault
 
 /// Adds the runs of marks to a text, as `write_runs` writes them, for one that has more to say.
 pub fn add_runs<S: Sink>(text: &mut Text<S>, marks: &Marks) -> Result<(), WriteFault>
-    ensures gains { OnOk result
-        (Gains S.written text.old text.new (runs_text marks.now.items)) }
-    ensures breaks { OnErr result
-        (Breaks S.written text.old (sink_of text.new) (runs_text marks.now.items)) }
-    ensures failed { OnErr result
-        (Rose (S.faults (sink_of text.old)) (S.faults (sink_of text.new))) }
-    ensures later { S.faults (sink_of text.old) ≤ S.faults (sink_of text.new) }
-    ensures follows { S.follows (sink_of text.old) (sink_of text.new) }
-    ensures loan { loan_of text.new ≡ loan_of text.old }
+    ensures { AddsText S.written S.faults S.along text.old text.new
+        (runs_text marks.now.items) result }
 {
     if marks.is_empty() {
         return text.bytes(b"-");
     }
-    text_adds_up::<S>();
     let first = run_at(marks, 0);
     add_run(text, b"", first)?;
     let mut end = first.length;
@@ -83,15 +69,8 @@ fn run_at(marks: &Marks, start: u32) -> Run
 
 /// Adds a run, and what stands before it.
 fn add_run<S: Sink>(text: &mut Text<S>, before: &'static [u8], run: Run) -> Result<(), WriteFault>
-    ensures gains { OnOk result
-        (Gains S.written text.old text.new (before.now ++ run_text (run.mark, run.length))) }
-    ensures breaks { OnErr result (Breaks S.written text.old (sink_of text.new)
-        (before.now ++ run_text (run.mark, run.length))) }
-    ensures failed { OnErr result
-        (Rose (S.faults (sink_of text.old)) (S.faults (sink_of text.new))) }
-    ensures later { S.faults (sink_of text.old) ≤ S.faults (sink_of text.new) }
-    ensures follows { S.follows (sink_of text.old) (sink_of text.new) }
-    ensures loan { loan_of text.new ≡ loan_of text.old }
+    ensures { AddsText S.written S.faults S.along text.old text.new
+        (before.now ++ run_text (run.mark, run.length)) result }
 {
     text.pieces(&[
         Piece::Bytes(before),

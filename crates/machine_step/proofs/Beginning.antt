@@ -103,7 +103,7 @@ loads_begun a begun all end last run =
       last = last;
       run = run;
       wanted = λ i load found. absurd cc;
-      allowed = all_none (λ (load : Load). IsAllowed a.image.now load.word load.value);
+      allowed = all_none (λ (load : Load). IsAllowed a.image.now a.thread load.word load.value);
       marks = begun.unmarked ∙ sym (no_marks a.image.now a.thread a.hold 0 (sleds_of all));
       wants = wants_at a sound [] all all end last (wanted_behind (traced a) all []) run refl none
           (ap (λ n. next_from a.image.now a.thread a.hold n (sleds_of all) []) (sym none))

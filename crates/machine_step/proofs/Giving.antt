@@ -107,16 +107,17 @@ all_one : {X : Type 0} (P : X → Type 0) (x : X) → P x → All P (x ∷ [])
 all_one P x p zero d below = p
 all_one P x p (suc k) d below = absurd (omega arith)
 
-allowed_more : (program : Program) (loads : List Load) (load : Load) → All (λ (l : Load). IsAllowed program l.word l.value) loads
-    → IsAllowed program load.word load.value → All (λ (l : Load). IsAllowed program l.word l.value) (loads ++ load ∷ [])
-allowed_more program loads load allowed is =
-    All-append (λ (l : Load). IsAllowed program l.word l.value) loads (load ∷ []) allowed
-    (all_one (λ (l : Load). IsAllowed program l.word l.value) load is)
+allowed_more : (program : Program) (thread : ℕ) (loads : List Load) (load : Load)
+    → All (λ (l : Load). IsAllowed program thread l.word l.value) loads
+    → IsAllowed program thread load.word load.value → All (λ (l : Load). IsAllowed program thread l.word l.value) (loads ++ load ∷ [])
+allowed_more program thread loads load allowed is =
+    All-append (λ (l : Load). IsAllowed program thread l.word l.value) loads (load ∷ []) allowed
+    (all_one (λ (l : Load). IsAllowed program thread l.word l.value) load is)
 
 -- ---- a passing that goes on
 
 pub goes_on_loads : (a : Inside) → IsSound a → (place k : ℕ) (at_stage next : Stage) (value : ℕ) → a.stand ≡ Loading place k at_stage
-    → behind_load at_stage value ≡ Loads next → IsAllowed a.image.now (word_at a.image.now a.thread k at_stage) value
+    → behind_load at_stage value ≡ Loads next → IsAllowed a.image.now a.thread (word_at a.image.now a.thread k at_stage) value
     → (all : List Passing) (loads : List Load) → HasLoaded (traced a) all loads
     → HasLoaded (traced (standing a (Loading place k next))) all (loads ++ record { word = word_at a.image.now a.thread k at_stage; value = value } ∷ [])
 goes_on_loads a sound place k at_stage next value is behind allowed all loads has =
@@ -130,7 +131,7 @@ goes_on_loads a sound place k at_stage next value is behind allowed all loads ha
       last = has.last;
       run = has.run;
       wanted = wanted_more (traced a) all loads load has.wanted (wanted_word a place k at_stage is all loads has);
-      allowed = allowed_more a.image.now loads load has.allowed allowed;
+      allowed = allowed_more a.image.now a.thread loads load has.allowed allowed;
       marks = sym adds.0;
       wants = adds.1;
     }
@@ -265,7 +266,7 @@ wants_at b sound passed rest all end last wanted run is long wants (Ended e) pas
     )
 
 pub ends_loads : (a : Inside) → IsSound a → (place k : ℕ) (at_stage : Stage) (value : ℕ) (is : a.stand ≡ Loading place k at_stage) (mark : Mark)
-    → behind_load at_stage value ≡ Ends mark → IsAllowed a.image.now (word_at a.image.now a.thread k at_stage) value
+    → behind_load at_stage value ≡ Ends mark → IsAllowed a.image.now a.thread (word_at a.image.now a.thread k at_stage) value
     → (m : Machine) (ms : MarkList) (stand : Stand) → (at : IsAtPassing a place k) → Ending a m ms stand at.address mark
     → (all : List Passing) (loads : List Load) → HasLoaded (traced a) all loads
     → HasLoaded (traced (passed_on a m ms stand)) all (loads ++ record { word = word_at a.image.now a.thread k at_stage; value = value } ∷ [])
@@ -284,7 +285,7 @@ ends_loads a sound place k at_stage value is mark behind allowed m ms stand at e
       last = has.last;
       run = has.run;
       wanted = wanted_more (traced a) all loads load has.wanted (wanted_word a place k at_stage is all loads has);
-      allowed = allowed_more a.image.now loads load has.allowed allowed;
+      allowed = allowed_more a.image.now a.thread loads load has.allowed allowed;
       marks = ending.items ∙ sym adds.0;
       wants = wants_at (passed_on a m ms stand) after (at.passed ++ at.next ∷ []) here.later all has.end has.last
           (wanted_behind (traced a) all (loads ++ load ∷ [])) has.run

@@ -18,24 +18,30 @@ use Rattle.handler_word.specs.declared.mark.Mark.{Mark}
 use Rattle.handler_word.specs.declared.mark.Mark.TheVariants.{Skipped, NoHandler}
 use Rattle.machine_step.specs.Loads.{Load, Reading, Wants, Marked, from_state, from_handler, from_offset, from_opcode, from_id, from_head, from_release, from_start, is_held_at, next_from, next_load}
 use Rattle.machine_step.specs.Whole.{AreWhole, IsWhole, Loaded, loads_by_passing}
-use Rattle.machine_step.specs.ReadAlong.{ReadAlong}
-use Rattle.machine_step.proofs.AlongCode.{Fits, along_fits, behind, by_test, loads_allowed, next_is}
+use Rattle.machine_step.specs.Follows.{Follows}
+use Rattle.machine_step.proofs.AlongCode.{Fits, follows_fits, behind, by_test, loads_allowed, next_is}
 
--- loads of the words that `next` wants behind each other, each of a value that is allowed
+-- a load of a part of a sled gave a value that is allowed there
+abbrev IsPartAllowed : Program → Load → Type 0
+IsPartAllowed program load =
+    (k : ℕ) (sled : Sled) (part : Part) → slice_get program.sleds k ≡ Some sled → load.word ≡ word_of k part
+    → IsAllowedPart program.trampolines sled part load.value
+
+-- loads of the words that `next` wants behind each other, those of parts of sleds each of a value that is allowed
 abbrev Fit : Program → (List Load → Option ℕ) → List Load → Type 0
 Fit program next [] = Unit {0}
 Fit program next (load ∷ loads) =
-    (next [] ≡ Some load.word) × IsAllowed program load.word load.value × Fit program (λ more. next (load ∷ more)) loads
+    (next [] ≡ Some load.word) × IsPartAllowed program load × Fit program (λ more. next (load ∷ more)) loads
 
-fit_from : (program : Program) (next : List Load → Option ℕ) (loads : List Load)
+fit_from : (program : Program) (thread : ℕ) (next : List Load → Option ℕ) (loads : List Load)
     → ((i : ℕ) (load : Load) → slice_get loads i ≡ Some load → next (take i loads) ≡ Some load.word)
-    → All (λ load. IsAllowed program load.word load.value) loads → Fit program next loads
-fit_from program next [] wanted allowed = tt
-fit_from program next (load ∷ loads) wanted allowed =
-    let P : Load → Type 0 = λ l. IsAllowed program l.word l.value in (
+    → All (λ load. IsAllowed program thread load.word load.value) loads → Fit program next loads
+fit_from program thread next [] wanted allowed = tt
+fit_from program thread next (load ∷ loads) wanted allowed =
+    let P : Load → Type 0 = λ l. IsAllowed program thread l.word l.value in (
       wanted 0 load refl,
-      All-head P load loads allowed,
-      fit_from program (λ more. next (load ∷ more)) loads (λ i l at. wanted (suc i) l at) (All-tail P load loads allowed),
+      (All-head P load loads allowed).part,
+      fit_from program thread (λ more. next (load ∷ more)) loads (λ i l at. wanted (suc i) l at) (All-tail P load loads allowed),
     )
 
 fit_same : (program : Program) (next other : List Load → Option ℕ) (loads : List Load) → ((ls : List Load) → next ls ≡ other ls)
@@ -125,7 +131,7 @@ module _ (program : Program) (next : List Load → Option ℕ) where
         load_before program next (λ own. Unit {0}) (OfSled program k (Found program k Offset)) load loads more
         (λ own found sled at.
         let word : load.word ≡ word_of k Offset = sym (same_Some (word_of k Offset) load.word first) in
-        first_loaded own load k Offset (patched program.trampolines sled Offset) word (allowed.part k sled Offset at word))
+        first_loaded own load k Offset (patched program.trampolines sled Offset) word (allowed k sled Offset at word))
         (cut_handler loads more mark same rest)
 
     cut_opcode : (loads more : List Load) (mark : Mark) → from_opcode program k loads ≡ Marked mark more
@@ -136,7 +142,7 @@ module _ (program : Program) (next : List Load → Option ℕ) where
         (λ own found sled at.
         let word : load.word ≡ word_of k Opcode = sym (same_Some (word_of k Opcode) load.word first) in
         record {
-          opcode = first_loaded own load k Opcode (patched program.trampolines sled Opcode) word (allowed.part k sled Opcode at word);
+          opcode = first_loaded own load k Opcode (patched program.trampolines sled Opcode) word (allowed k sled Opcode at word);
           offset = one_more own load k Offset (patched program.trampolines sled Offset) (found sled at);
         })
         (cut_offset loads more mark same rest)
@@ -150,7 +156,7 @@ module _ (program : Program) (next : List Load → Option ℕ) where
         let word : load.word ≡ word_of k Id = sym (same_Some (word_of k Id) load.word first) in
         let later = found sled at in
         record {
-          id = first_loaded own load k Id (patched program.trampolines sled Id) word (allowed.part k sled Id at word);
+          id = first_loaded own load k Id (patched program.trampolines sled Id) word (allowed k sled Id at word);
           behind_id = record {
             opcode = one_more own load k Opcode (patched program.trampolines sled Opcode) later.opcode;
             offset = one_more own load k Offset (patched program.trampolines sled Offset) later.offset;
@@ -186,7 +192,7 @@ module _ (program : Program) (next : List Load → Option ℕ) where
         (cut_id loads more mark same fit))
         (λ e same fit.
         last_load program next (OfSled program k (IsWhole program k)) load loads more Skipped mark same fit
-        (λ sled at. unpatched_head_loaded load sled word (eqb-false load.value patched_head e) (allowed.part k sled Head at word)))
+        (λ sled at. unpatched_head_loaded load sled word (eqb-false load.value patched_head e) (allowed k sled Head at word)))
         same rest
 
     whole_before : (load : Load) (sled : Sled) (own : List Load) → IsWhole program k sled own → IsWhole program k sled (load ∷ own)
@@ -284,23 +290,25 @@ whole_from program thread hold number (j ∷ sleds) loads fit n k sled own at_n 
 
 pub all_whole : (program : Program) (thread : ℕ) (hold : Option ℕ) (sleds : List ℕ) (loads : List Load)
     → ((i : ℕ) (load : Load) → slice_get loads i ≡ Some load → next_load program thread hold sleds (take i loads) ≡ Some load.word)
-    → All (λ load. IsAllowed program load.word load.value) loads → AreWhole program thread hold sleds loads
+    → All (λ load. IsAllowed program thread load.word load.value) loads → AreWhole program thread hold sleds loads
 all_whole program thread hold sleds loads wanted allowed =
-    whole_from program thread hold 0 sleds loads (fit_from program (next_load program thread hold sleds) loads wanted allowed)
+    whole_from program thread hold 0 sleds loads (fit_from program thread (next_load program thread hold sleds) loads wanted allowed)
 
-fit_along : (program : Program) (code : ℕ → ℕ → ℕ) (next : List Load → Option ℕ) (low : ℕ) (loads : List Load) (high : ℕ)
-    → Fits program code next low loads high → All (λ load. IsAllowed program load.word load.value) loads → Fit program next loads
-fit_along program code next low [] high fits allowed = tt
-fit_along program code next low (load ∷ loads) high (place, le, first, value, rest) allowed =
-    let P : Load → Type 0 = λ l. IsAllowed program l.word l.value in (
+fit_along : (program : Program) (thread : ℕ) (code : ℕ → ℕ → ℕ) (next : List Load → Option ℕ) (low : ℕ) (loads : List Load) (high : ℕ)
+    → Fits program code next low loads high → All (λ load. IsAllowed program thread load.word load.value) loads → Fit program next loads
+fit_along program thread code next low [] high fits allowed = tt
+fit_along program thread code next low (load ∷ loads) high (place, le, first, value, rest) allowed =
+    let P : Load → Type 0 = λ l. IsAllowed program thread l.word l.value in (
       first,
-      All-head P load loads allowed,
-      fit_along program code (λ more. next (load ∷ more)) place loads high rest (All-tail P load loads allowed),
+      (All-head P load loads allowed).part,
+      fit_along program thread code (λ more. next (load ∷ more)) place loads high rest (All-tail P load loads allowed),
     )
 
-pub along_whole : (program : Program) (code : ℕ → ℕ → ℕ) → KeepsSleds program code → (thread : ℕ) (hold : Option ℕ) (sleds : List ℕ)
-    (loads : List Load) (place : ℕ) → ReadAlong program code thread hold sleds loads place → AreWhole program thread hold sleds loads
-along_whole program code keeps thread hold sleds loads place along =
+pub follows_whole : (program : Program) (code : ℕ → ℕ → ℕ) (start : ℕ) (bound : ℕ → ℕ) (thread : ℕ) → KeepsSleds program thread code
+    → (hold : Option ℕ) (sleds : List ℕ) (loads : List Load) (place : ℕ)
+    → Follows program code start bound thread hold sleds loads place → AreWhole program thread hold sleds loads
+follows_whole program code start bound thread keeps hold sleds loads place follows =
     whole_from program thread hold 0 sleds loads
-    (fit_along program code (next_load program thread hold sleds) 0 loads place (along_fits program code thread hold sleds along)
-    (loads_allowed program code keeps thread hold sleds along))
+    (fit_along program thread code (next_load program thread hold sleds) start loads place
+    (follows_fits program code start bound thread hold sleds follows)
+    (loads_allowed program code start bound thread keeps hold sleds follows))

@@ -2,7 +2,7 @@ pub mod PlainStep
 pub mod Course
 pub mod PlainEnd
 pub mod Loads
-pub mod ReadAlong
+pub mod Follows
 pub mod Events
 pub mod Traced
 pub mod Whole

@@ -6,8 +6,8 @@ ghost use Rattle.sled_words.specs.ChangingCode.{KeepsSleds};
 ghost use Rattle.machine_step.specs.declared.limits.Limits.{Limits};
 ghost use Rattle.machine_step.specs.declared.end.End.{End};
 ghost use Rattle.machine_step.specs.PlainStep.{State, Passing, PlainRun};
+ghost use Rattle.machine_step.specs.Follows.{Follows};
 ghost use Rattle.machine_step.specs.Loads.{AreWanted, Load, next_load};
-ghost use Rattle.machine_step.specs.ReadAlong.{ReadAlong};
 ghost use Rattle.machine_step.specs.Whole.{AreWhole};
 
 /// A thread of an accepted image reaches one end: all plain runs of it have the same passings, the
@@ -32,25 +32,26 @@ pub fn some_end()
 {}
 
 /// However the loads of a thread fall between the changes of code that keeps sleds whole, each value that
-/// it has loaded is allowed, and so is the next one; and each passing decodes its sled whole. Nothing is
-/// asked of the thread or of the sleds that it passes.
-pub fn what_is_read_along_is_allowed()
-    ensures wanted { (program : Program) (code : ℕ → ℕ → ℕ) (thread : ℕ) (hold : Option ℕ) (sleds : List ℕ)
-        (loads : List Load) (place : ℕ)
-        → ReadAlong program code thread hold sleds loads place
+/// it has loaded is allowed, and so is the next one; and each passing decodes its sled whole. It is the
+/// same for a replay's loads and for those of running threads. Nothing is asked of the thread, of the
+/// sleds that it passes or of the bounds.
+pub fn what_follows_is_allowed()
+    ensures wanted { (program : Program) (code : ℕ → ℕ → ℕ) (start : ℕ) (bound : ℕ → ℕ) (thread : ℕ) (hold : Option ℕ)
+        (sleds : List ℕ) (loads : List Load) (place : ℕ)
+        → Follows program code start bound thread hold sleds loads place
         → AreWanted program thread hold sleds loads }
-    ensures loaded { (program : Program) (code : ℕ → ℕ → ℕ) (thread : ℕ) (hold : Option ℕ) (sleds : List ℕ)
-        (loads : List Load) (place : ℕ) → KeepsSleds program code
-        → ReadAlong program code thread hold sleds loads place
-        → All (λ load. IsAllowed program load.word load.value) loads }
-    ensures next { (program : Program) (code : ℕ → ℕ → ℕ) (thread : ℕ) (hold : Option ℕ) (sleds : List ℕ)
-        (loads : List Load) (place word : ℕ) → KeepsSleds program code
-        → ReadAlong program code thread hold sleds loads place
+    ensures loaded { (program : Program) (code : ℕ → ℕ → ℕ) (start : ℕ) (bound : ℕ → ℕ) (thread : ℕ) (hold : Option ℕ)
+        (sleds : List ℕ) (loads : List Load) (place : ℕ) → KeepsSleds program thread code
+        → Follows program code start bound thread hold sleds loads place
+        → All (λ load. IsAllowed program thread load.word load.value) loads }
+    ensures next { (program : Program) (code : ℕ → ℕ → ℕ) (start : ℕ) (bound : ℕ → ℕ) (thread : ℕ) (hold : Option ℕ)
+        (sleds : List ℕ) (loads : List Load) (place word : ℕ) → KeepsSleds program thread code
+        → Follows program code start bound thread hold sleds loads place
         → next_load program thread hold sleds loads ≡ Some word
-        → IsAllowed program word (code place word) }
-    ensures whole { (program : Program) (code : ℕ → ℕ → ℕ) (thread : ℕ) (hold : Option ℕ) (sleds : List ℕ)
-        (loads : List Load) (place : ℕ) → KeepsSleds program code
-        → ReadAlong program code thread hold sleds loads place
+        → IsAllowed program thread word (code place word) }
+    ensures whole { (program : Program) (code : ℕ → ℕ → ℕ) (start : ℕ) (bound : ℕ → ℕ) (thread : ℕ) (hold : Option ℕ)
+        (sleds : List ℕ) (loads : List Load) (place : ℕ) → KeepsSleds program thread code
+        → Follows program code start bound thread hold sleds loads place
         → AreWhole program thread hold sleds loads }
 {}
 
@@ -59,6 +60,6 @@ pub fn what_is_read_along_is_allowed()
 pub fn allowed_loads_are_whole()
     ensures { (program : Program) (thread : ℕ) (hold : Option ℕ) (sleds : List ℕ) (loads : List Load)
         → AreWanted program thread hold sleds loads
-        → All (λ load. IsAllowed program load.word load.value) loads
+        → All (λ load. IsAllowed program thread load.word load.value) loads
         → AreWhole program thread hold sleds loads }
 {}

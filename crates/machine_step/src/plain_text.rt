@@ -1,29 +1,23 @@
 //! The plain text of a thread: its end and its counts, its registers, and its output.
 
-ghost use Rattle.std.specs.Prelude.{◌≡◌, ◌++◌, ◌≤◌, ◌<◌, length, OnOk, OnErr, slice_get, Some};
+ghost use Rattle.std.specs.Prelude.{◌≡◌, ◌++◌, ◌<◌, length, slice_get, Some};
 ghost use Rattle.machine_step.specs.PlainEnd.{state_of};
 ghost use Rattle.machine_step.specs.Texts.{plain_text, end_text, counts_text, registers_line, printed_registers, output_line, flag_text, line_feed};
-ghost use Rattle.xray_io.specs.Faults.{Rose};
-ghost use Rattle.xray_io.specs.Sink.{Adds, AddsPrefix};
-ghost use Rattle.xray_io.specs.Text.{sink_of, loan_of, Gains, Breaks};
+ghost use Rattle.xray_io.specs.Text.{AddsText};
+ghost use Rattle.xray_io.specs.Writes.{WritesText};
 
 use crate::end::End;
 use crate::plain_end::PlainEnd;
 use crate::registers::REGISTERS;
-use xray_io::{Piece, Sink, Text, WriteFault, text_adds_up};
+use xray_io::{Piece, Sink, Text, WriteFault};
 
 /// Writes the plain text of a thread's end: three lines, each with its line feed. Takes no memory.
 ///
 /// On `WriteFault` a front of the text was written, and the sink counted a fault.
 pub fn write_plain<S: Sink>(end: &PlainEnd, sink: &mut S) -> Result<(), WriteFault>
     requires { length end.now.regs.items ≡ REGISTERS }
-    ensures all { OnOk result (Adds (S.written sink.old) (S.written sink.new)
-        (plain_text end.now.thread end.now.end (state_of end.now))) }
-    ensures front { OnErr result (AddsPrefix (S.written sink.old) (S.written sink.new)
-        (plain_text end.now.thread end.now.end (state_of end.now))) }
-    ensures failed { OnErr result (Rose (S.faults sink.old) (S.faults sink.new)) }
-    ensures later { S.faults sink.old ≤ S.faults sink.new }
-    ensures follows { S.follows sink.old sink.new }
+    ensures { WritesText S.written S.faults S.along sink.old sink.new
+        (plain_text end.now.thread end.now.end (state_of end.now)) result }
 {
     let mut text = Text::new(sink);
     add_lines(&mut text, end)?;
@@ -33,17 +27,9 @@ pub fn write_plain<S: Sink>(end: &PlainEnd, sink: &mut S) -> Result<(), WriteFau
 /// Adds the three lines.
 fn add_lines<S: Sink>(text: &mut Text<S>, end: &PlainEnd) -> Result<(), WriteFault>
     requires { length end.now.regs.items ≡ REGISTERS }
-    ensures gains { OnOk result (Gains S.written text.old text.new
-        (plain_text end.now.thread end.now.end (state_of end.now))) }
-    ensures breaks { OnErr result (Breaks S.written text.old (sink_of text.new)
-        (plain_text end.now.thread end.now.end (state_of end.now))) }
-    ensures failed { OnErr result
-        (Rose (S.faults (sink_of text.old)) (S.faults (sink_of text.new))) }
-    ensures later { S.faults (sink_of text.old) ≤ S.faults (sink_of text.new) }
-    ensures follows { S.follows (sink_of text.old) (sink_of text.new) }
-    ensures loan { loan_of text.new ≡ loan_of text.old }
+    ensures { AddsText S.written S.faults S.along text.old text.new
+        (plain_text end.now.thread end.now.end (state_of end.now)) result }
 {
-    text_adds_up::<S>();
     add_counts(text, end.thread, end.end, end.instructions, end.passings)?;
     add_registers(text, &end.regs, end.zf)?;
     add_output(text, &end.output)
@@ -57,15 +43,8 @@ pub(crate) fn add_counts<S: Sink>(
     instructions: u64,
     passings: u32,
 ) -> Result<(), WriteFault>
-    ensures gains { OnOk result (Gains S.written text.old text.new
-        (counts_text thread end instructions passings)) }
-    ensures breaks { OnErr result (Breaks S.written text.old (sink_of text.new)
-        (counts_text thread end instructions passings)) }
-    ensures failed { OnErr result
-        (Rose (S.faults (sink_of text.old)) (S.faults (sink_of text.new))) }
-    ensures later { S.faults (sink_of text.old) ≤ S.faults (sink_of text.new) }
-    ensures follows { S.follows (sink_of text.old) (sink_of text.new) }
-    ensures loan { loan_of text.new ≡ loan_of text.old }
+    ensures { AddsText S.written S.faults S.along text.old text.new
+        (counts_text thread end instructions passings) result }
 {
     text.pieces(&[
         Piece::Bytes(b"thread "),
@@ -102,17 +81,9 @@ pub(crate) fn add_registers<S: Sink>(
     zero_flag: bool,
 ) -> Result<(), WriteFault>
     requires { length registers.now ≡ REGISTERS }
-    ensures gains { OnOk result (Gains S.written text.old text.new
-        (registers_line registers.now zero_flag)) }
-    ensures breaks { OnErr result (Breaks S.written text.old (sink_of text.new)
-        (registers_line registers.now zero_flag)) }
-    ensures failed { OnErr result
-        (Rose (S.faults (sink_of text.old)) (S.faults (sink_of text.new))) }
-    ensures later { S.faults (sink_of text.old) ≤ S.faults (sink_of text.new) }
-    ensures follows { S.follows (sink_of text.old) (sink_of text.new) }
-    ensures loan { loan_of text.new ≡ loan_of text.old }
+    ensures { AddsText S.written S.faults S.along text.old text.new
+        (registers_line registers.now zero_flag) result }
 {
-    text_adds_up::<S>();
     for place in 0..PRINTED_REGISTERS {
         let (name, number) = printed_register(place);
         text.pieces(&[
@@ -164,19 +135,12 @@ fn flag_line(zero_flag: bool) -> &'static [u8]
 
 /// Adds the line of a thread's output to a text: two digits a byte, or - for none.
 pub(crate) fn add_output<S: Sink>(text: &mut Text<S>, output: &[u8]) -> Result<(), WriteFault>
-    ensures gains { OnOk result (Gains S.written text.old text.new (output_line output.now)) }
-    ensures breaks { OnErr result (Breaks S.written text.old (sink_of text.new)
-        (output_line output.now)) }
-    ensures failed { OnErr result
-        (Rose (S.faults (sink_of text.old)) (S.faults (sink_of text.new))) }
-    ensures later { S.faults (sink_of text.old) ≤ S.faults (sink_of text.new) }
-    ensures follows { S.follows (sink_of text.old) (sink_of text.new) }
-    ensures loan { loan_of text.new ≡ loan_of text.old }
+    ensures { AddsText S.written S.faults S.along text.old text.new
+        (output_line output.now) result }
 {
     if output.is_empty() {
         return text.bytes(b"output -\n");
     }
-    text_adds_up::<S>();
     text.bytes(b"output ")?;
     for byte in output {
         text.hex(u64::from(*byte), 2)?;

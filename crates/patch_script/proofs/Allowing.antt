@@ -27,15 +27,15 @@ head_allowed Exit head (inr (inl e)) = inr (subst (IsUnpatchedHead Exit) (sym e)
 head_allowed Exit head (inr (inr e)) = inr (subst (IsUnpatchedHead Exit) (sym e) (omega arith, refl))
 
 -- a value that a word may have is allowed where, in a part behind a head, it is what patching stores
-allowed_by : (program : Program) (word value : ℕ) → IsCodeValue program word value
+allowed_by : (program : Program) (thread word value : ℕ) → IsCodeValue program word value
     → ((k : ℕ) (sled : Sled) (part : Part) → slice_get program.sleds k ≡ Some sled → word ≡ word_of k part → part ≢ Head
     → value ≡ patched program.trampolines sled part)
-    → IsAllowed program word value
-allowed_by program word value is behind_head = record {
+    → IsAllowed program thread word value
+allowed_by program thread word value is behind_head = record {
   part = by_part;
   handler = is.handler;
   state = is.state;
-  release = is.release;
+  release = is.release thread;
 }
   where
     by_part : (k : ℕ) (sled : Sled) (part : Part) → slice_get program.sleds k ≡ Some sled → word ≡ word_of k part
@@ -45,37 +45,37 @@ allowed_by program word value is behind_head = record {
     by_part k sled Opcode at same = behind_head k sled Opcode at same (λ e. cc)
     by_part k sled Offset at same = behind_head k sled Offset at same (λ e. cc)
 
-allowed_head : (program : Program) (script : List Command) (place k : ℕ)
-    → IsAllowed program (word_of k Head) (code_at program script place (word_of k Head))
-allowed_head program script place k =
-    allowed_by program (word_of k Head) _ (code_values program script place (word_of k Head))
+allowed_head : (program : Program) (script : List Command) (thread place k : ℕ)
+    → IsAllowed program thread (word_of k Head) (code_at program script place (word_of k Head))
+allowed_head program script thread place k =
+    allowed_by program thread (word_of k Head) _ (code_values program script place (word_of k Head))
     (λ j sled part at same other. absurd (other (sym (same_part k j Head part same))))
 
-allowed_behind_head : (program : Program) (script : List Command) (p q k : ℕ) (part : Part) → p ≤ q → HasPatchedHead program script p k
-    → part ≢ Head → IsAllowed program (word_of k part) (code_at program script q (word_of k part))
-allowed_behind_head program script p q k part le head other =
-    allowed_by program (word_of k part) _ (code_values program script q (word_of k part))
+allowed_behind_head : (program : Program) (script : List Command) (thread p q k : ℕ) (part : Part) → p ≤ q → HasPatchedHead program script p k
+    → part ≢ Head → IsAllowed program thread (word_of k part) (code_at program script q (word_of k part))
+allowed_behind_head program script thread p q k part le head other =
+    allowed_by program thread (word_of k part) _ (code_values program script q (word_of k part))
     (λ j sled a at same behind.
     let patched_j : HasPatchedHead program script p j =
     subst (HasPatchedHead program script p) (same_sled k j part a same) head in
     ap (code_at program script q) same ∙ part_patched program script p q j sled a at behind le patched_j)
 
-allowed_part : (program : Program) (script : List Command) (p q k : ℕ) (part : Part) → p ≤ q → HasPatchedHead program script p k
-    → IsAllowed program (word_of k part) (code_at program script q (word_of k part))
-allowed_part program script p q k Head le head = allowed_head program script q k
-allowed_part program script p q k Id le head = allowed_behind_head program script p q k Id le head (λ e. cc)
-allowed_part program script p q k Opcode le head = allowed_behind_head program script p q k Opcode le head (λ e. cc)
-allowed_part program script p q k Offset le head = allowed_behind_head program script p q k Offset le head (λ e. cc)
+allowed_part : (program : Program) (script : List Command) (thread p q k : ℕ) (part : Part) → p ≤ q → HasPatchedHead program script p k
+    → IsAllowed program thread (word_of k part) (code_at program script q (word_of k part))
+allowed_part program script thread p q k Head le head = allowed_head program script thread q k
+allowed_part program script thread p q k Id le head = allowed_behind_head program script thread p q k Id le head (λ e. cc)
+allowed_part program script thread p q k Opcode le head = allowed_behind_head program script thread p q k Opcode le head (λ e. cc)
+allowed_part program script thread p q k Offset le head = allowed_behind_head program script thread p q k Offset le head (λ e. cc)
 
-allowed_others : (program : Program) (script : List Command) (place word : ℕ) → handler_word program ≤ word
-    → IsAllowed program word (code_at program script place word)
-allowed_others program script place word past =
-    allowed_by program word _ (code_values program script place word)
+allowed_others : (program : Program) (script : List Command) (thread place word : ℕ) → handler_word program ≤ word
+    → IsAllowed program thread word (code_at program script place word)
+allowed_others program script thread place word past =
+    allowed_by program thread word _ (code_values program script place word)
     (λ k sled part at same other. absurd (apart program k sled part word at past same))
 
-pub keeps_sleds : (program : Program) (script : List Command) → KeepsSleds program (code_at program script)
-keeps_sleds program script = record {
-  head = allowed_head program script;
-  part = allowed_part program script;
-  other = allowed_others program script;
+pub keeps_sleds : (program : Program) (script : List Command) (thread : ℕ) → KeepsSleds program thread (code_at program script)
+keeps_sleds program script thread = record {
+  head = allowed_head program script thread;
+  part = allowed_part program script thread;
+  other = allowed_others program script thread;
 }

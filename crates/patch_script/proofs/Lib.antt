@@ -3,6 +3,7 @@ pub mod WordNumbers
 pub mod PatchOrder
 pub mod PatchedParts
 pub mod Allowing
+pub mod Awaiting
 mod CodeRows
 pub mod Lists
 pub mod Words

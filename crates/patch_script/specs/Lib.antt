@@ -1,5 +1,6 @@
 pub mod Micros
 pub mod CodeAt
+pub mod Bounds
 pub mod Values
 pub mod Patched
 pub mod StoredWords

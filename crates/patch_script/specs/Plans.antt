@@ -4,7 +4,7 @@ use Rattle.std.specs.List.{list_any}
 use Rattle.std.specs.Str.Lines.{lines}
 use Rattle.text_lines.specs.Lines.{numbered_lines}
 use Rattle.xray_image.specs.Program.{Program}
-use Rattle.sled_words.specs.Words.{word_count}
+use Rattle.sled_words.specs.Words.{code_word_count}
 use Rattle.patch_script.specs.declared.command.Command.{Command}
 use Rattle.patch_script.specs.declared.command.Command.TheVariants as commands
 use Rattle.patch_script.specs.declared.fault.ScriptFault.{ScriptFault}
@@ -51,10 +51,10 @@ pub record IsOrderly (plan : Plan) : Type 0 where
   pub released : list_any (holds_for_good (commands_of plan.lines)) (commands_of plan.lines) ≡ false
   pub few : length plan.lines ≤ 1024
 
--- the word that a micro step stores in is one of the words for so many threads, and the thread that it waits for is one
--- of them
+-- the word that a micro step stores in is one of those before the progress words, and the thread that it waits for is one of the
+-- script's
 abbrev pub IsWithin : Plan → Micro → Type 0
-IsWithin plan (Store word value) = word < word_count plan.program plan.threads
+IsWithin plan (Store word value) = word < code_word_count plan.program plan.threads
 IsWithin plan (Await thread count) = (0 < thread) × (thread ≤ plan.threads)
 IsWithin plan End = Unit {0}
 

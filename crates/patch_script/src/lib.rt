@@ -7,7 +7,6 @@
 
 mod command;
 mod fault;
-mod fault_words;
 mod first_patches;
 mod keyword;
 mod laws;
@@ -15,6 +14,7 @@ mod line;
 mod micro;
 mod placed;
 mod reading;
+mod refusal;
 mod script;
 mod sleds;
 mod standing;
@@ -24,8 +24,8 @@ mod tests;
 pub use command::Command;
 pub use fault::ScriptFault;
 pub use laws::{
-    a_patched_head_has_patched_parts, each_script_keeps_sleds, each_word_has_a_code_value,
-    stores_give_the_code,
+    a_patched_head_has_patched_parts, awaits_bound_passings, each_script_keeps_sleds,
+    each_word_has_a_code_value, stores_give_the_code,
 };
 pub use micro::Micro;
 pub use reading::read_script;

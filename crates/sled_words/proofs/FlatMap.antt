@@ -1,5 +1,5 @@
 -- Lists of words that grow: by one sled's, and by zeros.
-use Rattle.std.proofs.Common.{◌≡◌, ◌≤◌, ℕ, ◌+◌, ◌-◌, List, ◌++◌, [], ◌∷◌, Some, take, length, replicate, ap, ◌∙◌, sym, append-nil, take_all, arith}
+use Rattle.std.proofs.Common.{◌≡◌, ◌≤◌, ℕ, ◌+◌, ◌-◌, List, ◌++◌, [], ◌∷◌, Some, take, length, replicate, ap, append_assoc, ◌∙◌, sym, append-nil, take_all, arith}
 use Rattle.std.specs.Prelude.{slice_get}
 use Rattle.std.specs.List.{flat_map}
 use Rattle.std.proofs.lemmas.Grind.{flat_map-append}
@@ -24,3 +24,8 @@ zeros_behind f xs i n len before after last l b a =
     let items = take_all i xs last in
     let count : len + n - len ≡ n = omega arith in
     a ∙ ap (λ ys. ys ++ replicate (len + n - len) 0) (whole ∙ b ∙ ap (flat_map f) items) ∙ ap (λ k. flat_map f xs ++ replicate k 0) count
+
+-- four pieces behind each other
+pub four_pieces : {X : Type 0} (base a b c d p q r s : List X) → p ≡ base ++ a → q ≡ p ++ b → r ≡ q ++ c → s ≡ r ++ d → s ≡ base ++ (a ++ b ++ c ++ d)
+four_pieces base a b c d p q r s first second third fourth =
+    fourth ∙ ap (λ xs. xs ++ d) (third ∙ ap (λ xs. xs ++ c) (second ∙ ap (λ xs. xs ++ b) first)) ∙ simp append_assoc

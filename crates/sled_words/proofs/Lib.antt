@@ -1,1 +1,2 @@
 pub mod FlatMap
+pub mod UnitWords

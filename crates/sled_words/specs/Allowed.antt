@@ -22,10 +22,10 @@ IsAllowedPart trampolines sled Id value = value ≡ patched trampolines sled Id
 IsAllowedPart trampolines sled Opcode value = value ≡ patched trampolines sled Opcode
 IsAllowedPart trampolines sled Offset value = value ≡ patched trampolines sled Offset
 
--- what a passing may load from a word
-pub record IsAllowed (program : Program) (word value : ℕ) : Type 0 where
+-- What a passing of a thread may load from a word. Of the release words it loads its own alone.
+pub record IsAllowed (program : Program) (thread word value : ℕ) : Type 0 where
   pub part : (k : ℕ) (sled : Sled) (part : Part) → slice_get program.sleds k ≡ Some sled → word ≡ word_of k part
       → IsAllowedPart program.trampolines sled part value
   pub handler : word ≡ handler_word program → value ≤ 1
   pub state : word ≡ state_word program → value ≤ 4
-  pub release : (thread : ℕ) → 0 < thread → word ≡ release_word program thread → value ≤ 1
+  pub release : 0 < thread → word ≡ release_word program thread → value ≤ 1

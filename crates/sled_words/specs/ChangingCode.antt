@@ -7,10 +7,10 @@ use Rattle.sled_words.specs.Allowed.{IsAllowed}
 use Rattle.sled_words.specs.Parts.{patched_head}
 use Rattle.sled_words.specs.Words.{handler_word, word_of}
 
--- The changes keep each sled whole for who loads its head first and then its other parts: a head is allowed at each place, and so
--- are the words behind those of the sleds; each part of a sled is at a place that isn't before one where its head is patched.
-pub record KeepsSleds (program : Program) (code : ℕ → ℕ → ℕ) : Type 0 where
-  pub head : (place k : ℕ) → IsAllowed program (word_of k Head) (code place (word_of k Head))
+-- The changes keep each sled whole for a thread that loads its head first and then its other parts: a head is allowed at each place, and
+-- so are the words behind those of the sleds; each part of a sled is at a place that isn't before one where its head is patched.
+pub record KeepsSleds (program : Program) (thread : ℕ) (code : ℕ → ℕ → ℕ) : Type 0 where
+  pub head : (place k : ℕ) → IsAllowed program thread (word_of k Head) (code place (word_of k Head))
   pub part : (p q k : ℕ) (part : Part) → p ≤ q → code p (word_of k Head) ≡ patched_head
-      → IsAllowed program (word_of k part) (code q (word_of k part))
-  pub other : (place word : ℕ) → handler_word program ≤ word → IsAllowed program word (code place word)
+      → IsAllowed program thread (word_of k part) (code q (word_of k part))
+  pub other : (place word : ℕ) → handler_word program ≤ word → IsAllowed program thread word (code place word)

@@ -2,3 +2,4 @@ pub mod Words
 pub mod Parts
 pub mod Allowed
 pub mod ChangingCode
+pub mod CodeBytes

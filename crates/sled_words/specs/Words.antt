@@ -30,6 +30,10 @@ release_word program thread = 4 * length program.sleds + 1 + thread
 abbrev pub progress_word : Program → ℕ → ℕ → ℕ
 progress_word program threads thread = 4 * length program.sleds + 1 + threads + thread
 
+-- how many words there are before the progress words: those that the patcher stores in, and that passings load
+abbrev pub code_word_count : Program → ℕ → ℕ
+code_word_count program threads = 4 * length program.sleds + 2 + threads
+
 -- how many words there are for so many threads
 abbrev pub word_count : Program → ℕ → ℕ
 word_count program threads = 4 * length program.sleds + 2 + 2 * threads

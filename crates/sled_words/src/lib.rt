@@ -4,6 +4,7 @@
 //! patcher stores it, in one piece. The layout is that of LLVM's compiler-rt, `xray_x86_64.cpp`.
 #![tactic(auto)]
 
+mod bytes;
 mod layout;
 mod part;
 #[cfg(test)]
@@ -11,6 +12,7 @@ mod tests;
 mod value;
 mod words;
 
+pub use bytes::code_bytes;
 pub use layout::{handler_word, word_of};
 pub use part::Part;
 pub use value::{JUMP_HEAD, PATCHED_HEAD, part_value};

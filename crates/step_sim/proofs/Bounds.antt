@@ -1,7 +1,7 @@
 -- The beginning and the end of a replay.
-use Rattle.std.proofs.Common.{◌≡◌, ℕ, zero, suc, ◌+◌, ◌-◌, ◌*◌, ◌<◌, List, [], ◌∷◌, ◌++◌, Option, Some, None, refl, sym, subst, ap, ◌∙◌, arith, length, length-append, get_or, inl, inr, fold, map, vec_len}
+use Rattle.std.proofs.Common.{◌≡◌, ℕ, zero, suc, ◌+◌, ◌-◌, ◌*◌, ◌<◌, List, [], ◌∷◌, ◌++◌, Option, Some, None, refl, sym, subst, ap, ◌∙◌, arith, length, length-append, get_or, inl, inr, map, vec_len}
 use Rattle.std.specs.Prelude.{Err, IfOk, Ok, Result, replicate, slice_get, unwrap_or}
-use Rattle.std.specs.List.{All, enumerate_from, flat_map}
+use Rattle.std.specs.List.{flat_map}
 use Rattle.std.proofs.lemmas.Bool.{cases_lt}
 use Rattle.std.proofs.lemmas.List.{get_or_append_left, get_or_push, length-map, length-replicate}
 use Rattle.std.proofs.lemmas.Option.{get_or_from_slice_get, slice_get-get_or, slice_get_within}
@@ -14,19 +14,16 @@ use Rattle.patch_script.specs.declared.command.Command.TheVariants as commands
 use Rattle.patch_script.specs.Micros.{hold_of, start_of}
 use Rattle.patch_script.specs.Plans.{waiting_line}
 use Rattle.patch_script.specs.Refusals.{Lines, commands_of}
-use Rattle.handler_word.specs.declared.mark.Mark.{Mark}
 use Rattle.machine_step.specs.declared.limits.Limits.{Limits}
 use Rattle.machine_step.specs.declared.end.End.{End}
 use Rattle.machine_step.specs.Loads.{Load, marks_of}
 use Rattle.machine_step.specs.PlainStep.{Passing, PlainRun, State}
-use Rattle.machine_step.specs.Traced.{HasLoaded, IsThreadOf, Traced, sleds_of, state_at}
+use Rattle.machine_step.specs.Traced.{HasLoaded, IsThreadOf, Traced, sleds_of}
 use Rattle.step_sim.specs.declared.patcher.Patcher.{Patcher}
-use Rattle.step_sim.specs.declared.turns.Turns.{Turns}
-use Rattle.step_sim.specs.Replay.{AllRunOut, Cast, Moment, first_moment, line_turns, marks_at, of_thread, scheduled}
-use Rattle.step_sim.specs.Replayed.{HasRun, IsReplayed, cast_of}
-use Rattle.step_sim.specs.Standing.{AllHaveBegun, AllStandAt, HasBegun, IsPatcherAt, IsThreadAt, Rests}
+use Rattle.step_sim.specs.Replay.{Cast, Moment, first_moment, of_thread}
+use Rattle.step_sim.specs.Replayed.{cast_of}
+use Rattle.step_sim.specs.Standing.{AllHaveBegun, AllStandAt, HasBegun, IsPatcherAt}
 use Rattle.step_sim.proofs.ReplayAlong.{first_along, no_loads, of_thread_is}
-use Rattle.step_sim.proofs.AllThreads.{FirstRest}
 
 -- ---- holds
 
@@ -149,28 +146,6 @@ run_alike program program' limits limits' thread thread' passed end last a b c r
     (subst (λ (x : Limits). PlainRun program' x thread passed end last) b
     (subst (λ (x : Program). PlainRun x limits thread passed end last) a run))
 
-has_run : (cast : Cast) (threads : ℕ) (limits : Limits) (m : Moment) (i : ℕ) (t : Traced) → OneEnd
-    → (bytes : List ℕ) × IsAccepted bytes cast.program → IsThreadOf cast.program (i + 1) threads None limits t → IsThreadAt cast m t → Rests t
-    → HasRun cast.program limits (i + 1) (of_thread cast.passings (i + 1)) t
-has_run cast threads limits m i t one (bytes, accepted) is at (end, wants, ends) =
-    let its_accepted : IsAccepted bytes t.program = subst (IsAccepted bytes) (sym is.program_is) accepted in
-    let same = one bytes t.program t.limits t.thread at.passed ends.passed at.loaded.end end at.loaded.last (state_at ends.address t)
-    its_accepted at.loaded.run ends.run in
-    record {
-      passed = ends.passed;
-      end = end;
-      last = state_at ends.address t;
-      run = run_alike t.program cast.program t.limits limits t.thread (i + 1) ends.passed end (state_at ends.address t)
-          is.program_is is.limits_are is.thread_is ends.run;
-      sleds_are = subst (λ (k : ℕ). of_thread cast.passings k ≡ sleds_of ends.passed) is.thread_is (at.sleds ∙ ap sleds_of same.0);
-      done = wants;
-      registers = refl;
-      zero_flag = refl;
-      output = refl;
-      instructions = refl;
-      passings = refl;
-    }
-
 pub marks_alike : (program program' : Program) (thread thread' : ℕ) (hold hold' : Option ℕ) (sleds sleds' : List ℕ) (loads loads' : List Load)
     → program ≡ program' → thread ≡ thread' → hold ≡ hold' → sleds ≡ sleds' → loads ≡ loads'
     → marks_of program thread hold sleds loads ≡ marks_of program' thread' hold' sleds' loads'
@@ -180,59 +155,6 @@ marks_alike program program' thread thread' hold hold' sleds sleds' loads loads'
     ∙ ap (λ (x : Option ℕ). marks_of program' thread' x sleds loads) c
     ∙ ap (λ (x : List ℕ). marks_of program' thread' hold' x loads) d
     ∙ ap (λ (x : List Load). marks_of program' thread' hold' sleds' x) e
-
--- lists with equal items
-all_marks : (f : ℕ × List ℕ → List Mark) (k : ℕ) (passings : List (List ℕ)) (ts : List Traced) → length ts ≡ length passings
-    → ((i : ℕ) (t : Traced) → slice_get ts i ≡ Some t → t.marks ≡ f (k + i, unwrap_or (slice_get passings i) []))
-    → map (λ t. t.marks) ts ≡ map f (enumerate_from k passings)
-all_marks f k [] [] count own = refl
-all_marks f k [] (t ∷ ts) count own = absurd (omega (arith, count))
-all_marks f k (sleds ∷ passings) [] count own = absurd (omega (arith, count))
-all_marks f k (sleds ∷ passings) (t ∷ ts) count own =
-    let here : k + zero ≡ k = omega arith in
-    let first : t.marks ≡ f (k, sleds) = own zero t refl ∙ ap (λ (n : ℕ). f (n, sleds)) here in
-    let rest = all_marks f (k + 1) passings ts (omega (arith, count))
-    (λ i u found. own (suc i) u found ∙ ap (λ (n : ℕ). f (n, unwrap_or (slice_get passings i) [])) (behind i)) in
-    ap (λ (ms : List Mark). ms ∷ map (λ (u : Traced). u.marks) ts) first ∙ ap (λ (all : List (List Mark)). f (k, sleds) ∷ all) rest
-  where
-    behind : (i : ℕ) → k + suc i ≡ k + 1 + i
-    behind i = omega arith
-
--- the marks of all threads are those of the moment
-marks_there : (cast : Cast) (threads : ℕ) (limits : Limits) (m : Moment) (p : Patcher) (ts : List Traced) → AllStandAt cast threads limits m p ts
-    → map (λ t. t.marks) ts ≡ marks_at cast m
-marks_there cast threads limits m p ts at =
-    all_marks _ 1 cast.passings ts (at.count ∙ sym at.passings) (λ i t found.
-    let its = at.each i t found in
-    let is = at.thread i t found in
-    let flipped : t.thread ≡ 1 + i = omega (arith, is.thread_is) in
-    its.loaded.marks
-    ∙ marks_alike t.program cast.program t.thread (1 + i) t.hold (hold_of (1 + i) cast.script) (sleds_of its.passed)
-    (unwrap_or (slice_get cast.passings i) []) (of_thread m.loads t.thread) (of_thread m.loads (1 + i))
-    is.program_is flipped (its.free ∙ sym (at.no_hold (1 + i))) (sym its.sleds ∙ item_of cast.passings i t.thread is.thread_is)
-    (ap (of_thread m.loads) flipped))
-
--- all threads that have run out behind the lines of a schedule are those of its replay
-pub is_replayed : (program : Program) (script : List Command) (passings : List (List ℕ)) (schedule : List Turns) (threads : ℕ) (limits : Limits)
-    (last : Moment) (p : Patcher) (ts : List Traced) → OneEnd → (bytes : List ℕ) × IsAccepted bytes program
-    → AllStandAt (cast_of program script passings) threads limits last p ts
-    → AllRunOut (cast_of program script passings) threads 1 (scheduled (cast_of program script passings) schedule) last
-    → FirstRest threads ts → IsReplayed program script schedule threads limits ts
-is_replayed program script passings schedule threads limits last p ts one accepted at out rest =
-    let cast : Cast = cast_of program script passings in
-    record {
-      count = at.count;
-      thread = λ i t found. subst (λ (h : Option ℕ). IsThreadOf program (i + 1) threads h limits t) (sym (at.no_hold (i + 1))) (at.thread i t found);
-      passings = passings;
-      plain = λ i t found.
-          has_run cast threads limits last i t one accepted (at.thread i t found) (at.each i t found)
-          (rest i t (omega (arith, slice_get_within ts i t found, at.count)) found);
-      marks = (
-        last,
-        subst (λ (n : ℕ). AllRunOut cast n 1 (scheduled cast schedule) last) (sym at.passings) out,
-        marks_there cast threads limits last p ts at,
-      );
-    }
 
 -- ---- threads that begin, one after the other
 
@@ -273,23 +195,6 @@ pub length-initial_words : (program : Program) (threads : ℕ) → length (initi
 length-initial_words program threads =
     let unset : ℕ = 0 in
     omega (arith, length-append (all_sled_words program) (replicate (2 + 2 * threads) unset), length-sleds program.sleds, length-replicate (2 + 2 * threads) unset)
-
--- ---- the whole
-
-pub replayed : (program : Program) (script : List Command) (passings : List (List ℕ)) (lines schedule : List Turns) (threads : ℕ) (limits : Limits)
-    (p : Patcher) (ts us : List Traced) → OneEnd → (bytes : List ℕ) × IsAccepted bytes program → length ts ≡ threads → lines ≡ schedule
-    → (last : Moment)
-    × AllRunOut (cast_of program script passings) (length ts) 1
-    (fold (line_turns (cast_of program script passings)) (first_moment (cast_of program script passings)) lines) last
-    × AllStandAt (cast_of program script passings) threads limits last p us
-    → All Rests us → IsReplayed program script schedule threads limits us
-replayed program script passings lines schedule threads limits p ts us one accepted count said (last, out, at) rest =
-    let cast : Cast = cast_of program script passings in
-    is_replayed program script passings schedule threads limits last p us one accepted at
-    (subst (λ (ls : List Turns). AllRunOut cast threads 1 (scheduled cast ls) last) said
-    (subst (λ (n : ℕ). AllRunOut cast n 1 (scheduled cast lines) last) count out))
-    (λ i t below found.
-    subst Rests (get_or_from_slice_get us i t t found) (rest i t (slice_get_within us i t found)))
 
 -- ---- one thread that begins
 

@@ -13,7 +13,8 @@ use Rattle.fdr_record.specs.declared.event.Event.{Event}
 use Rattle.fdr_buffer.specs.Filled.{Filled, empty_buffer}
 use Rattle.step_sim.specs.declared.pool.Pool.{Pool}
 use Rattle.step_sim.specs.Pool.{Fresh, Item, Segment, Stock, segments_among, serials_of}
-use Rattle.step_sim.specs.Recorded.{Stamp, buffer_of, buffers_behind, is_of, numbers_from}
+use Rattle.traced_run.specs.Kept.{Stamp, buffer_of, buffers_behind}
+use Rattle.step_sim.specs.Recorded.{is_of, numbers_from}
 use Rattle.step_sim.specs.Holding.{Histories, IsHand, PoolHolds, below, held, opened, segments_in, unbegun}
 use Rattle.step_sim.proofs.PoolLemmas.{eqb_is, eqb_not, hand_held, hand_of_thread, length-below, serials_of-append}
 
@@ -213,7 +214,7 @@ queue_serials stamp threads events stock pool thread holds =
     sym (drop-append_seam (serials_of thread stock.taken) (serials_of thread stock.queue))
     ∙ ap (drop (segments_among thread stock.taken)) (sym (serials_of-append thread stock.taken stock.queue) ∙ holds.order thread)
 
-few_lost : (stamp : Stamp) (threads : ℕ) (events : Histories) (stock : Stock) (pool : Pool) (thread : ℕ)
+pub few_lost : (stamp : Stamp) (threads : ℕ) (events : Histories) (stock : Stock) (pool : Pool) (thread : ℕ)
     → PoolHolds stamp threads events stock pool → segments_among thread stock.taken ≤ length (segments_in stamp events thread) - 1
 few_lost stamp threads events stock pool thread holds =
     omega (

@@ -17,3 +17,11 @@ pub mod SmallIds
 pub mod OneRecorded
 pub mod AllRecorded
 pub mod Recordings
+pub mod Counting
+pub mod EndedRuns
+pub mod StockRuns
+pub mod Beginnings
+pub mod Simulated
+pub mod Waiting
+pub mod OneRun
+pub mod SomeRun

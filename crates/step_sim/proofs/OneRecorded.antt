@@ -22,7 +22,8 @@ use Rattle.step_sim.proofs.ReplayAlong.{turn_without}
 use Rattle.step_sim.proofs.SmallIds.{IsSmall, event_small, recorded_short}
 use Rattle.step_sim.proofs.TurnLemmas.{turn_other}
 use Rattle.step_sim.specs.Pool.{Pooled, PooledRunsOut, Stock, stock_behind}
-use Rattle.step_sim.specs.Recorded.{Stamp, events_at, segments_at}
+use Rattle.traced_run.specs.Kept.{Stamp}
+use Rattle.step_sim.specs.Recorded.{events_at, segments_at}
 use Rattle.step_sim.specs.Holding.{CanNote, Histories, IsHand, NotesEvent, PoolHolds, below, segments_in}
 use Rattle.step_sim.specs.Recording.{NotesAny, RecordAt, Recording, Records, histories, pooling_in, turn_in}
 use Rattle.step_sim.proofs.PoolLemmas.{GoesOn, all_closed_more, all_held_same, eqb_not, stock_stays}

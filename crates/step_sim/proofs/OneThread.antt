@@ -96,7 +96,9 @@ word_wanted cast m p old mid word at same keeps wants =
 
 pub none_wanted : (cast : Cast) (m : Moment) (p : Patcher) (old mid : Traced) → StandAt cast m p old → IsSameThread old mid
     → KeepsLoads old mid → Rests mid → wanted_by cast old.thread m ≡ None
-none_wanted cast m p old mid at same keeps (end, wants, ends) =
+none_wanted cast m p old mid at same keeps rests =
+    let end = rests.end in
+    let wants = rests.wants in
     let loaded = keeps at.thread.passed _ at.thread.loaded in
     let next : (wanted_behind mid at.thread.passed (of_thread m.loads old.thread) ≡ None) × (end ≡ loaded.end) =
     subst (IsWant mid at.thread.passed (wanted_behind mid at.thread.passed (of_thread m.loads old.thread)) loaded.end) wants loaded.wants in
@@ -121,13 +123,14 @@ word_there p old mid word (cast, m, at) same keeps wants =
 pub value_allowed : (p : Patcher) (old mid : Traced) (word value : ℕ) → Play p old → IsSameThread old mid → KeepsLoads old mid
     → mid.want ≡ Loads word
     → ((cast : Cast) (m : Moment) (thread w : ℕ) → 0 < thread → IsAlong cast m → wanted_by cast thread m ≡ Some w
-    → IsAllowed cast.program w (code_at cast.program cast.script m.place w))
+    → IsAllowed cast.program thread w (code_at cast.program cast.script m.place w))
     → ((cast : Cast) (m : Moment) → StandAt cast m p old → value ≡ code_at cast.program cast.script m.place word)
-    → IsAllowed mid.program word value
+    → IsAllowed mid.program mid.thread word value
 value_allowed p old mid word value (cast, m, at) same keeps wants allowed is =
     let here = allowed cast m old.thread word at.thread.first at.along (word_wanted cast m p old mid word at same keeps wants) in
-    subst (λ (v : ℕ). IsAllowed mid.program word v) (sym (is cast m at))
-    (subst (λ (q : Program). IsAllowed q word (code_at cast.program cast.script m.place word)) (sym (same.program ∙ at.thread.program_is)) here)
+    subst (λ (v : ℕ). IsAllowed mid.program mid.thread word v) (sym (is cast m at))
+    (subst (λ (q : Program). IsAllowed q mid.thread word (code_at cast.program cast.script m.place word)) (sym (same.program ∙ at.thread.program_is))
+    (subst (λ (t : ℕ). IsAllowed cast.program t word (code_at cast.program cast.script m.place word)) (sym same.thread) here))
 
 -- ---- a turn
 

@@ -13,7 +13,8 @@ use Rattle.fdr_buffer.specs.Filled.{Filled, empty_buffer}
 use Rattle.fdr_buffer.specs.Segments.{has_room, segments}
 use Rattle.step_sim.specs.declared.pool.Pool.{Pool}
 use Rattle.step_sim.specs.Pool.{Fresh, Item, Segment, Stock, first_stock, queued, segments_among, serials_of, stock_behind}
-use Rattle.step_sim.specs.Recorded.{CanLose, Stamp, buffer_of, lost_behind}
+use Rattle.traced_run.specs.Kept.{Stamp, buffer_of}
+use Rattle.step_sim.specs.Recorded.{CanLose, lost_behind}
 use Rattle.step_sim.specs.Holding.{CanNote, Histories, IsClosed, IsFull, IsHand, NotesEvent, PoolHolds, below, held, opened, segments_in, unbegun}
 use Rattle.step_sim.proofs.AllThreads.{set_cases}
 
@@ -240,7 +241,7 @@ first_at stamp threads events stock pool thread some few holds =
     holds.first i k found ∙ ap (λ (t : ℕ). segments_among t stock.taken) number)
 
 -- a thread has no more segments than events
-nonempty_count : (segs : List (List Event)) → All (λ s. s ≢ []) segs → length segs ≤ length (flat_map (λ s. s) segs)
+pub nonempty_count : (segs : List (List Event)) → All (λ s. s ≢ []) segs → length segs ≤ length (flat_map (λ s. s) segs)
 nonempty_count [] some = omega arith
 nonempty_count (seg ∷ segs) some =
     let one : 0 < length seg = not_empty seg (All-head (λ s. s ≢ []) seg segs some) in

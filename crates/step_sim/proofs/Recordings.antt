@@ -1,16 +1,14 @@
 -- The beginning and the end of a replay with buffers.
-use Rattle.std.proofs.Common.{◌≡◌, ℕ, zero, suc, ◌+◌, ◌-◌, ◌<◌, ◌≤◌, List, [], ◌∷◌, ◌++◌, Bool, true, false, Option, Some, None, refl, sym, subst, ap, ◌∙◌, arith, length, length-append, map, fold, vec_len}
-use Rattle.std.specs.Prelude.{slice_get, nat_lt, ◌&&◌, ◌==◌, if◌then◌else◌, filter}
-use Rattle.std.specs.List.{flat_map}
+use Rattle.std.proofs.Common.{◌≡◌, ℕ, zero, suc, ◌+◌, ◌-◌, ◌<◌, ◌≤◌, ◌^◌, List, [], ◌∷◌, ◌++◌, Bool, true, false, Option, Some, None, refl, ap, ◌∙◌, arith, length, length-append, map, fold, vec_len}
+use Rattle.std.specs.Prelude.{slice_get, nat_lt, ◌&&◌, ◌==◌, if◌then◌else◌}
+use Rattle.std.specs.List.{All}
 use Rattle.std.proofs.lemmas.List.{length-drop, length-map, length-replicate}
 use Rattle.xray_image.specs.Program.{IsAccepted, Program}
 use Rattle.patch_script.specs.declared.command.Command.{Command}
 use Rattle.patch_script.specs.Micros.{hold_of, start_of}
 use Rattle.sled_words.specs.Words.{word_count}
-use Rattle.fdr_record.specs.declared.event.Event.{Event}
-use Rattle.fdr_buffer.specs.Filled.{Filled}
-use Rattle.fdr_buffer.specs.Segments.{segments}
 use Rattle.machine_step.specs.declared.end.End.{End}
+use Rattle.machine_step.specs.declared.limits.Limits.{Limits}
 use Rattle.machine_step.specs.declared.setup.Setup.{Setup}
 use Rattle.machine_step.specs.Events.{recorded}
 use Rattle.machine_step.specs.Loads.{Load, is_held_at, marks_of, marks_from}
@@ -22,16 +20,14 @@ use Rattle.step_sim.specs.declared.turns.Turns.{Turns}
 use Rattle.step_sim.specs.declared.turns.Turns.TheVariants.{Thread, Patcher as PatcherTurns}
 use Rattle.step_sim.specs.Replay.{Cast, first_moment, of_thread, thread_turn, turns}
 use Rattle.step_sim.specs.Replayed.{cast_of}
-use Rattle.step_sim.specs.Pool.{AllPooledRunOut, Fresh, Item, Pooled, Pooling, Segment, Stock, first_pooled, first_stock, pooled_line, pooled_lines, pooled_step, pooled_turn, queued, segments_among, stock_behind}
-use Rattle.step_sim.specs.Recorded.{IsRecorded, buffers_behind, is_of, numbers_from, segments_at, stamp_of}
+use Rattle.step_sim.specs.Pool.{AllPooledRunOut, Fresh, Item, Pooled, Pooling, Segment, Stock, first_pooled, first_stock, pooled_line, pooled_step, pooled_turn, queued, stock_behind}
+use Rattle.traced_run.specs.Kept.{stamp_of}
 use Rattle.step_sim.specs.Standing.{AllHaveBegun, IsPatcherAt}
-use Rattle.step_sim.specs.Holding.{Histories, PoolHolds, segments_in}
+use Rattle.step_sim.specs.Holding.{PoolHolds}
 use Rattle.step_sim.specs.Recording.{AllRecordAt, Recording, histories, line_in, pooling_in}
 use Rattle.step_sim.proofs.Bounds.{Gathered, begins, gathered, item_sleds, run_alike}
-use Rattle.step_sim.proofs.Gathering.{all_gathered, first_are, flat_same, sealed_are}
 use Rattle.step_sim.proofs.OneRecorded.{history_is, holds_same}
 use Rattle.step_sim.proofs.ReplayAlong.{no_loads, of_thread_is}
-use Rattle.step_sim.proofs.SmallIds.{run_small}
 
 -- ---- the length of the queue
 
@@ -114,6 +110,12 @@ recording program script setup passed = record {
 abbrev pub first_of : Recording → Pooled
 first_of r = first_pooled r.cast (pooling_in r)
 
+-- the law that the ids of a plain run's passings fit their records
+abbrev pub SmallIds : Type 0
+SmallIds =
+    (bytes : List ℕ) (program : Program) (limits : Limits) (thread : ℕ) (passed : List Passing) (end : End) (last : State)
+    → IsAccepted bytes program → PlainRun program limits thread passed end last → All (λ p. p.id < 2 ^ 28) passed
+
 pub record Begun (program : Program) (script : List Command) (setup : Setup) (p : Patcher) (ts : List Traced) (pool : Pool) : Type 0 where
   pub passed : List (List Passing)
   pub count : length passed ≡ setup.threads
@@ -122,7 +124,7 @@ pub record Begun (program : Program) (script : List Command) (setup : Setup) (p 
 pub begins_recording : (program : Program) (script : List Command) (setup : Setup) (p : Patcher) (ts : List Traced) (pool : Pool)
     → length ts ≡ setup.threads → AllHaveBegun program script setup.threads setup.limits ts → ((number : ℕ) → hold_of number script ≡ None)
     → IsPatcherAt program script (start_of program script) p → vec_len p.words ≡ word_count program setup.threads
-    → (bytes : List ℕ) × IsAccepted bytes program → length program.sleds ≤ 4096
+    → (bytes : List ℕ) × IsAccepted bytes program → SmallIds
     → PoolHolds (stamp_of setup) setup.threads (λ _. []) (first_stock (setup.max - setup.threads)) pool
     → Begun program script setup p ts pool
 begins_recording program script setup p ts pool count begun free patcher words (bytes, accepted) few holds = record {
@@ -135,7 +137,7 @@ begins_recording program script setup p ts pool count begun free patcher words (
       sleds = λ thread some within. item_sleds its.all (thread - 1);
       small = λ thread some within.
           let run = its_run thread some within in
-          run_small bytes program setup.limits thread (of_thread its.all thread) run.0 run.1 accepted few run.2;
+          few bytes program setup.limits thread (of_thread its.all thread) run.0 run.1 accepted run.2;
     };
     holds = holds_same r.stamp r.threads (λ _. []) (histories r (first_moment r.cast)) (first_stock r.spare) pool (no_events r) holds;
   };
@@ -189,43 +191,3 @@ has_room_for_all r lines count most room p ts pool end few is =
     let kept = run_keeps r.cast (pooling_in r) count 1 (fold (line_in r) (first_of r) lines) end.last end.out
     ∙ lines_keep r.cast (pooling_in r) lines (first_of r) ∙ length-replicate r.spare Fresh in
     omega (arith, held, kept, end.at.holds.hand_count, few, is)
-
-maps_same : (F G : ℕ → ℕ) (first n : ℕ) → ((t : ℕ) → first ≤ t → F t ≡ G t) → map F (numbers_from first n) ≡ map G (numbers_from first n)
-maps_same F G first zero same = refl
-maps_same F G first (suc n) same =
-    ap (λ (k : ℕ). k ∷ map F (numbers_from (first + 1) n)) (same first (omega arith))
-    ∙ ap (λ (ks : List ℕ). G first ∷ ks) (maps_same F G (first + 1) n (λ t low. same t (omega (arith, low))))
-
-pub is_recorded : (program : Program) (script : List Command) (schedule lines : List Turns) (setup : Setup) (passed : List (List Passing))
-    (count : ℕ) (p : Patcher) (ts : List Traced) (pool : Pool) (sealed first : List ℕ) (buffers : List Filled) → length passed ≡ setup.threads
-    → Ended (recording program script setup passed) lines count p ts pool → count ≡ setup.threads → lines ≡ schedule
-    → sealed ≡ pool.sealed.items → first ≡ pool.first.items
-    → buffers ≡ flat_map (λ t. filter (is_of t) pool.queue ++ filter (is_of t) pool.hands.items) (numbers_from 1 setup.threads)
-    → IsRecorded program script schedule setup sealed first buffers
-is_recorded program script schedule lines setup passed count p ts pool sealed first buffers passed_count end counted said seals firsts holds = record {
-  passed = passed;
-  passed_count = passed_count;
-  plain = end.at.traced.run;
-  last = end.last;
-  replay =
-      let long : count ≡ length (map sleds_of passed) = counted ∙ sym (length-map passed sleds_of ∙ passed_count) in
-      subst (λ (ls : List Turns). AllPooledRunOut r.cast (pooling_in r) (length r.cast.passings) 1 (pooled_lines r.cast (pooling_in r) ls) end.last) said
-      (subst (λ (n : ℕ). AllPooledRunOut r.cast (pooling_in r) n 1 (pooled_lines r.cast (pooling_in r) lines) end.last) long end.out);
-  sealed_are = seals ∙ sealed_are r.stamp r.threads its end.last.stock pool end.at.holds
-      ∙ maps_same (λ t. length (segments_in r.stamp its t) - 1) (λ t. length (segments_at r.cast passed setup.size t end.last.moment) - 1) 1 setup.threads
-      (λ t low. ap (λ (es : List Event). length (segments setup.size es) - 1) (history_is r end.last.moment t (omega (arith, low))));
-  first_are = firsts ∙ first_are r.stamp r.threads its end.last.stock pool end.at.holds;
-  buffers_are = holds ∙ all_gathered r.stamp r.threads its end.last.stock pool end.at.holds
-      ∙ flat_same
-      (λ t. buffers_behind r.stamp (segments_among t end.last.stock.taken) t (segments_in r.stamp its t))
-      (λ t. buffers_behind r.stamp (segments_among t end.last.stock.taken) t (segments_at r.cast passed setup.size t end.last.moment))
-      1 setup.threads
-      (λ t low high. ap (λ (es : List Event). buffers_behind r.stamp (segments_among t end.last.stock.taken) t (segments setup.size es))
-      (history_is r end.last.moment t (omega (arith, low))));
-}
-  where
-    r : Recording
-    r = recording program script setup passed
-
-    its : Histories
-    its = histories r end.last.moment

@@ -1,4 +1,4 @@
--- At each moment of a replay, each thread has read along the script.
+-- At each moment of a replay, the loads of each thread follow the script.
 use Rattle.std.proofs.Common.{◌≡◌, ◌≢◌, ℕ, zero, suc, ◌+◌, ◌-◌, ◌<◌, ◌≤◌, min, List, [], ◌∷◌, ◌++◌, Option, Some, None, refl, sym, subst, ◌∙◌, inl, inr, arith, length, length-append, get_or, fold, map}
 use Rattle.std.specs.Prelude.{slice_set, take}
 use Rattle.std.specs.List.{All}
@@ -12,11 +12,11 @@ use Rattle.patch_script.specs.declared.micro.Micro.{Micro}
 use Rattle.patch_script.specs.Micros.{hold_of, micros_behind, numbers, patches, start_of, steps_of, total_of}
 use Rattle.patch_script.specs.CodeAt.{code_at}
 use Rattle.machine_step.specs.Loads.{Load}
-use Rattle.machine_step.specs.ReadAlong.{ReadAlong, none, later, loaded}
+use Rattle.machine_step.specs.Follows.{Follows, none, later, loaded}
 use Rattle.step_sim.specs.declared.turns.Turns.{Turns}
 use Rattle.step_sim.specs.declared.turns.Turns.TheVariants.{Thread, Patcher}
 use Rattle.step_sim.specs.Replay.{AllRunOut, Cast, Moment, first_moment, line_turns, of_thread, patcher_turn, scheduled, thread_turn, turns, wanted_by}
-use Rattle.step_sim.specs.Along.{AllReadAlong, IsAlong, NamesThread}
+use Rattle.step_sim.specs.Along.{AllFollow, IsAlong, NamesThread}
 
 -- ---- lists of one item a thread
 
@@ -46,40 +46,43 @@ turn_with cast thread m word e = rw e refl
 pub turn_without : (cast : Cast) (thread : ℕ) (m : Moment) → wanted_by cast thread m ≡ None → thread_turn cast thread m ≡ m
 turn_without cast thread m e = rw e refl
 
--- a thread that loads reads along
-loads_along : (cast : Cast) (thread : ℕ) (m : Moment) (word : ℕ) → 0 < thread → wanted_by cast thread m ≡ Some word → AllReadAlong cast m
-    → AllReadAlong cast (record m {
+-- a thread that loads follows the script
+loads_along : (cast : Cast) (thread : ℕ) (m : Moment) (word : ℕ) → 0 < thread → m.place ≤ total_of cast.program cast.script
+    → wanted_by cast thread m ≡ Some word → AllFollow cast m
+    → AllFollow cast (record m {
       loads = slice_set m.loads (thread - 1)
           (of_thread m.loads thread ++ record { word = word; value = code_at cast.program cast.script m.place word } ∷ []);
     })
-loads_along cast thread m word some wanted along other some_other =
+loads_along cast thread m word some within wanted along other some_other =
     let load : Load = record { word = word; value = code_at cast.program cast.script m.place word } in
     let item : List Load = of_thread m.loads thread ++ load ∷ [] in
     let Reads : ℕ → List Load → Type 0 = λ t loads.
-    ReadAlong cast.program (code_at cast.program cast.script) t (hold_of t cast.script) (of_thread cast.passings t) loads m.place in
+    Follows cast.program (code_at cast.program cast.script) (start_of cast.program cast.script) (λ _. total_of cast.program cast.script)
+    t (hold_of t cast.script) (of_thread cast.passings t) loads m.place in
     elim (cases_eq other thread) [
       | inl same ↦ elim (cases_lt (thread - 1) (length m.loads)) [
-        | inl within ↦
-            let its : Reads thread item = loaded (of_thread m.loads thread) m.place word (along thread some) wanted in
+        | inl there ↦
+            let its : Reads thread item = loaded (of_thread m.loads thread) m.place word (along thread some) wanted within in
             subst (λ (t : ℕ). Reads t (of_thread (slice_set m.loads (thread - 1) item) t)) (sym same)
-            (subst (Reads thread) (sym (set_same m.loads thread item within)) its)
+            (subst (Reads thread) (sym (set_same m.loads thread item there)) its)
         | inr past ↦
             subst (λ (ls : List (List Load)). Reads other (of_thread ls other)) (sym (set_past m.loads (thread - 1) item past)) (along other some_other)
       ]
       | inr apart ↦ subst (Reads other) (sym (set_other m.loads thread other item some some_other apart)) (along other some_other)
     ]
 
-pub thread_along : (cast : Cast) (thread : ℕ) (m : Moment) → 0 < thread → AllReadAlong cast m → AllReadAlong cast (thread_turn cast thread m)
-thread_along cast thread m some along =
+pub thread_along : (cast : Cast) (thread : ℕ) (m : Moment) → 0 < thread → m.place ≤ total_of cast.program cast.script → AllFollow cast m
+    → AllFollow cast (thread_turn cast thread m)
+thread_along cast thread m some within along =
     by_wanted (wanted_by cast thread m) refl
   where
-    by_wanted : (w : Option ℕ) → wanted_by cast thread m ≡ w → AllReadAlong cast (thread_turn cast thread m)
-    by_wanted None e = subst (AllReadAlong cast) (sym (turn_without cast thread m e)) along
-    by_wanted (Some word) e = subst (AllReadAlong cast) (sym (turn_with cast thread m word e)) (loads_along cast thread m word some e along)
+    by_wanted : (w : Option ℕ) → wanted_by cast thread m ≡ w → AllFollow cast (thread_turn cast thread m)
+    by_wanted None e = subst (AllFollow cast) (sym (turn_without cast thread m e)) along
+    by_wanted (Some word) e = subst (AllFollow cast) (sym (turn_with cast thread m word e)) (loads_along cast thread m word some within e along)
 
 -- the patcher goes on
-pub patcher_along : (cast : Cast) (m : Moment) → m.place ≤ total_of cast.program cast.script → AllReadAlong cast m
-    → AllReadAlong cast (patcher_turn cast m)
+pub patcher_along : (cast : Cast) (m : Moment) → m.place ≤ total_of cast.program cast.script → AllFollow cast m
+    → AllFollow cast (patcher_turn cast m)
 patcher_along cast m within along thread some =
     later (of_thread m.loads thread) m.place (min (m.place + 1) (total_of cast.program cast.script)) (omega arith) (along thread some)
 
@@ -105,9 +108,10 @@ pub first_along : (cast : Cast) → IsAlong cast (first_moment cast)
 first_along cast = record {
   along = λ thread some.
       let start : ℕ = start_of cast.program cast.script in
-      subst (λ (loads : List Load). ReadAlong cast.program (code_at cast.program cast.script) thread (hold_of thread cast.script) (of_thread cast.passings thread) loads start)
+      subst (λ (loads : List Load). Follows cast.program (code_at cast.program cast.script) start (λ _. total_of cast.program cast.script)
+      thread (hold_of thread cast.script) (of_thread cast.passings thread) loads start)
       (sym (of_thread_is (first_moment cast).loads thread ∙ no_loads cast.passings (thread - 1)))
-      (none start);
+      none;
   within = front_steps cast.program [] _ cast.script;
 }
 
@@ -120,7 +124,7 @@ thread_stays cast thread m = by_wanted (wanted_by cast thread m) refl
 
 pub thread_keeps : (cast : Cast) (thread : ℕ) (m : Moment) → 0 < thread → IsAlong cast m → IsAlong cast (thread_turn cast thread m)
 thread_keeps cast thread m some is = record {
-  along = thread_along cast thread m some is.along;
+  along = thread_along cast thread m some is.within is.along;
   within = subst (λ (n : ℕ). n ≤ total_of cast.program cast.script) (sym (thread_stays cast thread m)) is.within;
 }
 

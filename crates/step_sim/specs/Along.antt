@@ -1,8 +1,8 @@
 -- The loads of a replay's threads, along its script.
 use Rattle.std.specs.Prelude.{◌<◌, ◌≤◌, ℕ, ⊤}
 use Rattle.patch_script.specs.CodeAt.{code_at}
-use Rattle.patch_script.specs.Micros.{hold_of, total_of}
-use Rattle.machine_step.specs.ReadAlong.{ReadAlong}
+use Rattle.patch_script.specs.Micros.{hold_of, start_of, total_of}
+use Rattle.machine_step.specs.Follows.{Follows}
 use Rattle.machine_step.specs.Whole.{AreWhole}
 use Rattle.step_sim.specs.declared.turns.Turns.{Turns}
 use Rattle.step_sim.specs.declared.turns.Turns.TheVariants.{Thread, Patcher}
@@ -13,16 +13,17 @@ abbrev pub NamesThread : Turns → Type 0
 NamesThread (Thread thread count) = 0 < thread
 NamesThread (Patcher count) = ⊤
 
--- at a moment each thread, from 1 on, has read along the script up to the moment's place
-abbrev pub AllReadAlong : Cast → Moment → Type 0
-AllReadAlong cast moment =
+-- At a moment the loads of each thread, from 1 on, follow the script up to the moment's place. A replay waits for no thread: the bound of
+-- each passing is the script's end.
+abbrev pub AllFollow : Cast → Moment → Type 0
+AllFollow cast moment =
     (thread : ℕ) → 0 < thread
-    → ReadAlong cast.program (code_at cast.program cast.script) thread (hold_of thread cast.script) (of_thread cast.passings thread)
-    (of_thread moment.loads thread) moment.place
+    → Follows cast.program (code_at cast.program cast.script) (start_of cast.program cast.script) (λ _. total_of cast.program cast.script)
+    thread (hold_of thread cast.script) (of_thread cast.passings thread) (of_thread moment.loads thread) moment.place
 
--- what each moment of a replay keeps: all have read along the script, and the patcher stands within it
+-- what each moment of a replay keeps: all loads follow the script, and the patcher stands within it
 pub record IsAlong (cast : Cast) (moment : Moment) : Type 0 where
-  pub along : AllReadAlong cast moment
+  pub along : AllFollow cast moment
   pub within : moment.place ≤ total_of cast.program cast.script
 
 -- at a moment no thread, from 1 on, has torn a sled: each passing that has its mark decoded its sled whole

@@ -5,7 +5,7 @@ use Rattle.fdr_buffer.specs.Filled.{Filled, empty_buffer}
 use Rattle.fdr_buffer.specs.Segments.{has_room, segments}
 use Rattle.step_sim.specs.declared.pool.Pool.{Pool}
 use Rattle.step_sim.specs.Pool.{Fresh, Item, Segment, Stock, segments_among, serials_of, stock_behind}
-use Rattle.step_sim.specs.Recorded.{Stamp, buffer_of}
+use Rattle.traced_run.specs.Kept.{Stamp, buffer_of}
 
 -- the events of each thread, by its number
 abbrev pub Histories : Type 0

@@ -8,4 +8,6 @@ pub mod Schedules
 pub mod Readings
 pub mod Replayed
 pub mod Standing
+pub mod Starts
+pub mod Starting
 pub mod FaultWords

@@ -1,39 +1,56 @@
--- What a replay leaves of its threads.
-use Rattle.std.specs.Prelude.{◌≡◌, ◌+◌, ℕ, List, length, map, slice_get, Some}
+-- The runs that a schedule leaves, and what a replay leaves of them.
+use Rattle.std.specs.Prelude.{◌≡◌, ◌-◌, ℕ, List, map}
 use Rattle.xray_image.specs.Program.{Program}
 use Rattle.patch_script.specs.declared.command.Command.{Command}
-use Rattle.patch_script.specs.Micros.{hold_of}
-use Rattle.machine_step.specs.declared.limits.Limits.{Limits}
-use Rattle.machine_step.specs.declared.end.End.{End}
-use Rattle.machine_step.specs.declared.want.Want.TheVariants.{Done}
-use Rattle.machine_step.specs.PlainStep.{Passing, PlainRun, State}
-use Rattle.machine_step.specs.Traced.{IsThreadOf, Traced, sleds_of}
+use Rattle.fdr_buffer.specs.Filled.{Filled}
+use Rattle.machine_step.specs.declared.setup.Setup.{Setup}
+use Rattle.machine_step.specs.PlainStep.{Passing}
+use Rattle.machine_step.specs.Traced.{Traced, sleds_of}
+use Rattle.traced_run.specs.Kept.{segment_count}
+use Rattle.traced_run.specs.Left.{Leaves}
+use Rattle.traced_run.specs.Losses.{AreLost}
+use Rattle.traced_run.specs.Runs.{IsRun, ThreadRun}
 use Rattle.step_sim.specs.declared.turns.Turns.{Turns}
-use Rattle.step_sim.specs.Replay.{Cast, Replay, of_thread}
-
--- the thread has ended as its plain run ends, which passes these sleds
-pub record HasRun (program : Program) (limits : Limits) (number : ℕ) (sleds : List ℕ) (t : Traced) : Type 0 where
-  pub passed : List Passing
-  pub end : End
-  pub last : State
-  pub run : PlainRun program limits number passed end last
-  pub sleds_are : sleds ≡ sleds_of passed
-  pub done : t.want ≡ Done end
-  pub registers : t.registers ≡ last.registers
-  pub zero_flag : t.zero_flag ≡ last.zero_flag
-  pub output : t.output ≡ last.output
-  pub instructions : t.instructions ≡ last.instructions
-  pub passings : length t.marks ≡ last.passings
+use Rattle.step_sim.specs.Pool.{Pooled, PooledReplay, Pooling, segments_among}
+use Rattle.step_sim.specs.Recorded.{numbers_from, pooling_of}
+use Rattle.step_sim.specs.Replay.{Cast, marks_at}
 
 -- the program, the script, and the sleds that each thread passes
 abbrev pub cast_of : Program → List Command → List (List ℕ) → Cast
 cast_of program script passings = record { program = program; script = script; passings = passings }
 
--- The threads of a replay, thread 1 first: each has run as its plain run does, and their marks are those that the schedule leaves.
-pub record IsReplayed (program : Program) (script : List Command) (schedule : List Turns) (threads : ℕ) (limits : Limits) (ts : List Traced) : Type 0 where
-  pub count : length ts ≡ threads
-  pub thread : (i : ℕ) (t : Traced) → slice_get ts i ≡ Some t → IsThreadOf program (i + 1) threads (hold_of (i + 1) script) limits t
-  -- the sleds that each thread passes, thread 1 first
-  pub passings : List (List ℕ)
-  pub plain : (i : ℕ) (t : Traced) → slice_get ts i ≡ Some t → HasRun program limits (i + 1) (of_thread passings (i + 1)) t
-  pub marks : Replay (cast_of program script passings) schedule (map (λ t. t.marks) ts)
+-- the passings of each of these runs
+abbrev pub passed_of : List ThreadRun → List (List Passing)
+passed_of runs = map (λ run. run.passed) runs
+
+-- what is replayed where the threads run so
+abbrev pub cast_with : Program → List Command → List ThreadRun → Cast
+cast_with program script runs = cast_of program script (map sleds_of (passed_of runs))
+
+-- the buffers that it has besides one a thread, by the setup
+abbrev pub spare_of : Setup → ℕ
+spare_of setup = setup.max - setup.threads
+
+abbrev pub pooling_with : Program → List Command → Setup → List ThreadRun → Pooling
+pooling_with program script setup runs =
+    pooling_of (cast_with program script runs) (passed_of runs) setup.size (spare_of setup)
+
+-- The runs that a schedule leaves, thread 1 first: where its turns come to, each thread has these marks, and so many of its segments
+-- were taken away from the queue.
+pub record IsReplayOf (program : Program) (script : List Command) (schedule : List Turns) (setup : Setup) (runs : List ThreadRun) : Type 0 where
+  pub run : IsRun program setup runs
+  pub last : Pooled
+  pub replay : PooledReplay (cast_with program script runs) (pooling_with program script setup runs) schedule last
+  pub marks : map (λ run. run.marks) runs ≡ marks_at (cast_with program script runs) last.moment
+  pub lost : map (λ run. run.lost) runs ≡ map (λ thread. segments_among thread last.stock.taken) (numbers_from 1 setup.threads)
+
+-- What a replay leaves is what the runs leave that its schedule leaves: the threads; how many buffers each has put into the queue, how
+-- many segments it has, and how many of them are lost; and the buffers of those that are left. So many are lost as the queue had no
+-- buffers for.
+pub record IsSimulated (program : Program) (script : List Command) (schedule : List Turns) (setup : Setup) (cpus : List Traced)
+    (sealed segments first : List ℕ) (buffers : List Filled) : Type 0 where
+  pub runs : List ThreadRun
+  pub replay : IsReplayOf program script schedule setup runs
+  pub leaves : Leaves setup runs cpus segments first buffers
+  pub sealed_are : sealed ≡ map (λ run. segment_count setup.size run - 1) runs
+  pub losses : AreLost setup.size (spare_of setup) runs

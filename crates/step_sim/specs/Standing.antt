@@ -1,5 +1,5 @@
 -- Where the threads and the patcher of a replay stand, for the contracts of private functions.
-use Rattle.std.specs.Prelude.{◌≡◌, ◌<◌, ◌≤◌, ◌+◌, ℕ, List, [], length, slice_get, vec_len, Some, None}
+use Rattle.std.specs.Prelude.{◌≡◌, ◌<◌, ◌≤◌, ◌+◌, ◌^◌, ℕ, List, [], length, slice_get, vec_len, Some, None}
 use Rattle.xray_image.specs.Program.{Program}
 use Rattle.sled_words.specs.Words.{word_count}
 use Rattle.patch_script.specs.declared.command.Command.{Command}
@@ -49,8 +49,11 @@ abbrev pub Play : Patcher → Traced → Type 0
 Play p t = (cast : Cast) × (moment : Moment) × StandAt cast moment p t
 
 -- the thread has ended, where its plain run ends
-abbrev pub Rests : Traced → Type 0
-Rests t = (end : End) × (t.want ≡ Done end) × IsAtEnd t end
+pub record Rests (t : Traced) : Type 0 where
+  pub end : End
+  pub wants : t.want ≡ Done end
+  pub ends : IsAtEnd t end
+  pub few : length t.marks < 2 ^ 32
 
 -- ---- all threads
 

@@ -8,11 +8,11 @@ ghost use Rattle.step_sim.specs.Along.{IsAlong, NamesThread, TearsNoSled};
 ghost use Rattle.step_sim.specs.Schedules.{schedule_of};
 ghost use Rattle.step_sim.specs.Replay.{AllRunOut, Cast, Moment, first_moment, patcher_turn, scheduled, thread_turn, wanted_by};
 
-use machine_step::what_is_read_along_is_allowed;
+use machine_step::what_follows_is_allowed;
 use patch_script::each_script_keeps_sleds;
 
-/// At each moment of a replay each thread has read along the script: at first, and behind each turn of
-/// a thread or of the patcher. So the value of the word that a thread wants next is allowed, and no
+/// At each moment of a replay the loads of each thread follow the script: at first, and behind each turn
+/// of a thread or of the patcher. So the value of the word that a thread wants next is allowed, and no
 /// passing has torn its sled.
 pub fn a_replay_reads_along()
     ensures first { (cast : Cast) → IsAlong cast (first_moment cast) }
@@ -22,11 +22,11 @@ pub fn a_replay_reads_along()
         → IsAlong cast moment → IsAlong cast (patcher_turn cast moment) }
     ensures allowed { (cast : Cast) (moment : Moment) (thread word : ℕ) → 0 < thread
         → IsAlong cast moment → wanted_by cast thread moment ≡ Some word
-        → IsAllowed cast.program word (code_at cast.program cast.script moment.place word) }
+        → IsAllowed cast.program thread word (code_at cast.program cast.script moment.place word) }
     ensures whole { (cast : Cast) (moment : Moment) → IsAlong cast moment → TearsNoSled cast moment }
 {
     each_script_keeps_sleds();
-    what_is_read_along_is_allowed();
+    what_follows_is_allowed();
 }
 
 /// No replay tears a sled, whatever the program, the script and the schedule are: when all threads have

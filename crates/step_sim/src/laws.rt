@@ -1,12 +1,19 @@
 //! Laws of replays, each the contract of a function that does nothing.
 ghost use Rattle.std.specs.Prelude.{◌≡◌, ℕ, List, None};
+ghost use Rattle.xray_image.specs.Program.{IsAccepted, Program};
+ghost use Rattle.patch_script.specs.declared.command.Command.{Command};
 ghost use Rattle.patch_script.specs.Micros.{hold_of};
 ghost use Rattle.patch_script.specs.Plans.{waiting_line};
 ghost use Rattle.patch_script.specs.Refusals.{Lines, commands_of};
 ghost use Rattle.handler_word.specs.declared.mark.Mark.{Mark};
+ghost use Rattle.machine_step.specs.declared.setup.Setup.{Setup};
+ghost use Rattle.traced_run.specs.Runs.{ThreadRun};
 ghost use Rattle.step_sim.specs.declared.turns.Turns.{Turns as Line};
 ghost use Rattle.step_sim.specs.Pool.{Pooled, PooledReplay, Pooling};
 ghost use Rattle.step_sim.specs.Replay.{Cast, Replay, marks_at};
+ghost use Rattle.step_sim.specs.Replayed.{IsReplayOf};
+
+use machine_step::{one_end, some_end};
 
 /// A schedule leaves one list of marks to each thread: what is printed of a replay is a function of
 /// the program, the script, the passings and the schedule.
@@ -44,3 +51,29 @@ pub fn one_pooled_replay()
         → PooledReplay cast pooling schedule last → PooledReplay cast pooling schedule other
         → last ≡ other }
 {}
+
+/// A schedule leaves one list of runs: whatever is printed and written of them is a function of the
+/// program, the script, the schedule and the setup.
+pub fn one_run()
+    ensures { (bytes : List ℕ) (program : Program) (script : List Command) (schedule : List Line)
+        (setup : Setup) (runs others : List ThreadRun) → IsAccepted bytes program
+        → IsReplayOf program script schedule setup runs
+        → IsReplayOf program script schedule setup others → runs ≡ others }
+{
+    one_end();
+}
+
+/// A schedule leaves runs, whatever the program, the schedule and the setup are, where the script holds
+/// nobody. With `one_run`, exactly one list of them.
+pub fn some_run()
+    ensures free { (bytes : List ℕ) (program : Program) (script : List Command) (schedule : List Line)
+        (setup : Setup) → IsAccepted bytes program → ((thread : ℕ) → hold_of thread script ≡ None)
+        → (runs : List ThreadRun) × IsReplayOf program script schedule setup runs }
+    // A script without a line at which a thread or the patcher may wait holds nobody.
+    ensures still { (bytes : List ℕ) (program : Program) (script : List Command) (schedule : List Line)
+        (setup : Setup) (lines : Lines) → IsAccepted bytes program → script ≡ commands_of lines
+        → waiting_line lines ≡ None
+        → (runs : List ThreadRun) × IsReplayOf program script schedule setup runs }
+{
+    some_end();
+}

@@ -3,15 +3,16 @@
 
 mod along;
 mod fault;
-mod fault_words;
 mod laws;
 mod line;
 mod patcher;
 mod pool;
+mod refusal;
 mod replay;
 mod ring;
 mod schedule;
 mod sim_fault;
+mod start;
 #[cfg(test)]
 mod tests;
 mod thread;
@@ -19,8 +20,11 @@ mod turns;
 
 pub use along::{a_replay_reads_along, no_replay_tears_a_sled};
 pub use fault::ScheduleFault;
-pub use laws::{buffers_change_no_replay, one_pooled_replay, one_replay, some_replay};
+pub use laws::{
+    buffers_change_no_replay, one_pooled_replay, one_replay, one_run, some_replay, some_run,
+};
 pub use replay::{SimEnd, simulate};
 pub use schedule::{Schedule, read_schedule};
 pub use sim_fault::SimFault;
+pub use start::SimStart;
 pub use turns::Turns;

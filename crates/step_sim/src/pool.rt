@@ -1,9 +1,9 @@
 //! The buffers of a replay.
 
-ghost use Rattle.std.specs.Prelude.{◌≡◌, ◌≢◌, ◌<◌, ◌≤◌, ◌+◌, ◌-◌, ◌^◌, ◌++◌, ◌∷◌, [], ℕ, List, IfOk, IfSome, length, replicate, slice_index, true, filter, vec_len, vec_capacity};
+ghost use Rattle.std.specs.Prelude.{◌≡◌, ◌≢◌, ◌<◌, ◌≤◌, ◌+◌, ◌-◌, ◌^◌, ◌++◌, ◌∷◌, [], ℕ, List, All, IfOk, IfSome, Some, length, replicate, slice_get, slice_index, true, filter, vec_len, vec_capacity};
 ghost use Rattle.std.specs.List.{flat_map};
-ghost use Rattle.fdr_buffer.specs.Filled.{empty_buffer};
-ghost use Rattle.step_sim.specs.Recorded.{CanLose, is_of, lost_behind, numbers_from};
+ghost use Rattle.fdr_buffer.specs.Filled.{Filled, empty_buffer};
+ghost use Rattle.step_sim.specs.Recorded.{CanLose, is_of, lost_behind, numbers_from, segments_held};
 
 use crate::ring::Ring;
 use fdr_buffer::{Buffer, a_segment_grows, segments_hold_all};
@@ -27,9 +27,22 @@ pub(crate) struct Pool {
     pid: u32,
 }
 
+/// What the buffers of a replay leave, thread 1 first.
+#[derive(Drop)]
+pub(crate) struct Left {
+    /// How many buffers each thread has put at the back of the queue.
+    pub(crate) sealed: Vec<u32>,
+    /// How many segments each thread has: one a buffer that it has put there, and the one in its hand.
+    pub(crate) segments: Vec<u32>,
+    /// How many of the buffers that were put there were taken away again.
+    pub(crate) first: Vec<u32>,
+    /// The buffers that hold a segment: by thread, and then by segment.
+    pub(crate) kept: Vec<Buffer>,
+}
+
 impl Pool {
     ghost use Rattle.step_sim.specs.Pool.{first_stock};
-    ghost use Rattle.step_sim.specs.Recorded.{stamp_of};
+    ghost use Rattle.traced_run.specs.Kept.{stamp_of};
     ghost use Rattle.step_sim.specs.Holding.{CanNote, IsFull, NotesEvent, PoolHolds};
     ghost use Rattle.step_sim.specs.Recording.{NotesAny};
 
@@ -83,19 +96,21 @@ impl Pool {
         }
     }
 
-    /// What the buffers leave: how many each thread has put in the queue, how many of those were taken
-    /// away again, and those that hold a segment, by thread and then in their order. `kept` has to be
-    /// empty, with room for all.
-    pub(crate) fn collect(
-        self,
-        threads: u32,
-        mut kept: Vec<Buffer>,
-    ) -> (Vec<u32>, Vec<u32>, Vec<Buffer>)
+    /// What the buffers leave. `kept` and `segments` have to be empty, with room for all.
+    pub(crate) fn collect(self, threads: u32, mut kept: Vec<Buffer>, mut segments: Vec<u32>) -> Left
         requires empty { kept.items ≡ [] }
         requires room { length self.queue + vec_len self.hands ≤ vec_capacity kept }
-        ensures sealed { result.0.items ≡ self.sealed.items }
-        ensures first { result.1.items ≡ self.first.items }
-        ensures kept { result.2.items
+        requires uncounted { segments.items ≡ [] }
+        requires counts { vec_len self.hands ≤ vec_capacity segments }
+        requires same { length self.sealed.items ≡ length self.hands.items }
+        requires fit { All (λ n. n + 1 < 2 ^ 32) self.sealed.items }
+        ensures sealed { result.sealed.items ≡ self.sealed.items }
+        ensures segment_count { length result.segments.items ≡ length self.hands.items }
+        ensures segments { (i : ℕ) (hand : Filled) (n : ℕ) → slice_get self.hands.items i ≡ Some hand
+            → slice_get self.sealed.items i ≡ Some n
+            → slice_get result.segments.items i ≡ Some (segments_held hand n) }
+        ensures first { result.first.items ≡ self.first.items }
+        ensures kept { result.kept.items
             ≡ flat_map (λ t. filter (is_of t) self.queue ++ filter (is_of t) self.hands.items) (numbers_from 1 threads) }
     {
         let Pool {
@@ -106,12 +121,18 @@ impl Pool {
             wall: _,
             pid: _,
         } = self;
+        count_segments(&hands, &sealed, &mut segments);
         let mut rest = queue.into_items();
         for before in 0..threads {
             take_of(&mut rest, before + 1, &mut kept);
             take_of(&mut hands, before + 1, &mut kept);
         }
-        (sealed, first, kept)
+        Left {
+            sealed,
+            segments,
+            first,
+            kept,
+        }
     }
 
     /// Notes an event of a thread whose hand has no room for it: the hand goes to the back of the
@@ -134,10 +155,10 @@ impl Pool {
     }
 }
 
-/// Room for so many buffers, and none of them.
-pub(crate) fn room_for(alloc: Global, count: u32) -> Result<Vec<Buffer>, NoMemory>
-    ensures empty { IfOk result (λ buffers. buffers.items ≡ []) }
-    ensures room { IfOk result (λ buffers. vec_capacity buffers ≡ count) }
+/// Room for so many items, and none of them.
+pub(crate) fn room_for<T>(alloc: Global, count: u32) -> Result<Vec<T>, NoMemory>
+    ensures empty { IfOk result (λ items. items.items ≡ []) }
+    ensures room { IfOk result (λ items. vec_capacity items ≡ count) }
 {
     Ok(Vec::with_capacity(alloc, count as usize)?)
 }
@@ -153,6 +174,22 @@ fn fresh_buffers(alloc: Global, count: u32, size: u32) -> Result<Vec<Buffer>, No
         buffers.push(Buffer::new(alloc, size)?)?;
     }
     Ok(buffers)
+}
+
+/// Counts the segments of each thread: those that it has put in the queue, and the one in its hand.
+fn count_segments(hands: &[Buffer], sealed: &[u32], segments: &mut Vec<u32>)
+    requires empty { segments.old.items ≡ [] }
+    requires room { length hands.now ≤ vec_capacity segments.old }
+    requires same { length sealed.now ≡ length hands.now }
+    requires fit { All (λ n. n + 1 < 2 ^ 32) sealed.now }
+    ensures count { length segments.new.items ≡ length hands.now }
+    ensures each { (i : ℕ) (hand : Filled) (n : ℕ) → slice_get hands.now i ≡ Some hand
+        → slice_get sealed.now i ≡ Some n
+        → slice_get segments.new.items i ≡ Some (segments_held hand n) }
+{
+    for i in 0..hands.len() {
+        segments.push_reserved(if hands[i].begun() { sealed[i] + 1 } else { 0 });
+    }
 }
 
 /// Moves the buffers of a thread's segments behind others, in their order. There are few buffers.

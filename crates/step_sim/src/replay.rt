@@ -8,25 +8,24 @@ ghost use Rattle.step_sim.specs.declared.sim_fault.SimFault.{SimFault};
 ghost use Rattle.step_sim.specs.declared.sim_fault.SimFault.TheVariants.{Waits};
 ghost use Rattle.step_sim.specs.Replay.{AllRunOut, Cast, Moment, line_turns};
 ghost use Rattle.step_sim.specs.Pool.{AllPooledRunOut, Pooled};
-ghost use Rattle.step_sim.specs.Recorded.{IsRecorded};
 ghost use Rattle.step_sim.specs.Recording.{AllRecord, AllRecordAt, Recording, line_in, pooling_in};
-ghost use Rattle.step_sim.specs.Replayed.{IsReplayed};
+ghost use Rattle.step_sim.specs.Replayed.{IsSimulated};
 ghost use Rattle.step_sim.specs.Schedules.{AreTurnsOf};
-ghost use Rattle.step_sim.specs.Standing.{AllHaveBegun, AllPlay, AllStandAt, Rests};
+ghost use Rattle.step_sim.specs.Standing.{AllPlay, AllStandAt, Rests};
 
 use crate::patcher::Patcher;
-use crate::pool::{Pool, room_for};
+use crate::pool::Pool;
 use crate::schedule::Schedule;
 use crate::sim_fault::SimFault;
-use crate::thread::{make_loads, new_thread, run_out};
+use crate::start::SimStart;
+use crate::thread::{make_loads, run_out};
 use crate::turns::Turns;
 use fdr_buffer::Buffer;
-use machine_step::{Cpu, Setup, one_end};
+use machine_step::{Cpu, Setup};
 use patch_script::Script;
 use sled_words::MAX_THREADS;
 use std::alloc::Global;
 use xray_image::Image;
-use xray_io::NoMemory;
 
 /// What a replay leaves.
 #[derive(Drop)]
@@ -35,6 +34,9 @@ pub struct SimEnd<'a> {
     pub cpus: Vec<Cpu<'a>>,
     /// How many buffers each thread has put at the back of the queue, thread 1 first.
     pub sealed: Vec<u32>,
+    /// Into how many segments the events of each thread were cut: all that it has put there, and the
+    /// one that it holds. A thread without events has none.
+    pub segments: Vec<u32>,
     /// How many of those were taken away again: the number of a thread's first segment that is left.
     pub first: Vec<u32>,
     /// The buffers that hold an event: by thread, and then by segment.
@@ -48,7 +50,8 @@ pub struct SimEnd<'a> {
 /// steps that are left when all threads have ended aren't made, since nobody loads behind them.
 ///
 /// `Waits` comes exactly where the script has a line at which somebody may wait, and tells the first;
-/// `NoMemory` where memory was refused. All memory is taken before the first turn.
+/// `NoMemory` where memory was refused. All memory is taken before the first turn: by
+/// `SimStart::new`, while `SimStart::play` takes none.
 pub fn simulate<'a>(
     alloc: Global,
     image: &'a Image,
@@ -64,54 +67,18 @@ pub fn simulate<'a>(
     requires sizes { (72 ≤ setup.now.size) × (setup.now.size ≤ 1048576) }
     requires buffers { (setup.now.threads ≤ setup.now.max) × (setup.now.max ≤ 1024) }
     ensures waits { (line : ℕ) → (result ≡ Err (Waits line)) ↔ (waiting_line script.now.lines ≡ Some line) }
-    ensures replayed { IfOk result (λ end. IsReplayed image.now (commands_of script.now.lines)
-        schedule.now setup.now.threads setup.now.limits end.cpus.items) }
-    ensures recorded { IfOk result (λ end. IsRecorded image.now (commands_of script.now.lines)
-        schedule.now setup.now end.sealed.items end.first.items end.buffers.items) }
+    ensures simulated { IfOk result (λ end. IsSimulated image.now (commands_of script.now.lines)
+        schedule.now setup.now end.cpus.items end.sealed.items end.segments.items end.first.items
+        end.buffers.items) }
 {
-    if let Some(line) = script.waits() {
-        return Err(SimFault::Waits(line));
+    match SimStart::new(alloc, image, script, setup) {
+        Ok(start) => Ok(start.play(schedule)),
+        Err(fault) => Err(fault),
     }
-    // Says that some accepted file holds the image.
-    image.base();
-    image.sled_count();
-    one_end();
-    let mut patcher = Patcher::new(alloc, image, script, setup.threads)?;
-    let mut cpus = new_threads(alloc, image, script, setup)?;
-    let mut pool = Pool::new(alloc, setup)?;
-    let kept = room_for(alloc, setup.max)?;
-    play(&mut cpus, &mut patcher, &mut pool, schedule.lines());
-    let (sealed, first, buffers) = pool.collect(setup.threads, kept);
-    Ok(SimEnd {
-        cpus,
-        sealed,
-        first,
-        buffers,
-    })
-}
-
-/// All threads before their first loads, thread 1 first.
-fn new_threads<'a>(
-    alloc: Global,
-    image: &'a Image,
-    script: &Script,
-    setup: &Setup,
-) -> Result<Vec<Cpu<'a>>, NoMemory>
-    requires threads { setup.now.threads ≤ MAX_THREADS }
-    requires stamps { (1 ≤ setup.now.limits.cpus) × (1 ≤ setup.now.limits.migrate) }
-    ensures count { IfOk result (λ cpus. length cpus.items ≡ setup.now.threads) }
-    ensures begun { IfOk result (λ cpus. AllHaveBegun image.now (commands_of script.now.lines)
-        setup.now.threads setup.now.limits cpus.items) }
-{
-    let mut cpus = Vec::with_capacity(alloc, setup.threads as usize)?;
-    for number in 0..setup.threads {
-        cpus.push(new_thread(alloc, image, script, setup, number + 1)?)?;
-    }
-    Ok(cpus)
 }
 
 /// The lines of a schedule, and behind them each thread up to its end.
-fn play(cpus: &mut Vec<Cpu>, patcher: &mut Patcher, pool: &mut Pool, lines: &[Turns])
+pub(crate) fn play(cpus: &mut Vec<Cpu>, patcher: &mut Patcher, pool: &mut Pool, lines: &[Turns])
     requires play { AllPlay patcher.old cpus.old.items }
     requires records { AllRecord patcher.old cpus.old.items pool.old }
     requires lines { All (AreTurnsOf (length cpus.old.items)) lines.now }

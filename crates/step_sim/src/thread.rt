@@ -66,6 +66,8 @@ fn next_word(cpu: &mut Cpu) -> Option<u32>
     ensures nearer { loads_left cpu.new ≤ loads_left cpu.old }
 {
     let_in(cpu);
+    // Says that the passings, and so the events, fit 32 bits.
+    cpu.passings();
     match cpu.want() {
         Want::Load(word) => Some(word),
         Want::Gate(_) | Want::Done(_) => None,

@@ -1,3 +1,5 @@
 pub mod Arranged
 pub mod Audit
+pub mod Flush
+pub mod Lines
 pub mod Telling

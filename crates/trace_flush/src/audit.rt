@@ -1,17 +1,16 @@
 //! The text of the audit.
 
-ghost use Rattle.std.specs.Prelude.{◌≡◌, ◌≤◌, ◌<◌, ◌*◌, ◌^◌, length, All, OnOk, OnErr, sum_by};
+ghost use Rattle.std.specs.Prelude.{◌≡◌, ◌<◌, ◌*◌, ◌^◌, length, All, sum_by};
 ghost use Rattle.std.specs.List.{flat_map};
 ghost use Rattle.machine_step.specs.Traced.{IsDone};
 ghost use Rattle.trace_flush.specs.Audit.{accounts, audit_text, buffers_text, limits_text, recycled_line, setup_lines, stamps_text, thread_line, thread_lines};
-ghost use Rattle.xray_io.specs.Faults.{Rose};
-ghost use Rattle.xray_io.specs.Sink.{Adds, AddsPrefix};
-ghost use Rattle.xray_io.specs.Text.{sink_of, loan_of, Gains, Breaks};
+ghost use Rattle.xray_io.specs.Text.{AddsText};
+ghost use Rattle.xray_io.specs.Writes.{WritesText};
 
 use crate::line::AuditLine;
 use handler_word::Marks;
 use machine_step::{Cpu, Limits, Setup, add_marks, end_name};
-use xray_io::{Piece, Sink, Text, WriteFault, text_adds_up};
+use xray_io::{Piece, Sink, Text, WriteFault};
 
 /// Writes the audit of a run whose threads have all ended: what it was made with, two lines for each
 /// thread in order, and how many segments were recycled. Takes no memory.
@@ -25,13 +24,8 @@ pub fn write_audit<S: Sink>(
 ) -> Result<(), WriteFault>
     requires count { length lines.now ≡ length cpus.now }
     requires done { All (λ cpu. IsDone cpu.want) cpus.now }
-    ensures all { OnOk result (Adds (S.written sink.old) (S.written sink.new)
-        (audit_text setup.now (accounts lines.now cpus.now))) }
-    ensures front { OnErr result (AddsPrefix (S.written sink.old) (S.written sink.new)
-        (audit_text setup.now (accounts lines.now cpus.now))) }
-    ensures failed { OnErr result (Rose (S.faults sink.old) (S.faults sink.new)) }
-    ensures later { S.faults sink.old ≤ S.faults sink.new }
-    ensures follows { S.follows sink.old sink.new }
+    ensures { WritesText S.written S.faults S.along sink.old sink.new
+        (audit_text setup.now (accounts lines.now cpus.now)) result }
 {
     let mut text = Text::new(sink);
     add_audit(&mut text, setup, lines, cpus)?;
@@ -46,17 +40,9 @@ fn add_audit<S: Sink>(
     cpus: &[Cpu],
 ) -> Result<(), WriteFault>
     requires { length lines.now ≡ length cpus.now }
-    ensures gains { OnOk result (Gains S.written text.old text.new
-        (audit_text setup.now (accounts lines.now cpus.now))) }
-    ensures breaks { OnErr result (Breaks S.written text.old (sink_of text.new)
-        (audit_text setup.now (accounts lines.now cpus.now))) }
-    ensures failed { OnErr result
-        (Rose (S.faults (sink_of text.old)) (S.faults (sink_of text.new))) }
-    ensures later { S.faults (sink_of text.old) ≤ S.faults (sink_of text.new) }
-    ensures follows { S.follows (sink_of text.old) (sink_of text.new) }
-    ensures loan { loan_of text.new ≡ loan_of text.old }
+    ensures { AddsText S.written S.faults S.along text.old text.new
+        (audit_text setup.now (accounts lines.now cpus.now)) result }
 {
-    text_adds_up::<S>();
     add_setup(text, setup)?;
     add_threads(text, lines, cpus)?;
     add_recycled(text, lines)
@@ -64,16 +50,8 @@ fn add_audit<S: Sink>(
 
 /// Adds the line of the format, and that of the setup.
 fn add_setup<S: Sink>(text: &mut Text<S>, setup: &Setup) -> Result<(), WriteFault>
-    ensures gains { OnOk result (Gains S.written text.old text.new (setup_lines setup.now)) }
-    ensures breaks { OnErr result
-        (Breaks S.written text.old (sink_of text.new) (setup_lines setup.now)) }
-    ensures failed { OnErr result
-        (Rose (S.faults (sink_of text.old)) (S.faults (sink_of text.new))) }
-    ensures later { S.faults (sink_of text.old) ≤ S.faults (sink_of text.new) }
-    ensures follows { S.follows (sink_of text.old) (sink_of text.new) }
-    ensures loan { loan_of text.new ≡ loan_of text.old }
+    ensures { AddsText S.written S.faults S.along text.old text.new (setup_lines setup.now) result }
 {
-    text_adds_up::<S>();
     add_buffers(text, setup)?;
     add_limits(text, &setup.limits)?;
     add_stamps(text, setup)
@@ -81,14 +59,8 @@ fn add_setup<S: Sink>(text: &mut Text<S>, setup: &Setup) -> Result<(), WriteFaul
 
 /// Adds the line of the format, the threads and the buffers.
 fn add_buffers<S: Sink>(text: &mut Text<S>, setup: &Setup) -> Result<(), WriteFault>
-    ensures gains { OnOk result (Gains S.written text.old text.new (buffers_text setup.now)) }
-    ensures breaks { OnErr result
-        (Breaks S.written text.old (sink_of text.new) (buffers_text setup.now)) }
-    ensures failed { OnErr result
-        (Rose (S.faults (sink_of text.old)) (S.faults (sink_of text.new))) }
-    ensures later { S.faults (sink_of text.old) ≤ S.faults (sink_of text.new) }
-    ensures follows { S.follows (sink_of text.old) (sink_of text.new) }
-    ensures loan { loan_of text.new ≡ loan_of text.old }
+    ensures { AddsText S.written S.faults S.along text.old text.new
+        (buffers_text setup.now) result }
 {
     text.pieces(&[
         Piece::Bytes(b"xray-audit 1\nthreads="),
@@ -102,14 +74,8 @@ fn add_buffers<S: Sink>(text: &mut Text<S>, setup: &Setup) -> Result<(), WriteFa
 
 /// Adds what bounds and stamps each thread.
 fn add_limits<S: Sink>(text: &mut Text<S>, limits: &Limits) -> Result<(), WriteFault>
-    ensures gains { OnOk result (Gains S.written text.old text.new (limits_text limits.now)) }
-    ensures breaks { OnErr result
-        (Breaks S.written text.old (sink_of text.new) (limits_text limits.now)) }
-    ensures failed { OnErr result
-        (Rose (S.faults (sink_of text.old)) (S.faults (sink_of text.new))) }
-    ensures later { S.faults (sink_of text.old) ≤ S.faults (sink_of text.new) }
-    ensures follows { S.follows (sink_of text.old) (sink_of text.new) }
-    ensures loan { loan_of text.new ≡ loan_of text.old }
+    ensures { AddsText S.written S.faults S.along text.old text.new
+        (limits_text limits.now) result }
 {
     text.pieces(&[
         Piece::Bytes(b" fuel="),
@@ -129,14 +95,7 @@ fn add_limits<S: Sink>(text: &mut Text<S>, limits: &Limits) -> Result<(), WriteF
 
 /// Adds what is written in the trace of the process, the wall time and the counter.
 fn add_stamps<S: Sink>(text: &mut Text<S>, setup: &Setup) -> Result<(), WriteFault>
-    ensures gains { OnOk result (Gains S.written text.old text.new (stamps_text setup.now)) }
-    ensures breaks { OnErr result
-        (Breaks S.written text.old (sink_of text.new) (stamps_text setup.now)) }
-    ensures failed { OnErr result
-        (Rose (S.faults (sink_of text.old)) (S.faults (sink_of text.new))) }
-    ensures later { S.faults (sink_of text.old) ≤ S.faults (sink_of text.new) }
-    ensures follows { S.follows (sink_of text.old) (sink_of text.new) }
-    ensures loan { loan_of text.new ≡ loan_of text.old }
+    ensures { AddsText S.written S.faults S.along text.old text.new (stamps_text setup.now) result }
 {
     text.pieces(&[
         Piece::Bytes(b" pid="),
@@ -158,17 +117,9 @@ fn add_threads<S: Sink>(
     cpus: &[Cpu],
 ) -> Result<(), WriteFault>
     requires { length lines.now ≡ length cpus.now }
-    ensures gains { OnOk result (Gains S.written text.old text.new
-        (flat_map thread_lines (accounts lines.now cpus.now))) }
-    ensures breaks { OnErr result (Breaks S.written text.old (sink_of text.new)
-        (flat_map thread_lines (accounts lines.now cpus.now))) }
-    ensures failed { OnErr result
-        (Rose (S.faults (sink_of text.old)) (S.faults (sink_of text.new))) }
-    ensures later { S.faults (sink_of text.old) ≤ S.faults (sink_of text.new) }
-    ensures follows { S.follows (sink_of text.old) (sink_of text.new) }
-    ensures loan { loan_of text.new ≡ loan_of text.old }
+    ensures { AddsText S.written S.faults S.along text.old text.new
+        (flat_map thread_lines (accounts lines.now cpus.now)) result }
 {
-    text_adds_up::<S>();
     'threads: for (line, cpu) in lines.iter().zip(cpus.iter()) {
         add_thread(text, line, cpu.marks())?;
     }
@@ -181,32 +132,17 @@ fn add_thread<S: Sink>(
     line: &AuditLine,
     marks: &Marks,
 ) -> Result<(), WriteFault>
-    ensures gains { OnOk result (Gains S.written text.old text.new
-        (thread_lines (line.now, marks.now.items))) }
-    ensures breaks { OnErr result (Breaks S.written text.old (sink_of text.new)
-        (thread_lines (line.now, marks.now.items))) }
-    ensures failed { OnErr result
-        (Rose (S.faults (sink_of text.old)) (S.faults (sink_of text.new))) }
-    ensures later { S.faults (sink_of text.old) ≤ S.faults (sink_of text.new) }
-    ensures follows { S.follows (sink_of text.old) (sink_of text.new) }
-    ensures loan { loan_of text.new ≡ loan_of text.old }
+    ensures { AddsText S.written S.faults S.along text.old text.new
+        (thread_lines (line.now, marks.now.items)) result }
 {
-    text_adds_up::<S>();
     add_line(text, line, marks)?;
     add_marks(text, marks)
 }
 
 /// Adds the first line of a thread.
 fn add_line<S: Sink>(text: &mut Text<S>, line: &AuditLine, marks: &Marks) -> Result<(), WriteFault>
-    ensures gains { OnOk result (Gains S.written text.old text.new
-        (thread_line (line.now, marks.now.items))) }
-    ensures breaks { OnErr result (Breaks S.written text.old (sink_of text.new)
-        (thread_line (line.now, marks.now.items))) }
-    ensures failed { OnErr result
-        (Rose (S.faults (sink_of text.old)) (S.faults (sink_of text.new))) }
-    ensures later { S.faults (sink_of text.old) ≤ S.faults (sink_of text.new) }
-    ensures follows { S.follows (sink_of text.old) (sink_of text.new) }
-    ensures loan { loan_of text.new ≡ loan_of text.old }
+    ensures { AddsText S.written S.faults S.along text.old text.new
+        (thread_line (line.now, marks.now.items)) result }
 {
     text.pieces(&[
         Piece::Bytes(b"thread "),
@@ -227,14 +163,8 @@ fn add_line<S: Sink>(text: &mut Text<S>, line: &AuditLine, marks: &Marks) -> Res
 
 /// Adds the line of the segments that were recycled.
 fn add_recycled<S: Sink>(text: &mut Text<S>, lines: &[AuditLine]) -> Result<(), WriteFault>
-    ensures gains { OnOk result (Gains S.written text.old text.new (recycled_line lines.now)) }
-    ensures breaks { OnErr result
-        (Breaks S.written text.old (sink_of text.new) (recycled_line lines.now)) }
-    ensures failed { OnErr result
-        (Rose (S.faults (sink_of text.old)) (S.faults (sink_of text.new))) }
-    ensures later { S.faults (sink_of text.old) ≤ S.faults (sink_of text.new) }
-    ensures follows { S.follows (sink_of text.old) (sink_of text.new) }
-    ensures loan { loan_of text.new ≡ loan_of text.old }
+    ensures { AddsText S.written S.faults S.along text.old text.new
+        (recycled_line lines.now) result }
 {
     text.pieces(&[
         Piece::Bytes(b"recycled "),

@@ -1,8 +1,20 @@
-//! A law of the audit's text, as the contract of a function that does nothing.
-ghost use Rattle.std.specs.Prelude.{◌≡◌, List, All};
+//! Laws of what is written of a run. Each is the contract of a function that does nothing.
+
+ghost use Rattle.std.specs.Prelude.{◌≡◌, List, ℕ, All};
+ghost use Rattle.xray_image.specs.Program.{IsAccepted, Program};
+ghost use Rattle.fdr_buffer.specs.Filled.{Filled};
 ghost use Rattle.machine_step.specs.declared.setup.Setup.{Setup};
-ghost use Rattle.trace_flush.specs.Audit.{Account, audit_text};
+ghost use Rattle.machine_step.specs.Traced.{Traced};
+ghost use Rattle.traced_run.specs.Fits.{SetupFits};
+ghost use Rattle.traced_run.specs.Left.{Leaves};
+ghost use Rattle.traced_run.specs.Runs.{IsRun, ThreadRun};
+ghost use Rattle.trace_flush.specs.Audit.{Account, accounts, audit_text};
+ghost use Rattle.trace_flush.specs.Flush.{trace_bytes, IsTraceOf};
+ghost use Rattle.trace_flush.specs.Lines.{accounts_of, lines_of};
 ghost use Rattle.trace_flush.specs.Telling.{HasNumbers, HasSetupNumbers};
+
+use fdr_file::a_file_reads_back;
+use traced_run::{a_run_fits_its_buffers, a_run_without_losses_is_whole};
 
 /// The text of an audit tells what it is of: two audits with the same text are of runs that were made
 /// with the same, and of the same threads, each with the same end, the same marks, and as many segments
@@ -14,4 +26,24 @@ pub fn audit_tells_its_run()
     ensures setup { (setup other : Setup) (threads others : List Account)
         → HasSetupNumbers setup → HasSetupNumbers other
         → audit_text setup threads ≡ audit_text other others → setup ≡ other }
+{}
+
+/// The trace of a run is what the marks of its threads say: a header with the setup's numbers, and the
+/// last whole segments of exactly the events that they record.
+pub fn a_run_is_traced()
+    ensures { (bytes : List ℕ) (program : Program) (setup : Setup) (runs : List ThreadRun)
+        → IsAccepted bytes program → SetupFits setup → IsRun program setup runs
+        → IsTraceOf setup runs (trace_bytes setup runs) }
+{
+    a_file_reads_back();
+    a_run_fits_its_buffers();
+    a_run_without_losses_is_whole();
+}
+
+/// The audit of what a run leaves says of each thread its number, its end, its segments, how many of
+/// them are lost, and its marks.
+pub fn a_run_is_audited()
+    ensures { (setup : Setup) (runs : List ThreadRun) (cpus : List Traced) (segments first : List ℕ)
+        (buffers : List Filled) → Leaves setup runs cpus segments first buffers
+        → accounts (lines_of cpus segments first) cpus ≡ accounts_of setup runs }
 {}

@@ -3,13 +3,15 @@
 #![tactic(auto)]
 
 mod audit;
+mod header;
 mod laws;
 mod line;
 mod order;
 
 pub use audit::write_audit;
-pub use laws::audit_tells_its_run;
-pub use line::AuditLine;
+pub use header::trace_header;
+pub use laws::{a_run_is_audited, a_run_is_traced, audit_tells_its_run};
+pub use line::{AuditLine, add_audit_lines};
 pub use order::arrange;
 
 #[cfg(test)]

@@ -1,4 +1,10 @@
-use machine_step::End;
+//! The audit's line of a thread.
+
+ghost use Rattle.std.specs.Prelude.{◌≡◌, ◌≤◌, ◌+◌, ◌++◌, All, length, vec_len, vec_capacity};
+ghost use Rattle.machine_step.specs.Traced.{IsDone};
+ghost use Rattle.trace_flush.specs.Lines.{end_of, lines_of};
+
+use machine_step::{Cpu, End, Want};
 
 /// What the audit tells of a thread, beside its marks.
 #[derive(Clone, Copy, Debug, PartialEq, Eq)]
@@ -11,4 +17,36 @@ pub struct AuditLine {
     pub segments: u32,
     /// How many of them were lost, since their buffers were taken again: they are its first ones.
     pub first: u32,
+}
+
+/// How a thread has ended.
+fn end(cpu: &Cpu) -> End
+    requires { IsDone cpu.now.want }
+    ensures { result ≡ end_of cpu.now.want }
+{
+    match cpu.want() {
+        Want::Done(end) => end,
+        Want::Gate(_) | Want::Load(_) => unreachable!(),
+    }
+}
+
+/// Adds the lines of the threads of a run, by how many segments each has and how many of them are
+/// lost. Takes no memory: `lines` has to have room for them.
+pub fn add_audit_lines(cpus: &[Cpu], segments: &[u32], first: &[u32], lines: &mut Vec<AuditLine>)
+    requires done { All (λ cpu. IsDone cpu.want) cpus.now }
+    requires segments { length segments.now ≡ length cpus.now }
+    requires first { length first.now ≡ length cpus.now }
+    requires room { vec_len lines.old + length cpus.now ≤ vec_capacity lines.old }
+    ensures lines { lines.new.items ≡ lines.old.items ++ lines_of cpus.now segments.now first.now }
+    ensures capacity { vec_capacity lines.new ≡ vec_capacity lines.old }
+{
+    for i in 0..cpus.len() {
+        let cpu = &cpus[i];
+        lines.push_reserved(AuditLine {
+            thread: cpu.thread(),
+            end: end(cpu),
+            segments: segments[i],
+            first: first[i],
+        });
+    }
 }

@@ -2,9 +2,12 @@
 
 ghost use Rattle.std.specs.Prelude.{◌≡◌, List, IsPermutation, AllPairs, filter};
 ghost use Rattle.fdr_buffer.specs.Filled.{Filled};
+ghost use Rattle.machine_step.specs.declared.setup.Setup.{Setup};
+ghost use Rattle.traced_run.specs.Kept.{kept_buffers};
+ghost use Rattle.traced_run.specs.Runs.{ThreadRun};
 ghost use Rattle.trace_flush.specs.Arranged.{has_event, IsBefore};
 
-use fdr_buffer::Buffer;
+use fdr_buffer::{Buffer, segments_hold_all};
 
 /// Drops the buffers that hold no event, and orders the rest as a trace has them: by their threads, and
 /// those of a thread by their segments. Takes no memory.
@@ -16,7 +19,14 @@ pub fn arrange(buffers: &mut Vec<Buffer>)
     // Whichever list has the same buffers in strict order is what is left.
     ensures exact { (wanted : List Filled) → AllPairs IsBefore wanted
         → IsPermutation (filter has_event buffers.old.items) wanted → buffers.new.items ≡ wanted }
+    // Of a run, the buffers of the segments that are left: also where they stood in this order before.
+    ensures run { (setup : Setup) (runs : List ThreadRun)
+        → IsPermutation (filter has_event buffers.old.items) (kept_buffers setup runs)
+        → buffers.new.items ≡ kept_buffers setup runs }
+    ensures stay { (setup : Setup) (runs : List ThreadRun) → buffers.old.items ≡ kept_buffers setup runs
+        → buffers.new.items ≡ kept_buffers setup runs }
 {
+    segments_hold_all();
     buffers.retain(|buffer| buffer.events() > 0);
     buffers.sort_unstable_by_key(|buffer| (buffer.thread(), buffer.serial()));
 }

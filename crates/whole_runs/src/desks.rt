@@ -30,6 +30,12 @@ impl Desk for Trickle {
 
     ghost write_faults = { λ _. 2 ^ 64 };
 
+    ghost along = { λ _ _ _. Unit {0} };
+
+    ghost along_none = { λ _. tt };
+
+    ghost along_both = { λ _ _ _ _ _ _ _. tt };
+
     fn read(&mut self, name: &str, from: u64, buf: &mut [u8]) -> Result<usize, ReadFail> {
         let room = buf.len().min(1);
         match self.desk.read(name, from, &mut buf[..room]) {
@@ -87,6 +93,12 @@ impl Desk for Noting {
     ghost read_faults = { λ _. 2 ^ 64 };
 
     ghost write_faults = { λ _. 2 ^ 64 };
+
+    ghost along = { λ _ _ _. Unit {0} };
+
+    ghost along_none = { λ _. tt };
+
+    ghost along_both = { λ _ _ _ _ _ _ _. tt };
 
     fn read(&mut self, name: &str, from: u64, buf: &mut [u8]) -> Result<usize, ReadFail> {
         if self.note(name).is_err() {

@@ -4,11 +4,10 @@
 usage: crates/whole_runs/tools/console_blocks.py [PROGRAM]
     PROGRAM: the built program, crates/xray/out/xray if left out
 
-In a block ```console a line that begins with `$ ` is a command, and the lines behind it are what it prints, on standard
-output and standard error, up to the next command. Each document has one shell, so that a command finds the files and the
-folder that those before it left. The tour of README.md begins at the top of a copy of the examples; the other documents
-begin in a folder with the files of all examples. A difference is told with its document and line,
-and then the status is 1.
+In a block ```console a line that begins with `$ ` is a command. The lines after it, up to the next command, are what it prints on
+standard output and standard error. Each document has one shell, so that a command finds the files and the folder that those
+before it left. README.md and the tour begin at the top of a copy of the examples; the manual and the pages on formats begin in a
+folder with the files of all examples. Each difference is printed with its document and line, and then the status is 1.
 """
 import argparse
 import dataclasses
@@ -19,10 +18,10 @@ import sys
 import tempfile
 
 ROOT = next(folder for folder in pathlib.Path(__file__).resolve().parents if (folder / "crates.txt").is_file())
-TOUR = "README.md"
-MANUALS = ["docs/COMMANDS.md", "docs/FORMATS.md"]
+TOURS = ["README.md", "docs/TOUR.md"]
+MANUALS = ["docs/COMMANDS.md", *sorted(f"docs/formats/{page.name}" for page in (ROOT / "docs/formats").glob("*.md"))]
 EXAMPLES = ["first-run", "asm", "live-patching"]
-# What the shell prints behind each command, on a line of its own.
+# What the shell prints after each command, on a line of its own.
 MARK = "---- console_blocks: done ----"
 
 
@@ -65,7 +64,7 @@ def prepared(folder, name, program):
     program_folder = folder / "crates/xray/out"
     program_folder.mkdir(parents=True)
     (program_folder / "xray").symlink_to(program)
-    if name == TOUR:
+    if name in TOURS:
         return folder, program_folder
     together = folder / "together"
     together.mkdir()
@@ -76,18 +75,18 @@ def prepared(folder, name, program):
 
 
 def differences(name, program):
-    """How many commands a document has, and a text for each that prints something else."""
+    """How many commands a document has, and a report of each that prints something else."""
     steps = steps_of(ROOT / name)
     with tempfile.TemporaryDirectory(prefix="console_blocks.") as folder_name:
         outputs = printed(steps, *prepared(pathlib.Path(folder_name), name, program))
-    told = [
+    reported = [
         f"{name}:{step.line}: $ {step.command}\nshown:\n{step.shown}printed:\n{output}"
         for step, output in zip(steps, outputs)
         if output != step.shown
     ]
     if len(outputs) < len(steps):
-        told.append(f"{name}:{steps[len(outputs)].line}: the shell ended before this command\n")
-    return len(steps), told
+        reported.append(f"{name}:{steps[len(outputs)].line}: the shell ended before this command\n")
+    return len(steps), reported
 
 
 def main():
@@ -96,15 +95,15 @@ def main():
     program = parser.parse_args().program.resolve()
     if not program.is_file():
         parser.error(f"there is no program {program}")
-    count, told = 0, []
-    for name in [TOUR, *MANUALS]:
+    count, reported = 0, []
+    for name in [*TOURS, *MANUALS]:
         steps, differing = differences(name, program)
         count += steps
-        told += differing
-    for text in told:
+        reported += differing
+    for text in reported:
         print(text)
-    print(f"{count} commands, {len(told)} differ from what the documents show")
-    sys.exit(1 if told else 0)
+    print(f"{count} commands, {len(reported)} differ from what the documents show")
+    sys.exit(1 if reported else 0)
 
 
 if __name__ == "__main__":

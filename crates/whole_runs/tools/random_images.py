@@ -7,7 +7,7 @@ import pathlib
 import struct
 import sys
 
-import xray_model as model
+import image_model as model
 
 ROOT = next(folder for folder in pathlib.Path(__file__).resolve().parents if (folder / "crates.txt").is_file())
 

@@ -23,8 +23,9 @@ def commands(draw, ids):
     """Commands up to `go`, and behind it."""
     log = ["init", "finalize"]
     before = []
-    if draw.random() < 0.6:
+    if draw.random() < 0.7:
         before += [["set_handler"], [log.pop(0)]]
+        before += [["patch"]] * (draw.random() < 0.5)
     before += [command(draw, ids, log) for _ in range(draw.choice([0, 0, 1, 2, 4]))]
     return before, [command(draw, ids, log) for _ in range(draw.choice([0, 1, 2, 4, 8, 16]))]
 

@@ -1,12 +1,15 @@
 #!/usr/bin/env python3
 """Compares the model of `xray` with results that were worked by hand, and says where they differ.
 
-usage: crates/whole_runs/tools/worked_runs.py [PROGRAM]
+usage: crates/whole_runs/tools/worked_runs.py [PROGRAM] [--with COMMANDS]
     PROGRAM: a built program, which is then compared with the same results; without it the model alone is
+    --with: which of sim, account, stack and convert PROGRAM has, joined by commas, all of them if left out; without sim a
+        replay has three files and writes no trace
 
 The images are made of assembler texts by the assembler's own model. Each run says its words, its inputs i (image), s
 (script) and c (schedule), and what has to come of it: the status, and standard output or its lines of marks, or the line on
-standard error. The stores that scripts make are compared too. A difference is told, and then the status is 1.
+standard error. The stores that scripts make are compared too. A difference is reported, and then the status is 1.
+worked_traces.py does the same with traces and the reports on them.
 """
 import argparse
 import dataclasses
@@ -16,6 +19,8 @@ import sys
 import tempfile
 
 sys.dont_write_bytecode = True  # the modules stand in the repository, and their compiled forms don't
+import image_model  # noqa: E402
+import replay_model  # noqa: E402
 import xray_model as model  # noqa: E402
 from random_images import texts  # noqa: E402
 
@@ -49,7 +54,7 @@ class Run:
     image: bytes = STRAIGHT_LINE
     script: str = "go"
     schedule: str = ""
-    words: str = "sim i s c"
+    words: str = "sim i s c t a"
     status: int = 0
 
 
@@ -99,7 +104,7 @@ RUNS = [
         + LETTER_STATE.replace("thread 1", "thread 2").replace("rdi=1", "rdi=2") + "marks +2\n",
         script="set_handler / init / go / patch",
         schedule="t 1 1 / p 8",
-        words="sim i s c --threads 2",
+        words="sim i s c t a --threads 2",
     ),
     # Scripts that wait, and one that waits for itself.
     refused("s: script Waits 3", "set_handler / init / hold 1 2 / go / await 1 2 / patch / release 1", image=CALL),
@@ -136,7 +141,7 @@ RUNS = [
     ),
     # Bad command lines.
     bad(""), bad("sim i s"), bad("sim i s c t t"), bad("plain i --threads 17"), bad("plain i --threads 1 --threads 1"),
-    bad("plain i --thread 1"), bad("run i s t a --threads 4 --buffer-max 3"),
+    bad("plain i --thread 1"), bad("run i s t a --threads 4 --buffer-max 3"), bad("sim i s c t"),
 ]  # fmt: skip
 
 # Scripts over the straight line, how many micro steps stand before `go`, and the first or the last stores, as (word, value).
@@ -147,22 +152,33 @@ STORES = [
 ]  # fmt: skip
 
 
-def model_leaves(run):
+# The files that `sim` writes, in the words of a run.
+OUTPUTS = "sim i s c t a"
+REPLAY = "sim i s c"
+
+
+def model_leaves(run, commands):
     files = {"i": run.image, "s": lines(run.script), "c": lines(run.schedule)}
-    return model.outcome([word.encode() for word in run.words.split()], model.World(files))
+    words = [word.encode() for word in words_of(run, commands).split()]
+    return model.outcome(words, model.World(files), forms=model.forms_with(commands))
 
 
-def program_leaves(program, run):
+def words_of(run, commands):
+    """The words of a run for a program with these commands."""
+    return run.words if "sim" in commands else run.words.replace(OUTPUTS, REPLAY)
+
+
+def program_leaves(program, run, commands):
     with tempfile.TemporaryDirectory(prefix="worked_runs.") as name:
         folder = pathlib.Path(name)
         for file, content in (("i", run.image), ("s", lines(run.script)), ("c", lines(run.schedule))):
             (folder / file).write_bytes(content)
-        done = subprocess.run([program, *run.words.split()], cwd=folder, capture_output=True)
+        done = subprocess.run([program, *words_of(run, commands).split()], cwd=folder, capture_output=True)
     return model.Outcome(done.returncode, done.stdout, done.stderr)
 
 
-def told(outcome, run):
-    """What a run leaves, in the form in which `comes` tells it."""
+def said(outcome, run):
+    """What a run leaves, in the form in which `comes` says it."""
     if outcome.status != 0:
         return outcome.error.decode().removesuffix("\n")
     output = outcome.output.decode()
@@ -174,17 +190,17 @@ def told(outcome, run):
 def run_differences(name, leaves):
     for run in RUNS:
         outcome = leaves(run)
-        if outcome.status != run.status or told(outcome, run) != run.comes:
+        if outcome.status != run.status or said(outcome, run) != run.comes:
             yield f"{name}: {run.words}, script {run.script[:60]!r}, schedule {run.schedule!r}: {outcome}"
 
 
 def store_differences():
-    straight = model.image_of(STRAIGHT_LINE)
+    straight = image_model.image_of(STRAIGHT_LINE)
     for script, start, expected in STORES:
-        commands = model.commands_of(lines(script), straight, 1)
+        commands = replay_model.commands_of(lines(script), straight, 1)
         go = next(number for number, command in enumerate(commands) if command.name == "go")
-        before = list(model.Words(straight).stores(commands[:go]))
-        stores = list(model.Words(straight).stores(commands))
+        before = list(replay_model.Words(straight).stores(commands[:go]))
+        stores = list(replay_model.Words(straight).stores(commands))
         if len(before) != start or expected not in (stores[: len(expected)], stores[-len(expected) :]):
             yield f"model: script {script!r}: {len(before)} micro steps before go, stores {stores}"
 
@@ -192,11 +208,13 @@ def store_differences():
 def main():
     parser = argparse.ArgumentParser(description="Compares the model with results that were worked by hand.")
     parser.add_argument("program", nargs="?", type=pathlib.Path, metavar="PROGRAM")
-    program = parser.parse_args().program
-    differ = [*run_differences("model", model_leaves), *store_differences()]
-    if program is not None:
-        path = program.resolve()
-        differ += run_differences(str(program), lambda run: program_leaves(path, run))
+    parser.add_argument("--with", dest="commands", default=",".join(model.LATER), metavar="COMMANDS")
+    given = parser.parse_args()
+    commands = given.commands.split(",")
+    differ = [*run_differences("model", lambda run: model_leaves(run, commands)), *store_differences()]
+    if given.program is not None:
+        path = given.program.resolve()
+        differ += run_differences(str(given.program), lambda run: program_leaves(path, run, commands))
     for text in differ:
         print(text)
     print(f"{len(RUNS)} runs and {len(STORES)} scripts, {len(differ)} differences")

@@ -1,16 +1,15 @@
 //! The text of a sled map.
 
-ghost use Rattle.std.specs.Prelude.{◌≡◌, ◌≤◌, [], OnOk, OnErr};
+ghost use Rattle.std.specs.Prelude.{◌≡◌, []};
 ghost use Rattle.std.specs.Option.{unwrap_or};
-ghost use Rattle.xray_io.specs.Faults.{Rose};
-ghost use Rattle.xray_io.specs.Sink.{Adds, AddsPrefix};
-ghost use Rattle.xray_io.specs.Text.{sink_of, loan_of, Gains, Breaks};
+ghost use Rattle.xray_io.specs.Text.{AddsText};
+ghost use Rattle.xray_io.specs.Writes.{WritesText};
 ghost use Rattle.xray_image.specs.Extract.{extract_text, sled_line, kind_text, truth_text};
 ghost use Rattle.xray_image.specs.Ids.{name_of};
 
 use crate::image::Image;
 use crate::sled::{Sled, SledKind};
-use xray_io::{Piece, Sink, Text, WriteFault, text_adds_up};
+use xray_io::{Piece, Sink, Text, WriteFault};
 
 /// How many hexadecimal digits an address is printed in.
 const ADDRESS_DIGITS: usize = 16;
@@ -20,13 +19,8 @@ const ADDRESS_DIGITS: usize = 16;
 ///
 /// On `WriteFault` a front of the text was written, and the sink counted a fault.
 pub fn write_extract<S: Sink>(image: &Image, sink: &mut S) -> Result<(), WriteFault>
-    ensures all { OnOk result
-        (Adds (S.written sink.old) (S.written sink.new) (extract_text image.now)) }
-    ensures front { OnErr result
-        (AddsPrefix (S.written sink.old) (S.written sink.new) (extract_text image.now)) }
-    ensures failed { OnErr result (Rose (S.faults sink.old) (S.faults sink.new)) }
-    ensures later { S.faults sink.old ≤ S.faults sink.new }
-    ensures follows { S.follows sink.old sink.new }
+    ensures { WritesText S.written S.faults S.along sink.old sink.new
+        (extract_text image.now) result }
 {
     let mut text = Text::new(sink);
     add_extract(&mut text, image)?;
@@ -35,16 +29,9 @@ pub fn write_extract<S: Sink>(image: &Image, sink: &mut S) -> Result<(), WriteFa
 
 /// Adds the whole document.
 fn add_extract<S: Sink>(text: &mut Text<S>, image: &Image) -> Result<(), WriteFault>
-    ensures gains { OnOk result (Gains S.written text.old text.new (extract_text image.now)) }
-    ensures breaks { OnErr result
-        (Breaks S.written text.old (sink_of text.new) (extract_text image.now)) }
-    ensures failed { OnErr result
-        (Rose (S.faults (sink_of text.old)) (S.faults (sink_of text.new))) }
-    ensures later { S.faults (sink_of text.old) ≤ S.faults (sink_of text.new) }
-    ensures follows { S.follows (sink_of text.old) (sink_of text.new) }
-    ensures loan { loan_of text.new ≡ loan_of text.old }
+    ensures { AddsText S.written S.faults S.along text.old text.new
+        (extract_text image.now) result }
 {
-    text_adds_up::<S>();
     text.bytes(b"---\n")?;
     for number in 0..image.sled_count() {
         let sled = image.sled(number);
@@ -55,15 +42,8 @@ fn add_extract<S: Sink>(text: &mut Text<S>, image: &Image) -> Result<(), WriteFa
 
 /// Adds the line of a sled.
 fn add_sled<S: Sink>(text: &mut Text<S>, image: &Image, sled: &Sled) -> Result<(), WriteFault>
-    ensures gains { OnOk result
-        (Gains S.written text.old text.new (sled_line image.now sled.now)) }
-    ensures breaks { OnErr result
-        (Breaks S.written text.old (sink_of text.new) (sled_line image.now sled.now)) }
-    ensures failed { OnErr result
-        (Rose (S.faults (sink_of text.old)) (S.faults (sink_of text.new))) }
-    ensures later { S.faults (sink_of text.old) ≤ S.faults (sink_of text.new) }
-    ensures follows { S.follows (sink_of text.old) (sink_of text.new) }
-    ensures loan { loan_of text.new ≡ loan_of text.old }
+    ensures { AddsText S.written S.faults S.along text.old text.new
+        (sled_line image.now sled.now) result }
 {
     let id = u128::from(sled.id);
     let name = name_bytes(image, sled.id);

@@ -1,9 +1,12 @@
 -- What the steps of a Text add together.
-use Rattle.std.proofs.Common.{◌≡◌, ℕ, List, [], ◌++◌, Option, Result, Ok, Err, OnErr, refl, sym, ap, subst, ◌∙◌, append_assoc}
+use Rattle.std.proofs.Common.{◌≡◌, ℕ, ◌+◌, ◌≤◌, List, [], ◌++◌, length, Option, Result, Ok, Err, OnOk, OnErr, refl, sym, ap, subst, ◌∙◌, append_assoc}
 use Rattle.std.proofs.lemmas.List.{append-nil}
 use Rattle.xray_io.specs.Sink.{Adds, AddsPrefix}
-use Rattle.xray_io.specs.Text.{sink_of, waiting, Gathers, Gains, Breaks}
+use Rattle.xray_io.specs.Calls.{Write, Composes}
+use Rattle.xray_io.specs.Text.{sink_of, loan_of, waiting, Gathers, Gains, Breaks, AddsText, Waits}
+use Rattle.xray_io.specs.Writes.{Answer, Sends, sends_on, prefix_of}
 use Rattle.xray_io.specs.declared.text.Text.{Text}
+use Rattle.xray_io.specs.declared.waiting.TheConstants.{ROOM}
 use Rattle.xray_io.proofs.Writing.{adds_none, adds_both, front_behind, front_longer}
 
 -- a new Text was given nothing
@@ -67,3 +70,37 @@ breaks_within written first second sink x y z whole p q e =
 pub at_fault : {T E P : Type 0} (r : Result T E) → P → OnErr r P
 at_fault (Ok x) p = tt
 at_fault (Err e) p = p
+
+-- what was added was gained
+pub gains_of : {S : Type 0} {written : S → Option (List ℕ)} {faults : S → ℕ} {along : S → S → List Write → Type 0} {old new : Text S} {bytes : List ℕ} (answer : Answer)
+    → AddsText written faults along old new bytes answer → OnOk answer (Gains written old new bytes)
+gains_of (Err error) p = tt
+gains_of {written = written} {old = old} {new = new} {bytes = bytes} (Ok done) p = λ start given was. record {
+  front = was.front ++ p.sends.sent;
+  told = adds_both _ _ _ _ _ was.told p.sends.told;
+  rest =
+      ap (λ (t : List ℕ). t ++ bytes) was.rest ∙ append_assoc was.front (waiting old) bytes ∙ ap (λ (t : List ℕ). was.front ++ t) p.sends.order
+      ∙ ap (λ (t : List ℕ). was.front ++ (p.sends.sent ++ t)) p.sends.all ∙ sym (append_assoc was.front p.sends.sent (waiting new));
+}
+
+-- what could not be added broke off
+pub breaks_of : {S : Type 0} {written : S → Option (List ℕ)} {faults : S → ℕ} {along : S → S → List Write → Type 0} {old new : Text S} {bytes : List ℕ} (answer : Answer)
+    → AddsText written faults along old new bytes answer → OnErr answer (Breaks written old (sink_of new) bytes)
+breaks_of (Ok done) p = tt
+breaks_of {written = written} {old = old} {new = new} {bytes = bytes} (Err error) p = breaks_written written old (sink_of new) bytes (prefix_of p.sends)
+
+-- room was made, and then bytes were added
+pub adds_behind : {S : Type 0} {written : S → Option (List ℕ)} {faults : S → ℕ} {along : S → S → List Write → Type 0} → Composes along
+    → (first second third : Text S) (bytes : List ℕ) (answer : Answer) → Sends written faults along (sink_of first) (sink_of second) (waiting first) (waiting second) (Ok tt)
+    → (length (waiting first) + length bytes ≤ ROOM → Waits first second [] (Ok tt)) → loan_of second ≡ loan_of first
+    → AddsText written faults along second third bytes answer → AddsText written faults along first third bytes answer
+adds_behind both first second third bytes answer sent fits loan adds = record {
+  sends = sends_on both bytes sent adds.sends;
+  gathers = λ within.
+      let room = fits within in
+      let same : waiting second ≡ waiting first = room.waits ∙ append-nil (waiting first) in
+      let P : List ℕ → Type 0 = λ w. length w + length bytes ≤ ROOM in
+      let kept = adds.gathers (subst P (sym same) within) in
+      record { ok = kept.ok; sink = kept.sink ∙ room.sink; waits = kept.waits ∙ ap (λ (w : List ℕ). w ++ bytes) same };
+  loan = adds.loan ∙ loan;
+}

@@ -1,3 +1,4 @@
+pub mod Calling
 pub mod Gathering
 pub mod HexDigits
 pub mod Pieces

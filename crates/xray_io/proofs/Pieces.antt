@@ -1,6 +1,6 @@
 -- The text of pieces, and of zeros, one behind the other.
 use Rattle.std.proofs.Common.{◌≡◌, ℕ, ◌+◌, ◌-◌, ◌<◌, ◌≤◌, List, [], ◌∷◌, ◌++◌, length, take, drop, get_or, replicate, sym, ap, ◌∙◌, arith}
-use Rattle.std.proofs.lemmas.List.{append-nil, take_more, take-append-drop, take-replicate, replicate-append-replicate}
+use Rattle.std.proofs.lemmas.List.{append-nil, take_all, take_more, take-append-drop, take-replicate, replicate-append-replicate}
 use Rattle.std.proofs.lemmas.Grind.{flat_map-append}
 use Rattle.xray_io.specs.Piece.{piece_text, text_of}
 use Rattle.xray_io.specs.declared.piece.Piece.{Piece}
@@ -15,21 +15,25 @@ text_more pieces i d below =
 pub text_split : (pieces : List Piece) (i : ℕ) → text_of (take i pieces) ++ text_of (drop i pieces) ≡ text_of pieces
 text_split pieces i = sym (flat_map-append piece_text (take i pieces) (drop i pieces)) ∙ ap text_of (take-append-drop i pieces)
 
--- n zeros
-abbrev pub zeros : ℕ → List ℕ
-zeros n = replicate n 48
+-- all pieces
+pub text_all : (pieces : List Piece) (i : ℕ) → length pieces ≤ i → text_of (take i pieces) ≡ text_of pieces
+text_all pieces i past = ap text_of (take_all i pieces past)
 
--- zeros, and zeros behind them
-zeros_both : (a b n : ℕ) → a + b ≡ n → zeros a ++ zeros b ≡ zeros n
-zeros_both a b n is = replicate-append-replicate a b 48 ∙ ap zeros is
+-- n equal bytes
+abbrev pub copies : ℕ → ℕ → List ℕ
+copies n byte = replicate n byte
 
--- all zeros but those that are left, and some of these, of the sixteen that are at hand
-pub zeros_more : (count left some : ℕ) → left ≤ count → some ≤ left → some ≤ 16
-    → zeros (count - left) ++ take some (zeros 16) ≡ zeros (count - (left - some))
-zeros_more count left some within more few =
-    ap (λ (t : List ℕ). zeros (count - left) ++ t) (take-replicate some 16 48 few)
-    ∙ zeros_both (count - left) some (count - (left - some)) (omega arith)
+-- copies, and copies after them
+copies_both : (a b n byte : ℕ) → a + b ≡ n → copies a byte ++ copies b byte ≡ copies n byte
+copies_both a b n byte is = replicate-append-replicate a b byte ∙ ap (λ k. copies k byte) is
 
--- all zeros but those that are left, and these
-pub zeros_split : (count left : ℕ) → left ≤ count → zeros (count - left) ++ zeros left ≡ zeros count
-zeros_split count left within = zeros_both (count - left) left count (omega arith)
+-- all but those that are left, and some of these, of the sixteen that are at hand
+pub copies_more : (count left some byte : ℕ) → left ≤ count → some ≤ left → some ≤ 16
+    → copies (count - left) byte ++ take some (copies 16 byte) ≡ copies (count - (left - some)) byte
+copies_more count left some byte within more few =
+    ap (λ (t : List ℕ). copies (count - left) byte ++ t) (take-replicate some 16 byte few)
+    ∙ copies_both (count - left) some (count - (left - some)) byte (omega arith)
+
+-- all but those that are left, and these
+pub copies_split : (count left byte : ℕ) → left ≤ count → copies (count - left) byte ++ copies left byte ≡ copies count byte
+copies_split count left byte within = copies_both (count - left) left count byte (omega arith)

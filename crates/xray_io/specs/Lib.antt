@@ -1,7 +1,12 @@
+pub mod Calls
 pub mod Desk
 pub mod DeskFile
 pub mod Faults
 pub mod Memory
+pub mod Outputs
 pub mod Piece
+pub mod Reads
 pub mod Sink
 pub mod Text
+pub mod World
+pub mod Writes

@@ -1,7 +1,11 @@
 -- What a desk and a sink in memory show.
-use Rattle.std.specs.Prelude.{ℕ, List, Option, Some, None, Vec}
+use Rattle.std.specs.Prelude.{◌≡◌, ℕ, ◌+◌, ◌-◌, ◌^◌, ◌<◌, ◌≤◌, List, length, Option, Some, None, Vec}
+use Rattle.std.proofs.Common.{sym, ap, subst, ◌∙◌}
+use Rattle.std.proofs.Math.Nat.{add-zero, add_assoc, le-add_right, le_trans, lt_of_not-le, not-le_of_lt}
+use Rattle.std.proofs.lemmas.List.{length-append}
 use Rattle.std.specs.BTreeMap.{get_by_text}
 use Rattle.std.specs.declared.alloc.Global.{Global}
+use Rattle.xray_io.specs.Calls.{Call, HoldsOfNone, Composes}
 use Rattle.xray_io.specs.Desk.{Entry, Absent, Holds}
 use Rattle.xray_io.specs.declared.memory.MemDesk.{MemDesk}
 use Rattle.xray_io.specs.declared.memory.MemSink.{MemSink}
@@ -22,6 +26,20 @@ desk_failing desk = desk.calls.failing.items
 -- how many calls there were
 abbrev pub desk_calls : MemDesk → ℕ
 desk_calls desk = desk.calls.made
+
+-- unless it stands at its last value, the count of calls went up by one for each of these
+abbrev pub Counts : MemDesk → MemDesk → List Call → Type 0
+Counts old new calls = desk_calls new < 2 ^ 64 - 1 → desk_calls new ≡ desk_calls old + length calls
+
+pub counts_none : HoldsOfNone Counts
+counts_none desk = λ below. sym (add-zero (desk_calls desk))
+
+pub counts_both : Composes Counts
+counts_both first second third calls later p q = λ below.
+    let up : desk_calls second ≤ desk_calls third = subst (λ n. desk_calls second ≤ n) (sym (q below)) (le-add_right (desk_calls second) (length later)) in
+    let before = p (lt_of_not-le (λ over. not-le_of_lt below (le_trans over up))) in
+    q below ∙ ap (λ n. n + length later) before ∙ add_assoc (desk_calls first) (length calls) (length later)
+    ∙ ap (λ n. desk_calls first + n) (sym (length-append calls later))
 
 -- how often a growth was refused
 abbrev pub desk_refused : MemDesk → ℕ

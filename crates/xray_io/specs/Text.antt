@@ -1,5 +1,13 @@
 -- What a Text was given, and where it is.
-use Rattle.std.specs.Prelude.{◌≡◌, ℕ, List, [], ◌++◌, Option}
+use Rattle.std.specs.Prelude.{◌≡◌, ℕ, ◌+◌, ◌≤◌, List, [], ◌++◌, length, Option, Ok, Err, IsOk, IsErrAnd, refl}
+use Rattle.std.proofs.Common.{sym, ap, subst, ◌∙◌, append_assoc}
+use Rattle.std.proofs.Math.Nat.{add_assoc, le-add_right, le_trans}
+use Rattle.std.proofs.lemmas.Bool.{false≢true}
+use Rattle.std.proofs.lemmas.List.{append-nil, length-append}
+use Rattle.xray_io.specs.Calls.{Write, HoldsOfNone, Composes}
+use Rattle.xray_io.specs.Writes.{Answer, Sends, WritesText, sends_nothing, sends_on, sends_rest, sends_stop, sends_failed}
+use Rattle.xray_io.specs.declared.faults.WriteFault.{WriteFault}
+use Rattle.xray_io.specs.declared.waiting.TheConstants.{ROOM}
 use Rattle.xray_io.specs.Sink.{Adds, AddsPrefix}
 use Rattle.xray_io.specs.declared.text.Text.{Text}
 
@@ -41,3 +49,114 @@ GainsAddUp {S = S} written = (first second third : Text S) (x y : List ℕ) → 
 -- a gain and then a failure, at bytes that others were to follow: a front of the whole is written
 abbrev pub BreaksOnTheWay : {S : Type 0} → (S → Option (List ℕ)) → Type 0
 BreaksOnTheWay {S = S} written = (first second : Text S) (sink : S) (x y z whole : List ℕ) → Gains written first second x → Breaks written second sink y → (x ++ y) ++ z ≡ whole → Breaks written first sink whole
+
+-- these bytes only wait: the sink was not called
+pub record Waits {S : Type 0} (old new : Text S) (bytes : List ℕ) (answer : Answer) : Type 0 where
+  pub ok : IsOk answer
+  pub sink : sink_of new ≡ sink_of old
+  pub waits : waiting new ≡ waiting old ++ bytes
+
+-- A Text was given these bytes. On Ok the sink was written a prefix of all that waited and of these, and the rest waits; bytes
+-- that fit beside those that wait do only that. On Err a write failed, and the sink was written a prefix.
+pub record AddsText {S : Type 0} (written : S → Option (List ℕ)) (faults : S → ℕ) (along : S → S → List Write → Type 0)
+    (old new : Text S) (bytes : List ℕ) (answer : Answer) : Type 0 where
+  pub sends : Sends written faults along (sink_of old) (sink_of new) (waiting old ++ bytes) (waiting new) answer
+  pub gathers : length (waiting old) + length bytes ≤ ROOM → Waits old new bytes answer
+  pub loan : loan_of new ≡ loan_of old
+
+-- ---- laws
+
+-- a text that nothing is done to was given no bytes
+pub adds_nothing : {S : Type 0} {written : S → Option (List ℕ)} {faults : S → ℕ} {along : S → S → List Write → Type 0} → HoldsOfNone along
+    → (text : Text S) → AddsText written faults along text text [] (Ok tt)
+adds_nothing {written = written} {faults = faults} {along = along} none text = record {
+  sends =
+      let P : List ℕ → Type 0 = λ bytes. Sends written faults along (sink_of text) (sink_of text) bytes (waiting text) (Ok tt) in
+      subst P (sym (append-nil (waiting text))) (sends_nothing none (sink_of text) (waiting text));
+  gathers = λ fits. record { ok = refl; sink = refl; waits = sym (append-nil (waiting text)) };
+  loan = refl;
+}
+
+-- as many bytes as wait, as were given, and as were then given
+sizes : (w x y : List ℕ) → length w + length (x ++ y) ≡ (length w + length x) + length y
+sizes w x y = ap (λ n. length w + n) (length-append x y) ∙ sym (add_assoc (length w) (length x) (length y))
+
+fits_first : (w x y : List ℕ) → length w + length (x ++ y) ≤ ROOM → length w + length x ≤ ROOM
+fits_first w x y fits =
+    let P : ℕ → Type 0 = λ n. n ≤ ROOM in
+    le_trans (le-add_right (length w + length x) (length y)) (subst P (sizes w x y) fits)
+
+-- one text was added, and then another
+pub adds_more : {S : Type 0} {written : S → Option (List ℕ)} {faults : S → ℕ} {along : S → S → List Write → Type 0} → Composes along
+    → {first second third : Text S} {x y : List ℕ} {answer : Answer}
+    → AddsText written faults along first second x (Ok tt) → AddsText written faults along second third y answer
+    → AddsText written faults along first third (x ++ y) answer
+adds_more {written = written} {faults = faults} {along = along} both {first = first} {second = second} {third = third} {x = x} {y = y} {answer = answer} p q = record {
+  sends =
+      let P : List ℕ → Type 0 = λ bytes. Sends written faults along (sink_of first) (sink_of third) bytes (waiting third) answer in
+      subst P (append_assoc (waiting first) x y) (sends_on both y p.sends q.sends);
+  gathers = λ fits.
+      let one = p.gathers (fits_first (waiting first) x y fits) in
+      let P : ℕ → Type 0 = λ n. n ≤ ROOM in
+      let size : (length (waiting first) + length x) + length y ≡ length (waiting second) + length y =
+      ap (λ n. n + length y) (sym (ap length one.waits ∙ length-append (waiting first) x)) in
+      let two = q.gathers (subst P (sizes (waiting first) x y ∙ size) fits) in
+      record {
+        ok = two.ok;
+        sink = two.sink ∙ one.sink;
+        waits = two.waits ∙ ap (λ (l : List ℕ). l ++ y) one.waits ∙ append_assoc (waiting first) x y;
+      };
+  loan = q.loan ∙ p.loan;
+}
+
+-- a text could not be added, and another was to follow
+pub adds_stop : {S : Type 0} {written : S → Option (List ℕ)} {faults : S → ℕ} {along : S → S → List Write → Type 0}
+    → {first second : Text S} {x : List ℕ} {error : WriteFault} (y : List ℕ) → AddsText written faults along first second x (Err error)
+    → AddsText written faults along first second (x ++ y) (Err error)
+adds_stop {written = written} {faults = faults} {along = along} {first = first} {second = second} {x = x} {error = error} y p = record {
+  sends =
+      let P : List ℕ → Type 0 = λ bytes. Sends written faults along (sink_of first) (sink_of second) bytes (waiting second) (Err error) in
+      subst P (append_assoc (waiting first) x y) (sends_stop y (waiting second) p.sends);
+  gathers = λ fits. absurd (false≢true (p.gathers (fits_first (waiting first) x y fits)).ok);
+  loan = p.loan;
+}
+
+-- a text was added, another could not be, and more was to follow
+pub adds_within : {S : Type 0} {written : S → Option (List ℕ)} {faults : S → ℕ} {along : S → S → List Write → Type 0} → Composes along
+    → {first second third : Text S} {x y whole : List ℕ} {error : WriteFault} (rest : List ℕ)
+    → AddsText written faults along first second x (Ok tt) → AddsText written faults along second third y (Err error) → (x ++ y) ++ rest ≡ whole
+    → AddsText written faults along first third whole (Err error)
+adds_within {written = written} {faults = faults} {along = along} both {first = first} {third = third} {error = error} rest p q is =
+    let P : List ℕ → Type 0 = λ bytes. AddsText written faults along first third bytes (Err error) in
+    subst P is (adds_stop rest (adds_more both p q))
+
+-- the answer to the caller is the same fault
+pub adds_failed : {S : Type 0} {written : S → Option (List ℕ)} {faults : S → ℕ} {along : S → S → List Write → Type 0}
+    → {first second : Text S} {x : List ℕ} {error : WriteFault} → AddsText written faults along first second x (Err error)
+    → (answer : Answer) → IsErrAnd answer (λ e. e ≡ error) → AddsText written faults along first second x answer
+adds_failed p (Ok done) is = absurd is
+adds_failed {written = written} {faults = faults} {along = along} {first = first} {second = second} {x = x} p (Err error) is =
+    let P : WriteFault → Type 0 = λ e. AddsText written faults along first second x (Err e) in
+    subst P (sym is) p
+
+-- what was added to an empty text, and what its end then wrote, is what was written
+pub writes_all : {S : Type 0} {written : S → Option (List ℕ)} {faults : S → ℕ} {along : S → S → List Write → Type 0} → Composes along
+    → (start end : S) (first second : Text S) {bytes : List ℕ} {answer : Answer} → sink_of first ≡ start → waiting first ≡ []
+    → AddsText written faults along first second bytes (Ok tt) → WritesText written faults along (sink_of second) end (waiting second) answer
+    → WritesText written faults along start end bytes answer
+writes_all {S = S} {written = written} {faults = faults} {along = along} both start end first second {bytes = bytes} {answer = answer} is empty p q =
+    let From : S → Type 0 = λ s. WritesText written faults along s end bytes answer in
+    let P : List ℕ → Type 0 = λ w. Sends written faults along (sink_of first) (sink_of second) (w ++ bytes) (waiting second) (Ok tt) in
+    subst From is (sends_rest both (subst P empty p.sends) q)
+
+-- a text that couldn't be added was not written whole
+pub writes_failed : {S : Type 0} {written : S → Option (List ℕ)} {faults : S → ℕ} {along : S → S → List Write → Type 0}
+    → (start : S) (first second : Text S) {bytes : List ℕ} {error : WriteFault} → sink_of first ≡ start → waiting first ≡ []
+    → AddsText written faults along first second bytes (Err error) → (answer : Answer) → IsErrAnd answer (λ e. e ≡ error)
+    → WritesText written faults along start (sink_of second) bytes answer
+writes_failed start first second is empty p (Ok done) fails = absurd fails
+writes_failed {S = S} {written = written} {faults = faults} {along = along} start first second {bytes = bytes} {error = error} is empty p (Err given) fails =
+    let From : S → Type 0 = λ s. WritesText written faults along s (sink_of second) bytes (Err given) in
+    let P : List ℕ → Type 0 = λ w. Sends written faults along (sink_of first) (sink_of second) (w ++ bytes) (waiting second) (Err error) in
+    let E : WriteFault → Type 0 = λ e. Sends written faults along (sink_of first) (sink_of second) bytes [] (Err e) in
+    subst From is (subst E (sym fails) (sends_failed (subst P empty p.sends)))

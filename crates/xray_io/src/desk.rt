@@ -1,5 +1,6 @@
 //! Named inputs and outputs.
-ghost use Rattle.std.specs.Prelude.{◌≡◌, ◌≢◌, ℕ, ◌≤◌, ◌<◌, [], List, length, take, drop, IfOk, OnOk, OnErr, IsErrOf};
+ghost use Rattle.std.specs.Prelude.{◌≡◌, ◌≢◌, ℕ, ◌≤◌, ◌<◌, [], ◌∷◌, List, length, take, drop, IfOk, OnOk, OnErr, IsErrOf};
+ghost use Rattle.xray_io.specs.Calls.{Call, Read, Create, Append, HoldsOfNone, Composes};
 ghost use Rattle.xray_io.specs.Desk.{Entry, Absent, Holds, empty_entry, longer_entry};
 ghost use Rattle.xray_io.specs.Faults.{Rose};
 
@@ -15,6 +16,9 @@ pub trait Desk {
 
     /// How many writes have failed.
     ghost write_faults: { Self → ℕ };
+
+    /// These calls, in this order and no others, lead from one state of the desk to another.
+    ghost along: { Self → Self → List Call → Type 0 };
 
     /// Reads bytes of `name` from byte `from` (counted from 0) on into the front of `buf`, and
     /// answers how many. Fewer than `buf` has room for is no sign of the end; none, where `buf`
@@ -36,7 +40,9 @@ pub trait Desk {
             Rose (read_faults self.old) (read_faults self.new) }
         ensures held { held self.new ≡ held self.old }
         ensures later { read_faults self.old ≤ read_faults self.new }
-        ensures writes { write_faults self.new ≡ write_faults self.old };
+        ensures writes { write_faults self.new ≡ write_faults self.old }
+        ensures calm { OnOk result (read_faults self.new ≡ read_faults self.old) }
+        ensures along { along self.old self.new (Read name.now from (length buf.old) result ∷ []) };
 
     /// Makes `name` hold no bytes, whether the desk held it before or not. `Failed` has changed no
     /// name, and counted a fault of writing.
@@ -48,7 +54,9 @@ pub trait Desk {
         ensures same { OnErr result (held self.new ≡ held self.old) }
         ensures failed { OnErr result (Rose (write_faults self.old) (write_faults self.new)) }
         ensures later { write_faults self.old ≤ write_faults self.new }
-        ensures reads { read_faults self.new ≡ read_faults self.old };
+        ensures reads { read_faults self.new ≡ read_faults self.old }
+        ensures calm { OnOk result (write_faults self.new ≡ write_faults self.old) }
+        ensures along { along self.old self.new (Create name.now result ∷ []) };
 
     /// Writes a front of `bytes` at the end of what `name` holds, and answers how many. None is
     /// only an answer for no bytes. A name that isn't held is begun. `Failed` has changed no name,
@@ -63,5 +71,13 @@ pub trait Desk {
         ensures same { OnErr result (held self.new ≡ held self.old) }
         ensures failed { OnErr result (Rose (write_faults self.old) (write_faults self.new)) }
         ensures later { write_faults self.old ≤ write_faults self.new }
-        ensures reads { read_faults self.new ≡ read_faults self.old };
+        ensures reads { read_faults self.new ≡ read_faults self.old }
+        ensures calm { OnOk result (write_faults self.new ≡ write_faults self.old) }
+        ensures along { along self.old self.new (Append name.now (length bytes.now) result ∷ []) };
+
+    /// No call leads from a state to itself.
+    ghost along_none: { HoldsOfNone along };
+
+    /// Calls, and then other calls, lead where the other calls lead.
+    ghost along_both: { Composes along };
 }

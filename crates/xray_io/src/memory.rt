@@ -1,5 +1,6 @@
 //! A desk and a sink in memory, which fail at the calls that they are told.
-ghost use Rattle.std.specs.Prelude.{◌≡◌, ◌≢◌, ◌⊎◌, ℕ, ◌+◌, ◌-◌, ◌≤◌, ◌<◌, ◌↔◌, [], ◌++◌, List, Option, Some, None, length, take, drop, min, IfOk, IfSome, OnOk, OnErr, IsErr, IsErrOf, IsNone, IsTrue, Contains};
+ghost use Rattle.std.specs.Prelude.{◌≡◌, ◌≢◌, ◌⊎◌, ℕ, ◌+◌, ◌-◌, ◌≤◌, ◌<◌, ◌↔◌, [], ◌∷◌, ◌++◌, List, Option, Some, None, length, take, drop, min, IfOk, IfSome, OnOk, OnErr, IsErr, IsErrOf, IsNone, IsTrue, Contains};
+ghost use Rattle.xray_io.specs.Calls.{Read, Create, Append};
 ghost use Rattle.xray_io.specs.Desk.{Absent, Holds, empty_entry, longer_entry};
 ghost use Rattle.xray_io.specs.Faults.{Rose, raised};
 ghost use Rattle.xray_io.specs.Sink.{Adds};
@@ -144,13 +145,19 @@ impl MemDesk {
 }
 
 impl Desk for MemDesk {
-    ghost use Rattle.xray_io.specs.Memory.{desk_entry, desk_calls, desk_failing, desk_refused, desk_read_faults, desk_write_faults};
+    ghost use Rattle.xray_io.specs.Memory.{desk_entry, desk_calls, desk_failing, desk_refused, desk_read_faults, desk_write_faults, Counts, counts_none, counts_both};
 
     ghost held = { desk_entry };
 
     ghost read_faults = { desk_read_faults };
 
     ghost write_faults = { desk_write_faults };
+
+    ghost along = { Counts };
+
+    ghost along_none = { counts_none };
+
+    ghost along_both = { counts_both };
 
     /// Fails exactly where this call is to fail, and else reads as much as there is and `buf` has
     /// room for.
@@ -164,7 +171,6 @@ impl Desk for MemDesk {
         ensures counted { desk_calls self.new ≡ raised (desk_calls self.old) }
         ensures fault { IsErrOf result ReadFail.Failed →
             desk_read_faults self.new ≡ raised (desk_read_faults self.old) }
-        ensures none { OnOk result (desk_read_faults self.new ≡ desk_read_faults self.old) }
         ensures failing { desk_failing self.new ≡ desk_failing self.old }
         ensures refused { desk_refused self.new ≡ desk_refused self.old }
 
@@ -184,6 +190,8 @@ impl Desk for MemDesk {
         ensures held { desk_entry self.new ≡ desk_entry self.old }
         ensures later { desk_read_faults self.old ≤ desk_read_faults self.new }
         ensures writes { desk_write_faults self.new ≡ desk_write_faults self.old }
+        ensures calm { OnOk result (desk_read_faults self.new ≡ desk_read_faults self.old) }
+        ensures along { Counts self.old self.new (Read name.now from (length buf.old) result ∷ []) }
     {
         if self.calls.count_call() {
             self.read_faults = self.read_faults.saturating_add(1);
@@ -206,7 +214,6 @@ impl Desk for MemDesk {
         ensures counted { desk_calls self.new ≡ raised (desk_calls self.old) }
         ensures fault { OnErr result (
             desk_write_faults self.new ≡ raised (desk_write_faults self.old)) }
-        ensures no_fault { OnOk result (desk_write_faults self.new ≡ desk_write_faults self.old) }
         ensures failing { desk_failing self.new ≡ desk_failing self.old }
 
         ensures created { OnOk result (
@@ -218,6 +225,8 @@ impl Desk for MemDesk {
             (Rose (desk_write_faults self.old) (desk_write_faults self.new)) }
         ensures later { desk_write_faults self.old ≤ desk_write_faults self.new }
         ensures reads { desk_read_faults self.new ≡ desk_read_faults self.old }
+        ensures calm { OnOk result (desk_write_faults self.new ≡ desk_write_faults self.old) }
+        ensures along { Counts self.old self.new (Create name.now result ∷ []) }
     {
         if self.calls.count_call() {
             return Err(self.fail());
@@ -240,7 +249,6 @@ impl Desk for MemDesk {
         ensures counted { desk_calls self.new ≡ raised (desk_calls self.old) }
         ensures fault { OnErr result (
             desk_write_faults self.new ≡ raised (desk_write_faults self.old)) }
-        ensures no_fault { OnOk result (desk_write_faults self.new ≡ desk_write_faults self.old) }
         ensures failing { desk_failing self.new ≡ desk_failing self.old }
 
         ensures within { IfOk result (λ n. n ≤ length bytes.now) }
@@ -254,6 +262,8 @@ impl Desk for MemDesk {
             (Rose (desk_write_faults self.old) (desk_write_faults self.new)) }
         ensures later { desk_write_faults self.old ≤ desk_write_faults self.new }
         ensures reads { desk_read_faults self.new ≡ desk_read_faults self.old }
+        ensures calm { OnOk result (desk_write_faults self.new ≡ desk_write_faults self.old) }
+        ensures along { Counts self.old self.new (Append name.now (length bytes.now) result ∷ []) }
     {
         if self.calls.count_call() {
             return Err(self.fail());
@@ -334,6 +344,8 @@ impl Sink for MemSink {
 
     ghost follows = { λ _ _. Unit {0} };
 
+    ghost along = { λ _ _ _. Unit {0} };
+
     /// Fails exactly where this call is to fail or an allocation is refused, and else takes all.
     fn write(&mut self, bytes: &[u8]) -> Result<usize, Failed>
         ensures told { Contains (sink_failing self.old) (sink_calls self.old) → IsErr result }
@@ -347,7 +359,6 @@ impl Sink for MemSink {
         ensures counted { sink_calls self.new ≡ raised (sink_calls self.old) }
         ensures fault { OnErr result (
             sink_faults self.new ≡ raised (sink_faults self.old)) }
-        ensures no_fault { OnOk result (sink_faults self.new ≡ sink_faults self.old) }
         ensures failing { sink_failing self.new ≡ sink_failing self.old }
 
         ensures within { IfOk result (λ n. n ≤ length bytes.now) }
@@ -357,7 +368,9 @@ impl Sink for MemSink {
         ensures same { OnErr result (Some (sink_bytes self.new) ≡ Some (sink_bytes self.old)) }
         ensures failed { OnErr result (Rose (sink_faults self.old) (sink_faults self.new)) }
         ensures later { sink_faults self.old ≤ sink_faults self.new }
+        ensures calm { OnOk result (sink_faults self.new ≡ sink_faults self.old) }
         ensures follows { Unit {0} }
+        ensures along { Unit {0} }
     {
         if self.calls.count_call() {
             self.faults = self.faults.saturating_add(1);
@@ -376,4 +389,8 @@ impl Sink for MemSink {
     ghost follows_itself = { λ _. tt };
 
     ghost follows_along = { λ _ _ _ _ _. tt };
+
+    ghost along_none = { λ _. tt };
+
+    ghost along_both = { λ _ _ _ _ _ _ _. tt };
 }

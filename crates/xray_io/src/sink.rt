@@ -1,5 +1,6 @@
 //! Outputs.
-ghost use Rattle.std.specs.Prelude.{◌≡◌, ℕ, ◌≤◌, [], List, length, take, Option, IfOk, OnErr};
+ghost use Rattle.std.specs.Prelude.{◌≡◌, ℕ, ◌≤◌, [], ◌∷◌, List, length, take, Option, IfOk, OnOk, OnErr};
+ghost use Rattle.xray_io.specs.Calls.{Write, Wrote, HoldsOfNone, Composes};
 ghost use Rattle.xray_io.specs.Faults.{Rose};
 ghost use Rattle.xray_io.specs.Sink.{Adds};
 
@@ -16,6 +17,9 @@ pub trait Sink {
     /// What stays the same, from one state of the sink to a later one, of what stands behind it.
     ghost follows: { Self → Self → Type 0 };
 
+    /// These writes, in this order and no others, lead from one state of the sink to another.
+    ghost along: { Self → Self → List Write → Type 0 };
+
     /// Writes a front of `bytes` at the end, and answers how many. None is only an answer for no
     /// bytes. `Failed` has written nothing and counted a fault.
     fn write(&mut self, bytes: &[u8]) -> Result<usize, Failed>
@@ -26,7 +30,9 @@ pub trait Sink {
         ensures same { OnErr result (written self.new ≡ written self.old) }
         ensures failed { OnErr result (Rose (faults self.old) (faults self.new)) }
         ensures later { faults self.old ≤ faults self.new }
-        ensures follows { follows self.old self.new };
+        ensures calm { OnOk result (faults self.new ≡ faults self.old) }
+        ensures follows { follows self.old self.new }
+        ensures along { along self.old self.new (Wrote (length bytes.now) result ∷ []) };
 
     /// A sink that nothing is done to follows itself.
     ghost follows_itself: { (sink : Self) → follows sink sink };
@@ -34,4 +40,10 @@ pub trait Sink {
     /// What follows a follower follows.
     ghost follows_along: { (first second third : Self) →
         follows first second → follows second third → follows first third };
+
+    /// No write leads from a state to itself.
+    ghost along_none: { HoldsOfNone along };
+
+    /// Writes, and then other writes, lead where the other writes lead.
+    ghost along_both: { Composes along };
 }

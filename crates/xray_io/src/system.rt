@@ -145,6 +145,12 @@ impl<R: Files + AllocGlobal> Desk for FileDesk<R> {
 
     ghost write_faults = { λ desk. desk.write_faults };
 
+    ghost along = { λ _ _ _. Unit {0} };
+
+    ghost along_none = { λ _. tt };
+
+    ghost along_both = { λ _ _ _ _ _ _ _. tt };
+
     fn read(&mut self, name: &str, from: u64, buf: &mut [u8]) -> Result<usize, ReadFail> {
         match self.read_file(name, from, buf) {
             Ok(count) => Ok(count),
@@ -199,6 +205,8 @@ impl<P: Print> Sink for OutSink<P> {
 
     ghost follows = { λ _ _. Unit {0} };
 
+    ghost along = { λ _ _ _. Unit {0} };
+
     fn write(&mut self, bytes: &[u8]) -> Result<usize, Failed> {
         write_some(&mut io::writer(&self.to), bytes, &mut self.faults)
     }
@@ -206,6 +214,10 @@ impl<P: Print> Sink for OutSink<P> {
     ghost follows_itself = { λ _. tt };
 
     ghost follows_along = { λ _ _ _ _ _. tt };
+
+    ghost along_none = { λ _. tt };
+
+    ghost along_both = { λ _ _ _ _ _ _ _. tt };
 }
 
 /// The standard error, as `rt.stderr()` gives it.
@@ -234,6 +246,8 @@ impl<P: Print> Sink for ErrSink<P> {
 
     ghost follows = { λ _ _. Unit {0} };
 
+    ghost along = { λ _ _ _. Unit {0} };
+
     fn write(&mut self, bytes: &[u8]) -> Result<usize, Failed> {
         write_some(&mut io::writer(&self.to), bytes, &mut self.faults)
     }
@@ -241,6 +255,10 @@ impl<P: Print> Sink for ErrSink<P> {
     ghost follows_itself = { λ _. tt };
 
     ghost follows_along = { λ _ _ _ _ _. tt };
+
+    ghost along_none = { λ _. tt };
+
+    ghost along_both = { λ _ _ _ _ _ _ _. tt };
 }
 
 /// Writes a front of the bytes. An error is a fault, and so is a write that took none of them.

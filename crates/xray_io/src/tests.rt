@@ -28,6 +28,12 @@ impl Desk for Trickle {
 
     ghost write_faults = { λ _. 2 ^ 64 };
 
+    ghost along = { λ _ _ _. Unit {0} };
+
+    ghost along_none = { λ _. tt };
+
+    ghost along_both = { λ _ _ _ _ _ _ _. tt };
+
     fn read(&mut self, name: &str, from: u64, buf: &mut [u8]) -> Result<usize, ReadFail> {
         self.in_order = self.in_order && from == self.next;
         let room = buf.len().min(1);
@@ -62,6 +68,8 @@ impl Sink for Sips {
 
     ghost follows = { λ _ _. Unit {0} };
 
+    ghost along = { λ _ _ _. Unit {0} };
+
     fn write(&mut self, bytes: &[u8]) -> Result<usize, Failed> {
         self.sink.write(&bytes[..bytes.len().min(3)])
     }
@@ -69,6 +77,10 @@ impl Sink for Sips {
     ghost follows_itself = { λ _. tt };
 
     ghost follows_along = { λ _ _ _ _ _. tt };
+
+    ghost along_none = { λ _. tt };
+
+    ghost along_both = { λ _ _ _ _ _ _ _. tt };
 }
 
 /// Prints to a file in place of the standard output.

@@ -1,16 +1,20 @@
 //! Text, gathered on its way to a sink.
 ghost use Rattle.std.specs.Prelude.{◌≡◌, ℕ, ◌+◌, ◌<◌, ◌≤◌, [], List, length, replicate, Option, OnOk, OnErr};
 ghost use Rattle.std.specs.Fmt.{decimal};
-ghost use Rattle.xray_io.specs.Piece.{piece_text, text_of, hexadecimal};
+ghost use Rattle.xray_io.specs.Piece.{piece_text, text_of, hexadecimal, right_aligned};
 ghost use Rattle.xray_io.specs.Faults.{Rose};
 ghost use Rattle.xray_io.specs.Sink.{Adds, AddsPrefix};
+ghost use Rattle.xray_io.specs.Writes.{Sends, WritesText};
 
 use crate::digits::{MOST_DIGITS, ZERO, put_digits};
 use crate::waiting::{ROOM, Waiting};
 use crate::{Piece, Sink, WriteFault, write_all};
 
-/// The zeros that stand in front of a number, as many as one call adds.
-const ZEROS: [u8; MOST_DIGITS] = [ZERO; MOST_DIGITS];
+/// What stands before a number that is aligned at its right end.
+const SPACE: u8 = b' ';
+
+/// How many equal bytes one call adds.
+const FILLED: usize = 16;
 
 /// Text on its way to a sink. It is gathered in an array, so that the sink gets few writes and no
 /// memory is taken. After the last part, `done` writes what still waits; a `Text` that is
@@ -24,12 +28,13 @@ pub struct Text<'a, S> {
 }
 
 impl<'a, S: Sink> Text<'a, S> {
-    ghost use Rattle.xray_io.specs.Text.{sink_of, loan_of, waiting, Gathers, Gains, Breaks};
+    ghost use Rattle.xray_io.specs.Text.{sink_of, loan_of, waiting, Gathers, Gains, Breaks, AddsText, Waits};
 
     /// An empty text for this sink.
     pub fn new(sink: &'a mut S) -> Self
         ensures empty { Gathers S.written (S.written sink.old) result [] }
         ensures sink { sink_of result ≡ sink.old }
+        ensures waits { waiting result ≡ [] }
         ensures loan { loan_of result ≡ sink.entry.ghost_name }
     {
         Text {
@@ -41,13 +46,13 @@ impl<'a, S: Sink> Text<'a, S> {
     /// Writes what waits.
     fn flush(&mut self) -> Result<(), WriteFault>
         ensures empty { OnOk result (waiting self.new ≡ []) }
-        ensures gains { OnOk result (Gains S.written self.old self.new []) }
-        ensures breaks { OnErr result (Breaks S.written self.old (sink_of self.new) []) }
         ensures failed { OnErr result
             (Rose (S.faults (sink_of self.old)) (S.faults (sink_of self.new))) }
         ensures later { S.faults (sink_of self.old) ≤ S.faults (sink_of self.new) }
         ensures follows { S.follows (sink_of self.old) (sink_of self.new) }
         ensures loan { loan_of self.new ≡ loan_of self.old }
+        ensures sends { Sends S.written S.faults S.along (sink_of self.old) (sink_of self.new)
+            (waiting self.old) (waiting self.new) result }
     {
         write_all(self.sink, self.waiting.as_slice())?;
         self.waiting.clear();
@@ -58,13 +63,15 @@ impl<'a, S: Sink> Text<'a, S> {
     fn make_room(&mut self, len: usize) -> Result<(), WriteFault>
         ensures room { OnOk result (ROOM < length (waiting self.new) + len →
             waiting self.new ≡ []) }
-        ensures gains { OnOk result (Gains S.written self.old self.new []) }
-        ensures breaks { OnErr result (Breaks S.written self.old (sink_of self.new) []) }
         ensures failed { OnErr result
             (Rose (S.faults (sink_of self.old)) (S.faults (sink_of self.new))) }
         ensures later { S.faults (sink_of self.old) ≤ S.faults (sink_of self.new) }
         ensures follows { S.follows (sink_of self.old) (sink_of self.new) }
         ensures loan { loan_of self.new ≡ loan_of self.old }
+        ensures fits { length (waiting self.old) + len ≤ ROOM →
+            Waits self.old self.new [] result }
+        ensures sends { Sends S.written S.faults S.along (sink_of self.old) (sink_of self.new)
+            (waiting self.old) (waiting self.new) result }
     {
         if len > self.waiting.room() {
             return self.flush();
@@ -76,13 +83,12 @@ impl<'a, S: Sink> Text<'a, S> {
     fn put(&mut self, bytes: &[u8]) -> Result<(), WriteFault>
         requires room { ROOM < length (waiting self.old) + length bytes.now →
             waiting self.old ≡ [] }
-        ensures gains { OnOk result (Gains S.written self.old self.new bytes.now) }
-        ensures breaks { OnErr result (Breaks S.written self.old (sink_of self.new) bytes.now) }
         ensures failed { OnErr result
             (Rose (S.faults (sink_of self.old)) (S.faults (sink_of self.new))) }
         ensures later { S.faults (sink_of self.old) ≤ S.faults (sink_of self.new) }
         ensures follows { S.follows (sink_of self.old) (sink_of self.new) }
         ensures loan { loan_of self.new ≡ loan_of self.old }
+        ensures adds { AddsText S.written S.faults S.along self.old self.new bytes.now result }
     {
         if bytes.len() > self.waiting.room() {
             return write_all(self.sink, bytes);
@@ -100,6 +106,7 @@ impl<'a, S: Sink> Text<'a, S> {
         ensures later { S.faults (sink_of self.old) ≤ S.faults (sink_of self.new) }
         ensures follows { S.follows (sink_of self.old) (sink_of self.new) }
         ensures loan { loan_of self.new ≡ loan_of self.old }
+        ensures adds { AddsText S.written S.faults S.along self.old self.new bytes.now result }
     {
         self.make_room(bytes.len())?;
         self.put(bytes)
@@ -114,29 +121,48 @@ impl<'a, S: Sink> Text<'a, S> {
         ensures later { S.faults (sink_of self.old) ≤ S.faults (sink_of self.new) }
         ensures follows { S.follows (sink_of self.old) (sink_of self.new) }
         ensures loan { loan_of self.new ≡ loan_of self.old }
+        ensures adds { AddsText S.written S.faults S.along self.old self.new (decimal n) result }
     {
         let mut digits = itoa::Buffer::new();
         self.bytes(digits.format(n).as_bytes())
     }
 
-    /// Adds this many zeros, several at a time.
-    fn zeros(&mut self, count: usize) -> Result<(), WriteFault>
-        ensures gains { OnOk result (Gains S.written self.old self.new (replicate count ZERO)) }
-        ensures breaks { OnErr result
-            (Breaks S.written self.old (sink_of self.new) (replicate count ZERO)) }
+    /// Adds a byte `count` times, several at a time.
+    fn fill(&mut self, byte: u8, count: usize) -> Result<(), WriteFault>
         ensures failed { OnErr result
             (Rose (S.faults (sink_of self.old)) (S.faults (sink_of self.new))) }
         ensures later { S.faults (sink_of self.old) ≤ S.faults (sink_of self.new) }
         ensures follows { S.follows (sink_of self.old) (sink_of self.new) }
         ensures loan { loan_of self.new ≡ loan_of self.old }
+        ensures adds { AddsText S.written S.faults S.along self.old self.new (replicate count byte) result }
     {
+        let filled = [byte; FILLED];
         let mut left = count;
-        'zeros: while left > 0 {
-            let some = left.min(ZEROS.len());
-            self.bytes(&ZEROS[..some])?;
+        'filling: while left > 0 {
+            let some = left.min(FILLED);
+            self.bytes(&filled[..some])?;
             left -= some;
         }
         Ok(())
+    }
+
+    /// Adds a number in decimal digits, at the right end of `width` places. A longer number stands
+    /// whole.
+    pub fn right(&mut self, n: u128, width: usize) -> Result<(), WriteFault>
+        ensures gains { OnOk result (Gains S.written self.old self.new (right_aligned n width)) }
+        ensures breaks { OnErr result
+            (Breaks S.written self.old (sink_of self.new) (right_aligned n width)) }
+        ensures failed { OnErr result
+            (Rose (S.faults (sink_of self.old)) (S.faults (sink_of self.new))) }
+        ensures later { S.faults (sink_of self.old) ≤ S.faults (sink_of self.new) }
+        ensures follows { S.follows (sink_of self.old) (sink_of self.new) }
+        ensures loan { loan_of self.new ≡ loan_of self.old }
+        ensures adds { AddsText S.written S.faults S.along self.old self.new (right_aligned n width) result }
+    {
+        let mut digits = itoa::Buffer::new();
+        let digits = digits.format(n).as_bytes();
+        self.fill(SPACE, width.saturating_sub(digits.len()))?;
+        self.bytes(digits)
     }
 
     /// Adds a number in lower-case hexadecimal digits. Where these are fewer than `digits`, zeros
@@ -150,10 +176,11 @@ impl<'a, S: Sink> Text<'a, S> {
         ensures later { S.faults (sink_of self.old) ≤ S.faults (sink_of self.new) }
         ensures follows { S.follows (sink_of self.old) (sink_of self.new) }
         ensures loan { loan_of self.new ≡ loan_of self.old }
+        ensures adds { AddsText S.written S.faults S.along self.old self.new (hexadecimal n digits) result }
     {
         let mut buffer = [0; MOST_DIGITS];
         let start = put_digits(n, &mut buffer);
-        self.zeros(digits.saturating_sub(MOST_DIGITS - start))?;
+        self.fill(ZERO, digits.saturating_sub(MOST_DIGITS - start))?;
         self.bytes(&buffer[start..])
     }
 
@@ -167,10 +194,12 @@ impl<'a, S: Sink> Text<'a, S> {
         ensures later { S.faults (sink_of self.old) ≤ S.faults (sink_of self.new) }
         ensures follows { S.follows (sink_of self.old) (sink_of self.new) }
         ensures loan { loan_of self.new ≡ loan_of self.old }
+        ensures adds { AddsText S.written S.faults S.along self.old self.new (piece_text piece.now) result }
     {
         match *piece {
             Piece::Bytes(bytes) => self.bytes(bytes),
             Piece::Number(n) => self.number(n),
+            Piece::Right { number, width } => self.right(number, width),
             Piece::Hex { number, digits } => self.hex(number, digits),
         }
     }
@@ -185,6 +214,7 @@ impl<'a, S: Sink> Text<'a, S> {
         ensures later { S.faults (sink_of self.old) ≤ S.faults (sink_of self.new) }
         ensures follows { S.follows (sink_of self.old) (sink_of self.new) }
         ensures loan { loan_of self.new ≡ loan_of self.old }
+        ensures adds { AddsText S.written S.faults S.along self.old self.new (text_of pieces.now) result }
     {
         for piece in pieces {
             self.piece(piece)?;
@@ -204,6 +234,8 @@ impl<'a, S: Sink> Text<'a, S> {
             (Rose (S.faults (sink_of self.entry)) (S.faults self.exit.0.now)) }
         ensures later { S.faults (sink_of self.entry) ≤ S.faults self.exit.0.now }
         ensures follows { S.follows (sink_of self.entry) self.exit.0.now }
+        ensures writes { WritesText S.written S.faults S.along (sink_of self.entry)
+            self.exit.0.now (waiting self.entry) result }
     {
         let Text { sink, waiting } = self;
         write_all(sink, waiting.as_slice())
@@ -220,6 +252,7 @@ pub fn write_pieces<S: Sink>(sink: &mut S, pieces: &[Piece]) -> Result<(), Write
     ensures failed { OnErr result (Rose (S.faults sink.old) (S.faults sink.new)) }
     ensures later { S.faults sink.old ≤ S.faults sink.new }
     ensures follows { S.follows sink.old sink.new }
+    ensures writes { WritesText S.written S.faults S.along sink.old sink.new (text_of pieces.now) result }
 {
     let mut text = Text::new(sink);
     text.pieces(pieces)?;

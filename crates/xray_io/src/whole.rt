@@ -1,8 +1,11 @@
 //! A whole input, and a whole output.
 ghost use Rattle.std.specs.Prelude.{◌≡◌, ◌≢◌, ◌⊎◌, ℕ, ◌+◌, ◌≤◌, ◌<◌, [], List, length, IfOk, OnOk, OnErr, IsErrOf};
+ghost use Rattle.xray_io.specs.Calls.{Went};
 ghost use Rattle.xray_io.specs.Desk.{Absent, Holds, IsFront};
 ghost use Rattle.xray_io.specs.Faults.{Rose};
+ghost use Rattle.xray_io.specs.Reads.{IsPiece, IsReading};
 ghost use Rattle.xray_io.specs.Sink.{Adds, AddsPrefix};
+ghost use Rattle.xray_io.specs.Writes.{WritesText};
 
 use crate::{Desk, ReadError, Sink, WriteFault};
 use std::alloc::Global;
@@ -39,6 +42,9 @@ pub fn read_whole<D: Desk>(
     ensures held { D.held desk.new ≡ D.held desk.old }
     ensures later { D.read_faults desk.old ≤ D.read_faults desk.new }
     ensures writes { D.write_faults desk.new ≡ D.write_faults desk.old }
+    ensures calm { (IsErrOf result ReadError.ReadFault → ⊥) →
+        D.read_faults desk.new ≡ D.read_faults desk.old }
+    ensures calls { Went (D.along desk.old desk.new) (IsReading name.now limit result) }
 {
     let mut piece = vec![in alloc; 0u8; PIECE]?;
     read_on(desk, name, limit, Vec::new(alloc), &mut piece)
@@ -69,6 +75,9 @@ fn read_on<D: Desk>(
     ensures held { D.held desk.new ≡ D.held desk.old }
     ensures later { D.read_faults desk.old ≤ D.read_faults desk.new }
     ensures writes { D.write_faults desk.new ≡ D.write_faults desk.old }
+    ensures calm { (IsErrOf result ReadError.ReadFault → ⊥) →
+        D.read_faults desk.new ≡ D.read_faults desk.old }
+    ensures calls { Went (D.along desk.old desk.new) (IsReading name.now limit result) }
 {
     'reading: while bytes.len() as u64 <= limit {
         let room = (limit - bytes.len() as u64).min(PIECE as u64 - 1) as usize + 1;
@@ -103,6 +112,10 @@ fn add_piece<D: Desk>(
     ensures held { D.held desk.new ≡ D.held desk.old }
     ensures later { D.read_faults desk.old ≤ D.read_faults desk.new }
     ensures writes { D.write_faults desk.new ≡ D.write_faults desk.old }
+    ensures calm { (IsErrOf result ReadError.ReadFault → ⊥) →
+        D.read_faults desk.new ≡ D.read_faults desk.old }
+    ensures calls { Went (D.along desk.old desk.new)
+        (IsPiece name.now (length bytes.old.items) (length piece.old) result) }
 {
     match desk.read(name, bytes.len() as u64, piece) {
         Ok(n) => match bytes.extend_from_slice(&piece[..n]) {
@@ -122,6 +135,7 @@ pub fn write_all<S: Sink>(sink: &mut S, bytes: &[u8]) -> Result<(), WriteFault>
     ensures failed { OnErr result (Rose (S.faults sink.old) (S.faults sink.new)) }
     ensures later { S.faults sink.old ≤ S.faults sink.new }
     ensures follows { S.follows sink.old sink.new }
+    ensures writes { WritesText S.written S.faults S.along sink.old sink.new bytes.now result }
 {
     let mut done = 0;
     'writing: while done < bytes.len() {

@@ -1,17 +1,10 @@
 use Rattle.std.proofs.Common.{subst}
-use Rattle.std.proofs.lemmas.Result.{on_ok_weaker, on_err_weaker}
-use Rattle.xray_io.specs.Text.{sink_of, Gains, Breaks}
+use Rattle.xray_io.specs.Text.{AddsText}
 use Rattle.machine_step.proofs.PlainText.{counts_pieces}
 use Rattle.machine_step.proofs.plain_text.add_counts.Goals as goal
 
-pub returns-clause-gains : goal.returns-clause-gains
-returns-clause-gains g c =
+pub returns : goal.returns
+returns g c =
     let same = counts_pieces c.args.thread _ c.args.end _ _ _ c.args.instructions c.args.passings
     c.from.ensures c.end_name.ensures c.from-2.ensures c.from-3.ensures in
-    on_ok_weaker c.pieces.result (subst (Gains g.S.Sink.written c.args.text.now c.pieces.new.self) same) c.pieces.ensures.gains
-
-pub returns-clause-breaks : goal.returns-clause-breaks
-returns-clause-breaks g c =
-    let same = counts_pieces c.args.thread _ c.args.end _ _ _ c.args.instructions c.args.passings
-    c.from.ensures c.end_name.ensures c.from-2.ensures c.from-3.ensures in
-    on_err_weaker c.pieces.result (subst (Breaks g.S.Sink.written c.args.text.now (sink_of c.pieces.new.self)) same) c.pieces.ensures.breaks
+    subst (λ t. AddsText g.S.Sink.written g.S.Sink.faults g.S.Sink.along c.args.text.now c.pieces.new.self t c.pieces.result) same c.pieces.ensures.adds

@@ -1,56 +1,23 @@
-use Rattle.std.proofs.Common.{◌++◌, [], subst, sym, refl, append_assoc, rules}
-use Rattle.std.proofs.lemmas.List.{append-nil}
-use Rattle.std.proofs.lemmas.Result.{on_ok_weaker, on_err_weaker}
-use Rattle.xray_io.specs.Text.{sink_of, Gains, Breaks}
+use Rattle.std.proofs.Common.{◌++◌, sym, refl, append_assoc}
+use Rattle.xray_io.specs.Text.{adds_more, adds_stop, adds_within, adds_failed}
 use Rattle.machine_step.specs.Texts.{counts_text, registers_line, output_line}
 use Rattle.machine_step.proofs.plain_text.add_lines.Goals as goal
 
-pub returns-in_err-add_counts-clause-breaks : goal.returns-in_err-add_counts-clause-breaks
-returns-in_err-add_counts-clause-breaks g c =
+pub returns-in_err-add_counts : goal.returns-in_err-add_counts
+returns-in_err-add_counts g c =
     let e = c.args.end.now in
     let counts = counts_text e.thread e.end e.instructions e.passings in
     let registers = registers_line e.regs.items e.zf in
     let output = output_line e.output.items in
-    let broken : Breaks g.S.Sink.written _ (sink_of c.add_counts.new.text) ((counts ++ registers) ++ output) =
-    c.text_adds_up.ensures.breaks _ _ _ [] counts (registers ++ output) _ (c.text_adds_up.ensures.nothing _) c.in_err-add_counts.ensures.breaks
-    (sym (append_assoc counts registers output)) in
-    search rules
+    let broken = adds_stop (registers ++ output) c.in_err-add_counts.ensures in
+    adds_failed (rw (sym (append_assoc counts registers output)) at broken) c.from_residual.result c.from_residual.ensures.1
 
-pub returns-in_err-add_registers-clause-breaks : goal.returns-in_err-add_registers-clause-breaks
-returns-in_err-add_registers-clause-breaks g c =
-    let e = c.args.end.now in
-    let counts = counts_text e.thread e.end e.instructions e.passings in
-    let registers = registers_line e.regs.items e.zf in
-    let output = output_line e.output.items in
-    let behind = subst (λ r. Breaks g.S.Sink.written c.add_counts.new.text (sink_of c.add_registers.new.text) (registers_line r e.zf))
-    c.deref.ensures.value c.in_err-add_registers.ensures.breaks in
-    let broken : Breaks g.S.Sink.written _ (sink_of c.add_registers.new.text) ((counts ++ registers) ++ output) =
-    c.text_adds_up.ensures.breaks _ c.add_counts.new.text _ counts registers output _ c.in_ok-add_counts.ensures.gains behind refl in
-    search rules
+pub returns-in_err-add_registers : goal.returns-in_err-add_registers
+returns-in_err-add_registers g c =
+    adds_failed (adds_within g.met.S.Sink.along_both (output_line c.args.end.now.output.items) c.in_ok-add_counts.ensures (rw c.deref.ensures.value at c.in_err-add_registers.ensures) refl)
+    c.from_residual-in_err-add_registers.result c.from_residual-in_err-add_registers.ensures.1
 
-pub returns-clause-gains : goal.returns-clause-gains
-returns-clause-gains g c =
-    let e = c.args.end.now in
-    let counts = counts_text e.thread e.end e.instructions e.passings in
-    let registers = registers_line e.regs.items e.zf in
-    let two = c.text_adds_up.ensures.gains _ c.add_counts.new.text c.add_registers.new.text counts registers c.in_ok-add_counts.ensures.gains
-    (subst (λ r. Gains g.S.Sink.written c.add_counts.new.text c.add_registers.new.text (registers_line r e.zf))
-    c.deref.ensures.value c.in_ok-add_registers.ensures.gains) in
-    on_ok_weaker c.add_output.result (λ gains. c.text_adds_up.ensures.gains _ c.add_registers.new.text c.add_output.new.text
-    (counts ++ registers) (output_line e.output.items) two
-    (subst (λ o. Gains g.S.Sink.written c.add_registers.new.text c.add_output.new.text (output_line o)) c.deref-2.ensures.value gains))
-    c.add_output.ensures.gains
-
-pub returns-clause-breaks : goal.returns-clause-breaks
-returns-clause-breaks g c =
-    let e = c.args.end.now in
-    let counts = counts_text e.thread e.end e.instructions e.passings in
-    let registers = registers_line e.regs.items e.zf in
-    let output = output_line e.output.items in
-    let two = c.text_adds_up.ensures.gains _ c.add_counts.new.text c.add_registers.new.text counts registers c.in_ok-add_counts.ensures.gains
-    (subst (λ r. Gains g.S.Sink.written c.add_counts.new.text c.add_registers.new.text (registers_line r e.zf))
-    c.deref.ensures.value c.in_ok-add_registers.ensures.gains) in
-    on_err_weaker c.add_output.result (λ broken.
-    c.text_adds_up.ensures.breaks _ c.add_registers.new.text _ (counts ++ registers) output [] _ two
-    (subst (λ o. Breaks g.S.Sink.written c.add_registers.new.text (sink_of c.add_output.new.text) (output_line o)) c.deref-2.ensures.value broken)
-    (append-nil _)) c.add_output.ensures.breaks
+pub returns : goal.returns
+returns g c =
+    let registers = rw c.deref.ensures.value at c.in_ok-add_registers.ensures in
+    adds_more g.met.S.Sink.along_both (adds_more g.met.S.Sink.along_both c.in_ok-add_counts.ensures registers) (rw c.deref-2.ensures.value at c.add_output.ensures)

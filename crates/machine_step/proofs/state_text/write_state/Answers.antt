@@ -1,20 +1,17 @@
 use Rattle.std.proofs.Common.{rules}
-use Rattle.std.proofs.lemmas.Result.{on_ok_weaker, on_err_weaker}
+use Rattle.xray_io.specs.Text.{writes_all, writes_failed}
 use Rattle.machine_step.proofs.state_text.write_state.Goals as goal
 
-pub returns-in_err-add_state-clause-front : goal.returns-in_err-add_state-clause-front
-returns-in_err-add_state-clause-front g c =
-    let front = c.in_err-add_state.ensures.breaks _ _ c.new-text.ensures.empty in
+pub returns-in_err-add_state : goal.returns-in_err-add_state
+returns-in_err-add_state g c =
+    let failed =
+    writes_failed {along = g.S.Sink.along} c.args.sink.now c.new-text.result c.add_state.new.text c.new-text.ensures.sink c.new-text.ensures.waits
+    c.in_err-add_state.ensures c.from_residual.result c.from_residual.ensures.1 in
     search rules
 
-pub returns-clause-all : goal.returns-clause-all
-returns-clause-all g c =
-    let gathers = c.in_ok-add_state.ensures.gains _ _ c.new-text.ensures.empty in
-    let adds = on_ok_weaker c.done.result (λ all. all _ _ gathers) c.done.ensures.all in
-    search rules
-
-pub returns-clause-front : goal.returns-clause-front
-returns-clause-front g c =
-    let gathers = c.in_ok-add_state.ensures.gains _ _ c.new-text.ensures.empty in
-    let front = on_err_weaker c.done.result (λ breaks. breaks _ _ gathers) c.done.ensures.breaks in
+pub returns : goal.returns
+returns g c =
+    let writes =
+    writes_all {along = g.S.Sink.along} g.met.S.Sink.along_both c.args.sink.now _ c.new-text.result c.add_state.new.text c.new-text.ensures.sink c.new-text.ensures.waits
+    c.in_ok-add_state.ensures c.done.ensures.writes in
     search rules

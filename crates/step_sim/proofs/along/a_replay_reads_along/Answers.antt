@@ -3,14 +3,14 @@ use Rattle.step_sim.proofs.along.a_replay_reads_along.Goals as goal
 
 pub returns : goal.returns
 returns c =
-    let said = c.what_is_read_along_is_allowed.ensures in
+    let said = c.what_follows_is_allowed.ensures in
     let keeps = c.each_script_keeps_sleds.ensures in
     record {
       first = first_along;
       thread = thread_keeps;
       patcher = patcher_keeps;
       allowed = λ cast moment thread word some is wanted.
-          said.next cast.program _ _ _ _ _ _ word (keeps cast.program cast.script) (is.along thread some) wanted;
+          said.next cast.program _ _ _ thread _ _ _ _ word (keeps cast.program cast.script thread) (is.along thread some) wanted;
       whole = λ cast moment is thread some.
-          said.whole cast.program _ _ _ _ _ _ (keeps cast.program cast.script) (is.along thread some);
+          said.whole cast.program _ _ _ thread _ _ _ _ (keeps cast.program cast.script thread) (is.along thread some);
     }

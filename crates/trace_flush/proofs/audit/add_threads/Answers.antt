@@ -1,9 +1,9 @@
-use Rattle.std.proofs.Common.{◌≡◌, ◌+◌, ◌++◌, [], ◌∷◌, List, ℕ, length, take, drop, subst, ap, sym, ◌∙◌, rules, length-append}
+use Rattle.std.proofs.Common.{◌≡◌, ◌+◌, ◌++◌, [], ◌∷◌, List, ℕ, Ok, length, take, drop, subst, ap, sym, ◌∙◌, rules, length-append}
 use Rattle.std.specs.List.{flat_map}
 use Rattle.std.specs.Slice.Iter.{iter_rest}
 use Rattle.std.specs.Iterator.Adapters.{zip_first, zip_second}
 use Rattle.std.proofs.lemmas.Slice.Zip.{zip_turn, zip_end}
-use Rattle.xray_io.specs.Text.{sink_of, Gains, Breaks}
+use Rattle.xray_io.specs.Text.{AddsText, adds_more, adds_within, adds_failed}
 use Rattle.trace_flush.specs.Audit.{accounts, thread_lines}
 use Rattle.trace_flush.proofs.AuditText.{accounts_more, accounts_split, accounts_all}
 use Rattle.trace_flush.proofs.audit.add_threads.Goals as goal
@@ -20,18 +20,12 @@ threads-preserved g c =
     let i = length c.threads.yielded in
     let more = accounts_more lines cpus i c.in-Some.line.now c.in-Some.cpu.now turn.0 turn.1 turn.2 turn.3 in
     let next : i + 1 ≡ length (c.threads.yielded ++ (c.in-Some.line, c.in-Some.cpu) ∷ []) = sym (length-append c.threads.yielded _) in
-    let gained = subst (λ marks. Gains g.S.Sink.written c.threads.text c.add_thread.new.text (thread_lines (c.in-Some.line.now, marks)))
-    c.marks.ensures c.in_ok-add_thread.ensures.gains in
-    record {
-      gains = subst (Gains g.S.Sink.written _ c.add_thread.new.text) (more ∙ ap (λ (n : ℕ). flat_map thread_lines (take n (accounts lines cpus))) next)
-          (c.text_adds_up.ensures.gains _ c.threads.text _ (flat_map thread_lines (take i (accounts lines cpus))) _ c.threads.invariant.gains gained);
-      later = search rules;
-      follows = g.met.S.Sink.follows_along _ _ _ c.threads.invariant.follows c.in_ok-add_thread.ensures.follows;
-      loan = search rules;
-    }
+    let added = rw c.marks.ensures at c.in_ok-add_thread.ensures in
+    subst (λ t. AddsText g.S.Sink.written g.S.Sink.faults g.S.Sink.along c.args.text.now c.add_thread.new.text t (Ok tt)) (more ∙ ap (λ (n : ℕ). flat_map thread_lines (take n (accounts lines cpus))) next)
+    (adds_more g.met.S.Sink.along_both c.threads.invariant added)
 
-pub returns-in_err-add_thread-clause-breaks : goal.returns-in_err-add_thread-clause-breaks
-returns-in_err-add_thread-clause-breaks g c =
+pub returns-in_err-add_thread : goal.returns-in_err-add_thread
+returns-in_err-add_thread g c =
     let lines = c.args.lines.now in
     let cpus = c.args.cpus.now in
     let first : iter_rest (zip_first c.into_iter-line-iterator.result) ≡ lines =
@@ -43,15 +37,12 @@ returns-in_err-add_thread-clause-breaks g c =
     let told = accounts lines cpus in
     let rest = flat_map thread_lines (drop (i + 1) told) in
     let more = accounts_more lines cpus i c.in-Some.line.now c.in-Some.cpu.now turn.0 turn.1 turn.2 turn.3 in
-    let broke = subst (λ marks. Breaks g.S.Sink.written c.threads.text (sink_of c.add_thread.new.text) (thread_lines (c.in-Some.line.now, marks)))
-    c.marks.ensures c.in_err-add_thread.ensures.breaks in
-    let broken : Breaks g.S.Sink.written _ (sink_of c.add_thread.new.text) (flat_map thread_lines told) =
-    c.text_adds_up.ensures.breaks _ c.threads.text _ (flat_map thread_lines (take i told)) _ rest _ c.threads.invariant.gains broke
-    (ap (λ (t : List ℕ). t ++ rest) more ∙ accounts_split told (i + 1)) in
-    search rules
+    let broken = rw c.marks.ensures at c.in_err-add_thread.ensures in
+    adds_failed (adds_within g.met.S.Sink.along_both rest c.threads.invariant broken (ap (λ (t : List ℕ). t ++ rest) more ∙ accounts_split told (i + 1)))
+    c.from_residual.result c.from_residual.ensures.1
 
-pub returns-clause-gains : goal.returns-clause-gains
-returns-clause-gains g c =
+pub returns : goal.returns
+returns g c =
     let lines = c.args.lines.now in
     let cpus = c.args.cpus.now in
     let first : iter_rest (zip_first c.into_iter-line-iterator.result) ≡ lines =
@@ -59,4 +50,4 @@ returns-clause-gains g c =
     let second : iter_rest (zip_second c.into_iter-line-iterator.result) ≡ cpus =
     rw (c.into_iter-line-iterator.ensures.into_iter_gives, c.zip-line-items.ensures.second) c.iter-2.ensures.rest in
     let count = zip_end lines cpus c.threads.yielded c.into_iter-line-iterator.result c.threads.line-iterator c.next.new.self c.next.result first second c.threads.yielded_by c.in-None.is c.next.ensures.steps in
-    subst (Gains g.S.Sink.written _ c.threads.text) (accounts_all lines cpus (length c.threads.yielded) c.requires count) c.threads.invariant.gains
+    subst (λ t. AddsText g.S.Sink.written g.S.Sink.faults g.S.Sink.along c.args.text.now c.threads.text t (Ok tt)) (accounts_all lines cpus (length c.threads.yielded) c.requires count) c.threads.invariant

@@ -1,8 +1,11 @@
-use Rattle.std.proofs.Common.{List, subst, rules}
-use Rattle.std.specs.Prelude.{IsPermutation}
+use Rattle.std.proofs.Common.{List, ap, subst, sym, ◌∙◌, rules}
+use Rattle.std.specs.Prelude.{IsPermutation, filter}
+use Rattle.std.proofs.lemmas.List.Sorted.{IsPermutation-refl}
 use Rattle.std.proofs.lemmas.Fn.{always_returns_same, filter_same}
 use Rattle.fdr_buffer.specs.Filled.{Filled}
 use Rattle.trace_flush.specs.Arranged.{has_event}
+use Rattle.traced_run.specs.Kept.{kept_buffers}
+use Rattle.trace_flush.proofs.KeptOrder.{kept_filled, kept_ordered}
 use Rattle.trace_flush.proofs.OneOrder.{place, in_order, one_order}
 use Rattle.trace_flush.proofs.order.arrange.Goals as goal
 
@@ -18,3 +21,13 @@ returns-clause-order c =
 
 pub returns-clause-exact : goal.returns-clause-exact
 returns-clause-exact c = λ wanted strict also. one_order _ wanted _ (returns-clause-kept c) (returns-clause-order c) strict also
+
+pub returns-clause-run : goal.returns-clause-run
+returns-clause-run c = λ setup runs also. returns-clause-exact c (kept_buffers setup runs) (kept_ordered setup runs) also
+
+pub returns-clause-stay : goal.returns-clause-stay
+returns-clause-stay c = λ setup runs is.
+    let kept = kept_buffers setup runs in
+    let same = ap (filter has_event) is ∙ kept_filled c.segments_hold_all.ensures.some setup runs in
+    let P : List Filled → Type 0 = λ buffers. IsPermutation buffers kept in
+    returns-clause-run c setup runs (subst P (sym same) (IsPermutation-refl kept))

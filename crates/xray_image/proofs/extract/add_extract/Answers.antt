@@ -1,33 +1,27 @@
-use Rattle.std.proofs.Common.{◌≡◌, ◌+◌, ◌++◌, [], ℕ, suc, List, take, drop, subst, sym, ap, ◌∙◌, arith, rules, add-one, append_assoc}
+use Rattle.std.proofs.Common.{◌≡◌, ◌+◌, ◌++◌, [], ℕ, suc, List, Ok, take, drop, subst, sym, ap, ◌∙◌, arith, rules, add-one, append_assoc}
 use Rattle.std.specs.Prelude.{codes}
 use Rattle.std.specs.List.{flat_map}
-use Rattle.std.proofs.lemmas.List.{append-nil}
-use Rattle.std.proofs.lemmas.Result.{on_ok_weaker, on_err_weaker}
-use Rattle.xray_io.specs.Text.{sink_of, Gains, Breaks}
+use Rattle.xray_io.specs.Text.{AddsText, adds_more, adds_stop, adds_within, adds_failed}
 use Rattle.xray_image.specs.Extract.{extract_text, sled_line}
 use Rattle.xray_image.proofs.ExtractText.{lines_more, lines_split, lines_all}
 use Rattle.xray_image.proofs.extract.add_extract.Goals as goal
 
-pub returns-in_err-bytes-clause-breaks : goal.returns-in_err-bytes-clause-breaks
-returns-in_err-bytes-clause-breaks g c =
-    let image = c.args.image.now in
-    let rows = flat_map (sled_line image) image.sleds in
-    let broken : Breaks g.S.Sink.written _ (sink_of c.bytes.new.self) (extract_text image) =
-    c.text_adds_up.ensures.breaks _ _ _ [] (codes "---\n") (rows ++ codes "...\n") _ (c.text_adds_up.ensures.nothing _) c.in_err-bytes.ensures.breaks
-    (sym (append_assoc (codes "---\n") rows (codes "...\n"))) in
-    search rules
+pub returns-in_err-bytes : goal.returns-in_err-bytes
+returns-in_err-bytes g c =
+    let rows = flat_map (sled_line c.args.image.now) c.args.image.now.sleds in
+    let broken = rw (sym (append_assoc (codes "---\n") rows (codes "...\n"))) at (adds_stop (rows ++ codes "...\n") c.in_err-bytes.ensures.adds) in
+    adds_failed broken c.from_residual.result c.from_residual.ensures.1
 
-pub returns-in_err-add_sled-clause-breaks : goal.returns-in_err-add_sled-clause-breaks
-returns-in_err-add_sled-clause-breaks g c =
+pub returns-in_err-add_sled : goal.returns-in_err-add_sled
+returns-in_err-add_sled g c =
     let image = c.args.image.now in
     let line = sled_line image in
     let i = c.loop-number.number in
     let rest = flat_map line (drop (suc i) image.sleds) ++ codes "...\n" in
     let more = lines_more line image.sleds i c.sled-sled.result c.sled-sled.ensures in
-    let broken : Breaks g.S.Sink.written _ (sink_of c.add_sled.new.text) (extract_text image) =
-    c.text_adds_up.ensures.breaks _ c.loop-number.text _ (codes "---\n" ++ flat_map line (take i image.sleds)) (line c.sled-sled.result) rest _ c.loop-number.invariant.gains c.in_err-add_sled.ensures.breaks
-    (ap (λ (t : List ℕ). (codes "---\n" ++ t) ++ rest) more ∙ lines_split line image.sleds (codes "---\n") (codes "...\n") (suc i)) in
-    search rules
+    adds_failed (adds_within g.met.S.Sink.along_both rest c.loop-number.invariant c.in_err-add_sled.ensures
+    (ap (λ (t : List ℕ). (codes "---\n" ++ t) ++ rest) more ∙ lines_split line image.sleds (codes "---\n") (codes "...\n") (suc i)))
+    c.from_residual-in_err-add_sled.result c.from_residual-in_err-add_sled.ensures.1
 
 pub loop-number-preserved : goal.loop-number-preserved
 loop-number-preserved g c =
@@ -37,30 +31,13 @@ loop-number-preserved g c =
     let more = lines_more line image.sleds i c.sled-sled.result c.sled-sled.ensures in
     let next : codes "---\n" ++ flat_map line (take (suc i) image.sleds) ≡ codes "---\n" ++ flat_map line (take (i + 1) image.sleds) =
     ap (λ n. codes "---\n" ++ flat_map line (take n image.sleds)) (sym (add-one i)) in
-    record {
-      gains = subst (Gains g.S.Sink.written _ c.add_sled.new.text) (ap (λ t. codes "---\n" ++ t) more ∙ next)
-          (c.text_adds_up.ensures.gains _ c.loop-number.text _ (codes "---\n" ++ flat_map line (take i image.sleds)) (line c.sled-sled.result) c.loop-number.invariant.gains c.in_ok-add_sled.ensures.gains);
-      later = search rules;
-      follows = g.met.S.Sink.follows_along _ _ _ c.loop-number.invariant.follows c.in_ok-add_sled.ensures.follows;
-      loan = search rules;
-    }
+    subst (λ t. AddsText g.S.Sink.written g.S.Sink.faults g.S.Sink.along c.args.text.now c.add_sled.new.text t (Ok tt)) (ap (λ t. codes "---\n" ++ t) more ∙ next)
+    (adds_more g.met.S.Sink.along_both c.loop-number.invariant c.in_ok-add_sled.ensures)
 
-pub returns-clause-gains : goal.returns-clause-gains
-returns-clause-gains g c =
+pub returns : goal.returns
+returns g c =
     let image = c.args.image.now in
     let line = sled_line image in
-    let i = c.loop-number.number in
-    let all = lines_all line image.sleds (codes "---\n") (codes "...\n") i (omega (arith, c.sled_count-number-end.ensures.count)) in
-    on_ok_weaker c.bytes-2.result (λ gains. subst (Gains g.S.Sink.written _ c.bytes-2.new.self) all
-    (c.text_adds_up.ensures.gains _ c.loop-number.text _ (codes "---\n" ++ flat_map line (take i image.sleds)) (codes "...\n") c.loop-number.invariant.gains gains))
-    c.bytes-2.ensures.gains
-
-pub returns-clause-breaks : goal.returns-clause-breaks
-returns-clause-breaks g c =
-    let image = c.args.image.now in
-    let line = sled_line image in
-    let i = c.loop-number.number in
-    let all = lines_all line image.sleds (codes "---\n") (codes "...\n") i (omega (arith, c.sled_count-number-end.ensures.count)) in
-    on_err_weaker c.bytes-2.result (λ broken.
-    c.text_adds_up.ensures.breaks _ c.loop-number.text _ (codes "---\n" ++ flat_map line (take i image.sleds)) (codes "...\n") [] _
-    c.loop-number.invariant.gains broken (append-nil _ ∙ all)) c.bytes-2.ensures.breaks
+    let all = lines_all line image.sleds (codes "---\n") (codes "...\n") c.loop-number.number (omega (arith, c.sled_count-number-end.ensures.count)) in
+    subst (λ t. AddsText g.S.Sink.written g.S.Sink.faults g.S.Sink.along c.args.text.now c.bytes-2.new.self t c.bytes-2.result) all
+    (adds_more g.met.S.Sink.along_both c.loop-number.invariant c.bytes-2.ensures.adds)

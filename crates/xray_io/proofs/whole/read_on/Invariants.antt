@@ -1,5 +1,7 @@
 use Rattle.std.proofs.Common.{◌≡◌, ◌≢◌, ◌+◌, ◌-◌, ◌≤◌, ◌<◌, length}
+use Rattle.xray_io.specs.Calls.{Went}
 use Rattle.xray_io.specs.Desk.{Absent, IsFront}
+use Rattle.xray_io.specs.Reads.{Reads}
 use Rattle.xray_io.proofs.whole.read_on.Given as goal
 
 abbrev pub invariant-reading : goal.invariant-reading
@@ -8,8 +10,9 @@ invariant-reading g l = record {
   there : 0 < length l.bytes.items → g.D.Desk.held l.fn.desk l.name ≢ Absent;
   bound : length l.bytes.items ≤ l.limit + 1;
   held : g.D.Desk.held l.desk ≡ g.D.Desk.held l.fn.desk;
-  later : g.D.Desk.read_faults l.fn.desk ≤ g.D.Desk.read_faults l.desk;
+  calm : g.D.Desk.read_faults l.desk ≡ g.D.Desk.read_faults l.fn.desk;
   writes : g.D.Desk.write_faults l.desk ≡ g.D.Desk.write_faults l.fn.desk;
+  calls : Went (g.D.Desk.along l.fn.desk l.desk) (Reads l.name (l.limit + 1) 0 (length l.bytes.items));
 }
 
 abbrev pub decreases-reading : goal.decreases-reading

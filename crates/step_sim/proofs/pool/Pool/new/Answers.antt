@@ -1,5 +1,5 @@
 use Rattle.std.proofs.Common.{◌-◌, ◌∙◌, refl, rules}
-use Rattle.step_sim.specs.Recorded.{stamp_of}
+use Rattle.traced_run.specs.Kept.{stamp_of}
 use Rattle.step_sim.proofs.PoolLemmas.{pool_begins}
 use Rattle.step_sim.proofs.pool.Pool.new.Goals as goal
 

@@ -1,7 +1,4 @@
-use Rattle.std.proofs.Common.{◌≡◌, ◌+◌, ◌-◌, [], ◌∷◌, ◌∙◌, arith, subst, sym, ap, refl}
-use Rattle.std.specs.Prelude.{IsTrue}
-use Rattle.fdr_buffer.specs.Filled.{Filled}
-use Rattle.fdr_buffer.specs.Segments.{has_room}
+use Rattle.std.proofs.Common.{◌≡◌, ◌+◌, ◌∙◌, arith, refl}
 use Rattle.step_sim.proofs.PoolLemmas.{put_begun, read_back, turn_has_room, turn_loses, turn_notes, turn_seals}
 use Rattle.step_sim.proofs.pool.Pool.turn.Goals as goal
 

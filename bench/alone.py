@@ -1,0 +1,65 @@
+#!/usr/bin/env python3
+"""Runs commands one at a time, and says what time and what memory each of them took alone.
+
+The system counts what a process held that began a command as the command's own, and a bench may hold a lot. So this file runs
+as a process of its own, which holds little, and begins the command: some 16 MB, below which no peak is reported.
+"""
+import dataclasses
+import os
+import pathlib
+import subprocess
+import sys
+import time
+
+
+@dataclasses.dataclass(frozen=True)
+class Measured:
+    """A run's status, its processor time and the time that went by in seconds, and its peak of memory in bytes."""
+
+    status: int
+    processor: float
+    elapsed: float
+    memory: int
+
+
+def measured(words, folder, output=None):
+    """Runs a command in a folder; what it prints goes to a file there, or nowhere, and its standard error to `err`."""
+    reading, writing = os.pipe()
+    with open(os.devnull if output is None else folder / output, "wb") as out, open(folder / "err", "wb") as err:
+        words = [sys.executable, os.path.abspath(__file__), str(writing), *map(str, words)]
+        subprocess.run(words, cwd=folder, stdout=out, stderr=err, pass_fds=[writing], check=True)
+    os.close(writing)
+    with os.fdopen(reading) as stream:
+        status, processor, elapsed, memory = stream.read().split()
+    return Measured(int(status), float(processor), float(elapsed), int(memory))
+
+
+def best(words, folder, runs, output=None):
+    """The run with the least processor time; a run that fails ends the bench."""
+    every = [measured(words, folder, output) for _ in range(runs)]
+    if any(run.status != 0 for run in every):
+        sys.exit(f"{' '.join(map(str, words))}: {(folder / 'err').read_text(errors='replace')[:500]}")
+    return min(every, key=lambda run: run.processor)
+
+
+def megabytes(count):
+    return f"{count / 1e6:.0f} MB"
+
+
+def run_alone(writing, words):
+    """Runs a command, and prints what it took on a descriptor."""
+    begin = time.perf_counter()
+    process = subprocess.Popen(words)
+    _, status, used = os.wait4(process.pid, 0)
+    elapsed = time.perf_counter() - begin
+    process.returncode = os.waitstatus_to_exitcode(status)
+    os.write(writing, f"{process.returncode} {used.ru_utime + used.ru_stime} {elapsed} {used.ru_maxrss * 1024}".encode())
+
+
+def built_program():
+    """The program that a bench measures where none is named."""
+    return pathlib.Path(__file__).resolve().parent.parent / "crates/xray/out/xray"
+
+
+if __name__ == "__main__":
+    run_alone(int(sys.argv[1]), sys.argv[2:])

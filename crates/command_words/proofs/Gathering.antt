@@ -1,0 +1,128 @@
+-- What is gathered from clap's matches, one file or option after the other.
+use Rattle.std.proofs.Math.Seq.{drop-cons}
+use Rattle.std.proofs.Common.{◌≡◌, ◌∙◌, ◌<◌, ◌≤◌, ◌+◌, ◌&&◌, ℕ, suc, true, false, Bool, cond, refl, sym, ap, drop, get_or, add-one, append_assoc, List, [], ◌∷◌, ◌++◌, length, map, option_map, option_copied, Option, Some, None, Bor}
+use Rattle.std.proofs.lemmas.List.{drop_all, map-append}
+use Rattle.std.proofs.lemmas.Str.{IsUtf8-string_bytes, encodes-chars}
+use Rattle.std.specs.List.{cons_option, find, list_all, position_from}
+use Rattle.std.specs.Prelude.{String, string_bytes, if◌then◌else◌}
+use Rattle.std.specs.Str.{bytes_eq}
+use Rattle.std.specs.declared.alloc.Global.{Global}
+use Rattle.clap.proofs.WalkLemmas.{first_value-rows}
+use Rattle.clap.specs.Matches.{first_value, found_of}
+use Rattle.clap.specs.Walk.{Row, Text, first_of}
+use Rattle.clap.specs.declared.parser.matches.ArgMatches.{ArgMatches}
+use Rattle.command_words.specs.Clapped.{given_in, names_in, rows_in}
+use Rattle.command_words.specs.Lines.{outputs_in}
+use Rattle.command_words.specs.Rows as rows
+use Rattle.command_words.specs.Rows.{is_written}
+use Rattle.command_words.specs.Views.{file_view, option_view}
+use Rattle.command_words.specs.declared.rows.FileRow.{FileRow}
+use Rattle.command_words.specs.declared.rows.OptionRow.{OptionRow}
+use Rattle.command_words.specs.declared.rows.Role.TheVariants.{Input}
+use Rattle.command_words.proofs.Arguments.{Each}
+use Rattle.command_words.proofs.WordShapes.{IsText}
+
+-- each word of a command line is text
+pub words_are_text : (words : List (String Global)) → Each IsText (map string_bytes words)
+words_are_text [] = tt
+words_are_text (word ∷ words) = (encodes-chars (string_bytes word) (IsUtf8-string_bytes word), words_are_text words)
+
+-- what clap answers for an id is the first value of its row
+pub value_of_row : (matches : ArgMatches) (id : Text) (answer : Option (Bor Text)) → option_map (λ s. s.now) answer ≡ first_value (found_of matches) id
+    → first_of id (rows_in matches) ≡ option_copied answer
+value_of_row matches id answer gives = sym (first_value-rows (found_of matches) id) ∙ sym gives
+
+-- the next file, before those after it
+pub names_from : (files : List FileRow) (i : ℕ) (d : FileRow) (rows : List Row) → i < length files
+    → names_in (map file_view (drop i files)) rows ≡ cons_option (first_of (get_or files i d).label.now rows) (names_in (map file_view (drop (i + 1) files)) rows)
+names_from files i d rows within = rw (add-one, drop-cons files i d) refl
+
+-- the next option, before those after it
+pub given_from : (options : List OptionRow) (i : ℕ) (d : OptionRow) (rows : List Row) → i < length options
+    → given_in (map option_view (drop i options)) rows
+    ≡ cons_option (option_map (λ value. ((get_or options i d).name.now, value)) (first_of (get_or options i d).name.now rows)) (given_in (map option_view (drop (i + 1) options)) rows)
+given_from options i d rows within = rw (add-one, drop-cons options i d) refl
+
+-- one more is gathered, or none is
+pub one_more : {X Y : Type 0} (f : X → Y) (xs : List X) (x : X) (next : Option Y) (rest now all : List Y) → now ≡ cons_option next rest → next ≡ Some (f x)
+    → map f xs ++ now ≡ all → map f (xs ++ x ∷ []) ++ rest ≡ all
+one_more f xs x next rest now all step found before =
+    ap (λ ys. ys ++ rest) (map-append f xs (x ∷ [])) ∙ append_assoc (map f xs) (f x ∷ []) rest
+    ∙ ap (λ ys. map f xs ++ ys) (sym (step ∙ ap (λ o. cons_option o rest) found)) ∙ before
+
+pub none_more : {X Y : Type 0} (f : X → Y) (xs : List X) (next : Option Y) (rest now all : List Y) → now ≡ cons_option next rest → next ≡ None
+    → map f xs ++ now ≡ all → map f xs ++ rest ≡ all
+none_more f xs next rest now all step none before = ap (λ ys. map f xs ++ ys) (sym (step ∙ ap (λ o. cons_option o rest) none)) ∙ before
+
+-- two maps are one
+pub mapped_twice : {X Y Z : Type 0} (f : X → Y) (g : Y → Z) (xs : List X) → map (λ x. g (f x)) xs ≡ map g (map f xs)
+mapped_twice f g [] = refl
+mapped_twice f g (x ∷ xs) = ap (λ zs. g (f x) ∷ zs) (mapped_twice f g xs)
+
+-- ---- looking up
+
+-- the place of a text among texts behind references
+pub position_of_texts : (word : Text) (words : List (Bor Text)) (from : ℕ) → position_from (bytes_eq word) from (map (λ w. w.now) words) ≡ position_from (λ w. bytes_eq word w.now) from words
+position_of_texts word [] from = refl
+position_of_texts word (one ∷ words) from = go (bytes_eq word one.now) (position_of_texts word words (from + 1))
+  where
+    go : (b : Bool) → position_from (bytes_eq word) (from + 1) (map (λ w. w.now) words) ≡ position_from (λ w. bytes_eq word w.now) (from + 1) words
+        → cond b (Some from) (position_from (bytes_eq word) (from + 1) (map (λ w. w.now) words)) ≡ cond b (Some from) (position_from (λ w. bytes_eq word w.now) (from + 1) words)
+    go true more = refl
+    go false more = more
+
+-- an option that is given, as its texts
+abbrev pub pair_view : Bor Text × Bor Text → Text × Text
+pair_view pair = (pair.0.now, pair.1.now)
+
+-- the first option of a name from a place on
+abbrev pub given_from_place : Text → List (Bor Text × Bor Text) → ℕ → Option (Text × Text)
+given_from_place name pairs i = find (λ (given : Text × Text). bytes_eq given.0 name) (map pair_view (drop i pairs))
+
+-- ---- the names of outputs
+
+-- the outputs from a place on, and a test that each passes
+abbrev pub outputs_from : List FileRow → List (Bor Text) → ℕ → List Text
+outputs_from files names i = outputs_in (map file_view (drop i files)) (map (λ name. name.now) (drop i names))
+
+abbrev pub pass_from : (Text → Bool) → List FileRow → List (Bor Text) → ℕ → Bool
+pass_from p files names i = list_all p (outputs_from files names i)
+
+-- the next name is no output's, or passes
+pub pass_next : (p : Text → Bool) (files : List FileRow) (names : List (Bor Text)) (i : ℕ) (d : FileRow) (e : Bor Text) → i < length files → i < length names
+    → pass_from p files names i ≡ (if is_written (get_or files i d).role then p (get_or names i e).now && pass_from p files names (i + 1) else pass_from p files names (i + 1))
+pass_next p files names i d e in_files in_names = rw (add-one, drop-cons files i d, drop-cons names i e) (go (is_written (get_or files i d).role))
+  where
+    go : (b : Bool) → list_all p (if b then (get_or names i e).now ∷ outputs_from files names (suc i) else outputs_from files names (suc i))
+        ≡ (if b then p (get_or names i e).now && pass_from p files names (suc i) else pass_from p files names (suc i))
+    go true = refl
+    go false = refl
+
+-- after the last name there is no output
+pub pass_end : (p : Text → Bool) (files : List FileRow) (names : List (Bor Text)) (i : ℕ) → length names ≤ i → pass_from p files names i ≡ true
+pass_end p files names i beyond = rw (drop_all i names beyond) (go (map file_view (drop i files)))
+  where
+    go : (files : List rows.FileRow) → list_all p (outputs_in files []) ≡ true
+    go [] = refl
+    go (file ∷ files) = refl
+
+-- so an output whose name fails decides, and else what comes after it does
+pub pass_fails : (p : Text → Bool) (files : List FileRow) (names : List (Bor Text)) (i : ℕ) (d : FileRow) (e : Bor Text) → i < length files → i < length names
+    → is_written (get_or files i d).role ≡ true → p (get_or names i e).now ≡ false → pass_from p files names i ≡ false
+pass_fails p files names i d e in_files in_names written fails = pass_next p files names i d e in_files in_names ∙ rw (written, fails) refl
+
+pub pass_skips : (p : Text → Bool) (files : List FileRow) (names : List (Bor Text)) (i : ℕ) (d : FileRow) (e : Bor Text) → i < length files → i < length names
+    → is_written (get_or files i d).role ≡ false → pass_from p files names i ≡ pass_from p files names (i + 1)
+pass_skips p files names i d e in_files in_names read = pass_next p files names i d e in_files in_names ∙ rw read refl
+
+pub pass_passes : (p : Text → Bool) (files : List FileRow) (names : List (Bor Text)) (i : ℕ) (e : Bor Text) → i < length files → i < length names
+    → p (get_or names i e).now ≡ true → pass_from p files names i ≡ pass_from p files names (i + 1)
+pass_passes p files names i e in_files in_names passes =
+    pass_next p files names i blank e in_files in_names ∙ rw passes (go (is_written (get_or files i blank).role))
+  where
+    blank : FileRow
+    blank = record { label = record { ref_ptr = (0, 0); now = [] }; role = Input }
+
+    go : (b : Bool) → (if b then pass_from p files names (i + 1) else pass_from p files names (i + 1)) ≡ pass_from p files names (i + 1)
+    go true = refl
+    go false = refl

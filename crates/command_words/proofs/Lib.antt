@@ -1,0 +1,12 @@
+pub mod Arguments
+pub mod WordShapes
+pub mod Walking
+pub mod Levels
+pub mod Texts
+pub mod Built
+pub mod Pairs
+pub mod Cuts
+pub mod Gathering
+pub mod NumberLemmas
+pub mod Readings
+pub mod WorkedLines

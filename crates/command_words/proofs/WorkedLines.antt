@@ -1,0 +1,73 @@
+-- Command lines, worked by hand: what the definitions of `specs/` make of them.
+use Rattle.std.proofs.Common.{◌≡◌, ℕ, List, [], ◌∷◌, Option, Some, None, refl}
+use Rattle.std.specs.Prelude.{codes}
+use Rattle.xray_io.specs.declared.faults.Wall.{Wall}
+use Rattle.command_words.specs.Words.{Command, Sim, Plain, Extract, Asm, outputs_named, reading}
+
+-- a wall time that is handed in
+noon : Wall
+noon = record { secs = 43200; micros = 5 }
+
+abbrev says : List (List ℕ) → Option Command
+says words = reading noon words
+
+abbrev plain_i : ℕ → Option Command
+plain_i threads = Some (Plain (codes "i") (record { threads = threads; fuel = 10000000; passings = 1048576 }))
+
+nothing : says [] ≡ None
+nothing = refl
+
+defaults : says (codes "plain" ∷ codes "i" ∷ []) ≡ plain_i 1
+defaults = refl
+
+-- an option is one word or two, before a name or after it
+one_word : says (codes "plain" ∷ codes "--threads=7" ∷ codes "i" ∷ []) ≡ plain_i 7
+one_word = refl
+
+two_words : says (codes "plain" ∷ codes "i" ∷ codes "--threads" ∷ codes "+007" ∷ []) ≡ plain_i 7
+two_words = refl
+
+twice : says (codes "plain" ∷ codes "--threads=7" ∷ codes "i" ∷ codes "--threads" ∷ codes "7" ∷ []) ≡ None
+twice = refl
+
+out_of_range : says (codes "plain" ∷ codes "--threads=17" ∷ codes "i" ∷ []) ≡ None
+out_of_range = refl
+
+dashed_value : says (codes "plain" ∷ codes "--threads" ∷ codes "-5" ∷ codes "i" ∷ []) ≡ None
+dashed_value = refl
+
+shortened : says (codes "plain" ∷ codes "--thread=7" ∷ codes "i" ∷ []) ≡ None
+shortened = refl
+
+-- after -- all words are names, and one dash alone is a name
+names_only : says (codes "extract" ∷ codes "--" ∷ codes "--help" ∷ []) ≡ Some (Extract (codes "--help"))
+names_only = refl
+
+one_dash : says (codes "extract" ∷ codes "-" ∷ []) ≡ Some (Extract (codes "-"))
+one_dash = refl
+
+help : says (codes "extract" ∷ codes "--help" ∷ []) ≡ None
+help = refl
+
+one_name_more : says (codes "extract" ∷ codes "i" ∷ codes "j" ∷ []) ≡ None
+one_name_more = refl
+
+-- the output of asm has no other file's name
+made : says (codes "asm" ∷ codes "t" ∷ codes "i" ∷ codes "--threshold" ∷ codes "0" ∷ []) ≡ Some (Asm (codes "t") (codes "i") 0)
+made = refl
+
+onto_itself : says (codes "asm" ∷ codes "t" ∷ codes "t" ∷ []) ≡ None
+onto_itself = refl
+
+made_named : outputs_named noon (codes "asm" ∷ codes "t" ∷ codes "i" ∷ []) ≡ codes "i" ∷ []
+made_named = refl
+
+-- a replay begins at the wall time that is handed in, and two inputs may be one
+replay : says (codes "sim" ∷ codes "s" ∷ codes "s" ∷ codes "c" ∷ codes "--fuel" ∷ codes "9" ∷ []) ≡ Some (Sim (codes "s") (codes "s") (codes "c") (record {
+  bounds = record { threads = 1; fuel = 9; passings = 1048576 };
+  stamps = record { tick = 1; tsc = 0; frequency = 0; cpus = 1; migrate = 1048576 };
+  buffers = record { size = 16384; max = 100 };
+  pid = 1;
+  wall = noon;
+}))
+replay = refl

@@ -1,0 +1,9 @@
+pub mod Clapped
+pub mod Items
+pub mod Lines
+pub mod Numbers
+pub mod Ranges
+pub mod Rows
+pub mod Tables
+pub mod Views
+pub mod Words

@@ -1,0 +1,33 @@
+-- The numbers that the values of options stand for.
+use Rattle.std.specs.Prelude.{◌<◌, ◌≤◌, ℕ, ◌&&◌, Bool, List, length, nat_le, nat_lt, if◌then◌else◌, Option, Some, None}
+use Rattle.std.specs.List.{position_from}
+use Rattle.std.specs.Str.{all_ascii_digits, bytes_eq}
+use Rattle.std.specs.Str.Parse.{digits_value, without_leading_plus}
+
+-- what the value of an option may be: a number in decimal, from the least to the most; or one of these words
+pub data Values : Type 0 where
+  Number : (least most : ℕ) → Values
+  Listed : (words : List (List ℕ)) → Values
+
+-- the number that a word writes in decimal, within a range: zeros may lead, and one plus before them
+abbrev pub number_within : (least most : ℕ) → List ℕ → Option ℕ
+number_within least most word =
+    let digits = without_leading_plus word in
+    let number = digits_value 10 digits in
+    if nat_le 1 (length digits) && all_ascii_digits digits
+    && nat_le least number && nat_le number most then Some number else None
+
+-- the number that a value stands for: the one that it writes, or its place among the words that are listed, from 0
+abbrev pub number_of : Values → List ℕ → Option ℕ
+number_of (Number least most) value = number_within least most value
+number_of (Listed words) value = position_from (bytes_eq value) 0 words
+
+-- a value may stand for this number
+abbrev pub IsAmongValues : Values → ℕ → Type 0
+IsAmongValues (Number least most) number = (least ≤ number) × (number ≤ most)
+IsAmongValues (Listed words) number = number < length words
+
+-- the same, as a test
+abbrev pub is_among_values : Values → ℕ → Bool
+is_among_values (Number least most) number = nat_le least number && nat_le number most
+is_among_values (Listed words) number = nat_lt number (length words)

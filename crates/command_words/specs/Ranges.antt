@@ -1,0 +1,43 @@
+-- The ranges of what a command holds: what the machine that replays a schedule asks of its setup, and of what bounds its threads.
+use Rattle.std.specs.Prelude.{◌+◌, ◌*◌, ◌≤◌, ℕ}
+use Rattle.command_words.specs.declared.run_options.Bounds.{Bounds}
+use Rattle.command_words.specs.declared.run_options.Buffers.{Buffers}
+use Rattle.command_words.specs.declared.run_options.RunOptions.{RunOptions}
+use Rattle.command_words.specs.declared.run_options.Stamps.{Stamps}
+use Rattle.command_words.specs.Words.{Command, Sim, Plain, Extract, Asm}
+
+-- there may be so many threads: at least one, and at most 16
+abbrev pub IsThreadCount : ℕ → Type 0
+IsThreadCount threads = (1 ≤ threads) × (threads ≤ 16)
+
+-- threads may be bounded so
+pub record AreBounds (bounds : Bounds) : Type 0 where
+  pub threads : IsThreadCount bounds.threads
+  pub fuel : bounds.fuel ≤ 1000000000
+  pub passings : bounds.passings ≤ 1048576
+
+-- passings may be stamped so
+pub record AreStamps (stamps : Stamps) : Type 0 where
+  pub cpus : (1 ≤ stamps.cpus) × (stamps.cpus ≤ 65535)
+  pub migrate : (1 ≤ stamps.migrate) × (stamps.migrate ≤ 1048576)
+
+-- a run may have such buffers
+pub record AreBuffers (buffers : Buffers) : Type 0 where
+  pub size : (72 ≤ buffers.size) × (buffers.size ≤ 1048576)
+  pub max : (1 ≤ buffers.max) × (buffers.max ≤ 1024)
+
+-- a run may have these options: each is in its range, there is a buffer for each thread, and a trace file has room for all of them
+pub record AreRunOptions (options : RunOptions) : Type 0 where
+  pub bounds : AreBounds options.bounds
+  pub stamps : AreStamps options.stamps
+  pub buffers : AreBuffers options.buffers
+  pub enough : options.bounds.threads ≤ options.buffers.max
+  pub room : options.buffers.max * (options.buffers.size + 16) + 32 ≤ 67108864
+  pub pid : options.pid ≤ 2147483647
+
+-- all that a command holds is in its range
+abbrev pub HasRanges : Command → Type 0
+HasRanges (Sim image script schedule options) = AreRunOptions options
+HasRanges (Plain image bounds) = AreBounds bounds
+HasRanges (Extract image) = Unit {0}
+HasRanges (Asm text image threshold) = threshold ≤ 4294967295

@@ -1,0 +1,94 @@
+-- The one table of options and the one of commands.
+use Rattle.std.specs.Prelude.{List, [], ◌∷◌, Some, None, codes}
+use Rattle.command_words.specs.Numbers.{Number, Listed}
+use Rattle.command_words.specs.Rows.{CommandRow, FileRow, OptionRow}
+use Rattle.command_words.specs.declared.rows.Role.TheVariants.{Input, OptionalInput, Output}
+
+-- ---- the options
+
+-- how many threads there are
+abbrev pub threads_option : OptionRow
+threads_option = record { name = codes "threads"; values = Number 1 16; default = Some 1 }
+
+-- how many instructions each makes at the most
+abbrev pub fuel_option : OptionRow
+fuel_option = record { name = codes "fuel"; values = Number 0 1000000000; default = Some 10000000 }
+
+-- how many passings each makes at the most
+abbrev pub passings_option : OptionRow
+passings_option = record { name = codes "passings"; values = Number 0 1048576; default = Some 1048576 }
+
+-- how many bytes a buffer of events has
+abbrev pub buffer_size_option : OptionRow
+buffer_size_option = record { name = codes "buffer-size"; values = Number 72 1048576; default = Some 16384 }
+
+-- how many buffers there are
+abbrev pub buffer_max_option : OptionRow
+buffer_max_option = record { name = codes "buffer-max"; values = Number 1 1024; default = Some 100 }
+
+-- how many cycles the counter goes on with each instruction
+abbrev pub tick_option : OptionRow
+tick_option = record { name = codes "tick"; values = Number 0 18446744073709551615; default = Some 1 }
+
+-- where the counter begins
+abbrev pub tsc_option : OptionRow
+tsc_option = record { name = codes "tsc"; values = Number 0 18446744073709551615; default = Some 0 }
+
+-- how many cycles the counter makes in a second; 0 says nothing
+abbrev pub frequency_option : OptionRow
+frequency_option = record { name = codes "frequency"; values = Number 0 18446744073709551615; default = Some 0 }
+
+-- how many CPUs a thread moves between
+abbrev pub cpus_option : OptionRow
+cpus_option = record { name = codes "cpus"; values = Number 1 65535; default = Some 1 }
+
+-- how many passings a thread makes before it moves to the next CPU
+abbrev pub migrate_option : OptionRow
+migrate_option = record { name = codes "migrate"; values = Number 1 1048576; default = Some 1048576 }
+
+-- the number of the process
+abbrev pub pid_option : OptionRow
+pid_option = record { name = codes "pid"; values = Number 0 2147483647; default = Some 1 }
+
+-- the wall time in seconds; it is the one handed in where it isn't given
+abbrev pub wall_option : OptionRow
+wall_option = record { name = codes "wall"; values = Number 0 18446744073709551615; default = None }
+
+-- how many instruction lines a function has at the least that gets sleds
+abbrev pub threshold_option : OptionRow
+threshold_option = record { name = codes "threshold"; values = Number 0 4294967295; default = Some 1 }
+
+-- ---- the commands
+
+-- the options of the commands that run threads
+abbrev pub bounds_options : List OptionRow
+bounds_options = threads_option ∷ fuel_option ∷ passings_option ∷ []
+
+abbrev pub asm_row : CommandRow
+asm_row = record {
+  word = codes "asm";
+  files = record { label = codes "text"; role = Input } ∷ record { label = codes "image"; role = Output } ∷ [];
+  options = threshold_option ∷ [];
+}
+
+abbrev pub plain_row : CommandRow
+plain_row = record {
+  word = codes "plain";
+  files = record { label = codes "image"; role = Input } ∷ [];
+  options = bounds_options;
+}
+
+abbrev pub extract_row : CommandRow
+extract_row = record {
+  word = codes "extract";
+  files = record { label = codes "image"; role = Input } ∷ [];
+  options = [];
+}
+
+abbrev pub sim_row : CommandRow
+sim_row = record {
+  word = codes "sim";
+  files = record { label = codes "image"; role = Input } ∷ record { label = codes "script"; role = Input }
+      ∷ record { label = codes "schedule"; role = Input } ∷ [];
+  options = bounds_options;
+}

@@ -1,0 +1,127 @@
+-- What a command line says: a command with the names of its files, and its options.
+use Rattle.std.specs.Prelude.{ℕ, ◌&&◌, ◌+◌, ◌*◌, List, [], ◌∷◌, Bool, nat_le, if◌then◌else◌, Option, Some, None, option_and_then, option_map}
+use Rattle.std.specs.Option.{option_map_or}
+use Rattle.std.specs.Str.{bytes_eq}
+use Rattle.xray_io.specs.declared.faults.Wall.{Wall}
+use Rattle.command_words.specs.Items.{items_of}
+use Rattle.command_words.specs.Lines.{Line, line_of, number_in, value_in}
+use Rattle.command_words.specs.Numbers.{number_of}
+use Rattle.command_words.specs.Tables.{asm_row, extract_row, plain_row, sim_row}
+use Rattle.command_words.specs.Tables.{threads_option, fuel_option, passings_option, buffer_size_option, buffer_max_option, threshold_option}
+use Rattle.command_words.specs.Tables.{tick_option, tsc_option, frequency_option, cpus_option, migrate_option, pid_option, wall_option}
+use Rattle.command_words.specs.declared.run_options.Bounds.{Bounds}
+use Rattle.command_words.specs.declared.run_options.Buffers.{Buffers}
+use Rattle.command_words.specs.declared.run_options.RunOptions.{RunOptions}
+use Rattle.command_words.specs.declared.run_options.Stamps.{Stamps}
+
+pub data Command : Type 0 where
+  Sim : (image script schedule : List ℕ) → (options : RunOptions) → Command
+  Plain : (image : List ℕ) → (bounds : Bounds) → Command
+  Extract : (image : List ℕ) → Command
+  Asm : (text image : List ℕ) → (threshold : ℕ) → Command
+
+-- ---- the options of the commands that run threads
+
+-- what bounds the threads
+abbrev pub bounds_in : Line → Option Bounds
+bounds_in line = of_numbers (number_in threads_option line) (number_in fuel_option line) (number_in passings_option line)
+  where
+    of_numbers : Option ℕ → Option ℕ → Option ℕ → Option Bounds
+    of_numbers (Some threads) (Some fuel) (Some passings) = Some (record { threads = threads; fuel = fuel; passings = passings })
+    of_numbers _ _ _ = None
+
+-- how passings are stamped
+abbrev pub stamps_in : Line → Option Stamps
+stamps_in line = of_numbers (number_in tick_option line) (number_in tsc_option line) (number_in frequency_option line)
+    (number_in cpus_option line) (number_in migrate_option line)
+  where
+    of_numbers : Option ℕ → Option ℕ → Option ℕ → Option ℕ → Option ℕ → Option Stamps
+    of_numbers (Some tick) (Some tsc) (Some frequency) (Some cpus) (Some migrate) =
+        Some (record { tick = tick; tsc = tsc; frequency = frequency; cpus = cpus; migrate = migrate })
+    of_numbers _ _ _ _ _ = None
+
+-- the buffers
+abbrev pub buffers_in : Line → Option Buffers
+buffers_in line = of_numbers (number_in buffer_size_option line) (number_in buffer_max_option line)
+  where
+    of_numbers : Option ℕ → Option ℕ → Option Buffers
+    of_numbers (Some size) (Some max) = Some (record { size = size; max = max })
+    of_numbers _ _ = None
+
+-- the wall time: the seconds that are given and no microseconds, or the one that is handed in
+abbrev pub wall_in : Wall → Line → Option Wall
+wall_in wall line = option_map_or
+    (λ value. option_map (λ secs. record { secs = secs; micros = 0 }) (number_of wall_option.values value))
+    (value_in wall_option.name line) (Some wall)
+
+-- There is a buffer for each thread; and a trace file of 67,108,864 bytes has room for its header of 32 and for all buffers, each with 16
+-- more.
+abbrev pub have_room : RunOptions → Bool
+have_room options = nat_le options.bounds.threads options.buffers.max
+    && nat_le (options.buffers.max * (options.buffers.size + 16) + 32) 67108864
+
+-- all options of a run
+abbrev pub run_options_in : Wall → Line → Option RunOptions
+run_options_in wall line = of_parts (bounds_in line) (stamps_in line) (buffers_in line) (number_in pid_option line) (wall_in wall line)
+  where
+    checked : RunOptions → Option RunOptions
+    checked options = if have_room options then Some options else None
+
+    of_parts : Option Bounds → Option Stamps → Option Buffers → Option ℕ → Option Wall → Option RunOptions
+    of_parts (Some bounds) (Some stamps) (Some buffers) (Some pid) (Some wall) =
+        checked (record { bounds = bounds; stamps = stamps; buffers = buffers; pid = pid; wall = wall })
+    of_parts _ _ _ _ _ = None
+
+-- ---- the commands
+
+abbrev pub sim_in : Wall → Line → Option Command
+sim_in wall line = of_parts line.files (run_options_in wall line)
+  where
+    of_parts : List (List ℕ) → Option RunOptions → Option Command
+    of_parts (image ∷ script ∷ schedule ∷ []) (Some options) = Some (Sim image script schedule options)
+    of_parts _ _ = None
+
+abbrev pub plain_in : Line → Option Command
+plain_in line = of_parts line.files (bounds_in line)
+  where
+    of_parts : List (List ℕ) → Option Bounds → Option Command
+    of_parts (image ∷ []) (Some bounds) = Some (Plain image bounds)
+    of_parts _ _ = None
+
+abbrev pub extract_in : Line → Option Command
+extract_in line = of_files line.files
+  where
+    of_files : List (List ℕ) → Option Command
+    of_files (image ∷ []) = Some (Extract image)
+    of_files _ = None
+
+abbrev pub asm_in : Line → Option Command
+asm_in line = of_parts line.files (number_in threshold_option line)
+  where
+    of_parts : List (List ℕ) → Option ℕ → Option Command
+    of_parts (text ∷ image ∷ []) (Some threshold) = Some (Asm text image threshold)
+    of_parts _ _ = None
+
+-- the command that words say at this wall time, if they say one
+abbrev pub reading : Wall → List (List ℕ) → Option Command
+reading wall [] = None
+reading wall (word ∷ words) =
+    let items = items_of words in
+    if bytes_eq word plain_row.word then option_and_then plain_in (line_of plain_row items)
+    else if bytes_eq word extract_row.word then option_and_then extract_in (line_of extract_row items)
+    else if bytes_eq word sim_row.word then option_and_then (sim_in wall) (line_of sim_row items)
+    else if bytes_eq word asm_row.word then option_and_then asm_in (line_of asm_row items)
+    else None
+
+-- ---- the outputs
+
+-- the names of a command's outputs
+abbrev pub outputs_of : Command → List (List ℕ)
+outputs_of (Sim image script schedule options) = []
+outputs_of (Plain image bounds) = []
+outputs_of (Extract image) = []
+outputs_of (Asm text image threshold) = image ∷ []
+
+-- the names of the outputs that words ask for; the wall time has no part in them
+abbrev pub outputs_named : Wall → List (List ℕ) → List (List ℕ)
+outputs_named wall words = option_map_or outputs_of (reading wall words) []

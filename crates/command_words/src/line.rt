@@ -1,0 +1,87 @@
+//! A line: the words after a command, cut into the names of its files and the values of its options.
+ghost use Rattle.std.specs.Prelude.{◌≡◌, ◌<◌, ◌≤◌, IfSome, length, option_copied, true};
+ghost use Rattle.std.specs.List.{position_from};
+ghost use Rattle.std.specs.Str.{bytes_eq};
+ghost use Rattle.command_words.specs.Lines.{number_in, value_in};
+ghost use Rattle.command_words.specs.Numbers.{IsAmongValues, number_of, number_within};
+ghost use Rattle.command_words.specs.Rows.{has_default_in_range};
+ghost use Rattle.command_words.specs.Views.{line_view, option_view, values_view};
+
+use crate::rows::{OptionRow, Values};
+
+/// What the words after a command say by the command's row.
+#[derive(Drop)]
+pub(crate) struct Line<'a> {
+    /// The names of the files, in their order.
+    pub(crate) files: Vec<&'a str>,
+    /// The options that are given, in the order of the row: each name with its value.
+    pub(crate) given: Vec<(&'a str, &'a str)>,
+}
+
+impl<'a> Line<'a> {
+    /// The value that it gives the option of this name.
+    pub(crate) fn value(&self, name: &str) -> Option<&'a str>
+        ensures { option_copied result ≡ value_in name.now (line_view self.now) }
+    {
+        for given in &self.given {
+            if given.0 == name {
+                return Some(given.1);
+            }
+        }
+        None
+    }
+}
+
+impl OptionRow {
+    /// The number that a line gives it, or its default. None where the line gives it a value that it
+    /// may not have, and where it isn't given and has no default.
+    pub(crate) fn number_in(&self, line: &Line<'_>) -> Option<u64>
+        requires { has_default_in_range (option_view self.now) ≡ true }
+        ensures number { result ≡ number_in (option_view self.now) (line_view line.now) }
+        ensures within { IfSome result (IsAmongValues (values_view self.now.values)) }
+    {
+        match line.value(self.name) {
+            Some(value) => self.values.number_of(value),
+            None => self.default,
+        }
+    }
+}
+
+impl Values {
+    /// The number that a value stands for. None where it is none of these values.
+    #[tactic(auto, using(crate::proofs::Gathering::position_of_texts))]
+    pub(crate) fn number_of(&self, value: &str) -> Option<u64>
+        ensures number { result ≡ number_of (values_view self.now) value.now }
+        ensures within { IfSome result (IsAmongValues (values_view self.now)) }
+    {
+        match self {
+            Values::Number { least, most } => number_within(*least, *most, value),
+            Values::Listed(words) => place_of(value, words),
+        }
+    }
+}
+
+/// The number that a word writes in decimal, where it lies within a range. Zeros may lead, and one
+/// plus before them.
+fn number_within(least: u64, most: u64, word: &str) -> Option<u64>
+    ensures number { result ≡ number_within least most word.now }
+    ensures within { IfSome result (λ number. (least ≤ number) × (number ≤ most)) }
+{
+    match word.parse::<u64>() {
+        Ok(number) if least <= number && number <= most => Some(number),
+        _ => None,
+    }
+}
+
+/// The place of a word among words, from 0.
+fn place_of(word: &str, words: &[&str]) -> Option<u64>
+    ensures place { result ≡ position_from (λ one. bytes_eq word.now one.now) 0 words.now }
+    ensures within { IfSome result (λ place. place < length words.now) }
+{
+    for (place, one) in words.iter().enumerate() {
+        if word == *one {
+            return Some(place as u64);
+        }
+    }
+    None
+}

@@ -1,0 +1,170 @@
+//! The options of the commands that run threads.
+ghost use Rattle.std.specs.Prelude.{◌≡◌, IfSome};
+ghost use Rattle.command_words.specs.Ranges.{AreBounds, AreBuffers, AreRunOptions, AreStamps};
+ghost use Rattle.command_words.specs.Views.{line_view};
+ghost use Rattle.command_words.specs.Words.{bounds_in, buffers_in, have_room, run_options_in, stamps_in, wall_in};
+
+use crate::line::Line;
+use crate::tables::{
+    BUFFER_MAX, BUFFER_SIZE, CPUS, FREQUENCY, FUEL, MIGRATE, PASSINGS, PID, THREADS, TICK, TSC,
+    WALL,
+};
+use xray_io::Wall;
+
+/// How many bytes a trace file may have.
+const TRACE_LIMIT: u64 = 67_108_864;
+
+/// How many bytes a trace file has before its buffers.
+const TRACE_HEADER: u64 = 32;
+
+/// How many bytes a trace file has before each buffer.
+const BUFFER_HEADER: u64 = 16;
+
+/// What bounds the threads of a run.
+#[derive(Clone, Copy, Debug, PartialEq, Eq)]
+pub struct Bounds {
+    /// How many threads there are, from 1 to 16.
+    pub threads: u32,
+    /// How many instructions a thread makes at the most, up to 1,000,000,000.
+    pub fuel: u64,
+    /// How many passings of sleds a thread makes at the most, up to 1,048,576.
+    pub passings: u32,
+}
+
+/// How the passings of a run are stamped.
+#[derive(Clone, Copy, Debug, PartialEq, Eq)]
+pub struct Stamps {
+    /// How many cycles the counter (TSC) goes on with each instruction.
+    pub tick: u64,
+    /// Where the counter begins, in cycles.
+    pub tsc: u64,
+    /// How many cycles the counter makes in a second, as the trace's header says; 0 says nothing.
+    pub frequency: u64,
+    /// How many CPUs a thread moves between, at least 1.
+    pub cpus: u16,
+    /// How many passings a thread makes before it moves to the next CPU, from 1 to 1,048,576.
+    pub migrate: u32,
+}
+
+/// The buffers of a run's events.
+#[derive(Clone, Copy, Debug, PartialEq, Eq)]
+pub struct Buffers {
+    /// How many bytes a buffer has, from 72 to 1,048,576.
+    pub size: u32,
+    /// How many buffers there are, from one a thread to 1,024.
+    pub max: u32,
+}
+
+/// All options of a run.
+#[derive(Clone, Copy, Debug, PartialEq, Eq)]
+pub struct RunOptions {
+    /// What bounds the threads.
+    pub bounds: Bounds,
+    /// How passings are stamped.
+    pub stamps: Stamps,
+    /// The buffers of events. A trace file of 67,108,864 bytes has room for all of them.
+    pub buffers: Buffers,
+    /// The number of the process, below 2^31.
+    pub pid: u32,
+    /// The wall time that is written in each buffer.
+    pub wall: Wall,
+}
+
+impl RunOptions {
+    /// Whether there is a buffer for each thread, and a trace file has room for all buffers.
+    fn have_room(&self) -> bool
+        requires { AreBuffers self.now.buffers }
+        ensures { result ≡ have_room self.now }
+    {
+        let max = u64::from(self.buffers.max);
+        let size = u64::from(self.buffers.size);
+        self.bounds.threads <= self.buffers.max
+            && max * (size + BUFFER_HEADER) + TRACE_HEADER <= TRACE_LIMIT
+    }
+}
+
+/// What bounds the threads. None where a value is none that it may be.
+pub(crate) fn bounds_in(line: &Line<'_>) -> Option<Bounds>
+    ensures reads { result ≡ bounds_in (line_view line.now) }
+    ensures ranges { IfSome result AreBounds }
+{
+    let threads = THREADS.number_in(line)?;
+    let fuel = FUEL.number_in(line)?;
+    let passings = PASSINGS.number_in(line)?;
+    Some(Bounds {
+        threads: threads as u32,
+        fuel,
+        passings: passings as u32,
+    })
+}
+
+/// How passings are stamped. None where a value is none that it may be.
+fn stamps_in(line: &Line<'_>) -> Option<Stamps>
+    ensures reads { result ≡ stamps_in (line_view line.now) }
+    ensures ranges { IfSome result AreStamps }
+{
+    let tick = TICK.number_in(line)?;
+    let tsc = TSC.number_in(line)?;
+    let frequency = FREQUENCY.number_in(line)?;
+    let cpus = CPUS.number_in(line)?;
+    let migrate = MIGRATE.number_in(line)?;
+    Some(Stamps {
+        tick,
+        tsc,
+        frequency,
+        cpus: cpus as u16,
+        migrate: migrate as u32,
+    })
+}
+
+/// The buffers. None where a value is none that it may be.
+fn buffers_in(line: &Line<'_>) -> Option<Buffers>
+    ensures reads { result ≡ buffers_in (line_view line.now) }
+    ensures ranges { IfSome result AreBuffers }
+{
+    let size = BUFFER_SIZE.number_in(line)?;
+    let max = BUFFER_MAX.number_in(line)?;
+    Some(Buffers {
+        size: size as u32,
+        max: max as u32,
+    })
+}
+
+/// The wall time: the one that is given, or the one that is handed in. None where the value is no
+/// number of seconds.
+fn wall_in(wall: Wall, line: &Line<'_>) -> Option<Wall>
+    ensures { result ≡ wall_in wall (line_view line.now) }
+{
+    match line.value(WALL.name) {
+        Some(value) => {
+            let secs = WALL.values.number_of(value)?;
+            Some(Wall { secs, micros: 0 })
+        }
+        None => Some(wall),
+    }
+}
+
+/// All options of a run that begins at this wall time, unless the line says another. None where a
+/// value is none that it may be, and where the buffers have no room.
+pub(crate) fn run_options_in(wall: Wall, line: &Line<'_>) -> Option<RunOptions>
+    ensures reads { result ≡ run_options_in wall (line_view line.now) }
+    ensures ranges { IfSome result AreRunOptions }
+{
+    let bounds = bounds_in(line)?;
+    let stamps = stamps_in(line)?;
+    let buffers = buffers_in(line)?;
+    let pid = PID.number_in(line)?;
+    let wall = wall_in(wall, line)?;
+    let options = RunOptions {
+        bounds,
+        stamps,
+        buffers,
+        pid: pid as u32,
+        wall,
+    };
+    if options.have_room() {
+        Some(options)
+    } else {
+        None
+    }
+}

@@ -1,0 +1,188 @@
+//! The one table of options and the one of commands.
+
+use crate::rows::{CommandRow, FileRow, OptionRow, Role, Values};
+
+/// How many threads there are.
+pub(crate) const THREADS: OptionRow = OptionRow {
+    name: "threads",
+    values: Values::Number { least: 1, most: 16 },
+    default: Some(1),
+};
+
+/// How many instructions a thread makes at the most.
+pub(crate) const FUEL: OptionRow = OptionRow {
+    name: "fuel",
+    values: Values::Number {
+        least: 0,
+        most: 1_000_000_000,
+    },
+    default: Some(10_000_000),
+};
+
+/// How many passings a thread makes at the most.
+pub(crate) const PASSINGS: OptionRow = OptionRow {
+    name: "passings",
+    values: Values::Number {
+        least: 0,
+        most: 1_048_576,
+    },
+    default: Some(1_048_576),
+};
+
+/// How many bytes a buffer of events has.
+pub(crate) const BUFFER_SIZE: OptionRow = OptionRow {
+    name: "buffer-size",
+    values: Values::Number {
+        least: 72,
+        most: 1_048_576,
+    },
+    default: Some(16_384),
+};
+
+/// How many buffers there are.
+pub(crate) const BUFFER_MAX: OptionRow = OptionRow {
+    name: "buffer-max",
+    values: Values::Number {
+        least: 1,
+        most: 1_024,
+    },
+    default: Some(100),
+};
+
+/// How many cycles the counter goes on with each instruction.
+pub(crate) const TICK: OptionRow = OptionRow {
+    name: "tick",
+    values: Values::Number {
+        least: 0,
+        most: 18_446_744_073_709_551_615,
+    },
+    default: Some(1),
+};
+
+/// Where the counter begins, in cycles.
+pub(crate) const TSC: OptionRow = OptionRow {
+    name: "tsc",
+    values: Values::Number {
+        least: 0,
+        most: 18_446_744_073_709_551_615,
+    },
+    default: Some(0),
+};
+
+/// How many cycles the counter makes in a second; 0 says nothing.
+pub(crate) const FREQUENCY: OptionRow = OptionRow {
+    name: "frequency",
+    values: Values::Number {
+        least: 0,
+        most: 18_446_744_073_709_551_615,
+    },
+    default: Some(0),
+};
+
+/// How many CPUs a thread moves between.
+pub(crate) const CPUS: OptionRow = OptionRow {
+    name: "cpus",
+    values: Values::Number {
+        least: 1,
+        most: 65_535,
+    },
+    default: Some(1),
+};
+
+/// How many passings a thread makes before it moves to the next CPU.
+pub(crate) const MIGRATE: OptionRow = OptionRow {
+    name: "migrate",
+    values: Values::Number {
+        least: 1,
+        most: 1_048_576,
+    },
+    default: Some(1_048_576),
+};
+
+/// The number of the process.
+pub(crate) const PID: OptionRow = OptionRow {
+    name: "pid",
+    values: Values::Number {
+        least: 0,
+        most: 2_147_483_647,
+    },
+    default: Some(1),
+};
+
+/// The wall time, in seconds. Where it isn't given it is the time that is handed in.
+pub(crate) const WALL: OptionRow = OptionRow {
+    name: "wall",
+    values: Values::Number {
+        least: 0,
+        most: 18_446_744_073_709_551_615,
+    },
+    default: None,
+};
+
+/// How many instruction lines a function has at the least that gets sleds.
+pub(crate) const THRESHOLD: OptionRow = OptionRow {
+    name: "threshold",
+    values: Values::Number {
+        least: 0,
+        most: 4_294_967_295,
+    },
+    default: Some(1),
+};
+
+/// An image that is read.
+const IMAGE: FileRow = FileRow {
+    label: "image",
+    role: Role::Input,
+};
+
+/// An image that is written.
+const MADE_IMAGE: FileRow = FileRow {
+    label: "image",
+    role: Role::Output,
+};
+
+/// An assembler text.
+const TEXT: FileRow = FileRow {
+    label: "text",
+    role: Role::Input,
+};
+
+/// A script of the patcher.
+const SCRIPT: FileRow = FileRow {
+    label: "script",
+    role: Role::Input,
+};
+
+/// A schedule of the turns.
+const SCHEDULE: FileRow = FileRow {
+    label: "schedule",
+    role: Role::Input,
+};
+
+/// `asm TEXT IMAGE`: assembles an image.
+pub(crate) const ASM: CommandRow = CommandRow {
+    word: "asm",
+    files: &[TEXT, MADE_IMAGE],
+    options: &[THRESHOLD],
+};
+
+/// `plain IMAGE`: runs an image without sleds on each thread.
+pub(crate) const PLAIN: CommandRow = CommandRow {
+    word: "plain",
+    files: &[IMAGE],
+    options: &[THREADS, FUEL, PASSINGS],
+};
+
+/// `extract IMAGE`: prints the sled map of an image.
+pub(crate) const EXTRACT: CommandRow = CommandRow {
+    word: "extract",
+    files: &[IMAGE],
+    options: &[],
+};
+
+/// `sim IMAGE SCRIPT SCHEDULE`: replays a schedule over an image and a script.
+pub(crate) const SIM: CommandRow = CommandRow {
+    word: "sim",
+    files: &[IMAGE, SCRIPT, SCHEDULE],
+    options: &[THREADS, FUEL, PASSINGS],
+};

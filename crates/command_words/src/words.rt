@@ -1,0 +1,190 @@
+//! The command that a command line says.
+ghost use Rattle.std.specs.Prelude.{◌≡◌, IfOk, IfSome, option_and_then, option_map};
+ghost use Rattle.command_words.specs.Items.{items_of, texts};
+ghost use Rattle.command_words.specs.Lines.{line_of};
+ghost use Rattle.command_words.specs.Ranges.{HasRanges};
+ghost use Rattle.command_words.specs.Tables.{asm_row, extract_row, plain_row, sim_row};
+ghost use Rattle.command_words.specs.Views.{command_view, line_view};
+ghost use Rattle.command_words.specs.Words.{asm_in, extract_in, plain_in, reading, sim_in};
+
+use crate::cutting::cut_line;
+use crate::line::Line;
+use crate::run_options::{Bounds, RunOptions, bounds_in, run_options_in};
+use crate::tables::{ASM, EXTRACT, PLAIN, SIM, THRESHOLD};
+use std::alloc::{AllocError, Global};
+use xray_io::Wall;
+
+/// What the program is asked to do, with the names of the files for it and its options.
+#[derive(Clone, Copy, Debug)]
+pub enum Command<'a> {
+    /// Replays a schedule over an image and a script.
+    Sim {
+        /// The image file.
+        image: &'a str,
+        /// The script of the patcher.
+        script: &'a str,
+        /// The turns of the threads and the patcher.
+        schedule: &'a str,
+        /// What the replay is made with.
+        options: RunOptions,
+    },
+    /// Runs an image without sleds on each thread.
+    Plain {
+        /// The image file.
+        image: &'a str,
+        /// What bounds the threads.
+        bounds: Bounds,
+    },
+    /// Prints the sled map of an image.
+    Extract {
+        /// The image file.
+        image: &'a str,
+    },
+    /// Assembles an image.
+    Asm {
+        /// The assembler text.
+        text: &'a str,
+        /// The image file, which is the output.
+        image: &'a str,
+        /// How many instruction lines a function has at the least that gets sleds.
+        threshold: u32,
+    },
+}
+
+/// The command that words say at a wall time; None where they say none. The words are those after
+/// the program's own name. A run begins at the wall time, unless the words say another.
+///
+/// # Errors
+/// `AllocError` where an allocation is refused; nothing else is an error.
+pub fn read_words<'a>(
+    alloc: Global,
+    wall: Wall,
+    words: &'a [String],
+) -> Result<Option<Command<'a>>, AllocError>
+    ensures reads { IfOk result (λ said. option_map command_view said ≡ reading wall (texts words.entry.now)) }
+    ensures ranges { IfOk result (λ said. IfSome (option_map command_view said) HasRanges) }
+{
+    let Some((word, rest)) = words.split_first() else {
+        return Ok(None);
+    };
+    let word = word.as_str();
+    if word == PLAIN.word {
+        read_plain(alloc, rest)
+    } else if word == EXTRACT.word {
+        read_extract(alloc, rest)
+    } else if word == SIM.word {
+        read_sim(alloc, wall, rest)
+    } else if word == ASM.word {
+        read_asm(alloc, rest)
+    } else {
+        Ok(None)
+    }
+}
+
+/// `plain IMAGE`.
+fn read_plain<'a>(alloc: Global, words: &'a [String]) -> Result<Option<Command<'a>>, AllocError>
+    ensures reads { IfOk result (λ said. option_map command_view said
+        ≡ option_and_then plain_in (line_of plain_row (items_of (texts words.entry.now)))) }
+    ensures ranges { IfOk result (λ said. IfSome (option_map command_view said) HasRanges) }
+{
+    match cut_line(alloc, &PLAIN, words)? {
+        Some(line) => Ok(plain_in(&line)),
+        None => Ok(None),
+    }
+}
+
+/// `extract IMAGE`.
+fn read_extract<'a>(alloc: Global, words: &'a [String]) -> Result<Option<Command<'a>>, AllocError>
+    ensures reads { IfOk result (λ said. option_map command_view said
+        ≡ option_and_then extract_in (line_of extract_row (items_of (texts words.entry.now)))) }
+    ensures ranges { IfOk result (λ said. IfSome (option_map command_view said) HasRanges) }
+{
+    match cut_line(alloc, &EXTRACT, words)? {
+        Some(line) => Ok(extract_in(&line)),
+        None => Ok(None),
+    }
+}
+
+/// `sim IMAGE SCRIPT SCHEDULE`.
+fn read_sim<'a>(
+    alloc: Global,
+    wall: Wall,
+    words: &'a [String],
+) -> Result<Option<Command<'a>>, AllocError>
+    ensures reads { IfOk result (λ said. option_map command_view said
+        ≡ option_and_then (sim_in wall) (line_of sim_row (items_of (texts words.entry.now)))) }
+    ensures ranges { IfOk result (λ said. IfSome (option_map command_view said) HasRanges) }
+{
+    match cut_line(alloc, &SIM, words)? {
+        Some(line) => Ok(sim_in(wall, &line)),
+        None => Ok(None),
+    }
+}
+
+/// `asm TEXT IMAGE`.
+fn read_asm<'a>(alloc: Global, words: &'a [String]) -> Result<Option<Command<'a>>, AllocError>
+    ensures reads { IfOk result (λ said. option_map command_view said
+        ≡ option_and_then asm_in (line_of asm_row (items_of (texts words.entry.now)))) }
+    ensures ranges { IfOk result (λ said. IfSome (option_map command_view said) HasRanges) }
+{
+    match cut_line(alloc, &ASM, words)? {
+        Some(line) => Ok(asm_in(&line)),
+        None => Ok(None),
+    }
+}
+
+/// The replay that a line of `sim` says.
+fn sim_in<'a>(wall: Wall, line: &Line<'a>) -> Option<Command<'a>>
+    ensures reads { option_map command_view result ≡ sim_in wall (line_view line.now) }
+    ensures ranges { IfSome (option_map command_view result) HasRanges }
+{
+    let [image, script, schedule] = line.files.as_slice() else {
+        return None;
+    };
+    let options = run_options_in(wall, line)?;
+    Some(Command::Sim {
+        image,
+        script,
+        schedule,
+        options,
+    })
+}
+
+/// The run that a line of `plain` says.
+fn plain_in<'a>(line: &Line<'a>) -> Option<Command<'a>>
+    ensures reads { option_map command_view result ≡ plain_in (line_view line.now) }
+    ensures ranges { IfSome (option_map command_view result) HasRanges }
+{
+    let [image] = line.files.as_slice() else {
+        return None;
+    };
+    let bounds = bounds_in(line)?;
+    Some(Command::Plain { image, bounds })
+}
+
+/// The sled map that a line of `extract` says.
+fn extract_in<'a>(line: &Line<'a>) -> Option<Command<'a>>
+    ensures reads { option_map command_view result ≡ extract_in (line_view line.now) }
+    ensures ranges { IfSome (option_map command_view result) HasRanges }
+{
+    let [image] = line.files.as_slice() else {
+        return None;
+    };
+    Some(Command::Extract { image })
+}
+
+/// The image that a line of `asm` says.
+fn asm_in<'a>(line: &Line<'a>) -> Option<Command<'a>>
+    ensures reads { option_map command_view result ≡ asm_in (line_view line.now) }
+    ensures ranges { IfSome (option_map command_view result) HasRanges }
+{
+    let [text, image] = line.files.as_slice() else {
+        return None;
+    };
+    let threshold = THRESHOLD.number_in(line)?;
+    Some(Command::Asm {
+        text,
+        image,
+        threshold: threshold as u32,
+    })
+}

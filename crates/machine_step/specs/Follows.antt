@@ -1,0 +1,28 @@
+-- The loads, and the marks, of a thread that follow a script.
+use Rattle.std.specs.Prelude.{◌≡◌, ◌≢◌, ◌≤◌, ℕ, List, [], ◌∷◌, ◌++◌, length, Option, Some, All}
+use Rattle.xray_image.specs.Program.{Program}
+use Rattle.sled_words.specs.Words.{release_word}
+use Rattle.handler_word.specs.declared.mark.Mark.{Mark}
+use Rattle.machine_step.specs.Loads.{Load, next_load, marks_of}
+
+-- The loads that a thread can have made when a script is at a place, of those from `start` on: none; or those of before, and the script has
+-- gone on; or one more, of the word that the thread wants next, as it stands at the place, which the bound of the passing allows. So the
+-- places of the loads never fall. The code tells the value of a word at a place, and the bound the last place for the loads of a passing.
+pub data Follows (program : Program) (code : ℕ → ℕ → ℕ) (start : ℕ) (bound : ℕ → ℕ) (thread : ℕ) (hold : Option ℕ) (sleds : List ℕ)
+    : List Load → ℕ → Type 0 where
+  none : Follows program code start bound thread hold sleds [] start
+  later : (loads : List Load) (place next : ℕ) → place ≤ next → Follows program code start bound thread hold sleds loads place
+      → Follows program code start bound thread hold sleds loads next
+  loaded : (loads : List Load) (place word : ℕ) → Follows program code start bound thread hold sleds loads place
+      → next_load program thread hold sleds loads ≡ Some word
+      → place ≤ bound (length (marks_of program thread hold sleds loads))
+      → Follows program code start bound thread hold sleds (loads ++ record { word = word; value = code place word } ∷ []) place
+
+-- The marks follow the script up to a place: they are those of loads that follow it, with none from a release word that still held the
+-- thread.
+pub record MarksFollow (program : Program) (code : ℕ → ℕ → ℕ) (start : ℕ) (bound : ℕ → ℕ) (thread : ℕ) (hold : Option ℕ) (sleds : List ℕ)
+    (marks : List Mark) (place : ℕ) : Type 0 where
+  pub loads : List Load
+  pub follow : Follows program code start bound thread hold sleds loads place
+  pub leave : marks ≡ marks_of program thread hold sleds loads
+  pub released : All (λ load. load.word ≡ release_word program thread → load.value ≢ 0) loads

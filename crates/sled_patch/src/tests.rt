@@ -1,0 +1,263 @@
+//! Runs of scripts over the table of an image with one function that outputs an A.
+
+ghost use Rattle.std.specs.Prelude.{◌≡◌, ◌+◌, ◌*◌, ◌<◌, ◌≤◌, [], length, IfOk};
+ghost use Rattle.std.specs.Thread.{IsSync};
+ghost use Rattle.sled_words.specs.Words.{word_count};
+ghost use Rattle.sled_rule.specs.Plans.{code_words};
+ghost use Rattle.sled_rule.specs.Seats.{patch_view, script_of, work_view, AllMet, IsPatcherOf, IsWorkerOf};
+ghost use Rattle.sled_rule.specs.Views.{ended_count, first_patch};
+
+use crate::{run_prefix, run_script};
+use patch_script::read_script;
+use sled_rule::{CodeTable, PatchSeat, WorkSeat};
+use sled_words::code_bytes;
+use std::sync::Wait;
+use std::test::Fail;
+use std::thread::{Threads, join_mut};
+use xray_image::read_image;
+use xray_io::OpenGate;
+
+/// A function `main` that outputs an A: an entry sled at 0x1000, `mov eax, 0x41`, `out 1, al` and an exit sled at 0x1012.
+const OUTPUTS_AN_A: [u8; 170] = [
+    // magic, version, base 0x1000
+    0x58, 0x52, 0x49, 0x4D, 1, 0, 0, 0, 0x00, 0x10, 0, 0, 0, 0, 0, 0,
+    // 29 bytes of code, 1 function, 2 map entries, entry function 0
+    29, 0, 0, 0, 1, 0, 0, 0, 2, 0, 0, 0, 0, 0, 0, 0,
+    // trampolines 0x201000, 0x201010, 0x201020, 0x201030
+    0x00, 0x10, 0x20, 0, 0, 0, 0, 0, 0x10, 0x10, 0x20, 0, 0, 0, 0, 0, 0x20, 0x10, 0x20, 0, 0, 0, 0,
+    0, 0x30, 0x10, 0x20, 0, 0, 0, 0, 0,
+    // the code
+    0xEB, 0x09, 0x66, 0x0F, 0x1F, 0x84, 0x00, 0x00, 0x02, 0x00, 0x00, 0xB8, 0x41, 0, 0, 0, 0xE6,
+    0x01, 0xC3, 0x2E, 0x66, 0x0F, 0x1F, 0x84, 0x00, 0x00, 0x02, 0x00, 0x00,
+    // the function
+    0x00, 0x10, 0, 0, 0, 0, 0, 0, 4, 0x6D, 0x61, 0x69, 0x6E,
+    // the map: an entry sled at 0x1000 and an exit sled at 0x1012, both always instrumented, version 0
+    0x00, 0x10, 0, 0, 0, 0, 0, 0, 0x00, 0x10, 0, 0, 0, 0, 0, 0, 0, 1, 0, 0, 0, 0, 0, 0, 0, 0, 0, 0,
+    0, 0, 0, 0, 0x12, 0x10, 0, 0, 0, 0, 0, 0, 0x00, 0x10, 0, 0, 0, 0, 0, 0, 1, 1, 0, 0, 0, 0, 0, 0,
+    0, 0, 0, 0, 0, 0, 0, 0,
+];
+
+#[test]
+fn unpatching_leaves_the_head_of_a_return_and_what_was_patched_behind_it(
+    rt: HostRuntime,
+) -> Result<(), Fail> {
+    let image = read_image(rt.alloc(), &OUTPUTS_AN_A)?;
+    let script = read_script(rt.alloc(), b"patch\nunpatch\ngo\n", &image, 1)?;
+    let (table, mut seat) = CodeTable::new(rt.alloc(), &image, script, 1)?;
+    assert!(rt; table.word_count() == 12);
+    run_prefix(&table, &mut seat);
+    assert!(rt; seat.place() == 10);
+    let mut last = [0; 12];
+    table.close(seat, &mut last);
+    let code = code_bytes(rt.alloc(), &image, &last)?;
+    let bytes = [
+        0xEB, 0x09, 1, 0, 0, 0, 0xE8, 0xF5, 0xFF, 0x1F, 0, 0xB8, 0x41, 0, 0, 0, 0xE6, 0x01, 0xC3,
+        0xBA, 1, 0, 0, 0, 0xE9, 0xF3, 0xFF, 0x1F, 0,
+    ];
+    assert_eq!(rt; code.as_slice(), bytes.as_slice());
+    Ok(())
+}
+
+#[test]
+fn unpatching_a_sled_that_was_never_patched_leaves_the_code_as_it_was(
+    rt: HostRuntime,
+) -> Result<(), Fail> {
+    let image = read_image(rt.alloc(), &OUTPUTS_AN_A)?;
+    let script = read_script(rt.alloc(), b"go\nunpatch\n", &image, 1)?;
+    let (table, mut seat) = CodeTable::new(rt.alloc(), &image, script, 1)?;
+    assert!(rt; table.word_count() == 12);
+    run_script(&rt, &table, &mut seat, &OpenGate);
+    assert!(rt; seat.place() == 2);
+    let mut last = [0; 12];
+    table.close(seat, &mut last);
+    let code = code_bytes(rt.alloc(), &image, &last)?;
+    assert_eq!(rt; code.as_slice(), image.code());
+    Ok(())
+}
+
+/// Stores that wait for both threads on the way.
+const LIVE: &[u8] = b"go\nawait 1 10\npatch\nawait 2 20\nunpatch\nawait 1 30\npatch\nawait 2 40\n";
+
+/// The words of both sleds before any store.
+const FIRST: [u64; 8] = [0x09EB, 0x841F_0F66, 0, 512, 0x2EC3, 0x841F_0F66, 0, 512];
+
+/// The micro steps of the script, each with the word and the value that it stores; awaits store nothing.
+const STEPS: [Option<(u32, u64)>; 22] = [
+    None,
+    Some((1, 1)),
+    Some((2, 0xE8)),
+    Some((3, 0x1F_FFF5)),
+    Some((0, 0xBA41)),
+    Some((5, 1)),
+    Some((6, 0xE9)),
+    Some((7, 0x1F_FFF3)),
+    Some((4, 0xBA41)),
+    None,
+    Some((0, 0x09EB)),
+    Some((4, 0xBAC3)),
+    None,
+    Some((1, 1)),
+    Some((2, 0xE8)),
+    Some((3, 0x1F_FFF5)),
+    Some((0, 0xBA41)),
+    Some((5, 1)),
+    Some((6, 0xE9)),
+    Some((7, 0x1F_FFF3)),
+    Some((4, 0xBA41)),
+    None,
+];
+
+/// The value of a word behind the first micro steps.
+fn value_at(place: usize, word: u32) -> u64 {
+    let mut value = FIRST.get(word as usize).copied().unwrap_or(0);
+    for step in STEPS.iter().take(place) {
+        if let Some((stored, other)) = step {
+            if *stored == word {
+                value = *other;
+            }
+        }
+    }
+    value
+}
+
+/// The first place from one on at which a word has a value.
+fn place_of(word: u32, value: u64, from: usize) -> Option<usize> {
+    (from..23).find(|place| value_at(*place, word) == value)
+}
+
+/// Fetches the words of both sleds again and again, and ends. The answer is whether each value stood in its word, at
+/// places that never fall.
+fn walk(table: &CodeTable, seat: &mut WorkSeat) -> bool
+    requires own { IsWorkerOf table.now seat.old }
+    requires words { 8 ≤ code_words (script_of table.now) }
+    requires fresh { (work_view seat.old).count ≡ 0 }
+    ensures own { IsWorkerOf table.now seat.new }
+    ensures ended { (work_view seat.new).count ≡ ended_count }
+    ensures thread { (work_view seat.new).thread ≡ (work_view seat.old).thread }
+{
+    let mut from = 0;
+    let mut lawful = true;
+    'rounds: for round in 0..5000u32 {
+        let word = round % 8;
+        let value = table.fetch(seat, word);
+        match place_of(word, value, from) {
+            Some(place) => from = place,
+            None => lawful = false,
+        }
+        table.passed(seat);
+    }
+    table.ended(seat);
+    lawful
+}
+
+/// What both threads found.
+#[derive(Drop)]
+struct Found {
+    first: bool,
+    second: bool,
+}
+
+/// Lets two threads fetch beside each other.
+fn walk_both<R: Threads + Sync>(
+    rt: &R,
+    table: &CodeTable,
+    first: &mut WorkSeat,
+    second: &mut WorkSeat,
+) -> Found
+    requires own { IsWorkerOf table.now first.old × IsWorkerOf table.now second.old }
+    requires words { 8 ≤ code_words (script_of table.now) }
+    requires fresh { ((work_view first.old).count ≡ 0) × ((work_view second.old).count ≡ 0) }
+    ensures own { IsWorkerOf table.now first.new × IsWorkerOf table.now second.new }
+    ensures ended { ((work_view first.new).count ≡ ended_count) × ((work_view second.new).count ≡ ended_count) }
+    ensures first { (work_view first.new).thread ≡ (work_view first.old).thread }
+    ensures second { (work_view second.new).thread ≡ (work_view second.old).thread }
+{
+    let (first, second) = join_mut(
+        rt,
+        &mut || walk(table, first),
+        &mut || { walk(table, second) },
+    );
+    Found { first, second }
+}
+
+/// Lets two threads fetch while a third runs the script.
+fn run_beside<R: Threads + Wait + Sync>(
+    rt: &R,
+    table: &CodeTable,
+    seat: &mut PatchSeat,
+    first: &mut WorkSeat,
+    second: &mut WorkSeat,
+) -> Found
+    requires own { IsPatcherOf table.now seat.old }
+    requires workers { IsWorkerOf table.now first.old × IsWorkerOf table.now second.old }
+    requires words { 8 ≤ code_words (script_of table.now) }
+    requires fresh { ((work_view first.old).count ≡ 0) × ((work_view second.old).count ≡ 0) }
+    ensures own { IsPatcherOf table.now seat.new }
+    ensures given { (patch_view seat.new).given ≡ (patch_view seat.old).given }
+    ensures workers { IsWorkerOf table.now first.new × IsWorkerOf table.now second.new }
+    ensures ended { ((work_view first.new).count ≡ ended_count) × ((work_view second.new).count ≡ ended_count) }
+    ensures first { (work_view first.new).thread ≡ (work_view first.old).thread }
+    ensures second { (work_view second.new).thread ≡ (work_view second.old).thread }
+{
+    let (_, found) = join_mut(
+        rt,
+        &mut || run_script(rt, table, seat, &OpenGate),
+        &mut || walk_both(rt, table, first, second),
+    );
+    found
+}
+
+/// Ends both threads and the table.
+fn finish(
+    table: CodeTable,
+    mut seat: PatchSeat,
+    first: WorkSeat,
+    second: WorkSeat,
+    into: &mut [u64],
+)
+    requires own { IsPatcherOf table seat }
+    requires workers { IsWorkerOf table first × IsWorkerOf table second }
+    requires two { (patch_view seat).given ≡ 2 }
+    requires threads { ((work_view first).thread ≡ 1) × ((work_view second).thread ≡ 2) }
+    requires ended { ((work_view first).count ≡ ended_count) × ((work_view second).count ≡ ended_count) }
+    requires room { length into.old ≡ word_count (script_of table).program (script_of table).threads }
+{
+    table.meet(&mut seat, first);
+    table.meet(&mut seat, second);
+    table.close(seat, into);
+}
+
+#[test]
+fn two_threads_fetch_lawful_words_while_a_third_patches(rt: HostRuntime) -> Result<(), Fail> {
+    let image = read_image(rt.alloc(), &OUTPUTS_AN_A)?;
+    let script = read_script(rt.alloc(), LIVE, &image, 2)?;
+    let (table, mut seat) = CodeTable::new(rt.alloc(), &image, script, 2)?;
+    assert!(rt; table.word_count() == 14);
+    assert!(rt; table.code_word_count() == 12);
+    assert!(rt; table.is_at_start(&seat));
+    let mut first = table.split(&mut seat);
+    let mut second = table.split(&mut seat);
+    let found = run_beside(&rt, &table, &mut seat, &mut first, &mut second);
+    assert!(rt; found.first && found.second);
+    assert!(rt; seat.place() == 22);
+    let mut last = [0; 14];
+    finish(table, seat, first, second, &mut last);
+    let words = [
+        0xBA41,
+        1,
+        0xE8,
+        0x1F_FFF5,
+        0xBA41,
+        1,
+        0xE9,
+        0x1F_FFF3,
+        0,
+        0,
+        0,
+        0,
+        u64::MAX,
+        u64::MAX,
+    ];
+    assert_eq!(rt; last.as_slice(), words.as_slice());
+    Ok(())
+}

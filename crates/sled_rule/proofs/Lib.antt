@@ -1,0 +1,10 @@
+pub mod Laws
+pub mod Rows
+pub mod Keeps
+pub mod Working
+pub mod Patching
+pub mod Comings
+pub mod Starting
+pub mod Staying
+pub mod Ending
+pub mod LoadsOf

@@ -1,0 +1,34 @@
+use Rattle.std.proofs.Common.{◌≡◌, ◌≤◌, ◌+◌, ◌*◌, sym, ap, ◌∙◌, subst, rules, arith}
+use Rattle.patch_script.specs.declared.micro.Micro.TheVariants.{Await}
+use Rattle.patch_script.specs.Plans.{Plan}
+use Rattle.sled_rule.specs.Plans.{micro_in}
+use Rattle.sled_rule.specs.Rule.{progress_slot}
+use Rattle.sled_rule.specs.Steps.{patch_of}
+use Rattle.sled_rule.proofs.Laws.{code_next}
+use Rattle.sled_rule.proofs.Patching.{looks}
+use Rattle.sled_rule.proofs.table.CodeTable.load_progress.Goals as goal
+
+pub load-requires : goal.load-requires
+load-requires c =
+    let table = c.args.self.now in let p = patch_of c.args.seat.now.me.0 in
+    let sized = table.sized in let counted = table.counted in let last = c.requires.thread in
+    let word : table.code_len + 8 * c.args.thread ≡ progress_slot table.script c.args.thread = omega arith in (
+      search rules,
+      omega arith,
+      looks _ (code_next c.stores_give_the_code.ensures.word _) _ _ _ _ c.args.thread c.args.count p c.requires.is
+          (subst (λ (z : Plan). micro_in z p.place ≡ Await c.args.thread c.args.count) (sym table.key) c.requires.step)
+          (subst (λ (z : Plan). c.args.thread ≤ z.threads) (sym table.key) last)
+          (word ∙ ap (λ (z : Plan). progress_slot z c.args.thread) (sym table.key)),
+    )
+
+pub returns-clause-grows : goal.returns-clause-grows
+returns-clause-grows c =
+    let p = patch_of c.args.seat.now.me.0 in
+    (c.load.ensures.2.0 c.args.thread c.args.count
+    (subst (λ (z : Plan). micro_in z p.place ≡ Await c.args.thread c.args.count) (sym c.requires.script) c.requires.step)).0
+
+pub returns-clause-view : goal.returns-clause-view
+returns-clause-view c =
+    let p = patch_of c.args.seat.now.me.0 in
+    (c.load.ensures.2.0 c.args.thread c.args.count
+    (subst (λ (z : Plan). micro_in z p.place ≡ Await c.args.thread c.args.count) (sym c.requires.script) c.requires.step)).1

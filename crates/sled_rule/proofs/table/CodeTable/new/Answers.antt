@@ -1,0 +1,25 @@
+use Rattle.std.proofs.Common.{◌∙◌, arith}
+use Rattle.sled_rule.proofs.Laws.{code_first, total_is}
+use Rattle.sled_rule.proofs.Starting.{count_is, opening_count, starts, for_the_script}
+use Rattle.sled_rule.proofs.table.CodeTable.new.Goals as goal
+
+pub of_words-requires : goal.of_words-requires
+of_words-requires c =
+    let script = c.args.script in
+    starts script c.deref.result.now
+    (c.deref.ensures.value ∙ (c.in_ok-words.ensures ∙ for_the_script script c.args.image.now c.args.threads c.requires.image c.requires.threads))
+    (code_first c.stores_give_the_code.ensures.first script)
+
+pub invariant_of-table-clause-counted : goal.invariant_of-table-clause-counted
+invariant_of-table-clause-counted c =
+    count_is c.args.script c.args.image.now c.args.threads c.sled_count.result c.requires.image c.requires.threads c.sled_count.ensures.count
+
+pub invariant_of-table-clause-few_steps : goal.invariant_of-table-clause-few_steps
+invariant_of-table-clause-few_steps c =
+    let total = total_is c.args.script c.total.result c.total.ensures.total in let few = c.total.ensures.few in omega arith
+
+pub invariant_of-table-clause-sized : goal.invariant_of-table-clause-sized
+invariant_of-table-clause-sized c =
+    let script = c.args.script in
+    let words = c.deref.ensures.value ∙ (c.in_ok-words.ensures ∙ for_the_script script c.args.image.now c.args.threads c.requires.image c.requires.threads) in
+    c.in_ok-table.ensures.0 ∙ opening_count script c.deref.result.now words

@@ -1,0 +1,6 @@
+pub mod Plans
+pub mod Views
+pub mod Rule
+pub mod Steps
+pub mod Following
+pub mod Seats

@@ -1,0 +1,40 @@
+-- A script as the table's rule speaks of it: what stands where, and when.
+use Rattle.std.specs.Prelude.{◌≡◌, ℕ}
+use Rattle.sled_words.specs.Words.{code_word_count}
+use Rattle.patch_script.specs.declared.micro.Micro.{Micro}
+use Rattle.patch_script.specs.declared.micro.Micro.TheVariants.{Store, Await}
+use Rattle.patch_script.specs.Bounds.{bound_of}
+use Rattle.patch_script.specs.CodeAt.{code_at}
+use Rattle.patch_script.specs.Micros.{start_of, total_of, micro_at}
+use Rattle.patch_script.specs.Plans.{Plan}
+use Rattle.patch_script.specs.Refusals.{commands_of}
+
+-- the value of a word at a place of the script
+unfoldable pub code_in : Plan → ℕ → ℕ → ℕ
+code_in plan place word = code_at plan.program (commands_of plan.lines) place word
+
+-- the last place for the loads of a thread's passing
+unfoldable pub bound_in : Plan → ℕ → ℕ → ℕ
+bound_in plan thread passing = bound_of plan.program (commands_of plan.lines) thread passing
+
+-- the place where threads start, and the place behind all micro steps
+unfoldable pub start_in : Plan → ℕ
+start_in plan = start_of plan.program (commands_of plan.lines)
+
+unfoldable pub total_in : Plan → ℕ
+total_in plan = total_of plan.program (commands_of plan.lines)
+
+-- the micro step at a place
+unfoldable pub micro_in : Plan → ℕ → Micro
+micro_in plan place = micro_at plan.program (commands_of plan.lines) place
+
+-- how many words there are before the progress words
+unfoldable pub code_words : Plan → ℕ
+code_words plan = code_word_count plan.program plan.threads
+
+-- the micro step at a place is a store, or an await
+abbrev pub IsStoreAt : Plan → ℕ → Type 0
+IsStoreAt plan place = (word : ℕ) × (value : ℕ) × (micro_in plan place ≡ Store word value)
+
+abbrev pub IsAwaitAt : Plan → ℕ → Type 0
+IsAwaitAt plan place = (thread : ℕ) × (count : ℕ) × (micro_in plan place ≡ Await thread count)

@@ -1,0 +1,75 @@
+//! How a table ends.
+
+ghost use Rattle.std.specs.Prelude.{◌≡◌, ℕ, ◌+◌, ◌-◌, ◌*◌, ◌<◌, ◌≤◌, length, slice_index};
+ghost use Rattle.std.specs.Slots.{slots_items, slots_len, IsFull};
+ghost use mathlib.Core.Option.{some};
+ghost use lib.ListN.{get_elem?};
+ghost use Rattle.sled_words.specs.Words.{progress_word, word_count};
+ghost use Rattle.sled_rule.specs.Plans.{code_in, code_words};
+ghost use Rattle.sled_rule.specs.Seats.{patch_view, script_of, AllMet, IsPatcherOf};
+ghost use Rattle.sled_rule.specs.Views.{ended_count};
+
+use crate::seats::PatchSeat;
+use crate::table::{CodeTable, LINE};
+use atomic_table::Closed;
+use std::alloc::Global;
+
+impl CodeTable {
+    /// How many words there are by number: those before the progress words, and one for each thread.
+    pub fn word_count(&self) -> u32
+        ensures { result ≡ word_count (script_of self.now).program (script_of self.now).threads }
+    {
+        self.code_len as u32 + self.threads
+    }
+
+    /// Ends the table, and writes its last words into a slice, each at its number: those of the script at the place, and
+    /// the progress words of the threads. All seats that were given were met.
+    pub fn close(self, seat: PatchSeat, into: &mut [u64])
+        requires own { IsPatcherOf self seat }
+        requires met { AllMet (patch_view seat) }
+        requires room { length into.old ≡ word_count (script_of self).program (script_of self).threads }
+        ensures code { (word : ℕ) → word < code_words (script_of self)
+            → slice_index into.new word ≡ code_in (script_of self) (patch_view seat).place word }
+        ensures ended { (thread : ℕ) → 0 < thread → thread ≤ (patch_view seat).given
+            → slice_index into.new (progress_word (script_of self).program (script_of self).threads thread) ≡ ended_count }
+        // A thread that was given no seat has made no passing.
+        ensures idle { (thread : ℕ) → (patch_view seat).given < thread → thread ≤ (script_of self).threads
+            → slice_index into.new (progress_word (script_of self).program (script_of self).threads thread) ≡ 0 }
+    {
+        let CodeTable {
+            script: _,
+            threads: _,
+            code_len,
+            table,
+        } = self;
+        let PatchSeat {
+            place: _,
+            given: _,
+            seat: last,
+        } = seat;
+        let closed = table.close_with(last);
+        copy_words(&closed, code_len, into);
+        closed.free();
+    }
+}
+
+/// Copies the words to their numbers: the first ones, and then those that stand a line apart.
+fn copy_words(closed: &Closed<(), Global>, code_len: usize, into: &mut [u64])
+    requires full { IsFull closed.now.words }
+    requires few { code_len ≤ length into.old }
+    requires room { slots_len closed.now.words ≡ code_len + 8 * (length into.old - code_len + 1) }
+    requires small { length into.old ≤ 16434 }
+    ensures code { (word : ℕ) → word < code_len
+        → get_elem? (slots_items closed.now.words) word ≡ some (slice_index into.new word) }
+    ensures progress { (thread : ℕ) → 0 < thread → code_len + thread ≤ length into.old
+        → get_elem? (slots_items closed.now.words) (code_len + 8 * thread)
+        ≡ some (slice_index into.new (code_len + thread - 1)) }
+{
+    for word in 0..into.len() {
+        into[word] = if word < code_len {
+            closed.word(word)
+        } else {
+            closed.word(code_len + LINE * (word - code_len + 1))
+        };
+    }
+}

@@ -1,0 +1,81 @@
+//! How a table begins.
+
+ghost use Rattle.std.specs.Prelude.{◌≡◌, ◌≤◌, ◌+◌, ◌*◌, ◌++◌, replicate, IfOk};
+ghost use Rattle.sled_words.specs.Parts.{initial_words as words_before};
+ghost use Rattle.sled_words.specs.Words.{code_word_count};
+ghost use Rattle.sled_rule.specs.Seats.{patch_view, script_of, IsPatcherOf};
+ghost use Rattle.sled_rule.specs.Views.{first_patch};
+
+use crate::seats::PatchSeat;
+use crate::table::{CodeTable, LINE};
+use atomic_table::Table;
+use patch_script::{Script, stores_give_the_code};
+use sled_words::{MAX_THREADS, initial_words};
+use std::alloc::Global;
+use xray_image::Image;
+use xray_io::NoMemory;
+
+impl CodeTable {
+    /// A table with the words of an image and of so many threads, before the first micro step of a script that was read
+    /// for both; and the patcher's seat.
+    ///
+    /// Takes all memory of the table. `NoMemory` comes where some of it was refused.
+    pub fn new(
+        alloc: Global,
+        image: &Image,
+        script: Script,
+        threads: u32,
+    ) -> Result<(CodeTable, PatchSeat), NoMemory>
+        requires image { script.program ≡ image.now }
+        requires threads { script.threads ≡ threads }
+        requires few { threads ≤ MAX_THREADS }
+        ensures own { IfOk result (λ made. IsPatcherOf made.0 made.1) }
+        ensures script { IfOk result (λ made. script_of made.0 ≡ script) }
+        ensures view { IfOk result (λ made. patch_view made.1 ≡ first_patch script) }
+    {
+        stores_give_the_code();
+        // Says that there are few micro steps.
+        script.total();
+        let code_len = 4 * image.sled_count() as usize + 2 + threads as usize;
+        let words = opening_words(alloc, image, threads, code_len)?;
+        let (table, seat) = Table::of_words(alloc, &words, &script)?;
+        let table = CodeTable {
+            script,
+            threads,
+            code_len,
+            table,
+        };
+        let seat = PatchSeat {
+            place: 0,
+            given: 0,
+            seat,
+        };
+        Ok((table, seat))
+    }
+
+    /// The script that the patcher goes through.
+    pub fn script(&self) -> &Script
+        ensures { result.now ≡ script_of self.now }
+    {
+        &self.script
+    }
+}
+
+/// The words before the script, with progress words that stand apart.
+fn opening_words(
+    alloc: Global,
+    image: &Image,
+    threads: u32,
+    code_len: usize,
+) -> Result<Vec<u64>, NoMemory>
+    requires few { threads ≤ MAX_THREADS }
+    requires words { code_len ≡ code_word_count image.now threads }
+    ensures { IfOk result (λ words. words.items
+        ≡ words_before image.now threads ++ replicate (8 + 7 * threads) 0) }
+{
+    // Says that there are few sleds.
+    image.sled_count();
+    let mut words = initial_words(alloc, image, threads)?;
+    words.resize(code_len + LINE * (threads as usize + 1), 0)?;
+    Ok(words)
+}

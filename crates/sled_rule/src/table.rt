@@ -1,0 +1,35 @@
+//! The table, how it begins, and how it ends.
+
+ghost use Rattle.std.specs.Prelude.{◌≡◌, ◌+◌, ◌*◌, ◌<◌, ◌≤◌};
+ghost use Rattle.sled_rule.specs.Plans.{code_words, total_in};
+ghost use Rattle.sled_rule.specs.Rule.{slot_count};
+
+use crate::law::CodeRule;
+use crate::views::View;
+use atomic_table::Table;
+use patch_script::Script;
+use std::alloc::Global;
+
+/// How many words a progress word takes in the table: a cache line of 64 bytes.
+pub(crate) const LINE: usize = 8;
+
+/// The words of an image's sleds and of the threads that pass them. One patcher stores in them what a script says, while
+/// threads load them.
+///
+/// Every step is one sequentially consistent load or store of one word. None of them waits or takes memory.
+#[derive(Drop)]
+pub struct CodeTable {
+    pub(crate) script: Script,
+    pub(crate) threads: u32,
+    /// How many words there are before the progress words.
+    pub(crate) code_len: usize,
+    pub(crate) table: Table<(), View, Script, CodeRule, Global>,
+    ghost key: { table.shared.key ≡ script },
+    ghost all_threads: { threads ≡ script.threads },
+    ghost few_threads: { threads ≤ 16 },
+    ghost counted: { code_len ≡ code_words script },
+    ghost few_words: { code_len ≤ 16402 },
+    ghost few_steps: { total_in script ≤ 16777216 },
+    ghost no_slots: { table.shared.table_id.slots ≡ 0 },
+    ghost sized: { table.shared.table_id.words ≡ slot_count script },
+}

@@ -1,0 +1,173 @@
+//! The calls of a table one after the other, on an image with one function that outputs an A.
+
+ghost use Rattle.std.specs.Prelude.{◌≡◌, ◌*◌, ◌+◌, length, IfOk};
+ghost use Rattle.sled_words.specs.Words.{word_count};
+ghost use Rattle.sled_rule.specs.Seats.{patch_view, script_of, work_view, AllMet, IsPatcherOf, IsWorkerOf};
+ghost use Rattle.sled_rule.specs.Views.{advanced, ended_count, first_patch};
+
+use crate::{CodeTable, PatchSeat, WorkSeat};
+use patch_script::{Micro, read_script};
+use std::process::Abort;
+use std::test::Fail;
+use xray_image::read_image;
+
+/// A function `main` that outputs an A: an entry sled at 0x1000, `mov eax, 0x41`, `out 1, al` and an exit sled at 0x1012.
+const OUTPUTS_AN_A: [u8; 170] = [
+    // magic, version, base 0x1000
+    0x58, 0x52, 0x49, 0x4D, 1, 0, 0, 0, 0x00, 0x10, 0, 0, 0, 0, 0, 0,
+    // 29 bytes of code, 1 function, 2 map entries, entry function 0
+    29, 0, 0, 0, 1, 0, 0, 0, 2, 0, 0, 0, 0, 0, 0, 0,
+    // trampolines 0x201000, 0x201010, 0x201020, 0x201030
+    0x00, 0x10, 0x20, 0, 0, 0, 0, 0, 0x10, 0x10, 0x20, 0, 0, 0, 0, 0, 0x20, 0x10, 0x20, 0, 0, 0, 0,
+    0, 0x30, 0x10, 0x20, 0, 0, 0, 0, 0,
+    // the code
+    0xEB, 0x09, 0x66, 0x0F, 0x1F, 0x84, 0x00, 0x00, 0x02, 0x00, 0x00, 0xB8, 0x41, 0, 0, 0, 0xE6,
+    0x01, 0xC3, 0x2E, 0x66, 0x0F, 0x1F, 0x84, 0x00, 0x00, 0x02, 0x00, 0x00,
+    // the function
+    0x00, 0x10, 0, 0, 0, 0, 0, 0, 4, 0x6D, 0x61, 0x69, 0x6E,
+    // the map: an entry sled at 0x1000 and an exit sled at 0x1012, both always instrumented, version 0
+    0x00, 0x10, 0, 0, 0, 0, 0, 0, 0x00, 0x10, 0, 0, 0, 0, 0, 0, 0, 1, 0, 0, 0, 0, 0, 0, 0, 0, 0, 0,
+    0, 0, 0, 0, 0x12, 0x10, 0, 0, 0, 0, 0, 0, 0x00, 0x10, 0, 0, 0, 0, 0, 0, 1, 1, 0, 0, 0, 0, 0, 0,
+    0, 0, 0, 0, 0, 0, 0, 0,
+];
+
+/// The patcher at the start of a script for one thread.
+fn begin<R: Abort + AllocGlobal>(rt: &R, text: &[u8]) -> Result<(CodeTable, PatchSeat), Fail>
+    ensures own { IfOk result (λ t. IsPatcherOf t.0 t.1) }
+    ensures first { IfOk result (λ t. patch_view t.1 ≡ first_patch (script_of t.0)) }
+    ensures one { IfOk result (λ t. (script_of t.0).threads ≡ 1) }
+{
+    assert!(rt; text.len() < 64);
+    let image = read_image(rt.alloc(), &OUTPUTS_AN_A)?;
+    let script = read_script(rt.alloc(), text, &image, 1)?;
+    let made = CodeTable::new(rt.alloc(), &image, script, 1)?;
+    Ok(made)
+}
+
+/// Makes a store, which is what the script says next.
+fn store(rt: &impl Abort, table: &CodeTable, seat: &mut PatchSeat)
+    requires { IsPatcherOf table.now seat.old }
+    ensures own { IsPatcherOf table.now seat.new }
+    ensures view { patch_view seat.new ≡ advanced (patch_view seat.old) }
+{
+    match table.next_micro(seat) {
+        Micro::Store { .. } => table.store_next(seat),
+        Micro::Await { .. } | Micro::End => panic!(rt; "no store"),
+    }
+}
+
+/// Looks at an await, which is what the script says next.
+fn look(rt: &impl Abort, table: &CodeTable, seat: &mut PatchSeat) -> bool
+    requires { IsPatcherOf table.now seat.old }
+    ensures own { IsPatcherOf table.now seat.new }
+{
+    match table.next_micro(seat) {
+        Micro::Await { .. } => table.look(seat),
+        Micro::Store { .. } | Micro::End => panic!(rt; "no await"),
+    }
+}
+
+/// Ends the only thread and the table.
+fn finish(table: CodeTable, mut seat: PatchSeat, mut worker: WorkSeat, into: &mut [u64])
+    requires own { IsPatcherOf table seat }
+    requires own_worker { IsWorkerOf table worker }
+    requires one { (patch_view seat).given ≡ 1 }
+    requires thread { (work_view worker).thread ≡ 1 }
+    requires going { (work_view worker).count ≡ 0 }
+    requires room { length into.old ≡ word_count (script_of table).program (script_of table).threads }
+{
+    table.ended(&mut worker);
+    table.meet(&mut seat, worker);
+    table.close(seat, into);
+}
+
+#[test]
+fn a_thread_fetches_what_was_stored(rt: HostRuntime) -> Result<(), Fail> {
+    let (table, mut seat) = begin(&rt, b"go\npatch\n")?;
+    assert!(rt; table.is_at_start(&seat));
+    assert!(rt; table.code_word_count() == 11);
+    let mut worker = table.split(&mut seat);
+    assert!(rt; table.fetch(&mut worker, 0) == 0x09EB);
+    for _ in 0..4 {
+        store(&rt, &table, &mut seat);
+    }
+    assert!(rt; table.fetch(&mut worker, 0) == 0xBA41);
+    assert!(rt; table.fetch(&mut worker, 1) == 1);
+    assert!(rt; table.fetch(&mut worker, 4) == 0x2EC3);
+    for _ in 0..4 {
+        store(&rt, &table, &mut seat);
+    }
+    assert!(rt; table.fetch(&mut worker, 4) == 0xBA41);
+    assert!(rt; seat.place() == 8);
+    Ok(())
+}
+
+#[test]
+fn the_last_words_are_those_of_the_script_and_the_counts(rt: HostRuntime) -> Result<(), Fail> {
+    let (table, mut seat) = begin(&rt, b"go\npatch\n")?;
+    assert!(rt; table.is_at_start(&seat));
+    assert!(rt; table.word_count() == 12);
+    let worker = table.split(&mut seat);
+    for _ in 0..8 {
+        store(&rt, &table, &mut seat);
+    }
+    let mut last = [0; 12];
+    finish(table, seat, worker, &mut last);
+    let words = [
+        0xBA41,
+        1,
+        0xE8,
+        0x1F_FFF5,
+        0xBA41,
+        1,
+        0xE9,
+        0x1F_FFF3,
+        0,
+        0,
+        0,
+        u64::MAX,
+    ];
+    assert_eq!(rt; last.as_slice(), words.as_slice());
+    Ok(())
+}
+
+#[test]
+fn an_await_is_passed_once_the_thread_has_made_its_passings(rt: HostRuntime) -> Result<(), Fail> {
+    let (table, mut seat) = begin(&rt, b"go\nawait 1 1\npatch\n")?;
+    assert!(rt; table.is_at_start(&seat));
+    let mut worker = table.split(&mut seat);
+    assert!(rt; !look(&rt, &table, &mut seat));
+    assert!(rt; seat.place() == 0);
+    table.passed(&mut worker);
+    assert!(rt; look(&rt, &table, &mut seat));
+    assert!(rt; seat.place() == 1);
+    Ok(())
+}
+
+#[test]
+fn a_thread_that_hears_a_note_fetches_nothing_older(rt: HostRuntime) -> Result<(), Fail> {
+    let (table, mut seat) = begin(&rt, b"go\npatch\n")?;
+    assert!(rt; table.is_at_start(&seat));
+    assert!(rt; table.code_word_count() == 11);
+    let mut worker = table.split(&mut seat);
+    for _ in 0..4 {
+        store(&rt, &table, &mut seat);
+    }
+    let note = table.note(&mut seat);
+    table.hear(&mut worker, note);
+    assert!(rt; table.fetch(&mut worker, 0) == 0xBA41);
+    Ok(())
+}
+
+#[test]
+fn a_patcher_that_heeds_a_tally_passes_its_await(rt: HostRuntime) -> Result<(), Fail> {
+    let (table, mut seat) = begin(&rt, b"go\nawait 1 1\n")?;
+    assert!(rt; table.is_at_start(&seat));
+    let mut worker = table.split(&mut seat);
+    table.passed(&mut worker);
+    let tally = table.tally(&mut worker);
+    table.heed(&mut seat, tally);
+    assert!(rt; look(&rt, &table, &mut seat));
+    assert!(rt; seat.place() == 1);
+    Ok(())
+}

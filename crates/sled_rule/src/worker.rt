@@ -1,0 +1,96 @@
+//! What a thread does with its seat.
+
+ghost use Rattle.std.specs.Prelude.{◌≡◌, ◌+◌, ◌<◌, ◌≤◌, ◌^◌};
+ghost use Rattle.sled_rule.specs.Plans.{code_words};
+ghost use Rattle.sled_rule.specs.Seats.{work_view, note_view, tally_view, script_of, IsWorkerOf, IsNoteOf, IsTallyOf};
+ghost use Rattle.sled_rule.specs.Steps.{IsFetched};
+ghost use Rattle.sled_rule.specs.Views.{counting, ended_count, hearing, tally_at};
+
+use crate::plays::{Count, Fetch, Hear, WriteTally};
+use crate::seats::{Note, Tally, WorkSeat};
+use crate::table::{CodeTable, LINE};
+use patch_script::awaits_bound_passings;
+
+impl CodeTable {
+    /// How many words there are before the progress words: the numbers that may be fetched are those below.
+    #[inline]
+    pub fn code_word_count(&self) -> u32
+        ensures { result ≡ code_words (script_of self.now) }
+    {
+        self.code_len as u32
+    }
+
+    /// Loads a word: its value at a place of the script that isn't before what the seat has seen, which becomes that place.
+    /// The word is none of the progress words.
+    #[inline]
+    pub fn fetch(&self, seat: &mut WorkSeat, word: u32) -> u64
+        requires own { IsWorkerOf self.now seat.old }
+        requires word { word < code_words (script_of self.now) }
+        ensures own { IsWorkerOf self.now seat.new }
+        ensures fetched { IsFetched (work_view seat.old) word result (work_view seat.new) }
+    {
+        awaits_bound_passings();
+        self.table
+            .shared
+            .load::<Fetch>(&mut seat.seat, word as usize)
+    }
+
+    /// The thread has made one more passing: stores the count in its progress word.
+    #[inline]
+    pub fn passed(&self, seat: &mut WorkSeat)
+        requires own { IsWorkerOf self.now seat.old }
+        requires going { (work_view seat.old).count < 2 ^ 32 }
+        ensures own { IsWorkerOf self.now seat.new }
+        ensures view { work_view seat.new ≡ counting (work_view seat.old) ((work_view seat.old).count + 1) }
+    {
+        self.count_to(seat, seat.count + 1);
+    }
+
+    /// The thread has ended: stores 2^64 - 1 in its progress word, so that no await is left to wait for it.
+    pub fn ended(&self, seat: &mut WorkSeat)
+        requires own { IsWorkerOf self.now seat.old }
+        requires going { (work_view seat.old).count < ended_count }
+        ensures own { IsWorkerOf self.now seat.new }
+        ensures view { work_view seat.new ≡ counting (work_view seat.old) ended_count }
+    {
+        self.count_to(seat, u64::MAX);
+    }
+
+    /// Stores a count, which is no less than the one before.
+    #[inline]
+    fn count_to(&self, seat: &mut WorkSeat, count: u64)
+        requires own { IsWorkerOf self.now seat.old }
+        requires more { (work_view seat.old).count ≤ count }
+        ensures own { IsWorkerOf self.now seat.new }
+        ensures view { work_view seat.new ≡ counting (work_view seat.old) count }
+    {
+        let word = self.code_len + LINE * seat.thread as usize;
+        self.table
+            .shared
+            .store::<Count>(&mut seat.seat, word, count);
+        seat.count = count;
+    }
+
+    /// Writes the thread's count down, for the patcher. The seat stays as it is.
+    pub fn tally(&self, seat: &mut WorkSeat) -> Tally
+        requires own { IsWorkerOf self.now seat.old }
+        ensures own { IsWorkerOf self.now seat.new }
+        ensures same { work_view seat.new ≡ work_view seat.old }
+        ensures own_tally { IsTallyOf self.now result }
+        ensures tally { tally_view result ≡ tally_at (work_view seat.old) }
+    {
+        let seat = self.table.shared.split_seat::<WriteTally>(&mut seat.seat);
+        Tally { seat }
+    }
+
+    /// Takes in a note: what the seat has seen becomes the note's place, where that is later.
+    pub fn hear(&self, seat: &mut WorkSeat, note: Note)
+        requires own { IsWorkerOf self.now seat.old }
+        requires own_note { IsNoteOf self.now note }
+        ensures own { IsWorkerOf self.now seat.new }
+        ensures view { work_view seat.new ≡ hearing (work_view seat.old) (note_view note) }
+    {
+        let Note { seat: told } = note;
+        self.table.shared.join_seat::<Hear>(&mut seat.seat, told);
+    }
+}

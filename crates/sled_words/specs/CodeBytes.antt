@@ -1,0 +1,42 @@
+-- The bytes of the code while its sleds change.
+use Rattle.std.specs.Prelude.{◌<◌, ◌*◌, ◌+◌, ◌^◌, ℕ, List, [], ◌∷◌, ◌++◌, length, slice_index, take}
+use Rattle.std.specs.Int.{to_le_bytes, w64}
+use Rattle.std.specs.List.{flat_map}
+use Rattle.subset_decode.specs.Encoding.{spelling}
+use Rattle.xray_image.specs.declared.unit.What.{What}
+use Rattle.xray_image.specs.declared.unit.What.TheVariants as whats
+use Rattle.xray_image.specs.Program.{Program}
+use Rattle.sled_words.specs.declared.part.Part.{Part}
+use Rattle.sled_words.specs.declared.part.Part.TheVariants.{Head, Id, Opcode, Offset}
+use Rattle.sled_words.specs.Words.{word_of}
+
+-- how many bytes of a sled a part has
+abbrev pub part_size : Part → ℕ
+part_size Head = 2
+part_size Id = 4
+part_size Opcode = 1
+part_size Offset = 4
+
+-- the bytes of a part of a sled, as its word has them, in little-endian order
+abbrev pub part_bytes : List ℕ → ℕ → Part → List ℕ
+part_bytes words sled part = take (part_size part) (to_le_bytes w64 (slice_index words (word_of sled part)))
+
+-- the eleven bytes of a sled, as its words have them
+abbrev pub sled_bytes : List ℕ → ℕ → List ℕ
+sled_bytes words sled = part_bytes words sled Head ++ part_bytes words sled Id ++ part_bytes words sled Opcode ++ part_bytes words sled Offset
+
+-- the bytes of a unit: those of a sled as the words have them, all others as in the image
+abbrev pub unit_bytes : List ℕ → What → List ℕ
+unit_bytes words (whats.Plain instr) = spelling instr
+unit_bytes words (whats.Sled sled) = sled_bytes words sled
+unit_bytes words whats.Pad = 0x90 ∷ []
+
+-- the bytes of the code, one unit's behind the other's
+abbrev pub code_bytes : Program → List ℕ → List ℕ
+code_bytes program words = flat_map (λ unit. unit_bytes words unit.what) program.units
+
+-- a unit that is a sled has its words among the words
+abbrev pub HasWords : List ℕ → What → Type 0
+HasWords words (whats.Plain instr) = Unit {0}
+HasWords words (whats.Sled sled) = (sled < 2 ^ 30) × (4 * sled + 3 < length words)
+HasWords words whats.Pad = Unit {0}

@@ -1,0 +1,82 @@
+//! The code's bytes while its sleds change.
+
+ghost use Rattle.std.specs.Prelude.{◌≡◌, ◌<◌, ◌≤◌, ◌+◌, ◌*◌, ◌^◌, ◌++◌, length, IfOk, OnOk};
+ghost use Rattle.sled_words.specs.CodeBytes.{code_bytes as bytes_of_code, part_bytes, part_size, sled_bytes, unit_bytes, HasWords};
+
+use crate::Part;
+use crate::layout::word_of;
+use std::alloc::{AllocError, Global};
+use subset_decode::encode;
+use xray_image::format::ALIGNMENT;
+use xray_image::{Image, What};
+use xray_io::NoMemory;
+
+/// The bytes of the code with each sled's taken from its words: what a processor would execute that met them so. Of
+/// a word the low bytes are taken, as many as its part has: two of a head, four of an id, one of an opcode and four of
+/// an offset, in little-endian order.
+///
+/// It takes memory once; `NoMemory` comes where that was refused. The words are those of the sleds and any others
+/// behind them.
+pub fn code_bytes(alloc: Global, image: &Image, words: &[u64]) -> Result<Vec<u8>, NoMemory>
+    requires { 4 * length image.now.sleds ≤ length words.now }
+    ensures { IfOk result (λ bytes. bytes.items ≡ bytes_of_code image.now words.now) }
+{
+    let mut bytes = Vec::with_capacity(alloc, image.code().len())?;
+    // Says that the sleds which units name are there.
+    image.sled_count();
+    for i in 0..image.unit_count() {
+        push_unit(&mut bytes, image.unit(i).what, words)?;
+    }
+    Ok(bytes)
+}
+
+/// Appends the bytes of a unit.
+fn push_unit(bytes: &mut Vec<u8>, what: What, words: &[u64]) -> Result<(), AllocError>
+    requires { HasWords words.now what }
+    ensures { OnOk result (bytes.new.items ≡ bytes.old.items ++ unit_bytes words.now what) }
+{
+    match what {
+        What::Plain(instr) => {
+            let code = encode(&instr);
+            bytes.extend_from_slice(&code.bytes[..code.len as usize])
+        }
+        What::Sled(sled) => push_sled(bytes, sled, words),
+        What::Pad => bytes.extend_from_slice(&[ALIGNMENT]),
+    }
+}
+
+/// Appends the bytes of a sled, part by part.
+fn push_sled(bytes: &mut Vec<u8>, sled: u32, words: &[u64]) -> Result<(), AllocError>
+    requires few { sled < 2 ^ 30 }
+    requires words { 4 * sled + 3 < length words.now }
+    ensures { OnOk result (bytes.new.items ≡ bytes.old.items ++ sled_bytes words.now sled) }
+{
+    push_part(bytes, sled, Part::Head, words)?;
+    push_part(bytes, sled, Part::Id, words)?;
+    push_part(bytes, sled, Part::Opcode, words)?;
+    push_part(bytes, sled, Part::Offset, words)?;
+    Ok(())
+}
+
+/// Appends the bytes of a part of a sled: the low ones of its word.
+fn push_part(bytes: &mut Vec<u8>, sled: u32, part: Part, words: &[u64]) -> Result<(), AllocError>
+    requires few { sled < 2 ^ 30 }
+    requires words { 4 * sled + 3 < length words.now }
+    ensures { OnOk result (bytes.new.items ≡ bytes.old.items ++ part_bytes words.now sled part) }
+{
+    let value = words[word_of(sled, part) as usize];
+    bytes.extend_from_slice(&value.to_le_bytes()[..size_of(part)])?;
+    Ok(())
+}
+
+/// How many bytes of a sled a part has.
+fn size_of(part: Part) -> usize
+    ensures size { result ≡ part_size part }
+    ensures few { result ≤ 4 }
+{
+    match part {
+        Part::Head => 2,
+        Part::Id | Part::Offset => 4,
+        Part::Opcode => 1,
+    }
+}

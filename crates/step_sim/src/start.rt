@@ -1,0 +1,147 @@
+//! A replay before its first turn: all of its memory is taken here.
+
+ghost use Rattle.std.specs.Prelude.{◌≡◌, ◌≤◌, ◌↔◌, ℕ, All, Err, Some, IfOk, length};
+ghost use Rattle.patch_script.specs.Plans.{waiting_line};
+ghost use Rattle.patch_script.specs.Refusals.{commands_of};
+ghost use Rattle.step_sim.specs.declared.sim_fault.SimFault.TheVariants.{Waits};
+ghost use Rattle.step_sim.specs.Replayed.{IsSimulated};
+ghost use Rattle.step_sim.specs.Schedules.{AreTurnsOf};
+ghost use Rattle.step_sim.specs.Standing.{AllHaveBegun};
+
+use crate::patcher::Patcher;
+use crate::pool::{Left, Pool, room_for};
+use crate::replay::{SimEnd, play};
+use crate::schedule::Schedule;
+use crate::sim_fault::SimFault;
+use crate::thread::new_thread;
+use fdr_buffer::{Buffer, segments_hold_all};
+use machine_step::{Cpu, Setup, one_end};
+use patch_script::Script;
+use sled_words::MAX_THREADS;
+use std::alloc::Global;
+use std::marker::Model;
+use traced_run::passings_fit;
+use xray_image::Image;
+use xray_io::NoMemory;
+
+/// A replay before its first turn, with all that it needs: the words as they are when the threads
+/// start, the threads before their first loads, the buffers, and room for what is left at the end.
+/// `new` takes all memory, and `play` none.
+#[derive(Drop)]
+pub struct SimStart<'a, 's> {
+    patcher: Patcher<'s>,
+    cpus: Vec<Cpu<'a>>,
+    pool: Pool,
+    /// Room for the buffers that are left.
+    kept: Vec<Buffer>,
+    /// Room for the number of segments of each thread.
+    segments: Vec<u32>,
+    setup: Setup,
+}
+
+impl<'a, 's> Model for SimStart<'a, 's> {
+    ghost use Rattle.step_sim.specs.Starts.{Start};
+
+    ghost Value = { Start };
+
+    ghost use Rattle.step_sim.specs.Starting.{start_in, IsAtStart};
+
+    ghost view = { start_in };
+
+    ghost invariant = { IsAtStart };
+}
+
+impl<'a, 's> SimStart<'a, 's> {
+    /// Takes all memory of a replay of this script over this image. `Waits` comes exactly where the
+    /// script has a line at which somebody may wait, and tells the first; `NoMemory` where memory was
+    /// refused.
+    pub fn new(
+        alloc: Global,
+        image: &'a Image,
+        script: &'s Script,
+        setup: &Setup,
+    ) -> Result<SimStart<'a, 's>, SimFault>
+        requires program { script.now.program ≡ image.now }
+        requires threads { script.now.threads ≡ setup.now.threads }
+        requires few { setup.now.threads ≤ MAX_THREADS }
+        requires stamps { (1 ≤ setup.now.limits.cpus) × (1 ≤ setup.now.limits.migrate) }
+        requires sizes { (72 ≤ setup.now.size) × (setup.now.size ≤ 1048576) }
+        requires buffers { (setup.now.threads ≤ setup.now.max) × (setup.now.max ≤ 1024) }
+        ensures waits { (line : ℕ) → (result ≡ Err (Waits line)) ↔ (waiting_line script.now.lines ≡ Some line) }
+        ensures start { IfOk result (λ start. start
+            ≡ record { program = image.now; script = commands_of script.now.lines; setup = setup.now }) }
+    {
+        if let Some(line) = script.waits() {
+            return Err(SimFault::Waits(line));
+        }
+        // Says that some accepted file holds the image.
+        image.base();
+        let patcher = Patcher::new(alloc, image, script, setup.threads)?;
+        let cpus = new_threads(alloc, image, script, setup)?;
+        let pool = Pool::new(alloc, setup)?;
+        let kept = room_for(alloc, setup.max)?;
+        let segments = room_for(alloc, setup.threads)?;
+        Ok(SimStart {
+            patcher,
+            cpus,
+            pool,
+            kept,
+            segments,
+            setup: *setup,
+        })
+    }
+
+    /// Replays a schedule, as `simulate` tells. Takes no memory, and always comes to an end.
+    pub fn play(self, schedule: &Schedule) -> SimEnd<'a>
+        requires { All (AreTurnsOf self.setup.threads) schedule.now }
+        ensures { IsSimulated self.entry.program self.entry.script schedule.now self.entry.setup
+            result.cpus.items result.sealed.items result.segments.items result.first.items
+            result.buffers.items }
+    {
+        one_end();
+        passings_fit();
+        segments_hold_all();
+        let SimStart {
+            mut patcher,
+            mut cpus,
+            mut pool,
+            kept,
+            segments,
+            setup,
+        } = self;
+        play(&mut cpus, &mut patcher, &mut pool, schedule.lines());
+        let Left {
+            sealed,
+            segments,
+            first,
+            kept,
+        } = pool.collect(setup.threads, kept, segments);
+        SimEnd {
+            cpus,
+            sealed,
+            segments,
+            first,
+            buffers: kept,
+        }
+    }
+}
+
+/// All threads before their first loads, thread 1 first.
+fn new_threads<'a>(
+    alloc: Global,
+    image: &'a Image,
+    script: &Script,
+    setup: &Setup,
+) -> Result<Vec<Cpu<'a>>, NoMemory>
+    requires threads { setup.now.threads ≤ MAX_THREADS }
+    requires stamps { (1 ≤ setup.now.limits.cpus) × (1 ≤ setup.now.limits.migrate) }
+    ensures count { IfOk result (λ cpus. length cpus.items ≡ setup.now.threads) }
+    ensures begun { IfOk result (λ cpus. AllHaveBegun image.now (commands_of script.now.lines)
+        setup.now.threads setup.now.limits cpus.items) }
+{
+    let mut cpus = Vec::with_capacity(alloc, setup.threads as usize)?;
+    for number in 0..setup.threads {
+        cpus.push(new_thread(alloc, image, script, setup, number + 1)?)?;
+    }
+    Ok(cpus)
+}

@@ -1,0 +1,52 @@
+-- The trace of a run: what its file is.
+use Rattle.std.specs.Prelude.{◌≡◌, ◌+◌, ◌==◌, Bool, true, ℕ, List, filter, map, slice_get, Some}
+use Rattle.std.specs.List.{enumerate_from, flat_map}
+use Rattle.fdr_record.specs.declared.event.Event.{Event}
+use Rattle.fdr_file.specs.declared.header.Header.{Header}
+use Rattle.fdr_file.specs.declared.trace.Block.{Block}
+use Rattle.fdr_file.specs.declared.trace.Trace.{Trace}
+use Rattle.fdr_file.specs.Files.{file_bytes}
+use Rattle.fdr_file.specs.Grammar.{IsTrace}
+use Rattle.machine_step.specs.declared.setup.Setup.{Setup}
+use Rattle.traced_run.specs.Kept.{kept_buffers, kept_of}
+use Rattle.traced_run.specs.Losses.{recycled_of}
+use Rattle.traced_run.specs.Runs.{ThreadRun, events_of}
+
+-- the header of the traces of a setup: version 3; that the counter runs at a constant frequency, and never stops; that frequency, in
+-- cycles per second; and the size of a buffer, in bytes
+abbrev pub header_of : Setup → Header
+header_of setup = record { version = 3; constant = true; nonstop = true; frequency = setup.frequency; size = setup.size }
+
+-- the block of a segment of a thread
+abbrev pub block_of : Setup → ℕ → List Event → Block
+block_of setup thread events = record { thread = thread; wall = setup.wall; pid = setup.pid; events = events }
+
+-- The bytes of the trace file of a run.
+abbrev pub trace_bytes : Setup → List ThreadRun → List ℕ
+trace_bytes setup runs = file_bytes (header_of setup) (kept_buffers setup runs)
+
+-- ---- what they say
+
+-- whether a block is of a thread, and the blocks of one
+abbrev pub is_of : ℕ → Block → Bool
+is_of thread block = block.thread == thread
+
+abbrev pub blocks_of : ℕ → Trace → List Block
+blocks_of thread trace = filter (is_of thread) trace.blocks
+
+-- the blocks of a thread of a run: the last whole segments of exactly the entries and exits that its marks record
+abbrev pub thread_blocks : Setup → ℕ × ThreadRun → List Block
+thread_blocks setup (thread, run) = map (block_of setup thread) (kept_of setup.size run)
+
+-- The bytes are the trace of a run: by the grammar of trace files, a header with the setup's frequency and size of buffers, and blocks.
+-- Those of each thread are the last whole segments of exactly the entries and exits that its marks record: all but its oldest ones,
+-- which are lost. They hold all of these events where the run has lost no segment. The blocks stand by threads, and those of a thread by
+-- segments; there are no others.
+pub record IsTraceOf (setup : Setup) (runs : List ThreadRun) (bytes : List ℕ) : Type 0 where
+  pub trace : Trace
+  pub reads : IsTrace bytes trace
+  pub header : trace.header ≡ header_of setup
+  pub blocks : (i : ℕ) (run : ThreadRun) → slice_get runs i ≡ Some run → blocks_of (i + 1) trace ≡ thread_blocks setup (i + 1, run)
+  pub whole : recycled_of runs ≡ 0 → (i : ℕ) (run : ThreadRun) → slice_get runs i ≡ Some run
+      → flat_map (λ block. block.events) (blocks_of (i + 1) trace) ≡ events_of run
+  pub order : trace.blocks ≡ flat_map (thread_blocks setup) (enumerate_from 1 runs)

@@ -1,0 +1,24 @@
+//! The header of a run's trace.
+
+ghost use Rattle.std.specs.Prelude.{◌≡◌};
+ghost use Rattle.trace_flush.specs.Flush.{header_of};
+
+use fdr_file::Header;
+use machine_step::Setup;
+
+/// The version of the traces that are written.
+const VERSION: u16 = 3;
+
+/// The header of the trace of a run that was made with this: version 3, a counter that runs at a
+/// constant frequency and never stops, its frequency, and the size of a buffer.
+pub fn trace_header(setup: &Setup) -> Header
+    ensures { result ≡ header_of setup.now }
+{
+    Header {
+        version: VERSION,
+        constant: true,
+        nonstop: true,
+        frequency: setup.frequency,
+        size: u64::from(setup.size),
+    }
+}

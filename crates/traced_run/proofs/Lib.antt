@@ -1,0 +1,4 @@
+pub mod Oldest
+pub mod SmallIds
+pub mod FitPassings
+pub mod FitBuffers

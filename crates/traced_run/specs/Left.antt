@@ -1,0 +1,28 @@
+-- What a run leaves.
+use Rattle.std.specs.Prelude.{◌≡◌, ◌+◌, ℕ, List, length, map, slice_get, Some}
+use Rattle.fdr_buffer.specs.Filled.{Filled}
+use Rattle.machine_step.specs.declared.setup.Setup.{Setup}
+use Rattle.machine_step.specs.declared.want.Want.TheVariants.{Done}
+use Rattle.machine_step.specs.Traced.{Traced}
+use Rattle.traced_run.specs.Runs.{ThreadRun}
+use Rattle.traced_run.specs.Kept.{kept_buffers, segment_count}
+
+-- a traced thread is at the end of its run, and has the run's marks
+pub record HasRun (number : ℕ) (run : ThreadRun) (t : Traced) : Type 0 where
+  pub thread : t.thread ≡ number
+  pub done : t.want ≡ Done run.end
+  pub registers : t.registers ≡ run.last.registers
+  pub zero_flag : t.zero_flag ≡ run.last.zero_flag
+  pub output : t.output ≡ run.last.output
+  pub instructions : t.instructions ≡ run.last.instructions
+  pub passings : length t.marks ≡ run.last.passings
+  pub marks : t.marks ≡ run.marks
+
+-- What a run leaves: its threads at their ends, thread 1 first; into how many segments the events of each were cut, and how many of
+-- these are lost; and the buffers of those that are left.
+pub record Leaves (setup : Setup) (runs : List ThreadRun) (cpus : List Traced) (segments first : List ℕ) (buffers : List Filled) : Type 0 where
+  pub count : length cpus ≡ length runs
+  pub cpus_are : (i : ℕ) (run : ThreadRun) (t : Traced) → slice_get runs i ≡ Some run → slice_get cpus i ≡ Some t → HasRun (i + 1) run t
+  pub segments_are : segments ≡ map (segment_count setup.size) runs
+  pub first_are : first ≡ map (λ run. run.lost) runs
+  pub buffers_are : buffers ≡ kept_buffers setup runs

@@ -1,0 +1,5 @@
+pub mod Runs
+pub mod Kept
+pub mod Losses
+pub mod Left
+pub mod Fits

@@ -1,0 +1,60 @@
+//! Laws of runs. Each is the contract of a function that does nothing.
+
+ghost use Rattle.std.specs.Prelude.{◌≡◌, ◌≤◌, ◌<◌, ◌^◌, ◌++◌, List, ℕ, All, Some, slice_get, take};
+ghost use Rattle.std.specs.List.{flat_map};
+ghost use Rattle.xray_image.specs.Program.{IsAccepted, Program};
+ghost use Rattle.fdr_buffer.specs.Fits.{BufferFits};
+ghost use Rattle.machine_step.specs.declared.end.End.{End};
+ghost use Rattle.machine_step.specs.declared.limits.Limits.{Limits};
+ghost use Rattle.machine_step.specs.declared.setup.Setup.{Setup};
+ghost use Rattle.machine_step.specs.PlainStep.{Passing, PlainRun, State};
+ghost use Rattle.traced_run.specs.Fits.{PassingFits, SetupFits};
+ghost use Rattle.traced_run.specs.Kept.{kept_buffers, kept_of, segments_of};
+ghost use Rattle.traced_run.specs.Losses.{recycled_of};
+ghost use Rattle.traced_run.specs.Runs.{IsRun, ThreadRun, events_of};
+
+use fdr_buffer::{a_body_has_room, segments_hold_all};
+
+/// The segments of a thread that are lost are its oldest: their events, and then those of the segments
+/// that are left, are all events that its marks record.
+pub fn lost_segments_are_the_oldest()
+    ensures { (size : ℕ) (run : ThreadRun)
+        → flat_map (λ s. s) (take run.lost (segments_of size run)) ++ flat_map (λ s. s) (kept_of size run)
+        ≡ events_of run }
+{
+    segments_hold_all();
+}
+
+/// Where a run has lost no segment, each thread has all of its own, and these hold all events that its
+/// marks record.
+pub fn a_run_without_losses_is_whole()
+    ensures segments { (size : ℕ) (runs : List ThreadRun) (i : ℕ) (run : ThreadRun)
+        → recycled_of runs ≡ 0 → slice_get runs i ≡ Some run → kept_of size run ≡ segments_of size run }
+    ensures events { (size : ℕ) (runs : List ThreadRun) (i : ℕ) (run : ThreadRun)
+        → recycled_of runs ≡ 0 → slice_get runs i ≡ Some run
+        → flat_map (λ s. s) (kept_of size run) ≡ events_of run }
+{
+    segments_hold_all();
+}
+
+/// The ids of a plain run's passings fit the records of events, and so do their stamps, where there is
+/// a processor and no more than its field can count.
+pub fn passings_fit()
+    ensures ids { (bytes : List ℕ) (program : Program) (limits : Limits) (thread : ℕ)
+        (passed : List Passing) (end : End) (last : State) → IsAccepted bytes program
+        → PlainRun program limits thread passed end last → All (λ p. p.id < 2 ^ 28) passed }
+    ensures all { (bytes : List ℕ) (program : Program) (limits : Limits) (thread : ℕ)
+        (passed : List Passing) (end : End) (last : State) → IsAccepted bytes program
+        → 1 ≤ limits.cpus → limits.cpus < 2 ^ 16 → PlainRun program limits thread passed end last
+        → All PassingFits passed }
+{}
+
+/// All that a run leaves in its buffers fits them, and the records that it is read from again.
+pub fn a_run_fits_its_buffers()
+    ensures { (bytes : List ℕ) (program : Program) (setup : Setup) (runs : List ThreadRun)
+        → IsAccepted bytes program → SetupFits setup → IsRun program setup runs
+        → All BufferFits (kept_buffers setup runs) }
+{
+    segments_hold_all();
+    a_body_has_room();
+}

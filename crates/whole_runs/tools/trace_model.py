@@ -1,0 +1,311 @@
+"""A model of traces: events and their records, segments, the buffers that threads share, trace files both ways, the audit.
+
+It is written from docs/formats and docs/COMMANDS.md alone, and shares nothing with the program or its definitions.
+A trace is read as LLVM's Flight Data Recorder files of version 3 are.
+"""
+import collections
+import dataclasses
+import struct
+
+from image_model import Refused
+
+WORD_32, WORD_64 = 1 << 32, 1 << 64
+HEADER_LENGTH = 32
+METADATA_LENGTH = 16
+FUNCTION_LENGTH = 8
+PREAMBLE_LENGTH = 48
+VERSION = 3
+FLIGHT_DATA_RECORDER = 1
+CONSTANT, NONSTOP = 1, 2
+
+# The actions of function records.
+ENTRY, EXIT, TAIL_EXIT = range(3)
+# The kinds of metadata records.
+NEW_BUFFER, NEW_CPU, TSC_WRAP, WALL_TIME, EXTENTS, PID = 0, 2, 3, 4, 7, 9
+FUNCTION = "function"
+# The fields of each kind, from the record's second byte on.
+FIELDS = {NEW_BUFFER: "<I", NEW_CPU: "<HQ", TSC_WRAP: "<Q", WALL_TIME: "<QI", EXTENTS: "<Q", PID: "<I"}
+
+
+@dataclasses.dataclass(frozen=True)
+class Event:
+    """What a passing records: the CPU, the function's id, the action, and the cycle counter."""
+
+    cpu: int
+    function: int
+    action: int
+    tsc: int
+
+
+@dataclasses.dataclass(frozen=True)
+class Header:
+    frequency: int
+    size: int
+    flags: int = CONSTANT | NONSTOP
+
+
+@dataclasses.dataclass
+class Block:
+    """A buffer of a trace file; the wall time is in seconds and microseconds."""
+
+    thread: int
+    wall: tuple
+    pid: int
+    events: list
+
+
+@dataclasses.dataclass
+class Trace:
+    header: Header
+    blocks: list
+
+    @property
+    def threads(self):
+        """The numbers of the threads that have a block, in ascending order."""
+        return sorted({block.thread for block in self.blocks})
+
+    def events_of(self, thread):
+        """The events of all blocks of a thread, in the file's order."""
+        return [event for block in self.blocks if block.thread == thread for event in block.events]
+
+
+# ---- Records as bytes
+
+
+def metadata(kind, *fields):
+    return (bytes([2 * kind + 1]) + struct.pack(FIELDS[kind], *fields)).ljust(METADATA_LENGTH, b"\0")
+
+
+def function_record(event, delta):
+    return struct.pack("<II", event.function << 4 | event.action << 1, delta)
+
+
+def event_bytes(event, before):
+    """The records of an event; `before` is the event before it in its buffer, or None."""
+    if before is None or event.cpu != before.cpu:
+        return metadata(NEW_CPU, event.cpu, event.tsc) + function_record(event, 0)
+    if not 0 <= event.tsc - before.tsc < WORD_32:
+        return metadata(TSC_WRAP, event.tsc) + function_record(event, 0)
+    return function_record(event, event.tsc - before.tsc)
+
+
+def events_bytes(events):
+    """The records of a buffer's events."""
+    return b"".join(event_bytes(event, before) for event, before in zip(events, [None, *events]))
+
+
+# ---- Trace files as bytes
+
+
+def header_bytes(header):
+    return struct.pack("<HHIQQ8x", VERSION, FLIGHT_DATA_RECORDER, header.flags, header.frequency, header.size)
+
+
+def body(block):
+    """The used bytes of a buffer."""
+    preamble = metadata(NEW_BUFFER, block.thread) + metadata(WALL_TIME, *block.wall) + metadata(PID, block.pid)
+    return preamble + events_bytes(block.events)
+
+
+def block_bytes(block):
+    used = body(block)
+    return metadata(EXTENTS, len(used)) + used
+
+
+def file_bytes(trace):
+    return header_bytes(trace.header) + b"".join(block_bytes(block) for block in trace.blocks)
+
+
+# ---- Segments
+
+
+def segments_of(events, size):
+    """The events of a thread in lists, each as long as fits in a buffer of this size."""
+    segments = []
+    for event in events:
+        if segments and PREAMBLE_LENGTH + len(events_bytes([*segments[-1], event])) <= size:
+            segments[-1].append(event)
+        else:
+            segments.append([event])
+    return segments
+
+
+class Recorded:
+    """The events of a thread as its segments grow, with the room that the last of them has left."""
+
+    def __init__(self, size):
+        self.room_of_all = size - PREAMBLE_LENGTH
+        self.segments = []
+        self.room = 0
+        self.lost = 0
+
+    def add(self, event):
+        """Adds an event, and says whether it begins a segment."""
+        before = self.segments[-1][-1] if self.segments else None
+        needs = len(event_bytes(event, before))
+        if needs <= self.room:
+            self.segments[-1].append(event)
+            self.room -= needs
+            return False
+        self.segments.append([event])
+        self.room = self.room_of_all - len(event_bytes(event, None))
+        return True
+
+    @property
+    def kept(self):
+        return self.segments[self.lost :]
+
+
+class Buffers:
+    """The buffers of a run: each thread has one in hand, and the others are queued, unused at first."""
+
+    def __init__(self, threads, size, most):
+        self.threads = [Recorded(size) for _ in range(threads)]
+        # Whose segment a queued buffer holds, or None for an unused one.
+        self.queue = collections.deque([None] * (most - threads))
+
+    def record(self, thread, event):
+        """A full buffer goes to the back of the queue; what the front one held is lost."""
+        recorded = self.threads[thread - 1]
+        if recorded.add(event) and len(recorded.segments) > 1:
+            self.queue.append(recorded)
+            taken = self.queue.popleft()
+            if taken is not None:
+                taken.lost += 1
+
+    def trace(self, header, wall, pid):
+        """What is written once all threads have ended: the kept segments by thread and then by age."""
+        return Trace(
+            header,
+            [Block(at, wall, pid, events) for at, one in enumerate(self.threads, start=1) for events in one.kept],
+        )
+
+
+# ---- Reading
+
+
+class Reader:
+    """The records of a trace file from a place on, up to an end."""
+
+    def __init__(self, content):
+        self.content = content
+        self.at = HEADER_LENGTH
+
+    def record(self):
+        """The kind and the fields of the record at the present place, which isn't cut."""
+        first = self.content[self.at]
+        if first % 2 == 0:
+            word, delta = struct.unpack_from("<II", self.content, self.at)
+            action = word >> 1 & 7
+            if action > TAIL_EXIT:
+                raise Refused("Bad", self.at, "Action", action)
+            return FUNCTION, (word >> 4, action, delta)
+        kind = first >> 1
+        if kind not in FIELDS:
+            raise Refused("Bad", self.at, "Kind", kind)
+        return kind, struct.unpack_from(FIELDS[kind], self.content, self.at + 1)
+
+    def length(self):
+        """How many bytes the record at the present place has."""
+        return METADATA_LENGTH if self.content[self.at] % 2 == 1 else FUNCTION_LENGTH
+
+
+def trace_of(content):
+    """The trace in a file's bytes."""
+    if len(content) < HEADER_LENGTH:
+        raise Refused("Short", 0)
+    version, form, flags, frequency, size = struct.unpack_from("<HHIQQ", content)
+    if version != VERSION:
+        raise Refused("Version", version)
+    if form != FLIGHT_DATA_RECORDER:
+        raise Refused("Form", form)
+    reader = Reader(content)
+    trace = Trace(Header(frequency, size, flags % 4), [])
+    while reader.at < len(content):
+        trace.blocks.append(block_of(reader))
+    return trace
+
+
+def block_of(reader):
+    """The block that begins at the present place."""
+    begin = reader.at
+    left = len(reader.content) - begin
+    if left < METADATA_LENGTH:
+        raise Refused("Short", begin)
+    kind, fields = reader.record()
+    if kind != EXTENTS:
+        raise Refused("Order", begin)
+    (used,) = fields
+    if used < PREAMBLE_LENGTH:
+        raise Refused("Extents", begin)
+    if used > left - METADATA_LENGTH:
+        raise Refused("Short", begin)
+    reader.at += METADATA_LENGTH
+    records = records_to(reader, reader.at + used)
+    (thread,), wall, (pid,) = [fields for _, fields in records[:3]]
+    return Block(thread, wall, pid, events_in(records[3:]))
+
+
+def records_to(reader, end):
+    """The records of a block that ends there, as (kind, fields)."""
+    records = []
+    has_base = False
+    while reader.at < end:
+        if reader.at + reader.length() > end:
+            raise Refused("Extents", reader.at)
+        kind, fields = reader.record()
+        number = len(records)
+        due = [(NEW_BUFFER,), (WALL_TIME,), (PID,)][number] if number < 3 else (NEW_CPU, TSC_WRAP, FUNCTION)
+        if kind not in due:
+            raise Refused("Order", reader.at)
+        if kind in (TSC_WRAP, FUNCTION) and not has_base:
+            raise Refused("NoBase", reader.at)
+        has_base = has_base or kind == NEW_CPU
+        records.append((kind, fields))
+        reader.at += reader.length()
+    return records
+
+
+def events_in(records):
+    """The events of a block: each counter is the last whole one plus all deltas after it, in 64 bits."""
+    events = []
+    for kind, fields in records:
+        if kind == NEW_CPU:
+            cpu, tsc = fields
+        elif kind == TSC_WRAP:
+            (tsc,) = fields
+        else:
+            function, action, delta = fields
+            tsc = (tsc + delta) % WORD_64
+            events.append(Event(cpu, function, action, tsc))
+    return events
+
+
+# ---- The audit
+
+# The words of the second line that are options of the same name; `wall` follows these.
+AUDITED = [
+    "threads", "buffer-size", "buffer-max", "fuel", "passings", "tick", "tsc", "cpus", "migrate", "pid",
+]  # fmt: skip
+
+
+@dataclasses.dataclass(frozen=True)
+class AuditLine:
+    """What the audit says of a thread."""
+
+    end: str
+    passings: int
+    recorded: int
+    segments: int
+    lost: int
+    marks: str
+
+
+def audit_text(options, wall, lines):
+    words = [f"{name}={options[name]}" for name in AUDITED]
+    words += [f"wall={wall[0]}.{wall[1]}", f"frequency={options['frequency']}"]
+    text = "xray-audit 1\n" + " ".join(words) + "\n"
+    for thread, line in enumerate(lines, start=1):
+        text += f"thread {thread} {line.end} passings {line.passings} recorded {line.recorded} "
+        text += f"segments {line.segments} first {line.lost}\nmarks {line.marks}\n"
+    return text + f"recycled {sum(line.lost for line in lines)}\n"
