@@ -8,7 +8,7 @@ use Rattle.xray_program.specs.Outcomes.{Outcome, BadLine, Unread, TooLong, Refus
 use Rattle.xray_program.specs.Outputs.{FailsWriting}
 use Rattle.xray_program.specs.Words.{Command}
 use Rattle.xray_program.specs.Works.{Ends, KeepsOthers, StandsBehind}
-use Rattle.xray_program.specs.World.{World}
+use Rattle.xray_io.specs.World.{World}
 use Rattle.xray_program.proofs.Headline.{TearsNone, simulated}
 use Rattle.xray_program.proofs.Saying.{says_nothing}
 
@@ -134,7 +134,7 @@ by_ending tears said before after (With (Done outputs text)) (meant, writes) kep
     text = text;
     writes = refl;
     whole = writes.whole;
-    out = writes.out;
+    out = writes.printed;
   };
   silent = λ e. says_nothing before.err after.err told;
   bad_line = (λ e. absurd cc, λ e. absurd (read_it said before.desk.held (Done outputs text) meant (λ x. cc) e));
@@ -145,7 +145,7 @@ by_ending tears said before after (With (Done outputs text)) (meant, writes) kep
   untouched = λ e. not_five 0 (λ x. cc) (λ x. cc) (λ x. cc) (λ x. cc) (λ x. cc) e;
   names = kept;
   complete = inl (Done outputs text, meant, refl);
-  headline = λ e. simulated tears said before after outputs text meant writes.whole writes.out;
+  headline = λ e. simulated tears said before after outputs text meant writes.whole writes.printed;
 }
 by_ending tears said before after (With (Fell outputs text trouble)) (meant, writes) kept told = record {
   ending = With (Fell outputs text trouble);
@@ -159,7 +159,7 @@ by_ending tears said before after (With (Fell outputs text trouble)) (meant, wri
     text = text;
     writes = refl;
     whole = writes.whole;
-    out = writes.out;
+    out = writes.printed;
   };
   silent = λ e. absurd cc;
   bad_line = (λ e. absurd cc, λ e. absurd (read_it said before.desk.held (Fell outputs text trouble) meant (λ x. cc) e));

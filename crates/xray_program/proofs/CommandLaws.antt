@@ -11,27 +11,27 @@ use Rattle.xray_program.proofs.ExtractLaws.{extract_alone, extract_some}
 use Rattle.xray_program.proofs.Images.{Accepts, OneVerdict, SomeVerdict, image_decided, image_judged}
 use Rattle.xray_program.proofs.Meanings.{AnyOutcome, HoldsBytes, IsAlone, IsRefusal, SomeOutcome, refusal_alone}
 use Rattle.xray_program.proofs.PlainLaws.{OneEnd, SomeEnd, plain_alone, plain_some}
-use Rattle.xray_program.proofs.SimLaws.{OneReplay, StillReplay, sim_alone, sim_some}
+use Rattle.xray_program.proofs.SimLaws.{OneRun, StillRun, sim_alone, sim_some}
 
 -- what the crates below say
 pub record Laws : Type 0 where
   pub verdict : OneVerdict
   pub accepts : Accepts
   pub end : OneEnd
-  pub replay : OneReplay
+  pub run : OneRun
 
 pub record Existence : Type 0 where
   pub verdict : SomeVerdict
   pub accepts : Accepts
   pub end : SomeEnd
-  pub replay : StillReplay
+  pub run : StillRun
 
 -- ---- a line a command
 
 -- a command that is decided comes to one thing
 command_alone : Laws → (held : List ℕ → Entry) → TellsAll held → (command : Command) → is_decided command ≡ true
     → IsAlone AnyOutcome (Comes Sound held command)
-command_alone laws held told (Sim i s c setup) decided = sim_alone (image_decided laws.verdict laws.accepts) laws.end laws.replay held i s c setup told
+command_alone laws held told (Sim i s c setup) decided = sim_alone (image_decided laws.verdict laws.accepts) laws.run held i s c setup told
 command_alone laws held told (Plain i options) decided = plain_alone (image_decided laws.verdict laws.accepts) laws.end held i options told
 command_alone laws held told (Extract i) decided = extract_alone (image_decided laws.verdict laws.accepts) held i told
 command_alone laws held told (Asm t i threshold) decided = asm_alone held t i threshold told
@@ -45,7 +45,7 @@ command_refuses laws held told (Asm t i threshold) = refusal_alone _ (command_al
 
 -- each command comes to something
 command_some : Existence → (held : List ℕ → Entry) → TellsAll held → HoldsBytes held → (command : Command) → SomeOutcome (Comes Sound held command)
-command_some laws held told holds (Sim i s c setup) = sim_some (image_judged laws.verdict laws.accepts) laws.end laws.replay held i s c setup told holds
+command_some laws held told holds (Sim i s c setup) = sim_some (image_judged laws.verdict laws.accepts) laws.run held i s c setup told holds
 command_some laws held told holds (Plain i options) = plain_some (image_judged laws.verdict laws.accepts) laws.end held i options told holds
 command_some laws held told holds (Extract i) = extract_some (image_judged laws.verdict laws.accepts) held i told holds
 command_some laws held told holds (Asm t i threshold) = asm_some held t i threshold told holds

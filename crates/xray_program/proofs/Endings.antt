@@ -13,7 +13,7 @@ use Rattle.xray_program.specs.Takes.{IsStopAtInput}
 use Rattle.xray_program.specs.Taking.{Sound, Faulty, ended_by}
 use Rattle.xray_program.specs.Words.{Command}
 use Rattle.xray_program.specs.Works.{Delivers, Ends, FailsToLeave, Finishes, IsLeft, KeepsOthers, StandsBehind, StopsOutputs, Writes}
-use Rattle.xray_program.specs.World.{DeskView, SinkView}
+use Rattle.xray_io.specs.World.{DeskView, SinkView}
 use Rattle.xray_program.specs.declared.stop.Stop.{Stop}
 use Rattle.xray_program.specs.declared.stop.Stop.TheVariants as stops
 
@@ -94,7 +94,7 @@ fails_over outputs text desk mid desk_now out out_now name same counted (inr fai
 writes_over : (outputs : List (List ℕ × List ℕ)) (text : List ℕ) (desk mid desk_now : DeskView) (out out_now : SinkView) → mid.held ≡ desk.held
     → Writes outputs text mid desk_now out out_now → Writes outputs text desk desk_now out out_now
 writes_over outputs text desk mid desk_now out out_now same writes =
-    record { whole = subst (λ (h : List ℕ → Entry). AreWhole outputs h desk_now.held) same writes.whole; out = writes.out }
+    record { whole = subst (λ (h : List ℕ → Entry). AreWhole outputs h desk_now.held) same writes.whole; printed = writes.printed }
 
 -- a call that ended at an input
 pub ends_at_input : (command : Command) (desk desk_now : DeskView) (out : SinkView) (result : Result (Unit {0}) Stop) (stop : Stop)

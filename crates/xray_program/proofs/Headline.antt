@@ -8,6 +8,7 @@ use Rattle.patch_script.specs.Refusals.{commands_of}
 use Rattle.step_sim.specs.Along.{TearsNoSled}
 use Rattle.step_sim.specs.FaultWords.{waits_words}
 use Rattle.step_sim.specs.Replay.{AllRunOut, Cast, Moment, scheduled}
+use Rattle.step_sim.specs.Replayed.{cast_with}
 use Rattle.step_sim.specs.Schedules.{schedule_of}
 use Rattle.step_sim.specs.declared.turns.Turns.{Turns}
 use Rattle.xray_image.specs.Program.{Program}
@@ -16,11 +17,11 @@ use Rattle.xray_program.specs.Commands.{Means}
 use Rattle.xray_program.specs.Inputs.{image_form, script_form, schedule_form}
 use Rattle.xray_program.specs.Outcomes.{Outcome, Done}
 use Rattle.xray_program.specs.Outputs.{AreWhole}
-use Rattle.xray_program.specs.Sim.{FollowsSchedule, IsReplayOf, Replays, SimComes, cast_with}
+use Rattle.xray_program.specs.Sim.{FollowsSchedule, Replayed, Replays, SimComes}
 use Rattle.xray_program.specs.Taking.{Form, Leaves, RefuseIf, Sound, Take}
 use Rattle.xray_program.specs.Traced.{IsTraced, Traces}
 use Rattle.xray_program.specs.Words.{Command, Sim}
-use Rattle.xray_program.specs.World.{World}
+use Rattle.xray_io.specs.World.{World}
 
 -- where all is done, an input that is held reads as a value, and the rest is done with it
 record Read {X : Type 0} (Reads : List ℕ → X → Type 0) (bytes : List ℕ) (Next : X → Type 0) : Type 0 where
@@ -59,7 +60,7 @@ TearsNone = (cast : Cast) (threads : ℕ) (text : List ℕ) (schedule : List Tur
 simulated_by : TearsNone → (before after : World) (i s c image script schedule : List ℕ) (setup : Setup) (outputs : List (List ℕ × List ℕ))
     (text : List ℕ) → before.desk.held i ≡ Holds image → before.desk.held s ≡ Holds script → before.desk.held c ≡ Holds schedule
     → SimComes Sound before.desk.held i s c setup (Done outputs text) → AreWhole outputs before.desk.held after.desk.held
-    → Adds before.out.written after.out.written text → IsTraced (FollowsSchedule schedule setup.threads) image script setup before after
+    → Adds before.out.written after.out.written text → IsTraced (FollowsSchedule schedule setup) image script setup before after
 simulated_by tears before after i s c image script schedule setup outputs text image_held script_held schedule_held comes whole adds =
     let held = before.desk.held in
     let first = read_on image_form held i
@@ -69,8 +70,8 @@ simulated_by tears before after i s c image script schedule setup outputs text i
     (λ plan. Take (schedule_form setup.threads) Sound held c (Replays s setup first.value plan)) outputs text script script_held first.next in
     let third = read_on (schedule_form setup.threads) held c (Replays s setup first.value second.value) outputs text schedule schedule_held second.next in
     let still = unrefused (waiting_line second.value.lines) s (codes "script")
-    (Leaves (Traces (IsReplayOf first.value second.value third.value) first.value setup)) outputs text third.next in
-    let traces = left_alike (Traces (IsReplayOf first.value second.value third.value) first.value setup) outputs text still.1 in
+    (Leaves (Traces (Replayed first.value second.value third.value setup) first.value setup)) outputs text third.next in
+    let traces = left_alike (Traces (Replayed first.value second.value third.value setup) first.value setup) outputs text still.1 in
     record {
       program = first.value;
       accepted = first.reads;

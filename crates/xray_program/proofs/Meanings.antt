@@ -84,7 +84,7 @@ maybe_alone form is Sort held (Some name) next told none later = take_alone form
 -- a reason to refuse, behind all inputs
 pub refuse_alone : (Sort : Outcome → Type 0) (reason : Option (List ℕ)) (name kind : List ℕ) (next : Outcome → Type 0) → IsAlone Sort next
     → IsAlone Sort (RefuseIf reason name kind next)
-refuse_alone Sort None name kind next later = later
+refuse_alone Sort None name kind next later a b sort x y = later a b sort x y
 refuse_alone Sort (Some refusal) name kind next later a b sort x y = y ∙ sym x
 
 -- outputs and a text, where these are one thing

@@ -3,7 +3,7 @@ use Rattle.std.proofs.Common.{◌≡◌, ◌⊎◌, ◌≤◌, ◌++◌, ◌∙�
 use Rattle.std.proofs.lemmas.List.{append-nil}
 use Rattle.xray_io.specs.Sink.{Adds, AddsPrefix}
 use Rattle.xray_program.specs.Answers.{Says}
-use Rattle.xray_program.specs.World.{SinkView}
+use Rattle.xray_io.specs.World.{SinkView}
 
 no_more : (old : Option (List ℕ)) → option_map (λ before. before ++ []) old ≡ old
 no_more None = refl

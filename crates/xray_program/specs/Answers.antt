@@ -10,7 +10,7 @@ use Rattle.xray_program.specs.Outputs.{AreWhole, FailsWriting, WritesNothing}
 use Rattle.xray_program.specs.Sim.{FollowsSchedule}
 use Rattle.xray_program.specs.Traced.{IsTraced}
 use Rattle.xray_program.specs.Words.{Command, Sim}
-use Rattle.xray_program.specs.World.{SinkView, World}
+use Rattle.xray_io.specs.World.{SinkView, World}
 
 -- a sink got exactly this line, or a prefix of it and its faults rose
 abbrev pub Says : (before after : SinkView) → List ℕ → Type 0
@@ -71,7 +71,7 @@ abbrev pub IsSimulated : Option Command → (before after : World) → Type 0
 IsSimulated said before after =
     (i s c image script schedule : List ℕ) (setup : Setup) → said ≡ Some (Sim i s c setup) → before.desk.held i ≡ Holds image
     → before.desk.held s ≡ Holds script → before.desk.held c ≡ Holds schedule
-    → IsTraced (FollowsSchedule schedule setup.threads) image script setup before after
+    → IsTraced (FollowsSchedule schedule setup) image script setup before after
 
 -- The whole contract of a call. Its status and its line on err are those of one ending.
 pub record Answered (said : Option Command) (before after : World) (answer : ℕ) : Type 0 where

@@ -1,4 +1,3 @@
-pub mod World
 pub mod Outcomes
 pub mod Taking
 pub mod Setups

@@ -1,15 +1,9 @@
 -- What stands of outputs, each a name and its bytes, and of the text behind them.
-use Rattle.std.specs.Prelude.{◌≡◌, ◌⊎◌, ◌≤◌, ℕ, List, ◌∷◌, ◌++◌, length, take, All, codes}
-use Rattle.xray_io.specs.Desk.{Entry, Untold, Absent, Holds}
+use Rattle.std.specs.Prelude.{◌≡◌, ◌⊎◌, ℕ, List, ◌∷◌, ◌++◌, All, codes}
+use Rattle.xray_io.specs.Desk.{Entry, made_to_hold}
 use Rattle.xray_io.specs.Faults.{Rose}
 use Rattle.xray_io.specs.Sink.{Adds, AddsPrefix}
-use Rattle.xray_program.specs.World.{DeskView, SinkView}
-
--- what is told of a name that was made to hold these bytes: nothing, where nothing was told of it
-abbrev pub made_to_hold : Entry → List ℕ → Entry
-made_to_hold Untold bytes = Untold
-made_to_hold Absent bytes = Holds bytes
-made_to_hold (Holds before) bytes = Holds bytes
+use Rattle.xray_io.specs.World.{DeskView, SinkView}
 
 -- nothing was written: the desk holds what it held, and out has what it had
 abbrev pub WritesNothing : (desk desk_now : DeskView) → (out out_now : SinkView) → Type 0
@@ -26,7 +20,7 @@ AreUntouched outputs held held_now = All (λ output. held_now output.0 ≡ held 
 -- a name holds what it held, or a prefix of these bytes
 abbrev pub HoldsPrefix : (old new : Entry) → List ℕ → Type 0
 HoldsPrefix old new bytes =
-    (new ≡ old) ⊎ ((count : ℕ) × (count ≤ length bytes) × (new ≡ made_to_hold old (take count bytes)))
+    (new ≡ old) ⊎ ((sent : List ℕ) × (rest : List ℕ) × (bytes ≡ sent ++ rest) × (new ≡ made_to_hold old sent))
 
 -- The output of this name failed, and the desk's write faults rose: earlier outputs are whole, it holds what it held or a prefix of its
 -- bytes, and later outputs are untouched.

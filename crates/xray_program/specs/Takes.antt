@@ -7,7 +7,7 @@ use Rattle.xray_io.specs.declared.faults.ReadError.TheVariants as errors
 use Rattle.fault_words.specs.Words.{words_text}
 use Rattle.xray_program.specs.Outcomes.{Outcome, Unread, TooLong, Refused}
 use Rattle.xray_program.specs.Taking.{Form, MayHold, DeskReads, Sound, Faulty}
-use Rattle.xray_program.specs.World.{DeskView}
+use Rattle.xray_io.specs.World.{DeskView}
 use Rattle.xray_program.specs.declared.stop.Stop.{Stop}
 use Rattle.xray_program.specs.declared.stop.Stop.TheVariants as stops
 

@@ -1,36 +1,20 @@
--- What a command leaves that runs traced threads, whatever order of theirs is lawful.
-use Rattle.std.specs.Prelude.{◌≡◌, ◌+◌, ℕ, List, [], ◌∷◌, ◌++◌, length, map, Ok, Some, slice_get}
+-- What a command leaves that runs traced threads, whatever makes their runs lawful.
+use Rattle.std.specs.Prelude.{◌≡◌, ◌+◌, ℕ, List, [], ◌∷◌, ◌++◌, Ok}
 use Rattle.xray_io.specs.Sink.{Adds}
+use Rattle.xray_io.specs.World.{World}
 use Rattle.xray_image.specs.Program.{Program, IsAccepted}
 use Rattle.patch_script.specs.Plans.{Plan, plan_of}
-use Rattle.handler_word.specs.declared.mark.Mark.{Mark}
-use Rattle.machine_step.specs.declared.end.End.{End}
 use Rattle.machine_step.specs.declared.setup.Setup.{Setup}
-use Rattle.machine_step.specs.PlainStep.{State, Passing, PlainRun}
 use Rattle.machine_step.specs.Texts.{state_text}
+use Rattle.traced_run.specs.Runs.{IsRun, ThreadRun}
 use Rattle.xray_program.specs.Outputs.{AreWhole}
-use Rattle.xray_program.specs.World.{World}
 
--- how a thread runs: the passings on its way, its end and its last state, and the marks of the passings
-pub record ThreadRun : Type 0 where
-  pub passed : List Passing
-  pub end : End
-  pub last : State
-  pub marks : List Mark
-
--- the threads of a run, thread 1 first: each runs as its plain run does
-pub record IsRun (program : Program) (setup : Setup) (runs : List ThreadRun) : Type 0 where
-  pub count : length runs ≡ setup.threads
-  pub plain : (k : ℕ) (run : ThreadRun) → slice_get runs k ≡ Some run
-      → PlainRun program setup.limits (k + 1) run.passed run.end run.last
-
--- the state texts of threads, which are numbered from one of a number on, one behind the other
+-- the state texts of threads, which are numbered from one of a number on, one after another
 abbrev pub state_texts : ℕ → List ThreadRun → List ℕ
 state_texts number [] = []
 state_texts number (run ∷ runs) = state_text number run.end run.last run.marks ++ state_texts (number + 1) runs
 
--- Of lawful runs of the threads all is written that there is: so far there are no outputs, and the text has the state texts, thread 1
--- first.
+-- Of lawful runs of the threads all is written that there is: so far there are no outputs; the text is the state texts, thread 1 first.
 pub record Traces (Lawful : List ThreadRun → Type 0) (program : Program) (setup : Setup) (outputs : List (List ℕ × List ℕ)) (text : List ℕ) : Type 0 where
   pub runs : List ThreadRun
   pub run : IsRun program setup runs
@@ -38,8 +22,8 @@ pub record Traces (Lawful : List ThreadRun → Type 0) (program : Program) (setu
   pub outputs_are : outputs ≡ []
   pub text_is : text ≡ state_texts 1 runs
 
--- The headline: the image file is accepted, the script is read for it and for so many threads, and all outputs and out have what is
--- written of lawful runs.
+-- The headline, for any law of runs: the image file is accepted, the script is read for it and for the number of threads, and all outputs
+-- and out have what is written of lawful runs.
 pub record IsTraced (Lawful : Program → Plan → List ThreadRun → Type 0) (image script : List ℕ) (setup : Setup) (before after : World) : Type 0 where
   pub program : Program
   pub accepted : IsAccepted image program

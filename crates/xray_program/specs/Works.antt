@@ -8,7 +8,7 @@ use Rattle.xray_program.specs.Commands.{Means, HadItsTurn, outputs_named}
 use Rattle.xray_program.specs.Outcomes.{Outcome, BadLine, Unread, TooLong, Refused, Done, Fell, Ending, With, Unwritten, NoMemory, status_at, line_at, written_by}
 use Rattle.xray_program.specs.Outputs.{AreWhole, FailsAt, FailsWriting, WritesNothing}
 use Rattle.xray_program.specs.Words.{Command}
-use Rattle.xray_program.specs.World.{DeskView, SinkView}
+use Rattle.xray_io.specs.World.{DeskView, SinkView}
 use Rattle.xray_program.specs.declared.stop.Stop.{Stop}
 use Rattle.xray_program.specs.declared.stop.Stop.TheVariants as stops
 
@@ -30,7 +30,7 @@ StopsOutputs outputs desk desk_now stop = ⊥
 -- outputs are whole, and out has exactly a text
 pub record Writes (outputs : List (List ℕ × List ℕ)) (text : List ℕ) (desk desk_now : DeskView) (out out_now : SinkView) : Type 0 where
   pub whole : AreWhole outputs desk.held desk_now.held
-  pub out : Adds out.written out_now.written text
+  pub printed : Adds out.written out_now.written text
 
 -- outputs and a text were written, and all is well unless there is a trouble; or one of them failed
 abbrev pub Delivers : List (List ℕ × List ℕ) → (text : List ℕ) → (trouble : Option (List ℕ)) → (desk desk_now : DeskView)

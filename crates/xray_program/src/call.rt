@@ -1,6 +1,6 @@
 //! The top call.
 ghost use Rattle.std.specs.Prelude.{◌≡◌, Some};
-ghost use Rattle.xray_program.specs.World.{desk_view, sink_view};
+ghost use Rattle.xray_io.specs.World.{desk_view, sink_view};
 ghost use Rattle.xray_program.specs.Answers.{Answered};
 ghost use Rattle.xray_program.specs.Commands.{IsStill};
 ghost use Rattle.xray_program.specs.CommandLine.{HasRanges, command_of};

@@ -1,15 +1,14 @@
 //! The end of a command's work: its outputs are written, and then its text.
 ghost use Rattle.std.specs.Prelude.{◌≡◌, ℕ, List, [], ◌∷◌, Contains, Option, option_map, IfErr, OnOk};
 ghost use Rattle.fault_words.specs.Words.{words_text};
-ghost use Rattle.xray_program.specs.World.{desk_view, sink_view};
+ghost use Rattle.xray_io.specs.World.{desk_view, sink_view};
 ghost use Rattle.xray_program.specs.Outputs.{AreWhole};
 ghost use Rattle.xray_program.specs.Works.{Delivers, KeepsOthers, StopsOutputs, names_of};
 
-use crate::output::write_output;
 use crate::stop::Stop;
 use crate::text::Printed;
 use fault_words::Words;
-use xray_io::{Desk, Sink, WriteFault};
+use xray_io::{Desk, Sink, WriteFault, write_output};
 
 /// How err names the standard output.
 const OUT: &str = "output";
@@ -58,7 +57,10 @@ impl<'a> Outputs<'a> for Output<'a, '_> {
     ghost all = { λ o. (o.name.now, o.bytes.now) ∷ [] };
 
     fn write<D: Desk>(&self, desk: &mut D) -> Result<(), Stop<'a>> {
-        write_output(desk, self.name, self.bytes)
+        match write_output(desk, self.name, self.bytes) {
+            Ok(()) => Ok(()),
+            Err(WriteFault) => Err(Stop::Unwritten(self.name)),
+        }
     }
 }
 
@@ -74,7 +76,7 @@ pub(crate) fn deliver<'a, W: Outputs<'a>, P: Printed, D: Desk, O: Sink>(
     requires { P.ready text.now }
     ensures delivers { let seen = desk_view D.held D.read_faults D.write_faults in
         let got = sink_view O.written O.faults in
-        Delivers (W.all outputs.now) (P.text text.now) (option_map words_text trouble)
+        Delivers (W.all outputs.now) (P.text text.now) (option_map words_text trouble.entry)
         (seen desk.old) (seen desk.new) (got out.old) (got out.new) result }
     ensures others { let seen = desk_view D.held D.read_faults D.write_faults in
         KeepsOthers (names_of (W.all outputs.now)) (seen desk.old) (seen desk.new) }

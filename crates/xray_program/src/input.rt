@@ -1,6 +1,6 @@
 //! An input in its turn: it is read, measured and judged before the next is opened.
 ghost use Rattle.std.specs.Prelude.{◌≡◌, ◌≤◌, ℕ, List, Some, length, option_map, IfOk, IfErr};
-ghost use Rattle.xray_program.specs.World.{desk_view};
+ghost use Rattle.xray_io.specs.World.{desk_view};
 ghost use Rattle.xray_program.specs.Takes.{IsFaultStop, IsMaybeTaken, IsReadStop, IsTaken};
 ghost use Rattle.xray_program.specs.Taking.{Form};
 
@@ -71,7 +71,7 @@ pub(crate) fn take_maybe<'a, K: Kind, D: Desk>(
     kind: &K,
 ) -> Result<Option<K::Value>, Stop<'a>>
     ensures taken { let seen = desk_view D.held D.read_faults D.write_faults in
-        IsMaybeTaken (K.form kind.now) (option_map (λ n. n.now) name) (seen desk.old) (seen desk.new) result }
+        IsMaybeTaken (K.form kind.now) (option_map (λ n. n.now) name.entry) (seen desk.old) (seen desk.new) result }
     ensures held { D.held desk.new ≡ D.held desk.old }
     ensures later { D.read_faults desk.old ≤ D.read_faults desk.new }
     ensures writes { D.write_faults desk.new ≡ D.write_faults desk.old }

@@ -6,7 +6,7 @@ ghost use Rattle.xray_program.specs.Outcomes.{Outcome, written_by};
 ghost use Rattle.xray_program.specs.Words.{Command};
 
 use machine_step::{one_end, some_end};
-use step_sim::{one_replay, some_replay};
+use step_sim::{one_run, some_run};
 use xray_image::{one_verdict, some_verdict};
 
 /// Words of a command that decides its outcome mean one thing over a desk that tells of every name: one
@@ -17,7 +17,7 @@ pub fn one_meaning()
 {
     one_verdict();
     one_end();
-    one_replay();
+    one_run();
 }
 
 /// An outcome that writes nothing is all that words mean, whatever the command, over a desk that tells of
@@ -29,7 +29,7 @@ pub fn refusal_is_the_only_meaning()
 {
     one_verdict();
     one_end();
-    one_replay();
+    one_run();
 }
 
 /// Words mean something over a desk that tells of every name, whatever the words are and whatever bytes
@@ -42,5 +42,5 @@ pub fn some_meaning()
     one_verdict();
     some_verdict();
     some_end();
-    some_replay();
+    some_run();
 }

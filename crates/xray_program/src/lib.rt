@@ -21,7 +21,6 @@ mod inputs;
 mod items;
 mod laws;
 mod number_option;
-mod output;
 mod plain;
 mod run_options;
 mod sim;

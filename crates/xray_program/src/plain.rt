@@ -1,6 +1,8 @@
 //! `plain`: the plain runs of an image's threads.
 ghost use Rattle.std.specs.Prelude.{◌≡◌, IfOk};
-ghost use Rattle.xray_program.specs.Ends.{AreEnds};
+ghost use Rattle.std.specs.List.{All, flat_map};
+ghost use Rattle.xray_io.specs.Writes.{WritesText};
+ghost use Rattle.xray_program.specs.Ends.{AreEnds, HasRegisters, end_text};
 
 use crate::delivery::{NoOutputs, deliver};
 use crate::input::take;
@@ -79,9 +81,17 @@ impl Printed for Ends<'_> {
     ghost ready = { λ e. All HasRegisters e.ends.now };
 
     fn print<S: Sink>(&self, sink: &mut S) -> Result<(), WriteFault> {
-        for end in self.ends {
-            write_plain(end, sink)?;
-        }
-        Ok(())
+        write_ends(sink, self.ends)
     }
+}
+
+/// Writes the plain texts of threads, one after another.
+fn write_ends<S: Sink>(sink: &mut S, ends: &[PlainEnd]) -> Result<(), WriteFault>
+    requires { All HasRegisters ends.now }
+    ensures { WritesText S.written S.faults S.along sink.old sink.new (flat_map end_text ends.now) result }
+{
+    for end in ends {
+        write_plain(end, sink)?;
+    }
+    Ok(())
 }

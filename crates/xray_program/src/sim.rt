@@ -1,5 +1,9 @@
 //! `sim`: the replay of a schedule over an image and a script.
 ghost use Rattle.std.specs.Prelude.{◌≡◌};
+ghost use Rattle.std.specs.List.{All, flat_map};
+ghost use Rattle.machine_step.specs.Traced.{IsDone};
+ghost use Rattle.xray_io.specs.Writes.{WritesText};
+ghost use Rattle.xray_program.specs.Ends.{thread_text};
 ghost use Rattle.xray_program.specs.Setups.{IsSetup};
 
 use crate::delivery::{NoOutputs, deliver};
@@ -96,9 +100,17 @@ impl Printed for States<'_, '_> {
     ghost ready = { λ s. All (λ t. IsDone t.want) s.cpus.now };
 
     fn print<S: Sink>(&self, sink: &mut S) -> Result<(), WriteFault> {
-        for cpu in self.cpus {
-            write_state(cpu.thread(), cpu, sink)?;
-        }
-        Ok(())
+        write_states(sink, self.cpus)
     }
+}
+
+/// Writes the state texts of threads that have ended, one after another.
+fn write_states<S: Sink>(sink: &mut S, cpus: &[Cpu]) -> Result<(), WriteFault>
+    requires { All (λ t. IsDone t.want) cpus.now }
+    ensures { WritesText S.written S.faults S.along sink.old sink.new (flat_map thread_text cpus.now) result }
+{
+    for cpu in cpus {
+        write_state(cpu.thread(), cpu, sink)?;
+    }
+    Ok(())
 }

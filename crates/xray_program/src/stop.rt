@@ -2,7 +2,7 @@
 ghost use Rattle.std.specs.Prelude.{◌≡◌, ◌++◌};
 ghost use Rattle.fault_words.specs.Words.{words_text};
 ghost use Rattle.xray_io.specs.Piece.{text_of};
-ghost use Rattle.xray_program.specs.World.{sink_view};
+ghost use Rattle.xray_io.specs.World.{sink_view};
 ghost use Rattle.xray_program.specs.Answers.{Says};
 ghost use Rattle.xray_program.specs.Outcomes.{Refused, err_line, line_of};
 ghost use Rattle.xray_program.specs.Stops.{stop_line, stop_status};

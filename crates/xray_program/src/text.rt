@@ -1,10 +1,8 @@
-//! What a command writes on out, or into an output.
-ghost use Rattle.std.specs.Prelude.{◌≡◌, ℕ, List, OnOk, OnErr};
-ghost use Rattle.std.specs.List.{All, flat_map};
-ghost use Rattle.xray_io.specs.Faults.{Rose};
-ghost use Rattle.xray_io.specs.Sink.{Adds, AddsPrefix};
+//! What a command writes on out.
+ghost use Rattle.std.specs.Prelude.{ℕ, List};
+ghost use Rattle.xray_io.specs.Writes.{WritesText};
 
-use xray_io::{Sink, WriteFault};
+use xray_io::{Sink, WriteFault, write_all};
 
 /// What can be written, a part at a time and without taking memory.
 pub(crate) trait Printed {
@@ -17,9 +15,7 @@ pub(crate) trait Printed {
     /// Writes its text. Where the sink fails, a prefix of it is there.
     fn print<S: Sink>(&self, sink: &mut S) -> Result<(), WriteFault>
         requires { ready self.now }
-        ensures all { OnOk result (Adds (S.written sink.old) (S.written sink.new) (text self.now)) }
-        ensures front { OnErr result (AddsPrefix (S.written sink.old) (S.written sink.new) (text self.now)) }
-        ensures failed { OnErr result (Rose (S.faults sink.old) (S.faults sink.new)) };
+        ensures { WritesText S.written S.faults S.along sink.old sink.new (text self.now) result };
 }
 
 /// No text.
@@ -33,8 +29,7 @@ impl Printed for NoText {
 
     ghost ready = { λ _. ⊤ };
 
-    #[tactic(auto, using(crate::proofs::Adding::adds_none))]
-    fn print<S: Sink>(&self, _sink: &mut S) -> Result<(), WriteFault> {
-        Ok(())
+    fn print<S: Sink>(&self, sink: &mut S) -> Result<(), WriteFault> {
+        write_all(sink, b"")
     }
 }

@@ -1,6 +1,6 @@
 //! A command: what it takes, and what it does with that.
-ghost use Rattle.std.specs.Prelude.{◌≡◌, ℕ, List, Some, IfOk};
-ghost use Rattle.xray_program.specs.World.{desk_view, sink_view};
+ghost use Rattle.std.specs.Prelude.{◌≡◌, ◌≤◌, ℕ, List, Some, IfOk};
+ghost use Rattle.xray_io.specs.World.{desk_view, sink_view};
 ghost use Rattle.xray_program.specs.Commands.{Comes, outputs_of};
 ghost use Rattle.xray_program.specs.Outcomes.{Outcome};
 ghost use Rattle.xray_program.specs.Stops.{answer_of, told_of};

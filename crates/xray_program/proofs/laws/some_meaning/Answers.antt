@@ -4,5 +4,5 @@ use Rattle.xray_program.proofs.laws.some_meaning.Goals as goal
 pub returns : goal.returns
 returns c said held told holds =
     some_means
-    (record { verdict = c.some_verdict.ensures; accepts = c.one_verdict.ensures.accepted; end = c.some_end.ensures; replay = c.some_replay.ensures.still })
+    (record { verdict = c.some_verdict.ensures; accepts = c.one_verdict.ensures.accepted; end = c.some_end.ensures; run = c.some_run.ensures.still })
     said held told holds
