@@ -1,5 +1,5 @@
 -- Lines on err.
-use Rattle.std.proofs.Common.{◌≡◌, ◌⊎◌, ◌≤◌, ◌++◌, ◌∙◌, ℕ, List, [], length, take, Option, Some, None, option_map, inl, inr, refl, sym, ap}
+use Rattle.std.proofs.Common.{◌≡◌, ◌⊎◌, ◌≤◌, ◌++◌, ◌∙◌, ℕ, zero, suc, List, [], length, take, Option, Some, None, option_map, inl, inr, refl, sym, ap}
 use Rattle.std.proofs.lemmas.List.{append-nil}
 use Rattle.xray_io.specs.Sink.{Adds, AddsPrefix}
 use Rattle.xray_program.specs.Answers.{Says}
@@ -9,8 +9,9 @@ no_more : (old : Option (List ℕ)) → option_map (λ before. before ++ []) old
 no_more None = refl
 no_more (Some before) = ap Some (append-nil before)
 
-take_none : (count : ℕ) → take count [] ≡ []
-take_none count = grind
+take_none : (count : ℕ) → ◌≡◌ {A = List ℕ} (take count []) []
+take_none zero = refl
+take_none (suc count) = refl
 
 -- nothing was said, and so err has what it had
 pub says_nothing : (before after : SinkView) → Says before after [] → after.written ≡ before.written

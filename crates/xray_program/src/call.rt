@@ -37,7 +37,7 @@ pub fn xray_still<D: Desk, O: Sink, E: Sink>(
     err: &mut E,
 ) -> u8
     requires still { IsStill (reading wall (texts words.now)) }
-    ensures answered { let seen = desk_view D.held D.read_faults D.write_faults in
+    ensures { let seen = desk_view D.held D.read_faults D.write_faults in
         let got = sink_view O.written O.faults in
         let heard = sink_view E.written E.faults in
         Answered (reading wall (texts words.now))
@@ -69,7 +69,7 @@ pub fn xray<T: Threads + Wait + Sync, D: Desk, O: Sink, E: Sink, G: Gate + Sync>
     err: &mut E,
     _gate: &G,
 ) -> u8
-    ensures answered { let seen = desk_view D.held D.read_faults D.write_faults in
+    ensures { let seen = desk_view D.held D.read_faults D.write_faults in
         let got = sink_view O.written O.faults in
         let heard = sink_view E.written E.faults in
         Answered (reading wall (texts words.now))
