@@ -1,59 +1,14 @@
--- An output that is created and written.
-use Rattle.std.proofs.Common.{◌≡◌, ◌≢◌, ◌≤◌, ◌++◌, ◌∙◌, ℕ, List, [], ◌∷◌, length, take, Contains, option_map, inl, inr, refl, sym, ap, arith}
+-- Outputs that are made, and texts that are written.
+use Rattle.std.proofs.Common.{◌≡◌, ◌≢◌, ◌≤◌, ◌++◌, ◌∙◌, ℕ, List, [], ◌∷◌, Contains, Result, Ok, Err, inl, inr, refl, sym, ap, arith}
 use Rattle.std.proofs.lemmas.List.Elements.{All-from_recursion, All-nil}
-use Rattle.xray_io.specs.Desk.{Entry, Untold, Absent, Holds, empty_entry, longer_entry}
-use Rattle.xray_io.specs.DeskFile.{bytes_of}
+use Rattle.xray_io.specs.Calls.{Call}
+use Rattle.xray_io.specs.Desk.{Entry, made_to_hold}
 use Rattle.xray_io.specs.Faults.{Rose}
-use Rattle.xray_io.specs.Sink.{Adds, AddsPrefix}
-use Rattle.xray_program.specs.Outputs.{made_to_hold, AreWhole, AreUntouched, FailsAt}
-
--- ---- what is written at the end of a name that is held
-
-longer : (old new : Entry) (bytes : List ℕ) → old ≢ Absent → (old ≢ Absent → new ≢ Absent)
-    → bytes_of new ≡ option_map (λ before. before ++ bytes) (bytes_of old) → new ≡ longer_entry old bytes
-longer Untold Untold bytes there stays told = refl
-longer Untold Absent bytes there stays told = absurd (stays there refl)
-longer Untold (Holds after) bytes there stays told = absurd cc
-longer Absent new bytes there stays told = absurd (there refl)
-longer (Holds before) Untold bytes there stays told = absurd cc
-longer (Holds before) Absent bytes there stays told = absurd (stays there refl)
-longer (Holds before) (Holds after) bytes there stays told = cc
-
-pub appended : (old new : Entry) (bytes : List ℕ) → old ≢ Absent → (old ≢ Absent → new ≢ Absent)
-    → Adds (bytes_of old) (bytes_of new) bytes → new ≡ longer_entry old bytes
-appended old new bytes there stays adds = longer old new bytes there stays adds.told
-
-pub front_appended : (old new : Entry) (bytes : List ℕ) → old ≢ Absent → (old ≢ Absent → new ≢ Absent)
-    → AddsPrefix (bytes_of old) (bytes_of new) bytes
-    → (count : ℕ) × (count ≤ length bytes) × (new ≡ longer_entry old (take count bytes))
-front_appended old new bytes there stays adds =
-    (adds.count, adds.within, longer old new (take adds.count bytes) there stays adds.told)
-
--- ---- behind a creation
-
--- a name that was created is held, where anything is told
-pub is_there : (old created : Entry) → created ≡ empty_entry old → created ≢ Absent
-is_there Untold created is absent = cc
-is_there Absent created is absent = cc
-is_there (Holds before) created is absent = cc
-
--- it holds what was written
-made : (old created new : Entry) (bytes : List ℕ) → created ≡ empty_entry old → new ≡ longer_entry created bytes
-    → new ≡ made_to_hold old bytes
-made old created new bytes is more = more ∙ (ap (λ (e : Entry). longer_entry e bytes) is ∙ from_empty old)
-  where
-    from_empty : (e : Entry) → longer_entry (empty_entry e) bytes ≡ made_to_hold e bytes
-    from_empty Untold = refl
-    from_empty Absent = refl
-    from_empty (Holds before) = refl
-
-pub whole_one : (name bytes : List ℕ) (old created new : List ℕ → Entry) → created name ≡ empty_entry (old name)
-    → new name ≡ longer_entry (created name) bytes → AreWhole ((name, bytes) ∷ []) old new
-whole_one name bytes old created new is more =
-    All-from_recursion (λ output. new output.0 ≡ made_to_hold (old output.0) output.1) ((name, bytes) ∷ [])
-    (made (old name) (created name) (new name) bytes is more, tt)
-
--- ---- an output that failed, where it is the only one
+use Rattle.xray_io.specs.Outputs.{IsMaking, MakesOutput}
+use Rattle.xray_io.specs.World.{DeskView}
+use Rattle.xray_io.specs.declared.faults.WriteFault.{WriteFault}
+use Rattle.xray_program.specs.Outputs.{AreWhole, AreUntouched, FailsAt, HoldsPrefix}
+use Rattle.xray_program.specs.Works.{KeepsOthers}
 
 pub none_whole : (old new : List ℕ → Entry) → AreWhole [] old new
 none_whole old new = All-nil (λ output. new output.0 ≡ made_to_hold (old output.0) output.1)
@@ -61,36 +16,32 @@ none_whole old new = All-nil (λ output. new output.0 ≡ made_to_hold (old outp
 none_touched : (old new : List ℕ → Entry) → AreUntouched [] old new
 none_touched old new = All-nil (λ output. new output.0 ≡ old output.0)
 
--- its creation failed
-pub fails_created : (name bytes : List ℕ) (old new : List ℕ → Entry) (before now : ℕ) → new ≡ old → Rose before now
-    → FailsAt ((name, bytes) ∷ []) old new before now name
-fails_created name bytes old new before now same rose = record {
+-- the only output was made
+pub whole_one : (name bytes : List ℕ) (old new : List ℕ → Entry) (calls : List Call) → IsMaking name bytes (old name) (new name) (Ok tt) calls
+    → AreWhole ((name, bytes) ∷ []) old new
+whole_one name bytes old new calls making =
+    All-from_recursion (λ output. new output.0 ≡ made_to_hold (old output.0) output.1) ((name, bytes) ∷ []) (making.0, tt)
+
+-- it failed
+prefix : (name bytes : List ℕ) (old new : Entry) (fault : WriteFault) (calls : List Call) → IsMaking name bytes old new (Err fault) calls → HoldsPrefix old new bytes
+prefix name bytes old new fault calls (inl fails) = inl fails.same
+prefix name bytes old new fault calls (inr fails) = inr (fails.sent, fails.rest, fails.order, fails.holds)
+
+pub fails_one : (name bytes : List ℕ) (old new : DeskView) (fault : WriteFault) (calls : List Call)
+    → IsMaking name bytes (old.held name) (new.held name) (Err fault) calls → Rose old.write_faults new.write_faults
+    → FailsAt ((name, bytes) ∷ []) old new name
+fails_one name bytes old new fault calls making rose = record {
   earlier = [];
   bytes = bytes;
   later = [];
   order = refl;
   fault = rose;
-  whole = none_whole old new;
-  front = inl (ap (λ (h : List ℕ → Entry). h name) same);
-  untouched = none_touched old new;
+  whole = none_whole old.held new.held;
+  prefix = prefix name bytes (old.held name) (new.held name) fault calls making;
+  untouched = none_touched old.held new.held;
 }
 
--- its writing failed
-pub fails_written : (name bytes : List ℕ) (old created new : List ℕ → Entry) (before mid now : ℕ)
-    → created name ≡ empty_entry (old name) → before ≤ mid
-    → (count : ℕ) × (count ≤ length bytes) × (new name ≡ longer_entry (created name) (take count bytes)) → Rose mid now
-    → FailsAt ((name, bytes) ∷ []) old new before now name
-fails_written name bytes old created new before mid now is up (count, within, more) rose = record {
-  earlier = [];
-  bytes = bytes;
-  later = [];
-  order = refl;
-  fault = omega arith;
-  whole = none_whole old new;
-  front = inr (count, within, made (old name) (created name) (new name) (take count bytes) is more);
-  untouched = none_touched old new;
-}
-
--- a name that isn't that of the only output
-pub is_other : (name other : List ℕ) → (Contains (name ∷ []) other → ⊥) → other ≢ name
-is_other name other not same = not (0, omega arith, sym same)
+-- a name that isn't that of the only output holds what it held
+pub keeps_others : (name : List ℕ) (old new : DeskView) → ((other : List ℕ) → other ≢ name → new.held other ≡ old.held other)
+    → KeepsOthers (name ∷ []) old new
+keeps_others name old new others other not = others other (λ same. not (0, omega arith, sym same))

@@ -1,119 +1,83 @@
--- What comes of `sim` by the turns of its three inputs.
-use Rattle.std.specs.Prelude.{MatchOption}
-use Rattle.std.proofs.Common.{◌≡◌, ℕ, List, Option, Some, None, refl}
-use Rattle.xray_io.specs.Desk.{Entry, Absent}
-use Rattle.xray_image.specs.Program.{Program}
+-- `sim`: the turns of its three inputs, and a script that waits.
+use Rattle.std.proofs.Common.{◌≡◌, ◌≢◌, ◌≤◌, ◌↔◌, ◌∙◌, ℕ, List, Option, Some, None, Result, Ok, Err, option_map, refl, sym, ap, subst, codes}
+use Rattle.fault_words.specs.Words.{words_text}
+use Rattle.machine_step.specs.declared.setup.Setup.{Setup}
 use Rattle.patch_script.specs.Plans.{Plan, waiting_line}
-use Rattle.patch_script.specs.Refusals.{commands_of}
+use Rattle.step_sim.specs.FaultWords.{sim_words, waits_words}
+use Rattle.step_sim.specs.declared.sim_fault.SimFault.{SimFault}
+use Rattle.step_sim.specs.declared.sim_fault.SimFault.TheVariants as replaying
 use Rattle.step_sim.specs.declared.turns.Turns.{Turns}
-use Rattle.xray_program.specs.declared.stop.Stop.{Stop}
-use Rattle.xray_program.specs.declared.run_options.RunOptions.{RunOptions}
+use Rattle.xray_image.specs.Program.{Program}
+use Rattle.xray_io.specs.Desk.{Entry}
+use Rattle.xray_io.specs.World.{DeskView, SinkView}
 use Rattle.xray_program.specs.Inputs.{image_form, script_form, schedule_form}
-use Rattle.xray_program.specs.Meaning.{Outcome, Done, Comes, Prints, ComesOfReplay, Take, TellsAll}
-use Rattle.xray_program.specs.States.{SimPrints}
-use Rattle.xray_program.specs.Stops.{stop_status}
-use Rattle.xray_program.specs.Takes.{Gives, Fails, Stops, IsAnswerSoFar}
-use Rattle.xray_program.specs.Words.{Sim}
-use Rattle.xray_program.proofs.Taking.{gives_on, stops_here, stops_on, comes_on, answers_here}
+use Rattle.xray_program.specs.Outcomes.{Outcome, Refused, Done}
+use Rattle.xray_program.specs.Sim.{Replays, SimComes}
+use Rattle.xray_program.specs.Takes.{Gives, IsFaultStop}
+use Rattle.xray_program.specs.Taking.{DeskReads, Form, RefuseIf, Take}
+use Rattle.xray_program.specs.Works.{Finishes}
+use Rattle.xray_program.specs.declared.stop.Stop.{Stop}
+use Rattle.xray_program.specs.declared.stop.Stop.TheVariants as stops
+use Rattle.xray_program.proofs.Turns.{Leads, leads, leads_on}
 
--- what comes of a script
-abbrev pub AfterScript : RunOptions → (List ℕ → Entry) → (s c : List ℕ) → (List ℕ → Type 0) → Program → Plan → Outcome → Type 0
-AfterScript options held s c fails program plan = Take (schedule_form options.threads) fails held c (ComesOfReplay s options program plan)
+-- what comes of the command; of its script and its schedule; and of its schedule
+abbrev pub Comes : (List ℕ → Entry) → (i s c : List ℕ) → Setup → DeskReads → Outcome → Type 0
+Comes held i s c setup reads = SimComes reads held i s c setup
 
--- what comes of an image
-abbrev pub AfterImage : RunOptions → (List ℕ → Entry) → (s c : List ℕ) → (List ℕ → Type 0) → Program → Outcome → Type 0
-AfterImage options held s c fails program = Take (script_form program options.threads) fails held s (AfterScript options held s c fails program)
+abbrev pub AfterImage : (List ℕ → Entry) → (s c : List ℕ) → Setup → DeskReads → Program → Outcome → Type 0
+AfterImage held s c setup reads program =
+    Take (script_form program setup.threads) reads held s (λ plan.
+    Take (schedule_form setup.threads) reads held c (λ turns. Replays s setup program plan turns))
 
--- all three inputs gave a value, so what comes of these comes
-pub all_give : (options : RunOptions) (fails : List ℕ → Type 0) (held : List ℕ → Entry) (i s c : List ℕ) (program : Program) (plan : Plan)
-    (turns : List Turns) (outcome : Outcome) → Gives image_form (held i) program → Gives (script_form program options.threads) (held s) plan
-    → Gives (schedule_form options.threads) (held c) turns → ComesOfReplay s options program plan turns outcome
-    → Comes fails held (Sim i s c options) outcome
-all_give options fails held i s c program plan turns outcome image script schedule comes =
-    gives_on image_form fails held i (AfterImage options held s c fails) program outcome image
-    (gives_on (script_form program options.threads) fails held s (AfterScript options held s c fails program) plan outcome script
-    (gives_on (schedule_form options.threads) fails held c (ComesOfReplay s options program plan) turns outcome schedule comes))
+abbrev pub AfterScript : (List ℕ → Entry) → (s c : List ℕ) → Setup → Program → DeskReads → Plan → Outcome → Type 0
+AfterScript held s c setup program reads plan = Take (schedule_form setup.threads) reads held c (λ turns. Replays s setup program plan turns)
 
--- the first of them stopped the call, the second, or the third
-pub stops_at_image : (options : RunOptions) (held : List ℕ → Entry) (i s c : List ℕ) (before now : ℕ) (stop : Stop)
-    → Fails image_form held i before now stop → Stops (λ fails. Comes fails held (Sim i s c options)) held before now stop
-stops_at_image options held i s c before now stop fails =
-    stops_here image_form held i (AfterImage options held s c) before now stop fails
+abbrev pub AfterSchedule : (s : List ℕ) → Setup → Program → Plan → DeskReads → List Turns → Outcome → Type 0
+AfterSchedule s setup program plan reads turns = Replays s setup program plan turns
 
-pub stops_at_script : (options : RunOptions) (held : List ℕ → Entry) (i s c : List ℕ) (program : Program) (before now : ℕ) (stop : Stop)
-    → Gives image_form (held i) program → Fails (script_form program options.threads) held s before now stop
-    → Stops (λ fails. Comes fails held (Sim i s c options)) held before now stop
-stops_at_script options held i s c program before now stop image fails =
-    stops_on image_form held i (AfterImage options held s c) program before now stop image
-    (stops_here (script_form program options.threads) held s (λ fails. AfterScript options held s c fails program) before now stop fails)
+-- how far the inputs lead
+pub to_script : (held : List ℕ → Entry) (i s c : List ℕ) (setup : Setup) (program : Program) → Gives image_form (held i) program
+    → Leads (Comes held i s c setup) (λ reads. Take (script_form program setup.threads) reads held s (AfterScript held s c setup program reads))
+to_script held i s c setup program image =
+    leads_on image_form (Comes held i s c setup) held i (AfterImage held s c setup) program (leads (Comes held i s c setup)) image
 
-pub stops_at_schedule : (options : RunOptions) (held : List ℕ → Entry) (i s c : List ℕ) (program : Program) (plan : Plan) (before now : ℕ)
-    (stop : Stop) → Gives image_form (held i) program → Gives (script_form program options.threads) (held s) plan
-    → Fails (schedule_form options.threads) held c before now stop
-    → Stops (λ fails. Comes fails held (Sim i s c options)) held before now stop
-stops_at_schedule options held i s c program plan before now stop image script fails =
-    stops_on image_form held i (AfterImage options held s c) program before now stop image
-    (stops_on (script_form program options.threads) held s (λ fails. AfterScript options held s c fails program) plan before now stop script
-    (stops_here (schedule_form options.threads) held c (λ fails. ComesOfReplay s options program plan) before now stop fails))
+pub to_schedule : (held : List ℕ → Entry) (i s c : List ℕ) (setup : Setup) (program : Program) (plan : Plan) → Gives image_form (held i) program
+    → Gives (script_form program setup.threads) (held s) plan
+    → Leads (Comes held i s c setup) (λ reads. Take (schedule_form setup.threads) reads held c (AfterSchedule s setup program plan reads))
+to_schedule held i s c setup program plan image script =
+    leads_on (script_form program setup.threads) (Comes held i s c setup) held s (AfterScript held s c setup program) plan
+    (to_script held i s c setup program image) script
 
--- ---- what is meant, by how far the inputs gave values
+-- a value that a desk gave that holds what another held
+pub given_before : {X : Type 0} (form : Form X) (held mid : List ℕ → Entry) (name : List ℕ) (value : X) → mid ≡ held
+    → Gives form (mid name) value → Gives form (held name) value
+given_before form held mid name value same = subst (λ (h : List ℕ → Entry). Gives form (h name) value) same
 
-abbrev IsAbsent : (List ℕ → Entry) → List ℕ → Type 0
-IsAbsent held name = held name ≡ Absent
+-- a script that waits is refused, and for want of memory nothing is written
+pub sim_refuses : (s : List ℕ) (setup : Setup) (program : Program) (plan : Plan) (turns : List Turns) (desk : DeskView) (out : SinkView)
+    (fault : SimFault) (stop : Stop) → ((line : ℕ) → fault ≡ replaying.Waits line → waiting_line plan.lines ≡ Some line)
+    → IsFaultStop s (codes "script") (sim_words fault) stop → Finishes (Replays s setup program plan turns) desk desk out out (Err stop)
+sim_refuses s setup program plan turns desk out fault stops.BadLine waits is = is
+sim_refuses s setup program plan turns desk out fault (stops.Unread n) waits is = is
+sim_refuses s setup program plan turns desk out fault (stops.TooLong n) waits is = is
+sim_refuses s setup program plan turns desk out (replaying.Waits line) (stops.Refused n kind words) waits (same, of_kind, is) =
+    (rw (waits line refl) refused, (refl, refl))
+  where
+    worded : (a b : List ℕ) → Some a ≡ Some b → b ≡ a
+    worded a b e = cc
 
-meant_script : (options : RunOptions) (held : List ℕ → Entry) (i s c : List ℕ) (program : Program) (outcome : Outcome) → TellsAll held
-    → Gives image_form (held i) program → Comes (IsAbsent held) held (Sim i s c options) outcome
-    → AfterImage options held s c (IsAbsent held) program outcome
-meant_script options held i s c program outcome told image meant =
-    comes_on image_form held i (AfterImage options held s c (IsAbsent held)) program outcome (told i) image meant
+    refused : Refused n.now kind.now (words_text words) ≡ Refused s (codes "script") (waits_words line)
+    refused = rw (same, of_kind, worded (waits_words line) (words_text words) is) refl
+sim_refuses s setup program plan turns desk out replaying.NoMemory (stops.Refused n kind words) waits (same, of_kind, is) = absurd (never is)
+  where
+    never : None ≡ Some (words_text words) → ⊥
+    never e = cc
+sim_refuses s setup program plan turns desk out fault (stops.Fell words) waits is = absurd is
+sim_refuses s setup program plan turns desk out fault (stops.Unwritten n) waits is = absurd is
+sim_refuses s setup program plan turns desk out fault stops.NoMemory waits is = (refl, refl)
 
-meant_schedule : (options : RunOptions) (held : List ℕ → Entry) (i s c : List ℕ) (program : Program) (plan : Plan) (outcome : Outcome)
-    → TellsAll held → Gives image_form (held i) program → Gives (script_form program options.threads) (held s) plan
-    → Comes (IsAbsent held) held (Sim i s c options) outcome → AfterScript options held s c (IsAbsent held) program plan outcome
-meant_schedule options held i s c program plan outcome told image script meant =
-    comes_on (script_form program options.threads) held s (AfterScript options held s c (IsAbsent held) program) plan outcome (told s) script
-    (meant_script options held i s c program outcome told image meant)
-
--- all inputs gave values, so what is meant comes of these
-pub meant_replay : (options : RunOptions) (held : List ℕ → Entry) (i s c : List ℕ) (program : Program) (plan : Plan) (turns : List Turns)
-    (outcome : Outcome) → TellsAll held → Gives image_form (held i) program → Gives (script_form program options.threads) (held s) plan
-    → Gives (schedule_form options.threads) (held c) turns → Comes (IsAbsent held) held (Sim i s c options) outcome
-    → ComesOfReplay s options program plan turns outcome
-meant_replay options held i s c program plan turns outcome told image script schedule meant =
-    comes_on (schedule_form options.threads) held c (ComesOfReplay s options program plan) turns outcome (told c) schedule
-    (meant_schedule options held i s c program plan outcome told image script meant)
-
--- one of them ended its turn with a stop, whose status answers what is meant
-pub answers_at_image : (options : RunOptions) (held : List ℕ → Entry) (i s c : List ℕ) (before now : ℕ) (stop : Stop) (outcome : Outcome)
-    → TellsAll held → Fails image_form held i before now stop → Comes (IsAbsent held) held (Sim i s c options) outcome
-    → IsAnswerSoFar before now outcome (stop_status stop)
-answers_at_image options held i s c before now stop outcome told fails meant =
-    answers_here image_form held i (AfterImage options held s c (IsAbsent held)) before now stop outcome (told i) fails meant
-
-pub answers_at_script : (options : RunOptions) (held : List ℕ → Entry) (i s c : List ℕ) (program : Program) (before now : ℕ) (stop : Stop)
-    (outcome : Outcome) → TellsAll held → Gives image_form (held i) program
-    → Fails (script_form program options.threads) held s before now stop
-    → Comes (IsAbsent held) held (Sim i s c options) outcome → IsAnswerSoFar before now outcome (stop_status stop)
-answers_at_script options held i s c program before now stop outcome told image fails meant =
-    answers_here (script_form program options.threads) held s (AfterScript options held s c (IsAbsent held) program) before now stop outcome
-    (told s) fails (meant_script options held i s c program outcome told image meant)
-
-pub answers_at_schedule : (options : RunOptions) (held : List ℕ → Entry) (i s c : List ℕ) (program : Program) (plan : Plan) (before now : ℕ)
-    (stop : Stop) (outcome : Outcome) → TellsAll held → Gives image_form (held i) program
-    → Gives (script_form program options.threads) (held s) plan → Fails (schedule_form options.threads) held c before now stop
-    → Comes (IsAbsent held) held (Sim i s c options) outcome → IsAnswerSoFar before now outcome (stop_status stop)
-answers_at_schedule options held i s c program plan before now stop outcome told image script fails meant =
-    answers_here (schedule_form options.threads) held c (ComesOfReplay s options program plan) before now stop outcome (told c) fails
-    (meant_schedule options held i s c program plan outcome told image script meant)
-
--- ---- where all is done, nobody waits in the script
-
--- a match of which the second part can't be
-first_part : (found : Option ℕ) (P : Type 0) (Q : ℕ → Type 0) → ((n : ℕ) → Q n → ⊥) → MatchOption found P Q → (found ≡ None) × P
-first_part None P Q never holds = (refl, holds)
-first_part (Some n) P Q never holds = absurd (never n holds)
-
-pub replay_done : (name : List ℕ) (options : RunOptions) (program : Program) (plan : Plan) (turns : List Turns)
-    (outputs : List (List ℕ × List ℕ)) (text : List ℕ) → ComesOfReplay name options program plan turns (Done outputs text)
-    → (waiting_line plan.lines ≡ None) × Prints (SimPrints program (commands_of plan.lines) turns options) (Done outputs text)
-replay_done name options program plan turns outputs text comes = first_part (waiting_line plan.lines) _ _ (λ n is. cc) comes
+-- where nobody waits, what is left comes
+pub sim_leaves : (s : List ℕ) (line : Option ℕ) (next : Outcome → Type 0) (outcome : Outcome)
+    → ((n : ℕ) → line ≡ Some n → ⊥) → next outcome → RefuseIf (option_map waits_words line) s (codes "script") next outcome
+sim_leaves s None next outcome still is = is
+sim_leaves s (Some n) next outcome still is = absurd (still n refl)

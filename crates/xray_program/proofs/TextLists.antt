@@ -1,7 +1,7 @@
 -- Texts of items, one behind the other, and the items of a list by their places.
-use Rattle.std.proofs.Common.{◌≡◌, ◌++◌, ◌∙◌, ℕ, zero, suc, List, [], ◌∷◌, length, map, Option, option_map, Some, None, refl, sym, ap, arith}
+use Rattle.std.proofs.Common.{◌≡◌, ◌+◌, ◌++◌, ◌∙◌, ℕ, zero, suc, List, [], ◌∷◌, length, map, Option, option_map, Some, None, refl, sym, ap, arith}
 use Rattle.std.specs.List.{flat_map, slice_get}
-use Rattle.std.proofs.lemmas.Option.{slice_get-map}
+use Rattle.std.proofs.lemmas.Option.{same_Some, slice_get-map}
 
 -- the texts of items are those of the list of their texts
 pub joined_texts : {X : Type 0} (f : X → List ℕ) (xs : List X) → flat_map f xs ≡ flat_map (λ t. t) (map f xs)
@@ -31,3 +31,31 @@ same_list P one (x ∷ xs) [] at at' e = absurd (omega (arith, e))
 same_list P one (x ∷ xs) (y ∷ ys) at at' e =
     let tails = same_list (λ i. P (suc i)) (λ i. one (suc i)) xs ys (λ i. at (suc i)) (λ i. at' (suc i)) (omega (arith, e)) in
     ap (λ z. z ∷ xs) (one zero x y (at zero x refl) (at' zero y refl)) ∙ ap (λ zs. y ∷ zs) tails
+
+-- ---- lists by their places
+
+-- the items of so many places, from one on
+abbrev pub made : {X : Type 0} → (ℕ → X) → ℕ → ℕ → List X
+made item from zero = []
+made item from (suc n) = item from ∷ made item (from + 1) n
+
+-- they are as many as the places
+pub made_length : {X : Type 0} (item : ℕ → X) (from n : ℕ) → length (made item from n) ≡ n
+made_length item from zero = refl
+made_length item from (suc n) = ap suc (made_length item (from + 1) n)
+
+-- each stands at its place
+pub made_at : {X : Type 0} (item : ℕ → X) (from n k : ℕ) (x : X) → slice_get (made item from n) k ≡ Some x → item (from + k) ≡ x
+made_at item from zero k x e = cc
+made_at item from (suc n) zero x e =
+    let here : from + zero ≡ from = omega arith in
+    ap item here ∙ same_Some (item from) x e
+made_at item from (suc n) (suc k) x e =
+    let there : from + suc k ≡ from + 1 + k = omega arith in
+    ap item there ∙ made_at item (from + 1) n k x e
+
+-- from place 0 on each stands at its own
+pub made_first : {X : Type 0} (item : ℕ → X) (n k : ℕ) (x : X) → slice_get (made item 0 n) k ≡ Some x → item k ≡ x
+made_first item n k x e =
+    let here : k ≡ 0 + k = omega arith in
+    ap item here ∙ made_at item 0 n k x e

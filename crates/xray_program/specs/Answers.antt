@@ -1,70 +1,97 @@
--- What stands behind each status of the top call.
-use Rattle.std.specs.Prelude.{◌≡◌, ◌⊎◌, ℕ, List, Option, None, Ok}
-use Rattle.xray_io.specs.Desk.{Entry, Absent}
+-- The contract of the top call: what was said, the world before the call and after it, and the status.
+use Rattle.std.specs.Prelude.{◌≡◌, ◌⊎◌, ◌↔◌, ℕ, List, Contains, Option, Some, None}
+use Rattle.xray_io.specs.Desk.{Entry, Absent, Holds}
 use Rattle.xray_io.specs.Faults.{Rose}
-use Rattle.xray_io.specs.Sink.{Adds}
-use Rattle.xray_image.specs.Program.{Program, IsAccepted}
-use Rattle.patch_script.specs.Plans.{Plan, plan_of, waiting_line}
-use Rattle.patch_script.specs.Refusals.{commands_of}
-use Rattle.step_sim.specs.declared.turns.Turns.{Turns}
-use Rattle.step_sim.specs.Schedules.{schedule_of}
-use Rattle.xray_program.specs.Meaning.{Outcome, Done, Unread, status_of, line_of, write_fault_line, Means, HadItsTurn, Says}
-use Rattle.xray_program.specs.Outputs.{AreWhole, FailsWriting}
-use Rattle.xray_program.specs.States.{DecodesWhole, SimPrints, cast_with}
-use Rattle.xray_program.specs.declared.run_options.RunOptions.{RunOptions}
+use Rattle.xray_io.specs.Sink.{Adds, AddsPrefix}
+use Rattle.machine_step.specs.declared.setup.Setup.{Setup}
+use Rattle.xray_program.specs.Commands.{Means, HadItsTurn, outputs_named}
+use Rattle.xray_program.specs.Outcomes.{Outcome, Unread, Ending, With, Unwritten, NoMemory, status_of, status_at, line_at, written_by}
+use Rattle.xray_program.specs.Outputs.{AreWhole, FailsWriting, WritesNothing}
+use Rattle.xray_program.specs.Sim.{FollowsSchedule}
+use Rattle.xray_program.specs.Traced.{IsTraced}
+use Rattle.xray_program.specs.Words.{Command, Sim}
+use Rattle.xray_io.specs.World.{SinkView, World}
 
--- all is done: each output that the words mean is whole, and out has exactly the text
-pub record LeavesAll (said : List (List ℕ)) (held held_now : List ℕ → Entry) (old new : Option (List ℕ)) : Type 0 where
-  pub outputs : List (List ℕ × List ℕ)
-  pub text : List ℕ
-  pub meant : Means said held (Done outputs text)
-  pub whole : AreWhole outputs held held_now
-  pub out : Adds old new text
+-- a sink got exactly this line, or a prefix of it and its faults rose
+abbrev pub Says : (before after : SinkView) → List ℕ → Type 0
+Says before after line =
+    Adds before.written after.written line ⊎ (Rose before.faults after.faults × AddsPrefix before.written after.written line)
 
--- a status that the words mean, with its line on err; err had `before` faults, and has `now`
-pub record Reports (said : List (List ℕ)) (held : List ℕ → Entry) (status before now : ℕ) (old new : Option (List ℕ)) : Type 0 where
+-- the call ended with an outcome that is meant and writes: its outputs are whole, and out has exactly its text
+pub record LeavesAll (said : Option Command) (before after : World) (ending : Ending) : Type 0 where
   pub outcome : Outcome
-  pub meant : Means said held outcome
-  pub status_is : status_of outcome ≡ status
-  pub says : Says before now old new (line_of outcome)
-
--- a name whose turn had come couldn't be read: the desk's reads failed, or it doesn't hold the name
-pub record CouldNotRead (said : List (List ℕ)) (held : List ℕ → Entry) (reads_before reads_now before now : ℕ) (old new : Option (List ℕ)) : Type 0 where
-  pub name : List ℕ
-  pub turn : HadItsTurn said held name
-  pub cause : Rose reads_before reads_now ⊎ (held name ≡ Absent)
-  pub says : Says before now old new (line_of (Unread name))
-
--- an output of this name that the words mean failed, or out, which is named `output`
-pub record CouldNotWrite (said : List (List ℕ)) (held held_now : List ℕ → Entry) (writes_before writes_now out_before out_now : ℕ) (old new : Option (List ℕ)) (name : List ℕ) : Type 0 where
+  pub is : ending ≡ With outcome
+  pub meant : Means said before.desk.held outcome
   pub outputs : List (List ℕ × List ℕ)
   pub text : List ℕ
-  pub meant : Means said held (Done outputs text)
-  pub failed : FailsWriting outputs text held held_now writes_before writes_now out_before out_now old new name
+  pub writes : written_by outcome ≡ Some (outputs, text)
+  pub whole : AreWhole outputs before.desk.held after.desk.held
+  pub out : Adds before.out.written after.out.written text
 
--- an output failed, or out, and err tells which
-pub record TellsWriteFault (said : List (List ℕ)) (held held_now : List ℕ → Entry) (writes_before writes_now out_before out_now : ℕ) (old new : Option (List ℕ)) (before now : ℕ) (err_old err_new : Option (List ℕ)) : Type 0 where
+-- it ended with an outcome that is meant
+pub record Reports (said : Option Command) (before : World) (ending : Ending) : Type 0 where
+  pub outcome : Outcome
+  pub is : ending ≡ With outcome
+  pub meant : Means said before.desk.held outcome
+
+-- it ended at an input whose turn had come, and which couldn't be read: reads failed, or the desk doesn't hold the name, and then that
+-- is what is meant
+pub record CouldNotRead (said : Option Command) (before after : World) (ending : Ending) : Type 0 where
   pub name : List ℕ
-  pub failed : CouldNotWrite said held held_now writes_before writes_now out_before out_now old new name
-  pub says : Says before now err_old err_new (write_fault_line name)
+  pub is : ending ≡ With (Unread name)
+  pub turn : HadItsTurn said before.desk.held name
+  pub cause : Rose before.desk.read_faults after.desk.read_faults
+      ⊎ ((before.desk.held name ≡ Absent) × Means said before.desk.held (Unread name))
 
--- the image file is accepted, the script and the schedule are read for it and for so many threads, nobody waits in the script, out
--- has the state texts of the replay, and no thread decodes a torn sled
-pub record IsSimulated (image script schedule : List ℕ) (options : RunOptions) (old new : Option (List ℕ)) : Type 0 where
-  pub program : Program
-  pub accepted : IsAccepted image program
-  pub plan : Plan
-  pub script_reads : plan_of program options.threads script ≡ Ok plan
-  pub nobody_waits : waiting_line plan.lines ≡ None
-  pub turns : List Turns
-  pub schedule_reads : schedule_of options.threads schedule ≡ Ok turns
+-- it ended at an output, or at out, of an outcome that is meant and writes
+pub record CouldNotWrite (said : Option Command) (before after : World) (ending : Ending) : Type 0 where
+  pub name : List ℕ
+  pub is : ending ≡ Unwritten name
+  pub outcome : Outcome
+  pub meant : Means said before.desk.held outcome
+  pub outputs : List (List ℕ × List ℕ)
   pub text : List ℕ
-  pub prints : SimPrints program (commands_of plan.lines) turns options text
-  pub whole : DecodesWhole (cast_with program (commands_of plan.lines) prints.runs) turns
-  pub out : Adds old new text
+  pub writes : written_by outcome ≡ Some (outputs, text)
+  pub failed : FailsWriting outputs text before.desk after.desk before.out after.out name
 
--- a status that may come where the words mean an outcome: that outcome's, 5 for want of memory, 3 where a read failed, or 4 where a
--- write did
-abbrev pub IsAnswer : Outcome → (ReadsFailed WritesFailed : Type 0) → (status : ℕ) → Type 0
-IsAnswer outcome ReadsFailed WritesFailed status =
-    (status ≡ status_of outcome) ⊎ (status ≡ 5) ⊎ ((status ≡ 3) × ReadsFailed) ⊎ ((status ≡ 4) × WritesFailed)
+-- the statuses with which nothing is written
+abbrev pub IsUnwriting : ℕ → Type 0
+IsUnwriting status = (status ≡ 1) ⊎ (status ≡ 2) ⊎ (status ≡ 3) ⊎ (status ≡ 5) ⊎ (status ≡ 6)
+
+-- the status is that of an outcome that is meant; or memory ran out; or reads failed; or writes did
+abbrev pub IsAnswer : Option Command → (before after : World) → (status : ℕ) → Type 0
+IsAnswer said before after status =
+    ((outcome : Outcome) × Means said before.desk.held outcome × (status_of outcome ≡ status))
+    ⊎ (status ≡ 5)
+    ⊎ ((status ≡ 3) × Rose before.desk.read_faults after.desk.read_faults)
+    ⊎ ((status ≡ 4) × (Rose before.desk.write_faults after.desk.write_faults ⊎ Rose before.out.faults after.out.faults))
+
+-- `sim` was said, of inputs that the desk holds: what all of the schedule's order leaves is written
+abbrev pub IsSimulated : Option Command → (before after : World) → Type 0
+IsSimulated said before after =
+    (i s c image script schedule : List ℕ) (setup : Setup) → said ≡ Some (Sim i s c setup) → before.desk.held i ≡ Holds image
+    → before.desk.held s ≡ Holds script → before.desk.held c ≡ Holds schedule
+    → IsTraced (FollowsSchedule schedule setup) image script setup before after
+
+-- The whole contract of a call. Its status and its line on err are those of one ending.
+pub record Answered (said : Option Command) (before after : World) (answer : ℕ) : Type 0 where
+  pub ending : Ending
+  pub status : status_at ending ≡ answer
+  pub told : Says before.err after.err (line_at ending)
+  -- 0 and 7: all outputs are whole, and out has exactly the text. On 0 err has nothing.
+  pub done : (answer ≡ 0) ⊎ (answer ≡ 7) → LeavesAll said before after ending
+  pub silent : answer ≡ 0 → after.err.written ≡ before.err.written
+  -- 1 is told by the words alone; 1, 2 and 6 are what is meant
+  pub bad_line : (answer ≡ 1) ↔ (said ≡ None)
+  pub refused : (answer ≡ 1) ⊎ (answer ≡ 2) ⊎ (answer ≡ 6) → Reports said before ending
+  -- 3 names an input whose turn had come, 4 the output that failed; 5 is want of memory
+  pub unread : answer ≡ 3 → CouldNotRead said before after ending
+  pub unwritten : answer ≡ 4 → CouldNotWrite said before after ending
+  pub memory : answer ≡ 5 → ending ≡ NoMemory
+  -- what stays the same: the desk and out where nothing is written, and always each name that is no output of the command
+  pub untouched : IsUnwriting answer → WritesNothing before.desk after.desk before.out after.out
+  pub names : (name : List ℕ) → (Contains (outputs_named said) name → ⊥) → after.desk.held name ≡ before.desk.held name
+  -- what is meant comes, unless memory runs out or a fault is counted
+  pub complete : IsAnswer said before after answer
+  -- the headline
+  pub headline : answer ≡ 0 → IsSimulated said before after

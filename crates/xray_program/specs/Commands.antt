@@ -1,36 +1,70 @@
--- A command line that was read, as the command that it says.
-use Rattle.std.specs.Prelude.{◌≤◌, ℕ}
-use Rattle.xray_program.specs.declared.items.Item.{Item}
-use Rattle.xray_program.specs.declared.items.Item.TheVariants.{File, Given, Bare}
-use Rattle.xray_program.specs.declared.number_option.NumberOption.{NumberOption}
-use Rattle.xray_program.specs.declared.words.Command.{Command}
-use Rattle.xray_program.specs.declared.words.Command.TheVariants.{Sim, Plain, Extract, Asm}
-use Rattle.xray_program.specs.Words as words
+-- What words mean: what comes of the command that they say, and of what the desk holds.
+use Rattle.std.specs.Prelude.{◌≡◌, ◌≢◌, ℕ, List, [], ◌∷◌, Bool, true, MatchOption, Option, Some, None}
+use Rattle.std.specs.Option.{option_map_or}
+use Rattle.xray_io.specs.Desk.{Entry, Untold}
+use Rattle.xray_program.specs.Asm.{AsmComes}
+use Rattle.xray_program.specs.Extract.{ExtractComes}
+use Rattle.xray_program.specs.Outcomes.{Outcome, BadLine, Unread}
+use Rattle.xray_program.specs.Plain.{PlainComes}
+use Rattle.xray_program.specs.Sim.{SimComes}
+use Rattle.xray_program.specs.Taking.{DeskReads, Sound, Faulty}
+use Rattle.xray_program.specs.Words.{Command, Sim, Plain, Extract, Asm}
 
--- the command, with its files' names as bytes
-abbrev pub command_of : Command → words.Command
-command_of (Sim image script schedule options) = words.Sim image.now script.now schedule.now options
-command_of (Plain image options) = words.Plain image.now options
-command_of (Extract image) = words.Extract image.now
-command_of (Asm text image threshold) = words.Asm text.now image.now threshold
+-- ---- a line a command
 
--- an item, with its texts as bytes
-abbrev pub item_of : Item → words.Item
-item_of (File name) = words.File name.now
-item_of (Given option value) = words.Given option.now value.now
-item_of (Bare option) = words.Bare option.now
+-- what comes of it
+abbrev pub Comes : DeskReads → (List ℕ → Entry) → Command → Outcome → Type 0
+Comes reads held (Sim image script schedule setup) = SimComes reads held image script schedule setup
+Comes reads held (Plain image options) = PlainComes reads held image options
+Comes reads held (Extract image) = ExtractComes reads held image
+Comes reads held (Asm text image threshold) = AsmComes reads held text image threshold
 
--- an option, with its name as bytes
-abbrev pub row_of : NumberOption → words.NumberOption
-row_of o = record { name = o.name.now; least = o.least; most = o.most; default = o.default }
+-- the names of its outputs
+abbrev pub outputs_of : Command → List (List ℕ)
+outputs_of (Sim image script schedule setup) = []
+outputs_of (Plain image options) = []
+outputs_of (Extract image) = []
+outputs_of (Asm text image threshold) = image ∷ []
 
--- there may be so many threads: at least one, and at most 16
-abbrev pub IsThreadCount : ℕ → Type 0
-IsThreadCount threads = (1 ≤ threads) × (threads ≤ 16)
+-- whether one thing alone comes of it, over what a desk holds: not so where threads run in an order of their own
+abbrev pub is_decided : Command → Bool
+is_decided (Sim image script schedule setup) = true
+is_decided (Plain image options) = true
+is_decided (Extract image) = true
+is_decided (Asm text image threshold) = true
 
--- a command that runs threads may have so many
-abbrev pub HasThreads : Command → Type 0
-HasThreads (Sim image script schedule options) = IsThreadCount options.threads
-HasThreads (Plain image options) = IsThreadCount options.threads
-HasThreads (Extract image) = Unit {0}
-HasThreads (Asm text image threshold) = Unit {0}
+-- whether it waits for nobody, and starts no thread
+abbrev pub is_still : Command → Bool
+is_still (Sim image script schedule setup) = true
+is_still (Plain image options) = true
+is_still (Extract image) = true
+is_still (Asm text image threshold) = true
+
+-- ---- what was said: a command, or none
+
+-- what comes of it
+abbrev pub ComesOf : DeskReads → Option Command → (List ℕ → Entry) → Outcome → Type 0
+ComesOf reads said held outcome = MatchOption said (outcome ≡ BadLine) (λ command. Comes reads held command outcome)
+
+-- what it means over what a desk holds: what comes of it where no read fails
+abbrev pub Means : Option Command → (List ℕ → Entry) → Outcome → Type 0
+Means said held outcome = ComesOf Sound said held outcome
+
+-- the turn of this name had come: it is what can't be read, where reads fail
+abbrev pub HadItsTurn : Option Command → (List ℕ → Entry) → List ℕ → Type 0
+HadItsTurn said held name = ComesOf Faulty said held (Unread name)
+
+-- the names of the outputs that are asked for
+abbrev pub outputs_named : Option Command → List (List ℕ)
+outputs_named said = option_map_or outputs_of said []
+
+-- one thing alone is meant; nobody is waited for
+abbrev pub IsDecided : Option Command → Type 0
+IsDecided said = option_map_or is_decided said true ≡ true
+
+abbrev pub IsStill : Option Command → Type 0
+IsStill said = option_map_or is_still said true ≡ true
+
+-- the desk says of every name what it holds
+abbrev pub TellsAll : (List ℕ → Entry) → Type 0
+TellsAll held = (name : List ℕ) → held name ≢ Untold

@@ -1,58 +1,49 @@
--- The forms of the inputs.
-use Rattle.std.specs.Prelude.{◌≡◌, Result, Ok, Err, ℕ, List, codes}
+-- The kinds of input.
+use Rattle.std.specs.Prelude.{◌≡◌, Result, Ok, Err, ℕ, List, [], Option, codes, unwrap_or}
 use Rattle.xray_image.specs.Program.{Program, IsAccepted}
 use Rattle.xray_image.specs.declared.fault.ImageFault.{ImageFault}
+use Rattle.xray_image.specs.FaultWords.{image_words}
 use Rattle.xray_image.specs.Table.{ReadsAs}
 use Rattle.asm_text.specs.Assembling.{assembled}
+use Rattle.asm_text.specs.FaultWords.{asm_words}
 use Rattle.patch_script.specs.Plans.{Plan, plan_of}
+use Rattle.patch_script.specs.FaultWords.{script_words}
 use Rattle.step_sim.specs.declared.turns.Turns.{Turns}
+use Rattle.step_sim.specs.FaultWords.{schedule_words}
 use Rattle.step_sim.specs.Schedules.{schedule_of}
-use Rattle.xray_program.specs.Faults.{asm_fault_text, fault_text, schedule_fault_text, script_fault_text}
+use Rattle.xray_program.specs.Taking.{Form}
 
--- A kind of input: how a line on err names it, how many bytes it has at the most, what its bytes
--- read as, and why they are refused, in the words of the line.
-pub record Form (X : Type 0) : Type 1 where
-  pub kind : List ℕ
-  pub limit : ℕ
-  pub Reads : List ℕ → X → Type 0
-  pub Refuses : List ℕ → List ℕ → Type 0
+-- the words of a refusal, where a fault has them
+abbrev pub refused_for : Option (List ℕ) → List ℕ
+refused_for words = unwrap_or words []
 
--- ---- images
-
--- an image file is refused for the first fault that it has
-abbrev pub RefusesImage : List ℕ → List ℕ → Type 0
-RefusesImage bytes refusal =
-    (fault : ImageFault) × ReadsAs bytes (Err fault) × (refusal ≡ fault_text fault)
-
--- an image file
+-- an image file, which is refused for the first fault that it has
 abbrev pub image_form : Form Program
 image_form = record {
   kind = codes "image";
   limit = 4194304;
   Reads = IsAccepted;
-  Refuses = RefusesImage;
+  Refuses = λ bytes refusal. (fault : ImageFault) × ReadsAs bytes (Err fault) × (refusal ≡ refused_for (image_words fault));
 }
 
--- ---- texts
-
--- a kind of input that a function judges: its bytes read as the value that it gives, and are refused for the fault that it gives, told
--- in these words
-abbrev pub form_by : {X F : Type 0} → (kind : List ℕ) → (limit : ℕ) → (judge : List ℕ → Result X F) → (tell : F → List ℕ) → Form X
-form_by {X} {F} kind limit judge tell = record {
+-- a kind of input that a function judges: its bytes read as the value that it gives, and are refused for the fault that it gives, in the
+-- words of that
+abbrev pub form_by : {X F : Type 0} → (kind : List ℕ) → (limit : ℕ) → (judge : List ℕ → Result X F) → (words : F → Option (List ℕ)) → Form X
+form_by {X} {F} kind limit judge words = record {
   kind = kind;
   limit = limit;
   Reads = λ bytes value. judge bytes ≡ Ok value;
-  Refuses = λ bytes refusal. (fault : F) × (judge bytes ≡ Err fault) × (refusal ≡ tell fault);
+  Refuses = λ bytes refusal. (fault : F) × (judge bytes ≡ Err fault) × (refusal ≡ refused_for (words fault));
 }
 
 -- the text of `asm`, which reads as the image file that it is assembled to
 abbrev pub text_form : ℕ → Form (List ℕ)
-text_form threshold = form_by (codes "text") 4194304 (λ bytes. assembled bytes threshold) asm_fault_text
+text_form threshold = form_by (codes "text") 4194304 (λ bytes. assembled bytes threshold) asm_words
 
--- the script of `sim`, for a program and so many threads
+-- the script of a run, for a program and so many threads
 abbrev pub script_form : Program → ℕ → Form Plan
-script_form program threads = form_by (codes "script") 1048576 (plan_of program threads) script_fault_text
+script_form program threads = form_by (codes "script") 1048576 (plan_of program threads) script_words
 
--- the schedule of `sim`, for so many threads
+-- the schedule of a replay, for so many threads
 abbrev pub schedule_form : ℕ → Form (List Turns)
-schedule_form threads = form_by (codes "schedule") 16777216 (schedule_of threads) schedule_fault_text
+schedule_form threads = form_by (codes "schedule") 16777216 (schedule_of threads) schedule_words

@@ -1,5 +1,6 @@
--- What threads are run with, by the options of the words. The words say nothing of stamps, buffers and processes, so these are as they
--- are where nothing is said.
+-- What threads are run with, by the options of the words and the wall time. The words say nothing of stamps, buffers and processes, so
+-- these are as they are where nothing is said.
+use Rattle.std.specs.Prelude.{◌≤◌, ℕ}
 use Rattle.xray_io.specs.declared.faults.Wall.{Wall}
 use Rattle.machine_step.specs.declared.limits.Limits.{Limits}
 use Rattle.machine_step.specs.declared.setup.Setup.{Setup}
@@ -20,3 +21,14 @@ setup_of wall options = record {
   wall = wall;
   frequency = 0;
 }
+
+-- there may be so many threads: at least one, and at most 16
+abbrev pub IsThreadCount : ℕ → Type 0
+IsThreadCount threads = (1 ≤ threads) × (threads ≤ 16)
+
+-- a setup that threads can be run with: its numbers lie within their ranges
+pub record IsSetup (setup : Setup) : Type 0 where
+  pub threads : IsThreadCount setup.threads
+  pub size : (72 ≤ setup.size) × (setup.size ≤ 1048576)
+  pub buffers : (setup.threads ≤ setup.max) × (setup.max ≤ 1024)
+  pub stamps : (1 ≤ setup.limits.cpus) × (1 ≤ setup.limits.migrate)

@@ -1,87 +1,82 @@
--- How an input's turn ends: with a value, or with a stop.
-use Rattle.std.specs.Prelude.{◌≡◌, ◌≢◌, ◌⊎◌, ◌<◌, ◌≤◌, ℕ, List, length, ⊤}
+-- How the turns of inputs end: with values, or with a stop.
+use Rattle.std.specs.Prelude.{◌≡◌, ◌⊎◌, ◌<◌, ◌≤◌, ℕ, List, length, Option, Some, None, Result, Ok, Err, ⊤}
 use Rattle.xray_io.specs.Desk.{Entry, Absent}
 use Rattle.xray_io.specs.Faults.{Rose}
 use Rattle.xray_io.specs.declared.faults.ReadError.{ReadError}
-use Rattle.xray_io.specs.declared.faults.ReadError.TheVariants as reading
-use Rattle.xray_program.specs.declared.refusal.Refusal.{Refusal}
+use Rattle.xray_io.specs.declared.faults.ReadError.TheVariants as errors
+use Rattle.fault_words.specs.Words.{words_text}
+use Rattle.xray_program.specs.Outcomes.{Outcome, Unread, TooLong, Refused}
+use Rattle.xray_program.specs.Taking.{Form, MayHold, DeskReads, Sound, Faulty}
+use Rattle.xray_io.specs.World.{DeskView}
 use Rattle.xray_program.specs.declared.stop.Stop.{Stop}
 use Rattle.xray_program.specs.declared.stop.Stop.TheVariants as stops
-use Rattle.xray_program.specs.Inputs.{Form}
-use Rattle.xray_program.specs.Meaning.{Outcome, Unread, TooLong, Refused, MayHold, status_of}
-use Rattle.xray_program.specs.Stops.{kind_text, refusal_text}
 
--- bytes that the name may hold were read, as many as may be
-pub record GivesBytes (limit : ℕ) (entry : Entry) (bytes : List ℕ) : Type 0 where
-  pub held : MayHold entry bytes
-  pub within : length bytes ≤ limit
-
--- bytes that the name may hold are more than may be
-pub record IsTooLong (limit : ℕ) (entry : Entry) : Type 0 where
-  pub bytes : List ℕ
-  pub held : MayHold entry bytes
-  pub long : limit < length bytes
-
--- bytes that the name may hold read as this value and as no other, and aren't refused
+-- bytes that the name may hold read as this value
 pub record Gives {X : Type 0} (form : Form X) (entry : Entry) (value : X) : Type 0 where
   pub bytes : List ℕ
   pub held : MayHold entry bytes
   pub within : length bytes ≤ form.limit
   pub reads : form.Reads bytes value
-  pub only : (other : X) → form.Reads bytes other → other ≡ value
-  pub unrefused : (refusal : List ℕ) → form.Refuses bytes refusal → ⊥
 
--- bytes that the name may hold are refused so, and read as nothing
+-- bytes that the name may hold are refused so
 pub record Rejects {X : Type 0} (form : Form X) (entry : Entry) (refusal : List ℕ) : Type 0 where
   pub bytes : List ℕ
   pub held : MayHold entry bytes
   pub within : length bytes ≤ form.limit
   pub refused : form.Refuses bytes refusal
-  pub none : (value : X) → form.Reads bytes value → ⊥
 
--- An input of this name wasn't read whole: reads failed or the desk doesn't hold the name; or it
--- may hold more bytes than the limit; or memory ran out.
-abbrev pub FailsToRead : ℕ → (List ℕ → Entry) → List ℕ → ℕ → ℕ → Stop → Type 0
-FailsToRead limit held name before now (stops.Unread n) =
-    (n.now ≡ name) × (Rose before now ⊎ (held name ≡ Absent))
-FailsToRead limit held name before now (stops.TooLong n) =
-    (n.now ≡ name) × IsTooLong limit (held name)
-FailsToRead limit held name before now stops.NoMemory = ⊤
-FailsToRead limit held name before now stop = ⊥
+-- bytes that the name may hold are too many
+pub record IsTooLong (limit : ℕ) (entry : Entry) : Type 0 where
+  pub bytes : List ℕ
+  pub held : MayHold entry bytes
+  pub long : limit < length bytes
 
--- the turn of an input of this form and name ends with a stop: it wasn't read whole, or it may hold
--- bytes that are refused
-abbrev pub Fails : {X : Type 0} → Form X → (List ℕ → Entry) → List ℕ → ℕ → ℕ → Stop → Type 0
-Fails form held name before now (stops.Refused n refusal) =
-    (n.now ≡ name) × (kind_text refusal ≡ form.kind) × Rejects form (held name) (refusal_text refusal)
-Fails form held name before now stop = FailsToRead form.limit held name before now stop
+-- reads failed, or the desk doesn't hold the name
+abbrev pub IsLost : (before after : DeskView) → List ℕ → Type 0
+IsLost before after name = Rose before.read_faults after.read_faults ⊎ (before.held name ≡ Absent)
+
+-- the turn of the input of this name ends with a value; or with a stop, which names it unless memory ran out
+abbrev pub IsTaken : {X : Type 0} → Form X → List ℕ → (before after : DeskView) → Result X Stop → Type 0
+IsTaken form name before after (Ok value) = Gives form (before.held name) value
+IsTaken form name before after (Err (stops.Unread n)) = (n.now ≡ name) × IsLost before after name
+IsTaken form name before after (Err (stops.TooLong n)) = (n.now ≡ name) × IsTooLong form.limit (before.held name)
+IsTaken form name before after (Err (stops.Refused n kind words)) =
+    (n.now ≡ name) × (kind.now ≡ form.kind) × Rejects form (before.held name) (words_text words)
+IsTaken form name before after (Err stops.NoMemory) = ⊤
+IsTaken form name before after (Err stop) = ⊥
+
+-- the turn of an input that the words may leave out
+abbrev pub IsMaybeTaken : {X : Type 0} → Form X → Option (List ℕ) → (before after : DeskView) → Result (Option X) Stop → Type 0
+IsMaybeTaken form None before after result = result ≡ Ok None
+IsMaybeTaken form (Some name) before after (Ok None) = ⊥
+IsMaybeTaken form (Some name) before after (Ok (Some value)) = IsTaken form name before after (Ok value)
+IsMaybeTaken form (Some name) before after (Err stop) = IsTaken form name before after (Err stop)
+
+-- a stop at one of the inputs of which this comes: an outcome that comes; and where it can't be read, reads failed or that is meant too
+abbrev pub IsStopAtInput : (DeskReads → Outcome → Type 0) → (before after : DeskView) → Stop → Type 0
+IsStopAtInput comes before after (stops.Unread n) =
+    comes Faulty (Unread n.now)
+    × (Rose before.read_faults after.read_faults ⊎ ((before.held n.now ≡ Absent) × comes Sound (Unread n.now)))
+IsStopAtInput comes before after (stops.TooLong n) = comes Sound (TooLong n.now)
+IsStopAtInput comes before after (stops.Refused n kind words) = comes Sound (Refused n.now kind.now (words_text words))
+IsStopAtInput comes before after stops.NoMemory = ⊤
+IsStopAtInput comes before after stop = ⊥
+
+-- the inputs of which this comes were taken one after another, and what comes of their values comes of them; or one of them was a stop
+abbrev pub AreTaken : {X : Type 0} → (comes : DeskReads → Outcome → Type 0) → (yields : X → Outcome → Type 0) → (before after : DeskView)
+    → Result X Stop → Type 0
+AreTaken comes yields before after (Ok inputs) = (outcome : Outcome) → yields inputs outcome → comes Sound outcome
+AreTaken comes yields before after (Err stop) = IsStopAtInput comes before after stop
 
 -- what an error of reading comes to: an input that can't be read or is too long, or want of memory
 abbrev pub IsReadStop : List ℕ → ReadError → Stop → Type 0
-IsReadStop name error (stops.Unread n) = (n.now ≡ name) × (error ≡ reading.ReadFault)
-IsReadStop name error (stops.TooLong n) = (n.now ≡ name) × (error ≡ reading.TooLong)
-IsReadStop name error stops.NoMemory = error ≡ reading.NoMemory
+IsReadStop name error (stops.Unread n) = (n.now ≡ name) × (error ≡ errors.ReadFault)
+IsReadStop name error (stops.TooLong n) = (n.now ≡ name) × (error ≡ errors.TooLong)
+IsReadStop name error stops.NoMemory = error ≡ errors.NoMemory
 IsReadStop name error stop = ⊥
 
--- what an input's fault comes to: want of memory where it is that one, and else a refusal that tells it
-abbrev pub IsFaultStop : {F : Type 0} → (F → Refusal) → (wanting : F) → List ℕ → F → Stop → Type 0
-IsFaultStop tells wanting name fault (stops.Refused n refusal) =
-    (n.now ≡ name) × (refusal ≡ tells fault) × (fault ≢ wanting)
-IsFaultStop tells wanting name fault stops.NoMemory = fault ≡ wanting
-IsFaultStop tells wanting name fault stop = ⊥
-
--- The inputs of a command end with a stop, where `comes fails` is what comes of it when the names of `fails` can't be read.
-abbrev pub Stops : ((List ℕ → Type 0) → Outcome → Type 0) → (List ℕ → Entry) → ℕ → ℕ → Stop → Type 0
-Stops comes held before now (stops.Unread n) =
-    comes (λ _. ⊤) (Unread n.now) × (Rose before now ⊎ (held n.now ≡ Absent))
-Stops comes held before now (stops.TooLong n) = comes (λ name. held name ≡ Absent) (TooLong n.now)
-Stops comes held before now (stops.Refused n refusal) =
-    comes (λ name. held name ≡ Absent) (Refused n.now (kind_text refusal) (refusal_text refusal))
-Stops comes held before now stops.NoMemory = ⊤
-Stops comes held before now stop = ⊥
-
--- a status for an outcome before anything is written: its own, that for want of memory, or that for
--- a read that failed
-abbrev pub IsAnswerSoFar : ℕ → ℕ → Outcome → ℕ → Type 0
-IsAnswerSoFar before now outcome status =
-    (status ≡ status_of outcome) ⊎ (status ≡ 5) ⊎ ((status ≡ 3) × Rose before now)
+-- what a reader's fault comes to, by the words of its refusal: a refusal in these words; or want of memory, where there are none
+abbrev pub IsFaultStop : (name kind : List ℕ) → Option (List ℕ) → Stop → Type 0
+IsFaultStop name kind told (stops.Refused n k words) = (n.now ≡ name) × (k.now ≡ kind) × (told ≡ Some (words_text words))
+IsFaultStop name kind told stops.NoMemory = told ≡ None
+IsFaultStop name kind told stop = ⊥

@@ -1,15 +1,17 @@
 -- What the words of the command line say.
 use Rattle.std.specs.Prelude.{ℕ, ◌==◌, ◌&&◌, List, [], ◌∷◌, length, Bool, true, false, not, nat_le, if◌then◌else◌, Option, Some, None, codes, map, option_map, slice_index, String, string_bytes}
 use Rattle.std.specs.List.{after_first, before_first, filter_map, list_all, list_any}
-use Rattle.std.specs.Option.{option_map_or}
 use Rattle.std.specs.Str.{all_ascii_digits, bytes_eq}
 use Rattle.std.specs.Str.Parse.{digits_value, without_leading_plus}
 use Rattle.std.specs.declared.alloc.Global.{Global}
+use Rattle.xray_io.specs.declared.faults.Wall.{Wall}
+use Rattle.machine_step.specs.declared.setup.Setup.{Setup}
+use Rattle.xray_program.specs.Setups.{setup_of}
 use Rattle.xray_program.specs.declared.run_options.RunOptions.{RunOptions}
 
 -- a command with the names of its files, and its options
 pub data Command : Type 0 where
-  Sim : (image script schedule : List ℕ) → (options : RunOptions) → Command
+  Sim : (image script schedule : List ℕ) → (setup : Setup) → Command
   Plain : (image : List ℕ) → (options : RunOptions) → Command
   Extract : (image : List ℕ) → Command
   Asm : (text image : List ℕ) → (threshold : ℕ) → Command
@@ -152,13 +154,13 @@ threshold_option = record { name = codes "--threshold"; least = 0; most = 429496
 
 -- ---- the commands
 
--- `sim` has three files, and the options of the commands that run threads
-abbrev pub sim_of : List Item → Option Command
-sim_of items =
+-- `sim` has three files, and the options of the commands that run threads; its setup is made of these, and begins at the wall time
+abbrev pub sim_of : Wall → List Item → Option Command
+sim_of wall items =
     if have_only run_names items then of_parts (run_options items) (files_of items) else None
   where
     of_parts : Option RunOptions → List (List ℕ) → Option Command
-    of_parts (Some options) (image ∷ script ∷ schedule ∷ []) = Some (Sim image script schedule options)
+    of_parts (Some options) (image ∷ script ∷ schedule ∷ []) = Some (Sim image script schedule (setup_of wall options))
     of_parts _ _ = None
 
 -- `extract` has a file, and no options
@@ -185,25 +187,12 @@ asm_of items =
         if bytes_eq image text then None else Some (Asm text image threshold)
     of_parts _ _ = None
 
--- the command that words say, if they say one
-abbrev pub reading : List (List ℕ) → Option Command
-reading [] = None
-reading (command ∷ words) =
+-- the command that words say, if they say one; they are read together with the wall time, from which a run is on where they say no other
+abbrev pub reading : Wall → List (List ℕ) → Option Command
+reading wall [] = None
+reading wall (command ∷ words) =
     if bytes_eq command (codes "plain") then plain_of (items_of words)
     else if bytes_eq command (codes "extract") then extract_of (items_of words)
-    else if bytes_eq command (codes "sim") then sim_of (items_of words)
+    else if bytes_eq command (codes "sim") then sim_of wall (items_of words)
     else if bytes_eq command (codes "asm") then asm_of (items_of words)
     else None
-
--- ---- the outputs
-
--- the names of a command's outputs
-abbrev pub outputs_of : Command → List (List ℕ)
-outputs_of (Sim image script schedule options) = []
-outputs_of (Plain image options) = []
-outputs_of (Extract image) = []
-outputs_of (Asm text image threshold) = image ∷ []
-
--- the names of the outputs that words ask for
-abbrev pub outputs_named : List (List ℕ) → List (List ℕ)
-outputs_named said = option_map_or outputs_of (reading said) []

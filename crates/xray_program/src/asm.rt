@@ -1,42 +1,58 @@
 //! `asm`: an assembler text as an image file.
-ghost use Rattle.std.specs.Prelude.{◌≡◌, IfOk, IfErr};
-ghost use Rattle.xray_io.specs.Desk.{Absent};
-ghost use Rattle.xray_program.specs.Meaning.{Outcome, Comes, TellsAll};
-ghost use Rattle.xray_program.specs.Judged.{FitTogether, IsJudgedSoFar, Yields};
-ghost use Rattle.xray_program.specs.Takes.{Stops};
-ghost use Rattle.xray_program.specs.Words.{Asm};
+ghost use Rattle.std.specs.Prelude.{◌≡◌};
 
-use crate::inputs::take_text;
-use crate::judged::Judged;
+use crate::delivery::{Output, deliver};
+use crate::image_file::ImageFile;
+use crate::input::take;
+use crate::inputs::TextKind;
 use crate::stop::Stop;
+use crate::text::NoText;
+use crate::work::Work;
 use std::alloc::Global;
-use xray_io::Desk;
+use xray_io::{Desk, Sink};
 
-/// Takes the text of `asm`, and assembles it.
-pub(crate) fn take_asm<'a, D: Desk>(
-    alloc: Global,
-    desk: &mut D,
-    text_name: &'a str,
-    image_name: &'a str,
-    threshold: u32,
-) -> Result<Judged<'a>, Stop<'a>>
-    ensures gives { IfOk result (λ judged. (outcome : Outcome) → Yields judged outcome
-        → Comes (λ name. D.held desk.old name ≡ Absent)
-        (D.held desk.old) (Asm text_name.now image_name.now threshold) outcome) }
-    ensures fits { IfOk result FitTogether }
-    ensures stops { IfErr result (Stops
-        (λ fails. Comes fails (D.held desk.old) (Asm text_name.now image_name.now threshold))
-        (D.held desk.old) (D.read_faults desk.old) (D.read_faults desk.new)) }
-    ensures complete { (outcome : Outcome) → TellsAll (D.held desk.old)
-        → Comes (λ name. D.held desk.old name ≡ Absent)
-        (D.held desk.old) (Asm text_name.now image_name.now threshold) outcome
-        → IsJudgedSoFar (D.read_faults desk.old) (D.read_faults desk.new) outcome result }
-    ensures held { D.held desk.new ≡ D.held desk.old }
-    ensures writes { D.write_faults desk.new ≡ D.write_faults desk.old }
-{
-    let file = take_text(alloc, desk, text_name, threshold)?;
-    Ok(Judged::Asm {
-        name: image_name,
-        file,
-    })
+/// `asm TEXT IMAGE`.
+#[derive(Drop)]
+pub(crate) struct Asm<'a> {
+    /// The assembler text's name.
+    pub(crate) text: &'a str,
+    /// The name of the image file, which is the output.
+    pub(crate) image: &'a str,
+    /// How many instruction lines a function has at the least that gets sleds.
+    pub(crate) threshold: u32,
+}
+
+impl<'a> Work<'a> for Asm<'a> {
+    ghost use Rattle.std.specs.Prelude.{[], ◌∷◌, ⊤};
+    ghost use Rattle.xray_program.specs.Outcomes.{Done};
+    ghost use Rattle.xray_program.specs.Words as words;
+
+    type Inputs = ImageFile;
+
+    ghost says = { λ a. words.Asm a.text.now a.image.now a.threshold };
+
+    ghost yields = { λ a file outcome. outcome ≡ Done ((a.image.now, file) ∷ []) [] };
+
+    ghost fits = { λ _ _. ⊤ };
+
+    fn take<D: Desk>(&self, alloc: Global, desk: &mut D) -> Result<ImageFile, Stop<'a>> {
+        let kind = TextKind {
+            threshold: self.threshold,
+        };
+        take(alloc, desk, self.text, &kind)
+    }
+
+    fn finish<D: Desk, O: Sink>(
+        &self,
+        _alloc: Global,
+        file: &ImageFile,
+        desk: &mut D,
+        out: &mut O,
+    ) -> Result<(), Stop<'a>> {
+        let output = Output {
+            name: self.image,
+            bytes: &file.bytes,
+        };
+        deliver(desk, out, &output, &NoText, None)
+    }
 }

@@ -1,37 +1,67 @@
 //! `extract`: the text of an image's sled map.
-ghost use Rattle.std.specs.Prelude.{◌≡◌, IfOk, IfErr};
-ghost use Rattle.xray_io.specs.Desk.{Absent};
-ghost use Rattle.xray_program.specs.Meaning.{Outcome, Comes, TellsAll};
-ghost use Rattle.xray_program.specs.Judged.{FitTogether, IsJudgedSoFar, Yields};
-ghost use Rattle.xray_program.specs.Takes.{Stops};
-ghost use Rattle.xray_program.specs.Words.{Extract};
+ghost use Rattle.std.specs.Prelude.{◌≡◌};
 
-use crate::inputs::take_image;
-use crate::judged::Judged;
+use crate::delivery::{NoOutputs, deliver};
+use crate::input::take;
+use crate::inputs::ImageKind;
 use crate::stop::Stop;
+use crate::text::Printed;
+use crate::work::Work;
 use std::alloc::Global;
-use xray_io::Desk;
+use xray_image::{Image, write_extract};
+use xray_io::{Desk, Sink, WriteFault};
 
-/// Takes the image of `extract`.
-pub(crate) fn take_extract<'a, D: Desk>(
-    alloc: Global,
-    desk: &mut D,
-    image_name: &'a str,
-) -> Result<Judged<'a>, Stop<'a>>
-    ensures gives { IfOk result (λ judged. (outcome : Outcome) → Yields judged outcome
-        → Comes (λ name. D.held desk.old name ≡ Absent)
-        (D.held desk.old) (Extract image_name.now) outcome) }
-    ensures fits { IfOk result FitTogether }
-    ensures stops { IfErr result (Stops
-        (λ fails. Comes fails (D.held desk.old) (Extract image_name.now))
-        (D.held desk.old) (D.read_faults desk.old) (D.read_faults desk.new)) }
-    ensures complete { (outcome : Outcome) → TellsAll (D.held desk.old)
-        → Comes (λ name. D.held desk.old name ≡ Absent)
-        (D.held desk.old) (Extract image_name.now) outcome
-        → IsJudgedSoFar (D.read_faults desk.old) (D.read_faults desk.new) outcome result }
-    ensures held { D.held desk.new ≡ D.held desk.old }
-    ensures writes { D.write_faults desk.new ≡ D.write_faults desk.old }
-{
-    let image = take_image(alloc, desk, image_name)?;
-    Ok(Judged::Extract(image))
+/// `extract IMAGE`.
+#[derive(Drop)]
+pub(crate) struct Extract<'a> {
+    /// The image file's name.
+    pub(crate) image: &'a str,
+}
+
+impl<'a> Work<'a> for Extract<'a> {
+    ghost use Rattle.std.specs.Prelude.{[], ⊤};
+    ghost use Rattle.xray_image.specs.Extract.{extract_text};
+    ghost use Rattle.xray_program.specs.Outcomes.{Done};
+    ghost use Rattle.xray_program.specs.Words as words;
+
+    type Inputs = Image;
+
+    ghost says = { λ e. words.Extract e.image.now };
+
+    ghost yields = { λ _ program outcome. outcome ≡ Done [] (extract_text program) };
+
+    ghost fits = { λ _ _. ⊤ };
+
+    fn take<D: Desk>(&self, alloc: Global, desk: &mut D) -> Result<Image, Stop<'a>> {
+        take(alloc, desk, self.image, &ImageKind)
+    }
+
+    fn finish<D: Desk, O: Sink>(
+        &self,
+        _alloc: Global,
+        image: &Image,
+        desk: &mut D,
+        out: &mut O,
+    ) -> Result<(), Stop<'a>> {
+        deliver(desk, out, &NoOutputs, &SledMap { image }, None)
+    }
+}
+
+/// The text of an image's sled map.
+#[derive(Drop)]
+struct SledMap<'t> {
+    image: &'t Image,
+}
+
+impl Printed for SledMap<'_> {
+    ghost use Rattle.std.specs.Prelude.{⊤};
+    ghost use Rattle.xray_image.specs.Extract.{extract_text};
+
+    ghost text = { λ m. extract_text m.image.now };
+
+    ghost ready = { λ _. ⊤ };
+
+    fn print<S: Sink>(&self, sink: &mut S) -> Result<(), WriteFault> {
+        write_extract(self.image, sink)
+    }
 }

@@ -1,18 +1,13 @@
-//! The inputs in their turn: each is read, measured and judged before the next is opened.
-ghost use Rattle.std.specs.Prelude.{◌≡◌, ◌≤◌, All, IfOk, IfErr};
-ghost use Rattle.step_sim.specs.Schedules.{AreTurnsOf};
-ghost use Rattle.xray_program.specs.Commands.{IsThreadCount};
-ghost use Rattle.xray_program.specs.Inputs.{image_form, schedule_form, script_form, text_form};
-ghost use Rattle.xray_program.specs.Takes.{Fails, Gives, FailsToRead, GivesBytes, IsFaultStop, IsReadStop};
+//! The kinds of input.
+ghost use Rattle.xray_program.specs.Setups.{IsThreadCount};
 
-use crate::refusal::Refusal;
-use crate::stop::Stop;
+use crate::image_file::ImageFile;
+use crate::input::Kind;
 use asm_text::{AsmFault, assemble};
 use patch_script::{Script, ScriptFault, read_script};
 use std::alloc::Global;
 use step_sim::{Schedule, ScheduleFault, read_schedule};
 use xray_image::{Image, ImageFault, read_image};
-use xray_io::{Desk, ReadError, read_whole};
 
 /// How many bytes an image file has at most.
 const IMAGE_LIMIT: u64 = 4_194_304;
@@ -26,177 +21,135 @@ const SCRIPT_LIMIT: u64 = 1_048_576;
 /// How many bytes a schedule has at most.
 const SCHEDULE_LIMIT: u64 = 16_777_216;
 
-/// Takes an image file.
-pub(crate) fn take_image<'a, D: Desk>(
-    alloc: Global,
-    desk: &mut D,
-    name: &'a str,
-) -> Result<Image, Stop<'a>>
-    ensures gives { IfOk result (Gives image_form (D.held desk.old name.now)) }
-    ensures fails { IfErr result (Fails image_form (D.held desk.old) name.now
-        (D.read_faults desk.old) (D.read_faults desk.new)) }
-    ensures held { D.held desk.new ≡ D.held desk.old }
-    ensures later { D.read_faults desk.old ≤ D.read_faults desk.new }
-    ensures writes { D.write_faults desk.new ≡ D.write_faults desk.old }
-{
-    let bytes = take_bytes(alloc, desk, name, IMAGE_LIMIT)?;
-    match read_image(alloc, &bytes) {
-        Ok(image) => Ok(image),
-        Err(fault) => Err(image_stop(name, fault)),
+/// An image file.
+#[derive(Drop)]
+pub(crate) struct ImageKind;
+
+impl Kind for ImageKind {
+    ghost use Rattle.std.specs.Prelude.{⊤};
+    ghost use Rattle.xray_program.specs.Inputs.{image_form};
+
+    type Value = Image;
+
+    type Refusal = ImageFault;
+
+    ghost form = { λ _. image_form };
+
+    ghost fits = { λ _ _. ⊤ };
+
+    fn word(&self) -> &'static str {
+        "image"
+    }
+
+    fn limit(&self) -> u64 {
+        IMAGE_LIMIT
+    }
+
+    fn judge(&self, alloc: Global, bytes: &[u8]) -> Result<Image, ImageFault> {
+        read_image(alloc, bytes)
     }
 }
 
-/// What an image's fault comes to.
-fn image_stop(name: &str, fault: ImageFault) -> Stop<'_>
-    ensures { IsFaultStop Refusal.Image ImageFault.NoMemory name.now fault result }
-{
-    match fault {
-        ImageFault::NoMemory => Stop::NoMemory,
-        _ => Stop::Refused {
-            name,
-            refusal: Refusal::Image(fault),
-        },
+/// An assembler text, whose value is the image file that it is assembled to.
+#[derive(Drop)]
+pub(crate) struct TextKind {
+    /// How many instruction lines a function has at the least that gets sleds.
+    pub(crate) threshold: u32,
+}
+
+impl Kind for TextKind {
+    ghost use Rattle.std.specs.Prelude.{⊤};
+    ghost use Rattle.xray_program.specs.Inputs.{text_form};
+
+    type Value = ImageFile;
+
+    type Refusal = AsmFault;
+
+    ghost form = { λ k. text_form k.threshold };
+
+    ghost fits = { λ _ _. ⊤ };
+
+    fn word(&self) -> &'static str {
+        "text"
+    }
+
+    fn limit(&self) -> u64 {
+        TEXT_LIMIT
+    }
+
+    fn judge(&self, alloc: Global, bytes: &[u8]) -> Result<ImageFile, AsmFault> {
+        match assemble(alloc, bytes, self.threshold) {
+            Ok(bytes) => Ok(ImageFile { bytes }),
+            Err(fault) => Err(fault),
+        }
     }
 }
 
-/// Takes an assembler text, and assembles it: the bytes of its image file.
-pub(crate) fn take_text<'a, D: Desk>(
-    alloc: Global,
-    desk: &mut D,
-    name: &'a str,
-    threshold: u32,
-) -> Result<Vec<u8>, Stop<'a>>
-    ensures gives { IfOk result (λ file.
-        Gives (text_form threshold) (D.held desk.old name.now) file.items) }
-    ensures fails { IfErr result (Fails (text_form threshold) (D.held desk.old) name.now
-        (D.read_faults desk.old) (D.read_faults desk.new)) }
-    ensures held { D.held desk.new ≡ D.held desk.old }
-    ensures later { D.read_faults desk.old ≤ D.read_faults desk.new }
-    ensures writes { D.write_faults desk.new ≡ D.write_faults desk.old }
-{
-    let bytes = take_bytes(alloc, desk, name, TEXT_LIMIT)?;
-    match assemble(alloc, &bytes, threshold) {
-        Ok(file) => Ok(file),
-        Err(fault) => Err(text_stop(name, fault)),
+/// A script, for an image and so many threads.
+#[derive(Drop)]
+pub(crate) struct ScriptKind<'i> {
+    /// The image.
+    pub(crate) image: &'i Image,
+    /// How many threads there are, from 1 to 16.
+    pub(crate) threads: u32,
+    ghost few: { IsThreadCount threads },
+}
+
+impl Kind for ScriptKind<'_> {
+    ghost use Rattle.std.specs.Prelude.{◌≡◌};
+    ghost use Rattle.xray_program.specs.Inputs.{script_form};
+
+    type Value = Script;
+
+    type Refusal = ScriptFault;
+
+    ghost form = { λ k. script_form k.image.now k.threads };
+
+    ghost fits = { λ k script. (script.program ≡ k.image.now) × (script.threads ≡ k.threads) };
+
+    fn word(&self) -> &'static str {
+        "script"
+    }
+
+    fn limit(&self) -> u64 {
+        SCRIPT_LIMIT
+    }
+
+    fn judge(&self, alloc: Global, bytes: &[u8]) -> Result<Script, ScriptFault> {
+        read_script(alloc, bytes, self.image, self.threads)
     }
 }
 
-/// What an assembler text's fault comes to.
-fn text_stop(name: &str, fault: AsmFault) -> Stop<'_>
-    ensures { IsFaultStop Refusal.Text AsmFault.NoMemory name.now fault result }
-{
-    match fault {
-        AsmFault::NoMemory => Stop::NoMemory,
-        _ => Stop::Refused {
-            name,
-            refusal: Refusal::Text(fault),
-        },
-    }
+/// A schedule, for so many threads.
+#[derive(Drop)]
+pub(crate) struct ScheduleKind {
+    /// How many threads there are, from 1 to 16.
+    pub(crate) threads: u32,
+    ghost few: { IsThreadCount threads },
 }
 
-/// Takes a script for an image and so many threads.
-pub(crate) fn take_script<'a, D: Desk>(
-    alloc: Global,
-    desk: &mut D,
-    name: &'a str,
-    image: &Image,
-    threads: u32,
-) -> Result<Script, Stop<'a>>
-    requires { IsThreadCount threads }
-    ensures gives { IfOk result
-        (Gives (script_form image.now threads) (D.held desk.old name.now)) }
-    ensures fails { IfErr result (Fails (script_form image.now threads) (D.held desk.old) name.now
-        (D.read_faults desk.old) (D.read_faults desk.new)) }
-    ensures fits { IfOk result (λ script.
-        (script.program ≡ image.now) × (script.threads ≡ threads)) }
-    ensures held { D.held desk.new ≡ D.held desk.old }
-    ensures later { D.read_faults desk.old ≤ D.read_faults desk.new }
-    ensures writes { D.write_faults desk.new ≡ D.write_faults desk.old }
-{
-    let bytes = take_bytes(alloc, desk, name, SCRIPT_LIMIT)?;
-    match read_script(alloc, &bytes, image, threads) {
-        Ok(script) => Ok(script),
-        Err(fault) => Err(script_stop(name, fault)),
-    }
-}
+impl Kind for ScheduleKind {
+    ghost use Rattle.std.specs.Prelude.{All};
+    ghost use Rattle.step_sim.specs.Schedules.{AreTurnsOf};
+    ghost use Rattle.xray_program.specs.Inputs.{schedule_form};
 
-/// What a script's fault comes to.
-fn script_stop(name: &str, fault: ScriptFault) -> Stop<'_>
-    ensures { IsFaultStop Refusal.Script ScriptFault.NoMemory name.now fault result }
-{
-    match fault {
-        ScriptFault::NoMemory => Stop::NoMemory,
-        _ => Stop::Refused {
-            name,
-            refusal: Refusal::Script(fault),
-        },
-    }
-}
+    type Value = Schedule;
 
-/// Takes a schedule for so many threads.
-pub(crate) fn take_schedule<'a, D: Desk>(
-    alloc: Global,
-    desk: &mut D,
-    name: &'a str,
-    threads: u32,
-) -> Result<Schedule, Stop<'a>>
-    requires { IsThreadCount threads }
-    ensures gives { IfOk result (Gives (schedule_form threads) (D.held desk.old name.now)) }
-    ensures fails { IfErr result (Fails (schedule_form threads) (D.held desk.old) name.now
-        (D.read_faults desk.old) (D.read_faults desk.new)) }
-    ensures within { IfOk result (All (AreTurnsOf threads)) }
-    ensures held { D.held desk.new ≡ D.held desk.old }
-    ensures later { D.read_faults desk.old ≤ D.read_faults desk.new }
-    ensures writes { D.write_faults desk.new ≡ D.write_faults desk.old }
-{
-    let bytes = take_bytes(alloc, desk, name, SCHEDULE_LIMIT)?;
-    match read_schedule(alloc, &bytes, threads) {
-        Ok(schedule) => Ok(schedule),
-        Err(fault) => Err(schedule_stop(name, fault)),
-    }
-}
+    type Refusal = ScheduleFault;
 
-/// What a schedule's fault comes to.
-fn schedule_stop(name: &str, fault: ScheduleFault) -> Stop<'_>
-    ensures { IsFaultStop Refusal.Schedule ScheduleFault.NoMemory name.now fault result }
-{
-    match fault {
-        ScheduleFault::NoMemory => Stop::NoMemory,
-        _ => Stop::Refused {
-            name,
-            refusal: Refusal::Schedule(fault),
-        },
-    }
-}
+    ghost form = { λ k. schedule_form k.threads };
 
-/// Reads the bytes of an input, at most `limit` of them.
-fn take_bytes<'a, D: Desk>(
-    alloc: Global,
-    desk: &mut D,
-    name: &'a str,
-    limit: u64,
-) -> Result<Vec<u8>, Stop<'a>>
-    ensures gives { IfOk result (λ bytes.
-        GivesBytes limit (D.held desk.old name.now) bytes.items) }
-    ensures fails { IfErr result (FailsToRead limit (D.held desk.old) name.now
-        (D.read_faults desk.old) (D.read_faults desk.new)) }
-    ensures held { D.held desk.new ≡ D.held desk.old }
-    ensures later { D.read_faults desk.old ≤ D.read_faults desk.new }
-    ensures writes { D.write_faults desk.new ≡ D.write_faults desk.old }
-{
-    match read_whole(alloc, desk, name, limit) {
-        Ok(bytes) => Ok(bytes),
-        Err(error) => Err(read_stop(name, error)),
-    }
-}
+    ghost fits = { λ k turns. All (AreTurnsOf k.threads) turns };
 
-/// What an error of reading comes to.
-fn read_stop(name: &str, error: ReadError) -> Stop<'_>
-    ensures { IsReadStop name.now error result }
-{
-    match error {
-        ReadError::ReadFault => Stop::Unread(name),
-        ReadError::TooLong => Stop::TooLong(name),
-        ReadError::NoMemory => Stop::NoMemory,
+    fn word(&self) -> &'static str {
+        "schedule"
+    }
+
+    fn limit(&self) -> u64 {
+        SCHEDULE_LIMIT
+    }
+
+    fn judge(&self, alloc: Global, bytes: &[u8]) -> Result<Schedule, ScheduleFault> {
+        read_schedule(alloc, bytes, self.threads)
     }
 }

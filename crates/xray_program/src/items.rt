@@ -2,7 +2,7 @@
 ghost use Rattle.std.specs.Prelude.{◌≡◌, [], ◌∷◌, IfNone, IfSome, Some, codes, false, map, option_copied};
 ghost use Rattle.std.specs.List.{list_any};
 ghost use Rattle.std.specs.Str.{bytes_eq};
-ghost use Rattle.xray_program.specs.Commands.{item_of};
+ghost use Rattle.xray_program.specs.CommandLine.{item_of};
 ghost use Rattle.xray_program.specs.Words.{File, files_of, have_only, is_among, is_name, items_behind, items_of, texts, value_of, values_of};
 
 use std::iter::FusedIterator;
@@ -140,7 +140,7 @@ pub(crate) fn have_only(options: &[&str], words: &[String]) -> bool
 
 impl<'a> Iterator for Items<'a> {
     ghost use Rattle.std.specs.Iterator.{YieldsFirstBy, item_count};
-    ghost use Rattle.xray_program.specs.Commands.{item_of};
+    ghost use Rattle.xray_program.specs.CommandLine.{item_of};
 
     type Item = Item<'a>;
 

@@ -1,6 +1,6 @@
 //! Options whose value is a number.
 ghost use Rattle.std.specs.Prelude.{◌≡◌, ◌≤◌, IfSome};
-ghost use Rattle.xray_program.specs.Commands.{row_of};
+ghost use Rattle.xray_program.specs.CommandLine.{row_of};
 ghost use Rattle.xray_program.specs.Words.{items_of, number_given, number_within, texts};
 
 use crate::items::Items;

@@ -1,52 +1,62 @@
 //! `plain`: the plain runs of an image's threads.
-ghost use Rattle.std.specs.Prelude.{◌≡◌, IfOk, IfErr};
-ghost use Rattle.xray_io.specs.Desk.{Absent};
-ghost use Rattle.xray_program.specs.Jobs.{AreEnds};
-ghost use Rattle.xray_program.specs.Meaning.{Outcome, Comes, TellsAll};
-ghost use Rattle.xray_program.specs.Judged.{FitTogether, IsJudgedSoFar, Yields};
-ghost use Rattle.xray_program.specs.Takes.{Stops};
-ghost use Rattle.xray_program.specs.Words.{Plain};
+ghost use Rattle.std.specs.Prelude.{◌≡◌, IfOk};
+ghost use Rattle.std.specs.List.{All, flat_map};
+ghost use Rattle.xray_io.specs.Writes.{WritesText};
+ghost use Rattle.xray_program.specs.Ends.{AreEnds, HasRegisters, end_text};
 
-use crate::inputs::take_image;
-use crate::judged::Judged;
+use crate::delivery::{NoOutputs, deliver};
+use crate::input::take;
+use crate::inputs::ImageKind;
 use crate::run_options::RunOptions;
 use crate::stop::Stop;
-use machine_step::{PlainEnd, plain_run};
+use crate::text::Printed;
+use crate::work::Work;
+use machine_step::{PlainEnd, plain_run, write_plain};
 use std::alloc::Global;
 use xray_image::Image;
-use xray_io::{Desk, NoMemory};
+use xray_io::{Desk, NoMemory, Sink, WriteFault};
 
-/// Takes the image of `plain`.
-pub(crate) fn take_plain<'a, D: Desk>(
-    alloc: Global,
-    desk: &mut D,
-    image_name: &'a str,
-    options: RunOptions,
-) -> Result<Judged<'a>, Stop<'a>>
-    ensures gives { IfOk result (λ judged. (outcome : Outcome) → Yields judged outcome
-        → Comes (λ name. D.held desk.old name ≡ Absent)
-        (D.held desk.old) (Plain image_name.now options) outcome) }
-    ensures fits { IfOk result FitTogether }
-    ensures stops { IfErr result (Stops
-        (λ fails. Comes fails (D.held desk.old) (Plain image_name.now options))
-        (D.held desk.old) (D.read_faults desk.old) (D.read_faults desk.new)) }
-    ensures complete { (outcome : Outcome) → TellsAll (D.held desk.old)
-        → Comes (λ name. D.held desk.old name ≡ Absent)
-        (D.held desk.old) (Plain image_name.now options) outcome
-        → IsJudgedSoFar (D.read_faults desk.old) (D.read_faults desk.new) outcome result }
-    ensures held { D.held desk.new ≡ D.held desk.old }
-    ensures writes { D.write_faults desk.new ≡ D.write_faults desk.old }
-{
-    let image = take_image(alloc, desk, image_name)?;
-    Ok(Judged::Plain { image, options })
+/// `plain IMAGE`.
+#[derive(Drop)]
+pub(crate) struct Plain<'a> {
+    /// The image file's name.
+    pub(crate) image: &'a str,
+    /// What bounds the threads.
+    pub(crate) options: RunOptions,
+}
+
+impl<'a> Work<'a> for Plain<'a> {
+    ghost use Rattle.std.specs.Prelude.{⊤};
+    ghost use Rattle.xray_program.specs.Plain.{PlainPrints};
+    ghost use Rattle.xray_program.specs.Taking.{Prints};
+    ghost use Rattle.xray_program.specs.Words as words;
+
+    type Inputs = Image;
+
+    ghost says = { λ p. words.Plain p.image.now p.options };
+
+    ghost yields = { λ p program. Prints (PlainPrints program p.options) };
+
+    ghost fits = { λ _ _. ⊤ };
+
+    fn take<D: Desk>(&self, alloc: Global, desk: &mut D) -> Result<Image, Stop<'a>> {
+        take(alloc, desk, self.image, &ImageKind)
+    }
+
+    fn finish<D: Desk, O: Sink>(
+        &self,
+        alloc: Global,
+        image: &Image,
+        desk: &mut D,
+        out: &mut O,
+    ) -> Result<(), Stop<'a>> {
+        let ends = run_threads(alloc, image, self.options)?;
+        deliver(desk, out, &NoOutputs, &Ends { ends: &ends }, None)
+    }
 }
 
 /// Runs the threads, each to its end.
-pub(crate) fn run_threads(
-    alloc: Global,
-    image: &Image,
-    options: RunOptions,
-) -> Result<Vec<PlainEnd>, NoMemory>
+fn run_threads(alloc: Global, image: &Image, options: RunOptions) -> Result<Vec<PlainEnd>, NoMemory>
     ensures { IfOk result (λ ends. AreEnds image.now options options.threads ends.items) }
 {
     let mut ends = Vec::new(alloc);
@@ -54,4 +64,34 @@ pub(crate) fn run_threads(
         ends.push(plain_run(alloc, image, thread + 1, options.limits())?)?;
     }
     Ok(ends)
+}
+
+/// The plain texts of threads, in the order of their numbers.
+#[derive(Drop)]
+struct Ends<'t> {
+    ends: &'t [PlainEnd],
+}
+
+impl Printed for Ends<'_> {
+    ghost use Rattle.std.specs.List.{All, flat_map};
+    ghost use Rattle.xray_program.specs.Ends.{HasRegisters, end_text};
+
+    ghost text = { λ e. flat_map end_text e.ends.now };
+
+    ghost ready = { λ e. All HasRegisters e.ends.now };
+
+    fn print<S: Sink>(&self, sink: &mut S) -> Result<(), WriteFault> {
+        write_ends(sink, self.ends)
+    }
+}
+
+/// Writes the plain texts of threads, one after another.
+fn write_ends<S: Sink>(sink: &mut S, ends: &[PlainEnd]) -> Result<(), WriteFault>
+    requires { All HasRegisters ends.now }
+    ensures { WritesText S.written S.faults S.along sink.old sink.new (flat_map end_text ends.now) result }
+{
+    for end in ends {
+        write_plain(end, sink)?;
+    }
+    Ok(())
 }

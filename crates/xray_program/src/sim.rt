@@ -1,91 +1,116 @@
 //! `sim`: the replay of a schedule over an image and a script.
-ghost use Rattle.std.specs.Prelude.{◌≡◌, IfOk, IfErr};
-ghost use Rattle.xray_io.specs.Desk.{Absent};
-ghost use Rattle.xray_program.specs.Commands.{IsThreadCount};
-ghost use Rattle.xray_program.specs.Jobs.{job_outputs, job_text, IsPrintable};
-ghost use Rattle.xray_program.specs.Judged.{AreReadFor, FitTogether, IsAnswerOrMemory, IsJudgedSoFar, StopsWork, Yields};
-ghost use Rattle.xray_program.specs.Meaning.{Outcome, Done, Comes, ComesOfReplay, TellsAll};
-ghost use Rattle.xray_program.specs.Stops.{answer_of};
-ghost use Rattle.xray_program.specs.Takes.{Stops};
-ghost use Rattle.xray_program.specs.Words.{Sim};
+ghost use Rattle.std.specs.Prelude.{◌≡◌};
+ghost use Rattle.std.specs.List.{All, flat_map};
+ghost use Rattle.machine_step.specs.Traced.{IsDone};
+ghost use Rattle.xray_io.specs.Writes.{WritesText};
+ghost use Rattle.xray_program.specs.Ends.{thread_text};
+ghost use Rattle.xray_program.specs.Setups.{IsSetup};
 
-use crate::inputs::{take_image, take_schedule, take_script};
-use crate::job::Job;
-use crate::judged::Judged;
-use crate::refusal::Refusal;
-use crate::run_options::RunOptions;
+use crate::delivery::{NoOutputs, deliver};
+use crate::input::{fault_stop, take};
+use crate::inputs::{ImageKind, ScheduleKind, ScriptKind};
+use crate::sim_inputs::SimInputs;
 use crate::stop::Stop;
-use patch_script::Script;
+use crate::text::Printed;
+use crate::work::Work;
+use machine_step::{Cpu, Setup, write_state};
 use std::alloc::Global;
-use step_sim::{Schedule, SimFault, buffers_change_no_replay, simulate};
-use xray_image::Image;
-use xray_io::{Desk, Wall};
+use step_sim::simulate;
+use xray_io::{Desk, Sink, WriteFault};
 
-/// Takes the inputs of `sim`.
-pub(crate) fn take_sim<'a, D: Desk>(
-    alloc: Global,
-    desk: &mut D,
-    image_name: &'a str,
-    script_name: &'a str,
-    schedule_name: &'a str,
-    options: RunOptions,
-) -> Result<Judged<'a>, Stop<'a>>
-    requires { IsThreadCount options.threads }
-    ensures gives { IfOk result (λ judged. (outcome : Outcome) → Yields judged outcome
-        → Comes (λ name. D.held desk.old name ≡ Absent)
-        (D.held desk.old) (Sim image_name.now script_name.now schedule_name.now options) outcome) }
-    ensures fits { IfOk result FitTogether }
-    ensures stops { IfErr result (Stops
-        (λ fails. Comes fails (D.held desk.old) (Sim image_name.now script_name.now schedule_name.now options))
-        (D.held desk.old) (D.read_faults desk.old) (D.read_faults desk.new)) }
-    ensures complete { (outcome : Outcome) → TellsAll (D.held desk.old)
-        → Comes (λ name. D.held desk.old name ≡ Absent)
-        (D.held desk.old) (Sim image_name.now script_name.now schedule_name.now options) outcome
-        → IsJudgedSoFar (D.read_faults desk.old) (D.read_faults desk.new) outcome result }
-    ensures held { D.held desk.new ≡ D.held desk.old }
-    ensures writes { D.write_faults desk.new ≡ D.write_faults desk.old }
-{
-    let image = take_image(alloc, desk, image_name)?;
-    let script = take_script(alloc, desk, script_name, &image, options.threads)?;
-    let schedule = take_schedule(alloc, desk, schedule_name, options.threads)?;
-    Ok(Judged::Sim {
-        image,
-        script,
-        schedule,
-        script_name,
-        options,
-    })
+/// The word for a script in a line on err.
+const SCRIPT: &str = "script";
+
+/// `sim IMAGE SCRIPT SCHEDULE`.
+#[derive(Drop)]
+pub(crate) struct Sim<'a> {
+    /// The image file's name.
+    pub(crate) image: &'a str,
+    /// The name of the patcher's script.
+    pub(crate) script: &'a str,
+    /// The name of the schedule.
+    pub(crate) schedule: &'a str,
+    /// What the replay is made with.
+    pub(crate) setup: Setup,
+    ghost ranges: { IsSetup setup },
 }
 
-/// Replays the schedule from this wall time on, and leaves the threads at their ends. A script that waits
-/// is refused by its name.
-pub(crate) fn replay<'a, 't>(
-    alloc: Global,
-    wall: Wall,
-    image: &'t Image,
-    script: &Script,
-    schedule: &Schedule,
-    script_name: &'a str,
-    options: RunOptions,
-) -> Result<Job<'a, 't>, Stop<'a>>
-    requires { AreReadFor image.now options.threads script.now schedule.now }
-    ensures ready { IfOk result (λ job.
-        ComesOfReplay script_name.now options image.now script.now schedule.now
-        (Done (job_outputs job) (job_text job))) }
-    ensures printable { IfOk result IsPrintable }
-    ensures stops { IfErr result
-        (StopsWork (ComesOfReplay script_name.now options image.now script.now schedule.now)) }
-    ensures complete { (outcome : Outcome)
-        → ComesOfReplay script_name.now options image.now script.now schedule.now outcome
-        → IsAnswerOrMemory outcome (answer_of result) }
-{
-    buffers_change_no_replay();
-    match simulate(alloc, image, script, schedule, &options.setup(wall)) {
-        Ok(end) => Ok(Job::States(end.cpus)),
-        Err(SimFault::Waits(line)) => Err(Stop::Refused {
-            name: script_name,
-            refusal: Refusal::Waits(line),
-        }),
-        Err(SimFault::NoMemory) => Err(Stop::NoMemory),
+impl<'a> Work<'a> for Sim<'a> {
+    ghost use Rattle.xray_program.specs.Sim.{Replays};
+    ghost use Rattle.xray_program.specs.SimInputs.{AreReadFor};
+    ghost use Rattle.xray_program.specs.Words as words;
+
+    type Inputs = SimInputs;
+
+    ghost says = { λ s. words.Sim s.image.now s.script.now s.schedule.now s.setup };
+
+    ghost yields = { λ s inputs. Replays s.script.now s.setup inputs.image inputs.script inputs.schedule };
+
+    ghost fits = { λ s inputs. AreReadFor s.setup.threads inputs };
+
+    fn take<D: Desk>(&self, alloc: Global, desk: &mut D) -> Result<SimInputs, Stop<'a>> {
+        let threads = self.setup.threads;
+        let image = take(alloc, desk, self.image, &ImageKind)?;
+        let kind = ScriptKind {
+            image: &image,
+            threads,
+        };
+        let script = take(alloc, desk, self.script, &kind)?;
+        let schedule = take(alloc, desk, self.schedule, &ScheduleKind { threads })?;
+        Ok(SimInputs {
+            image,
+            script,
+            schedule,
+        })
     }
+
+    fn finish<D: Desk, O: Sink>(
+        &self,
+        alloc: Global,
+        inputs: &SimInputs,
+        desk: &mut D,
+        out: &mut O,
+    ) -> Result<(), Stop<'a>> {
+        match simulate(
+            alloc,
+            &inputs.image,
+            &inputs.script,
+            &inputs.schedule,
+            &self.setup,
+        ) {
+            Ok(end) => deliver(desk, out, &NoOutputs, &States { cpus: &end.cpus }, None),
+            Err(fault) => Err(fault_stop(self.script, SCRIPT, &fault)),
+        }
+    }
+}
+
+/// The state texts of threads that have ended, in their order.
+#[derive(Drop)]
+struct States<'t, 'i> {
+    cpus: &'t [Cpu<'i>],
+}
+
+impl Printed for States<'_, '_> {
+    ghost use Rattle.std.specs.List.{All, flat_map};
+    ghost use Rattle.machine_step.specs.Traced.{IsDone};
+    ghost use Rattle.xray_program.specs.Ends.{thread_text};
+
+    ghost text = { λ s. flat_map thread_text s.cpus.now };
+
+    ghost ready = { λ s. All (λ t. IsDone t.want) s.cpus.now };
+
+    fn print<S: Sink>(&self, sink: &mut S) -> Result<(), WriteFault> {
+        write_states(sink, self.cpus)
+    }
+}
+
+/// Writes the state texts of threads that have ended, one after another.
+fn write_states<S: Sink>(sink: &mut S, cpus: &[Cpu]) -> Result<(), WriteFault>
+    requires { All (λ t. IsDone t.want) cpus.now }
+    ensures { WritesText S.written S.faults S.along sink.old sink.new (flat_map thread_text cpus.now) result }
+{
+    for cpu in cpus {
+        write_state(cpu.thread(), cpu, sink)?;
+    }
+    Ok(())
 }

@@ -1,10 +1,13 @@
 //! What ends a call before all is done.
 ghost use Rattle.std.specs.Prelude.{◌≡◌, ◌++◌};
+ghost use Rattle.fault_words.specs.Words.{words_text};
 ghost use Rattle.xray_io.specs.Piece.{text_of};
-ghost use Rattle.xray_program.specs.Meaning.{Refused, Says, err_line, line_of};
-ghost use Rattle.xray_program.specs.Stops.{kind_text, refusal_text, stop_line, stop_status};
+ghost use Rattle.xray_io.specs.World.{sink_view};
+ghost use Rattle.xray_program.specs.Answers.{Says};
+ghost use Rattle.xray_program.specs.Outcomes.{Refused, err_line, line_of};
+ghost use Rattle.xray_program.specs.Stops.{stop_line, stop_status};
 
-use crate::refusal::Refusal;
+use fault_words::Words;
 use xray_io::{NoMemory, Piece, Sink, write_pieces};
 
 /// What stands in front of each line on err.
@@ -26,9 +29,13 @@ pub(crate) enum Stop<'a> {
     Refused {
         /// The input's name.
         name: &'a str,
-        /// What is wrong with it.
-        refusal: Refusal,
+        /// The word for the kind of input.
+        kind: &'a str,
+        /// The words for what is wrong with it.
+        words: Words<'a>,
     },
+    /// All was written, and something is wrong all the same, which these words say.
+    Fell(Words<'a>),
     /// An output can't be written. The standard output is named `output`.
     Unwritten(&'a str),
     /// Memory ran out.
@@ -46,7 +53,7 @@ impl From<NoMemory> for Stop<'_> {
 }
 
 impl Stop<'_> {
-    /// The program's status: 1 to 6.
+    /// The program's status: 1 to 7.
     pub(crate) fn status(&self) -> u8
         ensures { result ≡ stop_status self.now }
     {
@@ -57,13 +64,14 @@ impl Stop<'_> {
             Stop::Unwritten(_) => 4,
             Stop::NoMemory => 5,
             Stop::TooLong(_) => 6,
+            Stop::Fell(_) => 7,
         }
     }
 
-    /// Writes the line on err that tells of it. Nobody hears of it where err fails.
+    /// Writes its line on err. Where err fails, nobody hears of that.
     pub(crate) fn report<E: Sink>(&self, err: &mut E)
-        ensures { Says (E.faults err.old) (E.faults err.new)
-            (E.written err.old) (E.written err.new) (stop_line self.now) }
+        ensures { let heard = sink_view E.written E.faults in
+            Says (heard err.old) (heard err.new) (stop_line self.now) }
     {
         match self {
             Stop::BadLine => say(
@@ -72,23 +80,23 @@ impl Stop<'_> {
             ),
             Stop::Unread(name) => say_of(err, name, b": read fault"),
             Stop::TooLong(name) => say_of(err, name, b": too long"),
-            Stop::Refused { name, refusal } => say(err, &refused_line(name, *refusal)),
+            Stop::Refused { name, kind, words } => say(err, &refused_line(name, kind, words)),
+            Stop::Fell(trouble) => say(err, &fallen_line(trouble)),
             Stop::Unwritten(name) => say_of(err, name, b": write fault"),
             Stop::NoMemory => say(err, &[PROGRAM, Piece::Bytes(b"out of memory"), LINE_FEED]),
         }
     }
 }
 
-/// The line on err that tells of a refusal.
-fn refused_line(name: &str, refusal: Refusal) -> [Piece<'_>; 10]
-    ensures { text_of result ≡ line_of (Refused name.now (kind_text refusal) (refusal_text refusal)) }
+/// The line on err for an input that is refused.
+fn refused_line<'x>(name: &'x str, kind: &'x str, words: &Words<'x>) -> [Piece<'x>; 10]
+    ensures { text_of result ≡ line_of (Refused name.now kind.now (words_text words.now)) }
 {
-    let words = refusal.words();
     [
         PROGRAM,
         Piece::Bytes(name.as_bytes()),
         Piece::Bytes(b": "),
-        Piece::Bytes(refusal.kind()),
+        Piece::Bytes(kind.as_bytes()),
         Piece::Bytes(b" "),
         words.first,
         words.second,
@@ -98,10 +106,24 @@ fn refused_line(name: &str, refusal: Refusal) -> [Piece<'_>; 10]
     ]
 }
 
+/// The line on err for a trouble in what was written.
+fn fallen_line<'x>(trouble: &Words<'x>) -> [Piece<'x>; 6]
+    ensures { text_of result ≡ err_line (words_text trouble.now) }
+{
+    [
+        PROGRAM,
+        trouble.first,
+        trouble.second,
+        trouble.third,
+        trouble.fourth,
+        LINE_FEED,
+    ]
+}
+
 /// Writes a line on err of what happened to a file of this name.
 fn say_of<'x, E: Sink>(err: &mut E, name: &'x str, what: &'x [u8])
-    ensures { Says (E.faults err.old) (E.faults err.new)
-        (E.written err.old) (E.written err.new) (err_line (name.now ++ what.now)) }
+    ensures { let heard = sink_view E.written E.faults in
+        Says (heard err.old) (heard err.new) (err_line (name.now ++ what.now)) }
 {
     say(
         err,
@@ -114,10 +136,10 @@ fn say_of<'x, E: Sink>(err: &mut E, name: &'x str, what: &'x [u8])
     )
 }
 
-/// Writes a line on err. Where err fails, a front of it is there.
+/// Writes a line on err. Where err fails, a prefix of it is there.
 fn say<E: Sink>(err: &mut E, line: &[Piece])
-    ensures { Says (E.faults err.old) (E.faults err.new)
-        (E.written err.old) (E.written err.new) (text_of line.now) }
+    ensures { let heard = sink_view E.written E.faults in
+        Says (heard err.old) (heard err.new) (text_of line.now) }
 {
     let _ = write_pieces(err, line);
 }

@@ -1,11 +1,14 @@
 //! The words of the command line.
 ghost use Rattle.std.specs.Prelude.{◌≡◌, IfSome, option_copied, option_map};
-ghost use Rattle.xray_program.specs.Commands.{HasThreads, IsThreadCount, command_of};
+ghost use Rattle.xray_program.specs.CommandLine.{HasRanges, command_of};
+ghost use Rattle.xray_program.specs.Setups.{IsThreadCount};
 ghost use Rattle.xray_program.specs.Words.{asm_of, extract_of, have_only, items_of, only_file, plain_of, reading, run_names, run_options, sim_of, texts};
 
 use crate::items::{Items, have_only};
 use crate::number_option::NumberOption;
 use crate::run_options::RunOptions;
+use machine_step::Setup;
+use xray_io::Wall;
 
 /// The word of the command that replays a schedule.
 const SIM: &str = "sim";
@@ -62,8 +65,8 @@ pub(crate) enum Command<'a> {
         script: &'a str,
         /// The turns of the threads and the patcher.
         schedule: &'a str,
-        /// What bounds the threads.
-        options: RunOptions,
+        /// What the replay is made with.
+        setup: Setup,
     },
     /// Runs an image without sleds on each thread, and prints how they end.
     Plain {
@@ -88,16 +91,17 @@ pub(crate) enum Command<'a> {
     },
 }
 
-/// The command that words say, which don't hold the program's own name; `None` where they say none.
-pub(crate) fn read_words(words: &[String]) -> Option<Command<'_>>
-    ensures reads { option_map command_of result ≡ reading (texts words.now) }
-    ensures runs { IfSome result (λ command. HasThreads command) }
+/// The command that words say, which don't hold the program's own name; `None` where they say none. A
+/// run is from this wall time on.
+pub(crate) fn read_words(words: &[String], wall: Wall) -> Option<Command<'_>>
+    ensures reads { option_map command_of result ≡ reading wall (texts words.now) }
+    ensures runs { IfSome result (λ command. HasRanges command) }
 {
     let (command, rest) = words.split_first()?;
     match command.as_str() {
         PLAIN => read_plain(rest),
         EXTRACT => read_extract(rest),
-        SIM => read_sim(rest),
+        SIM => read_sim(rest, wall),
         ASM => read_asm(rest),
         _ => None,
     }
@@ -106,7 +110,7 @@ pub(crate) fn read_words(words: &[String]) -> Option<Command<'_>>
 /// `plain IMAGE`, with the options of commands that run threads.
 fn read_plain(words: &[String]) -> Option<Command<'_>>
     ensures reads { option_map command_of result ≡ plain_of (items_of (texts words.now)) }
-    ensures runs { IfSome result (λ command. HasThreads command) }
+    ensures runs { IfSome result (λ command. HasRanges command) }
 {
     if !have_run_options(words) {
         return None;
@@ -119,7 +123,7 @@ fn read_plain(words: &[String]) -> Option<Command<'_>>
 /// `extract IMAGE`.
 fn read_extract(words: &[String]) -> Option<Command<'_>>
     ensures reads { option_map command_of result ≡ extract_of (items_of (texts words.now)) }
-    ensures runs { IfSome result (λ command. HasThreads command) }
+    ensures runs { IfSome result (λ command. HasRanges command) }
 {
     if !have_only(&[], words) {
         return None;
@@ -129,9 +133,9 @@ fn read_extract(words: &[String]) -> Option<Command<'_>>
 }
 
 /// `sim IMAGE SCRIPT SCHEDULE`, with the options of commands that run threads.
-fn read_sim(words: &[String]) -> Option<Command<'_>>
-    ensures reads { option_map command_of result ≡ sim_of (items_of (texts words.now)) }
-    ensures runs { IfSome result (λ command. HasThreads command) }
+fn read_sim(words: &[String], wall: Wall) -> Option<Command<'_>>
+    ensures reads { option_map command_of result ≡ sim_of wall (items_of (texts words.now)) }
+    ensures runs { IfSome result (λ command. HasRanges command) }
 {
     if !have_run_options(words) {
         return None;
@@ -147,7 +151,7 @@ fn read_sim(words: &[String]) -> Option<Command<'_>>
             image,
             script,
             schedule,
-            options,
+            setup: options.setup(wall),
         }),
     }
 }
@@ -155,7 +159,7 @@ fn read_sim(words: &[String]) -> Option<Command<'_>>
 /// `asm TEXT IMAGE`, with its threshold. The image has another name than the text.
 fn read_asm(words: &[String]) -> Option<Command<'_>>
     ensures reads { option_map command_of result ≡ asm_of (items_of (texts words.now)) }
-    ensures runs { IfSome result (λ command. HasThreads command) }
+    ensures runs { IfSome result (λ command. HasRanges command) }
 {
     if !have_only(&[THRESHOLD.name], words) {
         return None;

@@ -1,17 +1,29 @@
-use Rattle.xray_program.proofs.CallTurns.{reports, unread, unwritten, simulated}
+use Rattle.std.proofs.Common.{ℕ, [], sym, subst}
+use Rattle.xray_io.specs.World.{World, desk_view, sink_view}
+use Rattle.xray_program.specs.Answers.{Answered}
+use Rattle.xray_program.specs.Stops.{stop_line, stop_status}
+use Rattle.xray_program.specs.Words.{reading, texts}
+use Rattle.xray_program.proofs.Answering.{answered}
+use Rattle.xray_program.proofs.Saying.{nothing_said}
 use Rattle.xray_program.proofs.call.xray_still.Goals as goal
 
-pub returns-in-Ok-clause-headline : goal.returns-in-Ok-clause-headline
-returns-in-Ok-clause-headline g c = λ zero. simulated c.no_replay_tears_a_sled.ensures.read _ (g.D.Desk.held c.args.desk.now) _ _ _ c.in-Ok.ensures.done
+pub returns-in-Ok : goal.returns-in-Ok
+returns-in-Ok g c =
+    let seen = desk_view g.D.Desk.held g.D.Desk.read_faults g.D.Desk.write_faults in
+    let got = sink_view g.O.Sink.written g.O.Sink.faults in
+    let heard = sink_view g.E.Sink.written g.E.Sink.faults in
+    let before : World = record { desk = seen c.args.desk.now; out = got c.args.out.now; err = heard c.args.err.now } in
+    let after : World = record { desk = seen c.perform_words.new.desk; out = got c.perform_words.new.out; err = heard c.args.err.now } in
+    answered c.no_replay_tears_a_sled.ensures.read (reading c.args.wall (texts c.args.words.now)) before after 0 [] c.in-Ok.ensures
+    (nothing_said (heard c.args.err.now))
 
-pub returns-in-Err-clause-refused : goal.returns-in-Err-clause-refused
-returns-in-Err-clause-refused g c =
-    reports _ (g.D.Desk.held c.args.desk.now) _ _ _ _ _ _ _ _ _ _ _ _ _ _ _ c.in-Err.ensures.stops c.report.ensures c.status.ensures
-
-pub returns-in-Err-clause-unread : goal.returns-in-Err-clause-unread
-returns-in-Err-clause-unread g c =
-    unread _ (g.D.Desk.held c.args.desk.now) _ _ _ _ _ _ _ _ _ _ _ _ _ _ _ c.in-Err.ensures.stops c.report.ensures c.status.ensures
-
-pub returns-in-Err-clause-unwritten : goal.returns-in-Err-clause-unwritten
-returns-in-Err-clause-unwritten g c =
-    unwritten _ (g.D.Desk.held c.args.desk.now) _ _ _ _ _ _ _ _ _ _ _ _ _ _ _ c.in-Err.ensures.stops c.report.ensures c.status.ensures
+pub returns-in-Err : goal.returns-in-Err
+returns-in-Err g c =
+    let seen = desk_view g.D.Desk.held g.D.Desk.read_faults g.D.Desk.write_faults in
+    let got = sink_view g.O.Sink.written g.O.Sink.faults in
+    let heard = sink_view g.E.Sink.written g.E.Sink.faults in
+    let said = reading c.args.wall (texts c.args.words.now) in
+    let before : World = record { desk = seen c.args.desk.now; out = got c.args.out.now; err = heard c.args.err.now } in
+    let after : World = record { desk = seen c.perform_words.new.desk; out = got c.perform_words.new.out; err = heard c.report.new.err } in
+    subst (λ (n : ℕ). Answered said before after n) (sym c.status.ensures)
+    (answered c.no_replay_tears_a_sled.ensures.read said before after (stop_status c.in-Err.stop) (stop_line c.in-Err.stop) c.in-Err.ensures c.report.ensures)

@@ -1,0 +1,228 @@
+-- The contract of a call, from how it ends.
+use Rattle.std.proofs.Common.{◌≡◌, ◌≢◌, ◌⊎◌, ◌↔◌, ◌∙◌, ℕ, List, [], Contains, Option, Some, None, inl, inr, refl, sym, ap, subst}
+use Rattle.xray_io.specs.Desk.{Entry, Absent}
+use Rattle.xray_io.specs.Faults.{Rose}
+use Rattle.xray_program.specs.Answers.{Answered, IsAnswer, IsSimulated, LeavesAll, Reports, Says}
+use Rattle.xray_program.specs.Commands.{Means, HadItsTurn, outputs_named}
+use Rattle.xray_program.specs.Outcomes.{Outcome, BadLine, Unread, TooLong, Refused, Done, Fell, Ending, With, Unwritten, NoMemory, status_of, status_at, line_at, written_by}
+use Rattle.xray_program.specs.Outputs.{FailsWriting}
+use Rattle.xray_program.specs.Words.{Command}
+use Rattle.xray_program.specs.Works.{Ends, KeepsOthers, StandsBehind}
+use Rattle.xray_io.specs.World.{World}
+use Rattle.xray_program.proofs.Headline.{TearsNone, simulated}
+use Rattle.xray_program.proofs.Saying.{says_nothing}
+
+-- a number is none of these others
+not_two : (a b n : ℕ) {P : Type 0} → (n ≡ a → ⊥) → (n ≡ b → ⊥) → (n ≡ a) ⊎ (n ≡ b) → P
+not_two a b n p q (inl e) = absurd (p e)
+not_two a b n p q (inr e) = absurd (q e)
+
+not_three : (a b c n : ℕ) {P : Type 0} → (n ≡ a → ⊥) → (n ≡ b → ⊥) → (n ≡ c → ⊥) → (n ≡ a) ⊎ (n ≡ b) ⊎ (n ≡ c) → P
+not_three a b c n p q r (inl e) = absurd (p e)
+not_three a b c n p q r (inr (inl e)) = absurd (q e)
+not_three a b c n p q r (inr (inr e)) = absurd (r e)
+
+not_five : (n : ℕ) {P : Type 0} → (n ≡ 1 → ⊥) → (n ≡ 2 → ⊥) → (n ≡ 3 → ⊥) → (n ≡ 5 → ⊥) → (n ≡ 6 → ⊥)
+    → (n ≡ 1) ⊎ (n ≡ 2) ⊎ (n ≡ 3) ⊎ (n ≡ 5) ⊎ (n ≡ 6) → P
+not_five n a b c d e (inl x) = absurd (a x)
+not_five n a b c d e (inr (inl x)) = absurd (b x)
+not_five n a b c d e (inr (inr (inl x))) = absurd (c x)
+not_five n a b c d e (inr (inr (inr (inl x)))) = absurd (d x)
+not_five n a b c d e (inr (inr (inr (inr x)))) = absurd (e x)
+
+-- only a command line that says no command is a bad one
+read_it : (said : Option Command) (held : List ℕ → Entry) (outcome : Outcome) → Means said held outcome → outcome ≢ BadLine → said ≢ None
+read_it None held outcome meant not e = not meant
+read_it (Some command) held outcome meant not e = cc
+
+had_turn : (said : Option Command) (held : List ℕ → Entry) (name : List ℕ) → HadItsTurn said held name → said ≢ None
+had_turn None held name turn e = cc
+had_turn (Some command) held name turn e = cc
+
+means_bad : (said : Option Command) (held : List ℕ → Entry) → said ≡ None → Means said held BadLine
+means_bad None held e = refl
+means_bad (Some command) held e = absurd cc
+
+not_bad : (outcome : Outcome) (of : List (List ℕ × List ℕ) × List ℕ) → written_by outcome ≡ Some of → outcome ≢ BadLine
+not_bad outcome of writes e = none (rw e at writes)
+  where
+    none : written_by BadLine ≡ Some of → ⊥
+    none e = cc
+
+-- how the parts of the contract follow, one for each ending
+by_ending : TearsNone → (said : Option Command) (before after : World) (ending : Ending)
+    → StandsBehind said before.desk after.desk before.out after.out ending → KeepsOthers (outputs_named said) before.desk after.desk
+    → Says before.err after.err (line_at ending) → Answered said before after (status_at ending)
+by_ending tears said before after (With BadLine) (is, nothing) kept told = record {
+  ending = With BadLine;
+  status = refl;
+  told = told;
+  done = λ e. not_two 0 7 1 (λ x. cc) (λ x. cc) e;
+  silent = λ e. absurd cc;
+  bad_line = (λ e. is, λ e. refl);
+  refused = λ e. record { outcome = BadLine; is = refl; meant = means_bad said before.desk.held is };
+  unread = λ e. absurd cc;
+  unwritten = λ e. absurd cc;
+  memory = λ e. absurd cc;
+  untouched = λ e. nothing;
+  names = kept;
+  complete = inl (BadLine, means_bad said before.desk.held is, refl);
+  headline = λ e. absurd cc;
+}
+by_ending tears said before after (With (Refused n kind refusal)) (meant, nothing) kept told = record {
+  ending = With (Refused n kind refusal);
+  status = refl;
+  told = told;
+  done = λ e. not_two 0 7 2 (λ x. cc) (λ x. cc) e;
+  silent = λ e. absurd cc;
+  bad_line = (λ e. absurd cc, λ e. absurd (read_it said before.desk.held (Refused n kind refusal) meant (λ x. cc) e));
+  refused = λ e. record { outcome = Refused n kind refusal; is = refl; meant = meant };
+  unread = λ e. absurd cc;
+  unwritten = λ e. absurd cc;
+  memory = λ e. absurd cc;
+  untouched = λ e. nothing;
+  names = kept;
+  complete = inl (Refused n kind refusal, meant, refl);
+  headline = λ e. absurd cc;
+}
+by_ending tears said before after (With (TooLong n)) (meant, nothing) kept told = record {
+  ending = With (TooLong n);
+  status = refl;
+  told = told;
+  done = λ e. not_two 0 7 6 (λ x. cc) (λ x. cc) e;
+  silent = λ e. absurd cc;
+  bad_line = (λ e. absurd cc, λ e. absurd (read_it said before.desk.held (TooLong n) meant (λ x. cc) e));
+  refused = λ e. record { outcome = TooLong n; is = refl; meant = meant };
+  unread = λ e. absurd cc;
+  unwritten = λ e. absurd cc;
+  memory = λ e. absurd cc;
+  untouched = λ e. nothing;
+  names = kept;
+  complete = inl (TooLong n, meant, refl);
+  headline = λ e. absurd cc;
+}
+by_ending tears said before after (With (Unread n)) ((turn, cause), nothing) kept told = record {
+  ending = With (Unread n);
+  status = refl;
+  told = told;
+  done = λ e. not_two 0 7 3 (λ x. cc) (λ x. cc) e;
+  silent = λ e. absurd cc;
+  bad_line = (λ e. absurd cc, λ e. absurd (had_turn said before.desk.held n turn e));
+  refused = λ e. not_three 1 2 6 3 (λ x. cc) (λ x. cc) (λ x. cc) e;
+  unread = λ e. record { name = n; is = refl; turn = turn; cause = cause };
+  unwritten = λ e. absurd cc;
+  memory = λ e. absurd cc;
+  untouched = λ e. nothing;
+  names = kept;
+  complete = answers cause;
+  headline = λ e. absurd cc;
+}
+  where
+    answers : Rose before.desk.read_faults after.desk.read_faults ⊎ ((before.desk.held n ≡ Absent) × Means said before.desk.held (Unread n))
+        → IsAnswer said before after 3
+    answers (inl rose) = inr (inr (inl (refl, rose)))
+    answers (inr (absent, meant)) = inl (Unread n, meant, refl)
+by_ending tears said before after (With (Done outputs text)) (meant, writes) kept told = record {
+  ending = With (Done outputs text);
+  status = refl;
+  told = told;
+  done = λ e. record {
+    outcome = Done outputs text;
+    is = refl;
+    meant = meant;
+    outputs = outputs;
+    text = text;
+    writes = refl;
+    whole = writes.whole;
+    out = writes.printed;
+  };
+  silent = λ e. says_nothing before.err after.err told;
+  bad_line = (λ e. absurd cc, λ e. absurd (read_it said before.desk.held (Done outputs text) meant (λ x. cc) e));
+  refused = λ e. not_three 1 2 6 0 (λ x. cc) (λ x. cc) (λ x. cc) e;
+  unread = λ e. absurd cc;
+  unwritten = λ e. absurd cc;
+  memory = λ e. absurd cc;
+  untouched = λ e. not_five 0 (λ x. cc) (λ x. cc) (λ x. cc) (λ x. cc) (λ x. cc) e;
+  names = kept;
+  complete = inl (Done outputs text, meant, refl);
+  headline = λ e. simulated tears said before after outputs text meant writes.whole writes.printed;
+}
+by_ending tears said before after (With (Fell outputs text trouble)) (meant, writes) kept told = record {
+  ending = With (Fell outputs text trouble);
+  status = refl;
+  told = told;
+  done = λ e. record {
+    outcome = Fell outputs text trouble;
+    is = refl;
+    meant = meant;
+    outputs = outputs;
+    text = text;
+    writes = refl;
+    whole = writes.whole;
+    out = writes.printed;
+  };
+  silent = λ e. absurd cc;
+  bad_line = (λ e. absurd cc, λ e. absurd (read_it said before.desk.held (Fell outputs text trouble) meant (λ x. cc) e));
+  refused = λ e. not_three 1 2 6 7 (λ x. cc) (λ x. cc) (λ x. cc) e;
+  unread = λ e. absurd cc;
+  unwritten = λ e. absurd cc;
+  memory = λ e. absurd cc;
+  untouched = λ e. not_five 7 (λ x. cc) (λ x. cc) (λ x. cc) (λ x. cc) (λ x. cc) e;
+  names = kept;
+  complete = inl (Fell outputs text trouble, meant, refl);
+  headline = λ e. absurd cc;
+}
+by_ending tears said before after (Unwritten n) fails kept told = record {
+  ending = Unwritten n;
+  status = refl;
+  told = told;
+  done = λ e. not_two 0 7 4 (λ x. cc) (λ x. cc) e;
+  silent = λ e. absurd cc;
+  bad_line = (λ e. absurd cc, λ e. absurd (read_it said before.desk.held fails.outcome fails.comes (not_bad fails.outcome (fails.outputs, fails.text) fails.writes) e));
+  refused = λ e. not_three 1 2 6 4 (λ x. cc) (λ x. cc) (λ x. cc) e;
+  unread = λ e. absurd cc;
+  unwritten = λ e. record {
+    name = n;
+    is = refl;
+    outcome = fails.outcome;
+    meant = fails.comes;
+    outputs = fails.outputs;
+    text = fails.text;
+    writes = fails.writes;
+    failed = fails.failed;
+  };
+  memory = λ e. absurd cc;
+  untouched = λ e. not_five 4 (λ x. cc) (λ x. cc) (λ x. cc) (λ x. cc) (λ x. cc) e;
+  names = kept;
+  complete = inr (inr (inr (refl, fault fails.failed)));
+  headline = λ e. absurd cc;
+}
+  where
+    fault : FailsWriting fails.outputs fails.text before.desk after.desk before.out after.out n
+        → Rose before.desk.write_faults after.desk.write_faults ⊎ Rose before.out.faults after.out.faults
+    fault (inl (at, silent)) = inl at.fault
+    fault (inr at) = inr at.fault
+by_ending tears said before after NoMemory (read, nothing) kept told = record {
+  ending = NoMemory;
+  status = refl;
+  told = told;
+  done = λ e. not_two 0 7 5 (λ x. cc) (λ x. cc) e;
+  silent = λ e. absurd cc;
+  bad_line = (λ e. absurd cc, λ e. absurd (read e));
+  refused = λ e. not_three 1 2 6 5 (λ x. cc) (λ x. cc) (λ x. cc) e;
+  unread = λ e. absurd cc;
+  unwritten = λ e. absurd cc;
+  memory = λ e. refl;
+  untouched = λ e. nothing;
+  names = kept;
+  complete = inr (inl refl);
+  headline = λ e. absurd cc;
+}
+
+-- a call that ended so, and whose line is on err
+pub answered : TearsNone → (said : Option Command) (before after : World) (answer : ℕ) (line : List ℕ)
+    → Ends said before.desk after.desk before.out after.out answer line → Says before.err after.err line → Answered said before after answer
+answered tears said before after answer line ends says =
+    subst (Answered said before after) ends.status
+    (by_ending tears said before after ends.ending ends.stands ends.names
+    (subst (λ (l : List ℕ). Says before.err after.err l) (sym ends.told) says))

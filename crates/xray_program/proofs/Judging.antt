@@ -1,0 +1,45 @@
+-- What the readers of inputs answer.
+use Rattle.std.specs.Prelude.{IfErr}
+use Rattle.std.proofs.Common.{◌≡◌, ◌⊎◌, ◌<◌, ◌≤◌, ℕ, List, [], ◌∷◌, length, Option, Some, None, Result, Ok, Err, inl, inr, refl, sym, ap, arith, subst}
+use Rattle.std.specs.Prelude.{◌==◌}
+use Rattle.std.specs.List.{slice_split}
+use Rattle.std.specs.Str.Lines.{lines, lines_of_parts}
+use Rattle.std.proofs.lemmas.List.Splits.{length-slice_split}
+use Rattle.std.proofs.lemmas.List.Sums.{count_by-le-length}
+use Rattle.xray_image.specs.FaultWords.{image_words}
+use Rattle.xray_image.specs.Table.{Verdict, ReadsAs}
+use Rattle.xray_image.specs.declared.fault.ImageFault.{ImageFault}
+use Rattle.xray_image.specs.declared.fault.ImageFault.TheVariants as faults
+use Rattle.xray_program.specs.Inputs.{image_form, refused_for}
+
+-- a text has at most one line more than bytes
+lines_of_few : (parts : List (List ℕ)) → length (lines_of_parts parts) ≤ length parts
+lines_of_few [] = omega arith
+lines_of_few ([] ∷ []) = omega arith
+lines_of_few ((x ∷ part) ∷ []) = grind arith
+lines_of_few (part ∷ next ∷ more) = let few = lines_of_few (next ∷ more) in omega arith
+
+-- so those of a text within the limit can be counted
+pub few_lines : (text : List ℕ) → length text ≤ 4194304 → length (lines text) < 4294967295
+few_lines text within =
+    let parts = slice_split (λ b. b == 10) text in
+    let few = lines_of_few parts in
+    let split = length-slice_split (λ b. b == 10) text in
+    let ends = count_by-le-length (λ b. b == 10) text in
+    omega arith
+
+-- a file that is no image is refused for its fault
+pub image_refuses : (bytes : List ℕ) (result : Verdict) → (result ≡ Err faults.NoMemory) ⊎ ReadsAs bytes result
+    → IfErr result (λ fault. (refusal : List ℕ) → image_words fault ≡ Some refusal → image_form.Refuses bytes refusal)
+image_refuses bytes (Ok program) reads = tt
+image_refuses bytes (Err fault) (inl wanting) = λ refusal is. absurd (none refusal fault (same fault wanting) is)
+  where
+    same : (f : ImageFault) → (let v : Verdict = Err f in let w : Verdict = Err faults.NoMemory in v ≡ w) → f ≡ faults.NoMemory
+    same f e = cc
+
+    never : (refusal : List ℕ) → image_words faults.NoMemory ≡ Some refusal → ⊥
+    never refusal e = cc
+
+    none : (refusal : List ℕ) (f : ImageFault) → f ≡ faults.NoMemory → image_words f ≡ Some refusal → ⊥
+    none refusal f e is = never refusal (subst (λ h. image_words h ≡ Some refusal) e is)
+image_refuses bytes (Err fault) (inr reads) = λ refusal is. (fault, reads, ap refused_for (sym is))

@@ -1,0 +1,9 @@
+use Rattle.xray_io.specs.World.{desk_view}
+use Rattle.xray_program.proofs.Outputting.{fails_one}
+use Rattle.xray_program.proofs.delivery.OutputOutputs.write.Goals as goal
+
+pub returns-in-Err-clause-stops : goal.returns-in-Err-clause-stops
+returns-in-Err-clause-stops g c =
+    let seen = desk_view g.D.Desk.held g.D.Desk.read_faults g.D.Desk.write_faults in
+    fails_one c.args.self.now.name.now c.args.self.now.bytes.now (seen c.args.desk.now) (seen c.write_output.new.desk) _ c.in-Err.ensures.went.calls
+    c.in-Err.ensures.went.are c.in-Err.ensures.fault

@@ -1,0 +1,20 @@
+use Rattle.std.proofs.Common.{[], None, refl}
+use Rattle.std.specs.List.{flat_map}
+use Rattle.xray_io.specs.World.{desk_view, sink_view}
+use Rattle.xray_program.specs.Ends.{end_text}
+use Rattle.xray_program.specs.Plain.{PlainPrints}
+use Rattle.xray_program.specs.Taking.{Prints}
+use Rattle.xray_program.proofs.Endings.{finishes}
+use Rattle.xray_program.proofs.PlainThreads.{prints_all}
+use Rattle.xray_program.proofs.plain.PlainWork.finish.Goals as goal
+
+pub returns-clause-finishes : goal.returns-clause-finishes
+returns-clause-finishes g c =
+    let seen = desk_view g.D.Desk.held g.D.Desk.read_faults g.D.Desk.write_faults in
+    let got = sink_view g.O.Sink.written g.O.Sink.faults in
+    let program = c.args.image.now in
+    let options = c.args.self.now.options in
+    let text = flat_map end_text c.deref.result.now in
+    let prints : PlainPrints program options text = rw c.deref.ensures.value (prints_all program options _ c.in_ok-ends.ensures) in
+    finishes (Prints (PlainPrints program options)) [] text None (seen c.args.desk.now) (seen c.deliver.new.desk) (got c.args.out.now) (got c.deliver.new.out)
+    c.deliver.result ([], text, (refl, prints), refl) c.deliver.ensures.delivers

@@ -1,0 +1,68 @@
+-- Inputs in their turn: what comes of them, one inside the other in the order in which they are taken.
+use Rattle.std.specs.Prelude.{◌≡◌, ◌⊎◌, ◌<◌, ◌≤◌, ℕ, List, [], length, Option, Some, None, ⊤}
+use Rattle.xray_io.specs.Desk.{Entry, Untold, Absent, Holds}
+use Rattle.xray_program.specs.Outcomes.{Outcome, Unread, TooLong, Refused, Done, Fell}
+
+-- A kind of input: how a line on err names it, how many bytes it has at the most, what its bytes read as, and why they are refused, in the
+-- words of the line.
+pub record Form (X : Type 0) : Type 1 where
+  pub kind : List ℕ
+  pub limit : ℕ
+  pub Reads : List ℕ → X → Type 0
+  pub Refuses : List ℕ → List ℕ → Type 0
+
+-- whether reads of the desk fail where the desk holds the name: none does, or any may
+pub data DeskReads : Type 0 where
+  Sound : DeskReads
+  Faulty : DeskReads
+
+-- a name of which the desk says this can't be read
+abbrev pub IsUnreadable : DeskReads → Entry → Type 0
+IsUnreadable Sound entry = entry ≡ Absent
+IsUnreadable Faulty entry = ⊤
+
+-- the bytes that a name may hold, by what the desk says of it
+abbrev pub MayHold : Entry → List ℕ → Type 0
+MayHold Untold bytes = ⊤
+MayHold Absent bytes = ⊥
+MayHold (Holds content) bytes = bytes ≡ content
+
+-- bytes are judged: they are too many; or they are refused; or they read as a value, and what follows is that value's
+abbrev pub Judge : {X : Type 0} → Form X → (name bytes : List ℕ) → (X → Outcome → Type 0) → Outcome → Type 0
+Judge {X} form name bytes next outcome =
+    ((form.limit < length bytes) × (outcome ≡ TooLong name))
+    ⊎ ((length bytes ≤ form.limit) × (((refusal : List ℕ) × form.Refuses bytes refusal × (outcome ≡ Refused name form.kind refusal))
+    ⊎ ((value : X) × form.Reads bytes value × next value outcome)))
+
+-- an input is taken in its turn: it can't be read; or the bytes that it holds are judged, and the turn of what follows comes
+abbrev pub Take : {X : Type 0} → Form X → DeskReads → (List ℕ → Entry) → List ℕ → (X → Outcome → Type 0) → Outcome → Type 0
+Take form reads held name next outcome =
+    (IsUnreadable reads (held name) × (outcome ≡ Unread name))
+    ⊎ ((bytes : List ℕ) × MayHold (held name) bytes × Judge form name bytes next outcome)
+
+-- an input that the words may leave out: where they name none, none is taken
+abbrev pub TakeMaybe : {X : Type 0} → Form X → DeskReads → (List ℕ → Entry) → Option (List ℕ) → (Option X → Outcome → Type 0) → Outcome → Type 0
+TakeMaybe form reads held None next outcome = next None outcome
+TakeMaybe form reads held (Some name) next outcome = Take form reads held name (λ value. next (Some value)) outcome
+
+-- a kind of input that is never refused: any bytes are its value
+abbrev pub any_bytes : (kind : List ℕ) → (limit : ℕ) → Form (List ℕ)
+any_bytes kind limit = record { kind = kind; limit = limit; Reads = λ bytes value. value ≡ bytes; Refuses = λ _ _. ⊥ }
+
+-- behind all inputs: the one of this name is refused where a reason is found; else the work goes on
+abbrev pub RefuseIf : Option (List ℕ) → (name kind : List ℕ) → (Outcome → Type 0) → Outcome → Type 0
+RefuseIf None name kind next outcome = next outcome
+RefuseIf (Some refusal) name kind next outcome = outcome ≡ Refused name kind refusal
+
+-- all is done, with outputs and a text of which this holds
+abbrev pub Leaves : (List (List ℕ × List ℕ) → List ℕ → Type 0) → Outcome → Type 0
+Leaves Are outcome = (outputs : List (List ℕ × List ℕ)) × (text : List ℕ) × Are outputs text × (outcome ≡ Done outputs text)
+
+-- all is done, with no outputs, and a text of which this holds
+abbrev pub Prints : (List ℕ → Type 0) → Outcome → Type 0
+Prints Is = Leaves (λ outputs text. (outputs ≡ []) × Is text)
+
+-- outputs and a text are left, and all is well unless a trouble is found
+abbrev pub ended_by : List (List ℕ × List ℕ) → (text : List ℕ) → (trouble : Option (List ℕ)) → Outcome
+ended_by outputs text None = Done outputs text
+ended_by outputs text (Some trouble) = Fell outputs text trouble

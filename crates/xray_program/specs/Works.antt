@@ -1,0 +1,105 @@
+-- How the work of a command ends, once its inputs were taken; and how all of a call ends, before err is told.
+use Rattle.std.specs.Prelude.{◌≡◌, ◌≢◌, ◌⊎◌, ℕ, List, Contains, Option, Some, None, Result, Ok, Err, map}
+use Rattle.xray_io.specs.Desk.{Absent}
+use Rattle.xray_io.specs.Faults.{Rose}
+use Rattle.fault_words.specs.Words.{words_text}
+use Rattle.xray_io.specs.Sink.{Adds}
+use Rattle.xray_program.specs.Commands.{Means, HadItsTurn, outputs_named}
+use Rattle.xray_program.specs.Outcomes.{Outcome, BadLine, Unread, TooLong, Refused, Done, Fell, Ending, With, Unwritten, NoMemory, status_at, line_at, written_by}
+use Rattle.xray_program.specs.Outputs.{AreWhole, FailsAt, FailsWriting, WritesNothing}
+use Rattle.xray_program.specs.Words.{Command}
+use Rattle.xray_io.specs.World.{DeskView, SinkView}
+use Rattle.xray_program.specs.declared.stop.Stop.{Stop}
+use Rattle.xray_program.specs.declared.stop.Stop.TheVariants as stops
+
+-- the names of outputs
+abbrev pub names_of : List (List ℕ × List ℕ) → List (List ℕ)
+names_of outputs = map (λ output. output.0) outputs
+
+-- each name that isn't one of these holds what it held
+abbrev pub KeepsOthers : List (List ℕ) → (desk desk_now : DeskView) → Type 0
+KeepsOthers names desk desk_now = (name : List ℕ) → (Contains names name → ⊥) → desk_now.held name ≡ desk.held name
+
+-- ---- outputs and a text
+
+-- a stop of one of the outputs
+abbrev pub StopsOutputs : List (List ℕ × List ℕ) → (desk desk_now : DeskView) → Stop → Type 0
+StopsOutputs outputs desk desk_now (stops.Unwritten n) = FailsAt outputs desk desk_now n.now
+StopsOutputs outputs desk desk_now stop = ⊥
+
+-- outputs are whole, and out has exactly a text
+pub record Writes (outputs : List (List ℕ × List ℕ)) (text : List ℕ) (desk desk_now : DeskView) (out out_now : SinkView) : Type 0 where
+  pub whole : AreWhole outputs desk.held desk_now.held
+  pub printed : Adds out.written out_now.written text
+
+-- outputs and a text were written, and all is well unless there is a trouble; or one of them failed
+abbrev pub Delivers : List (List ℕ × List ℕ) → (text : List ℕ) → (trouble : Option (List ℕ)) → (desk desk_now : DeskView)
+    → (out out_now : SinkView) → Result (Unit {0}) Stop → Type 0
+Delivers outputs text trouble desk desk_now out out_now (Ok done) =
+    (trouble ≡ None) × Writes outputs text desk desk_now out out_now
+Delivers outputs text trouble desk desk_now out out_now (Err (stops.Fell words)) =
+    (trouble ≡ Some (words_text words)) × Writes outputs text desk desk_now out out_now
+Delivers outputs text trouble desk desk_now out out_now (Err (stops.Unwritten n)) =
+    FailsWriting outputs text desk desk_now out out_now n.now
+Delivers outputs text trouble desk desk_now out out_now (Err stop) = ⊥
+
+-- ---- the work of a command
+
+-- an outcome of which this holds was written
+pub record IsLeft (Comes : Outcome → Type 0) (desk desk_now : DeskView) (out out_now : SinkView) (of : List (List ℕ × List ℕ) → List ℕ → Outcome) : Type 0 where
+  pub outputs : List (List ℕ × List ℕ)
+  pub text : List ℕ
+  pub comes : Comes (of outputs text)
+  pub writes : Writes outputs text desk desk_now out out_now
+
+-- one couldn't be written, at the output of this name or at out
+pub record FailsToLeave (Comes : Outcome → Type 0) (desk desk_now : DeskView) (out out_now : SinkView) (name : List ℕ) : Type 0 where
+  pub outcome : Outcome
+  pub comes : Comes outcome
+  pub outputs : List (List ℕ × List ℕ)
+  pub text : List ℕ
+  pub writes : written_by outcome ≡ Some (outputs, text)
+  pub failed : FailsWriting outputs text desk desk_now out out_now name
+
+-- The work is done over inputs of which this comes: it was written; or it couldn't be; or it is that the inputs are refused, or memory ran
+-- out, and nothing was written.
+abbrev pub Finishes : (comes : Outcome → Type 0) → (desk desk_now : DeskView) → (out out_now : SinkView) → Result (Unit {0}) Stop → Type 0
+Finishes comes desk desk_now out out_now (Ok done) = IsLeft comes desk desk_now out out_now Done
+Finishes comes desk desk_now out out_now (Err (stops.Fell words)) =
+    IsLeft comes desk desk_now out out_now (λ outputs text. Fell outputs text (words_text words))
+Finishes comes desk desk_now out out_now (Err (stops.Unwritten n)) = FailsToLeave comes desk desk_now out out_now n.now
+Finishes comes desk desk_now out out_now (Err (stops.Refused n kind words)) =
+    comes (Refused n.now kind.now (words_text words)) × WritesNothing desk desk_now out out_now
+Finishes comes desk desk_now out out_now (Err stops.NoMemory) = WritesNothing desk desk_now out out_now
+Finishes comes desk desk_now out out_now (Err stop) = ⊥
+
+-- ---- all of a call
+
+-- an outcome comes of what was said: it is meant; and where an input can't be read, that may be since reads failed in its turn
+abbrev pub IsCaused : Option Command → (desk desk_now : DeskView) → Outcome → Type 0
+IsCaused said desk desk_now BadLine = said ≡ None
+IsCaused said desk desk_now (Unread name) =
+    HadItsTurn said desk.held name
+    × (Rose desk.read_faults desk_now.read_faults ⊎ ((desk.held name ≡ Absent) × Means said desk.held (Unread name)))
+IsCaused said desk desk_now outcome = Means said desk.held outcome
+
+-- what an outcome writes is written
+abbrev pub IsWritten : Option (List (List ℕ × List ℕ) × List ℕ) → (desk desk_now : DeskView) → (out out_now : SinkView) → Type 0
+IsWritten None desk desk_now out out_now = WritesNothing desk desk_now out out_now
+IsWritten (Some (outputs, text)) desk desk_now out out_now = Writes outputs text desk desk_now out out_now
+
+-- what stands behind an ending of a call
+abbrev pub StandsBehind : Option Command → (desk desk_now : DeskView) → (out out_now : SinkView) → Ending → Type 0
+StandsBehind said desk desk_now out out_now (With outcome) =
+    IsCaused said desk desk_now outcome × IsWritten (written_by outcome) desk desk_now out out_now
+StandsBehind said desk desk_now out out_now (Unwritten name) =
+    FailsToLeave (Means said desk.held) desk desk_now out out_now name
+StandsBehind said desk desk_now out out_now NoMemory = (said ≢ None) × WritesNothing desk desk_now out out_now
+
+-- how a call ends, before err is told: with this status and this line
+pub record Ends (said : Option Command) (desk desk_now : DeskView) (out out_now : SinkView) (answer : ℕ) (line : List ℕ) : Type 0 where
+  pub ending : Ending
+  pub status : status_at ending ≡ answer
+  pub told : line_at ending ≡ line
+  pub stands : StandsBehind said desk desk_now out out_now ending
+  pub names : KeepsOthers (outputs_named said) desk desk_now

@@ -1,0 +1,107 @@
+//! An input in its turn: it is read, measured and judged before the next is opened.
+ghost use Rattle.std.specs.Prelude.{◌≡◌, ◌≤◌, ℕ, List, Some, length, option_map, IfOk, IfErr};
+ghost use Rattle.xray_io.specs.World.{desk_view};
+ghost use Rattle.xray_program.specs.Takes.{IsFaultStop, IsMaybeTaken, IsReadStop, IsTaken};
+ghost use Rattle.xray_program.specs.Taking.{Form};
+
+use crate::stop::Stop;
+use fault_words::Fault;
+use std::alloc::Global;
+use xray_io::{Desk, ReadError, read_whole};
+
+/// A kind of input: what its bytes are judged by.
+pub(crate) trait Kind {
+    /// What an input of this kind reads as.
+    type Value: Drop;
+
+    /// Why it reads as nothing.
+    type Refusal: Fault;
+
+    /// How many bytes it has at the most, what it reads as, and why it is refused.
+    ghost form: { Self → Form Self.Value };
+
+    /// What a value has of the inputs that were taken before it.
+    ghost fits: { Self → Self.Value → Type 0 };
+
+    /// The word for it in a line on err.
+    fn word(&self) -> &'static str
+        ensures { result.now ≡ (form self.now).kind };
+
+    /// How many bytes it has at the most.
+    fn limit(&self) -> u64
+        ensures { result ≡ (form self.now).limit };
+
+    /// The value that bytes read as. An error comes where they are refused, or where memory runs out.
+    fn judge(&self, alloc: Global, bytes: &[u8]) -> Result<Self::Value, Self::Refusal>
+        requires { length bytes.now ≤ (form self.now).limit }
+        ensures reads { IfOk result ((form self.now).Reads bytes.now) }
+        ensures fits { IfOk result (fits self.now) }
+        ensures refuses { IfErr result (λ fault. (refusal : List ℕ) →
+            Self.Refusal.told fault ≡ Some refusal → (form self.now).Refuses bytes.now refusal) };
+}
+
+/// Takes an input: reads it, measures it and judges it.
+pub(crate) fn take<'a, K: Kind, D: Desk>(
+    alloc: Global,
+    desk: &mut D,
+    name: &'a str,
+    kind: &K,
+) -> Result<K::Value, Stop<'a>>
+    ensures taken { let seen = desk_view D.held D.read_faults D.write_faults in
+        IsTaken (K.form kind.now) name.now (seen desk.old) (seen desk.new) result }
+    ensures fits { IfOk result (K.fits kind.now) }
+    ensures held { D.held desk.new ≡ D.held desk.old }
+    ensures later { D.read_faults desk.old ≤ D.read_faults desk.new }
+    ensures writes { D.write_faults desk.new ≡ D.write_faults desk.old }
+{
+    match read_whole(alloc, desk, name, kind.limit()) {
+        Ok(bytes) => match kind.judge(alloc, &bytes) {
+            Ok(value) => Ok(value),
+            Err(fault) => Err(fault_stop(name, kind.word(), &fault)),
+        },
+        Err(error) => Err(read_stop(name, error)),
+    }
+}
+
+/// Takes an input that the words may leave out.
+pub(crate) fn take_maybe<'a, K: Kind, D: Desk>(
+    alloc: Global,
+    desk: &mut D,
+    name: Option<&'a str>,
+    kind: &K,
+) -> Result<Option<K::Value>, Stop<'a>>
+    ensures taken { let seen = desk_view D.held D.read_faults D.write_faults in
+        IsMaybeTaken (K.form kind.now) (option_map (λ n. n.now) name.entry) (seen desk.old) (seen desk.new) result }
+    ensures held { D.held desk.new ≡ D.held desk.old }
+    ensures later { D.read_faults desk.old ≤ D.read_faults desk.new }
+    ensures writes { D.write_faults desk.new ≡ D.write_faults desk.old }
+{
+    match name {
+        Some(name) => match take(alloc, desk, name, kind) {
+            Ok(value) => Ok(Some(value)),
+            Err(stop) => Err(stop),
+        },
+        None => Ok(None),
+    }
+}
+
+/// What an input's fault comes to: want of memory, or a refusal with its words.
+pub(crate) fn fault_stop<'a, F: Fault>(name: &'a str, kind: &'a str, fault: &F) -> Stop<'a>
+    ensures { IsFaultStop name.now kind.now (F.told fault.now) result }
+{
+    match fault.refusal() {
+        Some(words) => Stop::Refused { name, kind, words },
+        None => Stop::NoMemory,
+    }
+}
+
+/// What an error of reading comes to.
+fn read_stop(name: &str, error: ReadError) -> Stop<'_>
+    ensures { IsReadStop name.now error result }
+{
+    match error {
+        ReadError::ReadFault => Stop::Unread(name),
+        ReadError::TooLong => Stop::TooLong(name),
+        ReadError::NoMemory => Stop::NoMemory,
+    }
+}

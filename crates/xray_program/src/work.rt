@@ -1,0 +1,72 @@
+//! A command: what it takes, and what it does with that.
+ghost use Rattle.std.specs.Prelude.{◌≡◌, ◌≤◌, ℕ, List, Some, IfOk};
+ghost use Rattle.xray_io.specs.World.{desk_view, sink_view};
+ghost use Rattle.xray_program.specs.Commands.{Comes, outputs_of};
+ghost use Rattle.xray_program.specs.Outcomes.{Outcome};
+ghost use Rattle.xray_program.specs.Stops.{answer_of, told_of};
+ghost use Rattle.xray_program.specs.Takes.{AreTaken};
+ghost use Rattle.xray_program.specs.Words.{Command};
+ghost use Rattle.xray_program.specs.Works.{Ends, Finishes, KeepsOthers};
+
+use crate::stop::Stop;
+use std::alloc::Global;
+use xray_io::{Desk, Sink};
+
+/// A command that waits for nobody, with the names and the options that its words say.
+///
+/// `take` takes its inputs, each in its turn, and does nothing else. `finish` does the work over them,
+/// with all the memory that it wants, and then writes the outputs and the text by `deliver`.
+pub(crate) trait Work<'a> {
+    /// The inputs, once all of them were judged.
+    type Inputs: Drop;
+
+    /// What the words say.
+    ghost says: { Self → Command };
+
+    /// What comes of the inputs.
+    ghost yields: { Self → Self.Inputs → Outcome → Type 0 };
+
+    /// What the inputs have of each other.
+    ghost fits: { Self → Self.Inputs → Type 0 };
+
+    /// Takes the inputs in the order of the words. The first that fails decides.
+    fn take<D: Desk>(&self, alloc: Global, desk: &mut D) -> Result<Self::Inputs, Stop<'a>>
+        ensures taken { let seen = desk_view D.held D.read_faults D.write_faults in
+            AreTaken (λ reads. Comes reads (D.held desk.old) (says self.now)) (yields self.now)
+            (seen desk.old) (seen desk.new) result }
+        ensures fits { IfOk result (fits self.now) }
+        ensures held { D.held desk.new ≡ D.held desk.old }
+        ensures later { D.read_faults desk.old ≤ D.read_faults desk.new }
+        ensures writes { D.write_faults desk.new ≡ D.write_faults desk.old };
+
+    /// Does the work over the inputs, and writes what comes of them.
+    fn finish<D: Desk, O: Sink>(
+        &self,
+        alloc: Global,
+        inputs: &Self::Inputs,
+        desk: &mut D,
+        out: &mut O,
+    ) -> Result<(), Stop<'a>>
+        requires { fits self.now inputs.now }
+        ensures finishes { let seen = desk_view D.held D.read_faults D.write_faults in
+            let got = sink_view O.written O.faults in
+            Finishes (yields self.now inputs.now) (seen desk.old) (seen desk.new) (got out.old) (got out.new) result }
+        ensures others { let seen = desk_view D.held D.read_faults D.write_faults in
+            KeepsOthers (outputs_of (says self.now)) (seen desk.old) (seen desk.new) };
+}
+
+/// Does all of a command, and leaves err alone.
+pub(crate) fn perform<'a, W: Work<'a>, D: Desk, O: Sink>(
+    alloc: Global,
+    work: &W,
+    desk: &mut D,
+    out: &mut O,
+) -> Result<(), Stop<'a>>
+    ensures { let seen = desk_view D.held D.read_faults D.write_faults in
+        let got = sink_view O.written O.faults in
+        Ends (Some (W.says work.now)) (seen desk.old) (seen desk.new) (got out.old) (got out.new)
+        (answer_of result) (told_of result) }
+{
+    let inputs = work.take(alloc, desk)?;
+    work.finish(alloc, &inputs, desk, out)
+}
