@@ -1,0 +1,77 @@
+-- The calls of a desk, in their order.
+use Rattle.std.proofs.Common.{◌≡◌, ◌⊎◌, ◌+◌, ◌++◌, ◌∙◌, ℕ, List, [], ◌∷◌, length, Option, Some, None, Result, Ok, Err, inl, inr, refl, sym, ap, subst, append_assoc}
+use Rattle.std.proofs.lemmas.List.{append-nil}
+use Rattle.std.specs.Prelude.{IsErrAnd}
+use Rattle.std.specs.Prelude.{Vec}
+use Rattle.std.specs.declared.alloc.Global.{Global}
+use Rattle.fault_words.specs.Words.{words_text}
+use Rattle.xray_io.specs.Calls.{Call, Composes, HoldsOfNone, Went, went_on}
+use Rattle.xray_io.specs.Reads.{IsReading, Reads, ReadsSome, ReadsUpToFault}
+use Rattle.xray_io.specs.declared.faults.ReadError.{ReadError}
+use Rattle.xray_io.specs.declared.faults.ReadError.TheVariants as errors
+use Rattle.xray_program.specs.Order.{ReadsAll, ReadsWhole, StopsAt}
+use Rattle.xray_program.specs.Takes.{AreTakings, IsFaultStop, IsNamed, IsReadStop, IsTaking}
+use Rattle.xray_program.specs.declared.stop.Stop.{Stop}
+use Rattle.xray_program.specs.declared.stop.Stop.TheVariants as stops
+
+-- of the same calls something else is said
+pub went_as : {C : Type 0} (Way P Q : List C → Type 0) → Went Way P → ((calls : List C) → P calls → Q calls) → Went Way Q
+went_as Way P Q went then = record { calls = went.calls; way = went.way; are = then went.calls went.are }
+
+-- ---- one input
+
+-- it was read whole, and gave a value
+pub whole_reads : {X : Type 0} (name : List ℕ) (limit : ℕ) (content : Vec ℕ Global) (value : X) (calls : List Call)
+    → IsReading name limit (Ok content) calls → IsTaking {X = X} name limit (Ok value) calls
+whole_reads name limit content value calls reads = (length content.items, reads)
+
+-- it was read whole, and was refused, or memory ran out
+pub fault_reads : {X : Type 0} (name kind n : List ℕ) (limit : ℕ) (told : Option (List ℕ)) (content : Vec ℕ Global) (stop : Stop) (calls : List Call)
+    → IsFaultStop n kind told stop → IsReading name limit (Ok content) calls → IsTaking {X = X} name limit (Err stop) calls
+fault_reads name kind n limit told content stops.BadLine calls is reads = is
+fault_reads name kind n limit told content (stops.Unread m) calls is reads = absurd is
+fault_reads name kind n limit told content (stops.TooLong m) calls is reads = absurd is
+fault_reads name kind n limit told content (stops.Refused m k words) calls is reads = (length content.items, reads)
+fault_reads name kind n limit told content (stops.Fell trouble) calls is reads = is
+fault_reads name kind n limit told content (stops.Unwritten m) calls is reads = is
+fault_reads name kind n limit told content stops.NoMemory calls is reads = inr (length content.items, reads)
+
+-- it wasn't read whole
+pub error_reads : {X : Type 0} (name n : List ℕ) (limit : ℕ) (error : ReadError) (stop : Stop) (calls : List Call)
+    → IsReadStop n error stop → IsReading name limit (Err error) calls → IsTaking {X = X} name limit (Err stop) calls
+error_reads name n limit error stops.BadLine calls is reads = is
+error_reads name n limit error (stops.Unread m) calls (same, is) reads = subst (λ e. IsReading name limit (Err e) calls) is reads
+error_reads name n limit error (stops.TooLong m) calls (same, is) reads = subst (λ e. IsReading name limit (Err e) calls) is reads
+error_reads name n limit error (stops.Refused m k words) calls is reads = absurd is
+error_reads name n limit error (stops.Fell trouble) calls is reads = is
+error_reads name n limit error (stops.Unwritten m) calls is reads = is
+error_reads name n limit error stops.NoMemory calls is reads = inl (subst (λ e. IsReading name limit (Err e) calls) is reads)
+
+-- ---- inputs, one after another
+
+-- none yet
+pub no_reads : {S : Type 0} (along : S → S → List Call → Type 0) → HoldsOfNone along → (first : S) → Went (along first first) (ReadsAll [])
+no_reads along none first = record { calls = []; way = none first; are = refl }
+
+-- one more was read whole
+reads_more : (inputs : List (List ℕ × ℕ)) (name : List ℕ) (limit : ℕ) (calls mine : List Call) → ReadsAll inputs calls → ReadsWhole name limit mine
+    → ReadsAll (inputs ++ (name, limit) ∷ []) (calls ++ mine)
+reads_more [] name limit calls mine p one =
+    (mine, [], ap (λ (c : List Call). c ++ mine) p ∙ sym (append-nil mine), one, refl)
+reads_more (input ∷ inputs) name limit calls mine p one =
+    (p.0, p.1 ++ mine, ap (λ (c : List Call). c ++ mine) p.2 ∙ append_assoc p.0 p.1 mine, p.3, reads_more inputs name limit p.1 mine p.4 one)
+
+pub read_on : {S : Type 0} (along : S → S → List Call → Type 0) → Composes along → (first second third : S) (inputs : List (List ℕ × ℕ))
+    (name : List ℕ) (limit : ℕ) → Went (along first second) (ReadsAll inputs) → Went (along second third) (ReadsWhole name limit)
+    → Went (along first third) (ReadsAll (inputs ++ (name, limit) ∷ []))
+read_on along both first second third inputs name limit went then =
+    went_on along both first second third _ _ (ReadsAll (inputs ++ (name, limit) ∷ [])) went then (reads_more inputs name limit)
+
+-- one was a stop
+pub stop_on : {S X : Type 0} (along : S → S → List Call → Type 0) → Composes along → (first second third : S)
+    (inputs earlier later : List (List ℕ × ℕ)) (name : List ℕ) (limit : ℕ) (stop : Stop) → inputs ≡ earlier ++ (name, limit) ∷ later → IsNamed name stop
+    → Went (along first second) (ReadsAll earlier) → Went (along second third) (IsTaking {X = X} name limit (Err stop))
+    → Went (along first third) (AreTakings {X = X} inputs (Err stop))
+stop_on {X = X} along both first second third inputs earlier later name limit stop turn named went then =
+    went_on along both first second third _ _ (AreTakings {X = X} inputs (Err stop)) went then (λ calls mine p q.
+    (name, named, record { earlier = earlier; limit = limit; later = later; turn = turn; before = calls; last = mine; order = refl; reads = p; stops = q }))
