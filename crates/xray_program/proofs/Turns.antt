@@ -129,3 +129,31 @@ last_taken form comes yields before mid after name next (Ok value) leads same up
     leads_on form comes before.held name next value leads given Sound outcome (goes value outcome is)
 last_taken form comes yields before mid after name next (Err stop) leads same up goes taken =
     stops_at form comes before mid after name next stop leads same up taken
+
+-- ---- an input that the words may leave out
+
+-- it gave a value, or none was taken
+pub maybe_leads_on : {X : Type 0} (form : Form X) (comes : DeskReads → Outcome → Type 0) (before mid after : DeskView) (name : Option (List ℕ))
+    (next : DeskReads → Option X → Outcome → Type 0) (value : Option X) → Leads comes (λ reads. TakeMaybe form reads before.held name (next reads))
+    → mid.held ≡ before.held → IsMaybeTaken form name mid after (Ok value) → Leads comes (λ reads. next reads value)
+maybe_leads_on {X} form comes before mid after None next value leads same taken reads outcome later =
+    leads reads outcome (subst (λ v. next reads v outcome) (none value taken) later)
+  where
+    none : (v : Option X) → (let one : Result (Option X) Stop = Ok v in let other : Result (Option X) Stop = Ok None in one ≡ other) → v ≡ None
+    none v e = cc
+maybe_leads_on form comes before mid after (Some name) next None leads same taken reads outcome later = absurd taken
+maybe_leads_on form comes before mid after (Some name) next (Some value) leads same taken reads outcome later =
+    leads_on form comes before.held name (λ reads v. next reads (Some v)) value leads
+    (subst (λ (h : List ℕ → Entry). Gives form (h name) value) same taken) reads outcome later
+
+-- it was a stop
+pub maybe_stops_at : {X : Type 0} (form : Form X) (comes : DeskReads → Outcome → Type 0) (before mid after : DeskView) (name : Option (List ℕ))
+    (next : DeskReads → Option X → Outcome → Type 0) (stop : Stop) → Leads comes (λ reads. TakeMaybe form reads before.held name (next reads))
+    → mid.held ≡ before.held → before.read_faults ≤ mid.read_faults → IsMaybeTaken form name mid after (Err stop)
+    → IsStopAtInput comes before after stop
+maybe_stops_at {X} form comes before mid after None next stop leads same up taken = absurd (never taken)
+  where
+    never : (let one : Result (Option X) Stop = Err stop in let other : Result (Option X) Stop = Ok None in one ≡ other) → ⊥
+    never e = cc
+maybe_stops_at form comes before mid after (Some name) next stop leads same up taken =
+    stops_at form comes before mid after name (λ reads v. next reads (Some v)) stop leads same up taken

@@ -6,7 +6,7 @@ use Rattle.xray_io.specs.Desk.{Entry}
 use Rattle.xray_io.specs.Outputs.{IsMaking, Makes}
 use Rattle.xray_io.specs.Reads.{Reads, ReadsSome, ReadsUpTo, ReadsUpToFault}
 use Rattle.xray_io.specs.World.{DeskView}
-use Rattle.xray_io.specs.declared.faults.WriteFault.TheVariants as faults
+use Rattle.xray_io.specs.declared.faults.WriteFault.{WriteFault}
 use Rattle.xray_program.specs.Outcomes.{Outcome, BadLine, Unread, TooLong, Refused, Done, Fell, Ending, With, Unwritten, NoMemory}
 use Rattle.xray_program.specs.Words.{Command, Sim, Plain, Extract, Asm}
 
@@ -61,7 +61,8 @@ pub record FailsAtOutput (outputs : List (List ℕ × List ℕ)) (desk desk_now 
   pub last : List Call
   pub order : calls ≡ before ++ last
   pub makes : MakesAll earlier before
-  pub fails : IsMaking name bytes (desk.held name) (desk_now.held name) (Err faults.WriteFault) last
+  pub fault : WriteFault
+  pub fails : IsMaking name bytes (desk.held name) (desk_now.held name) (Err fault) last
 
 -- ---- all of a call
 
