@@ -1,7 +1,7 @@
 -- What comes of a command line, and how a call ends: its status, and its line on err.
 use Rattle.std.specs.Prelude.{ℕ, List, [], ◌∷◌, ◌++◌, Option, Some, None, codes}
 
--- What comes of a command line. Five outcomes write nothing: the words say no command; an input can't be read; it has too many bytes; or
+-- What comes of a command line. Four outcomes write nothing: the words say no command; an input can't be read; it has too many bytes; or
 -- it is refused, by its kind and for a reason. Two leave outputs, each a name and its bytes, and a text on out: all is well, or something
 -- is wrong all the same.
 pub data Outcome : Type 0 where

@@ -1,4 +1,4 @@
-use Rattle.std.proofs.Common.{◌≡◌, ℕ, ◌<◌, ◌∙◌, ap, sym, subst, arith}
+use Rattle.std.proofs.Common.{◌≡◌, ◌∙◌, ap, sym, subst, arith}
 use Rattle.patch_script.specs.Plans.{Plan}
 use Rattle.sled_rule.specs.declared.views.PatchView.{PatchView}
 use Rattle.sled_rule.specs.Plans.{start_in, IsStoreAt}
