@@ -64,6 +64,15 @@ pub record FailsAtOutput (outputs : List (List ℕ × List ℕ)) (desk desk_now 
   pub fault : WriteFault
   pub fails : IsMaking name bytes (desk.held name) (desk_now.held name) (Err fault) last
 
+-- the output of this name failed; or all were made, and out failed, which is named `output`
+abbrev pub IsUnmade : List (List ℕ × List ℕ) → (desk desk_now : DeskView) → List ℕ → List Call → Type 0
+IsUnmade outputs desk desk_now name calls =
+    FailsAtOutput outputs desk desk_now name calls ⊎ ((name ≡ codes "output") × MakesAll outputs calls)
+
+-- no call was made
+abbrev pub IsNoCall : List Call → Type 0
+IsNoCall calls = calls ≡ []
+
 -- ---- all of a call
 
 -- all inputs were read whole, and then this was done
@@ -87,7 +96,7 @@ InOrder said desk desk_now (With (Done outputs text)) calls = ReadsThen (option_
 InOrder said desk desk_now (With (Fell outputs text trouble)) calls = ReadsThen (option_map_or inputs_of said []) (MakesAll outputs) calls
 InOrder said desk desk_now (Unwritten name) calls =
     (outputs : List (List ℕ × List ℕ)) × ReadsThen (option_map_or inputs_of said [])
-    (λ last. FailsAtOutput outputs desk desk_now name last ⊎ ((name ≡ codes "output") × MakesAll outputs last)) calls
+    (IsUnmade outputs desk desk_now name) calls
 InOrder said desk desk_now NoMemory calls =
     ((name : List ℕ) × StopsAt (option_map_or inputs_of said []) name
     (λ limit last. ReadsSome name (limit + 1) last ⊎ ReadsWhole name limit last) calls)

@@ -1,10 +1,12 @@
 -- How the work of a command ends, once its inputs were taken; and how all of a call ends, before err is told.
 use Rattle.std.specs.Prelude.{◌≡◌, ◌≢◌, ◌⊎◌, ℕ, List, Contains, Option, Some, None, Result, Ok, Err, map}
+use Rattle.xray_io.specs.Calls.{Call, Went}
 use Rattle.xray_io.specs.Desk.{Absent}
 use Rattle.xray_io.specs.Faults.{Rose}
 use Rattle.fault_words.specs.Words.{words_text}
 use Rattle.xray_io.specs.Sink.{Adds}
 use Rattle.xray_program.specs.Commands.{Means, HadItsTurn, outputs_named}
+use Rattle.xray_program.specs.Order.{FailsAtOutput, InOrder, IsNoCall, IsUnmade, MakesAll}
 use Rattle.xray_program.specs.Outcomes.{Outcome, BadLine, Unread, TooLong, Refused, Done, Fell, Ending, With, Unwritten, NoMemory, status_at, line_at, written_by}
 use Rattle.xray_program.specs.Outputs.{AreWhole, FailsAt, FailsWriting, WritesNothing}
 use Rattle.xray_program.specs.Words.{Command}
@@ -27,6 +29,12 @@ abbrev pub StopsOutputs : List (List ℕ × List ℕ) → (desk desk_now : DeskV
 StopsOutputs outputs desk desk_now (stops.Unwritten n) = FailsAt outputs desk desk_now n.now
 StopsOutputs outputs desk desk_now stop = ⊥
 
+-- the calls that made the outputs, or those up to the one that failed
+abbrev pub AreMakings : List (List ℕ × List ℕ) → (desk desk_now : DeskView) → Result (Unit {0}) Stop → List Call → Type 0
+AreMakings outputs desk desk_now (Ok done) calls = MakesAll outputs calls
+AreMakings outputs desk desk_now (Err (stops.Unwritten n)) calls = FailsAtOutput outputs desk desk_now n.now calls
+AreMakings outputs desk desk_now (Err stop) calls = ⊥
+
 -- outputs are whole, and out has exactly a text
 pub record Writes (outputs : List (List ℕ × List ℕ)) (text : List ℕ) (desk desk_now : DeskView) (out out_now : SinkView) : Type 0 where
   pub whole : AreWhole outputs desk.held desk_now.held
@@ -34,14 +42,14 @@ pub record Writes (outputs : List (List ℕ × List ℕ)) (text : List ℕ) (des
 
 -- outputs and a text were written, and all is well unless there is a trouble; or one of them failed
 abbrev pub Delivers : List (List ℕ × List ℕ) → (text : List ℕ) → (trouble : Option (List ℕ)) → (desk desk_now : DeskView)
-    → (out out_now : SinkView) → Result (Unit {0}) Stop → Type 0
-Delivers outputs text trouble desk desk_now out out_now (Ok done) =
-    (trouble ≡ None) × Writes outputs text desk desk_now out out_now
-Delivers outputs text trouble desk desk_now out out_now (Err (stops.Fell words)) =
-    (trouble ≡ Some (words_text words)) × Writes outputs text desk desk_now out out_now
-Delivers outputs text trouble desk desk_now out out_now (Err (stops.Unwritten n)) =
-    FailsWriting outputs text desk desk_now out out_now n.now
-Delivers outputs text trouble desk desk_now out out_now (Err stop) = ⊥
+    → (out out_now : SinkView) → (Way : List Call → Type 0) → Result (Unit {0}) Stop → Type 0
+Delivers outputs text trouble desk desk_now out out_now Way (Ok done) =
+    (trouble ≡ None) × Writes outputs text desk desk_now out out_now × Went Way (MakesAll outputs)
+Delivers outputs text trouble desk desk_now out out_now Way (Err (stops.Fell words)) =
+    (trouble ≡ Some (words_text words)) × Writes outputs text desk desk_now out out_now × Went Way (MakesAll outputs)
+Delivers outputs text trouble desk desk_now out out_now Way (Err (stops.Unwritten n)) =
+    FailsWriting outputs text desk desk_now out out_now n.now × Went Way (IsUnmade outputs desk desk_now n.now)
+Delivers outputs text trouble desk desk_now out out_now Way (Err stop) = ⊥
 
 -- ---- the work of a command
 
