@@ -54,32 +54,39 @@ Delivers outputs text trouble desk desk_now out out_now Way (Err stop) = ⊥
 -- ---- the work of a command
 
 -- an outcome of which this holds was written
-pub record IsLeft (Comes : Outcome → Type 0) (desk desk_now : DeskView) (out out_now : SinkView) (of : List (List ℕ × List ℕ) → List ℕ → Outcome) : Type 0 where
+pub record IsLeft (Comes : Outcome → Type 0) (desk desk_now : DeskView) (out out_now : SinkView) (of : List (List ℕ × List ℕ) → List ℕ → Outcome)
+    (Then : List (List ℕ × List ℕ) → Type 0) : Type 0 where
   pub outputs : List (List ℕ × List ℕ)
   pub text : List ℕ
   pub comes : Comes (of outputs text)
   pub writes : Writes outputs text desk desk_now out out_now
+  pub then_so : Then outputs
 
 -- one couldn't be written, at the output of this name or at out
-pub record FailsToLeave (Comes : Outcome → Type 0) (desk desk_now : DeskView) (out out_now : SinkView) (name : List ℕ) : Type 0 where
+pub record FailsToLeave (Comes : Outcome → Type 0) (desk desk_now : DeskView) (out out_now : SinkView) (name : List ℕ)
+    (Then : List (List ℕ × List ℕ) → Type 0) : Type 0 where
   pub outcome : Outcome
   pub comes : Comes outcome
   pub outputs : List (List ℕ × List ℕ)
   pub text : List ℕ
   pub writes : written_by outcome ≡ Some (outputs, text)
   pub failed : FailsWriting outputs text desk desk_now out out_now name
+  pub then_so : Then outputs
 
 -- The work is done over inputs of which this comes: it was written; or it couldn't be; or it is that the inputs are refused, or memory ran
 -- out, and nothing was written.
-abbrev pub Finishes : (comes : Outcome → Type 0) → (desk desk_now : DeskView) → (out out_now : SinkView) → Result (Unit {0}) Stop → Type 0
-Finishes comes desk desk_now out out_now (Ok done) = IsLeft comes desk desk_now out out_now Done
-Finishes comes desk desk_now out out_now (Err (stops.Fell words)) =
-    IsLeft comes desk desk_now out out_now (λ outputs text. Fell outputs text (words_text words))
-Finishes comes desk desk_now out out_now (Err (stops.Unwritten n)) = FailsToLeave comes desk desk_now out out_now n.now
-Finishes comes desk desk_now out out_now (Err (stops.Refused n kind words)) =
-    comes (Refused n.now kind.now (words_text words)) × WritesNothing desk desk_now out out_now
-Finishes comes desk desk_now out out_now (Err stops.NoMemory) = WritesNothing desk desk_now out out_now
-Finishes comes desk desk_now out out_now (Err stop) = ⊥
+abbrev pub Finishes : (comes : Outcome → Type 0) → (desk desk_now : DeskView) → (out out_now : SinkView) → (Way : List Call → Type 0)
+    → Result (Unit {0}) Stop → Type 0
+Finishes comes desk desk_now out out_now Way (Ok done) =
+    IsLeft comes desk desk_now out out_now Done (λ outputs. Went Way (MakesAll outputs))
+Finishes comes desk desk_now out out_now Way (Err (stops.Fell words)) =
+    IsLeft comes desk desk_now out out_now (λ outputs text. Fell outputs text (words_text words)) (λ outputs. Went Way (MakesAll outputs))
+Finishes comes desk desk_now out out_now Way (Err (stops.Unwritten n)) =
+    FailsToLeave comes desk desk_now out out_now n.now (λ outputs. Went Way (IsUnmade outputs desk desk_now n.now))
+Finishes comes desk desk_now out out_now Way (Err (stops.Refused n kind words)) =
+    comes (Refused n.now kind.now (words_text words)) × WritesNothing desk desk_now out out_now × Went Way IsNoCall
+Finishes comes desk desk_now out out_now Way (Err stops.NoMemory) = WritesNothing desk desk_now out out_now × Went Way IsNoCall
+Finishes comes desk desk_now out out_now Way (Err stop) = ⊥
 
 -- ---- all of a call
 
@@ -101,13 +108,15 @@ abbrev pub StandsBehind : Option Command → (desk desk_now : DeskView) → (out
 StandsBehind said desk desk_now out out_now (With outcome) =
     IsCaused said desk desk_now outcome × IsWritten (written_by outcome) desk desk_now out out_now
 StandsBehind said desk desk_now out out_now (Unwritten name) =
-    FailsToLeave (Means said desk.held) desk desk_now out out_now name
+    FailsToLeave (Means said desk.held) desk desk_now out out_now name (λ _. Unit {0})
 StandsBehind said desk desk_now out out_now NoMemory = (said ≢ None) × WritesNothing desk desk_now out out_now
 
 -- how a call ends, before err is told: with this status and this line
-pub record Ends (said : Option Command) (desk desk_now : DeskView) (out out_now : SinkView) (answer : ℕ) (line : List ℕ) : Type 0 where
+pub record Ends (said : Option Command) (desk desk_now : DeskView) (out out_now : SinkView) (Way : List Call → Type 0) (answer : ℕ)
+    (line : List ℕ) : Type 0 where
   pub ending : Ending
   pub status : status_at ending ≡ answer
   pub told : line_at ending ≡ line
   pub stands : StandsBehind said desk desk_now out out_now ending
   pub names : KeepsOthers (outputs_named said) desk desk_now
+  pub order : Went Way (InOrder said desk desk_now ending)
