@@ -10,7 +10,9 @@ use Rattle.xray_io.specs.Reads.{IsReading, Reads, ReadsSome, ReadsUpToFault}
 use Rattle.xray_io.specs.declared.faults.ReadError.{ReadError}
 use Rattle.xray_io.specs.declared.faults.ReadError.TheVariants as errors
 use Rattle.xray_program.specs.Order.{ReadsAll, ReadsWhole, StopsAt}
-use Rattle.xray_program.specs.Takes.{AreTakings, IsFaultStop, IsNamed, IsReadStop, IsTaking}
+use Rattle.xray_io.specs.World.{DeskView}
+use Rattle.xray_program.specs.Takes.{AreTakings, IsFaultStop, IsNamed, IsReadStop, IsTaken, IsTaking}
+use Rattle.xray_program.specs.Taking.{Form}
 use Rattle.xray_program.specs.declared.stop.Stop.{Stop}
 use Rattle.xray_program.specs.declared.stop.Stop.TheVariants as stops
 
@@ -75,3 +77,39 @@ pub stop_on : {S X : Type 0} (along : S → S → List Call → Type 0) → Comp
 stop_on {X = X} along both first second third inputs earlier later name limit stop turn named went then =
     went_on along both first second third _ _ (AreTakings {X = X} inputs (Err stop)) went then (λ calls mine p q.
     (name, named, record { earlier = earlier; limit = limit; later = later; turn = turn; before = calls; last = mine; order = refl; reads = p; stops = q }))
+
+-- the only input of a command
+named : {X : Type 0} (form : Form X) (name : List ℕ) (before after : DeskView) (stop : Stop) → IsTaken form name before after (Err stop) → IsNamed name stop
+named form name before after stops.BadLine taken = tt
+named form name before after (stops.Unread n) taken = taken.0
+named form name before after (stops.TooLong n) taken = taken.0
+named form name before after (stops.Refused n kind words) taken = taken.0
+named form name before after (stops.Fell words) taken = tt
+named form name before after (stops.Unwritten n) taken = tt
+named form name before after stops.NoMemory taken = tt
+
+pub one_taking : {X : Type 0} (form : Form X) (name : List ℕ) (before after : DeskView) (Way : List Call → Type 0) (result : Result X Stop)
+    → IsTaken form name before after result → Went Way (IsTaking name form.limit result) → Went Way (AreTakings ((name, form.limit) ∷ []) result)
+one_taking form name before after Way (Ok value) taken went =
+    record { calls = went.calls; way = went.way; are = (went.calls, [], sym (append-nil went.calls), went.are, refl) }
+one_taking form name before after Way (Err stop) taken went = record {
+  calls = went.calls;
+  way = went.way;
+  are = (
+    name,
+    named form name before after stop taken,
+    record { earlier = []; limit = form.limit; later = []; turn = refl; before = []; last = went.calls; order = refl; reads = refl; stops = went.are },
+  );
+}
+
+-- the stop that a `?` hands on, of an input after these
+pub stop_handed : {S X Y : Type 0} (along : S → S → List Call → Type 0) → Composes along → (first second third : S) (form : Form X) (before after : DeskView)
+    (inputs earlier later : List (List ℕ × ℕ)) (name : List ℕ) (result : Result Y Stop) (stop : Stop) → IsErrAnd result (λ s. s ≡ stop)
+    → inputs ≡ earlier ++ (name, form.limit) ∷ later → IsTaken form name before after (Err stop) → Went (along first second) (ReadsAll earlier)
+    → Went (along second third) (IsTaking {X = X} name form.limit (Err stop)) → Went (along first third) (AreTakings inputs result)
+stop_handed along both first second third form before after inputs earlier later name (Ok value) stop is turn taken went then = absurd is
+stop_handed {X = X} {Y = Y} along both first second third form before after inputs earlier later name (Err s) stop is turn taken went then =
+    let P : Stop → Type 0 = λ t. Went (along first third) (AreTakings {X = Y} inputs (Err t)) in
+    let as : (t : Stop) (calls : List Call) → AreTakings {X = X} inputs (Err t) calls → AreTakings {X = Y} inputs (Err t) calls = λ t calls p. p in
+    subst P (sym is) (went_as (along first third) _ _
+    (stop_on {X = X} along both first second third inputs earlier later name form.limit stop turn (named form name before after stop taken) went then) (as stop))

@@ -95,7 +95,6 @@ pub record Answered (said : Option Command) (before after : World) (Way : List C
   pub names : (name : List ℕ) → (Contains (outputs_named said) name → ⊥) → after.desk.held name ≡ before.desk.held name
   -- the calls of the desk are in their order, up to the one that the ending names
   pub order : Went Way (InOrder said before.desk after.desk ending)
-
   -- what is meant comes, unless memory runs out or a fault is counted
   pub complete : IsAnswer said before after answer
   -- the headline
