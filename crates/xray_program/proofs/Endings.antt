@@ -14,7 +14,7 @@ use Rattle.xray_program.specs.Order.{FailsAtOutput, InOrder, IsNoCall, IsUnmade,
 use Rattle.xray_program.specs.Outcomes.{Outcome, BadLine, Unread, TooLong, Refused, Done, Fell, Ending, With, Unwritten, NoMemory, written_by}
 use Rattle.xray_program.specs.Outputs.{AreWhole, AreUntouched, FailsAt, FailsAtOut, FailsWriting, HoldsPrefix, WritesNothing}
 use Rattle.xray_program.specs.Stops.{answer_of, stop_line, stop_status, told_of}
-use Rattle.xray_program.specs.Takes.{AreTakings, IsStopAtInput, IsTaking}
+use Rattle.xray_program.specs.Takes.{IsStopAtInput, StopsTakings}
 use Rattle.xray_program.specs.Taking.{Sound, Faulty, ended_by}
 use Rattle.xray_program.specs.Words.{Command}
 use Rattle.xray_program.specs.Works.{AreMakings, Delivers, Ends, FailsToLeave, Finishes, IsLeft, KeepsOthers, StandsBehind, StopsOutputs, Writes}
@@ -128,17 +128,17 @@ read_only : (inputs : List (List ℕ × ℕ)) (calls later : List Call) → Read
 read_only inputs calls later reads none = subst (ReadsAll inputs) (sym (ap (λ (l : List Call). calls ++ l) none ∙ append-nil calls)) reads
 
 -- a call that ended at an input
-pub ends_at_input : {X : Type 0} (command : Command) (desk desk_now : DeskView) (out : SinkView) (Way : List Call → Type 0) (result : Result (Unit {0}) Stop) (stop : Stop)
+pub ends_at_input : (command : Command) (desk desk_now : DeskView) (out : SinkView) (Way : List Call → Type 0) (result : Result (Unit {0}) Stop) (stop : Stop)
     → IsErrAnd result (λ s. s ≡ stop) → IsStopAtInput (λ reads. Comes reads desk.held command) desk desk_now stop → desk_now.held ≡ desk.held
-    → Went Way (AreTakings {X = X} (inputs_of command) (Err stop)) → Ends (Some command) desk desk_now out out Way (answer_of result) (told_of result)
+    → Went Way (StopsTakings (inputs_of command) stop) → Ends (Some command) desk desk_now out out Way (answer_of result) (told_of result)
 ends_at_input command desk desk_now out Way (Ok done) stop is stands same went = absurd is
-ends_at_input {X = X} command desk desk_now out Way (Err s) stop is stands same went = rw is (behind stop stands went)
+ends_at_input command desk desk_now out Way (Err s) stop is stands same went = rw is (behind stop stands went)
   where
     kept : KeepsOthers (outputs_of command) desk desk_now
     kept name not = ap (λ (h : List ℕ → Entry). h name) same
 
     behind : (stop : Stop) → IsStopAtInput (λ reads. Comes reads desk.held command) desk desk_now stop
-        → Went Way (AreTakings {X = X} (inputs_of command) (Err stop)) → Ends (Some command) desk desk_now out out Way (stop_status stop) (stop_line stop)
+        → Went Way (StopsTakings (inputs_of command) stop) → Ends (Some command) desk desk_now out out Way (stop_status stop) (stop_line stop)
     behind stops.BadLine stands went = absurd stands
     behind (stops.Unread n) stands went = record {
       ending = With (Unread n.now);

@@ -11,7 +11,7 @@ use Rattle.xray_io.specs.declared.faults.ReadError.{ReadError}
 use Rattle.xray_io.specs.declared.faults.ReadError.TheVariants as errors
 use Rattle.xray_program.specs.Order.{ReadsAll, ReadsWhole, StopsAt}
 use Rattle.xray_io.specs.World.{DeskView}
-use Rattle.xray_program.specs.Takes.{AreTakings, IsFaultStop, IsNamed, IsReadStop, IsTaken, IsTaking}
+use Rattle.xray_program.specs.Takes.{AreTakings, IsNamed, IsTaken, IsTaking, StopsTaking, StopsTakings}
 use Rattle.xray_program.specs.Taking.{Form}
 use Rattle.xray_program.specs.declared.stop.Stop.{Stop}
 use Rattle.xray_program.specs.declared.stop.Stop.TheVariants as stops
@@ -19,35 +19,6 @@ use Rattle.xray_program.specs.declared.stop.Stop.TheVariants as stops
 -- of the same calls something else is said
 pub went_as : {C : Type 0} (Way P Q : List C → Type 0) → Went Way P → ((calls : List C) → P calls → Q calls) → Went Way Q
 went_as Way P Q went then = record { calls = went.calls; way = went.way; are = then went.calls went.are }
-
--- ---- one input
-
--- it was read whole, and gave a value
-pub whole_reads : {X : Type 0} (name : List ℕ) (limit : ℕ) (content : Vec ℕ Global) (value : X) (calls : List Call)
-    → IsReading name limit (Ok content) calls → IsTaking {X = X} name limit (Ok value) calls
-whole_reads name limit content value calls reads = (length content.items, reads)
-
--- it was read whole, and was refused, or memory ran out
-pub fault_reads : {X : Type 0} (name kind n : List ℕ) (limit : ℕ) (told : Option (List ℕ)) (content : Vec ℕ Global) (stop : Stop) (calls : List Call)
-    → IsFaultStop n kind told stop → IsReading name limit (Ok content) calls → IsTaking {X = X} name limit (Err stop) calls
-fault_reads name kind n limit told content stops.BadLine calls is reads = is
-fault_reads name kind n limit told content (stops.Unread m) calls is reads = absurd is
-fault_reads name kind n limit told content (stops.TooLong m) calls is reads = absurd is
-fault_reads name kind n limit told content (stops.Refused m k words) calls is reads = (length content.items, reads)
-fault_reads name kind n limit told content (stops.Fell trouble) calls is reads = is
-fault_reads name kind n limit told content (stops.Unwritten m) calls is reads = is
-fault_reads name kind n limit told content stops.NoMemory calls is reads = inr (length content.items, reads)
-
--- it wasn't read whole
-pub error_reads : {X : Type 0} (name n : List ℕ) (limit : ℕ) (error : ReadError) (stop : Stop) (calls : List Call)
-    → IsReadStop n error stop → IsReading name limit (Err error) calls → IsTaking {X = X} name limit (Err stop) calls
-error_reads name n limit error stops.BadLine calls is reads = is
-error_reads name n limit error (stops.Unread m) calls (same, is) reads = subst (λ e. IsReading name limit (Err e) calls) is reads
-error_reads name n limit error (stops.TooLong m) calls (same, is) reads = subst (λ e. IsReading name limit (Err e) calls) is reads
-error_reads name n limit error (stops.Refused m k words) calls is reads = absurd is
-error_reads name n limit error (stops.Fell trouble) calls is reads = is
-error_reads name n limit error (stops.Unwritten m) calls is reads = is
-error_reads name n limit error stops.NoMemory calls is reads = inl (subst (λ e. IsReading name limit (Err e) calls) is reads)
 
 -- ---- inputs, one after another
 
@@ -70,12 +41,12 @@ read_on along both first second third inputs name limit went then =
     went_on along both first second third _ _ (ReadsAll (inputs ++ (name, limit) ∷ [])) went then (reads_more inputs name limit)
 
 -- one was a stop
-pub stop_on : {S X : Type 0} (along : S → S → List Call → Type 0) → Composes along → (first second third : S)
+pub stop_on : {S : Type 0} (along : S → S → List Call → Type 0) → Composes along → (first second third : S)
     (inputs earlier later : List (List ℕ × ℕ)) (name : List ℕ) (limit : ℕ) (stop : Stop) → inputs ≡ earlier ++ (name, limit) ∷ later → IsNamed name stop
-    → Went (along first second) (ReadsAll earlier) → Went (along second third) (IsTaking {X = X} name limit (Err stop))
-    → Went (along first third) (AreTakings {X = X} inputs (Err stop))
-stop_on {X = X} along both first second third inputs earlier later name limit stop turn named went then =
-    went_on along both first second third _ _ (AreTakings {X = X} inputs (Err stop)) went then (λ calls mine p q.
+    → Went (along first second) (ReadsAll earlier) → Went (along second third) (StopsTaking name limit stop)
+    → Went (along first third) (StopsTakings inputs stop)
+stop_on along both first second third inputs earlier later name limit stop turn named went then =
+    went_on along both first second third _ _ (StopsTakings inputs stop) went then (λ calls mine p q.
     (name, named, record { earlier = earlier; limit = limit; later = later; turn = turn; before = calls; last = mine; order = refl; reads = p; stops = q }))
 
 -- the only input of a command
@@ -106,10 +77,8 @@ one_taking form name before after Way (Err stop) taken went = record {
 pub stop_handed : {S X Y : Type 0} (along : S → S → List Call → Type 0) → Composes along → (first second third : S) (form : Form X) (before after : DeskView)
     (inputs earlier later : List (List ℕ × ℕ)) (name : List ℕ) (result : Result Y Stop) (stop : Stop) → IsErrAnd result (λ s. s ≡ stop)
     → inputs ≡ earlier ++ (name, form.limit) ∷ later → IsTaken form name before after (Err stop) → Went (along first second) (ReadsAll earlier)
-    → Went (along second third) (IsTaking {X = X} name form.limit (Err stop)) → Went (along first third) (AreTakings inputs result)
+    → Went (along second third) (StopsTaking name form.limit stop) → Went (along first third) (AreTakings inputs result)
 stop_handed along both first second third form before after inputs earlier later name (Ok value) stop is turn taken went then = absurd is
-stop_handed {X = X} {Y = Y} along both first second third form before after inputs earlier later name (Err s) stop is turn taken went then =
-    let P : Stop → Type 0 = λ t. Went (along first third) (AreTakings {X = Y} inputs (Err t)) in
-    let as : (t : Stop) (calls : List Call) → AreTakings {X = X} inputs (Err t) calls → AreTakings {X = Y} inputs (Err t) calls = λ t calls p. p in
-    subst P (sym is) (went_as (along first third) _ _
-    (stop_on {X = X} along both first second third inputs earlier later name form.limit stop turn (named form name before after stop taken) went then) (as stop))
+stop_handed along both first second third form before after inputs earlier later name (Err s) stop is turn taken went then =
+    subst (λ (t : Stop). Went (along first third) (StopsTakings inputs t)) (sym is)
+    (stop_on along both first second third inputs earlier later name form.limit stop turn (named form name before after stop taken) went then)

@@ -86,14 +86,18 @@ IsFaultStop name kind told stop = ⊥
 
 -- ---- the calls of the desk
 
+-- the calls of an input's turn that ended with a stop
+abbrev pub StopsTaking : List ℕ → (limit : ℕ) → Stop → List Call → Type 0
+StopsTaking name limit (stops.Unread n) calls = ReadsUpToFault name (limit + 1) calls
+StopsTaking name limit (stops.TooLong n) calls = Reads name (limit + 1) 0 (limit + 1) calls
+StopsTaking name limit (stops.Refused n kind words) calls = ReadsWhole name limit calls
+StopsTaking name limit stops.NoMemory calls = ReadsSome name (limit + 1) calls ⊎ ReadsWhole name limit calls
+StopsTaking name limit stop calls = ⊥
+
 -- the calls of an input's turn
 abbrev pub IsTaking : {X : Type 0} → List ℕ → (limit : ℕ) → Result X Stop → List Call → Type 0
 IsTaking name limit (Ok value) calls = ReadsWhole name limit calls
-IsTaking name limit (Err (stops.Unread n)) calls = ReadsUpToFault name (limit + 1) calls
-IsTaking name limit (Err (stops.TooLong n)) calls = Reads name (limit + 1) 0 (limit + 1) calls
-IsTaking name limit (Err (stops.Refused n kind words)) calls = ReadsWhole name limit calls
-IsTaking name limit (Err stops.NoMemory) calls = ReadsSome name (limit + 1) calls ⊎ ReadsWhole name limit calls
-IsTaking name limit (Err stop) calls = ⊥
+IsTaking name limit (Err stop) calls = StopsTaking name limit stop calls
 
 -- the calls of the turn of an input that the words may leave out: none, where they do
 abbrev pub IsMaybeTaking : {X : Type 0} → Option (List ℕ) → (limit : ℕ) → Result X Stop → List Call → Type 0
@@ -107,8 +111,12 @@ IsNamed name (stops.TooLong n) = n.now ≡ name
 IsNamed name (stops.Refused n kind words) = n.now ≡ name
 IsNamed name stop = ⊤
 
--- the calls of the turns of inputs: all were read; or one was a stop, and no other was asked for
+-- the calls of the turns of inputs of which one was a stop: no other was asked for after it
+abbrev pub StopsTakings : List (List ℕ × ℕ) → Stop → List Call → Type 0
+StopsTakings inputs stop calls =
+    (name : List ℕ) × IsNamed name stop × StopsAt inputs name (λ limit. StopsTaking name limit stop) calls
+
+-- the calls of the turns of inputs
 abbrev pub AreTakings : {X : Type 0} → List (List ℕ × ℕ) → Result X Stop → List Call → Type 0
 AreTakings inputs (Ok value) calls = ReadsAll inputs calls
-AreTakings {X} inputs (Err stop) calls =
-    (name : List ℕ) × IsNamed name stop × StopsAt inputs name (λ limit. IsTaking {X = X} name limit (Err stop)) calls
+AreTakings inputs (Err stop) calls = StopsTakings inputs stop calls
