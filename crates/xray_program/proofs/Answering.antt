@@ -1,9 +1,11 @@
 -- The contract of a call, from how it ends.
 use Rattle.std.proofs.Common.{◌≡◌, ◌≢◌, ◌⊎◌, ◌↔◌, ◌∙◌, ℕ, List, [], Contains, Option, Some, None, inl, inr, refl, sym, ap, subst}
+use Rattle.xray_io.specs.Calls.{Call, Went}
 use Rattle.xray_io.specs.Desk.{Entry, Absent}
 use Rattle.xray_io.specs.Faults.{Rose}
 use Rattle.xray_program.specs.Answers.{Answered, IsAnswer, IsSimulated, LeavesAll, Reports, Says}
 use Rattle.xray_program.specs.Commands.{Means, HadItsTurn, outputs_named}
+use Rattle.xray_program.specs.Order.{InOrder}
 use Rattle.xray_program.specs.Outcomes.{Outcome, BadLine, Unread, TooLong, Refused, Done, Fell, Ending, With, Unwritten, NoMemory, status_of, status_at, line_at, written_by}
 use Rattle.xray_program.specs.Outputs.{FailsWriting}
 use Rattle.xray_program.specs.Words.{Command}
@@ -50,13 +52,14 @@ not_bad outcome of writes e = none (rw e at writes)
     none e = cc
 
 -- how the parts of the contract follow, one for each ending
-by_ending : TearsNone → (said : Option Command) (before after : World) (ending : Ending)
+by_ending : TearsNone → (Way : List Call → Type 0) (said : Option Command) (before after : World) (ending : Ending)
     → StandsBehind said before.desk after.desk before.out after.out ending → KeepsOthers (outputs_named said) before.desk after.desk
-    → Says before.err after.err (line_at ending) → Answered said before after (status_at ending)
-by_ending tears said before after (With BadLine) (is, nothing) kept told = record {
+    → Went Way (InOrder said before.desk after.desk ending) → Says before.err after.err (line_at ending) → Answered said before after Way (status_at ending)
+by_ending tears Way said before after (With BadLine) (is, nothing) kept order told = record {
   ending = With BadLine;
   status = refl;
   told = told;
+  order = order;
   done = λ e. not_two 0 7 1 (λ x. cc) (λ x. cc) e;
   silent = λ e. absurd cc;
   bad_line = (λ e. is, λ e. refl);
@@ -69,10 +72,11 @@ by_ending tears said before after (With BadLine) (is, nothing) kept told = recor
   complete = inl (BadLine, means_bad said before.desk.held is, refl);
   headline = λ e. absurd cc;
 }
-by_ending tears said before after (With (Refused n kind refusal)) (meant, nothing) kept told = record {
+by_ending tears Way said before after (With (Refused n kind refusal)) (meant, nothing) kept order told = record {
   ending = With (Refused n kind refusal);
   status = refl;
   told = told;
+  order = order;
   done = λ e. not_two 0 7 2 (λ x. cc) (λ x. cc) e;
   silent = λ e. absurd cc;
   bad_line = (λ e. absurd cc, λ e. absurd (read_it said before.desk.held (Refused n kind refusal) meant (λ x. cc) e));
@@ -85,10 +89,11 @@ by_ending tears said before after (With (Refused n kind refusal)) (meant, nothin
   complete = inl (Refused n kind refusal, meant, refl);
   headline = λ e. absurd cc;
 }
-by_ending tears said before after (With (TooLong n)) (meant, nothing) kept told = record {
+by_ending tears Way said before after (With (TooLong n)) (meant, nothing) kept order told = record {
   ending = With (TooLong n);
   status = refl;
   told = told;
+  order = order;
   done = λ e. not_two 0 7 6 (λ x. cc) (λ x. cc) e;
   silent = λ e. absurd cc;
   bad_line = (λ e. absurd cc, λ e. absurd (read_it said before.desk.held (TooLong n) meant (λ x. cc) e));
@@ -101,10 +106,11 @@ by_ending tears said before after (With (TooLong n)) (meant, nothing) kept told 
   complete = inl (TooLong n, meant, refl);
   headline = λ e. absurd cc;
 }
-by_ending tears said before after (With (Unread n)) ((turn, cause), nothing) kept told = record {
+by_ending tears Way said before after (With (Unread n)) ((turn, cause), nothing) kept order told = record {
   ending = With (Unread n);
   status = refl;
   told = told;
+  order = order;
   done = λ e. not_two 0 7 3 (λ x. cc) (λ x. cc) e;
   silent = λ e. absurd cc;
   bad_line = (λ e. absurd cc, λ e. absurd (had_turn said before.desk.held n turn e));
@@ -122,10 +128,11 @@ by_ending tears said before after (With (Unread n)) ((turn, cause), nothing) kep
         → IsAnswer said before after 3
     answers (inl rose) = inr (inr (inl (refl, rose)))
     answers (inr (absent, meant)) = inl (Unread n, meant, refl)
-by_ending tears said before after (With (Done outputs text)) (meant, writes) kept told = record {
+by_ending tears Way said before after (With (Done outputs text)) (meant, writes) kept order told = record {
   ending = With (Done outputs text);
   status = refl;
   told = told;
+  order = order;
   done = λ e. record {
     outcome = Done outputs text;
     is = refl;
@@ -147,10 +154,11 @@ by_ending tears said before after (With (Done outputs text)) (meant, writes) kep
   complete = inl (Done outputs text, meant, refl);
   headline = λ e. simulated tears said before after outputs text meant writes.whole writes.printed;
 }
-by_ending tears said before after (With (Fell outputs text trouble)) (meant, writes) kept told = record {
+by_ending tears Way said before after (With (Fell outputs text trouble)) (meant, writes) kept order told = record {
   ending = With (Fell outputs text trouble);
   status = refl;
   told = told;
+  order = order;
   done = λ e. record {
     outcome = Fell outputs text trouble;
     is = refl;
@@ -172,10 +180,11 @@ by_ending tears said before after (With (Fell outputs text trouble)) (meant, wri
   complete = inl (Fell outputs text trouble, meant, refl);
   headline = λ e. absurd cc;
 }
-by_ending tears said before after (Unwritten n) fails kept told = record {
+by_ending tears Way said before after (Unwritten n) fails kept order told = record {
   ending = Unwritten n;
   status = refl;
   told = told;
+  order = order;
   done = λ e. not_two 0 7 4 (λ x. cc) (λ x. cc) e;
   silent = λ e. absurd cc;
   bad_line = (λ e. absurd cc, λ e. absurd (read_it said before.desk.held fails.outcome fails.comes (not_bad fails.outcome (fails.outputs, fails.text) fails.writes) e));
@@ -202,10 +211,11 @@ by_ending tears said before after (Unwritten n) fails kept told = record {
         → Rose before.desk.write_faults after.desk.write_faults ⊎ Rose before.out.faults after.out.faults
     fault (inl (at, silent)) = inl at.fault
     fault (inr at) = inr at.fault
-by_ending tears said before after NoMemory (read, nothing) kept told = record {
+by_ending tears Way said before after NoMemory (read, nothing) kept order told = record {
   ending = NoMemory;
   status = refl;
   told = told;
+  order = order;
   done = λ e. not_two 0 7 5 (λ x. cc) (λ x. cc) e;
   silent = λ e. absurd cc;
   bad_line = (λ e. absurd cc, λ e. absurd (read e));
@@ -220,9 +230,9 @@ by_ending tears said before after NoMemory (read, nothing) kept told = record {
 }
 
 -- a call that ended so, and whose line is on err
-pub answered : TearsNone → (said : Option Command) (before after : World) (answer : ℕ) (line : List ℕ)
-    → Ends said before.desk after.desk before.out after.out answer line → Says before.err after.err line → Answered said before after answer
-answered tears said before after answer line ends says =
-    subst (Answered said before after) ends.status
-    (by_ending tears said before after ends.ending ends.stands ends.names
+pub answered : TearsNone → (Way : List Call → Type 0) (said : Option Command) (before after : World) (answer : ℕ) (line : List ℕ)
+    → Ends said before.desk after.desk before.out after.out Way answer line → Says before.err after.err line → Answered said before after Way answer
+answered tears Way said before after answer line ends says =
+    subst (Answered said before after Way) ends.status
+    (by_ending tears Way said before after ends.ending ends.stands ends.names ends.order
     (subst (λ (l : List ℕ). Says before.err after.err l) (sym ends.told) says))

@@ -1,19 +1,25 @@
 -- How the work of a command ends, and how a call does.
 use Rattle.std.specs.Prelude.{⊤, IsErrAnd, OnOk, OnErr, IfErr}
-use Rattle.std.proofs.Common.{◌≡◌, ◌≢◌, ◌⊎◌, ◌≤◌, ◌∙◌, ℕ, List, [], ◌∷◌, Contains, map, Option, Some, None, Result, Ok, Err, inl, inr, refl, sym, ap, arith, subst, codes}
+use Rattle.std.proofs.Common.{◌≡◌, ◌≢◌, ◌⊎◌, ◌≤◌, ◌+◌, ◌++◌, ◌∙◌, ℕ, List, [], ◌∷◌, Contains, map, Option, Some, None, Result, Ok, Err, inl, inr, refl, sym, ap, arith, subst, codes}
+use Rattle.std.proofs.lemmas.List.{append-nil}
 use Rattle.fault_words.specs.Words.{words_text}
+use Rattle.xray_io.specs.Calls.{Call, Composes, Went, went_on}
 use Rattle.xray_io.specs.Desk.{Entry, Absent}
 use Rattle.xray_io.specs.Faults.{Rose}
 use Rattle.xray_io.specs.Sink.{Adds, AddsPrefix}
 use Rattle.xray_program.specs.Commands.{Comes, Means, outputs_named, outputs_of}
+use Rattle.xray_io.specs.Outputs.{IsMaking}
+use Rattle.xray_io.specs.Reads.{Reads, ReadsSome, ReadsUpToFault}
+use Rattle.xray_program.specs.Order.{FailsAtOutput, InOrder, IsNoCall, IsUnmade, MakesAll, ReadsAll, ReadsWhole, StopsAt, inputs_of}
 use Rattle.xray_program.specs.Outcomes.{Outcome, BadLine, Unread, TooLong, Refused, Done, Fell, Ending, With, Unwritten, NoMemory, written_by}
 use Rattle.xray_program.specs.Outputs.{AreWhole, AreUntouched, FailsAt, FailsAtOut, FailsWriting, HoldsPrefix, WritesNothing}
 use Rattle.xray_program.specs.Stops.{answer_of, stop_line, stop_status, told_of}
-use Rattle.xray_program.specs.Takes.{IsStopAtInput}
+use Rattle.xray_program.specs.Takes.{IsStopAtInput, StopsTakings}
 use Rattle.xray_program.specs.Taking.{Sound, Faulty, ended_by}
 use Rattle.xray_program.specs.Words.{Command}
-use Rattle.xray_program.specs.Works.{Delivers, Ends, FailsToLeave, Finishes, IsLeft, KeepsOthers, StandsBehind, StopsOutputs, Writes}
+use Rattle.xray_program.specs.Works.{AreMakings, Delivers, Ends, FailsToLeave, Finishes, IsLeft, KeepsOthers, StandsBehind, StopsOutputs, Writes}
 use Rattle.xray_io.specs.World.{DeskView, SinkView}
+use Rattle.xray_program.proofs.Ordering.{went_as}
 use Rattle.xray_program.specs.declared.stop.Stop.{Stop}
 use Rattle.xray_program.specs.declared.stop.Stop.TheVariants as stops
 
@@ -21,19 +27,21 @@ use Rattle.xray_program.specs.declared.stop.Stop.TheVariants as stops
 
 -- an output was a stop
 pub output_stops : (outputs : List (List ℕ × List ℕ)) (text : List ℕ) (trouble : Option (List ℕ)) (desk desk_now : DeskView) (out : SinkView)
-    (result : Result (Unit {0}) Stop) (stop : Stop) → IsErrAnd result (λ s. s ≡ stop) → StopsOutputs outputs desk desk_now stop
-    → Delivers outputs text trouble desk desk_now out out result
-output_stops outputs text trouble desk desk_now out (Ok done) stop is stands = absurd is
-output_stops outputs text trouble desk desk_now out (Err s) stop is stands = rw is (behind stop stands)
+    (Way : List Call → Type 0) (result : Result (Unit {0}) Stop) (stop : Stop) → IsErrAnd result (λ s. s ≡ stop) → StopsOutputs outputs desk desk_now stop
+    → Went Way (AreMakings outputs desk desk_now (Err stop)) → Delivers outputs text trouble desk desk_now out out Way result
+output_stops outputs text trouble desk desk_now out Way (Ok done) stop is stands made = absurd is
+output_stops outputs text trouble desk desk_now out Way (Err s) stop is stands made = rw is (behind stop stands made)
   where
-    behind : (stop : Stop) → StopsOutputs outputs desk desk_now stop → Delivers outputs text trouble desk desk_now out out (Err stop)
-    behind stops.BadLine stands = stands
-    behind (stops.Unread n) stands = stands
-    behind (stops.TooLong n) stands = stands
-    behind (stops.Refused n kind words) stands = stands
-    behind (stops.Fell words) stands = absurd stands
-    behind (stops.Unwritten n) stands = inl (stands, refl)
-    behind stops.NoMemory stands = stands
+    behind : (stop : Stop) → StopsOutputs outputs desk desk_now stop → Went Way (AreMakings outputs desk desk_now (Err stop))
+        → Delivers outputs text trouble desk desk_now out out Way (Err stop)
+    behind stops.BadLine stands made = stands
+    behind (stops.Unread n) stands made = stands
+    behind (stops.TooLong n) stands made = stands
+    behind (stops.Refused n kind words) stands made = stands
+    behind (stops.Fell words) stands made = absurd stands
+    behind (stops.Unwritten n) stands made =
+        (inl (stands, refl), went_as Way (FailsAtOutput outputs desk desk_now n.now) (IsUnmade outputs desk desk_now n.now) made (λ calls p. inl p))
+    behind stops.NoMemory stands made = stands
 
 -- what was delivered was written, whether all is well or not
 ended_writes : (outputs : List (List ℕ × List ℕ)) (text : List ℕ) (trouble : Option (List ℕ)) → written_by (ended_by outputs text trouble) ≡ Some (outputs, text)
@@ -42,25 +50,25 @@ ended_writes outputs text (Some words) = refl
 
 -- the work ends as its outputs and its text are delivered
 pub finishes : (comes : Outcome → Type 0) (outputs : List (List ℕ × List ℕ)) (text : List ℕ) (trouble : Option (List ℕ)) (desk desk_now : DeskView)
-    (out out_now : SinkView) (result : Result (Unit {0}) Stop) → comes (ended_by outputs text trouble)
-    → Delivers outputs text trouble desk desk_now out out_now result → Finishes comes desk desk_now out out_now result
-finishes comes outputs text trouble desk desk_now out out_now (Ok done) is (none, writes) =
-    record { outputs = outputs; text = text; comes = subst (λ t. comes (ended_by outputs text t)) none is; writes = writes }
-finishes comes outputs text trouble desk desk_now out out_now (Err stops.BadLine) is delivers = delivers
-finishes comes outputs text trouble desk desk_now out out_now (Err (stops.Unread n)) is delivers = delivers
-finishes comes outputs text trouble desk desk_now out out_now (Err (stops.TooLong n)) is delivers = delivers
-finishes comes outputs text trouble desk desk_now out out_now (Err (stops.Refused n kind words)) is delivers = absurd delivers
-finishes comes outputs text trouble desk desk_now out out_now (Err (stops.Fell words)) is (some, writes) =
-    record { outputs = outputs; text = text; comes = subst (λ t. comes (ended_by outputs text t)) some is; writes = writes }
-finishes comes outputs text trouble desk desk_now out out_now (Err (stops.Unwritten n)) is delivers =
-    record { outcome = ended_by outputs text trouble; comes = is; outputs = outputs; text = text; writes = ended_writes outputs text trouble; failed = delivers }
-finishes comes outputs text trouble desk desk_now out out_now (Err stops.NoMemory) is delivers = absurd delivers
+    (out out_now : SinkView) (Way : List Call → Type 0) (result : Result (Unit {0}) Stop) → comes (ended_by outputs text trouble)
+    → Delivers outputs text trouble desk desk_now out out_now Way result → Finishes comes desk desk_now out out_now Way result
+finishes comes outputs text trouble desk desk_now out out_now Way (Ok done) is (none, writes, made) =
+    record { outputs = outputs; text = text; comes = subst (λ t. comes (ended_by outputs text t)) none is; writes = writes; then_so = made }
+finishes comes outputs text trouble desk desk_now out out_now Way (Err stops.BadLine) is delivers = delivers
+finishes comes outputs text trouble desk desk_now out out_now Way (Err (stops.Unread n)) is delivers = delivers
+finishes comes outputs text trouble desk desk_now out out_now Way (Err (stops.TooLong n)) is delivers = delivers
+finishes comes outputs text trouble desk desk_now out out_now Way (Err (stops.Refused n kind words)) is delivers = absurd delivers
+finishes comes outputs text trouble desk desk_now out out_now Way (Err (stops.Fell words)) is (some, writes, made) =
+    record { outputs = outputs; text = text; comes = subst (λ t. comes (ended_by outputs text t)) some is; writes = writes; then_so = made }
+finishes comes outputs text trouble desk desk_now out out_now Way (Err (stops.Unwritten n)) is (fails, unmade) =
+    record { outcome = ended_by outputs text trouble; comes = is; outputs = outputs; text = text; writes = ended_writes outputs text trouble; failed = fails; then_so = unmade }
+finishes comes outputs text trouble desk desk_now out out_now Way (Err stops.NoMemory) is delivers = absurd delivers
 
 -- inputs that are refused once all of them were judged, or want of memory, and nothing was written
-pub refuses : (comes : Outcome → Type 0) (desk : DeskView) (out : SinkView) (stop : Stop) (result : Result (Unit {0}) Stop)
-    → IsErrAnd result (λ s. s ≡ stop) → Finishes comes desk desk out out (Err stop) → Finishes comes desk desk out out result
-refuses comes desk out stop (Ok done) is stands = absurd is
-refuses comes desk out stop (Err s) is stands = rw is stands
+pub refuses : (comes : Outcome → Type 0) (desk : DeskView) (out : SinkView) (Way : List Call → Type 0) (stop : Stop) (result : Result (Unit {0}) Stop)
+    → IsErrAnd result (λ s. s ≡ stop) → Finishes comes desk desk out out Way (Err stop) → Finishes comes desk desk out out Way result
+refuses comes desk out Way stop (Ok done) is stands = absurd is
+refuses comes desk out Way stop (Err s) is stands = rw is stands
 
 -- ---- from the inputs on
 
@@ -96,36 +104,87 @@ writes_over : (outputs : List (List ℕ × List ℕ)) (text : List ℕ) (desk mi
 writes_over outputs text desk mid desk_now out out_now same writes =
     record { whole = subst (λ (h : List ℕ → Entry). AreWhole outputs h desk_now.held) same writes.whole; printed = writes.printed }
 
+unmade_over : (outputs : List (List ℕ × List ℕ)) (desk mid desk_now : DeskView) (name : List ℕ) (calls : List Call) → mid.held ≡ desk.held
+    → IsUnmade outputs mid desk_now name calls → IsUnmade outputs desk desk_now name calls
+unmade_over outputs desk mid desk_now name calls same (inl fails) = inl at
+  where
+    at : FailsAtOutput outputs desk desk_now name calls
+    at = record {
+      earlier = fails.earlier;
+      bytes = fails.bytes;
+      later = fails.later;
+      turn = fails.turn;
+      before = fails.before;
+      last = fails.last;
+      order = fails.order;
+      makes = fails.makes;
+      fault = fails.fault;
+      fails = subst (λ (h : List ℕ → Entry). IsMaking name fails.bytes (h name) (desk_now.held name) (Err fails.fault) fails.last) same fails.fails;
+    }
+unmade_over outputs desk mid desk_now name calls same (inr made) = inr made
+
+-- all inputs were read, and then nothing was called
+read_only : (inputs : List (List ℕ × ℕ)) (calls later : List Call) → ReadsAll inputs calls → IsNoCall later → ReadsAll inputs (calls ++ later)
+read_only inputs calls later reads none = subst (ReadsAll inputs) (sym (ap (λ (l : List Call). calls ++ l) none ∙ append-nil calls)) reads
+
 -- a call that ended at an input
-pub ends_at_input : (command : Command) (desk desk_now : DeskView) (out : SinkView) (result : Result (Unit {0}) Stop) (stop : Stop)
+pub ends_at_input : (command : Command) (desk desk_now : DeskView) (out : SinkView) (Way : List Call → Type 0) (result : Result (Unit {0}) Stop) (stop : Stop)
     → IsErrAnd result (λ s. s ≡ stop) → IsStopAtInput (λ reads. Comes reads desk.held command) desk desk_now stop → desk_now.held ≡ desk.held
-    → Ends (Some command) desk desk_now out out (answer_of result) (told_of result)
-ends_at_input command desk desk_now out (Ok done) stop is stands same = absurd is
-ends_at_input command desk desk_now out (Err s) stop is stands same = rw is (behind stop stands)
+    → Went Way (StopsTakings (inputs_of command) stop) → Ends (Some command) desk desk_now out out Way (answer_of result) (told_of result)
+ends_at_input command desk desk_now out Way (Ok done) stop is stands same went = absurd is
+ends_at_input command desk desk_now out Way (Err s) stop is stands same went = rw is (behind stop stands went)
   where
     kept : KeepsOthers (outputs_of command) desk desk_now
     kept name not = ap (λ (h : List ℕ → Entry). h name) same
 
     behind : (stop : Stop) → IsStopAtInput (λ reads. Comes reads desk.held command) desk desk_now stop
-        → Ends (Some command) desk desk_now out out (stop_status stop) (stop_line stop)
-    behind stops.BadLine stands = absurd stands
-    behind (stops.Unread n) stands =
-        record { ending = With (Unread n.now); status = refl; told = refl; stands = (stands, (same, refl)); names = kept }
-    behind (stops.TooLong n) stands =
-        record { ending = With (TooLong n.now); status = refl; told = refl; stands = (stands, (same, refl)); names = kept }
-    behind (stops.Refused n kind words) stands =
-        record { ending = With (Refused n.now kind.now (words_text words)); status = refl; told = refl; stands = (stands, (same, refl)); names = kept }
-    behind (stops.Fell words) stands = absurd stands
-    behind (stops.Unwritten n) stands = absurd stands
-    behind stops.NoMemory stands = record { ending = NoMemory; status = refl; told = refl; stands = (λ none. cc, (same, refl)); names = kept }
+        → Went Way (StopsTakings (inputs_of command) stop) → Ends (Some command) desk desk_now out out Way (stop_status stop) (stop_line stop)
+    behind stops.BadLine stands went = absurd stands
+    behind (stops.Unread n) stands went = record {
+      ending = With (Unread n.now);
+      status = refl;
+      told = refl;
+      stands = (stands, (same, refl));
+      names = kept;
+      order = went_as Way _ (InOrder (Some command) desk desk_now (With (Unread n.now))) went (λ calls p.
+          let P : List ℕ → Type 0 = λ m. StopsAt (inputs_of command) m (λ limit. ReadsUpToFault m (limit + 1)) calls in subst P (sym p.1) p.2);
+    }
+    behind (stops.TooLong n) stands went = record {
+      ending = With (TooLong n.now);
+      status = refl;
+      told = refl;
+      stands = (stands, (same, refl));
+      names = kept;
+      order = went_as Way _ (InOrder (Some command) desk desk_now (With (TooLong n.now))) went (λ calls p.
+          let P : List ℕ → Type 0 = λ m. StopsAt (inputs_of command) m (λ limit. Reads m (limit + 1) 0 (limit + 1)) calls in subst P (sym p.1) p.2);
+    }
+    behind (stops.Refused n kind words) stands went = record {
+      ending = With (Refused n.now kind.now (words_text words));
+      status = refl;
+      told = refl;
+      stands = (stands, (same, refl));
+      names = kept;
+      order = went_as Way _ (InOrder (Some command) desk desk_now (With (Refused n.now kind.now (words_text words)))) went (λ calls p.
+          let P : List ℕ → Type 0 = λ m. StopsAt (inputs_of command) m (λ limit. ReadsWhole m limit) calls in inl (subst P (sym p.1) p.2));
+    }
+    behind (stops.Fell words) stands went = absurd stands
+    behind (stops.Unwritten n) stands went = absurd stands
+    behind stops.NoMemory stands went = record {
+      ending = NoMemory;
+      status = refl;
+      told = refl;
+      stands = (λ none. cc, (same, refl));
+      names = kept;
+      order = went_as Way _ (InOrder (Some command) desk desk_now NoMemory) went (λ calls p. inl (p.0, p.2));
+    }
 
 -- a call that ended with its work
-pub ends_with_work : (command : Command) (yields : Outcome → Type 0) (desk mid desk_now : DeskView) (out out_now : SinkView)
+pub ends_with_work : {S : Type 0} (along : S → S → List Call → Type 0) → Composes along → (first second third : S) (command : Command) (yields : Outcome → Type 0) (desk mid desk_now : DeskView) (out out_now : SinkView)
     (result : Result (Unit {0}) Stop) → ((outcome : Outcome) → yields outcome → Comes Sound desk.held command outcome)
-    → mid.held ≡ desk.held → mid.write_faults ≡ desk.write_faults → Finishes yields mid desk_now out out_now result
-    → KeepsOthers (outputs_of command) mid desk_now
-    → Ends (Some command) desk desk_now out out_now (answer_of result) (told_of result)
-ends_with_work command yields desk mid desk_now out out_now result comes same counted done others = by_result result done
+    → mid.held ≡ desk.held → mid.write_faults ≡ desk.write_faults → Finishes yields mid desk_now out out_now (along second third) result
+    → KeepsOthers (outputs_of command) mid desk_now → Went (along first second) (ReadsAll (inputs_of command))
+    → Ends (Some command) desk desk_now out out_now (along first third) (answer_of result) (told_of result)
+ends_with_work along both first second third command yields desk mid desk_now out out_now result comes same counted done others read = by_result result done
   where
     kept : KeepsOthers (outputs_of command) desk desk_now
     kept name not = others name not ∙ ap (λ (h : List ℕ → Entry). h name) same
@@ -133,24 +192,35 @@ ends_with_work command yields desk mid desk_now out out_now result comes same co
     nothing : WritesNothing mid desk_now out out_now → WritesNothing desk desk_now out out_now
     nothing (held, written) = (held ∙ same, written)
 
-    by_result : (result : Result (Unit {0}) Stop) → Finishes yields mid desk_now out out_now result
-        → Ends (Some command) desk desk_now out out_now (answer_of result) (told_of result)
+    then_made : (outputs : List (List ℕ × List ℕ)) (ending : Ending) → ((calls later : List Call) → ReadsAll (inputs_of command) calls → MakesAll outputs later
+        → InOrder (Some command) desk desk_now ending (calls ++ later)) → Went (along second third) (MakesAll outputs)
+        → Went (along first third) (InOrder (Some command) desk desk_now ending)
+    then_made outputs ending joined made =
+        went_on along both first second third (ReadsAll (inputs_of command)) (MakesAll outputs) (InOrder (Some command) desk desk_now ending) read made joined
+
+    by_result : (result : Result (Unit {0}) Stop) → Finishes yields mid desk_now out out_now (along second third) result
+        → Ends (Some command) desk desk_now out out_now (along first third) (answer_of result) (told_of result)
     by_result (Ok done) left = record {
       ending = With (Done left.outputs left.text);
       status = refl;
       told = refl;
       stands = (comes _ left.comes, writes_over left.outputs left.text desk mid desk_now out out_now same left.writes);
       names = kept;
+      order = then_made left.outputs (With (Done left.outputs left.text))
+          (λ calls later p q. record { before = calls; last = later; order = refl; reads = p; goes_on = q }) left.then_so;
     }
     by_result (Err stops.BadLine) left = absurd left
     by_result (Err (stops.Unread n)) left = absurd left
     by_result (Err (stops.TooLong n)) left = absurd left
-    by_result (Err (stops.Refused n kind words)) (yielded, none) = record {
+    by_result (Err (stops.Refused n kind words)) (yielded, none, silent) = record {
       ending = With (Refused n.now kind.now (words_text words));
       status = refl;
       told = refl;
       stands = (comes _ yielded, nothing none);
       names = kept;
+      order = went_on along both first second third (ReadsAll (inputs_of command)) IsNoCall
+          (InOrder (Some command) desk desk_now (With (Refused n.now kind.now (words_text words)))) read silent
+          (λ calls later p q. inr (read_only (inputs_of command) calls later p q));
     }
     by_result (Err (stops.Fell words)) left = record {
       ending = With (Fell left.outputs left.text (words_text words));
@@ -158,6 +228,8 @@ ends_with_work command yields desk mid desk_now out out_now result comes same co
       told = refl;
       stands = (comes _ left.comes, writes_over left.outputs left.text desk mid desk_now out out_now same left.writes);
       names = kept;
+      order = then_made left.outputs (With (Fell left.outputs left.text (words_text words)))
+          (λ calls later p q. record { before = calls; last = later; order = refl; reads = p; goes_on = q }) left.then_so;
     }
     by_result (Err (stops.Unwritten n)) left = record {
       ending = Unwritten n.now;
@@ -170,12 +242,25 @@ ends_with_work command yields desk mid desk_now out out_now result comes same co
         text = left.text;
         writes = left.writes;
         failed = fails_over left.outputs left.text desk mid desk_now out out_now n.now same counted left.failed;
+        then_so = tt;
       };
       names = kept;
+      order = went_on along both first second third (ReadsAll (inputs_of command)) (IsUnmade left.outputs mid desk_now n.now)
+          (InOrder (Some command) desk desk_now (Unwritten n.now)) read left.then_so (λ calls later p q.
+          (left.outputs, record { before = calls; last = later; order = refl; reads = p; goes_on = unmade_over left.outputs desk mid desk_now n.now later same q }));
     }
-    by_result (Err stops.NoMemory) left = record { ending = NoMemory; status = refl; told = refl; stands = (λ none. cc, nothing left); names = kept }
+    by_result (Err stops.NoMemory) left = record {
+      ending = NoMemory;
+      status = refl;
+      told = refl;
+      stands = (λ none. cc, nothing left.0);
+      names = kept;
+      order = went_on along both first second third (ReadsAll (inputs_of command)) IsNoCall (InOrder (Some command) desk desk_now NoMemory) read left.1
+          (λ calls later p q. inr (read_only (inputs_of command) calls later p q));
+    }
 
 -- words that say no command
-pub bad_line : (said : Option Command) (desk : DeskView) (out : SinkView) → said ≡ None → Ends said desk desk out out (stop_status stops.BadLine) (stop_line stops.BadLine)
-bad_line said desk out is =
-    record { ending = With BadLine; status = refl; told = refl; stands = (is, (refl, refl)); names = λ name not. refl }
+pub bad_line : (said : Option Command) (desk : DeskView) (out : SinkView) (Way : List Call → Type 0) → said ≡ None → Went Way IsNoCall
+    → Ends said desk desk out out Way (stop_status stops.BadLine) (stop_line stops.BadLine)
+bad_line said desk out Way is none =
+    record { ending = With BadLine; status = refl; told = refl; stands = (is, (refl, refl)); names = λ name not. refl; order = none }

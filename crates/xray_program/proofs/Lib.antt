@@ -9,6 +9,7 @@ pub mod ItemLemmas
 pub mod Judging
 pub mod Meanings
 pub mod NumberLemmas
+pub mod Ordering
 pub mod Outputting
 pub mod PlainLaws
 pub mod PlainThreads

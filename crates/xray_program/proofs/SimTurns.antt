@@ -8,9 +8,11 @@ use Rattle.step_sim.specs.declared.sim_fault.SimFault.{SimFault}
 use Rattle.step_sim.specs.declared.sim_fault.SimFault.TheVariants as replaying
 use Rattle.step_sim.specs.declared.turns.Turns.{Turns}
 use Rattle.xray_image.specs.Program.{Program}
+use Rattle.xray_io.specs.Calls.{Call, Went}
 use Rattle.xray_io.specs.Desk.{Entry}
 use Rattle.xray_io.specs.World.{DeskView, SinkView}
 use Rattle.xray_program.specs.Inputs.{image_form, script_form, schedule_form}
+use Rattle.xray_program.specs.Order.{IsNoCall}
 use Rattle.xray_program.specs.Outcomes.{Outcome, Refused, Done}
 use Rattle.xray_program.specs.Sim.{Replays, SimComes}
 use Rattle.xray_program.specs.Takes.{Gives, IsFaultStop}
@@ -55,26 +57,26 @@ given_before form held mid name value same = subst (λ (h : List ℕ → Entry).
 
 -- a script that waits is refused, and for want of memory nothing is written
 pub sim_refuses : (s : List ℕ) (setup : Setup) (program : Program) (plan : Plan) (turns : List Turns) (desk : DeskView) (out : SinkView)
-    (fault : SimFault) (stop : Stop) → ((line : ℕ) → fault ≡ replaying.Waits line → waiting_line plan.lines ≡ Some line)
-    → IsFaultStop s (codes "script") (sim_words fault) stop → Finishes (Replays s setup program plan turns) desk desk out out (Err stop)
-sim_refuses s setup program plan turns desk out fault stops.BadLine waits is = is
-sim_refuses s setup program plan turns desk out fault (stops.Unread n) waits is = is
-sim_refuses s setup program plan turns desk out fault (stops.TooLong n) waits is = is
-sim_refuses s setup program plan turns desk out (replaying.Waits line) (stops.Refused n kind words) waits (same, of_kind, is) =
-    (rw (waits line refl) refused, (refl, refl))
+    (Way : List Call → Type 0) → Went Way IsNoCall → (fault : SimFault) (stop : Stop) → ((line : ℕ) → fault ≡ replaying.Waits line → waiting_line plan.lines ≡ Some line)
+    → IsFaultStop s (codes "script") (sim_words fault) stop → Finishes (Replays s setup program plan turns) desk desk out out Way (Err stop)
+sim_refuses s setup program plan turns desk out Way none fault stops.BadLine waits is = is
+sim_refuses s setup program plan turns desk out Way none fault (stops.Unread n) waits is = is
+sim_refuses s setup program plan turns desk out Way none fault (stops.TooLong n) waits is = is
+sim_refuses s setup program plan turns desk out Way none (replaying.Waits line) (stops.Refused n kind words) waits (same, of_kind, is) =
+    (rw (waits line refl) refused, (refl, refl), none)
   where
     worded : (a b : List ℕ) → Some a ≡ Some b → b ≡ a
     worded a b e = cc
 
     refused : Refused n.now kind.now (words_text words) ≡ Refused s (codes "script") (waits_words line)
     refused = rw (same, of_kind, worded (waits_words line) (words_text words) is) refl
-sim_refuses s setup program plan turns desk out replaying.NoMemory (stops.Refused n kind words) waits (same, of_kind, is) = absurd (never is)
+sim_refuses s setup program plan turns desk out Way none replaying.NoMemory (stops.Refused n kind words) waits (same, of_kind, is) = absurd (never is)
   where
     never : None ≡ Some (words_text words) → ⊥
     never e = cc
-sim_refuses s setup program plan turns desk out fault (stops.Fell words) waits is = absurd is
-sim_refuses s setup program plan turns desk out fault (stops.Unwritten n) waits is = absurd is
-sim_refuses s setup program plan turns desk out fault stops.NoMemory waits is = (refl, refl)
+sim_refuses s setup program plan turns desk out Way none fault (stops.Fell words) waits is = absurd is
+sim_refuses s setup program plan turns desk out Way none fault (stops.Unwritten n) waits is = absurd is
+sim_refuses s setup program plan turns desk out Way none fault stops.NoMemory waits is = ((refl, refl), none)
 
 -- where nobody waits, what is left comes
 pub sim_leaves : (s : List ℕ) (line : Option ℕ) (next : Outcome → Type 0) (outcome : Outcome)

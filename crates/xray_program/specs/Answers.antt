@@ -1,10 +1,12 @@
 -- The contract of the top call: what was said, the world before the call and after it, and the status.
 use Rattle.std.specs.Prelude.{◌≡◌, ◌⊎◌, ◌↔◌, ℕ, List, Contains, Option, Some, None}
+use Rattle.xray_io.specs.Calls.{Call, Went}
 use Rattle.xray_io.specs.Desk.{Entry, Absent, Holds}
 use Rattle.xray_io.specs.Faults.{Rose}
 use Rattle.xray_io.specs.Sink.{Adds, AddsPrefix}
 use Rattle.machine_step.specs.declared.setup.Setup.{Setup}
 use Rattle.xray_program.specs.Commands.{Means, HadItsTurn, outputs_named}
+use Rattle.xray_program.specs.Order.{InOrder}
 use Rattle.xray_program.specs.Outcomes.{Outcome, Unread, Ending, With, Unwritten, NoMemory, status_of, status_at, line_at, written_by}
 use Rattle.xray_program.specs.Outputs.{AreWhole, FailsWriting, WritesNothing}
 use Rattle.xray_program.specs.Sim.{FollowsSchedule}
@@ -74,7 +76,7 @@ IsSimulated said before after =
     → IsTraced (FollowsSchedule schedule setup) image script setup before after
 
 -- The whole contract of a call. Its status and its line on err are those of one ending.
-pub record Answered (said : Option Command) (before after : World) (answer : ℕ) : Type 0 where
+pub record Answered (said : Option Command) (before after : World) (Way : List Call → Type 0) (answer : ℕ) : Type 0 where
   pub ending : Ending
   pub status : status_at ending ≡ answer
   pub told : Says before.err after.err (line_at ending)
@@ -91,6 +93,8 @@ pub record Answered (said : Option Command) (before after : World) (answer : ℕ
   -- what stays the same: the desk and out where nothing is written, and always each name that is no output of the command
   pub untouched : IsUnwriting answer → WritesNothing before.desk after.desk before.out after.out
   pub names : (name : List ℕ) → (Contains (outputs_named said) name → ⊥) → after.desk.held name ≡ before.desk.held name
+  -- the calls of the desk are in their order, up to the one that the ending names
+  pub order : Went Way (InOrder said before.desk after.desk ending)
   -- what is meant comes, unless memory runs out or a fault is counted
   pub complete : IsAnswer said before after answer
   -- the headline

@@ -12,6 +12,7 @@ pub mod Sim
 pub mod Commands
 pub mod Answers
 pub mod CommandLine
+pub mod Order
 pub mod Stops
 pub mod Takes
 pub mod Works

@@ -1,10 +1,13 @@
 -- How the turns of inputs end: with values, or with a stop.
-use Rattle.std.specs.Prelude.{◌≡◌, ◌⊎◌, ◌<◌, ◌≤◌, ℕ, List, length, Option, Some, None, Result, Ok, Err, ⊤}
+use Rattle.std.specs.Prelude.{◌≡◌, ◌⊎◌, ◌<◌, ◌≤◌, ◌+◌, ℕ, List, [], length, Option, Some, None, Result, Ok, Err, ⊤}
+use Rattle.xray_io.specs.Calls.{Call}
 use Rattle.xray_io.specs.Desk.{Entry, Absent}
+use Rattle.xray_io.specs.Reads.{Reads, ReadsSome, ReadsUpToFault}
 use Rattle.xray_io.specs.Faults.{Rose}
 use Rattle.xray_io.specs.declared.faults.ReadError.{ReadError}
 use Rattle.xray_io.specs.declared.faults.ReadError.TheVariants as errors
 use Rattle.fault_words.specs.Words.{words_text}
+use Rattle.xray_program.specs.Order.{ReadsAll, ReadsWhole, StopsAt}
 use Rattle.xray_program.specs.Outcomes.{Outcome, Unread, TooLong, Refused}
 use Rattle.xray_program.specs.Taking.{Form, MayHold, DeskReads, Sound, Faulty}
 use Rattle.xray_io.specs.World.{DeskView}
@@ -80,3 +83,40 @@ abbrev pub IsFaultStop : (name kind : List ℕ) → Option (List ℕ) → Stop �
 IsFaultStop name kind told (stops.Refused n k words) = (n.now ≡ name) × (k.now ≡ kind) × (told ≡ Some (words_text words))
 IsFaultStop name kind told stops.NoMemory = told ≡ None
 IsFaultStop name kind told stop = ⊥
+
+-- ---- the calls of the desk
+
+-- the calls of an input's turn that ended with a stop
+abbrev pub StopsTaking : List ℕ → (limit : ℕ) → Stop → List Call → Type 0
+StopsTaking name limit (stops.Unread n) calls = ReadsUpToFault name (limit + 1) calls
+StopsTaking name limit (stops.TooLong n) calls = Reads name (limit + 1) 0 (limit + 1) calls
+StopsTaking name limit (stops.Refused n kind words) calls = ReadsWhole name limit calls
+StopsTaking name limit stops.NoMemory calls = ReadsSome name (limit + 1) calls ⊎ ReadsWhole name limit calls
+StopsTaking name limit stop calls = ⊥
+
+-- the calls of an input's turn
+abbrev pub IsTaking : {X : Type 0} → List ℕ → (limit : ℕ) → Result X Stop → List Call → Type 0
+IsTaking name limit (Ok value) calls = ReadsWhole name limit calls
+IsTaking name limit (Err stop) calls = StopsTaking name limit stop calls
+
+-- the calls of the turn of an input that the words may leave out: none, where they do
+abbrev pub IsMaybeTaking : {X : Type 0} → Option (List ℕ) → (limit : ℕ) → Result X Stop → List Call → Type 0
+IsMaybeTaking None limit result calls = calls ≡ []
+IsMaybeTaking (Some name) limit result calls = IsTaking name limit result calls
+
+-- a stop names this input, unless memory ran out
+abbrev pub IsNamed : List ℕ → Stop → Type 0
+IsNamed name (stops.Unread n) = n.now ≡ name
+IsNamed name (stops.TooLong n) = n.now ≡ name
+IsNamed name (stops.Refused n kind words) = n.now ≡ name
+IsNamed name stop = ⊤
+
+-- the calls of the turns of inputs of which one was a stop: no other was asked for after it
+abbrev pub StopsTakings : List (List ℕ × ℕ) → Stop → List Call → Type 0
+StopsTakings inputs stop calls =
+    (name : List ℕ) × IsNamed name stop × StopsAt inputs name (λ limit. StopsTaking name limit stop) calls
+
+-- the calls of the turns of inputs
+abbrev pub AreTakings : {X : Type 0} → List (List ℕ × ℕ) → Result X Stop → List Call → Type 0
+AreTakings inputs (Ok value) calls = ReadsAll inputs calls
+AreTakings inputs (Err stop) calls = StopsTakings inputs stop calls

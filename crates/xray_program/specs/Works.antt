@@ -1,10 +1,12 @@
 -- How the work of a command ends, once its inputs were taken; and how all of a call ends, before err is told.
 use Rattle.std.specs.Prelude.{◌≡◌, ◌≢◌, ◌⊎◌, ℕ, List, Contains, Option, Some, None, Result, Ok, Err, map}
+use Rattle.xray_io.specs.Calls.{Call, Went}
 use Rattle.xray_io.specs.Desk.{Absent}
 use Rattle.xray_io.specs.Faults.{Rose}
 use Rattle.fault_words.specs.Words.{words_text}
 use Rattle.xray_io.specs.Sink.{Adds}
 use Rattle.xray_program.specs.Commands.{Means, HadItsTurn, outputs_named}
+use Rattle.xray_program.specs.Order.{FailsAtOutput, InOrder, IsNoCall, IsUnmade, MakesAll}
 use Rattle.xray_program.specs.Outcomes.{Outcome, BadLine, Unread, TooLong, Refused, Done, Fell, Ending, With, Unwritten, NoMemory, status_at, line_at, written_by}
 use Rattle.xray_program.specs.Outputs.{AreWhole, FailsAt, FailsWriting, WritesNothing}
 use Rattle.xray_program.specs.Words.{Command}
@@ -27,6 +29,12 @@ abbrev pub StopsOutputs : List (List ℕ × List ℕ) → (desk desk_now : DeskV
 StopsOutputs outputs desk desk_now (stops.Unwritten n) = FailsAt outputs desk desk_now n.now
 StopsOutputs outputs desk desk_now stop = ⊥
 
+-- the calls that made the outputs, or those up to the one that failed
+abbrev pub AreMakings : List (List ℕ × List ℕ) → (desk desk_now : DeskView) → Result (Unit {0}) Stop → List Call → Type 0
+AreMakings outputs desk desk_now (Ok done) calls = MakesAll outputs calls
+AreMakings outputs desk desk_now (Err (stops.Unwritten n)) calls = FailsAtOutput outputs desk desk_now n.now calls
+AreMakings outputs desk desk_now (Err stop) calls = ⊥
+
 -- outputs are whole, and out has exactly a text
 pub record Writes (outputs : List (List ℕ × List ℕ)) (text : List ℕ) (desk desk_now : DeskView) (out out_now : SinkView) : Type 0 where
   pub whole : AreWhole outputs desk.held desk_now.held
@@ -34,44 +42,51 @@ pub record Writes (outputs : List (List ℕ × List ℕ)) (text : List ℕ) (des
 
 -- outputs and a text were written, and all is well unless there is a trouble; or one of them failed
 abbrev pub Delivers : List (List ℕ × List ℕ) → (text : List ℕ) → (trouble : Option (List ℕ)) → (desk desk_now : DeskView)
-    → (out out_now : SinkView) → Result (Unit {0}) Stop → Type 0
-Delivers outputs text trouble desk desk_now out out_now (Ok done) =
-    (trouble ≡ None) × Writes outputs text desk desk_now out out_now
-Delivers outputs text trouble desk desk_now out out_now (Err (stops.Fell words)) =
-    (trouble ≡ Some (words_text words)) × Writes outputs text desk desk_now out out_now
-Delivers outputs text trouble desk desk_now out out_now (Err (stops.Unwritten n)) =
-    FailsWriting outputs text desk desk_now out out_now n.now
-Delivers outputs text trouble desk desk_now out out_now (Err stop) = ⊥
+    → (out out_now : SinkView) → (Way : List Call → Type 0) → Result (Unit {0}) Stop → Type 0
+Delivers outputs text trouble desk desk_now out out_now Way (Ok done) =
+    (trouble ≡ None) × Writes outputs text desk desk_now out out_now × Went Way (MakesAll outputs)
+Delivers outputs text trouble desk desk_now out out_now Way (Err (stops.Fell words)) =
+    (trouble ≡ Some (words_text words)) × Writes outputs text desk desk_now out out_now × Went Way (MakesAll outputs)
+Delivers outputs text trouble desk desk_now out out_now Way (Err (stops.Unwritten n)) =
+    FailsWriting outputs text desk desk_now out out_now n.now × Went Way (IsUnmade outputs desk desk_now n.now)
+Delivers outputs text trouble desk desk_now out out_now Way (Err stop) = ⊥
 
 -- ---- the work of a command
 
 -- an outcome of which this holds was written
-pub record IsLeft (Comes : Outcome → Type 0) (desk desk_now : DeskView) (out out_now : SinkView) (of : List (List ℕ × List ℕ) → List ℕ → Outcome) : Type 0 where
+pub record IsLeft (Comes : Outcome → Type 0) (desk desk_now : DeskView) (out out_now : SinkView) (of : List (List ℕ × List ℕ) → List ℕ → Outcome)
+    (Then : List (List ℕ × List ℕ) → Type 0) : Type 0 where
   pub outputs : List (List ℕ × List ℕ)
   pub text : List ℕ
   pub comes : Comes (of outputs text)
   pub writes : Writes outputs text desk desk_now out out_now
+  pub then_so : Then outputs
 
 -- one couldn't be written, at the output of this name or at out
-pub record FailsToLeave (Comes : Outcome → Type 0) (desk desk_now : DeskView) (out out_now : SinkView) (name : List ℕ) : Type 0 where
+pub record FailsToLeave (Comes : Outcome → Type 0) (desk desk_now : DeskView) (out out_now : SinkView) (name : List ℕ)
+    (Then : List (List ℕ × List ℕ) → Type 0) : Type 0 where
   pub outcome : Outcome
   pub comes : Comes outcome
   pub outputs : List (List ℕ × List ℕ)
   pub text : List ℕ
   pub writes : written_by outcome ≡ Some (outputs, text)
   pub failed : FailsWriting outputs text desk desk_now out out_now name
+  pub then_so : Then outputs
 
 -- The work is done over inputs of which this comes: it was written; or it couldn't be; or it is that the inputs are refused, or memory ran
 -- out, and nothing was written.
-abbrev pub Finishes : (comes : Outcome → Type 0) → (desk desk_now : DeskView) → (out out_now : SinkView) → Result (Unit {0}) Stop → Type 0
-Finishes comes desk desk_now out out_now (Ok done) = IsLeft comes desk desk_now out out_now Done
-Finishes comes desk desk_now out out_now (Err (stops.Fell words)) =
-    IsLeft comes desk desk_now out out_now (λ outputs text. Fell outputs text (words_text words))
-Finishes comes desk desk_now out out_now (Err (stops.Unwritten n)) = FailsToLeave comes desk desk_now out out_now n.now
-Finishes comes desk desk_now out out_now (Err (stops.Refused n kind words)) =
-    comes (Refused n.now kind.now (words_text words)) × WritesNothing desk desk_now out out_now
-Finishes comes desk desk_now out out_now (Err stops.NoMemory) = WritesNothing desk desk_now out out_now
-Finishes comes desk desk_now out out_now (Err stop) = ⊥
+abbrev pub Finishes : (comes : Outcome → Type 0) → (desk desk_now : DeskView) → (out out_now : SinkView) → (Way : List Call → Type 0)
+    → Result (Unit {0}) Stop → Type 0
+Finishes comes desk desk_now out out_now Way (Ok done) =
+    IsLeft comes desk desk_now out out_now Done (λ outputs. Went Way (MakesAll outputs))
+Finishes comes desk desk_now out out_now Way (Err (stops.Fell words)) =
+    IsLeft comes desk desk_now out out_now (λ outputs text. Fell outputs text (words_text words)) (λ outputs. Went Way (MakesAll outputs))
+Finishes comes desk desk_now out out_now Way (Err (stops.Unwritten n)) =
+    FailsToLeave comes desk desk_now out out_now n.now (λ outputs. Went Way (IsUnmade outputs desk desk_now n.now))
+Finishes comes desk desk_now out out_now Way (Err (stops.Refused n kind words)) =
+    comes (Refused n.now kind.now (words_text words)) × WritesNothing desk desk_now out out_now × Went Way IsNoCall
+Finishes comes desk desk_now out out_now Way (Err stops.NoMemory) = WritesNothing desk desk_now out out_now × Went Way IsNoCall
+Finishes comes desk desk_now out out_now Way (Err stop) = ⊥
 
 -- ---- all of a call
 
@@ -93,13 +108,15 @@ abbrev pub StandsBehind : Option Command → (desk desk_now : DeskView) → (out
 StandsBehind said desk desk_now out out_now (With outcome) =
     IsCaused said desk desk_now outcome × IsWritten (written_by outcome) desk desk_now out out_now
 StandsBehind said desk desk_now out out_now (Unwritten name) =
-    FailsToLeave (Means said desk.held) desk desk_now out out_now name
+    FailsToLeave (Means said desk.held) desk desk_now out out_now name (λ _. Unit {0})
 StandsBehind said desk desk_now out out_now NoMemory = (said ≢ None) × WritesNothing desk desk_now out out_now
 
 -- how a call ends, before err is told: with this status and this line
-pub record Ends (said : Option Command) (desk desk_now : DeskView) (out out_now : SinkView) (answer : ℕ) (line : List ℕ) : Type 0 where
+pub record Ends (said : Option Command) (desk desk_now : DeskView) (out out_now : SinkView) (Way : List Call → Type 0) (answer : ℕ)
+    (line : List ℕ) : Type 0 where
   pub ending : Ending
   pub status : status_at ending ≡ answer
   pub told : line_at ending ≡ line
   pub stands : StandsBehind said desk desk_now out out_now ending
   pub names : KeepsOthers (outputs_named said) desk desk_now
+  pub order : Went Way (InOrder said desk desk_now ending)

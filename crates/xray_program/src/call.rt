@@ -42,7 +42,8 @@ pub fn xray_still<D: Desk, O: Sink, E: Sink>(
         let heard = sink_view E.written E.faults in
         Answered (reading wall (texts words.now))
         (record { desk = seen desk.old; out = got out.old; err = heard err.old })
-        (record { desk = seen desk.new; out = got out.new; err = heard err.new }) result }
+        (record { desk = seen desk.new; out = got out.new; err = heard err.new })
+        (D.along desk.old desk.new) result }
 {
     // Says that no thread of a replay decodes a torn sled.
     no_replay_tears_a_sled();
@@ -74,7 +75,8 @@ pub fn xray<T: Threads + Wait + Sync, D: Desk, O: Sink, E: Sink, G: Gate + Sync>
         let heard = sink_view E.written E.faults in
         Answered (reading wall (texts words.now))
         (record { desk = seen desk.old; out = got out.old; err = heard err.old })
-        (record { desk = seen desk.new; out = got out.new; err = heard err.new }) result }
+        (record { desk = seen desk.new; out = got out.new; err = heard err.new })
+        (D.along desk.old desk.new) result }
 {
     xray_still(alloc, words, wall, desk, out, err)
 }
@@ -90,7 +92,7 @@ fn perform_words<'a, D: Desk, O: Sink>(
     ensures { let seen = desk_view D.held D.read_faults D.write_faults in
         let got = sink_view O.written O.faults in
         Ends (reading wall (texts words.now)) (seen desk.old) (seen desk.new) (got out.old) (got out.new)
-        (answer_of result) (told_of result) }
+        (D.along desk.old desk.new) (answer_of result) (told_of result) }
 {
     match read_words(words, wall) {
         Some(command) => perform_command(alloc, command, desk, out),
@@ -109,7 +111,7 @@ fn perform_command<'a, D: Desk, O: Sink>(
     ensures { let seen = desk_view D.held D.read_faults D.write_faults in
         let got = sink_view O.written O.faults in
         Ends (Some (command_of command.entry)) (seen desk.old) (seen desk.new) (got out.old) (got out.new)
-        (answer_of result) (told_of result) }
+        (D.along desk.old desk.new) (answer_of result) (told_of result) }
 {
     match command {
         Command::Sim {

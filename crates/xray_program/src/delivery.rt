@@ -1,9 +1,10 @@
 //! The end of a command's work: its outputs are written, and then its text.
 ghost use Rattle.std.specs.Prelude.{◌≡◌, ℕ, List, [], ◌∷◌, Contains, Option, option_map, IfErr, OnOk};
 ghost use Rattle.fault_words.specs.Words.{words_text};
+ghost use Rattle.xray_io.specs.Calls.{Went};
 ghost use Rattle.xray_io.specs.World.{desk_view, sink_view};
 ghost use Rattle.xray_program.specs.Outputs.{AreWhole};
-ghost use Rattle.xray_program.specs.Works.{Delivers, KeepsOthers, StopsOutputs, names_of};
+ghost use Rattle.xray_program.specs.Works.{AreMakings, Delivers, KeepsOthers, StopsOutputs, names_of};
 
 use crate::stop::Stop;
 use crate::text::Printed;
@@ -23,6 +24,8 @@ pub(crate) trait Outputs<'a> {
         ensures whole { OnOk result (AreWhole (all self.now) (D.held desk.old) (D.held desk.new)) }
         ensures stops { let seen = desk_view D.held D.read_faults D.write_faults in
             IfErr result (StopsOutputs (all self.now) (seen desk.old) (seen desk.new)) }
+        ensures made { let seen = desk_view D.held D.read_faults D.write_faults in
+            Went (D.along desk.old desk.new) (AreMakings (all self.now) (seen desk.old) (seen desk.new) result) }
         ensures others { let seen = desk_view D.held D.read_faults D.write_faults in
             KeepsOthers (names_of (all self.now)) (seen desk.old) (seen desk.new) };
 }
@@ -77,7 +80,8 @@ pub(crate) fn deliver<'a, W: Outputs<'a>, P: Printed, D: Desk, O: Sink>(
     ensures delivers { let seen = desk_view D.held D.read_faults D.write_faults in
         let got = sink_view O.written O.faults in
         Delivers (W.all outputs.now) (P.text text.now) (option_map words_text trouble.entry)
-        (seen desk.old) (seen desk.new) (got out.old) (got out.new) result }
+        (seen desk.old) (seen desk.new) (got out.old) (got out.new)
+        (D.along desk.old desk.new) result }
     ensures others { let seen = desk_view D.held D.read_faults D.write_faults in
         KeepsOthers (names_of (W.all outputs.now)) (seen desk.old) (seen desk.new) }
 {

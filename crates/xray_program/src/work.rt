@@ -1,10 +1,12 @@
 //! A command: what it takes, and what it does with that.
 ghost use Rattle.std.specs.Prelude.{◌≡◌, ◌≤◌, ℕ, List, Some, IfOk};
+ghost use Rattle.xray_io.specs.Calls.{Went};
 ghost use Rattle.xray_io.specs.World.{desk_view, sink_view};
 ghost use Rattle.xray_program.specs.Commands.{Comes, outputs_of};
+ghost use Rattle.xray_program.specs.Order.{inputs_of};
 ghost use Rattle.xray_program.specs.Outcomes.{Outcome};
 ghost use Rattle.xray_program.specs.Stops.{answer_of, told_of};
-ghost use Rattle.xray_program.specs.Takes.{AreTaken};
+ghost use Rattle.xray_program.specs.Takes.{AreTaken, AreTakings};
 ghost use Rattle.xray_program.specs.Words.{Command};
 ghost use Rattle.xray_program.specs.Works.{Ends, Finishes, KeepsOthers};
 
@@ -37,7 +39,8 @@ pub(crate) trait Work<'a> {
         ensures fits { IfOk result (fits self.now) }
         ensures held { D.held desk.new ≡ D.held desk.old }
         ensures later { D.read_faults desk.old ≤ D.read_faults desk.new }
-        ensures writes { D.write_faults desk.new ≡ D.write_faults desk.old };
+        ensures writes { D.write_faults desk.new ≡ D.write_faults desk.old }
+        ensures calls { Went (D.along desk.old desk.new) (AreTakings (inputs_of (says self.now)) result) };
 
     /// Does the work over the inputs, and writes what comes of them.
     fn finish<D: Desk, O: Sink>(
@@ -50,7 +53,8 @@ pub(crate) trait Work<'a> {
         requires { fits self.now inputs.now }
         ensures finishes { let seen = desk_view D.held D.read_faults D.write_faults in
             let got = sink_view O.written O.faults in
-            Finishes (yields self.now inputs.now) (seen desk.old) (seen desk.new) (got out.old) (got out.new) result }
+            Finishes (yields self.now inputs.now) (seen desk.old) (seen desk.new) (got out.old) (got out.new)
+            (D.along desk.old desk.new) result }
         ensures others { let seen = desk_view D.held D.read_faults D.write_faults in
             KeepsOthers (outputs_of (says self.now)) (seen desk.old) (seen desk.new) };
 }
@@ -65,7 +69,7 @@ pub(crate) fn perform<'a, W: Work<'a>, D: Desk, O: Sink>(
     ensures { let seen = desk_view D.held D.read_faults D.write_faults in
         let got = sink_view O.written O.faults in
         Ends (Some (W.says work.now)) (seen desk.old) (seen desk.new) (got out.old) (got out.new)
-        (answer_of result) (told_of result) }
+        (D.along desk.old desk.new) (answer_of result) (told_of result) }
 {
     let inputs = work.take(alloc, desk)?;
     work.finish(alloc, &inputs, desk, out)

@@ -1,4 +1,4 @@
-use Rattle.std.proofs.Common.{sym}
+use Rattle.std.proofs.Common.{[], refl, sym}
 use Rattle.xray_io.specs.World.{desk_view, sink_view}
 use Rattle.xray_program.specs.Words.{reading, texts}
 use Rattle.xray_program.proofs.Endings.{bad_line}
@@ -8,4 +8,6 @@ pub returns-in-None : goal.returns-in-None
 returns-in-None g c =
     let seen = desk_view g.D.Desk.held g.D.Desk.read_faults g.D.Desk.write_faults in
     let got = sink_view g.O.Sink.written g.O.Sink.faults in
-    bad_line (reading c.args.wall (texts c.args.words.now)) (seen c.args.desk.now) (got c.args.out.now) (sym c.in-None.ensures.reads)
+    bad_line (reading c.args.wall (texts c.args.words.now)) (seen c.args.desk.now) (got c.args.out.now)
+    (g.D.Desk.along c.args.desk.now c.args.desk.now) (sym c.in-None.ensures.reads)
+    (record { calls = []; way = g.met.D.Desk.along_none c.args.desk.now; are = refl })

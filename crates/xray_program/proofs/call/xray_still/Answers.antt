@@ -14,7 +14,7 @@ returns-in-Ok g c =
     let heard = sink_view g.E.Sink.written g.E.Sink.faults in
     let before : World = record { desk = seen c.args.desk.now; out = got c.args.out.now; err = heard c.args.err.now } in
     let after : World = record { desk = seen c.perform_words.new.desk; out = got c.perform_words.new.out; err = heard c.args.err.now } in
-    answered c.no_replay_tears_a_sled.ensures.read (reading c.args.wall (texts c.args.words.now)) before after 0 [] c.in-Ok.ensures
+    answered c.no_replay_tears_a_sled.ensures.read (g.D.Desk.along c.args.desk.now c.perform_words.new.desk) (reading c.args.wall (texts c.args.words.now)) before after 0 [] c.in-Ok.ensures
     (nothing_said (heard c.args.err.now))
 
 pub returns-in-Err : goal.returns-in-Err
@@ -25,5 +25,6 @@ returns-in-Err g c =
     let said = reading c.args.wall (texts c.args.words.now) in
     let before : World = record { desk = seen c.args.desk.now; out = got c.args.out.now; err = heard c.args.err.now } in
     let after : World = record { desk = seen c.perform_words.new.desk; out = got c.perform_words.new.out; err = heard c.report.new.err } in
-    subst (λ (n : ℕ). Answered said before after n) (sym c.status.ensures)
-    (answered c.no_replay_tears_a_sled.ensures.read said before after (stop_status c.in-Err.stop) (stop_line c.in-Err.stop) c.in-Err.ensures c.report.ensures)
+    let way = g.D.Desk.along c.args.desk.now c.perform_words.new.desk in
+    subst (λ (n : ℕ). Answered said before after way n) (sym c.status.ensures)
+    (answered c.no_replay_tears_a_sled.ensures.read way said before after (stop_status c.in-Err.stop) (stop_line c.in-Err.stop) c.in-Err.ensures c.report.ensures)

@@ -4,7 +4,8 @@ use Rattle.xray_io.specs.World.{desk_view, sink_view}
 use Rattle.xray_program.specs.Ends.{end_text}
 use Rattle.xray_program.specs.Plain.{PlainPrints}
 use Rattle.xray_program.specs.Taking.{Prints}
-use Rattle.xray_program.proofs.Endings.{finishes}
+use Rattle.xray_program.specs.declared.stop.Stop.TheVariants.{NoMemory}
+use Rattle.xray_program.proofs.Endings.{finishes, refuses}
 use Rattle.xray_program.proofs.PlainThreads.{prints_all}
 use Rattle.xray_program.proofs.plain.PlainWork.finish.Goals as goal
 
@@ -17,4 +18,4 @@ returns-clause-finishes g c =
     let text = flat_map end_text c.deref.result.now in
     let prints : PlainPrints program options text = rw c.deref.ensures.value (prints_all program options _ c.in_ok-ends.ensures) in
     finishes (Prints (PlainPrints program options)) [] text None (seen c.args.desk.now) (seen c.deliver.new.desk) (got c.args.out.now) (got c.deliver.new.out)
-    c.deliver.result ([], text, (refl, prints), refl) c.deliver.ensures.delivers
+    (g.D.Desk.along c.args.desk.now c.deliver.new.desk) c.deliver.result ([], text, (refl, prints), refl) c.deliver.ensures.delivers

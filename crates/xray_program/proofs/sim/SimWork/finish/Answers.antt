@@ -30,7 +30,8 @@ returns-in-Ok-clause-finishes g c =
     let traces : Traces (Replayed inputs.image inputs.script inputs.schedule setup) inputs.image setup [] text =
     rw c.deref.ensures.value (replay_printed inputs.image inputs.script inputs.schedule setup _ _ _ _ _ is) in
     finishes (Replays c.args.self.now.script.now setup inputs.image inputs.script inputs.schedule) [] text None (seen c.args.desk.now)
-    (seen c.deliver.new.desk) (got c.args.out.now) (got c.deliver.new.out) c.deliver.result
+    (seen c.deliver.new.desk) (got c.args.out.now) (got c.deliver.new.out)
+    (g.D.Desk.along c.args.desk.now c.deliver.new.desk) c.deliver.result
     (sim_leaves c.args.self.now.script.now (waiting_line inputs.script.lines)
     (Leaves (Traces (Replayed inputs.image inputs.script inputs.schedule setup) inputs.image setup)) _
     (λ line waits. let told = (c.simulate.ensures.waits line).1 waits in cc) ([], text, traces, refl))
@@ -42,4 +43,5 @@ returns-in-Err-clause-finishes g c =
     let got = sink_view g.O.Sink.written g.O.Sink.faults in
     let inputs = c.args.inputs.now in
     sim_refuses c.args.self.now.script.now c.args.self.now.setup inputs.image inputs.script inputs.schedule (seen c.args.desk.now) (got c.args.out.now)
+    (g.D.Desk.along c.args.desk.now c.args.desk.now) (record { calls = []; way = g.met.D.Desk.along_none c.args.desk.now; are = refl })
     c.in-Err.fault c.fault_stop.result (λ line is. (c.simulate.ensures.waits line).0 (cc)) c.fault_stop.ensures

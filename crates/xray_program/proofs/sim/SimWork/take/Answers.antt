@@ -1,10 +1,11 @@
-use Rattle.std.proofs.Common.{refl, le_refl, ◌∙◌, arith}
+use Rattle.std.proofs.Common.{[], ◌∷◌, refl, le_refl, ◌∙◌, arith}
 use Rattle.xray_io.specs.World.{desk_view}
 use Rattle.xray_program.specs.Inputs.{image_form, script_form, schedule_form}
 use Rattle.xray_program.specs.Sim.{Replays}
 use Rattle.xray_program.specs.Taking.{Sound}
 use Rattle.xray_program.specs.declared.sim_inputs.SimInputs.{SimInputs}
 use Rattle.xray_program.proofs.SimTurns.{AfterImage, AfterScript, AfterSchedule, Comes, given_before, to_schedule, to_script}
+use Rattle.xray_program.proofs.Ordering.{no_reads, read_on, stop_handed}
 use Rattle.xray_program.proofs.Turns.{handed_on, leads, leads_on, stops_at}
 use Rattle.xray_program.proofs.sim.SimWork.take.Goals as goal
 
@@ -58,3 +59,47 @@ returns-clause-taken g c = λ outcome yields.
     let read = given_before (schedule_form s.setup.threads) held (g.D.Desk.held c.take-2.new.desk) s.schedule.now turns (c.take-2.ensures.held ∙ c.take.ensures.held) c.in_ok-schedule.ensures.taken in
     leads_on (schedule_form s.setup.threads) comes held s.schedule.now (AfterSchedule s.script.now s.setup program plan) turns
     (to_schedule held s.image.now s.script.now s.schedule.now s.setup program plan c.in_ok-image.ensures.taken given) read Sound outcome yields
+
+pub returns-in_err-image-clause-calls : goal.returns-in_err-image-clause-calls
+returns-in_err-image-clause-calls g c =
+    let seen = desk_view g.D.Desk.held g.D.Desk.read_faults g.D.Desk.write_faults in
+    let s = c.args.self.now in
+    stop_handed g.D.Desk.along g.met.D.Desk.along_both c.args.desk.now c.args.desk.now c.take.new.desk image_form (seen c.args.desk.now) (seen c.take.new.desk)
+    _ [] ((s.script.now, 1048576) ∷ (s.schedule.now, 16777216) ∷ []) s.image.now c.from_residual.result _ c.from_residual.ensures.1 refl
+    c.in_err-image.ensures.taken (no_reads g.D.Desk.along g.met.D.Desk.along_none c.args.desk.now) c.in_err-image.ensures.calls
+
+pub returns-in_err-script-clause-calls : goal.returns-in_err-script-clause-calls
+returns-in_err-script-clause-calls g c =
+    let seen = desk_view g.D.Desk.held g.D.Desk.read_faults g.D.Desk.write_faults in
+    let along = g.D.Desk.along in
+    let both = g.met.D.Desk.along_both in
+    let s = c.args.self.now in
+    let one = read_on along both c.args.desk.now c.args.desk.now c.take.new.desk [] s.image.now 4194304
+    (no_reads along g.met.D.Desk.along_none c.args.desk.now) c.in_ok-image.ensures.calls in
+    stop_handed along both c.args.desk.now c.take.new.desk c.take-2.new.desk (script_form c.in_ok-image.image s.setup.threads) (seen c.take.new.desk)
+    (seen c.take-2.new.desk) _ ((s.image.now, 4194304) ∷ []) ((s.schedule.now, 16777216) ∷ []) s.script.now c.from_residual-in_err-script.result _
+    c.from_residual-in_err-script.ensures.1 refl c.in_err-script.ensures.taken one c.in_err-script.ensures.calls
+
+pub returns-in_err-schedule-clause-calls : goal.returns-in_err-schedule-clause-calls
+returns-in_err-schedule-clause-calls g c =
+    let seen = desk_view g.D.Desk.held g.D.Desk.read_faults g.D.Desk.write_faults in
+    let along = g.D.Desk.along in
+    let both = g.met.D.Desk.along_both in
+    let s = c.args.self.now in
+    let one = read_on along both c.args.desk.now c.args.desk.now c.take.new.desk [] s.image.now 4194304
+    (no_reads along g.met.D.Desk.along_none c.args.desk.now) c.in_ok-image.ensures.calls in
+    let two = read_on along both c.args.desk.now c.take.new.desk c.take-2.new.desk ((s.image.now, 4194304) ∷ []) s.script.now 1048576 one c.in_ok-script.ensures.calls in
+    stop_handed along both c.args.desk.now c.take-2.new.desk c.take-3.new.desk (schedule_form s.setup.threads) (seen c.take-2.new.desk)
+    (seen c.take-3.new.desk) _ ((s.image.now, 4194304) ∷ (s.script.now, 1048576) ∷ []) [] s.schedule.now c.from_residual-in_err-schedule.result _
+    c.from_residual-in_err-schedule.ensures.1 refl c.in_err-schedule.ensures.taken two c.in_err-schedule.ensures.calls
+
+pub returns-clause-calls : goal.returns-clause-calls
+returns-clause-calls g c =
+    let along = g.D.Desk.along in
+    let both = g.met.D.Desk.along_both in
+    let s = c.args.self.now in
+    let one = read_on along both c.args.desk.now c.args.desk.now c.take.new.desk [] s.image.now 4194304
+    (no_reads along g.met.D.Desk.along_none c.args.desk.now) c.in_ok-image.ensures.calls in
+    let two = read_on along both c.args.desk.now c.take.new.desk c.take-2.new.desk ((s.image.now, 4194304) ∷ []) s.script.now 1048576 one c.in_ok-script.ensures.calls in
+    read_on along both c.args.desk.now c.take-2.new.desk c.take-3.new.desk ((s.image.now, 4194304) ∷ (s.script.now, 1048576) ∷ []) s.schedule.now 16777216 two
+    c.in_ok-schedule.ensures.calls

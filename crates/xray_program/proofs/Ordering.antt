@@ -1,0 +1,84 @@
+-- The calls of a desk, in their order.
+use Rattle.std.proofs.Common.{◌≡◌, ◌⊎◌, ◌+◌, ◌++◌, ◌∙◌, ℕ, List, [], ◌∷◌, length, Option, Some, None, Result, Ok, Err, inl, inr, refl, sym, ap, subst, append_assoc}
+use Rattle.std.proofs.lemmas.List.{append-nil}
+use Rattle.std.specs.Prelude.{IsErrAnd}
+use Rattle.std.specs.Prelude.{Vec}
+use Rattle.std.specs.declared.alloc.Global.{Global}
+use Rattle.fault_words.specs.Words.{words_text}
+use Rattle.xray_io.specs.Calls.{Call, Composes, HoldsOfNone, Went, went_on}
+use Rattle.xray_io.specs.Reads.{IsReading, Reads, ReadsSome, ReadsUpToFault}
+use Rattle.xray_io.specs.declared.faults.ReadError.{ReadError}
+use Rattle.xray_io.specs.declared.faults.ReadError.TheVariants as errors
+use Rattle.xray_program.specs.Order.{ReadsAll, ReadsWhole, StopsAt}
+use Rattle.xray_io.specs.World.{DeskView}
+use Rattle.xray_program.specs.Takes.{AreTakings, IsNamed, IsTaken, IsTaking, StopsTaking, StopsTakings}
+use Rattle.xray_program.specs.Taking.{Form}
+use Rattle.xray_program.specs.declared.stop.Stop.{Stop}
+use Rattle.xray_program.specs.declared.stop.Stop.TheVariants as stops
+
+-- of the same calls something else is said
+pub went_as : {C : Type 0} (Way P Q : List C → Type 0) → Went Way P → ((calls : List C) → P calls → Q calls) → Went Way Q
+went_as Way P Q went then = record { calls = went.calls; way = went.way; are = then went.calls went.are }
+
+-- ---- inputs, one after another
+
+-- none yet
+pub no_reads : {S : Type 0} (along : S → S → List Call → Type 0) → HoldsOfNone along → (first : S) → Went (along first first) (ReadsAll [])
+no_reads along none first = record { calls = []; way = none first; are = refl }
+
+-- one more was read whole
+reads_more : (inputs : List (List ℕ × ℕ)) (name : List ℕ) (limit : ℕ) (calls mine : List Call) → ReadsAll inputs calls → ReadsWhole name limit mine
+    → ReadsAll (inputs ++ (name, limit) ∷ []) (calls ++ mine)
+reads_more [] name limit calls mine p one =
+    (mine, [], ap (λ (c : List Call). c ++ mine) p ∙ sym (append-nil mine), one, refl)
+reads_more (input ∷ inputs) name limit calls mine p one =
+    (p.0, p.1 ++ mine, ap (λ (c : List Call). c ++ mine) p.2 ∙ append_assoc p.0 p.1 mine, p.3, reads_more inputs name limit p.1 mine p.4 one)
+
+pub read_on : {S : Type 0} (along : S → S → List Call → Type 0) → Composes along → (first second third : S) (inputs : List (List ℕ × ℕ))
+    (name : List ℕ) (limit : ℕ) → Went (along first second) (ReadsAll inputs) → Went (along second third) (ReadsWhole name limit)
+    → Went (along first third) (ReadsAll (inputs ++ (name, limit) ∷ []))
+read_on along both first second third inputs name limit went then =
+    went_on along both first second third _ _ (ReadsAll (inputs ++ (name, limit) ∷ [])) went then (reads_more inputs name limit)
+
+-- one was a stop
+pub stop_on : {S : Type 0} (along : S → S → List Call → Type 0) → Composes along → (first second third : S)
+    (inputs earlier later : List (List ℕ × ℕ)) (name : List ℕ) (limit : ℕ) (stop : Stop) → inputs ≡ earlier ++ (name, limit) ∷ later → IsNamed name stop
+    → Went (along first second) (ReadsAll earlier) → Went (along second third) (StopsTaking name limit stop)
+    → Went (along first third) (StopsTakings inputs stop)
+stop_on along both first second third inputs earlier later name limit stop turn named went then =
+    went_on along both first second third _ _ (StopsTakings inputs stop) went then (λ calls mine p q.
+    (name, named, record { earlier = earlier; limit = limit; later = later; turn = turn; before = calls; last = mine; order = refl; reads = p; stops = q }))
+
+-- the only input of a command
+named : {X : Type 0} (form : Form X) (name : List ℕ) (before after : DeskView) (stop : Stop) → IsTaken form name before after (Err stop) → IsNamed name stop
+named form name before after stops.BadLine taken = tt
+named form name before after (stops.Unread n) taken = taken.0
+named form name before after (stops.TooLong n) taken = taken.0
+named form name before after (stops.Refused n kind words) taken = taken.0
+named form name before after (stops.Fell words) taken = tt
+named form name before after (stops.Unwritten n) taken = tt
+named form name before after stops.NoMemory taken = tt
+
+pub one_taking : {X : Type 0} (form : Form X) (name : List ℕ) (before after : DeskView) (Way : List Call → Type 0) (result : Result X Stop)
+    → IsTaken form name before after result → Went Way (IsTaking name form.limit result) → Went Way (AreTakings ((name, form.limit) ∷ []) result)
+one_taking form name before after Way (Ok value) taken went =
+    record { calls = went.calls; way = went.way; are = (went.calls, [], sym (append-nil went.calls), went.are, refl) }
+one_taking form name before after Way (Err stop) taken went = record {
+  calls = went.calls;
+  way = went.way;
+  are = (
+    name,
+    named form name before after stop taken,
+    record { earlier = []; limit = form.limit; later = []; turn = refl; before = []; last = went.calls; order = refl; reads = refl; stops = went.are },
+  );
+}
+
+-- the stop that a `?` hands on, of an input after these
+pub stop_handed : {S X Y : Type 0} (along : S → S → List Call → Type 0) → Composes along → (first second third : S) (form : Form X) (before after : DeskView)
+    (inputs earlier later : List (List ℕ × ℕ)) (name : List ℕ) (result : Result Y Stop) (stop : Stop) → IsErrAnd result (λ s. s ≡ stop)
+    → inputs ≡ earlier ++ (name, form.limit) ∷ later → IsTaken form name before after (Err stop) → Went (along first second) (ReadsAll earlier)
+    → Went (along second third) (StopsTaking name form.limit stop) → Went (along first third) (AreTakings inputs result)
+stop_handed along both first second third form before after inputs earlier later name (Ok value) stop is turn taken went then = absurd is
+stop_handed along both first second third form before after inputs earlier later name (Err s) stop is turn taken went then =
+    subst (λ (t : Stop). Went (along first third) (StopsTakings inputs t)) (sym is)
+    (stop_on along both first second third inputs earlier later name form.limit stop turn (named form name before after stop taken) went then)

@@ -1,0 +1,103 @@
+-- In which order a call asks its desk.
+use Rattle.std.specs.Prelude.{◌≡◌, ◌⊎◌, ℕ, ◌+◌, List, [], ◌∷◌, ◌++◌, length, codes, Option, None, Some, Result, Ok, Err}
+use Rattle.std.specs.Option.{option_map_or}
+use Rattle.xray_io.specs.Calls.{Call}
+use Rattle.xray_io.specs.Desk.{Entry}
+use Rattle.xray_io.specs.Outputs.{IsMaking, Makes}
+use Rattle.xray_io.specs.Reads.{Reads, ReadsSome, ReadsUpTo, ReadsUpToFault}
+use Rattle.xray_io.specs.World.{DeskView}
+use Rattle.xray_io.specs.declared.faults.WriteFault.{WriteFault}
+use Rattle.xray_program.specs.Outcomes.{Outcome, BadLine, Unread, TooLong, Refused, Done, Fell, Ending, With, Unwritten, NoMemory}
+use Rattle.xray_program.specs.Words.{Command, Sim, Plain, Extract, Asm}
+
+-- ---- a line a command
+
+-- its inputs in the order of the words, each a name and how many bytes it has at the most; one that the words leave out isn't there
+abbrev pub inputs_of : Command → List (List ℕ × ℕ)
+inputs_of (Sim image script schedule setup) = (image, 4194304) ∷ (script, 1048576) ∷ (schedule, 16777216) ∷ []
+inputs_of (Plain image options) = (image, 4194304) ∷ []
+inputs_of (Extract image) = (image, 4194304) ∷ []
+inputs_of (Asm text image threshold) = (text, 4194304) ∷ []
+
+-- ---- inputs
+
+-- an input was read whole: each byte asked for once, from the first to the end, and at most one past its limit
+abbrev pub ReadsWhole : List ℕ → (limit : ℕ) → List Call → Type 0
+ReadsWhole name limit calls = (to : ℕ) × ReadsUpTo name (limit + 1) to (Ok 0) calls
+
+-- inputs were read whole, one after another
+abbrev pub ReadsAll : List (List ℕ × ℕ) → List Call → Type 0
+ReadsAll [] calls = calls ≡ []
+ReadsAll (input ∷ inputs) calls =
+    (mine : List Call) × (later : List Call) × (calls ≡ mine ++ later) × ReadsWhole input.0 input.1 mine × ReadsAll inputs later
+
+-- the inputs before this one were read whole; this is said of its calls, and no other was asked for
+pub record StopsAt (inputs : List (List ℕ × ℕ)) (name : List ℕ) (Last : (limit : ℕ) → List Call → Type 0) (calls : List Call) : Type 0 where
+  pub earlier : List (List ℕ × ℕ)
+  pub limit : ℕ
+  pub later : List (List ℕ × ℕ)
+  pub turn : inputs ≡ earlier ++ (name, limit) ∷ later
+  pub before : List Call
+  pub last : List Call
+  pub order : calls ≡ before ++ last
+  pub reads : ReadsAll earlier before
+  pub stops : Last limit last
+
+-- ---- outputs
+
+-- each output was made, one after another: its name created once, and then its bytes appended
+abbrev pub MakesAll : List (List ℕ × List ℕ) → List Call → Type 0
+MakesAll [] calls = calls ≡ []
+MakesAll (output ∷ outputs) calls =
+    (mine : List Call) × (later : List Call) × (calls ≡ mine ++ later) × Makes output.0 (length output.1) (Ok tt) mine × MakesAll outputs later
+
+-- the outputs before this one were made; its creation failed, or an append to it, and no call came after that
+pub record FailsAtOutput (outputs : List (List ℕ × List ℕ)) (desk desk_now : DeskView) (name : List ℕ) (calls : List Call) : Type 0 where
+  pub earlier : List (List ℕ × List ℕ)
+  pub bytes : List ℕ
+  pub later : List (List ℕ × List ℕ)
+  pub turn : outputs ≡ earlier ++ (name, bytes) ∷ later
+  pub before : List Call
+  pub last : List Call
+  pub order : calls ≡ before ++ last
+  pub makes : MakesAll earlier before
+  pub fault : WriteFault
+  pub fails : IsMaking name bytes (desk.held name) (desk_now.held name) (Err fault) last
+
+-- the output of this name failed; or all were made, and out failed, which is named `output`
+abbrev pub IsUnmade : List (List ℕ × List ℕ) → (desk desk_now : DeskView) → List ℕ → List Call → Type 0
+IsUnmade outputs desk desk_now name calls =
+    FailsAtOutput outputs desk desk_now name calls ⊎ ((name ≡ codes "output") × MakesAll outputs calls)
+
+-- no call was made
+abbrev pub IsNoCall : List Call → Type 0
+IsNoCall calls = calls ≡ []
+
+-- ---- all of a call
+
+-- all inputs were read whole, and then this was done
+pub record ReadsThen (inputs : List (List ℕ × ℕ)) (Then : List Call → Type 0) (calls : List Call) : Type 0 where
+  pub before : List Call
+  pub last : List Call
+  pub order : calls ≡ before ++ last
+  pub reads : ReadsAll inputs before
+  pub goes_on : Then last
+
+-- The calls of a call that ended so. None is made where the words say no command. A refusal comes of the last input that was read.
+abbrev pub InOrder : Option Command → (desk desk_now : DeskView) → Ending → List Call → Type 0
+InOrder said desk desk_now (With BadLine) calls = calls ≡ []
+InOrder said desk desk_now (With (Unread name)) calls =
+    StopsAt (option_map_or inputs_of said []) name (λ limit. ReadsUpToFault name (limit + 1)) calls
+InOrder said desk desk_now (With (TooLong name)) calls =
+    StopsAt (option_map_or inputs_of said []) name (λ limit. Reads name (limit + 1) 0 (limit + 1)) calls
+InOrder said desk desk_now (With (Refused name kind refusal)) calls =
+    StopsAt (option_map_or inputs_of said []) name (λ limit. ReadsWhole name limit) calls ⊎ ReadsAll (option_map_or inputs_of said []) calls
+InOrder said desk desk_now (With (Done outputs text)) calls = ReadsThen (option_map_or inputs_of said []) (MakesAll outputs) calls
+InOrder said desk desk_now (With (Fell outputs text trouble)) calls = ReadsThen (option_map_or inputs_of said []) (MakesAll outputs) calls
+InOrder said desk desk_now (Unwritten name) calls =
+    (outputs : List (List ℕ × List ℕ)) × ReadsThen (option_map_or inputs_of said [])
+    (IsUnmade outputs desk desk_now name) calls
+InOrder said desk desk_now NoMemory calls =
+    ((name : List ℕ) × StopsAt (option_map_or inputs_of said []) name
+    (λ limit last. ReadsSome name (limit + 1) last ⊎ ReadsWhole name limit last) calls)
+    ⊎ ReadsAll (option_map_or inputs_of said []) calls
