@@ -13,18 +13,12 @@ use std::sync::Wait;
 use std::thread::{self, Threads};
 use xray_io::OpenGate;
 
-/// A thread's seat, and the bits of all values that it found.
+/// A thread that fetches.
 #[derive(Drop)]
 pub struct Fetcher {
     seat: WorkSeat,
-    found: u64,
-}
-
-impl Fetcher {
-    /// Each bit that was 1 in some value.
-    pub fn found(&self) -> u64 {
-        self.found
-    }
+    /// Each bit that was 1 in a value that the thread found.
+    pub found: u64,
 }
 
 /// A fetcher for each thread, in order.
