@@ -10,6 +10,7 @@ mod laws;
 mod layout;
 mod reading;
 mod rec;
+mod recorder;
 mod writing;
 
 pub use event::{Event, Kind};
@@ -18,6 +19,7 @@ pub use laws::{a_record_reads_back, one_answer, one_record};
 pub use layout::{FUNCTION_BYTES, METADATA_BYTES};
 pub use reading::take_rec;
 pub use rec::{Rec, rec_len};
+pub use recorder::Recorder;
 pub use writing::put_rec;
 
 #[cfg(test)]
