@@ -1,4 +1,4 @@
--- The clauses of `decode` from what its reading gives.
+-- From what the reading gives to the clauses of `decode`.
 use Rattle.std.proofs.Common.{◌≡◌, ℕ, ◌+◌, ◌-◌, ◌<◌, ◌≤◌, List, length, get_or, take, drop, Fits, w8, Result, Ok, Err, sym, ap, subst, ltb, inl, inr, ◌∙◌, lit<, arith}
 use Rattle.std.proofs.lemmas.Bool.{cases_Bool}
 use Rattle.std.proofs.lemmas.List.{length-append, length-drop, take_rest}
@@ -12,7 +12,7 @@ use Rattle.subset_decode.proofs.Fields.{IsBytes-drop}
 use Rattle.subset_decode.proofs.Refused.{same_answer}
 use Rattle.subset_decode.proofs.Found.{found, refused}
 
--- an instruction stands at the place, and the next place is behind it
+-- an instruction stands at the place, and the next place is the one after it
 pub record StandsAt (bytes : List ℕ) (at : ℕ) (i : Instr) (next : ℕ) : Type 0 where
   pub named : IsNamed i
   pub begins : Begins (spelling i) (drop at bytes)
