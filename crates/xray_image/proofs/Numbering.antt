@@ -24,7 +24,7 @@ not_falling n xs up i j d le lt = elim (cases_eq i j) [
   | inr other ↦ omega (arith, AllPairs-from_increasing (map n xs) up i j 0 (omega arith) (omega (arith, length-map xs n)), get_or-map n xs i d 0 (omega arith), get_or-map n xs j d 0 lt)
 ]
 
--- where those below a number end, the number stands, if it is one of those that ascend
+-- where the numbers below a given one end, that number stands, if it is one of the ascending numbers
 pub stands_there : {X : Type 0} (n : X → ℕ) (xs : List X) (s i : ℕ) → IsStrictlyIncreasing (map n xs) → Contains (map n xs) s → i ≤ length xs
     → IsPartitionPoint (λ y. nat_lt (n y) s ≡ true) (λ y. nat_lt (n y) s ≡ false) xs i → slice_get (map n xs) i ≡ Some s
 stands_there n [] s i up known le point = absurd (omega (arith, known.1))
