@@ -121,7 +121,7 @@ module _ (program : Program) (threads : ℕ) where
       picked true false is = (refl, refl, same_Ok said x is)
       picked false held is = absurd cc
 
--- the script of a text
+-- the script of a text is in order
 pub orderly : (program : Program) (threads : ℕ) (text : List ℕ) (plan : Plan) → plan_of program threads text ≡ Ok plan → IsOrderly plan
 orderly program threads text plan e =
     let number = length (lines text) + 1 in
