@@ -12,13 +12,13 @@ use Rattle.traced_run.specs.Runs.{ThreadRun}
 use Rattle.trace_flush.specs.declared.line.AuditLine.{AuditLine}
 use Rattle.trace_flush.specs.Audit.{Account}
 
--- the end of a thread that wants this; one that has not ended has none
+-- the end of a thread that wants this; it means nothing for a thread that hasn't ended
 abbrev pub end_of : Want → End
 end_of (Gate passing) = Returned
 end_of (Load word) = Returned
 end_of (Done end) = end
 
--- the line of a thread with so many segments, of which so many are lost
+-- the line of a thread with `segments` segments, of which `first` are lost
 abbrev pub line_of : Traced → ℕ → ℕ → AuditLine
 line_of thread segments first = record { thread = thread.thread; end = end_of thread.want; segments = segments; first = first }
 
