@@ -158,7 +158,7 @@ name_of_bytes name h = All-from_recursion (λ b. is_name_byte b ≡ true) name (
 
 -- ---- no name twice
 
--- a name that is defined is none of the names that aren't
+-- a defined name isn't one of the names that aren't
 abbrev pub Knows : List ℕ → Lines → Type 0
 Knows name before = (other : List ℕ) → is_defined other before ≡ false → bytes_eq name other ≡ false
 

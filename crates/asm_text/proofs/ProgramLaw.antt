@@ -105,7 +105,7 @@ module _ (text : List ℕ) (threshold : ℕ) (said : Lines) (read : said_by text
       subst (IsAccepted (file_bytes (image_of threshold said))) (same_program threshold said)
       (accepted_file (image_of threshold said) (pieces (placed (by_threshold threshold) said)) in_order)
 
-  -- the same for a file that is the answer for the text
+  -- the same for the file that is assembled of the text
   pub holds_program : (file : List ℕ) → assembled text threshold ≡ Ok file → IsProgramOf text threshold file
   holds_program file is =
       let made : Ok (file_bytes (image_of threshold said)) ≡ Ok file = sym (ap (λ r. r >>= λ lines. Ok (file_bytes (image_of threshold lines))) read) ∙ is in

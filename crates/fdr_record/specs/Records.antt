@@ -36,7 +36,8 @@ action_of TailExit = 2
 abbrev pub first_of : ℕ → ℕ
 first_of kind = 2 * kind + 1
 
--- the first four bytes of a function record, as a number: bit 0 is 0, three bits are the action, and 28 bits the function's id
+-- The first four bytes of a function record, as a number. Bit 0 is 0, the next three bits are the action, and 28 bits
+-- are the function's id.
 abbrev pub head_of : Kind → ℕ → ℕ
 head_of kind func = 2 * action_of kind + 16 * func
 

@@ -18,7 +18,7 @@ pub seen_counts : (bytes : List ℕ) (len room : ℕ) (seen : MarkList) → reco
 seen_counts bytes len room seen is =
     (sym (length-marks_from bytes 0 len) ∙ ap (λ (m : MarkList). length m.items) is, ap (λ (m : MarkList). m.room) is)
 
--- the mark of a number, from its bits
+-- the n-th mark is that of its bits
 pub mark_there : (bytes : List ℕ) (n count i : ℕ) → i < count → slice_get (marks_from bytes n count) i ≡ Some (mark_of (bits_of bytes (n + i)))
 mark_there bytes n zero i below = absurd (omega arith)
 mark_there bytes n (suc count) zero below = let same : n ≡ n + zero = omega arith in ap (λ k. Some (mark_of (bits_of bytes k))) same

@@ -61,7 +61,7 @@ run_in_front mark (suc more) rest ends =
     let alike : (mark_byte mark == mark_byte mark) ≡ true = eq-eqb (mark_byte mark) (mark_byte mark) refl in
     rw (run_in_front mark more rest ends, alike, add-one) refl
 
--- the mark of a number, and then those after it
+-- the n-th mark, and then those after it
 pub mark_in_front : (marks : List Mark) (n : ℕ) (mark : Mark) → slice_get marks n ≡ Some mark → drop n marks ≡ mark ∷ drop (n + 1) marks
 mark_in_front marks n mark there =
     rw add-one (drop-cons marks n mark (slice_get_within marks n mark there) ∙ ap (λ first. first ∷ drop (suc n) marks) (get_or_from_slice_get marks n mark mark there))

@@ -88,8 +88,7 @@ pub(crate) fn sled_values(alloc: Global, image: &Image) -> Result<Vec<SledValues
     Ok(sleds)
 }
 
-/// Neighbors in the sled map: the sleds with numbers from `start` on, up to but not including
-/// `end`.
+/// A run of sleds in the map: those with numbers from `start` on, up to but not including `end`.
 #[derive(Clone, Copy, Debug)]
 pub(crate) struct SledRange {
     pub(crate) start: u32,

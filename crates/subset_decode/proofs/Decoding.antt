@@ -65,7 +65,7 @@ pub refuses : (bytes : List ℕ) (at : ℕ) (f : DecodeFault) → FitBytes bytes
 refuses bytes at f fits e =
     refused (drop at bytes) f (IsBytes-drop at bytes (λ k. (fits k).fits)) (ap instr_at (sym (take_rest bytes at)) ∙ e)
 
--- the same of the first instruction alone
+-- the same, for the first instruction only
 first_is : (bytes : List ℕ) (at : ℕ) (read : Read Instr) → ReadsAt bytes at read → first_instr (drop at bytes) ≡ (read >>= λ i. Ok i.0)
 first_is bytes at read e = ap (λ (r : Read Instr). r >>= λ i. Ok i.0) (ap instr_at (sym (take_rest bytes at)) ∙ e)
 

@@ -1,4 +1,4 @@
--- A field of four bytes that is read is the one that was written, and the other way round.
+-- A field of four bytes reads as it was written, and the other way round.
 use Rattle.std.proofs.Common.{◌≡◌, ℕ, zero, suc, ◌+◌, ◌^◌, ◌<◌, List, [], ◌∷◌, ◌++◌, length, get_or, take, drop, All, Ok, refl, sym, ap, ◌∙◌, append_assoc, lit<, arith, inl, inr}
 use Rattle.std.specs.Int.{w32, to_le_bytes, from_le_bytes}
 use Rattle.std.proofs.lemmas.Bool.{cases_lt, le-ltb}

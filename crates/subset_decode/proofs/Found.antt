@@ -118,7 +118,7 @@ mov_holds bank front at b rest bytes reads e =
           rw free (field_holds (front ++ b ∷ []) (Mov n) (λ k fits. (register_is n below free, fits)) (λ k _. ap (λ (x : List ℕ). x ++ to_le_bytes w32 k) (opcode_is bank front at 0xB8 b e)) rest bytes)
     ]
 
--- an instruction that is an opcode with a register, and no more
+-- an instruction that is only an opcode with a register
 record IsOne (opcode : ℕ) (make : ℕ → Instr) : Type 0 where
   encodable : (n : ℕ) → n < 16 → IsEncodable (make n)
   named : (n : ℕ) → IsRegister n → IsNamed (make n)

@@ -27,7 +27,7 @@ trace_bytes setup runs = file_bytes (header_of setup) (kept_buffers setup runs)
 
 -- ---- what the bytes say
 
--- whether a block is of a thread, and the blocks of one
+-- whether a block belongs to a thread, and the blocks of a thread
 abbrev pub is_of : ℕ → Block → Bool
 is_of thread block = block.thread == thread
 

@@ -27,7 +27,8 @@ abbrev pub lines_of : List Traced → List ℕ → List ℕ → List AuditLine
 lines_of (thread ∷ threads) (n ∷ segments) (m ∷ first) = line_of thread n m ∷ lines_of threads segments first
 lines_of threads segments first = []
 
--- What the audit says of each thread of a run: its number, its end, its segments and how many of them are lost, and its marks.
+-- What the audit says of each thread of a run: its number, its end, how many segments it has and how many of these are
+-- lost, and its marks.
 abbrev pub account_of : Setup → ℕ × ThreadRun → Account
 account_of setup (thread, run) =
     (record { thread = thread; end = run.end; segments = segment_count setup.size run; first = run.lost }, run.marks)

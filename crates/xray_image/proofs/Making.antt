@@ -18,7 +18,7 @@ use Rattle.xray_image.proofs.Scans.{zero_spot, zero_line}
 
 -- ---- functions
 
--- the name of the function of a number
+-- the name of the function with this number
 pub name_at : (functions : List FunctionEntry) (i : ℕ) → i < length functions → All (λ f. All (λ b. is_name_byte b ≡ true) f.name) (map function_of functions)
     → All (λ b. is_name_byte b ≡ true) (get_or functions i zero_function).name.now
 name_at functions i within all =

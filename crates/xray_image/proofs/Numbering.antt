@@ -57,7 +57,7 @@ number_more all some numbers x n are found = record {
   each = map-append (slice_get all) numbers (n ∷ []) ∙ ap (λ t. t ++ slice_get all n ∷ []) are.each ∙ ap (λ o. map Some some ++ o ∷ []) found ∙ sym (map-append Some some (x ∷ []));
 }
 
--- there are as many numbers as there are addresses
+-- there are as many numbers as addresses
 pub as_many : (all some numbers : List ℕ) → AreNumbersOf all some numbers → length numbers ≡ length some
 as_many all some numbers are = sym (length-map numbers (slice_get all)) ∙ ap length are.each ∙ length-map some Some
 

@@ -292,11 +292,11 @@ both_past entries places i past =
     slice_get_past (map (λ e. e.sled) entries) i (omega (arith, length-map entries (λ e. e.sled)))
     ∙ sym (slice_get_past (map (λ p. p.address) places) i (omega (arith, length-map places (λ p. p.address))))
 
--- the function of a number is fit, or not
+-- the function of this number is fit, or not
 known_fit : (base : ℕ) (units : List Unit) (functions : List Function) (i : ℕ) → Known (FunctionIsFit base units functions i)
 known_fit base units functions i = known_item (slice_get functions i) _ (λ f. known_function base units (take i functions) f)
 
--- the sled and the entry of a number fit each other, or not
+-- the sled and the entry of this number fit each other, or not
 known_at : (places : List SledPlace) (entries : List MapEntry) (Fits : SledPlace → MapEntry → Type 0)
     → ((place : SledPlace) (entry : MapEntry) → Known (Fits place entry)) → (i : ℕ) → Known (FitsAt places entries Fits i)
 known_at places entries Fits known i =

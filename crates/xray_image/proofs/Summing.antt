@@ -8,7 +8,7 @@ pub length-sums : (firsts : List ℕ) (i : ℕ) (steps : List ℕ) → length (s
 length-sums firsts i [] = refl
 length-sums firsts i (step ∷ steps) = ap suc (length-sums firsts (i + 1) steps)
 
--- the sum of a number is its block's first and its step
+-- the sum of a number is the first of its block, plus its step
 sum_from : (firsts : List ℕ) (i : ℕ) (steps : List ℕ) (k : ℕ) → k < length steps → slice_get (sums_from firsts i steps) k ≡ Some (get_or firsts ((i + k) / 16) 0 + get_or steps k 0)
 sum_from firsts i [] k lt = absurd (omega arith)
 sum_from firsts i (step ∷ steps) zero lt = ap (λ (n : ℕ). Some (get_or firsts (n / 16) 0 + step)) (omega arith)

@@ -56,7 +56,7 @@ impl Desk for Trickle {
     }
 }
 
-/// A sink that takes three bytes a write at most.
+/// A sink that takes at most three bytes a write.
 #[derive(Drop)]
 struct Sips {
     sink: MemSink,
