@@ -203,7 +203,8 @@ impl Desk for MemDesk {
         }
     }
 
-    /// Fails exactly when this call is to fail or an allocation is refused.
+    /// Fails exactly when this call is to fail or an allocation is refused. A call that is to fail
+    /// counts no refusal.
     fn create(&mut self, name: &str) -> Result<(), Failed>
         ensures told { Contains (desk_failing self.old) (desk_calls self.old) → IsErr result }
         ensures not_asked { Contains (desk_failing self.old) (desk_calls self.old) →
@@ -238,7 +239,7 @@ impl Desk for MemDesk {
     }
 
     /// Fails exactly when this call is to fail or an allocation is refused. Otherwise it takes all
-    /// bytes.
+    /// bytes. A call that is to fail counts no refusal.
     fn append(&mut self, name: &str, bytes: &[u8]) -> Result<usize, Failed>
         ensures all { IfOk result (λ n. n ≡ length bytes.now) }
         ensures told { Contains (desk_failing self.old) (desk_calls self.old) → IsErr result }
@@ -348,7 +349,7 @@ impl Sink for MemSink {
     ghost along = { λ _ _ _. Unit {0} };
 
     /// Fails exactly when this call is to fail or an allocation is refused. Otherwise it takes all
-    /// bytes.
+    /// bytes. A call that is to fail counts no refusal.
     fn write(&mut self, bytes: &[u8]) -> Result<usize, Failed>
         ensures told { Contains (sink_failing self.old) (sink_calls self.old) → IsErr result }
         ensures not_asked { Contains (sink_failing self.old) (sink_calls self.old) →

@@ -20,7 +20,7 @@ const FILLED: usize = 16;
 /// the last part, `done` writes what still waits. If a `Text` is dropped before that, only a prefix
 /// of its text was written.
 ///
-/// Once a call has failed, parts of the text are lost. No clause says what later calls write.
+/// Once a call has failed, parts of the text may be missing. No clause says what later calls write.
 #[derive(Drop)]
 pub struct Text<'a, S> {
     sink: &'a mut S,
