@@ -72,13 +72,7 @@ impl<'a> Work<'a> for Sim<'a> {
         out: &mut O,
     ) -> Result<(), Stop<'a>> {
         let steps = Steps::new(alloc, &inputs.image)?;
-        match simulate(
-            alloc,
-            &steps,
-            &inputs.script,
-            &inputs.schedule,
-            &self.setup,
-        ) {
+        match simulate(alloc, &steps, &inputs.script, &inputs.schedule, &self.setup) {
             Ok(end) => deliver(desk, out, &NoOutputs, &States { cpus: &end.cpus }, None),
             Err(fault) => Err(fault_stop(self.script, SCRIPT, &fault)),
         }
