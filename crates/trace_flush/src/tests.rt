@@ -3,7 +3,7 @@
 use crate::{AuditLine, arrange, audit_tells_its_run, write_audit};
 use fdr_buffer::Buffer;
 use fdr_record::{Event, Kind};
-use machine_step::{Cpu, End, Limits, Setup, Want};
+use machine_step::{Cpu, End, Limits, Setup, Steps, Want};
 use std::alloc::Global;
 use std::test::Fail;
 use xray_image::{Image, read_image};
@@ -88,7 +88,7 @@ fn pass(cpu: &mut Cpu, sled: &[(u32, u64)], rest: &[(u32, u64)]) -> Result<(), F
 /// and of the exit sled.
 fn add_thread<'a>(
     cpus: &mut Vec<Cpu<'a>>,
-    image: &'a Image,
+    steps: &'a Steps<'a>,
     thread: u32,
     limits: Limits,
     entry: &[(u32, u64)],
@@ -97,7 +97,7 @@ fn add_thread<'a>(
     if thread == 0 || thread > THREADS || limits.cpus == 0 || limits.migrate == 0 {
         Err("no such thread")?;
     }
-    let mut cpu = Cpu::new(*cpus.allocator(), image, thread, THREADS, None, limits)?;
+    let mut cpu = Cpu::new(*cpus.allocator(), steps, thread, THREADS, None, limits)?;
     pass(&mut cpu, &ENTRY, entry)?;
     pass(&mut cpu, &EXIT, exit)?;
     cpus.push(cpu)?;
@@ -124,10 +124,11 @@ fn audit_of(
 fn the_audit_of_a_thread_that_records_all(rt: HostRuntime) -> Result<(), Fail> {
     let alloc = rt.alloc();
     let image = image_of(alloc)?;
+    let steps = Steps::new(alloc, &image)?;
     let mut cpus = Vec::new(alloc);
     add_thread(
         &mut cpus,
-        &image,
+        &steps,
         1,
         DEFAULT_SETUP.limits,
         &RECORDS,
@@ -156,6 +157,7 @@ fn the_audit_of_two_threads_that_lost_segments(rt: HostRuntime) -> Result<(), Fa
     audit_tells_its_run();
     let alloc = rt.alloc();
     let image = image_of(alloc)?;
+    let steps = Steps::new(alloc, &image)?;
     let limits = Limits {
         fuel: 2,
         passings: 1_048_575,
@@ -177,8 +179,8 @@ fn the_audit_of_two_threads_that_lost_segments(rt: HostRuntime) -> Result<(), Fa
         frequency: 2_400_000_000,
     };
     let mut cpus = Vec::new(alloc);
-    add_thread(&mut cpus, &image, 1, limits, &RECORDS, &HAS_ENDED)?;
-    add_thread(&mut cpus, &image, 2, limits, &NO_HANDLER, &HAS_ENDED)?;
+    add_thread(&mut cpus, &steps, 1, limits, &RECORDS, &HAS_ENDED)?;
+    add_thread(&mut cpus, &steps, 2, limits, &NO_HANDLER, &HAS_ENDED)?;
     let lines = [
         AuditLine {
             thread: 1,
@@ -208,11 +210,11 @@ fn the_audit_of_two_threads_that_lost_segments(rt: HostRuntime) -> Result<(), Fa
 }
 
 /// Threads of the image that end before their first passing, and their lines.
-fn threads_at_once(
+fn threads_at_once<'a>(
     alloc: Global,
     count: u32,
-    image: &Image,
-) -> Result<(Vec<AuditLine>, Vec<Cpu<'_>>), Fail> {
+    steps: &'a Steps<'a>,
+) -> Result<(Vec<AuditLine>, Vec<Cpu<'a>>), Fail> {
     let limits = Limits {
         passings: 0,
         ..DEFAULT_SETUP.limits
@@ -220,7 +222,7 @@ fn threads_at_once(
     let mut lines = Vec::new(alloc);
     let mut cpus = Vec::new(alloc);
     for _ in 0..count {
-        cpus.push(Cpu::new(alloc, image, 1, 1, None, limits)?)?;
+        cpus.push(Cpu::new(alloc, steps, 1, 1, None, limits)?)?;
         lines.push(AuditLine {
             thread: 1,
             end: End::Passings,
@@ -235,7 +237,8 @@ fn threads_at_once(
 fn a_sink_that_fails_in_mid_text_has_a_front_of_it(rt: HostRuntime) -> Result<(), Fail> {
     let alloc = rt.alloc();
     let image = image_of(alloc)?;
-    let (lines, cpus) = threads_at_once(alloc, 80, &image)?;
+    let steps = Steps::new(alloc, &image)?;
+    let (lines, cpus) = threads_at_once(alloc, 80, &steps)?;
     let mut whole = MemSink::new(alloc, Vec::new(alloc));
     audit_of(&DEFAULT_SETUP, &lines, &cpus, &mut whole)??;
     assert!(rt; whole.bytes().ends_with(b"\nmarks -\nrecycled 0\n"));

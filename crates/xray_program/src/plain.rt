@@ -11,7 +11,7 @@ use crate::run_options::RunOptions;
 use crate::stop::Stop;
 use crate::text::Printed;
 use crate::work::Work;
-use machine_step::{PlainEnd, plain_run, write_plain};
+use machine_step::{PlainEnd, Steps, plain_run, write_plain};
 use std::alloc::Global;
 use xray_image::Image;
 use xray_io::{Desk, NoMemory, Sink, WriteFault};
@@ -59,9 +59,10 @@ impl<'a> Work<'a> for Plain<'a> {
 fn run_threads(alloc: Global, image: &Image, options: RunOptions) -> Result<Vec<PlainEnd>, NoMemory>
     ensures { IfOk result (λ ends. AreEnds image.now options options.threads ends.items) }
 {
+    let steps = Steps::new(alloc, image)?;
     let mut ends = Vec::new(alloc);
     for thread in 0..options.threads {
-        ends.push(plain_run(alloc, image, thread + 1, options.limits())?)?;
+        ends.push(plain_run(alloc, &steps, thread + 1, options.limits())?)?;
     }
     Ok(ends)
 }

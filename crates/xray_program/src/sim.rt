@@ -13,7 +13,7 @@ use crate::sim_inputs::SimInputs;
 use crate::stop::Stop;
 use crate::text::Printed;
 use crate::work::Work;
-use machine_step::{Cpu, Setup, write_state};
+use machine_step::{Cpu, Setup, Steps, write_state};
 use std::alloc::Global;
 use step_sim::simulate;
 use xray_io::{Desk, Sink, WriteFault};
@@ -71,13 +71,8 @@ impl<'a> Work<'a> for Sim<'a> {
         desk: &mut D,
         out: &mut O,
     ) -> Result<(), Stop<'a>> {
-        match simulate(
-            alloc,
-            &inputs.image,
-            &inputs.script,
-            &inputs.schedule,
-            &self.setup,
-        ) {
+        let steps = Steps::new(alloc, &inputs.image)?;
+        match simulate(alloc, &steps, &inputs.script, &inputs.schedule, &self.setup) {
             Ok(end) => deliver(desk, out, &NoOutputs, &States { cpus: &end.cpus }, None),
             Err(fault) => Err(fault_stop(self.script, SCRIPT, &fault)),
         }

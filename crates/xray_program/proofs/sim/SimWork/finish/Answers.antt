@@ -1,7 +1,10 @@
-use Rattle.std.proofs.Common.{[], None, refl, ◌≡◌}
+use Rattle.std.proofs.Common.{[], None, refl, subst, ◌≡◌}
 use Rattle.std.specs.List.{All, flat_map}
 use Rattle.machine_step.specs.Traced.{IsDone}
+use Rattle.xray_image.specs.Program.{Program}
 use Rattle.patch_script.specs.Plans.{waiting_line}
+use Rattle.patch_script.specs.Refusals.{commands_of}
+use Rattle.step_sim.specs.Replayed.{IsSimulated}
 use Rattle.xray_io.specs.World.{desk_view, sink_view}
 use Rattle.xray_program.specs.Ends.{thread_text}
 use Rattle.xray_program.specs.Sim.{Replayed, Replays}
@@ -25,7 +28,10 @@ returns-in-Ok-clause-finishes g c =
     let got = sink_view g.O.Sink.written g.O.Sink.faults in
     let setup = c.args.self.now.setup in
     let inputs = c.args.inputs.now in
-    let is = c.in-Ok.ensures.simulated in
+    let script = commands_of inputs.script.lines in
+    let end = c.in-Ok.end in
+    let is = subst (λ (program : Program). IsSimulated program script inputs.schedule setup end.cpus.items end.sealed.items end.segments.items
+    end.first.items end.buffers.items) c.in_ok-steps.ensures.program c.in-Ok.ensures.simulated in
     let text = flat_map thread_text c.deref.result.now in
     let traces : Traces (Replayed inputs.image inputs.script inputs.schedule setup) inputs.image setup [] text =
     rw c.deref.ensures.value (replay_printed inputs.image inputs.script inputs.schedule setup _ _ _ _ _ is) in
@@ -37,8 +43,8 @@ returns-in-Ok-clause-finishes g c =
     (λ line waits. let told = (c.simulate.ensures.waits line).1 waits in cc) ([], text, traces, refl))
     c.deliver.ensures.delivers
 
-pub returns-in-Err-clause-finishes : goal.returns-in-Err-clause-finishes
-returns-in-Err-clause-finishes g c =
+pub returns-clause-finishes : goal.returns-clause-finishes
+returns-clause-finishes g c =
     let seen = desk_view g.D.Desk.held g.D.Desk.read_faults g.D.Desk.write_faults in
     let got = sink_view g.O.Sink.written g.O.Sink.faults in
     let inputs = c.args.inputs.now in
