@@ -21,11 +21,10 @@ use crate::start::SimStart;
 use crate::thread::{make_loads, run_out};
 use crate::turns::Turns;
 use fdr_buffer::Buffer;
-use machine_step::{Cpu, Setup};
+use machine_step::{Cpu, Setup, Steps};
 use patch_script::Script;
 use sled_words::MAX_THREADS;
 use std::alloc::Global;
-use xray_image::Image;
 
 /// What a replay leaves.
 #[derive(Drop)]
@@ -54,12 +53,12 @@ pub struct SimEnd<'a> {
 /// `SimStart::new`, while `SimStart::play` takes none.
 pub fn simulate<'a>(
     alloc: Global,
-    image: &'a Image,
+    steps: &'a Steps<'a>,
     script: &Script,
     schedule: &Schedule,
     setup: &Setup,
 ) -> Result<SimEnd<'a>, SimFault>
-    requires program { script.now.program ≡ image.now }
+    requires program { script.now.program ≡ steps.now }
     requires threads { script.now.threads ≡ setup.now.threads }
     requires few { setup.now.threads ≤ MAX_THREADS }
     requires schedule { All (AreTurnsOf setup.now.threads) schedule.now }
@@ -67,11 +66,11 @@ pub fn simulate<'a>(
     requires sizes { (72 ≤ setup.now.size) × (setup.now.size ≤ 1048576) }
     requires buffers { (setup.now.threads ≤ setup.now.max) × (setup.now.max ≤ 1024) }
     ensures waits { (line : ℕ) → (result ≡ Err (Waits line)) ↔ (waiting_line script.now.lines ≡ Some line) }
-    ensures simulated { IfOk result (λ end. IsSimulated image.now (commands_of script.now.lines)
+    ensures simulated { IfOk result (λ end. IsSimulated steps.now (commands_of script.now.lines)
         schedule.now setup.now end.cpus.items end.sealed.items end.segments.items end.first.items
         end.buffers.items) }
 {
-    match SimStart::new(alloc, image, script, setup) {
+    match SimStart::new(alloc, steps, script, setup) {
         Ok(start) => Ok(start.play(schedule)),
         Err(fault) => Err(fault),
     }
