@@ -15,7 +15,7 @@ use Rattle.xray_program.specs.Outcomes.{Outcome, BadLine, Unread, TooLong, Refus
 use Rattle.xray_program.specs.Outputs.{AreWhole, AreUntouched, FailsAt, FailsAtOut, FailsWriting, HoldsPrefix, WritesNothing}
 use Rattle.xray_program.specs.Stops.{answer_of, stop_line, stop_status, told_of}
 use Rattle.xray_program.specs.Takes.{IsStopAtInput, StopsTakings}
-use Rattle.xray_program.specs.Taking.{Sound, ended_by}
+use Rattle.xray_program.specs.Taking.{DeskReads, Sound, AllAccepted, ended_by}
 use Rattle.command_words.specs.Words.{Command, outputs_of}
 use Rattle.xray_program.specs.Works.{AreMakings, Delivers, Ends, Finishes, KeepsOthers, StopsOutputs, Writes}
 use Rattle.xray_io.specs.World.{DeskView, SinkView}
@@ -180,7 +180,7 @@ ends_at_input command desk desk_now out Way (Err s) stop is stands same went = r
 
 -- a call that ended with its work
 pub ends_with_work : {S : Type 0} (along : S → S → List Call → Type 0) → Composes along → (first second third : S) (command : Command) (yields : Outcome → Type 0) (desk mid desk_now : DeskView) (out out_now : SinkView)
-    (result : Result (Unit {0}) Stop) → ((outcome : Outcome) → yields outcome → Comes Sound desk.held command outcome)
+    (result : Result (Unit {0}) Stop) → ((reads : DeskReads) (outcome : Outcome) → yields outcome → Comes reads desk.held command outcome)
     → mid.held ≡ desk.held → mid.write_faults ≡ desk.write_faults → Finishes yields mid desk_now out out_now (along second third) result
     → KeepsOthers (outputs_of command) mid desk_now → Went (along first second) (ReadsAll (inputs_of command))
     → Ends (Some command) desk desk_now out out_now (along first third) (answer_of result) (told_of result)
@@ -204,7 +204,7 @@ ends_with_work along both first second third command yields desk mid desk_now ou
       ending = With (Done left.outputs left.text);
       status = refl;
       told = refl;
-      stands = (comes _ left.comes, writes_over left.outputs left.text desk mid desk_now out out_now same left.writes);
+      stands = (comes Sound _ left.comes, writes_over left.outputs left.text desk mid desk_now out out_now same left.writes);
       names = kept;
       order = then_made left.outputs (With (Done left.outputs left.text))
           (λ calls later p q. record { before = calls; last = later; order = refl; reads = p; goes_on = q }) left.then_so;
@@ -216,38 +216,38 @@ ends_with_work along both first second third command yields desk mid desk_now ou
       ending = With (Refused n.now kind.now (words_text words));
       status = refl;
       told = refl;
-      stands = (comes _ yielded, nothing none);
+      stands = (comes Sound _ yielded, nothing none);
       names = kept;
       order = went_on along both first second third (ReadsAll (inputs_of command)) IsNoCall
           (InOrder (Some command) desk desk_now (With (Refused n.now kind.now (words_text words)))) read silent
-          (λ calls later p q. inr (read_only (inputs_of command) calls later p q));
+          (λ calls later p q. inr (comes AllAccepted _ yielded, read_only (inputs_of command) calls later p q));
     }
     by_result (Err (stops.Fell words)) left = record {
       ending = With (Fell left.outputs left.text (words_text words));
       status = refl;
       told = refl;
-      stands = (comes _ left.comes, writes_over left.outputs left.text desk mid desk_now out out_now same left.writes);
+      stands = (comes Sound _ left.comes, writes_over left.outputs left.text desk mid desk_now out out_now same left.writes);
       names = kept;
       order = then_made left.outputs (With (Fell left.outputs left.text (words_text words)))
           (λ calls later p q. record { before = calls; last = later; order = refl; reads = p; goes_on = q }) left.then_so;
     }
     by_result (Err (stops.Unwritten n)) left = record {
-      ending = Unwritten n.now;
+      ending = Unwritten n.now left.outputs;
       status = refl;
       told = refl;
       stands = record {
         outcome = left.outcome;
-        comes = comes left.outcome left.comes;
+        comes = comes Sound left.outcome left.comes;
         outputs = left.outputs;
         text = left.text;
         writes = left.writes;
         failed = fails_over left.outputs left.text desk mid desk_now out out_now n.now same counted left.failed;
-        then_so = tt;
+        then_so = refl;
       };
       names = kept;
       order = went_on along both first second third (ReadsAll (inputs_of command)) (IsUnmade left.outputs mid desk_now n.now)
-          (InOrder (Some command) desk desk_now (Unwritten n.now)) read left.then_so (λ calls later p q.
-          (left.outputs, record { before = calls; last = later; order = refl; reads = p; goes_on = unmade_over left.outputs desk mid desk_now n.now later same q }));
+          (InOrder (Some command) desk desk_now (Unwritten n.now left.outputs)) read left.then_so (λ calls later p q.
+          record { before = calls; last = later; order = refl; reads = p; goes_on = unmade_over left.outputs desk mid desk_now n.now later same q });
     }
     by_result (Err stops.NoMemory) left = record {
       ending = NoMemory;

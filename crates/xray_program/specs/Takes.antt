@@ -65,10 +65,11 @@ IsStopAtInput comes before after (stops.Refused n kind words) = comes Sound (Ref
 IsStopAtInput comes before after stops.NoMemory = ⊤
 IsStopAtInput comes before after stop = ⊥
 
--- the inputs of which this comes were taken one after another, and what comes of their values comes of them; or one of them was a stop
+-- the inputs of which this comes were taken one after another and each was accepted, so that what comes of their values comes of them; or
+-- one of them was a stop
 abbrev pub AreTaken : {X : Type 0} → (comes : DeskReads → Outcome → Type 0) → (yields : X → Outcome → Type 0) → (before after : DeskView)
     → Result X Stop → Type 0
-AreTaken comes yields before after (Ok inputs) = (outcome : Outcome) → yields inputs outcome → comes Sound outcome
+AreTaken comes yields before after (Ok inputs) = (reads : DeskReads) (outcome : Outcome) → yields inputs outcome → comes reads outcome
 AreTaken comes yields before after (Err stop) = IsStopAtInput comes before after stop
 
 -- what an error of reading comes to: an input that can't be read or is too long, or want of memory

@@ -14,7 +14,7 @@ returns-clause-taken g c =
     let held = g.D.Desk.held c.args.desk.now in
     let s = c.args.self.now in
     last_taken (text_form s.threshold) (λ reads. AsmComes reads held s.text.now s.image.now s.threshold) (λ file outcome. outcome ≡ Done ((s.image.now, file) ∷ []) []) (seen c.args.desk.now) (seen c.args.desk.now) (seen c.take.new.desk) s.text.now
-    (λ reads file outcome. outcome ≡ Done ((s.image.now, file) ∷ []) []) c.take.result (leads (λ reads. AsmComes reads held s.text.now s.image.now s.threshold)) refl (le_refl _) (λ value outcome is. is) c.take.ensures.taken
+    (λ reads file outcome. outcome ≡ Done ((s.image.now, file) ∷ []) []) c.take.result (leads (λ reads. AsmComes reads held s.text.now s.image.now s.threshold)) refl (le_refl _) (λ reads value outcome is. is) c.take.ensures.taken
 
 pub returns-clause-calls : goal.returns-clause-calls
 returns-clause-calls g c =

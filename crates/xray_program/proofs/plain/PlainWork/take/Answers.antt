@@ -13,7 +13,7 @@ returns-clause-taken g c =
     let held = g.D.Desk.held c.args.desk.now in
     let s = c.args.self.now in
     last_taken image_form (λ reads. PlainComes reads held s.image.now s.bounds) (λ program. Prints (PlainPrints program s.bounds)) (seen c.args.desk.now) (seen c.args.desk.now) (seen c.take.new.desk) s.image.now
-    (λ reads program. Prints (PlainPrints program s.bounds)) c.take.result (leads (λ reads. PlainComes reads held s.image.now s.bounds)) refl (le_refl _) (λ value outcome is. is) c.take.ensures.taken
+    (λ reads program. Prints (PlainPrints program s.bounds)) c.take.result (leads (λ reads. PlainComes reads held s.image.now s.bounds)) refl (le_refl _) (λ reads value outcome is. is) c.take.ensures.taken
 
 pub returns-clause-calls : goal.returns-clause-calls
 returns-clause-calls g c =

@@ -3,7 +3,6 @@ use Rattle.xray_io.specs.World.{desk_view}
 use Rattle.xray_program.specs.Inputs.{image_form, script_form, schedule_form}
 use Rattle.xray_program.specs.Setups.{setup_of}
 use Rattle.xray_program.specs.Sim.{Replays}
-use Rattle.xray_program.specs.Taking.{Sound}
 use Rattle.xray_program.proofs.SimTurns.{AfterImage, AfterScript, AfterSchedule, Comes, given_before, to_schedule, to_script}
 use Rattle.xray_program.proofs.Ordering.{no_reads, read_on, stop_handed}
 use Rattle.xray_program.proofs.Turns.{handed_on, leads, leads_on, stops_at}
@@ -48,7 +47,7 @@ returns-in_err-schedule-clause-taken g c =
     (c.take-2.ensures.held ∙ c.take.ensures.held) (omega (arith, c.take.ensures.later, c.take-2.ensures.later)) c.in_err-schedule.ensures.taken)
 
 pub returns-clause-taken : goal.returns-clause-taken
-returns-clause-taken g c = λ outcome yields.
+returns-clause-taken g c = λ reads outcome yields.
     let s = c.args.self.now in
     let held = g.D.Desk.held c.args.desk.now in
     let comes = Comes held s.image.now s.script.now s.schedule.now (setup_of s.options) in
@@ -58,7 +57,7 @@ returns-clause-taken g c = λ outcome yields.
     let given = given_before (script_form program s.options.bounds.threads) held (g.D.Desk.held c.take.new.desk) s.script.now plan c.take.ensures.held c.in_ok-script.ensures.taken in
     let read = given_before (schedule_form s.options.bounds.threads) held (g.D.Desk.held c.take-2.new.desk) s.schedule.now turns (c.take-2.ensures.held ∙ c.take.ensures.held) c.in_ok-schedule.ensures.taken in
     leads_on (schedule_form s.options.bounds.threads) comes held s.schedule.now (AfterSchedule s.script.now (setup_of s.options) program plan) turns
-    (to_schedule held s.image.now s.script.now s.schedule.now (setup_of s.options) program plan c.in_ok-image.ensures.taken given) read Sound outcome yields
+    (to_schedule held s.image.now s.script.now s.schedule.now (setup_of s.options) program plan c.in_ok-image.ensures.taken given) read reads outcome yields
 
 pub returns-in_err-image-clause-calls : goal.returns-in_err-image-clause-calls
 returns-in_err-image-clause-calls g c =
