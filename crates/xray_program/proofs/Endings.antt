@@ -130,7 +130,7 @@ read_only inputs calls later reads none = subst (ReadsAll inputs) (sym (ap (λ (
 -- a call that ended at an input
 pub ends_at_input : (command : Command) (desk desk_now : DeskView) (out : SinkView) (Way : List Call → Type 0) (result : Result (Unit {0}) Stop) (stop : Stop)
     → IsErrAnd result (λ s. s ≡ stop) → IsStopAtInput (λ reads. Comes reads desk.held command) desk desk_now stop → desk_now.held ≡ desk.held
-    → Went Way (StopsTakings (inputs_of command) stop) → Ends (Some command) desk desk_now out out Way (answer_of result) (told_of result)
+    → Went Way (StopsTakings (λ reads. Comes reads desk.held command) (inputs_of command) stop) → Ends (Some command) desk desk_now out out Way (answer_of result) (told_of result)
 ends_at_input command desk desk_now out Way (Ok done) stop is stands same went = absurd is
 ends_at_input command desk desk_now out Way (Err s) stop is stands same went = rw is (behind stop stands went)
   where
@@ -138,7 +138,7 @@ ends_at_input command desk desk_now out Way (Err s) stop is stands same went = r
     kept name not = ap (λ (h : List ℕ → Entry). h name) same
 
     behind : (stop : Stop) → IsStopAtInput (λ reads. Comes reads desk.held command) desk desk_now stop
-        → Went Way (StopsTakings (inputs_of command) stop) → Ends (Some command) desk desk_now out out Way (stop_status stop) (stop_line stop)
+        → Went Way (StopsTakings (λ reads. Comes reads desk.held command) (inputs_of command) stop) → Ends (Some command) desk desk_now out out Way (stop_status stop) (stop_line stop)
     behind stops.BadLine stands went = absurd stands
     behind (stops.Unread n) stands went = record {
       ending = With (Unread n.now);
@@ -147,7 +147,7 @@ ends_at_input command desk desk_now out Way (Err s) stop is stands same went = r
       stands = (stands, (same, refl));
       names = kept;
       order = went_as Way _ (InOrder (Some command) desk desk_now (With (Unread n.now))) went (λ calls p.
-          let P : List ℕ → Type 0 = λ m. StopsAt (inputs_of command) m (λ limit. ReadsUpToFault m (limit + 1)) calls in subst P (sym p.1) p.2);
+          let P : List ℕ → Type 0 = λ m. StopsAt (inputs_of command) m (λ limit. ReadsUpToFault m (limit + 1)) calls in subst P (sym p.1) p.3);
     }
     behind (stops.TooLong n) stands went = record {
       ending = With (TooLong n.now);
@@ -156,7 +156,7 @@ ends_at_input command desk desk_now out Way (Err s) stop is stands same went = r
       stands = (stands, (same, refl));
       names = kept;
       order = went_as Way _ (InOrder (Some command) desk desk_now (With (TooLong n.now))) went (λ calls p.
-          let P : List ℕ → Type 0 = λ m. StopsAt (inputs_of command) m (λ limit. Reads m (limit + 1) 0 (limit + 1)) calls in subst P (sym p.1) p.2);
+          let P : List ℕ → Type 0 = λ m. StopsAt (inputs_of command) m (λ limit. Reads m (limit + 1) 0 (limit + 1)) calls in subst P (sym p.1) p.3);
     }
     behind (stops.Refused n kind words) stands went = record {
       ending = With (Refused n.now kind.now (words_text words));
@@ -165,7 +165,7 @@ ends_at_input command desk desk_now out Way (Err s) stop is stands same went = r
       stands = (stands, (same, refl));
       names = kept;
       order = went_as Way _ (InOrder (Some command) desk desk_now (With (Refused n.now kind.now (words_text words)))) went (λ calls p.
-          let P : List ℕ → Type 0 = λ m. StopsAt (inputs_of command) m (λ limit. ReadsWhole m limit) calls in inl (subst P (sym p.1) p.2));
+          let P : List ℕ → Type 0 = λ m. StopsAt (inputs_of command) m (λ limit. ReadsWhole m limit) calls in inl (subst P (sym p.1) p.3));
     }
     behind (stops.Fell words) stands went = absurd stands
     behind (stops.Unwritten n) stands went = absurd stands
@@ -175,7 +175,7 @@ ends_at_input command desk desk_now out Way (Err s) stop is stands same went = r
       told = refl;
       stands = (same, refl);
       names = kept;
-      order = went_as Way _ (InOrder (Some command) desk desk_now NoMemory) went (λ calls p. inl (p.0, p.2));
+      order = went_as Way _ (InOrder (Some command) desk desk_now NoMemory) went (λ calls p. inr (inl (p.0, p.2, p.3)));
     }
 
 -- a call that ended with its work
@@ -256,7 +256,7 @@ ends_with_work along both first second third command yields desk mid desk_now ou
       stands = nothing left.0;
       names = kept;
       order = went_on along both first second third (ReadsAll (inputs_of command)) IsNoCall (InOrder (Some command) desk desk_now NoMemory) read left.1
-          (λ calls later p q. inr (read_only (inputs_of command) calls later p q));
+          (λ calls later p q. inr (inr (read_only (inputs_of command) calls later p q)));
     }
 
 -- words that say no command
@@ -264,26 +264,6 @@ pub bad_line : (said : Option Command) (desk : DeskView) (out : SinkView) (Way :
     → Ends said desk desk out out Way (stop_status stops.BadLine) (stop_line stops.BadLine)
 bad_line said desk out Way is none =
     record { ending = With BadLine; status = refl; told = refl; stands = (is, (refl, refl)); names = λ name not. refl; order = none }
-
--- no input was read
-no_input : (inputs : List (List ℕ × ℕ))
-    → ((name : List ℕ) × StopsAt inputs name (λ limit last. ReadsSome name (limit + 1) last ⊎ ReadsWhole name limit last) [])
-    ⊎ ReadsAll inputs []
-no_input [] = inr refl
-no_input (input ∷ inputs) = inl (
-  input.0,
-  record {
-    earlier = [];
-    limit = input.1;
-    later = inputs;
-    turn = refl;
-    before = [];
-    last = [];
-    order = refl;
-    reads = refl;
-    stops = inl (0, refl);
-  },
-)
 
 -- memory ran out while the words were read
 pub unread_words : (said : Option Command) (desk : DeskView) (out : SinkView) (Way : List Call → Type 0)
@@ -294,6 +274,5 @@ unread_words said desk out Way none = record {
   told = refl;
   stands = (refl, refl);
   names = λ name not. refl;
-  order = went_as Way IsNoCall (InOrder said desk desk NoMemory) none
-      (λ calls p. subst (InOrder said desk desk NoMemory) (sym p) (no_input (option_map_or inputs_of said [])));
+  order = went_as Way IsNoCall (InOrder said desk desk NoMemory) none (λ calls p. inl p);
 }

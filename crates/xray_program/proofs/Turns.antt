@@ -80,6 +80,11 @@ pub leads_on : {X : Type 0} (form : Form X) (comes : DeskReads → Outcome → T
 leads_on form comes held name next value leads given reads outcome later =
     leads reads outcome (inr (given.bytes, given.held, inr (given.within, inr (value, given.reads, later))))
 
+-- the turn of an input has come
+pub turn_came : {X : Type 0} (form : Form X) (comes : DeskReads → Outcome → Type 0) (held : List ℕ → Entry) (name : List ℕ)
+    (next : DeskReads → X → Outcome → Type 0) → Leads comes (λ reads. Take form reads held name (next reads)) → comes Faulty (Unread name)
+turn_came form comes held name next leads = leads Faulty (Unread name) (inl (tt, refl))
+
 -- a count that rose has risen since before
 rose_since : (first before now : ℕ) → first ≤ before → Rose before now → Rose first now
 rose_since first before now up rose = omega arith

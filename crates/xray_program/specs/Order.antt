@@ -6,7 +6,7 @@ use Rattle.xray_io.specs.Outputs.{IsMaking, Makes}
 use Rattle.xray_io.specs.Reads.{Reads, ReadsSome, ReadsUpTo, ReadsUpToFault}
 use Rattle.xray_io.specs.World.{DeskView}
 use Rattle.xray_io.specs.declared.faults.WriteFault.{WriteFault}
-use Rattle.xray_program.specs.Commands.{ComesOf}
+use Rattle.xray_program.specs.Commands.{ComesOf, HadItsTurn}
 use Rattle.xray_program.specs.Taking.{AllAccepted}
 use Rattle.xray_program.specs.Outcomes.{BadLine, Unread, TooLong, Refused, Done, Fell, Ending, With, Unwritten, NoMemory}
 use Rattle.command_words.specs.Words.{Command, Sim, Plain, Extract, Asm}
@@ -85,7 +85,7 @@ pub record ReadsThen (inputs : List (List ℕ × ℕ)) (Then : List Call → Typ
   pub goes_on : Then last
 
 -- The calls of a call that ended so. None is made where the words say no command. A refusal comes of the last input that was read; or it
--- comes late, though each input was accepted.
+-- comes late, though each input was accepted. Memory runs out before any call, or at an input whose turn had come, or later.
 abbrev pub InOrder : Option Command → (desk desk_now : DeskView) → Ending → List Call → Type 0
 InOrder said desk desk_now (With BadLine) calls = calls ≡ []
 InOrder said desk desk_now (With (Unread name)) calls =
@@ -100,6 +100,7 @@ InOrder said desk desk_now (With (Fell outputs text trouble)) calls = ReadsThen 
 InOrder said desk desk_now (Unwritten name outputs) calls =
     ReadsThen (option_map_or inputs_of said []) (IsUnmade outputs desk desk_now name) calls
 InOrder said desk desk_now NoMemory calls =
-    ((name : List ℕ) × StopsAt (option_map_or inputs_of said []) name
+    (calls ≡ [])
+    ⊎ ((name : List ℕ) × HadItsTurn said desk.held name × StopsAt (option_map_or inputs_of said []) name
     (λ limit last. ReadsSome name (limit + 1) last ⊎ ReadsWhole name limit last) calls)
     ⊎ ReadsAll (option_map_or inputs_of said []) calls

@@ -1,9 +1,8 @@
-use Rattle.std.proofs.Common.{◌≡◌, ℕ, List, [], ◌∷◌, le_refl, refl}
+use Rattle.std.proofs.Common.{◌≡◌, [], ◌∷◌, le_refl, refl, inl}
 use Rattle.xray_io.specs.World.{desk_view}
 use Rattle.xray_program.specs.Asm.{AsmComes}
 use Rattle.xray_program.specs.Inputs.{text_form}
-use Rattle.xray_program.specs.Outcomes.{Outcome, Done}
-use Rattle.xray_program.specs.Taking.{DeskReads}
+use Rattle.xray_program.specs.Outcomes.{Done}
 use Rattle.xray_program.proofs.Ordering.{one_taking}
 use Rattle.xray_program.proofs.Turns.{last_taken, leads}
 use Rattle.xray_program.proofs.asm.AsmWork.take.Goals as goal
@@ -19,6 +18,7 @@ returns-clause-taken g c =
 pub returns-clause-calls : goal.returns-clause-calls
 returns-clause-calls g c =
     let seen = desk_view g.D.Desk.held g.D.Desk.read_faults g.D.Desk.write_faults in
+    let held = g.D.Desk.held c.args.desk.now in
     let s = c.args.self.now in
     one_taking (text_form s.threshold) s.text.now (seen c.args.desk.now) (seen c.take.new.desk) (g.D.Desk.along c.args.desk.now c.take.new.desk) c.take.result
-    c.take.ensures.taken c.take.ensures.calls
+    (λ reads. AsmComes reads held s.text.now s.image.now s.threshold) (inl (tt, refl)) c.take.ensures.taken c.take.ensures.calls
