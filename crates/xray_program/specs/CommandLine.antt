@@ -1,4 +1,5 @@
 -- A command line that was read, as the command that it says.
+use Rattle.std.specs.Prelude.{◌≢◌}
 use Rattle.xray_program.specs.declared.items.Item.{Item}
 use Rattle.xray_program.specs.declared.items.Item.TheVariants.{File, Given, Bare}
 use Rattle.xray_program.specs.declared.number_option.NumberOption.{NumberOption}
@@ -9,7 +10,8 @@ use Rattle.xray_program.specs.Words as words
 
 -- the command, with its files' names as bytes
 abbrev pub command_of : Command → words.Command
-command_of (Sim image script schedule setup) = words.Sim image.now script.now schedule.now setup
+command_of (Sim image script schedule trace audit setup) =
+    words.Sim image.now script.now schedule.now trace.now audit.now setup
 command_of (Plain image options) = words.Plain image.now options
 command_of (Extract image) = words.Extract image.now
 command_of (Asm text image threshold) = words.Asm text.now image.now threshold
@@ -24,9 +26,9 @@ item_of (Bare option) = words.Bare option.now
 abbrev pub row_of : NumberOption → words.NumberOption
 row_of o = record { name = o.name.now; least = o.least; most = o.most; default = o.default }
 
--- what a command's threads are run with lies within its ranges
+-- what a command's threads are run with lies within its ranges, and its outputs have different names
 abbrev pub HasRanges : Command → Type 0
-HasRanges (Sim image script schedule setup) = IsSetup setup
+HasRanges (Sim image script schedule trace audit setup) = IsSetup setup × (trace.now ≢ audit.now)
 HasRanges (Plain image options) = Unit {0}
 HasRanges (Extract image) = Unit {0}
 HasRanges (Asm text image threshold) = Unit {0}

@@ -14,28 +14,28 @@ use Rattle.xray_program.specs.Words.{Command, Sim, Plain, Extract, Asm}
 
 -- what comes of it
 abbrev pub Comes : DeskReads → (List ℕ → Entry) → Command → Outcome → Type 0
-Comes reads held (Sim image script schedule setup) = SimComes reads held image script schedule setup
+Comes reads held (Sim image script schedule trace audit setup) = SimComes reads held image script schedule trace audit setup
 Comes reads held (Plain image options) = PlainComes reads held image options
 Comes reads held (Extract image) = ExtractComes reads held image
 Comes reads held (Asm text image threshold) = AsmComes reads held text image threshold
 
 -- the names of its outputs
 abbrev pub outputs_of : Command → List (List ℕ)
-outputs_of (Sim image script schedule setup) = []
+outputs_of (Sim image script schedule trace audit setup) = trace ∷ audit ∷ []
 outputs_of (Plain image options) = []
 outputs_of (Extract image) = []
 outputs_of (Asm text image threshold) = image ∷ []
 
 -- whether one thing alone comes of it, over what a desk holds: not so where threads run in an order of their own
 abbrev pub is_decided : Command → Bool
-is_decided (Sim image script schedule setup) = true
+is_decided (Sim image script schedule trace audit setup) = true
 is_decided (Plain image options) = true
 is_decided (Extract image) = true
 is_decided (Asm text image threshold) = true
 
 -- whether it waits for nobody, and starts no thread
 abbrev pub is_still : Command → Bool
-is_still (Sim image script schedule setup) = true
+is_still (Sim image script schedule trace audit setup) = true
 is_still (Plain image options) = true
 is_still (Extract image) = true
 is_still (Asm text image threshold) = true

@@ -4,6 +4,7 @@ use Rattle.std.specs.Prelude.{◌≤◌, ℕ}
 use Rattle.xray_io.specs.declared.faults.Wall.{Wall}
 use Rattle.machine_step.specs.declared.limits.Limits.{Limits}
 use Rattle.machine_step.specs.declared.setup.Setup.{Setup}
+use Rattle.traced_run.specs.Fits.{SetupFits}
 use Rattle.xray_program.specs.declared.run_options.RunOptions.{RunOptions}
 
 -- what bounds each thread; only events have stamps, and none is printed
@@ -26,9 +27,10 @@ setup_of wall options = record {
 abbrev pub IsThreadCount : ℕ → Type 0
 IsThreadCount threads = (1 ≤ threads) × (threads ≤ 16)
 
--- a setup that threads can be run with: its numbers lie within their ranges
+-- a setup that threads can be run with: its numbers lie within their ranges, and fit the records of a trace
 pub record IsSetup (setup : Setup) : Type 0 where
   pub threads : IsThreadCount setup.threads
   pub size : (72 ≤ setup.size) × (setup.size ≤ 1048576)
   pub buffers : (setup.threads ≤ setup.max) × (setup.max ≤ 1024)
   pub stamps : (1 ≤ setup.limits.cpus) × (1 ≤ setup.limits.migrate)
+  pub fits : SetupFits setup

@@ -22,19 +22,19 @@ abbrev pub Replayed : Program → Plan → List Turns → Setup → List ThreadR
 Replayed program plan turns setup = IsReplayOf program (commands_of plan.lines) turns setup
 
 -- What comes of the judged inputs: a script at which a thread or the patcher may wait is refused for the first such line; else the turns
--- are replayed.
-abbrev pub Replays : (script : List ℕ) → Setup → Program → Plan → List Turns → Outcome → Type 0
-Replays script setup program plan turns =
+-- are replayed, and the trace and the audit are written.
+abbrev pub Replays : (script trace audit : List ℕ) → Setup → Program → Plan → List Turns → Outcome → Type 0
+Replays script trace audit setup program plan turns =
     RefuseIf (option_map waits_words (waiting_line plan.lines)) script (codes "script")
-    (Leaves (Traces (Replayed program plan turns setup) program setup))
+    (Leaves (Traces (Replayed program plan turns setup) program setup trace audit))
 
 -- what comes of the command
-abbrev pub SimComes : DeskReads → (List ℕ → Entry) → (image script schedule : List ℕ) → Setup → Outcome → Type 0
-SimComes reads held image script schedule setup =
+abbrev pub SimComes : DeskReads → (List ℕ → Entry) → (image script schedule trace audit : List ℕ) → Setup → Outcome → Type 0
+SimComes reads held image script schedule trace audit setup =
     Take image_form reads held image (λ program.
     Take (script_form program setup.threads) reads held script (λ plan.
     Take (schedule_form setup.threads) reads held schedule (λ turns.
-    Replays script setup program plan turns)))
+    Replays script trace audit setup program plan turns)))
 
 -- no thread decodes a torn sled: after the turns, when all threads have run out, each of their passings has decoded its sled whole
 abbrev pub DecodesWhole : Cast → List Turns → Type 0

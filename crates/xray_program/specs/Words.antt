@@ -11,7 +11,7 @@ use Rattle.xray_program.specs.declared.run_options.RunOptions.{RunOptions}
 
 -- a command with the names of its files, and its options
 pub data Command : Type 0 where
-  Sim : (image script schedule : List ℕ) → (setup : Setup) → Command
+  Sim : (image script schedule trace audit : List ℕ) → (setup : Setup) → Command
   Plain : (image : List ℕ) → (options : RunOptions) → Command
   Extract : (image : List ℕ) → Command
   Asm : (text image : List ℕ) → (threshold : ℕ) → Command
@@ -154,13 +154,15 @@ threshold_option = record { name = codes "--threshold"; least = 0; most = 429496
 
 -- ---- the commands
 
--- `sim` has three files, and the options of the commands that run threads; its setup is made of these, and begins at the wall time
+-- `sim` has five files, of which the last two have different names, and the options of the commands that run threads; its setup is made of
+-- these, and begins at the wall time
 abbrev pub sim_of : Wall → List Item → Option Command
 sim_of wall items =
     if have_only run_names items then of_parts (run_options items) (files_of items) else None
   where
     of_parts : Option RunOptions → List (List ℕ) → Option Command
-    of_parts (Some options) (image ∷ script ∷ schedule ∷ []) = Some (Sim image script schedule (setup_of wall options))
+    of_parts (Some options) (image ∷ script ∷ schedule ∷ trace ∷ audit ∷ []) =
+        if bytes_eq audit trace then None else Some (Sim image script schedule trace audit (setup_of wall options))
     of_parts _ _ = None
 
 -- `extract` has a file, and no options

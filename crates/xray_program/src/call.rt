@@ -1,24 +1,26 @@
 //! The top call.
-ghost use Rattle.std.specs.Prelude.{◌≡◌, Some};
+ghost use Rattle.std.specs.Prelude.{◌≡◌, OnOk, Some};
 ghost use Rattle.xray_io.specs.World.{desk_view, sink_view};
 ghost use Rattle.xray_program.specs.Answers.{Answered};
 ghost use Rattle.xray_program.specs.Commands.{IsStill};
 ghost use Rattle.xray_program.specs.CommandLine.{HasRanges, command_of};
 ghost use Rattle.xray_program.specs.Stops.{answer_of, told_of};
 ghost use Rattle.xray_program.specs.Words.{reading, texts};
-ghost use Rattle.xray_program.specs.Works.{Ends};
+ghost use Rattle.xray_program.specs.Works.{Ends, SaidFits};
 
 use crate::asm::Asm;
 use crate::extract::Extract;
 use crate::plain::Plain;
 use crate::sim::Sim;
 use crate::stop::Stop;
+use crate::traced::TraceFiles;
 use crate::words::{Command, read_words};
 use crate::work::perform;
 use std::alloc::Global;
 use std::sync::Wait;
 use std::thread::Threads;
 use step_sim::no_replay_tears_a_sled;
+use trace_flush::a_run_is_traced;
 use xray_io::{Desk, Gate, Sink, Wall};
 
 /// Does what `words` say, which don't hold the program's own name, with the files of `desk`, and
@@ -45,8 +47,9 @@ pub fn xray_still<D: Desk, O: Sink, E: Sink>(
         (record { desk = seen desk.new; out = got out.new; err = heard err.new })
         (D.along desk.old desk.new) result }
 {
-    // Says that no thread of a replay decodes a torn sled.
+    // Says that no thread of a replay decodes a torn sled, and that the trace of a run reads back.
     no_replay_tears_a_sled();
+    a_run_is_traced();
     match perform_words(alloc, words, wall, desk, out) {
         Ok(()) => 0,
         Err(stop) => {
@@ -89,10 +92,11 @@ fn perform_words<'a, D: Desk, O: Sink>(
     desk: &mut D,
     out: &mut O,
 ) -> Result<(), Stop<'a>>
-    ensures { let seen = desk_view D.held D.read_faults D.write_faults in
+    ensures ends { let seen = desk_view D.held D.read_faults D.write_faults in
         let got = sink_view O.written O.faults in
         Ends (reading wall (texts words.now)) (seen desk.old) (seen desk.new) (got out.old) (got out.new)
         (D.along desk.old desk.new) (answer_of result) (told_of result) }
+    ensures fits { OnOk result (SaidFits (reading wall (texts words.now))) }
 {
     match read_words(words, wall) {
         Some(command) => perform_command(alloc, command, desk, out),
@@ -118,6 +122,8 @@ fn perform_command<'a, D: Desk, O: Sink>(
             image,
             script,
             schedule,
+            trace,
+            audit,
             setup,
         } => {
             perform(
@@ -126,6 +132,7 @@ fn perform_command<'a, D: Desk, O: Sink>(
                     image,
                     script,
                     schedule,
+                    files: TraceFiles { trace, audit },
                     setup,
                 },
                 desk,

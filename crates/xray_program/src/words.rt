@@ -57,7 +57,8 @@ const THRESHOLD: NumberOption = NumberOption {
 /// What the program is asked to do, and the names of the files for it.
 #[derive(Clone, Copy, Debug)]
 pub(crate) enum Command<'a> {
-    /// Replays a schedule over an image and a script, and prints how its threads end.
+    /// Replays a schedule over an image and a script, writes the trace and the audit, and prints how
+    /// its threads end.
     Sim {
         /// The image file.
         image: &'a str,
@@ -65,6 +66,10 @@ pub(crate) enum Command<'a> {
         script: &'a str,
         /// The turns of the threads and the patcher.
         schedule: &'a str,
+        /// The trace file, which is an output.
+        trace: &'a str,
+        /// The audit, which is an output.
+        audit: &'a str,
         /// What the replay is made with.
         setup: Setup,
     },
@@ -132,7 +137,7 @@ fn read_extract(words: &[String]) -> Option<Command<'_>>
     Some(Command::Extract { image })
 }
 
-/// `sim IMAGE SCRIPT SCHEDULE`, with the options of commands that run threads.
+/// `sim IMAGE SCRIPT SCHEDULE TRACE AUDIT`, with the options of commands that run threads.
 fn read_sim(words: &[String], wall: Wall) -> Option<Command<'_>>
     ensures reads { option_map command_of result ≡ sim_of wall (items_of (texts words.now)) }
     ensures runs { IfSome result (λ command. HasRanges command) }
@@ -145,14 +150,18 @@ fn read_sim(words: &[String], wall: Wall) -> Option<Command<'_>>
     let image = items.next_file()?;
     let script = items.next_file()?;
     let schedule = items.next_file()?;
+    let trace = items.next_file()?;
+    let audit = items.next_file()?;
     match items.next_file() {
-        Some(_) => None,
-        None => Some(Command::Sim {
+        None if audit != trace => Some(Command::Sim {
             image,
             script,
             schedule,
+            trace,
+            audit,
             setup: options.setup(wall),
         }),
+        _ => None,
     }
 }
 

@@ -4,8 +4,8 @@ use Rattle.xray_program.specs.Words.{reading, texts}
 use Rattle.xray_program.proofs.Endings.{bad_line}
 use Rattle.xray_program.proofs.call.perform_words.Goals as goal
 
-pub returns-in-None : goal.returns-in-None
-returns-in-None g c =
+pub returns-in-None-clause-ends : goal.returns-in-None-clause-ends
+returns-in-None-clause-ends g c =
     let seen = desk_view g.D.Desk.held g.D.Desk.read_faults g.D.Desk.write_faults in
     let got = sink_view g.O.Sink.written g.O.Sink.faults in
     bad_line (reading c.args.wall (texts c.args.words.now)) (seen c.args.desk.now) (got c.args.out.now)
