@@ -1,8 +1,7 @@
 -- What words mean: one thing where they are decided, a refusal alone, and something in any case. A line a command.
-use Rattle.std.proofs.Common.{◌≡◌, ◌∙◌, ℕ, List, Option, Some, None, Bool, true, refl, sym}
+use Rattle.std.proofs.Common.{◌≡◌, ◌∙◌, ℕ, List, Option, Some, None, true, refl, sym}
 use Rattle.xray_io.specs.Desk.{Entry}
 use Rattle.xray_program.specs.Commands.{Comes, IsDecided, Means, TellsAll, is_decided}
-use Rattle.xray_program.specs.Inputs.{image_form}
 use Rattle.xray_program.specs.Outcomes.{Outcome, BadLine, written_by}
 use Rattle.xray_program.specs.Taking.{Sound}
 use Rattle.xray_program.specs.Words.{Command, Sim, Plain, Extract, Asm}

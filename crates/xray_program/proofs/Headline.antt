@@ -1,11 +1,11 @@
 -- The headline of `sim`, from what it means.
 use Rattle.std.specs.Prelude.{All}
 use Rattle.std.proofs.lemmas.List.Elements.{All-head, All-tail}
-use Rattle.std.proofs.Common.{◌≡◌, ◌∙◌, ℕ, List, [], ◌∷◌, length, map, Option, Some, None, option_map, Ok, inl, inr, refl, sym, ap, subst, codes}
-use Rattle.xray_io.specs.Desk.{Entry, Absent, Holds, made_to_hold}
+use Rattle.std.proofs.Common.{◌≡◌, ℕ, List, [], ◌∷◌, length, Option, Some, None, option_map, Ok, inl, inr, refl, subst, codes}
+use Rattle.xray_io.specs.Desk.{Entry, Holds, made_to_hold}
 use Rattle.xray_io.specs.Sink.{Adds}
 use Rattle.machine_step.specs.declared.setup.Setup.{Setup}
-use Rattle.patch_script.specs.Plans.{Plan, waiting_line}
+use Rattle.patch_script.specs.Plans.{waiting_line}
 use Rattle.patch_script.specs.Refusals.{commands_of}
 use Rattle.step_sim.specs.Along.{TearsNoSled}
 use Rattle.step_sim.specs.FaultWords.{waits_words}
@@ -27,7 +27,7 @@ use Rattle.xray_program.specs.Outputs.{AreWhole}
 use Rattle.xray_program.specs.Sim.{FollowsSchedule, Replayed, Replays, SimComes}
 use Rattle.xray_program.specs.Taking.{Form, Leaves, RefuseIf, Sound, Take}
 use Rattle.xray_program.specs.Traced.{IsTraced, Traces, written_of}
-use Rattle.xray_program.specs.Words.{Command, Sim}
+use Rattle.xray_program.specs.Words.{Command}
 use Rattle.xray_program.specs.Works.{SaidFits}
 use Rattle.xray_io.specs.World.{World}
 

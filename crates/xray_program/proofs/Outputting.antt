@@ -1,5 +1,5 @@
 -- Outputs that are made, and texts that are written.
-use Rattle.std.proofs.Common.{◌≡◌, ◌≢◌, ◌≤◌, ◌++◌, ◌∙◌, ℕ, List, [], ◌∷◌, Contains, Result, Ok, Err, inl, inr, refl, sym, ap, arith, subst}
+use Rattle.std.proofs.Common.{◌≡◌, ◌≢◌, ◌∙◌, ℕ, List, [], ◌∷◌, Ok, Err, inl, inr, refl, sym, arith, subst}
 use Rattle.std.proofs.lemmas.List.{append-nil}
 use Rattle.std.proofs.lemmas.List.Elements.{All-from_recursion, All-nil}
 use Rattle.xray_io.specs.Calls.{Call, Composes, Went, went_on}
@@ -7,7 +7,6 @@ use Rattle.xray_io.specs.Desk.{Entry, made_to_hold}
 use Rattle.xray_io.specs.Faults.{Rose}
 use Rattle.xray_io.specs.Outputs.{IsMaking, MakesOutput}
 use Rattle.xray_io.specs.World.{DeskView, desk_view}
-use Rattle.xray_io.specs.Writes.{Answer}
 use Rattle.xray_io.specs.declared.faults.WriteFault.{WriteFault}
 use Rattle.xray_program.specs.Order.{FailsAtOutput, MakesAll}
 use Rattle.xray_program.specs.Outputs.{AreWhole, AreUntouched, FailsAt, HoldsPrefix}

@@ -1,5 +1,5 @@
 -- `sim`: one thing comes of it, and something in any case.
-use Rattle.std.proofs.Common.{◌≡◌, ◌∙◌, ℕ, List, [], Option, Some, None, option_map, refl, sym, ap, codes}
+use Rattle.std.proofs.Common.{◌≡◌, ◌∙◌, ℕ, List, Option, Some, None, option_map, refl, sym, ap, codes}
 use Rattle.machine_step.specs.declared.setup.Setup.{Setup}
 use Rattle.patch_script.specs.declared.command.Command.{Command}
 use Rattle.patch_script.specs.FaultWords.{script_words}

@@ -1,5 +1,5 @@
 -- `sim`: the turns of its three inputs, and a script that waits.
-use Rattle.std.proofs.Common.{◌≡◌, ◌≢◌, ◌≤◌, ◌↔◌, ◌∙◌, ℕ, List, Option, Some, None, Result, Ok, Err, option_map, refl, sym, ap, subst, codes}
+use Rattle.std.proofs.Common.{◌≡◌, ℕ, List, Option, Some, None, Err, option_map, refl, subst, codes}
 use Rattle.fault_words.specs.Words.{words_text}
 use Rattle.machine_step.specs.declared.setup.Setup.{Setup}
 use Rattle.patch_script.specs.Plans.{Plan, waiting_line}
@@ -13,7 +13,7 @@ use Rattle.xray_io.specs.Desk.{Entry}
 use Rattle.xray_io.specs.World.{DeskView, SinkView}
 use Rattle.xray_program.specs.Inputs.{image_form, script_form, schedule_form}
 use Rattle.xray_program.specs.Order.{IsNoCall}
-use Rattle.xray_program.specs.Outcomes.{Outcome, Refused, Done}
+use Rattle.xray_program.specs.Outcomes.{Outcome, Refused}
 use Rattle.xray_program.specs.Sim.{Replays, SimComes}
 use Rattle.xray_program.specs.Takes.{Gives, IsFaultStop}
 use Rattle.xray_program.specs.Taking.{DeskReads, Form, RefuseIf, Take}

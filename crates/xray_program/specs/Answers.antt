@@ -1,7 +1,7 @@
 -- The contract of the top call: what was said, the world before the call and after it, and the status.
 use Rattle.std.specs.Prelude.{◌≡◌, ◌⊎◌, ◌↔◌, ℕ, List, Contains, Option, Some, None}
 use Rattle.xray_io.specs.Calls.{Call, Went}
-use Rattle.xray_io.specs.Desk.{Entry, Absent, Holds}
+use Rattle.xray_io.specs.Desk.{Absent, Holds}
 use Rattle.xray_io.specs.Faults.{Rose}
 use Rattle.xray_io.specs.Sink.{Adds, AddsPrefix}
 use Rattle.machine_step.specs.declared.setup.Setup.{Setup}

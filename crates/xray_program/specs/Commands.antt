@@ -1,5 +1,5 @@
 -- What words mean: what comes of the command that they say, and of what the desk holds.
-use Rattle.std.specs.Prelude.{◌≡◌, ◌≢◌, ℕ, List, [], ◌∷◌, Bool, true, MatchOption, Option, Some, None}
+use Rattle.std.specs.Prelude.{◌≡◌, ◌≢◌, ℕ, List, [], ◌∷◌, Bool, true, MatchOption, Option}
 use Rattle.std.specs.Option.{option_map_or}
 use Rattle.xray_io.specs.Desk.{Entry, Untold}
 use Rattle.xray_program.specs.Asm.{AsmComes}

@@ -1,13 +1,12 @@
 -- In which order a call asks its desk.
-use Rattle.std.specs.Prelude.{◌≡◌, ◌⊎◌, ℕ, ◌+◌, List, [], ◌∷◌, ◌++◌, length, codes, Option, None, Some, Result, Ok, Err}
+use Rattle.std.specs.Prelude.{◌≡◌, ◌⊎◌, ℕ, ◌+◌, List, [], ◌∷◌, ◌++◌, length, codes, Option, Ok, Err}
 use Rattle.std.specs.Option.{option_map_or}
 use Rattle.xray_io.specs.Calls.{Call}
-use Rattle.xray_io.specs.Desk.{Entry}
 use Rattle.xray_io.specs.Outputs.{IsMaking, Makes}
 use Rattle.xray_io.specs.Reads.{Reads, ReadsSome, ReadsUpTo, ReadsUpToFault}
 use Rattle.xray_io.specs.World.{DeskView}
 use Rattle.xray_io.specs.declared.faults.WriteFault.{WriteFault}
-use Rattle.xray_program.specs.Outcomes.{Outcome, BadLine, Unread, TooLong, Refused, Done, Fell, Ending, With, Unwritten, NoMemory}
+use Rattle.xray_program.specs.Outcomes.{BadLine, Unread, TooLong, Refused, Done, Fell, Ending, With, Unwritten, NoMemory}
 use Rattle.xray_program.specs.Words.{Command, Sim, Plain, Extract, Asm}
 
 -- ---- a line a command

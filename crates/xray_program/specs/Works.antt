@@ -7,7 +7,7 @@ use Rattle.fault_words.specs.Words.{words_text}
 use Rattle.xray_io.specs.Sink.{Adds}
 use Rattle.xray_program.specs.Commands.{Means, HadItsTurn, outputs_named}
 use Rattle.xray_program.specs.Order.{FailsAtOutput, InOrder, IsNoCall, IsUnmade, MakesAll}
-use Rattle.xray_program.specs.Outcomes.{Outcome, BadLine, Unread, TooLong, Refused, Done, Fell, Ending, With, Unwritten, NoMemory, status_at, line_at, written_by}
+use Rattle.xray_program.specs.Outcomes.{Outcome, BadLine, Unread, Refused, Done, Fell, Ending, With, Unwritten, NoMemory, status_at, line_at, written_by}
 use Rattle.xray_program.specs.Outputs.{AreWhole, FailsAt, FailsWriting, WritesNothing}
 use Rattle.xray_program.specs.Words.{Command, Sim, Plain, Extract, Asm}
 use Rattle.traced_run.specs.Fits.{SetupFits}

@@ -3,7 +3,6 @@ use Rattle.xray_io.specs.World.{desk_view}
 use Rattle.xray_program.specs.Inputs.{image_form, script_form, schedule_form}
 use Rattle.xray_program.specs.Sim.{Replays}
 use Rattle.xray_program.specs.Taking.{Sound}
-use Rattle.xray_program.specs.declared.sim_inputs.SimInputs.{SimInputs}
 use Rattle.xray_program.proofs.SimTurns.{AfterImage, AfterScript, AfterSchedule, Comes, given_before, to_schedule, to_script}
 use Rattle.xray_program.proofs.Ordering.{no_reads, read_on, stop_handed}
 use Rattle.xray_program.proofs.Turns.{handed_on, leads, leads_on, stops_at}
