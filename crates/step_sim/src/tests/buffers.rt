@@ -131,7 +131,7 @@ fn leaves(
         wall: Wall { secs: 0, micros: 0 },
         frequency: 0,
     };
-    let end = simulate(alloc, &image, &script, &schedule, &setup)?;
+    let end = SimStart::new(alloc, &image, &script, &setup)?.play(&schedule);
     assert_eq!(rt; end.sealed.as_slice(), sealed);
     assert_eq!(rt; end.first.as_slice(), first);
     assert_eq!(rt; end.buffers.len(), held.len());
