@@ -8,7 +8,7 @@ use Rattle.xray_program.specs.Commands.{Means, HadItsTurn, outputs_named}
 use Rattle.xray_program.specs.Order.{InOrder}
 use Rattle.xray_program.specs.Outcomes.{Outcome, BadLine, Unread, TooLong, Refused, Done, Fell, Ending, With, Unwritten, NoMemory, status_at, line_at, written_by}
 use Rattle.xray_program.specs.Outputs.{FailsWriting}
-use Rattle.xray_program.specs.Words.{Command}
+use Rattle.command_words.specs.Words.{Command}
 use Rattle.xray_program.specs.Stops.{stop_status}
 use Rattle.xray_program.specs.Works.{Ends, KeepsOthers, SaidFits, StandsBehind}
 use Rattle.xray_program.specs.declared.stop.Stop.{Stop}
@@ -65,7 +65,7 @@ by_ending laws Way said before after (With BadLine) fits (is, nothing) kept orde
   order = order;
   done = λ e. not_two 0 7 1 (λ x. cc) (λ x. cc) e;
   silent = λ e. absurd cc;
-  bad_line = (λ e. is, λ e. refl);
+  bad_line = λ five. (λ e. is, λ e. refl);
   refused = λ e. record { outcome = BadLine; is = refl; meant = means_bad said before.desk.held is };
   unread = λ e. absurd cc;
   unwritten = λ e. absurd cc;
@@ -82,7 +82,7 @@ by_ending laws Way said before after (With (Refused n kind refusal)) fits (meant
   order = order;
   done = λ e. not_two 0 7 2 (λ x. cc) (λ x. cc) e;
   silent = λ e. absurd cc;
-  bad_line = (λ e. absurd cc, λ e. absurd (read_it said before.desk.held (Refused n kind refusal) meant (λ x. cc) e));
+  bad_line = λ five. (λ e. absurd cc, λ e. absurd (read_it said before.desk.held (Refused n kind refusal) meant (λ x. cc) e));
   refused = λ e. record { outcome = Refused n kind refusal; is = refl; meant = meant };
   unread = λ e. absurd cc;
   unwritten = λ e. absurd cc;
@@ -99,7 +99,7 @@ by_ending laws Way said before after (With (TooLong n)) fits (meant, nothing) ke
   order = order;
   done = λ e. not_two 0 7 6 (λ x. cc) (λ x. cc) e;
   silent = λ e. absurd cc;
-  bad_line = (λ e. absurd cc, λ e. absurd (read_it said before.desk.held (TooLong n) meant (λ x. cc) e));
+  bad_line = λ five. (λ e. absurd cc, λ e. absurd (read_it said before.desk.held (TooLong n) meant (λ x. cc) e));
   refused = λ e. record { outcome = TooLong n; is = refl; meant = meant };
   unread = λ e. absurd cc;
   unwritten = λ e. absurd cc;
@@ -116,7 +116,7 @@ by_ending laws Way said before after (With (Unread n)) fits ((turn, cause), noth
   order = order;
   done = λ e. not_two 0 7 3 (λ x. cc) (λ x. cc) e;
   silent = λ e. absurd cc;
-  bad_line = (λ e. absurd cc, λ e. absurd (had_turn said before.desk.held n turn e));
+  bad_line = λ five. (λ e. absurd cc, λ e. absurd (had_turn said before.desk.held n turn e));
   refused = λ e. not_three 1 2 6 3 (λ x. cc) (λ x. cc) (λ x. cc) e;
   unread = λ e. record { name = n; is = refl; turn = turn; cause = cause };
   unwritten = λ e. absurd cc;
@@ -147,7 +147,7 @@ by_ending laws Way said before after (With (Done outputs text)) fits (meant, wri
     out = writes.printed;
   };
   silent = λ e. says_nothing before.err after.err told;
-  bad_line = (λ e. absurd cc, λ e. absurd (read_it said before.desk.held (Done outputs text) meant (λ x. cc) e));
+  bad_line = λ five. (λ e. absurd cc, λ e. absurd (read_it said before.desk.held (Done outputs text) meant (λ x. cc) e));
   refused = λ e. not_three 1 2 6 0 (λ x. cc) (λ x. cc) (λ x. cc) e;
   unread = λ e. absurd cc;
   unwritten = λ e. absurd cc;
@@ -173,7 +173,7 @@ by_ending laws Way said before after (With (Fell outputs text trouble)) fits (me
     out = writes.printed;
   };
   silent = λ e. absurd cc;
-  bad_line = (λ e. absurd cc, λ e. absurd (read_it said before.desk.held (Fell outputs text trouble) meant (λ x. cc) e));
+  bad_line = λ five. (λ e. absurd cc, λ e. absurd (read_it said before.desk.held (Fell outputs text trouble) meant (λ x. cc) e));
   refused = λ e. not_three 1 2 6 7 (λ x. cc) (λ x. cc) (λ x. cc) e;
   unread = λ e. absurd cc;
   unwritten = λ e. absurd cc;
@@ -190,7 +190,7 @@ by_ending laws Way said before after (Unwritten n) fits fails kept order told = 
   order = order;
   done = λ e. not_two 0 7 4 (λ x. cc) (λ x. cc) e;
   silent = λ e. absurd cc;
-  bad_line = (λ e. absurd cc, λ e. absurd (read_it said before.desk.held fails.outcome fails.comes (not_bad fails.outcome (fails.outputs, fails.text) fails.writes) e));
+  bad_line = λ five. (λ e. absurd cc, λ e. absurd (read_it said before.desk.held fails.outcome fails.comes (not_bad fails.outcome (fails.outputs, fails.text) fails.writes) e));
   refused = λ e. not_three 1 2 6 4 (λ x. cc) (λ x. cc) (λ x. cc) e;
   unread = λ e. absurd cc;
   unwritten = λ e. record {
@@ -214,14 +214,14 @@ by_ending laws Way said before after (Unwritten n) fits fails kept order told = 
         → Rose before.desk.write_faults after.desk.write_faults ⊎ Rose before.out.faults after.out.faults
     fault (inl (at, silent)) = inl at.fault
     fault (inr at) = inr at.fault
-by_ending laws Way said before after NoMemory fits (read, nothing) kept order told = record {
+by_ending laws Way said before after NoMemory fits nothing kept order told = record {
   ending = NoMemory;
   status = refl;
   told = told;
   order = order;
   done = λ e. not_two 0 7 5 (λ x. cc) (λ x. cc) e;
   silent = λ e. absurd cc;
-  bad_line = (λ e. absurd cc, λ e. absurd (read e));
+  bad_line = λ five. absurd (five refl);
   refused = λ e. not_three 1 2 6 5 (λ x. cc) (λ x. cc) (λ x. cc) e;
   unread = λ e. absurd cc;
   unwritten = λ e. absurd cc;

@@ -6,17 +6,19 @@ use Rattle.xray_io.specs.Desk.{Entry, Holds, made_to_hold}
 use Rattle.xray_io.specs.Sink.{Adds}
 use Rattle.machine_step.specs.declared.setup.Setup.{Setup}
 use Rattle.patch_script.specs.Plans.{waiting_line}
+use Rattle.patch_script.specs.declared.command.Command.{Command as PatchCommand}
 use Rattle.patch_script.specs.Refusals.{commands_of}
 use Rattle.step_sim.specs.Along.{TearsNoSled}
 use Rattle.step_sim.specs.FaultWords.{waits_words}
 use Rattle.step_sim.specs.Replay.{AllRunOut, Cast, Moment, scheduled}
-use Rattle.step_sim.specs.Replayed.{cast_with}
+use Rattle.step_sim.specs.Replayed.{IsReplayOf, cast_with, spare_of}
 use Rattle.step_sim.specs.Schedules.{schedule_of}
 use Rattle.step_sim.specs.declared.turns.Turns.{Turns}
 use Rattle.trace_flush.specs.Audit.{audit_text}
 use Rattle.trace_flush.specs.Flush.{IsTraceOf, trace_bytes}
 use Rattle.trace_flush.specs.Lines.{accounts_of}
 use Rattle.traced_run.specs.Fits.{SetupFits}
+use Rattle.traced_run.specs.Losses.{AreLost}
 use Rattle.traced_run.specs.Runs.{IsRun, ThreadRun}
 use Rattle.xray_image.specs.Program.{IsAccepted, Program}
 use Rattle.xray_program.specs.Answers.{IsSimulated}
@@ -25,9 +27,10 @@ use Rattle.xray_program.specs.Inputs.{image_form, script_form, schedule_form}
 use Rattle.xray_program.specs.Outcomes.{Outcome, Done}
 use Rattle.xray_program.specs.Outputs.{AreWhole}
 use Rattle.xray_program.specs.Sim.{FollowsSchedule, Replayed, Replays, SimComes}
+use Rattle.xray_program.specs.Setups.{setup_of}
 use Rattle.xray_program.specs.Taking.{Form, Leaves, RefuseIf, Sound, Take}
 use Rattle.xray_program.specs.Traced.{IsTraced, Traces, written_of}
-use Rattle.xray_program.specs.Words.{Command}
+use Rattle.command_words.specs.Words.{Command}
 use Rattle.xray_program.specs.Works.{SaidFits}
 use Rattle.xray_io.specs.World.{World}
 
@@ -70,9 +73,15 @@ abbrev pub TracesRuns : Type 0
 TracesRuns = (bytes : List ℕ) (program : Program) (setup : Setup) (runs : List ThreadRun) → IsAccepted bytes program → SetupFits setup
     → IsRun program setup runs → IsTraceOf setup runs (trace_bytes setup runs)
 
+-- a replay loses few segments
+abbrev pub LosesAsQueued : Type 0
+LosesAsQueued = (program : Program) (script : List PatchCommand) (text : List ℕ) (schedule : List Turns) (setup : Setup) (runs : List ThreadRun)
+    → schedule_of setup.threads text ≡ Ok schedule → IsReplayOf program script schedule setup runs → AreLost setup.size (spare_of setup) runs
+
 -- what the crates below say
 pub record CallLaws : Type 0 where
   pub tears : TearsNone
+  pub loses : LosesAsQueued
   pub traced : TracesRuns
 
 -- both outputs of a run hold their bytes
@@ -103,6 +112,7 @@ simulated_by laws before after i s c t a image script schedule setup fits output
     let still = unrefused (waiting_line second.value.lines) s (codes "script")
     (Leaves (Traces (Replayed first.value second.value third.value setup) first.value setup t a)) outputs text third.next in
     let traces = left_alike (Traces (Replayed first.value second.value third.value setup) first.value setup t a) outputs text still.1 in
+    let losses = laws.loses first.value (commands_of second.value.lines) schedule third.value setup traces.runs third.reads traces.lawful in
     let hold = files_hold t a setup traces.runs outputs held after.desk.held traces.outputs_are whole in
     let Added : List ℕ → Type 0 = λ more. Adds before.out.written after.out.written more in
     record {
@@ -117,8 +127,10 @@ simulated_by laws before after i s c t a image script schedule setup fits output
         schedule_reads = third.reads;
         nobody_waits = still.0;
         replayed = traces.lawful;
+        losses = losses;
         whole = λ last out. laws.tears (cast_with first.value (commands_of second.value.lines) traces.runs) setup.threads schedule third.value last third.reads out;
       };
+      few = losses.few;
       file = trace_bytes setup traces.runs;
       traced = laws.traced image first.value setup traces.runs first.reads fits traces.run;
       trace_holds = hold.0;
@@ -129,6 +141,6 @@ simulated_by laws before after i s c t a image script schedule setup fits output
 pub simulated : CallLaws → (said : Option Command) (before after : World) → SaidFits said → (outputs : List (List ℕ × List ℕ)) (text : List ℕ)
     → Means said before.desk.held (Done outputs text) → AreWhole outputs before.desk.held after.desk.held
     → Adds before.out.written after.out.written text → IsSimulated said before after
-simulated laws said before after fits outputs text meant whole adds i s c t a image script schedule setup says image_held script_held schedule_held =
-    simulated_by laws before after i s c t a image script schedule setup (subst SaidFits says fits) outputs text image_held script_held schedule_held (rw says at meant)
+simulated laws said before after fits outputs text meant whole adds i s c t a image script schedule options says image_held script_held schedule_held =
+    simulated_by laws before after i s c t a image script schedule (setup_of options) (subst SaidFits says fits) outputs text image_held script_held schedule_held (rw says at meant)
     whole adds

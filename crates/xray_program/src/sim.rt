@@ -1,14 +1,15 @@
 //! `sim`: the replay of a schedule over an image and a script.
 ghost use Rattle.std.specs.Prelude.{◌≡◌, [], IfOk};
-ghost use Rattle.xray_program.specs.Setups.{IsSetup};
+ghost use Rattle.command_words.specs.Ranges.{AreRunOptions};
 
 use crate::input::{fault_stop, take};
 use crate::inputs::{ImageKind, ScheduleKind, ScriptKind};
+use crate::setups::setup_of;
 use crate::sim_inputs::SimInputs;
 use crate::stop::Stop;
 use crate::traced::{RunLeft, TraceFiles, deliver_run, room_for};
 use crate::work::Work;
-use machine_step::Setup;
+use command_words::RunOptions;
 use std::alloc::Global;
 use step_sim::{SimEnd, SimStart};
 use xray_io::{Desk, Sink};
@@ -28,27 +29,28 @@ pub(crate) struct Sim<'a> {
     /// The names of the trace and the audit, which are the outputs.
     pub(crate) files: TraceFiles<'a>,
     /// What the replay is made with.
-    pub(crate) setup: Setup,
-    ghost ranges: { IsSetup setup },
+    pub(crate) options: RunOptions,
+    ghost ranges: { AreRunOptions options },
 }
 
 impl<'a> Work<'a> for Sim<'a> {
+    ghost use Rattle.xray_program.specs.Setups.{setup_of};
     ghost use Rattle.xray_program.specs.Sim.{Replays};
     ghost use Rattle.xray_program.specs.SimInputs.{AreReadFor};
-    ghost use Rattle.xray_program.specs.Words as words;
+    ghost use Rattle.command_words.specs.Words as words;
 
     type Inputs = SimInputs;
 
     ghost says = { λ s. words.Sim s.image.now s.script.now s.schedule.now
-        s.files.trace.now s.files.audit.now s.setup };
+        s.files.trace.now s.files.audit.now s.options };
 
-    ghost yields = { λ s inputs. Replays s.script.now s.files.trace.now s.files.audit.now s.setup
+    ghost yields = { λ s inputs. Replays s.script.now s.files.trace.now s.files.audit.now (setup_of s.options)
         inputs.image inputs.script inputs.schedule };
 
-    ghost fits = { λ s inputs. AreReadFor s.setup.threads inputs };
+    ghost fits = { λ s inputs. AreReadFor s.options.bounds.threads inputs };
 
     fn take<D: Desk>(&self, alloc: Global, desk: &mut D) -> Result<SimInputs, Stop<'a>> {
-        let threads = self.setup.threads;
+        let threads = self.options.bounds.threads;
         let image = take(alloc, desk, self.image, &ImageKind)?;
         let kind = ScriptKind {
             image: &image,
@@ -70,11 +72,12 @@ impl<'a> Work<'a> for Sim<'a> {
         desk: &mut D,
         out: &mut O,
     ) -> Result<(), Stop<'a>> {
-        let lines = room_for(alloc, self.setup.threads)?;
-        match SimStart::new(alloc, &inputs.image, &inputs.script, &self.setup) {
+        let setup = setup_of(self.options);
+        let lines = room_for(alloc, setup.threads)?;
+        match SimStart::new(alloc, &inputs.image, &inputs.script, &setup) {
             Ok(start) => {
                 let left = left_of(start.play(&inputs.schedule));
-                deliver_run(desk, out, &self.files, &self.setup, left, lines)
+                deliver_run(desk, out, &self.files, &setup, left, lines)
             }
             Err(fault) => Err(fault_stop(self.script, SCRIPT, &fault)),
         }
