@@ -422,7 +422,14 @@ const ROWS: [Row; 17] = [
     // The numbers of the words stand in the header, in the preamble and in the audit.
     Row {
         text: STRAIGHT_LINE,
-        options: &["--frequency", "18446744073709551615", "--pid", "2147483647", "--wall", "18446744073709551615"],
+        options: &[
+            "--frequency",
+            "18446744073709551615",
+            "--pid",
+            "2147483647",
+            "--wall",
+            "18446744073709551615",
+        ],
         script: TRACED,
         schedule: "",
         trace: &[
@@ -447,18 +454,32 @@ const ROWS: [Row; 17] = [
 ];
 
 /// Assembles the image of a row, and checks what its replay leaves.
-fn assert_leaves<R: Abort + Threads + Wait + Sync + AllocGlobal>(rt: &R, row: &Row) -> Result<(), Fail> {
+fn assert_leaves<R: Abort + Threads + Wait + Sync + AllocGlobal>(
+    rt: &R,
+    row: &Row,
+) -> Result<(), Fail> {
     let alloc = rt.alloc();
     let mut desk = desk_of(alloc, &[], b"", row.script, row.schedule)?;
     desk.put("x", row.text.as_bytes())?;
-    assert_eq!(rt; run_words(rt, &["asm", "x", "i"], &mut desk, &[], &[])?.status, 0);
+    assert_eq!(rt;
+        run_words(rt, &["asm", "x", "i"], &mut desk, &[], &[])?.status,
+        0
+    );
     let mut words = Vec::from_slice(alloc, &SIM)?;
     words.extend_from_slice(row.options)?;
     let run = run_words(rt, &words, &mut desk, &[], &[])?;
     assert_eq!(rt; run.err.as_str(), "", "{}", row.audit);
     assert_eq!(rt; run.status, 0, "{}", row.audit);
-    assert_eq!(rt; desk.get("t").ok_or("no trace")?, row.trace, "{}", row.audit);
-    assert_eq!(rt; std::str::from_utf8(desk.get("a").ok_or("no audit")?)?, row.audit);
+    assert_eq!(rt;
+        desk.get("t").ok_or("no trace")?,
+        row.trace,
+        "{}",
+        row.audit
+    );
+    assert_eq!(rt;
+        std::str::from_utf8(desk.get("a").ok_or("no audit")?)?,
+        row.audit
+    );
     Ok(())
 }
 
@@ -499,7 +520,9 @@ fn buffers_have_their_ranges(rt: HostRuntime) -> Result<(), Fail> {
 
 /// The desk's calls are two reads of each input, the creation and the append of the trace, and those of the audit.
 #[test]
-fn a_call_of_the_desk_that_fails_leaves_later_outputs_untouched(rt: HostRuntime) -> Result<(), Fail> {
+fn a_call_of_the_desk_that_fails_leaves_later_outputs_untouched(
+    rt: HostRuntime,
+) -> Result<(), Fail> {
     const OLD: &[u8] = b"old";
     let trace = ROWS[0].trace;
     let audit = ROWS[0].audit.as_bytes();
@@ -510,7 +533,7 @@ fn a_call_of_the_desk_that_fails_leaves_later_outputs_untouched(rt: HostRuntime)
         (&[9], &[], "xray: a: write fault\n", trace, b""),
         (&[], &[0], "xray: output: write fault\n", trace, audit),
     ] {
-        let mut desk = desk_of(rt.alloc(), failing, &IMAGE, TRACED, "")?;
+        let mut desk = desk_of(rt.alloc(), failing, &IMAGE, TRACED, "p 1")?;
         desk.put("t", OLD)?;
         desk.put("a", OLD)?;
         let run = run_words(&rt, &SIM, &mut desk, out_failing, &[])?;
@@ -519,7 +542,11 @@ fn a_call_of_the_desk_that_fails_leaves_later_outputs_untouched(rt: HostRuntime)
         assert_eq!(rt; run.out.as_str(), "", "{line}");
         assert_eq!(rt; desk.get("t").ok_or("no trace")?, left, "{line}");
         assert_eq!(rt; desk.get("a").ok_or("no audit")?, told, "{line}");
-        assert_eq!(rt; desk.get("i").ok_or("no image")?, IMAGE.as_slice(), "{line}");
+        assert_eq!(rt;
+            desk.get("i").ok_or("no image")?,
+            IMAGE.as_slice(),
+            "{line}"
+        );
     }
     Ok(())
 }
