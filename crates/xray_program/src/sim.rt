@@ -10,6 +10,7 @@ use crate::stop::Stop;
 use crate::traced::{RunLeft, TraceFiles, deliver_run, room_for};
 use crate::work::Work;
 use command_words::RunOptions;
+use machine_step::Steps;
 use std::alloc::Global;
 use step_sim::{SimEnd, SimStart};
 use xray_io::{Desk, Sink};
@@ -74,7 +75,8 @@ impl<'a> Work<'a> for Sim<'a> {
     ) -> Result<(), Stop<'a>> {
         let setup = setup_of(self.options);
         let lines = room_for(alloc, setup.threads)?;
-        match SimStart::new(alloc, &inputs.image, &inputs.script, &setup) {
+        let steps = Steps::new(alloc, &inputs.image)?;
+        match SimStart::new(alloc, &steps, &inputs.script, &setup) {
             Ok(start) => {
                 let left = left_of(start.play(&inputs.schedule));
                 deliver_run(desk, out, &self.files, &setup, left, lines)

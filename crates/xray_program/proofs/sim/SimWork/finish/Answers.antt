@@ -6,6 +6,7 @@ use Rattle.step_sim.specs.Replayed.{IsSimulated}
 use Rattle.step_sim.specs.Schedules.{AreTurnsOf}
 use Rattle.step_sim.specs.Starts.{Start}
 use Rattle.machine_step.specs.declared.setup.Setup.{Setup}
+use Rattle.xray_image.specs.Program.{Program}
 use Rattle.xray_io.specs.World.{desk_view, sink_view}
 use Rattle.xray_program.specs.Setups.{setup_of}
 use Rattle.xray_program.specs.Sim.{Replayed, Replays}
@@ -34,8 +35,11 @@ returns-in-Ok-clause-finishes g c =
     let left = c.left_of-left.result in
     let P : Start → Type 0 = λ start.
     IsSimulated start.program start.script inputs.schedule start.setup end.cpus.items end.sealed.items end.segments.items end.first.items end.buffers.items in
+    let Q : Program → Type 0 = λ program.
+    IsSimulated program (commands_of inputs.script.lines) inputs.schedule setup end.cpus.items end.sealed.items end.segments.items end.first.items
+    end.buffers.items in
     let is : IsSimulated inputs.image (commands_of inputs.script.lines) inputs.schedule setup end.cpus.items end.sealed.items end.segments.items end.first.items
-    end.buffers.items = subst P c.in-Ok.ensures.start c.play.ensures in
+    end.buffers.items = subst Q c.in_ok-steps.ensures.program (subst P c.in-Ok.ensures.start c.play.ensures) in
     let same = c.left_of-left.ensures in
     let leaves = leaves_same setup is.runs end.cpus.items left.cpus.items end.segments.items left.segments.items end.first.items left.first.items
     end.buffers.items left.buffers.items same.cpus same.segments same.first same.buffers is.leaves in
@@ -52,15 +56,15 @@ returns-in-Ok-clause-finishes g c =
     (seen c.args.desk.now) (seen c.deliver_run.new.desk) (got c.args.out.now) (got c.deliver_run.new.out)
     (g.D.Desk.along c.args.desk.now c.deliver_run.new.desk) c.deliver_run.result
     (sim_leaves s.script.now (waiting_line inputs.script.lines) (Leaves Are) _
-    (λ line waits. let told = (c.new.ensures.waits line).1 waits in cc) (outputs, text, traces, refl))
+    (λ line waits. let told = (c.new-2.ensures.waits line).1 waits in cc) (outputs, text, traces, refl))
     (c.deliver_run.ensures.delivers is.runs leaves))
 
-pub returns-in-Err-clause-finishes : goal.returns-in-Err-clause-finishes
-returns-in-Err-clause-finishes g c =
+pub returns-clause-finishes : goal.returns-clause-finishes
+returns-clause-finishes g c =
     let seen = desk_view g.D.Desk.held g.D.Desk.read_faults g.D.Desk.write_faults in
     let got = sink_view g.O.Sink.written g.O.Sink.faults in
     let s = c.args.self.now in
     let inputs = c.args.inputs.now in
     sim_refuses s.script.now s.files.trace.now s.files.audit.now (setup_of s.options) inputs.image inputs.script inputs.schedule (seen c.args.desk.now) (got c.args.out.now)
     (g.D.Desk.along c.args.desk.now c.args.desk.now) (record { calls = []; way = g.met.D.Desk.along_none c.args.desk.now; are = refl })
-    c.in-Err.fault c.fault_stop.result (λ line is. (c.new.ensures.waits line).0 (cc)) c.fault_stop.ensures
+    c.in-Err.fault c.fault_stop.result (λ line is. (c.new-2.ensures.waits line).0 (cc)) c.fault_stop.ensures
