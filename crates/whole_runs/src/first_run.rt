@@ -104,10 +104,7 @@ fn a_lone_dash_names_a_file(rt: HostRuntime) -> Result<(), Fail> {
 /// Each input is read in two calls: one for its bytes, and one that finds its end.
 #[test]
 fn a_read_that_fails_names_the_input_whose_turn_it_was(rt: HostRuntime) -> Result<(), Fail> {
-    for (call, line) in [
-        (1, "xray: i: read fault\n"),
-        (4, "xray: c: read fault\n"),
-    ] {
+    for (call, line) in [(1, "xray: i: read fault\n"), (4, "xray: c: read fault\n")] {
         let mut desk = desk_of(rt.alloc(), &[call], &IMAGE, SCRIPT, SCHEDULE)?;
         let run = run_words(&rt, &SIM, &mut desk, &[], &[])?;
         assert_eq!(rt; run.status, 3, "{call}");
