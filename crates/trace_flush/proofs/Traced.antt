@@ -65,7 +65,7 @@ other_blocks setup thread other (events ∷ segs) apart = elim (eqb_tells thread
   | inr not_same ↦ rw not_same.0 (other_blocks setup thread other segs apart)
 ]
 
--- the blocks of runs from one of a number on
+-- the blocks of runs, from this thread on
 abbrev blocks_from : Setup → ℕ → List ThreadRun → List Block
 blocks_from setup k runs = flat_map (thread_blocks setup) (enumerate_from k runs)
 
