@@ -49,6 +49,7 @@ fn begins(rt: &HostRuntime, passings: u32) -> Result<bool, Fail> {
 /// A number below a bound, drawn from a seed.
 fn draw(seed: &mut u64, bound: u32) -> u32
     requires { 0 < bound }
+    ensures { result < bound }
 {
     *seed = seed
         .wrapping_mul(6_364_136_223_846_793_005)
