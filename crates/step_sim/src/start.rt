@@ -51,9 +51,9 @@ impl<'a, 's> Model for SimStart<'a, 's> {
 }
 
 impl<'a, 's> SimStart<'a, 's> {
-    /// Takes all memory of a replay of this script over the image of these steps. `Waits` comes
-    /// exactly where the script has a line at which somebody may wait, and tells the first;
-    /// `NoMemory` where memory was refused.
+    /// Takes all memory of a replay of this script over the image of these steps. `Waits` comes exactly
+    /// when the script has a line at which somebody may wait, with the number of the first; `NoMemory`
+    /// if memory was refused.
     pub fn new(
         alloc: Global,
         steps: &'a Steps<'a>,
@@ -89,7 +89,12 @@ impl<'a, 's> SimStart<'a, 's> {
         })
     }
 
-    /// Replays a schedule, as `simulate` tells. Takes no memory, and always comes to an end.
+    /// Replays a schedule: the lines in order, whose turns are loads of the threads and micro steps of
+    /// the patcher; then thread 1 runs to its end, then thread 2, up to the last. The threads start
+    /// after the micro steps before the script's `go`. What is left of a line whose thread has ended,
+    /// or of one of the patcher after the script's last step, does nothing and takes no time. The
+    /// micro steps that are left when all threads have ended aren't made, since nobody loads after
+    /// them. Takes no memory, and always comes to an end.
     pub fn play(self, schedule: &Schedule) -> SimEnd<'a>
         requires { All (AreTurnsOf self.setup.threads) schedule.now }
         ensures { IsSimulated self.entry.program self.entry.script schedule.now self.entry.setup

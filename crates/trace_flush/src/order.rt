@@ -1,6 +1,6 @@
 //! The order of a flush.
 
-ghost use Rattle.std.specs.Prelude.{◌≡◌, List, IsPermutation, AllPairs, filter};
+ghost use Rattle.std.specs.Prelude.{◌≡◌, All, List, IsPermutation, IsTrue, AllPairs, filter};
 ghost use Rattle.fdr_buffer.specs.Filled.{Filled};
 ghost use Rattle.machine_step.specs.declared.setup.Setup.{Setup};
 ghost use Rattle.traced_run.specs.Kept.{kept_buffers};
@@ -26,6 +26,9 @@ pub fn arrange(buffers: &mut Vec<Buffer>)
         → buffers.new.items ≡ kept_buffers setup runs }
     ensures stay { (setup : Setup) (runs : List ThreadRun) → buffers.old.items ≡ kept_buffers setup runs
         → buffers.new.items ≡ kept_buffers setup runs }
+    // Each of them was begun, as a block of a trace has to be.
+    ensures begun { (setup : Setup) (runs : List ThreadRun) → buffers.old.items ≡ kept_buffers setup runs
+        → All (λ buffer. IsTrue buffer.begun) buffers.new.items }
 {
     segments_hold_all();
     buffers.retain(|buffer| buffer.events() > 0);

@@ -132,7 +132,7 @@ fn leaves(
         frequency: 0,
     };
     let steps = Steps::new(alloc, &image)?;
-    let end = simulate(alloc, &steps, &script, &schedule, &setup)?;
+    let end = SimStart::new(alloc, &steps, &script, &setup)?.play(&schedule);
     assert_eq!(rt; end.sealed.as_slice(), sealed);
     assert_eq!(rt; end.first.as_slice(), first);
     assert_eq!(rt; end.buffers.len(), held.len());

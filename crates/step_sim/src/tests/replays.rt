@@ -61,7 +61,10 @@ fn replay_of<'a>(
         wall: Wall { secs: 0, micros: 0 },
         frequency: 0,
     };
-    Ok(simulate(alloc, steps, &script, &schedule, &setup))
+    Ok(match SimStart::new(alloc, steps, &script, &setup) {
+        Ok(start) => Ok(start.play(&schedule)),
+        Err(fault) => Err(fault),
+    })
 }
 
 /// The marks of a thread as they are printed.
