@@ -29,7 +29,7 @@ const OUTPUTS_AN_A: [u8; 170] = [
     0, 0, 0, 0, 0, 0, 0, 0,
 ];
 
-/// The limits that a run has where nothing else is said.
+/// The limits of a run unless a test says otherwise.
 const DEFAULT_LIMITS: Limits = Limits {
     fuel: 10_000_000,
     passings: 1_048_576,

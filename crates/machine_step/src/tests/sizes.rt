@@ -1,4 +1,4 @@
-//! What takes memory, at its limits and at sizes between them: with ample memory it answers.
+//! Calls that allocate, at their limits and at sizes between them: with enough memory they answer.
 
 ghost use Rattle.std.specs.Prelude.{◌<◌};
 
@@ -11,13 +11,13 @@ use xray_image::read_image;
 /// `push rax`.
 const PUSH: u8 = 0x50;
 
-/// How many values a thread's stack has at the most.
+/// The most values on a thread's stack.
 const STACK: u32 = 65_536;
 
-/// How many passings a command lets a thread make at the most.
+/// The most passings that a command allows a thread.
 const LIMIT: u32 = 1_048_576;
 
-/// Whether a plain run over the steps of so many pushes makes all that the stack has room for.
+/// Whether a plain run over the steps of `units` pushes makes as many as fit the stack.
 fn makes_all_steps(rt: &HostRuntime, units: u32) -> Result<bool, Fail> {
     let code = vec![in rt.alloc(); PUSH; units as usize]?;
     let image = image_of(rt, &code)?;
@@ -29,7 +29,7 @@ fn makes_all_steps(rt: &HostRuntime, units: u32) -> Result<bool, Fail> {
     Ok(run.end == End::BadTarget && run.instructions == u64::from(units))
 }
 
-/// Whether a thread with room for so many marks begins, before its first passing if it has one.
+/// Whether a thread with room for `passings` marks begins: before its first passing, if it has one.
 fn begins(rt: &HostRuntime, passings: u32) -> Result<bool, Fail> {
     let image = read_image(rt.alloc(), &OUTPUTS_AN_A)?;
     let steps = Steps::new(rt.alloc(), &image)?;
