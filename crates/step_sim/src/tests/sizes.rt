@@ -1,4 +1,4 @@
-//! What takes memory, at its limits and at sizes between them: with ample memory it answers.
+//! Calls that allocate, at their limits and at sizes between them: with enough memory they answer.
 
 ghost use Rattle.std.specs.Prelude.{◌<◌};
 
@@ -11,10 +11,10 @@ use std::process::Abort;
 use xray_image::read_image;
 use xray_io::Wall;
 
-/// How many bytes the buffers of a replay have together at the most.
+/// The most bytes that the buffers of a replay have together.
 const ROOM: u32 = 67_108_864;
 
-/// Whether all threads of a replay of these numbers return. A thread makes two passings.
+/// Whether all threads of a replay with these numbers return. A thread makes two passings.
 fn all_return(
     rt: &impl Abort,
     alloc: Global,
@@ -44,7 +44,7 @@ fn all_return(
     Ok(end.cpus.len() == threads as usize && end.cpus.iter().all(returned))
 }
 
-/// Whether a text of so many lines is read as so many turns.
+/// Whether a text of `lines` lines is read as that many turns.
 fn reads_all_lines(alloc: Global, lines: u32) -> Result<bool, Fail> {
     let mut text = Vec::new(alloc);
     for _ in 0..lines {
