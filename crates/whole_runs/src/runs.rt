@@ -81,7 +81,7 @@ pub fn run_words<R: Threads + Wait + Sync + AllocGlobal, D: Desk>(
     for word in words {
         said.push(String::from_str(alloc, word)?)?;
     }
-    let wall = Wall { secs: 0, micros: 0 };
+    let wall = Wall { secs: 7, micros: 8 };
     let mut out = MemSink::new(alloc, Vec::from_slice(alloc, out_failing)?);
     let mut err = MemSink::new(alloc, Vec::from_slice(alloc, err_failing)?);
     let status = xray(rt, alloc, &said, wall, desk, &mut out, &mut err, &OpenGate);

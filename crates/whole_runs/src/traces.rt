@@ -8,6 +8,9 @@ use std::sync::Wait;
 use std::test::Fail;
 use std::thread::Threads;
 
+/// The words of a replay whose trace has a wall time of 0.
+const REPLAY: [&str; 8] = ["sim", "i", "s", "c", "t", "a", "--wall", "0"];
+
 /// What `sim` is asked for, and what it leaves. The bytes of the traces were worked by hand, record by record.
 struct Row<'r> {
     /// The assembler text of the image.
@@ -20,11 +23,11 @@ struct Row<'r> {
     audit: &'r str,
 }
 
-const ROWS: [Row; 17] = [
+const ROWS: [Row; 18] = [
     // A call is recorded.
     Row {
         text: STRAIGHT_LINE,
-        options: &[],
+        options: &["--wall", "0"],
         script: TRACED,
         schedule: "",
         trace: &[
@@ -49,7 +52,7 @@ const ROWS: [Row; 17] = [
     // Nothing is recorded without patching.
     Row {
         text: STRAIGHT_LINE,
-        options: &[],
+        options: &["--wall", "0"],
         script: "go",
         schedule: "",
         trace: &[
@@ -67,7 +70,7 @@ const ROWS: [Row; 17] = [
     // A passing that has begun is recorded, although its sled is unpatched meanwhile.
     Row {
         text: STRAIGHT_LINE,
-        options: &[],
+        options: &["--wall", "0"],
         script: "patch\nset_handler\ninit\ngo\nunpatch",
         schedule: "t 1 1\np 2",
         trace: &[
@@ -91,7 +94,7 @@ const ROWS: [Row; 17] = [
     // A sled of which all but the head is stored is unpatched.
     Row {
         text: STRAIGHT_LINE,
-        options: &[],
+        options: &["--wall", "0"],
         script: LIVE,
         schedule: "p 3\nt 1 1",
         trace: &[
@@ -109,7 +112,7 @@ const ROWS: [Row; 17] = [
     // An exit is recorded without its entry.
     Row {
         text: STRAIGHT_LINE,
-        options: &[],
+        options: &["--wall", "0"],
         script: LIVE,
         schedule: "p 3\nt 1 1\np 5",
         trace: &[
@@ -133,7 +136,7 @@ const ROWS: [Row; 17] = [
     // Nothing is recorded without a handler.
     Row {
         text: STRAIGHT_LINE,
-        options: &[],
+        options: &["--wall", "0"],
         script: "patch\ninit\ngo",
         schedule: "",
         trace: &[
@@ -151,7 +154,7 @@ const ROWS: [Row; 17] = [
     // Nothing is recorded in a log that is finalized.
     Row {
         text: STRAIGHT_LINE,
-        options: &[],
+        options: &["--wall", "0"],
         script: "patch\nset_handler\ninit\nfinalize\ngo",
         schedule: "",
         trace: &[
@@ -169,7 +172,7 @@ const ROWS: [Row; 17] = [
     // A delta has 32 bits.
     Row {
         text: ODD_EXIT,
-        options: &["--tick", "4294967295"],
+        options: &["--wall", "0", "--tick", "4294967295"],
         script: TRACED,
         schedule: "",
         trace: &[
@@ -194,7 +197,7 @@ const ROWS: [Row; 17] = [
     // A counter that is further on gets a TSCWrap record.
     Row {
         text: ODD_EXIT,
-        options: &["--tick=4294967296"],
+        options: &["--wall", "0", "--tick=4294967296"],
         script: TRACED,
         schedule: "",
         trace: &[
@@ -220,7 +223,7 @@ const ROWS: [Row; 17] = [
     // A counter that wraps gets a TSCWrap record.
     Row {
         text: ODD_EXIT,
-        options: &["--tsc", "18446744073709551615"],
+        options: &["--wall", "0", "--tsc", "18446744073709551615"],
         script: TRACED,
         schedule: "",
         trace: &[
@@ -246,7 +249,7 @@ const ROWS: [Row; 17] = [
     // A buffer of 72 bytes has room for one event.
     Row {
         text: STRAIGHT_LINE,
-        options: &["--buffer-size", "72"],
+        options: &["--wall", "0", "--buffer-size", "72"],
         script: TRACED,
         schedule: "",
         trace: &[
@@ -276,7 +279,7 @@ const ROWS: [Row; 17] = [
     // So has one of 79 bytes.
     Row {
         text: STRAIGHT_LINE,
-        options: &["--buffer-size=79"],
+        options: &["--wall", "0", "--buffer-size=79"],
         script: TRACED,
         schedule: "",
         trace: &[
@@ -306,7 +309,7 @@ const ROWS: [Row; 17] = [
     // One of 80 bytes has room for two.
     Row {
         text: STRAIGHT_LINE,
-        options: &["--buffer-size", "80"],
+        options: &["--wall", "0", "--buffer-size", "80"],
         script: TRACED,
         schedule: "",
         trace: &[
@@ -331,7 +334,16 @@ const ROWS: [Row; 17] = [
     // Threads take each other's oldest segments.
     Row {
         text: CALL,
-        options: &["--threads", "2", "--buffer-size", "72", "--buffer-max", "3"],
+        options: &[
+            "--wall",
+            "0",
+            "--threads",
+            "2",
+            "--buffer-size",
+            "72",
+            "--buffer-max",
+            "3",
+        ],
         script: TRACED,
         schedule: "",
         trace: &[
@@ -369,7 +381,7 @@ const ROWS: [Row; 17] = [
     // A thread that moves to another CPU says so.
     Row {
         text: STRAIGHT_LINE,
-        options: &["--cpus", "2", "--migrate", "1"],
+        options: &["--wall", "0", "--cpus", "2", "--migrate", "1"],
         script: TRACED,
         schedule: "",
         trace: &[
@@ -395,7 +407,7 @@ const ROWS: [Row; 17] = [
     // A tail jump is a tail exit.
     Row {
         text: TAIL_JUMP,
-        options: &[],
+        options: &["--wall", "0"],
         script: TRACED,
         schedule: "",
         trace: &[
@@ -447,6 +459,31 @@ const ROWS: [Row; 17] = [
             threads=1 buffer-size=16384 buffer-max=100 \
             fuel=10000000 passings=1048576 tick=1 tsc=0 cpus=1 migrate=1048576 \
             pid=2147483647 wall=18446744073709551615.0 frequency=18446744073709551615\n\
+            thread 1 returned passings 2 recorded 2 segments 1 first 0\n\
+            marks +2\n\
+            recycled 0\n",
+    },
+    // Without a wall time in the words, the trace has the one that was handed in.
+    Row {
+        text: STRAIGHT_LINE,
+        options: &[],
+        script: TRACED,
+        schedule: "",
+        trace: &[
+            0x03, 0, 0x01, 0, 0x03, 0, 0, 0, 0, 0, 0, 0, 0, 0, 0, 0, //
+            0, 0x40, 0, 0, 0, 0, 0, 0, 0, 0, 0, 0, 0, 0, 0, 0, //
+            0x0F, 0x50, 0, 0, 0, 0, 0, 0, 0, 0, 0, 0, 0, 0, 0, 0, //
+            0x01, 0x01, 0, 0, 0, 0, 0, 0, 0, 0, 0, 0, 0, 0, 0, 0, //
+            0x09, 0x07, 0, 0, 0, 0, 0, 0, 0, 0x08, 0, 0, 0, 0, 0, 0, //
+            0x13, 0x01, 0, 0, 0, 0, 0, 0, 0, 0, 0, 0, 0, 0, 0, 0, //
+            0x05, 0, 0, 0, 0, 0, 0, 0, 0, 0, 0, 0, 0, 0, 0, 0, //
+            0x10, 0, 0, 0, 0, 0, 0, 0, //
+            0x12, 0, 0, 0, 0x02, 0, 0, 0, //
+        ],
+        audit: "xray-audit 1\n\
+            threads=1 buffer-size=16384 buffer-max=100 \
+            fuel=10000000 passings=1048576 tick=1 tsc=0 cpus=1 migrate=1048576 \
+            pid=1 wall=7.8 frequency=0\n\
             thread 1 returned passings 2 recorded 2 segments 1 first 0\n\
             marks +2\n\
             recycled 0\n",
@@ -536,7 +573,7 @@ fn a_call_of_the_desk_that_fails_leaves_later_outputs_untouched(
         let mut desk = desk_of(rt.alloc(), failing, &IMAGE, TRACED, "p 1")?;
         desk.put("t", OLD)?;
         desk.put("a", OLD)?;
-        let run = run_words(&rt, &SIM, &mut desk, out_failing, &[])?;
+        let run = run_words(&rt, &REPLAY, &mut desk, out_failing, &[])?;
         assert_eq!(rt; run.err.as_str(), line);
         assert_eq!(rt; run.status, 4, "{line}");
         assert_eq!(rt; run.out.as_str(), "", "{line}");
@@ -558,7 +595,7 @@ fn a_trace_that_fails_in_the_middle_is_a_prefix(rt: HostRuntime) -> Result<(), F
     let reads = (IMAGE.len() + 1 + TRACED.len() + 1 + 1) as u64;
     let desk = desk_of(rt.alloc(), &[reads + 2], &IMAGE, TRACED, "")?;
     let mut trickle = Trickle::new(desk);
-    let run = run_words(&rt, &SIM, &mut trickle, &[], &[])?;
+    let run = run_words(&rt, &REPLAY, &mut trickle, &[], &[])?;
     assert_eq!(rt; run.err.as_str(), "xray: t: write fault\n");
     assert_eq!(rt; run.status, 4);
     assert_eq!(rt; trickle.get("t").ok_or("no trace")?, &ROWS[0].trace[..1]);
