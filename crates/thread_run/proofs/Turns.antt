@@ -1,6 +1,6 @@
 -- Loads behind each other.
-use Rattle.std.proofs.Common.{◌≡◌, ℕ, ◌+◌, ◌<◌, ◌≤◌, List, [], ◌∷◌, ◌++◌, Bool, true, false, refl, sym, subst, ap, ◌∙◌, arith, length, append_assoc, append-nil, length-append}
-use Rattle.std.specs.Prelude.{◌||◌}
+use Rattle.std.proofs.Common.{◌≡◌, ℕ, ◌+◌, ◌<◌, ◌≤◌, List, [], ◌∷◌, ◌++◌, Bool, true, false, refl, sym, subst, ap, ◌∙◌, arith, length, append_assoc, append-nil, length-append, inl, inr}
+use Rattle.std.specs.Prelude.{◌||◌, ◌⊎◌}
 use Rattle.std.specs.List.{list_any}
 use Rattle.xray_image.specs.Program.{Program}
 use Rattle.fdr_record.specs.declared.event.Event.{Event}
@@ -154,3 +154,9 @@ pub none_noted : {R : Type 0} (stands : R → List Event → Type 0) (recorder :
     → stands recorder [] → stands recorder (recorded passed marks)
 none_noted stands recorder passed marks none is =
     subst (λ (ms : List Mark). stands recorder (recorded passed ms)) (sym none) (subst (stands recorder) (sym (none_recorded passed)) is)
+
+-- a want that is a gate or an end is no load
+pub no_load : (found want : Want) → found ≡ want → ((passing : ℕ) × (found ≡ Gate passing)) ⊎ ((end : End) × (found ≡ Done end))
+    → (word : ℕ) → want ≡ Loads word → ⊥
+no_load found want is (inl (passing, gate)) word wants = gate_no_load passing word (sym gate ∙ is ∙ wants)
+no_load found want is (inr (end, done)) word wants = done_no_load end word (sym done ∙ is ∙ wants)

@@ -4,6 +4,8 @@
 //! notes its events in a recorder.
 #![tactic(auto)]
 
+mod running;
 mod worker;
 
+pub use running::run_threads;
 pub use worker::{Turn, Worker};
