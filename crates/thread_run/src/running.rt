@@ -1,7 +1,7 @@
 //! All threads of a run, and the patcher beside them.
 
 ghost use Rattle.std.specs.Prelude.{◌≡◌, ℕ, All, length, slice_get, Some};
-ghost use Rattle.std.specs.Thread.{IsSync};
+ghost use Rattle.std.specs.Thread.{IsSend, IsSync};
 ghost use Rattle.sled_rule.specs.Plans.{total_in};
 ghost use Rattle.sled_rule.specs.Seats.{patch_view, script_of, IsPatcherOf};
 ghost use Rattle.sled_patch.specs.Runs.{HasRun};
@@ -42,7 +42,7 @@ fn run_all<T: Threads + Wait + Sync, R: Recorder + Send, G: Gate + Sync>(
 )
     requires going { All (IsGoing R.stands) workers.old }
     ensures count { length workers.new ≡ length workers.old }
-    ensures each { (i : ℕ) (old new : Worker R.Denot) → slice_get workers.old i ≡ Some old → slice_get workers.new i ≡ Some new
+    ensures each { (i : ℕ) (old new : Worker R) → slice_get workers.old i ≡ Some old → slice_get workers.new i ≡ Some new
         → IsSameWorker R.follows old new × HasEnded R.stands new }
 {
     let one = |_place: usize, worker: &mut Worker<'_, R>|
@@ -68,12 +68,21 @@ pub fn run_threads<T: Threads + Wait + Sync, R: Recorder + Send, G: Gate + Sync>
     ensures own { IsPatcherOf table.now seat.new }
     ensures script { HasRun (patch_view seat.old) (total_in (script_of table.now)) (patch_view seat.new) }
     ensures count { length workers.new ≡ length workers.old }
-    ensures each { (i : ℕ) (old new : Worker R.Denot) → slice_get workers.old i ≡ Some old → slice_get workers.new i ≡ Some new
+    ensures each { (i : ℕ) (old new : Worker R) → slice_get workers.old i ≡ Some old → slice_get workers.new i ≡ Some new
         → IsSameWorker R.follows old new × HasEnded R.stands new }
 {
     join_mut(
         rt,
-        &mut || run_script(rt, table, seat, gate),
-        &mut || run_all(rt, gate, workers),
+        &mut ||
+            requires { IsPatcherOf table.now seat.now }
+            ensures own { IsPatcherOf table.entry.now seat.exit.now }
+            ensures script { HasRun (patch_view seat.entry.now) (total_in (script_of table.entry.now)) (patch_view seat.exit.now) }
+        { run_script(rt, table, seat, gate) },
+        &mut ||
+            requires { All (IsGoing R.stands) workers.now × IsSync T.row × IsSync G.row × IsSend R.row }
+            ensures count { length workers.exit.now ≡ length workers.entry.now }
+            ensures each { (i : ℕ) (old new : Worker R) → slice_get workers.entry.now i ≡ Some old → slice_get workers.exit.now i ≡ Some new
+                → IsSameWorker R.follows old new × HasEnded R.stands new }
+        { run_all(rt, gate, workers) },
     );
 }
