@@ -116,7 +116,7 @@ module _ (program : Program) (thread : ℕ) (hold : Option ℕ) (some : 0 < thre
   held_by number [] loads all e = absurd cc
   held_by number (p ∷ passed) loads all e =
       by_reading (is_held_at hold number) refl (from_start program thread (is_held_at hold number) p.sled loads) refl
-        (λ behind. held_by (number + 1) passed behind all.1)
+      (λ behind. held_by (number + 1) passed behind all.1)
     where
       Marks : ℕ → List Passing → List Load → List Mark
       Marks n ps ls = marks_from program thread hold n (sleds_of ps) ls

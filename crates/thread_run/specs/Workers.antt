@@ -1,5 +1,5 @@
 -- What holds of a worker: a traced thread that makes its loads from a table by its seat, and notes its events.
-use Rattle.std.specs.Prelude.{◌≡◌, ◌≢◌, ◌<◌, ◌≤◌, ◌++◌, ℕ, List, [], ◌∷◌, length, All, Bool, true, false, Option}
+use Rattle.std.specs.Prelude.{◌≡◌, ◌≢◌, ◌<◌, ◌≤◌, ◌++◌, ℕ, List, [], ◌∷◌, length, All, Bool, Some, slice_get, true, false}
 use Rattle.xray_image.specs.Program.{IsAccepted, Program}
 use Rattle.sled_words.specs.Words.{release_word}
 use Rattle.patch_script.specs.Micros.{hold_of, start_of, total_of}
@@ -114,3 +114,9 @@ pub record HasTaken {R : Type 0} (stands : R → List Event → Type 0) (word : 
   pub loads : loads_of new ≡ loads_of old ++ load ∷ []
   pub held : is_held_by (cpu_of old).program (cpu_of old).thread (load ∷ []) ≡ true → cpu_of new ≡ cpu_of old
   pub goes_on : is_held_by (cpu_of old).program (cpu_of old).thread (load ∷ []) ≡ false → loads_left (cpu_of new) < loads_left (cpu_of old)
+
+-- each worker of a list has run to its end, at the place where it stood
+pub record HaveRun {R : Type 0} (stands : R → List Event → Type 0) (follows : R → R → Type 0) (old new : List (Worker R)) : Type 0 where
+  pub count : length new ≡ length old
+  pub each : (i : ℕ) (before after : Worker R) → slice_get old i ≡ Some before → slice_get new i ≡ Some after
+      → IsSameWorker follows before after × HasEnded stands after

@@ -1,12 +1,11 @@
 //! All threads of a run, and the patcher beside them.
 
-ghost use Rattle.std.specs.Prelude.{◌≡◌, ℕ, All, length, slice_get, Some};
+ghost use Rattle.std.specs.Prelude.{All};
 ghost use Rattle.std.specs.Thread.{IsSend, IsSync};
 ghost use Rattle.sled_rule.specs.Plans.{total_in};
 ghost use Rattle.sled_rule.specs.Seats.{patch_view, script_of, IsPatcherOf};
 ghost use Rattle.sled_patch.specs.Runs.{HasRun};
-ghost use Rattle.thread_run.specs.declared.worker.Worker.{Worker};
-ghost use Rattle.thread_run.specs.Workers.{HasEnded, IsGoing, IsSameWorker};
+ghost use Rattle.thread_run.specs.Workers.{HasEnded, HaveRun, IsGoing, IsSameWorker};
 
 use crate::worker::{Turn, Worker};
 use crossbeam_utils::Backoff;
@@ -41,9 +40,7 @@ fn run_all<T: Threads + Wait + Sync, R: Recorder + Send, G: Gate + Sync>(
     workers: &mut [Worker<'_, R>],
 )
     requires going { All (IsGoing R.stands) workers.old }
-    ensures count { length workers.new ≡ length workers.old }
-    ensures each { (i : ℕ) (old new : Worker R) → slice_get workers.old i ≡ Some old → slice_get workers.new i ≡ Some new
-        → IsSameWorker R.follows old new × HasEnded R.stands new }
+    ensures workers { HaveRun R.stands R.follows workers.old workers.new }
 {
     let one = |_place: usize, worker: &mut Worker<'_, R>|
         requires { IsGoing R.stands worker.now }
@@ -67,9 +64,7 @@ pub fn run_threads<T: Threads + Wait + Sync, R: Recorder + Send, G: Gate + Sync>
     requires going { All (IsGoing R.stands) workers.old }
     ensures own { IsPatcherOf table.now seat.new }
     ensures script { HasRun (patch_view seat.old) (total_in (script_of table.now)) (patch_view seat.new) }
-    ensures count { length workers.new ≡ length workers.old }
-    ensures each { (i : ℕ) (old new : Worker R) → slice_get workers.old i ≡ Some old → slice_get workers.new i ≡ Some new
-        → IsSameWorker R.follows old new × HasEnded R.stands new }
+    ensures workers { HaveRun R.stands R.follows workers.old workers.new }
 {
     join_mut(
         rt,
@@ -80,9 +75,7 @@ pub fn run_threads<T: Threads + Wait + Sync, R: Recorder + Send, G: Gate + Sync>
         { run_script(rt, table, seat, gate) },
         &mut ||
             requires { All (IsGoing R.stands) workers.now × IsSync T.row × IsSync G.row × IsSend R.row }
-            ensures count { length workers.exit.now ≡ length workers.entry.now }
-            ensures each { (i : ℕ) (old new : Worker R) → slice_get workers.entry.now i ≡ Some old → slice_get workers.exit.now i ≡ Some new
-                → IsSameWorker R.follows old new × HasEnded R.stands new }
+            ensures { HaveRun R.stands R.follows workers.entry.now workers.exit.now }
         { run_all(rt, gate, workers) },
     );
 }

@@ -16,8 +16,13 @@ for_each_mut-requires-send-T g c κs within = param_send 1 _
 pub for_each_mut-requires-clause-accepts : goal.for_each_mut-requires-clause-accepts
 for_each_mut-requires-clause-accepts g c κs outlives i p within is = going_at g.R.Recorder.stands c.args.workers.now c.requires.going i p.now within is
 
-pub returns-clause-each : goal.returns-clause-each
-returns-clause-each g c i old new here there =
-    let change = (c.for_each_mut.ensures i old (is_within c.args.workers.now i old here)).1 in
-    changed (λ x y. IsSameWorker g.R.Recorder.follows x y × HasEnded g.R.Recorder.stands y) c.args.workers.now c.for_each_mut.new.s i old new
-    change.argument.now change.after_call.now here there change.argument_is change.left change.call
+pub returns : goal.returns
+returns g c = record {
+  workers = record {
+    count = c.for_each_mut.auto.s;
+    each = λ i old new here there.
+        let change = (c.for_each_mut.ensures i old (is_within c.args.workers.now i old here)).1 in
+        changed (λ x y. IsSameWorker g.R.Recorder.follows x y × HasEnded g.R.Recorder.stands y) c.args.workers.now c.for_each_mut.new.s i old new
+        change.argument.now change.after_call.now here there change.argument_is change.left change.call;
+  };
+}

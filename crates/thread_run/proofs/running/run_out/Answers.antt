@@ -13,6 +13,6 @@ returns-in-Done-clause-ended g c = (c.run.ensures.done c.in-Done.is).0
 
 pub turns-preserved : goal.turns-preserved
 turns-preserved g c = (
-      (c.run.ensures.held c.in-Held.is).0,
-      worker_then g.R.Recorder.follows g.met.R.Recorder.follows_along c.args.worker.now c.turns.worker c.run.new.self c.turns.invariant.1 c.run.ensures.same,
-    )
+  (c.run.ensures.held c.in-Held.is).0,
+  worker_then g.R.Recorder.follows g.met.R.Recorder.follows_along c.args.worker.now c.turns.worker c.run.new.self c.turns.invariant.1 c.run.ensures.same,
+)

@@ -5,6 +5,3 @@ use Rattle.thread_run.proofs.running.run_threads.Goals as goal
 
 pub join_mut-requires-send-F : goal.join_mut-requires-send-F
 join_mut-requires-send-F g c κs within = search (sendable, table_sync, the_send) depth 30
-
-pub returns-clause-each : goal.returns-clause-each
-returns-clause-each g c = c.join_mut.ensures.1.each

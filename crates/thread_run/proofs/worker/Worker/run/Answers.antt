@@ -25,9 +25,9 @@ returns-in-Held-clause-same g c =
 
 pub returns-in-Held-clause-held : goal.returns-in-Held-clause-held
 returns-in-Held-clause-held g c = λ is. (
-      c.load.ensures.going,
-      made_then true c.args.self.now c.loads.self c.load.new.self c.loads.invariant.1.thread c.loads.invariant.2 (c.load.ensures.held c.in-Held.is),
-    )
+  c.load.ensures.going,
+  made_then true c.args.self.now c.loads.self c.load.new.self c.loads.invariant.1.thread c.loads.invariant.2 (c.load.ensures.held c.in-Held.is),
+)
 
 pub loads-preserved : goal.loads-preserved
 loads-preserved g c =
