@@ -4,3 +4,6 @@ pub mod Loading
 pub mod Turns
 pub mod Crossing
 pub mod Each
+pub mod Queues
+pub mod LastBuffers
+pub mod Notes

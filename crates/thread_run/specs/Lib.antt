@@ -1,2 +1,4 @@
 pub mod Following
 pub mod Workers
+pub mod Buffers
+pub mod Rings
