@@ -157,8 +157,13 @@ turn_stands ring sealed taken hand event (some_events, some) queue front put ane
           ∙ sym (last_more S ring.thread n (segments_in ring events) (event ∷ []) (some_buffer ring))
           ∙ ap (last_buffers S ring.thread n) (sym more) in
           record {
-            count = omega (arith, at.count, ap length more, length-append (segments_in ring events) ((event ∷ []) ∷ []),
-                ap (λ (k : ℕ). length (segments k (events ++ event ∷ []))) size);
+            count = omega (
+              arith,
+              at.count,
+              ap length more,
+              length-append (segments_in ring events) ((event ∷ []) ∷ []),
+              ap (λ (k : ℕ). length (segments k (events ++ event ∷ []))) size,
+            );
             buffers = subst (λ (k : ℕ). After k (length (sealed ++ hand ∷ []))) (sym size)
                 (subst (λ (m : ℕ). After ring.hand.size m) (sym count) here);
           };
