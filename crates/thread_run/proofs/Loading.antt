@@ -1,11 +1,12 @@
 -- What one load makes of a thread and its seat.
 use Rattle.std.proofs.Common.{◌≡◌, ◌≢◌, ℕ, ◌+◌, ◌<◌, ◌≤◌, List, [], ◌∷◌, ◌++◌, Bool, true, false, ◌==◌, Option, Some, refl, sym, subst, ap, ◌∙◌, arith, length, eq-eqb}
-use Rattle.std.specs.Prelude.{◌&&◌, ◌||◌, All}
+use Rattle.std.specs.Prelude.{◌&&◌, ◌||◌, All, Err, IfOk, Ok, Result}
 use Rattle.std.specs.List.{list_any}
 use Rattle.std.proofs.lemmas.Bool.{eqb-true}
 use Rattle.std.proofs.lemmas.List.Elements.{All-nil, All-push}
 use mathlib.Core.List.{map-append}
-use Rattle.xray_image.specs.Program.{Program}
+use Rattle.xray_io.specs.declared.faults.NoMemory.{NoMemory}
+use Rattle.xray_image.specs.Program.{IsAccepted, Program}
 use Rattle.sled_words.specs.Allowed.{IsAllowed}
 use Rattle.sled_words.specs.Words.{code_word_count, progress_word, release_word}
 use Rattle.patch_script.specs.declared.command.Command.{Command}
@@ -20,16 +21,19 @@ use Rattle.machine_step.specs.declared.want.Want.{Want}
 use Rattle.machine_step.specs.declared.want.Want.TheVariants.{Load as Loads}
 use Rattle.machine_step.specs.Follows.{Follows, later, loaded, none}
 use Rattle.machine_step.specs.Loads.{Load, marks_of, next_load}
-use Rattle.machine_step.specs.PlainStep.{Passing}
-use Rattle.machine_step.specs.Traced.{HasLoaded, IsKept, IsSameThread, IsWant, Traced, load_of, sleds_of, wanted_behind}
+use Rattle.machine_step.specs.declared.end.End.{End}
+use Rattle.machine_step.specs.declared.limits.Limits.{Limits}
+use Rattle.machine_step.specs.PlainStep.{Passing, PlainRun, State}
+use Rattle.machine_step.specs.Traced.{HasLoaded, IsFresh, IsKept, IsSameThread, IsThreadOf, IsWant, Traced, load_of, sleds_of, wanted_behind}
 use Rattle.machine_step.proofs.AlongCode.{next_allowed}
 use Rattle.sled_rule.specs.declared.views.Load.{Load as SeatLoad}
+use Rattle.sled_rule.specs.declared.views.PatchView.{PatchView}
 use Rattle.sled_rule.specs.declared.views.WorkView.{WorkView}
-use Rattle.sled_rule.specs.Plans.{bound_in, code_in, code_words}
+use Rattle.sled_rule.specs.Plans.{bound_in, code_in, code_words, start_in}
 use Rattle.sled_rule.specs.Steps.{IsFetched}
-use Rattle.sled_rule.specs.Views.{counting, loading}
+use Rattle.sled_rule.specs.Views.{counting, loading, next_work}
 use Rattle.thread_run.specs.Following.{HasFollowed, LoadsFollow, MarksFollowScript, given, is_held_by}
-use Rattle.thread_run.specs.Workers.{IsAlong, IsFreshIn, IsThreadIn}
+use Rattle.thread_run.specs.Workers.{IsAlong, IsFreshIn, IsFreshThread, IsThreadIn}
 use Rattle.thread_run.proofs.Words.{release_wanted}
 
 -- ---- a script's plan
@@ -307,15 +311,53 @@ marks_follow plan t v passed is along within = record {
 
 -- ---- before the first load
 
-pub fresh_along : (plan : Plan) (t : Traced) (v : WorkView) (fresh : IsFreshIn plan t v) → IsAlong plan t v fresh.passed
-fresh_along plan t v fresh =
+pub fresh_along : (plan : Plan) (t : Traced) (v : WorkView) (is : IsFreshIn plan t v) → IsAlong plan t v is.fresh.passed
+fresh_along plan t v is =
     let Script : List Command = commands_of plan.lines in
-    let Has : ℕ → List Load → Type 0 = λ seen loads. HasFollowed plan.program Script t fresh.passed seen loads in
-    let first : Has (start_of plan.program Script) [] = record { loaded = fresh.loaded; follow = none } in
-    let here : Has v.seen [] = subst (λ (n : ℕ). Has n []) (sym fresh.seen) first in
+    let Has : ℕ → List Load → Type 0 = λ seen loads. HasFollowed plan.program Script t is.fresh.passed seen loads in
+    let first : Has (start_of plan.program Script) [] = record { loaded = is.fresh.loaded; follow = none } in
+    let here : Has v.seen [] = subst (λ (n : ℕ). Has n []) (sym is.seen) first in
     record {
-      all = subst (λ (ls : List SeatLoad). Has v.seen (given ls)) (sym fresh.loads) here;
+      all = subst (λ (ls : List SeatLoad). Has v.seen (given ls)) (sym is.loads) here;
       made = [];
       free = here;
       released = All-nil _;
     }
+
+start_is : (plan : Plan) → start_in plan ≡ start_of plan.program (commands_of plan.lines)
+unfolding start_in
+start_is plan = refl
+
+-- the seat of the next thread
+pub fresh_in : (plan : Plan) (t : Traced) (p : PatchView) (v : WorkView) → p.script ≡ plan → IsFreshThread plan t → t.thread ≡ p.given + 1
+    → v ≡ next_work p → IsFreshIn plan t v
+fresh_in plan t p v script fresh next view = record {
+  fresh = fresh;
+  own = ap (λ (x : WorkView). x.thread) view ∙ sym next;
+  seen = ap (λ (x : WorkView). x.seen) view ∙ ap start_in script ∙ start_is plan;
+  count = ap (λ (x : WorkView). x.count) view;
+  loads = ap (λ (x : WorkView). x.loads) view;
+}
+
+-- a thread that was made has no load yet
+pub new_thread : (plan : Plan) (program : Program) (threads : ℕ) (hold : Option ℕ) (limits : Limits) (number : ℕ) (made : Result Traced NoMemory)
+    → plan.program ≡ program → plan.threads ≡ threads → hold ≡ hold_of number (commands_of plan.lines)
+    → (bytes : List ℕ) × IsAccepted bytes program → 0 < number
+    → IfOk made (IsThreadOf program number threads hold limits)
+    → IfOk made IsFresh
+    → IfOk made (λ cpu. (passed : List Passing) (end : End) (last : State) → PlainRun program limits number passed end last → HasLoaded cpu passed [])
+    → (passed : List Passing) × (end : End) × (last : State) × PlainRun program limits number passed end last
+    → IfOk made (IsFreshThread plan)
+new_thread plan program threads hold limits number (Err e) image count holds accepted some thread fresh loads run = tt
+new_thread plan program threads hold limits number (Ok t) image count holds accepted some thread fresh loads (passed, end, last, run) = record {
+  thread = record {
+    program = thread.program_is ∙ sym image;
+    threads = thread.threads_are ∙ sym count;
+    hold = thread.hold_is ∙ holds ∙ ap (λ (n : ℕ). hold_of n (commands_of plan.lines)) (sym thread.thread_is);
+    first = subst (λ (n : ℕ). 0 < n) (sym thread.thread_is) some;
+    accepted = (accepted.0, subst (IsAccepted accepted.0) (sym image) accepted.1);
+  };
+  no_marks = fresh.no_marks;
+  passed = passed;
+  loaded = loads passed end last run;
+}

@@ -46,16 +46,20 @@ pub record IsThreadIn (plan : Plan) (t : Traced) : Type 0 where
   pub first : 0 < t.thread
   pub accepted : (bytes : List ℕ) × IsAccepted bytes plan.program
 
--- a thread before its first load, and its seat
-pub record IsFreshIn (plan : Plan) (t : Traced) (v : WorkView) : Type 0 where
+-- a thread before its first load
+pub record IsFreshThread (plan : Plan) (t : Traced) : Type 0 where
   pub thread : IsThreadIn plan t
+  pub no_marks : t.marks ≡ []
+  pub passed : List Passing
+  pub loaded : HasLoaded t passed []
+
+-- its seat, which has made no load either
+pub record IsFreshIn (plan : Plan) (t : Traced) (v : WorkView) : Type 0 where
+  pub fresh : IsFreshThread plan t
   pub own : v.thread ≡ t.thread
   pub seen : v.seen ≡ start_of plan.program (commands_of plan.lines)
   pub count : v.count ≡ 0
   pub loads : v.loads ≡ []
-  pub no_marks : t.marks ≡ []
-  pub passed : List Passing
-  pub loaded : HasLoaded t passed []
 
 -- The loads of the seat are those that the thread was given, and they follow the script up to what the seat has seen. So do those that
 -- didn't hold the thread, which alone are known to leave its marks.

@@ -8,8 +8,10 @@
 mod recorder;
 mod ring;
 mod running;
+mod thread;
 mod worker;
 
 pub use recorder::RingRecorder;
 pub use running::run_threads;
+pub use thread::new_cpu;
 pub use worker::{Turn, Worker};

@@ -3,13 +3,15 @@
 ghost use Rattle.std.specs.Prelude.{◌≡◌, ◌<◌, ◌+◌, ◌-◌, ◌^◌, ◌++◌, [], List, length, true, false, IfSome};
 ghost use Rattle.fdr_record.specs.declared.event.Event.{Event};
 ghost use Rattle.machine_step.specs.Events.{events_in};
-ghost use Rattle.sled_rule.specs.Seats.{work_view, script_of, IsWorkerOf};
+ghost use Rattle.sled_rule.specs.Seats.{patch_view, work_view, script_of, IsPatcherOf, IsWorkerOf};
+ghost use Rattle.sled_rule.specs.Plans.{start_in};
+ghost use Rattle.sled_rule.specs.Views.{giving};
 ghost use Rattle.machine_step.specs.declared.want.Want.{Want};
 ghost use Rattle.machine_step.specs.Traced.{IsDone, IsLoadable, loads_left};
 
 use fdr_record::{Event, Recorder};
 use machine_step::{Cpu, Want};
-use sled_rule::{CodeTable, WorkSeat};
+use sled_rule::{CodeTable, PatchSeat, WorkSeat};
 use xray_io::Gate;
 
 /// How a turn of a worker has ended.
@@ -40,7 +42,7 @@ pub struct Worker<'a, R> {
 }
 
 impl<'a, R: Recorder> Worker<'a, R> {
-    ghost use Rattle.thread_run.specs.Workers.{cpu_of, seat_of, table_of, recorder_of, loads_of, HasEnded, HasMade, HasTaken, IsAtWork, IsFreshIn, IsGoing, IsSameWorker};
+    ghost use Rattle.thread_run.specs.Workers.{cpu_of, seat_of, table_of, recorder_of, loads_of, HasEnded, HasMade, HasTaken, IsAtWork, IsFreshIn, IsFreshThread, IsGoing, IsSameWorker};
 
     /// A worker before its first load.
     pub fn new(cpu: Cpu<'a>, seat: WorkSeat, table: &'a CodeTable, recorder: R) -> Self
@@ -60,6 +62,26 @@ impl<'a, R: Recorder> Worker<'a, R> {
             table,
             recorder,
         }
+    }
+
+    /// A worker of the next thread, before its first load: it gets the next seat of the table. The
+    /// patcher stands where threads start.
+    pub fn start(cpu: Cpu<'a>, table: &'a CodeTable, patcher: &mut PatchSeat, recorder: R) -> Self
+        requires own { IsPatcherOf table.now patcher.old }
+        requires starts { (patch_view patcher.old).place ≡ start_in (script_of table.now) }
+        requires few { (patch_view patcher.old).given < (script_of table.now).threads }
+        requires fresh { IsFreshThread (script_of table.now) cpu }
+        requires next { cpu.thread ≡ (patch_view patcher.old).given + 1 }
+        requires no_events { R.stands recorder [] }
+        ensures own { IsPatcherOf table.now patcher.new }
+        ensures view { patch_view patcher.new ≡ giving (patch_view patcher.old) }
+        ensures going { IsGoing R.stands result }
+        ensures cpu { cpu_of result ≡ cpu.entry }
+        ensures table { table_of result ≡ table.now }
+        ensures recorder { recorder_of result ≡ recorder }
+    {
+        let seat = table.split(patcher);
+        Worker::new(cpu, seat, table, recorder)
     }
 
     /// Runs the thread until it has ended, or until its release word holds it.

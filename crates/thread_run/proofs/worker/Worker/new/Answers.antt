@@ -11,18 +11,19 @@ pub returns-clause-going : goal.returns-clause-going
 returns-clause-going g c =
     let plan = script_of c.args.table.now in
     let v = work_view c.args.seat in
-    let fresh = c.requires.fresh in
+    let is = c.requires.fresh in
+    let fresh = is.fresh in
     let within = subst (λ (p : Plan). c.start.result ≤ total_of p.program (commands_of p.lines)) c.script.ensures c.start.ensures.within in
     let start = subst (λ (p : Plan). c.start.result ≡ start_of p.program (commands_of p.lines)) c.script.ensures c.start.ensures.start in
     record {
       at = record {
         own = c.requires.own;
         thread = fresh.thread;
-        seat = fresh.own;
-        within = omega (arith, within, start, fresh.seen);
+        seat = is.own;
+        within = omega (arith, within, start, is.seen);
         passed = fresh.passed;
-        along = fresh_along plan c.args.cpu v fresh;
+        along = fresh_along plan c.args.cpu v is;
         recorded_are = none_noted g.R.Recorder.stands c.args.recorder fresh.passed c.args.cpu.marks fresh.no_marks c.requires.no_events;
       };
-      count = fresh.count ∙ sym (ap length fresh.no_marks);
+      count = is.count ∙ sym (ap length fresh.no_marks);
     }
