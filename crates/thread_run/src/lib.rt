@@ -15,3 +15,6 @@ pub use recorder::RingRecorder;
 pub use running::run_threads;
 pub use thread::new_cpu;
 pub use worker::{Turn, Worker};
+
+#[cfg(test)]
+mod tests;

@@ -70,6 +70,13 @@ impl RingRecorder {
         self.segments += 1;
     }
 
+    /// How many buffers it has.
+    pub fn buffers(&self) -> usize
+        ensures { result ≡ length (buffers_in self.now) }
+    {
+        self.sealed.len() + 1
+    }
+
     /// Into how many segments the events were cut.
     pub fn segments(&self) -> u32
         ensures { (events : List Event) → StandsFor self.now events

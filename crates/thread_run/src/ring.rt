@@ -1,6 +1,6 @@
 //! A queue of a constant length.
 
-ghost use Rattle.std.specs.Prelude.{◌≡◌, [], ◌∷◌, ◌++◌, drop, length, take};
+ghost use Rattle.std.specs.Prelude.{◌≡◌, ◌<◌, ◌^◌, [], ◌∷◌, ◌++◌, drop, length, take};
 
 use std::marker::Model;
 use std::mem;
@@ -34,7 +34,8 @@ impl<T: Drop> Ring<T> {
 
     /// How many items there are.
     pub(crate) fn len(&self) -> usize
-        ensures { result ≡ length self.now }
+        ensures count { result ≡ length self.now }
+        ensures small { result < 2 ^ 63 }
     {
         self.items.len()
     }
