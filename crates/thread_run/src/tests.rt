@@ -181,14 +181,15 @@ fn run_one<T: Threads + Wait + Sync + Abort + AllocGlobal, G: Gate + Sync>(
     let image = read_image(alloc, file)?;
     let setup = setup_of(1);
     let (table, mut seat) = begin(rt, &image, text, 1)?;
+    let first = next_worker(alloc, &image, &table, &mut seat, &setup, 1)?;
     let mut workers = Vec::with_capacity(alloc, 1)?;
-    workers.push(next_worker(alloc, &image, &table, &mut seat, &setup, 1)?)?;
+    workers.push(first)?;
     run_threads(rt, &table, &mut seat, &mut workers, gate);
     left_by(rt, workers)
 }
 
 /// What the workers leave.
-fn outcome<R: Abort + AllocGlobal>(
+fn left_by<R: Abort + AllocGlobal>(
     rt: &R,
     workers: Vec<Worker<'_, RingRecorder>>,
 ) -> Result<Outcome, Fail> {
