@@ -6,7 +6,7 @@ use Rattle.thread_run.specs.Workers.{IsGoing}
 use Rattle.thread_run.proofs.tests.run_two.Goals as goal
 
 pub run_threads-requires-clause-going : goal.run_threads-requires-clause-going
-run_threads-requires-clause-going g c =
+run_threads-requires-clause-going g c κs within =
     let none = subst (All (IsGoing StandsFor)) (sym c.in_ok-workers.ensures.items) (All-nil (IsGoing StandsFor)) in
     let one =
     subst (All (IsGoing StandsFor)) (sym c.in_ok-push.ensures.items)
