@@ -30,7 +30,8 @@ abbrev pub line_view : line.Line → Line
 line_view line = record { files = map (λ name. name.now) line.files.items; given = map (λ given. (given.0.now, given.1.now)) line.given.items }
 
 abbrev pub command_view : command.Command → Command
-command_view (command_of.Sim image script schedule options) = Sim image.now script.now schedule.now options
+command_view (command_of.Sim image script schedule trace audit options) =
+    Sim image.now script.now schedule.now trace.now audit.now options
 command_view (command_of.Plain image bounds) = Plain image.now bounds
 command_view (command_of.Extract image) = Extract image.now
 command_view (command_of.Asm text image threshold) = Asm text.now image.now threshold

@@ -159,6 +159,18 @@ const SCHEDULE: FileRow = FileRow {
     role: Role::Input,
 };
 
+/// A trace that is written.
+const MADE_TRACE: FileRow = FileRow {
+    label: "trace",
+    role: Role::Output,
+};
+
+/// An audit, which is written.
+const AUDIT: FileRow = FileRow {
+    label: "audit",
+    role: Role::Output,
+};
+
 /// `asm TEXT IMAGE`: assembles an image.
 pub(crate) const ASM: CommandRow = CommandRow {
     word: "asm",
@@ -180,9 +192,23 @@ pub(crate) const EXTRACT: CommandRow = CommandRow {
     options: &[],
 };
 
-/// `sim IMAGE SCRIPT SCHEDULE`: replays a schedule over an image and a script.
+/// `sim IMAGE SCRIPT SCHEDULE TRACE AUDIT`: replays a schedule over an image and a script, and writes the
+/// trace and the audit of the run.
 pub(crate) const SIM: CommandRow = CommandRow {
     word: "sim",
-    files: &[IMAGE, SCRIPT, SCHEDULE],
-    options: &[THREADS, FUEL, PASSINGS],
+    files: &[IMAGE, SCRIPT, SCHEDULE, MADE_TRACE, AUDIT],
+    options: &[
+        THREADS,
+        FUEL,
+        PASSINGS,
+        BUFFER_SIZE,
+        BUFFER_MAX,
+        TICK,
+        TSC,
+        FREQUENCY,
+        CPUS,
+        MIGRATE,
+        PID,
+        WALL,
+    ],
 };

@@ -1,7 +1,7 @@
 //! Events, as the passings of patched sleds record them, and the records of LLVM XRay's Flight Data
-//! Recorder mode that tell them: `put_rec` writes a record's bytes, and `take_rec` reads the record
-//! that stands at a place. The layout is that of `xray_fdr_log_records.h` of LLVM's compiler-rt, and
-//! of "XRay Flight Data Recorder Trace Format" of its documentation.
+//! Recorder mode that say them. `put_rec` writes a record's bytes, and `take_rec` reads the record
+//! at a place. The layout is that of `xray_fdr_log_records.h` of LLVM's compiler-rt, and of "XRay
+//! Flight Data Recorder Trace Format" in its documentation.
 #![tactic(auto)]
 
 mod event;

@@ -5,16 +5,14 @@ pub mod Endings
 pub mod ExtractLaws
 pub mod Headline
 pub mod Images
-pub mod ItemLemmas
 pub mod Judging
 pub mod Meanings
-pub mod NumberLemmas
 pub mod Ordering
 pub mod Outputting
 pub mod PlainLaws
 pub mod PlainThreads
-pub mod ReplayPrints
 pub mod Rows
+pub mod RunWritten
 pub mod Saying
 pub mod SimLaws
 pub mod SimTurns

@@ -6,7 +6,7 @@ use crate::image_file::ImageFile;
 use crate::input::take;
 use crate::inputs::TextKind;
 use crate::stop::Stop;
-use crate::text::NoText;
+use crate::text::{Bytes, NoText};
 use crate::work::Work;
 use std::alloc::Global;
 use xray_io::{Desk, Sink};
@@ -25,7 +25,7 @@ pub(crate) struct Asm<'a> {
 impl<'a> Work<'a> for Asm<'a> {
     ghost use Rattle.std.specs.Prelude.{[], ◌∷◌, ⊤};
     ghost use Rattle.xray_program.specs.Outcomes.{Done};
-    ghost use Rattle.xray_program.specs.Words as words;
+    ghost use Rattle.command_words.specs.Words as words;
 
     type Inputs = ImageFile;
 
@@ -49,9 +49,10 @@ impl<'a> Work<'a> for Asm<'a> {
         desk: &mut D,
         out: &mut O,
     ) -> Result<(), Stop<'a>> {
+        let text = Bytes { bytes: &file.bytes };
         let output = Output {
             name: self.image,
-            bytes: &file.bytes,
+            text: &text,
         };
         deliver(desk, out, &output, &NoText, None)
     }

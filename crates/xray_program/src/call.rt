@@ -1,24 +1,28 @@
 //! The top call.
-ghost use Rattle.std.specs.Prelude.{◌≡◌, Some};
+ghost use Rattle.std.specs.Prelude.{◌≡◌, OnOk, Some};
+ghost use Rattle.command_words.specs.Items.{texts};
+ghost use Rattle.command_words.specs.Ranges.{HasRanges};
+ghost use Rattle.command_words.specs.Views.{command_view};
+ghost use Rattle.command_words.specs.Words.{reading};
 ghost use Rattle.xray_io.specs.World.{desk_view, sink_view};
 ghost use Rattle.xray_program.specs.Answers.{Answered};
 ghost use Rattle.xray_program.specs.Commands.{IsStill};
-ghost use Rattle.xray_program.specs.CommandLine.{HasRanges, command_of};
 ghost use Rattle.xray_program.specs.Stops.{answer_of, told_of};
-ghost use Rattle.xray_program.specs.Words.{reading, texts};
-ghost use Rattle.xray_program.specs.Works.{Ends};
+ghost use Rattle.xray_program.specs.Works.{Ends, FitsTraces, SaidFits};
 
 use crate::asm::Asm;
 use crate::extract::Extract;
 use crate::plain::Plain;
 use crate::sim::Sim;
 use crate::stop::Stop;
-use crate::words::{Command, read_words};
+use crate::traced::TraceFiles;
 use crate::work::perform;
+use command_words::{Command, read_words};
 use std::alloc::Global;
 use std::sync::Wait;
 use std::thread::Threads;
-use step_sim::no_replay_tears_a_sled;
+use step_sim::{a_replay_loses_few, no_replay_tears_a_sled};
+use trace_flush::a_run_is_traced;
 use xray_io::{Desk, Gate, Sink, Wall};
 
 /// Does what `words` say, which don't hold the program's own name, with the files of `desk`, and
@@ -45,8 +49,11 @@ pub fn xray_still<D: Desk, O: Sink, E: Sink>(
         (record { desk = seen desk.new; out = got out.new; err = heard err.new })
         (D.along desk.old desk.new) result }
 {
-    // Says that no thread of a replay decodes a torn sled.
+    // Says that no thread of a replay decodes a torn sled, how many segments a replay loses, and that the
+    // trace of a run reads back.
     no_replay_tears_a_sled();
+    a_replay_loses_few();
+    a_run_is_traced();
     match perform_words(alloc, words, wall, desk, out) {
         Ok(()) => 0,
         Err(stop) => {
@@ -89,12 +96,16 @@ fn perform_words<'a, D: Desk, O: Sink>(
     desk: &mut D,
     out: &mut O,
 ) -> Result<(), Stop<'a>>
-    ensures { let seen = desk_view D.held D.read_faults D.write_faults in
+    ensures ends { let seen = desk_view D.held D.read_faults D.write_faults in
         let got = sink_view O.written O.faults in
         Ends (reading wall (texts words.now)) (seen desk.old) (seen desk.new) (got out.old) (got out.new)
         (D.along desk.old desk.new) (answer_of result) (told_of result) }
+    ensures fits { OnOk result (SaidFits (reading wall (texts words.now))) }
 {
-    match read_words(words, wall) {
+    let Ok(said) = read_words(alloc, wall, words) else {
+        return Err(Stop::NoMemory);
+    };
+    match said {
         Some(command) => perform_command(alloc, command, desk, out),
         None => Err(Stop::BadLine),
     }
@@ -107,18 +118,21 @@ fn perform_command<'a, D: Desk, O: Sink>(
     desk: &mut D,
     out: &mut O,
 ) -> Result<(), Stop<'a>>
-    requires { HasRanges command }
-    ensures { let seen = desk_view D.held D.read_faults D.write_faults in
+    requires { HasRanges (command_view command) }
+    ensures ends { let seen = desk_view D.held D.read_faults D.write_faults in
         let got = sink_view O.written O.faults in
-        Ends (Some (command_of command.entry)) (seen desk.old) (seen desk.new) (got out.old) (got out.new)
+        Ends (Some (command_view command.entry)) (seen desk.old) (seen desk.new) (got out.old) (got out.new)
         (D.along desk.old desk.new) (answer_of result) (told_of result) }
+    ensures fits { OnOk result (FitsTraces (command_view command.entry)) }
 {
     match command {
         Command::Sim {
             image,
             script,
             schedule,
-            setup,
+            trace,
+            audit,
+            options,
         } => {
             perform(
                 alloc,
@@ -126,13 +140,14 @@ fn perform_command<'a, D: Desk, O: Sink>(
                     image,
                     script,
                     schedule,
-                    setup,
+                    files: TraceFiles { trace, audit },
+                    options,
                 },
                 desk,
                 out,
             )
         }
-        Command::Plain { image, options } => perform(alloc, &Plain { image, options }, desk, out),
+        Command::Plain { image, bounds } => perform(alloc, &Plain { image, bounds }, desk, out),
         Command::Extract { image } => perform(alloc, &Extract { image }, desk, out),
         Command::Asm {
             text,
