@@ -8,7 +8,7 @@ ghost use Rattle.thread_run.specs.Workers.{IsGoing};
 
 use crate::{RingRecorder, Worker, new_cpu, run_threads};
 use handler_word::write_runs;
-use machine_step::{Limits, Setup};
+use machine_step::{Limits, Setup, Steps};
 use patch_script::read_script;
 use sled_patch::run_prefix;
 use sled_rule::{CodeTable, PatchSeat};
@@ -117,7 +117,7 @@ fn begin<R: Abort + AllocGlobal>(
 /// A worker of the next thread.
 fn next_worker<'a>(
     alloc: Global,
-    image: &'a Image,
+    steps: &'a Steps<'a>,
     table: &'a CodeTable,
     seat: &mut PatchSeat,
     setup: &Setup,
@@ -125,7 +125,7 @@ fn next_worker<'a>(
 ) -> Result<Worker<'a, RingRecorder>, Fail>
     requires own { IsPatcherOf table.now seat.old }
     requires starts { (patch_view seat.old).place ≡ start_in (script_of table.now) }
-    requires image { (script_of table.now).program ≡ image.now }
+    requires program { (script_of table.now).program ≡ steps.now }
     requires threads { (script_of table.now).threads ≡ setup.now.threads }
     requires few { setup.now.threads ≤ 16 }
     requires next { number ≡ (patch_view seat.old).given + 1 }
@@ -140,7 +140,7 @@ fn next_worker<'a>(
 {
     let cpu = new_cpu(
         alloc,
-        image,
+        steps,
         table.script(),
         setup.threads,
         number,
@@ -159,10 +159,11 @@ fn run_two<T: Threads + Wait + Sync + Abort + AllocGlobal, G: Gate + Sync>(
 ) -> Result<Outcome, Fail> {
     let alloc = rt.alloc();
     let image = read_image(alloc, file)?;
+    let steps = Steps::new(alloc, &image)?;
     let setup = setup_of(2);
     let (table, mut seat) = begin(rt, &image, text, 2)?;
-    let first = next_worker(alloc, &image, &table, &mut seat, &setup, 1)?;
-    let second = next_worker(alloc, &image, &table, &mut seat, &setup, 2)?;
+    let first = next_worker(alloc, &steps, &table, &mut seat, &setup, 1)?;
+    let second = next_worker(alloc, &steps, &table, &mut seat, &setup, 2)?;
     let mut workers = Vec::with_capacity(alloc, 2)?;
     workers.push(first)?;
     workers.push(second)?;
@@ -179,9 +180,10 @@ fn run_one<T: Threads + Wait + Sync + Abort + AllocGlobal, G: Gate + Sync>(
 ) -> Result<Outcome, Fail> {
     let alloc = rt.alloc();
     let image = read_image(alloc, file)?;
+    let steps = Steps::new(alloc, &image)?;
     let setup = setup_of(1);
     let (table, mut seat) = begin(rt, &image, text, 1)?;
-    let first = next_worker(alloc, &image, &table, &mut seat, &setup, 1)?;
+    let first = next_worker(alloc, &steps, &table, &mut seat, &setup, 1)?;
     let mut workers = Vec::with_capacity(alloc, 1)?;
     workers.push(first)?;
     run_threads(rt, &table, &mut seat, &mut workers, gate);

@@ -3,24 +3,24 @@
 ghost use Rattle.std.specs.Prelude.{◌≡◌, ◌≤◌, IfOk};
 ghost use Rattle.thread_run.specs.Workers.{IsFreshThread};
 
-use machine_step::{Cpu, Limits, some_end};
+use machine_step::{Cpu, Limits, Steps, some_end};
 use patch_script::Script;
 use sled_words::MAX_THREADS;
 use std::alloc::Global;
-use xray_image::Image;
 use xray_io::NoMemory;
 
-/// The thread of a number, of a script that was read for an image and so many threads. It is held where
-/// the script says. Takes all memory of the thread; `NoMemory` comes when some of it was refused.
+/// The thread of a number, of a script that was read for an image and a number of threads. The script
+/// holds it where it says. All threads of the image borrow its steps. Takes all other memory of the
+/// thread; `NoMemory` comes when some of it was refused.
 pub fn new_cpu<'a>(
     alloc: Global,
-    image: &'a Image,
+    steps: &'a Steps<'a>,
     script: &Script,
     threads: u32,
     number: u32,
     limits: Limits,
 ) -> Result<Cpu<'a>, NoMemory>
-    requires image { script.now.program ≡ image.now }
+    requires program { script.now.program ≡ steps.now }
     requires threads { script.now.threads ≡ threads }
     requires few { threads ≤ MAX_THREADS }
     requires number { (1 ≤ number) × (number ≤ threads) }
@@ -30,8 +30,8 @@ pub fn new_cpu<'a>(
     ensures limits { IfOk result (λ cpu. cpu.limits ≡ limits) }
 {
     // Says that some accepted file holds the image.
-    image.base();
+    steps.image();
     some_end();
     let hold = script.hold_of(number);
-    Cpu::new(alloc, image, number, threads, hold, limits)
+    Cpu::new(alloc, steps, number, threads, hold, limits)
 }
