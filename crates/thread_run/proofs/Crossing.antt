@@ -24,5 +24,5 @@ a_seat = search (sendable, seat_send, as_row_send) depth 30
 a_table : (κ : NamedLft) → IsSend (as_row (shr_ref_field κ table.the_row tt))
 a_table κ = search (sendable, table_sync, as_row_send) depth 30
 
-pub worker_send : (κ : NamedLft) (R : RattleType) → IsSend R → IsSend (worker.the_row κ R)
-worker_send κ R r = declared_send (worker.the_type κ R) (a_cpu κ, (a_seat, (a_table κ, (as_row_send (row_field R) r, tt))))
+pub worker_send : (κ ν : NamedLft) (R : RattleType) → IsSend R → IsSend (worker.the_row κ ν R)
+worker_send κ ν R r = declared_send (worker.the_type κ ν R) (a_cpu κ, (a_seat, (a_table ν, (as_row_send (row_field R) r, tt))))

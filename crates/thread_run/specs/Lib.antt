@@ -1,3 +1,4 @@
+pub mod Each
 pub mod Following
 pub mod Workers
 pub mod Buffers

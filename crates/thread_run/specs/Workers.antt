@@ -19,6 +19,7 @@ use Rattle.sled_rule.specs.declared.views.WorkView.{WorkView}
 use Rattle.sled_rule.specs.Seats.{work_view, script_of, IsWorkerOf}
 use Rattle.sled_rule.specs.Views.{ended_count}
 use Rattle.thread_run.specs.declared.worker.Worker.{Worker}
+use Rattle.thread_run.specs.Each.{HaveChanged}
 use Rattle.thread_run.specs.Following.{HasFollowed, MarksFollowScript, given, is_held_by}
 
 -- the thread, the seat, the table and the recorder of a worker
@@ -119,8 +120,11 @@ pub record HasTaken {R : Type 0} (stands : R → List Event → Type 0) (word : 
   pub held : is_held_by (cpu_of old).program (cpu_of old).thread (load ∷ []) ≡ true → cpu_of new ≡ cpu_of old
   pub goes_on : is_held_by (cpu_of old).program (cpu_of old).thread (load ∷ []) ≡ false → loads_left (cpu_of new) < loads_left (cpu_of old)
 
--- each worker of a list has run to its end, at the place where it stood
-pub record HaveRun {R : Type 0} (stands : R → List Event → Type 0) (follows : R → R → Type 0) (old new : List (Worker R)) : Type 0 where
-  pub count : length new ≡ length old
-  pub each : (i : ℕ) (before after : Worker R) → slice_get old i ≡ Some before → slice_get new i ≡ Some after
-      → IsSameWorker follows before after × HasEnded stands after
+-- a worker has run to its end
+pub record HasRunOut {R : Type 0} (stands : R → List Event → Type 0) (follows : R → R → Type 0) (old new : Worker R) : Type 0 where
+  pub same : IsSameWorker follows old new
+  pub ended : HasEnded stands new
+
+-- each worker of a list has, at the place where it stood
+abbrev pub HaveRun : {R : Type 0} → (R → List Event → Type 0) → (R → R → Type 0) → (old new : List (Worker R)) → Type 0
+HaveRun stands follows = HaveChanged (HasRunOut stands follows)

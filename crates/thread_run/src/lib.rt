@@ -9,6 +9,7 @@ mod recorder;
 mod ring;
 mod running;
 mod thread;
+mod work;
 mod worker;
 
 pub use recorder::RingRecorder;

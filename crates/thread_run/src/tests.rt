@@ -115,14 +115,14 @@ fn begin<R: Abort + AllocGlobal>(
 }
 
 /// A worker of the next thread.
-fn next_worker<'a>(
+fn next_worker<'s, 't>(
     alloc: Global,
-    steps: &'a Steps<'a>,
-    table: &'a CodeTable,
+    steps: &'s Steps<'s>,
+    table: &'t CodeTable,
     seat: &mut PatchSeat,
     setup: &Setup,
     number: u32,
-) -> Result<Worker<'a, RingRecorder>, Fail>
+) -> Result<Worker<'s, 't, RingRecorder>, Fail>
     requires own { IsPatcherOf table.now seat.old }
     requires starts { (patch_view seat.old).place ≡ start_in (script_of table.now) }
     requires program { (script_of table.now).program ≡ steps.now }
@@ -193,7 +193,7 @@ fn run_one<T: Threads + Wait + Sync + Abort + AllocGlobal, G: Gate + Sync>(
 /// What the workers leave.
 fn left_by<R: Abort + AllocGlobal>(
     rt: &R,
-    workers: Vec<Worker<'_, RingRecorder>>,
+    workers: Vec<Worker<'_, '_, RingRecorder>>,
 ) -> Result<Outcome, Fail> {
     let alloc = rt.alloc();
     let mut marks = MemSink::new(alloc, Vec::new(alloc));

@@ -34,18 +34,18 @@ enum Progress {
 
 /// A traced thread with its seat of a code table, and a recorder of its events.
 #[derive(Drop)]
-pub struct Worker<'a, R> {
-    cpu: Cpu<'a>,
+pub struct Worker<'s, 't, R> {
+    cpu: Cpu<'s>,
     seat: WorkSeat,
-    table: &'a CodeTable,
+    table: &'t CodeTable,
     recorder: R,
 }
 
-impl<'a, R: Recorder> Worker<'a, R> {
+impl<'s, 't, R: Recorder> Worker<'s, 't, R> {
     ghost use Rattle.thread_run.specs.Workers.{cpu_of, seat_of, table_of, recorder_of, loads_of, HasEnded, HasMade, HasTaken, IsAtWork, IsFreshIn, IsFreshThread, IsGoing, IsSameWorker};
 
     /// A worker before its first load.
-    pub fn new(cpu: Cpu<'a>, seat: WorkSeat, table: &'a CodeTable, recorder: R) -> Self
+    pub fn new(cpu: Cpu<'s>, seat: WorkSeat, table: &'t CodeTable, recorder: R) -> Self
         requires own { IsWorkerOf table.now seat }
         requires fresh { IsFreshIn (script_of table.now) cpu (work_view seat) }
         requires no_events { R.stands recorder [] }
@@ -66,7 +66,7 @@ impl<'a, R: Recorder> Worker<'a, R> {
 
     /// A worker of the next thread, before its first load: it gets the next seat of the table. The
     /// patcher stands where threads start.
-    pub fn start(cpu: Cpu<'a>, table: &'a CodeTable, patcher: &mut PatchSeat, recorder: R) -> Self
+    pub fn start(cpu: Cpu<'s>, table: &'t CodeTable, patcher: &mut PatchSeat, recorder: R) -> Self
         requires own { IsPatcherOf table.now patcher.old }
         requires starts { (patch_view patcher.old).place ≡ start_in (script_of table.now) }
         requires few { (patch_view patcher.old).given < (script_of table.now).threads }
@@ -187,7 +187,7 @@ impl<'a, R: Recorder> Worker<'a, R> {
     }
 
     /// The thread, its seat and its recorder.
-    pub fn parts(self) -> (Cpu<'a>, WorkSeat, R)
+    pub fn parts(self) -> (Cpu<'s>, WorkSeat, R)
         ensures cpu { result.0 ≡ cpu_of self.entry }
         ensures seat { result.1 ≡ seat_of self.entry }
         ensures recorder { result.2 ≡ recorder_of self.entry }
