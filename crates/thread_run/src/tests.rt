@@ -157,13 +157,23 @@ fn run_two<T: Threads + Wait + Sync + Abort + AllocGlobal, G: Gate + Sync>(
     text: &[u8],
     gate: &G,
 ) -> Result<Outcome, Fail> {
+    let image = read_image(rt.alloc(), file)?;
+    let steps = Steps::new(rt.alloc(), &image)?;
+    run_two_of(rt, &steps, text, gate)
+}
+
+/// Runs two threads of an image's steps beside a script.
+fn run_two_of<'s, T: Threads + Wait + Sync + Abort + AllocGlobal, G: Gate + Sync>(
+    rt: &T,
+    steps: &'s Steps<'s>,
+    text: &[u8],
+    gate: &G,
+) -> Result<Outcome, Fail> {
     let alloc = rt.alloc();
-    let image = read_image(alloc, file)?;
-    let steps = Steps::new(alloc, &image)?;
     let setup = setup_of(2);
-    let (table, mut seat) = begin(rt, &image, text, 2)?;
-    let first = next_worker(alloc, &steps, &table, &mut seat, &setup, 1)?;
-    let second = next_worker(alloc, &steps, &table, &mut seat, &setup, 2)?;
+    let (table, mut seat) = begin(rt, steps.image(), text, 2)?;
+    let first = next_worker(alloc, steps, &table, &mut seat, &setup, 1)?;
+    let second = next_worker(alloc, steps, &table, &mut seat, &setup, 2)?;
     let mut workers = Vec::with_capacity(alloc, 2)?;
     workers.push(first)?;
     workers.push(second)?;
@@ -178,12 +188,22 @@ fn run_one<T: Threads + Wait + Sync + Abort + AllocGlobal, G: Gate + Sync>(
     text: &[u8],
     gate: &G,
 ) -> Result<Outcome, Fail> {
+    let image = read_image(rt.alloc(), file)?;
+    let steps = Steps::new(rt.alloc(), &image)?;
+    run_one_of(rt, &steps, text, gate)
+}
+
+/// Runs one thread of an image's steps beside a script.
+fn run_one_of<'s, T: Threads + Wait + Sync + Abort + AllocGlobal, G: Gate + Sync>(
+    rt: &T,
+    steps: &'s Steps<'s>,
+    text: &[u8],
+    gate: &G,
+) -> Result<Outcome, Fail> {
     let alloc = rt.alloc();
-    let image = read_image(alloc, file)?;
-    let steps = Steps::new(alloc, &image)?;
     let setup = setup_of(1);
-    let (table, mut seat) = begin(rt, &image, text, 1)?;
-    let first = next_worker(alloc, &steps, &table, &mut seat, &setup, 1)?;
+    let (table, mut seat) = begin(rt, steps.image(), text, 1)?;
+    let first = next_worker(alloc, steps, &table, &mut seat, &setup, 1)?;
     let mut workers = Vec::with_capacity(alloc, 1)?;
     workers.push(first)?;
     run_threads(rt, &table, &mut seat, &mut workers, gate);
