@@ -1,0 +1,9 @@
+pub mod Words
+pub mod Events
+pub mod Loading
+pub mod Turns
+pub mod Crossing
+pub mod Each
+pub mod Queues
+pub mod LastBuffers
+pub mod Notes

@@ -1,0 +1,162 @@
+-- Loads behind each other.
+use Rattle.std.proofs.Common.{◌≡◌, ℕ, ◌+◌, ◌<◌, ◌≤◌, List, [], ◌∷◌, ◌++◌, Bool, true, false, refl, sym, subst, ap, ◌∙◌, arith, length, append_assoc, append-nil, length-append, inl, inr}
+use Rattle.std.specs.Prelude.{◌||◌, ◌⊎◌}
+use Rattle.std.specs.List.{list_any}
+use Rattle.xray_image.specs.Program.{Program}
+use Rattle.fdr_record.specs.declared.event.Event.{Event}
+use Rattle.handler_word.specs.declared.mark.Mark.{Mark}
+use Rattle.machine_step.specs.declared.end.End.{End}
+use Rattle.machine_step.specs.declared.want.Want.{Want}
+use Rattle.machine_step.specs.declared.want.Want.TheVariants.{Gate, Load as Loads, Done}
+use Rattle.machine_step.specs.Events.{recorded}
+use Rattle.machine_step.specs.PlainStep.{Passing}
+use Rattle.machine_step.specs.Traced.{IsAtEnd, IsDone, IsSameThread, MarksAdded, StandsAs, Traced, loads_left, steps_left}
+use Rattle.sled_rule.specs.declared.views.Load.{Load as SeatLoad}
+use Rattle.thread_run.specs.declared.worker.Worker.{Worker}
+use Rattle.thread_run.specs.Following.{is_held_by}
+use Rattle.thread_run.specs.Workers.{HasMade, HasTaken, IsSameWorker, cpu_of, loads_of}
+
+-- ---- the same worker
+
+pub same_then : (a b c : Traced) → IsSameThread a b → IsSameThread b c → IsSameThread a c
+same_then a b c p q = record {
+  program = q.program ∙ p.program;
+  thread = q.thread ∙ p.thread;
+  threads = q.threads ∙ p.threads;
+  hold = q.hold ∙ p.hold;
+  limits = q.limits ∙ p.limits;
+}
+
+pub same_again : (a : Traced) → IsSameThread a a
+same_again a = record { program = refl; thread = refl; threads = refl; hold = refl; limits = refl }
+
+pub worker_then : {R : Type 0} (follows : R → R → Type 0) → ((x y z : R) → follows x y → follows y z → follows x z) → (a b c : Worker R)
+    → IsSameWorker follows a b → IsSameWorker follows b c → IsSameWorker follows a c
+worker_then follows along a b c p q = record {
+  table = q.table ∙ p.table;
+  thread = same_then (cpu_of a) (cpu_of b) (cpu_of c) p.thread q.thread;
+  recorder = along _ _ _ p.recorder q.recorder;
+}
+
+pub worker_again : {R : Type 0} (follows : R → R → Type 0) → ((x : R) → follows x x) → (a : Worker R) → IsSameWorker follows a a
+worker_again follows itself a = record { table = refl; thread = same_again (cpu_of a); recorder = itself _ }
+
+-- ---- what was made
+
+any_both : {X : Type 0} (p : X → Bool) (xs ys : List X) → list_any p xs ≡ false → list_any p (xs ++ ys) ≡ list_any p ys
+any_both p [] ys none = refl
+any_both {X = X} p (x ∷ xs) ys none = by_first (p x) (λ rest. any_both p xs ys rest) none
+  where
+    by_first : (b : Bool) → (list_any p xs ≡ false → list_any p (xs ++ ys) ≡ list_any p ys) → (b || list_any p xs) ≡ false
+        → (b || list_any p (xs ++ ys)) ≡ list_any p ys
+    by_first true rest none = absurd cc
+    by_first false rest none = rest none
+
+pub made_then : {R : Type 0} (held : Bool) (a b c : Worker R) → IsSameThread (cpu_of a) (cpu_of b) → HasMade false a b → HasMade held b c → HasMade held a c
+made_then held a b c same p q = record {
+  made = p.made ++ q.made;
+  loads = q.loads ∙ ap (λ (ls : List SeatLoad). ls ++ q.made) p.loads ∙ append_assoc (loads_of a) p.made q.made;
+  held_is =
+      any_both _ p.made q.made p.held_is
+      ∙ ap (λ (x : Program). is_held_by x (cpu_of a).thread q.made) (sym same.program)
+      ∙ ap (λ (x : ℕ). is_held_by (cpu_of b).program x q.made) (sym same.thread)
+      ∙ q.held_is;
+}
+
+-- nothing was made
+pub made_none : {R : Type 0} (a b : Worker R) → loads_of b ≡ loads_of a → HasMade false a b
+made_none a b same = record { made = []; loads = same ∙ sym (append-nil (loads_of a)); held_is = refl }
+
+-- one load was made
+pub made_one : {R : Type 0} (held : Bool) (a b : Worker R) (load : SeatLoad) → loads_of b ≡ loads_of a ++ load ∷ []
+    → is_held_by (cpu_of a).program (cpu_of a).thread (load ∷ []) ≡ held → HasMade held a b
+made_one held a b load loads is = record { made = load ∷ []; loads = loads; held_is = is }
+
+-- ---- where a thread stands
+
+-- a thread that wants the same word, and has no mark more, is no nearer to its end
+pub no_nearer : (old new : Traced) (word : ℕ) → IsSameThread old new → old.want ≡ Loads word → new.want ≡ Loads word
+    → MarksAdded old.marks new.marks new.want → loads_left new < loads_left old → ⊥
+no_nearer old new word same was is added less =
+    let marks : new.marks ≡ old.marks = subst (MarksAdded old.marks new.marks) is added in
+    let left : loads_left new ≡ loads_left old = rw marks (rw same.program (rw same.limits (rw is (rw was refl)))) in
+    omega (arith, less, left)
+
+-- one mark more
+pub one_more : (old new : List Mark) (count : ℕ) (want : Want) → MarksAdded old new want → ((word : ℕ) → want ≡ Loads word → ⊥) → count ≡ length old
+    → count + 1 ≡ length new
+one_more old new count (Gate passing) (mark, e) other is = omega (arith, is, ap length e, length-append old (mark ∷ []))
+one_more old new count (Loads word) e other is = absurd (other word refl)
+one_more old new count (Done end) (mark, e) other is = omega (arith, is, ap length e, length-append old (mark ∷ []))
+
+-- no mark more
+pub no_more : (old new : List Mark) (count word : ℕ) (want : Want) → MarksAdded old new want → want ≡ Loads word → count ≡ length old → count ≡ length new
+no_more old new count word want added is count_is =
+    let marks : new ≡ old = subst (MarksAdded old new) is added in
+    count_is ∙ ap length (sym marks)
+
+pub gate_no_load : (passing word : ℕ) → ◌≡◌ {A = Want} (Gate passing) (Loads word) → ⊥
+gate_no_load passing word e = cc
+
+pub done_no_load : (end : End) (word : ℕ) → ◌≡◌ {A = Want} (Done end) (Loads word) → ⊥
+done_no_load end word e = cc
+
+pub same_load : (a b : ℕ) → ◌≡◌ {A = Want} (Loads a) (Loads b) → a ≡ b
+same_load a b e = cc
+
+-- a thread that wants nothing is at its end
+pub ended_so : (t : Traced) (want : Want) → t.want ≡ want → IsDone want → StandsAs t want → (end : End) × (t.want ≡ Done end) × IsAtEnd t end
+ended_so t (Gate passing) is done stands = absurd done
+ended_so t (Loads word) is done stands = absurd done
+ended_so t (Done end) is done stands = (end, is, stands)
+
+-- a thread that was let into its passing
+pub opened_same : (old new : Traced) → new ≡ record old { want = new.want } → IsSameThread old new
+opened_same old new e = record {
+  program = ap (λ (x : Traced). x.program) e;
+  thread = ap (λ (x : Traced). x.thread) e;
+  threads = ap (λ (x : Traced). x.threads) e;
+  hold = ap (λ (x : Traced). x.hold) e;
+  limits = ap (λ (x : Traced). x.limits) e;
+}
+
+-- ---- one load
+
+-- a thread that wants the same word again is held
+pub held_again : {R : Type 0} (stands : R → List Event → Type 0) (word : ℕ) (old new : Worker R) → (taken : HasTaken stands word old new)
+    → IsSameThread (cpu_of old) (cpu_of new) → (cpu_of old).want ≡ Loads word → (cpu_of new).want ≡ Loads word
+    → is_held_by (cpu_of old).program (cpu_of old).thread (taken.load ∷ []) ≡ true
+held_again stands word old new taken same was is = by_held (is_held_by (cpu_of old).program (cpu_of old).thread (taken.load ∷ [])) refl
+  where
+    by_held : (held : Bool) → is_held_by (cpu_of old).program (cpu_of old).thread (taken.load ∷ []) ≡ held
+        → is_held_by (cpu_of old).program (cpu_of old).thread (taken.load ∷ []) ≡ true
+    by_held true e = e
+    by_held false e = absurd (no_nearer (cpu_of old) (cpu_of new) word same was is taken.marks (taken.goes_on e))
+
+-- one that wants anything else isn't
+pub moved_on : {R : Type 0} (stands : R → List Event → Type 0) (word : ℕ) (old new : Worker R) → (taken : HasTaken stands word old new)
+    → (cpu_of old).want ≡ Loads word → ((cpu_of new).want ≡ Loads word → ⊥)
+    → is_held_by (cpu_of old).program (cpu_of old).thread (taken.load ∷ []) ≡ false
+moved_on stands word old new taken was moved = by_held (is_held_by (cpu_of old).program (cpu_of old).thread (taken.load ∷ [])) refl
+  where
+    by_held : (held : Bool) → is_held_by (cpu_of old).program (cpu_of old).thread (taken.load ∷ []) ≡ held
+        → is_held_by (cpu_of old).program (cpu_of old).thread (taken.load ∷ []) ≡ false
+    by_held true e = absurd (moved (ap (λ (t : Traced). t.want) (taken.held e) ∙ was))
+    by_held false e = e
+
+-- ---- before the first load
+
+none_recorded : (passed : List Passing) → recorded passed [] ≡ []
+none_recorded [] = refl
+none_recorded (p ∷ passed) = refl
+
+pub none_noted : {R : Type 0} (stands : R → List Event → Type 0) (recorder : R) (passed : List Passing) (marks : List Mark) → marks ≡ []
+    → stands recorder [] → stands recorder (recorded passed marks)
+none_noted stands recorder passed marks none is =
+    subst (λ (ms : List Mark). stands recorder (recorded passed ms)) (sym none) (subst (stands recorder) (sym (none_recorded passed)) is)
+
+-- a want that is a gate or an end is no load
+pub no_load : (found want : Want) → found ≡ want → ((passing : ℕ) × (found ≡ Gate passing)) ⊎ ((end : End) × (found ≡ Done end))
+    → (word : ℕ) → want ≡ Loads word → ⊥
+no_load found want is (inl (passing, gate)) word wants = gate_no_load passing word (sym gate ∙ is ∙ wants)
+no_load found want is (inr (end, done)) word wants = done_no_load end word (sym done ∙ is ∙ wants)

@@ -1,0 +1,5 @@
+pub mod Each
+pub mod Following
+pub mod Workers
+pub mod Buffers
+pub mod Rings

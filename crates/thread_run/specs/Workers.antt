@@ -1,0 +1,130 @@
+-- What holds of a worker: a traced thread that makes its loads from a table by its seat, and notes its events.
+use Rattle.std.specs.Prelude.{◌≡◌, ◌≢◌, ◌<◌, ◌≤◌, ◌++◌, ℕ, List, [], ◌∷◌, length, All, Bool, Some, slice_get, true, false}
+use Rattle.xray_image.specs.Program.{IsAccepted, Program}
+use Rattle.sled_words.specs.Words.{release_word}
+use Rattle.patch_script.specs.Micros.{hold_of, start_of, total_of}
+use Rattle.patch_script.specs.Plans.{Plan}
+use Rattle.patch_script.specs.Refusals.{commands_of}
+use Rattle.fdr_record.specs.declared.event.Event.{Event}
+use Rattle.machine_step.specs.declared.end.End.{End}
+use Rattle.machine_step.specs.declared.want.Want.TheVariants.{Done}
+use Rattle.machine_step.specs.Events.{recorded}
+use Rattle.machine_step.specs.Loads.{Load}
+use Rattle.machine_step.specs.PlainStep.{Passing}
+use Rattle.machine_step.specs.Traced.{HasLoaded, IsAtEnd, IsSameThread, MarksAdded, Traced, loads_left, sleds_of}
+use Rattle.sled_rule.specs.declared.seats.WorkSeat.{WorkSeat}
+use Rattle.sled_rule.specs.declared.table.CodeTable.{CodeTable}
+use Rattle.sled_rule.specs.declared.views.Load.{Load as SeatLoad}
+use Rattle.sled_rule.specs.declared.views.WorkView.{WorkView}
+use Rattle.sled_rule.specs.Seats.{work_view, script_of, IsWorkerOf}
+use Rattle.sled_rule.specs.Views.{ended_count}
+use Rattle.thread_run.specs.declared.worker.Worker.{Worker}
+use Rattle.thread_run.specs.Each.{HaveChanged}
+use Rattle.thread_run.specs.Following.{HasFollowed, MarksFollowScript, given, is_held_by}
+
+-- the thread, the seat, the table and the recorder of a worker
+abbrev pub cpu_of : {R : Type 0} → Worker R → Traced
+cpu_of worker = worker.cpu
+
+abbrev pub seat_of : {R : Type 0} → Worker R → WorkSeat
+seat_of worker = worker.seat
+
+abbrev pub table_of : {R : Type 0} → Worker R → CodeTable
+table_of worker = worker.table.now
+
+abbrev pub recorder_of : {R : Type 0} → Worker R → R
+recorder_of worker = worker.recorder
+
+-- the loads of its seat
+abbrev pub loads_of : {R : Type 0} → Worker R → List SeatLoad
+loads_of worker = (work_view (seat_of worker)).loads
+
+-- the thread runs the script's program as one of its threads, and the script holds it where its commands say
+pub record IsThreadIn (plan : Plan) (t : Traced) : Type 0 where
+  pub program : t.program ≡ plan.program
+  pub threads : t.threads ≡ plan.threads
+  pub hold : t.hold ≡ hold_of t.thread (commands_of plan.lines)
+  pub first : 0 < t.thread
+  pub accepted : (bytes : List ℕ) × IsAccepted bytes plan.program
+
+-- a thread before its first load
+pub record IsFreshThread (plan : Plan) (t : Traced) : Type 0 where
+  pub thread : IsThreadIn plan t
+  pub no_marks : t.marks ≡ []
+  pub passed : List Passing
+  pub loaded : HasLoaded t passed []
+
+-- its seat, which has made no load either
+pub record IsFreshIn (plan : Plan) (t : Traced) (v : WorkView) : Type 0 where
+  pub fresh : IsFreshThread plan t
+  pub own : v.thread ≡ t.thread
+  pub seen : v.seen ≡ start_of plan.program (commands_of plan.lines)
+  pub count : v.count ≡ 0
+  pub loads : v.loads ≡ []
+
+-- The loads of the seat are those that the thread was given, and they follow the script up to what the seat has seen. So do those that
+-- didn't hold the thread, which alone are known to leave its marks.
+pub record IsAlong (plan : Plan) (t : Traced) (v : WorkView) (passed : List Passing) : Type 0 where
+  pub all : HasFollowed plan.program (commands_of plan.lines) t passed v.seen (given v.loads)
+  pub made : List Load
+  pub free : HasFollowed plan.program (commands_of plan.lines) t passed v.seen made
+  pub released : All (λ load. load.word ≡ release_word plan.program t.thread → load.value ≢ 0) made
+
+-- A worker between two loads: its thread was given exactly the loads of its seat, which follow the table's script, and its recorder stands
+-- for exactly the events of the passings that were recorded.
+pub record IsAtWork {R : Type 0} (stands : R → List Event → Type 0) (worker : Worker R) : Type 0 where
+  pub own : IsWorkerOf (table_of worker) (seat_of worker)
+  pub thread : IsThreadIn (script_of (table_of worker)) (cpu_of worker)
+  pub seat : (work_view (seat_of worker)).thread ≡ (cpu_of worker).thread
+  pub within : (work_view (seat_of worker)).seen ≤ total_of (script_of (table_of worker)).program (commands_of (script_of (table_of worker)).lines)
+  pub passed : List Passing
+  pub along : IsAlong (script_of (table_of worker)) (cpu_of worker) (work_view (seat_of worker)) passed
+  pub recorded_are : stands (recorder_of worker) (recorded passed (cpu_of worker).marks)
+
+-- it hasn't ended: its seat counts the passings that have marks
+pub record IsGoing {R : Type 0} (stands : R → List Event → Type 0) (worker : Worker R) : Type 0 where
+  pub at : IsAtWork stands worker
+  pub count : (work_view (seat_of worker)).count ≡ length (cpu_of worker).marks
+
+-- it has ended: its thread is at the end of its plain run, its seat says so, and the marks follow the whole script
+pub record HasEnded {R : Type 0} (stands : R → List Event → Type 0) (worker : Worker R) : Type 0 where
+  pub at : IsAtWork stands worker
+  pub count : (work_view (seat_of worker)).count ≡ ended_count
+  pub end : End
+  pub done : (cpu_of worker).want ≡ Done end
+  pub plain : IsAtEnd (cpu_of worker) end
+  pub marks : MarksFollowScript (script_of (table_of worker)).program (commands_of (script_of (table_of worker)).lines)
+      (cpu_of worker).thread (sleds_of at.passed) (cpu_of worker).marks
+
+-- the same thread of the same table, with the same recorder
+pub record IsSameWorker {R : Type 0} (follows : R → R → Type 0) (old new : Worker R) : Type 0 where
+  pub table : table_of new ≡ table_of old
+  pub thread : IsSameThread (cpu_of old) (cpu_of new)
+  pub recorder : follows (recorder_of old) (recorder_of new)
+
+-- a worker has made some loads more, and has been held by none of them, or by one
+pub record HasMade {R : Type 0} (held : Bool) (old new : Worker R) : Type 0 where
+  pub made : List SeatLoad
+  pub loads : loads_of new ≡ loads_of old ++ made
+  pub held_is : is_held_by (cpu_of old).program (cpu_of old).thread made ≡ held
+
+-- it has made one load more, of this word: its thread has a mark more where that ended its passing, which isn't counted yet, and wants the
+-- same word again where that held it
+pub record HasTaken {R : Type 0} (stands : R → List Event → Type 0) (word : ℕ) (old new : Worker R) : Type 0 where
+  pub at : IsAtWork stands new
+  pub count : (work_view (seat_of new)).count ≡ length (cpu_of old).marks
+  pub marks : MarksAdded (cpu_of old).marks (cpu_of new).marks (cpu_of new).want
+  pub load : SeatLoad
+  pub word_is : load.word ≡ word
+  pub loads : loads_of new ≡ loads_of old ++ load ∷ []
+  pub held : is_held_by (cpu_of old).program (cpu_of old).thread (load ∷ []) ≡ true → cpu_of new ≡ cpu_of old
+  pub goes_on : is_held_by (cpu_of old).program (cpu_of old).thread (load ∷ []) ≡ false → loads_left (cpu_of new) < loads_left (cpu_of old)
+
+-- a worker has run to its end
+pub record HasRunOut {R : Type 0} (stands : R → List Event → Type 0) (follows : R → R → Type 0) (old new : Worker R) : Type 0 where
+  pub same : IsSameWorker follows old new
+  pub ended : HasEnded stands new
+
+-- each worker of a list has, at the place where it stood
+abbrev pub HaveRun : {R : Type 0} → (R → List Event → Type 0) → (R → R → Type 0) → (old new : List (Worker R)) → Type 0
+HaveRun stands follows = HaveChanged (HasRunOut stands follows)

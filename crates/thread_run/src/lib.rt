@@ -1,0 +1,21 @@
+//! Traced threads that run while one patcher patches the sleds that they pass.
+//!
+//! A `Worker` is one thread: it makes the loads that its `Cpu` wants by its seat of a code table, and
+//! notes its events in a recorder. A `RingRecorder` is one over buffers of the thread's own.
+//! `run_threads` runs all workers and the script, each in a thread.
+#![tactic(auto)]
+
+mod recorder;
+mod ring;
+mod running;
+mod thread;
+mod work;
+mod worker;
+
+pub use recorder::RingRecorder;
+pub use running::run_threads;
+pub use thread::new_cpu;
+pub use worker::{Turn, Worker};
+
+#[cfg(test)]
+mod tests;

@@ -1,0 +1,211 @@
+//! One traced thread of a run.
+
+ghost use Rattle.std.specs.Prelude.{◌≡◌, ◌<◌, ◌+◌, ◌-◌, ◌^◌, ◌++◌, [], List, length, true, false, IfSome};
+ghost use Rattle.fdr_record.specs.declared.event.Event.{Event};
+ghost use Rattle.machine_step.specs.Events.{events_in};
+ghost use Rattle.sled_rule.specs.Seats.{patch_view, work_view, script_of, IsPatcherOf, IsWorkerOf};
+ghost use Rattle.sled_rule.specs.Plans.{start_in};
+ghost use Rattle.sled_rule.specs.Views.{giving};
+ghost use Rattle.machine_step.specs.declared.want.Want.{Want};
+ghost use Rattle.machine_step.specs.Traced.{IsDone, IsLoadable, loads_left};
+
+use fdr_record::{Event, Recorder};
+use machine_step::{Cpu, Want};
+use sled_rule::{CodeTable, PatchSeat, WorkSeat};
+use xray_io::Gate;
+
+/// How a turn of a worker has ended.
+#[derive(Clone, Copy, Debug, PartialEq, Eq)]
+pub enum Turn {
+    /// The thread is at its end.
+    Done,
+    /// The thread's release word is 0, so it can't begin its passing yet.
+    Held,
+}
+
+/// What a load has brought.
+#[derive(Clone, Copy)]
+enum Progress {
+    /// The thread wants another word, or it has made its passing.
+    Loaded,
+    /// It wants the same word again: its release word, which is 0.
+    Held,
+}
+
+/// A traced thread with its seat of a code table, and a recorder of its events.
+#[derive(Drop)]
+pub struct Worker<'s, 't, R> {
+    cpu: Cpu<'s>,
+    seat: WorkSeat,
+    table: &'t CodeTable,
+    recorder: R,
+}
+
+impl<'s, 't, R: Recorder> Worker<'s, 't, R> {
+    ghost use Rattle.thread_run.specs.Workers.{cpu_of, seat_of, table_of, recorder_of, loads_of, HasEnded, HasMade, HasTaken, IsAtWork, IsFreshIn, IsFreshThread, IsGoing, IsSameWorker};
+
+    /// A worker before its first load.
+    pub fn new(cpu: Cpu<'s>, seat: WorkSeat, table: &'t CodeTable, recorder: R) -> Self
+        requires own { IsWorkerOf table.now seat }
+        requires fresh { IsFreshIn (script_of table.now) cpu (work_view seat) }
+        requires no_events { R.stands recorder [] }
+        ensures going { IsGoing R.stands result }
+        ensures cpu { cpu_of result ≡ cpu.entry }
+        ensures table { table_of result ≡ table.now }
+        ensures recorder { recorder_of result ≡ recorder }
+    {
+        // Says that threads start within the script.
+        table.script().start();
+        Worker {
+            cpu,
+            seat,
+            table,
+            recorder,
+        }
+    }
+
+    /// A worker of the next thread, before its first load: it gets the next seat of the table. The
+    /// patcher stands where threads start.
+    pub fn start(cpu: Cpu<'s>, table: &'t CodeTable, patcher: &mut PatchSeat, recorder: R) -> Self
+        requires own { IsPatcherOf table.now patcher.old }
+        requires starts { (patch_view patcher.old).place ≡ start_in (script_of table.now) }
+        requires few { (patch_view patcher.old).given < (script_of table.now).threads }
+        requires fresh { IsFreshThread (script_of table.now) cpu }
+        requires next { cpu.thread ≡ (patch_view patcher.old).given + 1 }
+        requires no_events { R.stands recorder [] }
+        ensures own { IsPatcherOf table.now patcher.new }
+        ensures view { patch_view patcher.new ≡ giving (patch_view patcher.old) }
+        ensures going { IsGoing R.stands result }
+        ensures cpu { cpu_of result ≡ cpu.entry }
+        ensures table { table_of result ≡ table.now }
+        ensures recorder { recorder_of result ≡ recorder }
+    {
+        let seat = table.split(patcher);
+        Worker::new(cpu, seat, table, recorder)
+    }
+
+    /// Runs the thread until it has ended, or until its release word holds it.
+    pub fn run<G: Gate>(&mut self, gate: &G) -> Turn
+        requires going { IsGoing R.stands self.old }
+        ensures same { IsSameWorker R.follows self.old self.new }
+        ensures held { (result ≡ Turn.Held) → IsGoing R.stands self.new × HasMade true self.old self.new }
+        ensures done { (result ≡ Turn.Done) → HasEnded R.stands self.new × HasMade false self.old self.new }
+    {
+        'loads: loop {
+            match self.cpu.want() {
+                Want::Gate(passing) => self.open(gate, passing),
+                Want::Load(word) => {
+                    if let Progress::Held = self.load(word) {
+                        return Turn::Held;
+                    }
+                }
+                Want::Done(_) => {
+                    self.finish();
+                    return Turn::Done;
+                }
+            }
+        }
+    }
+
+    /// Lets the thread into the passing that it wants to be let into, and the gate before it.
+    fn open<G: Gate>(&mut self, gate: &G, passing: u32)
+        requires going { IsGoing R.stands self.old }
+        requires gate { (cpu_of self.old).want ≡ Want.Gate passing }
+        ensures same { IsSameWorker R.follows self.old self.new }
+        ensures going { IsGoing R.stands self.new }
+        ensures loads { loads_of self.new ≡ loads_of self.old }
+        ensures nearer { loads_left (cpu_of self.new) < loads_left (cpu_of self.old) }
+    {
+        gate.before(self.cpu.thread(), passing);
+        self.cpu.opened();
+    }
+
+    /// Makes the load of the word that the thread wants, and counts its passing where that ends it.
+    fn load(&mut self, word: u32) -> Progress
+        requires going { IsGoing R.stands self.old }
+        requires wants { (cpu_of self.old).want ≡ Want.Load word }
+        requires there { IsLoadable (cpu_of self.old) (cpu_of self.old).want }
+        ensures same { IsSameWorker R.follows self.old self.new }
+        ensures going { IsGoing R.stands self.new }
+        ensures held { (result ≡ Progress.Held) → HasMade true self.old self.new }
+        ensures loaded { (result ≡ Progress.Loaded) → HasMade false self.old self.new }
+        ensures nearer { (result ≡ Progress.Loaded)
+            → loads_left (cpu_of self.new) < loads_left (cpu_of self.old) }
+    {
+        self.take(word);
+        match self.cpu.want() {
+            Want::Load(next) if next == word => Progress::Held,
+            Want::Load(_) => Progress::Loaded,
+            Want::Gate(_) | Want::Done(_) => {
+                self.tell();
+                Progress::Loaded
+            }
+        }
+    }
+
+    /// Loads a word, gives the thread its value and notes the event that comes of it.
+    fn take(&mut self, word: u32)
+        requires going { IsGoing R.stands self.old }
+        requires wants { (cpu_of self.old).want ≡ Want.Load word }
+        requires there { IsLoadable (cpu_of self.old) (cpu_of self.old).want }
+        ensures same { IsSameWorker R.follows self.old self.new }
+        ensures loaded { HasTaken R.stands word self.old self.new }
+    {
+        let value = self.table.fetch(&mut self.seat, word);
+        let event = self.cpu.give(value);
+        // Says that the passings, and so the events, fit 32 bits.
+        self.cpu.passings();
+        note_any(&mut self.recorder, event);
+    }
+
+    /// Says in the table that one more passing is made.
+    fn tell(&mut self)
+        requires at { IsAtWork R.stands self.old }
+        requires one { (work_view (seat_of self.old)).count + 1 ≡ length (cpu_of self.old).marks }
+        ensures same { IsSameWorker R.follows self.old self.new }
+        ensures cpu { cpu_of self.new ≡ cpu_of self.old }
+        ensures loads { loads_of self.new ≡ loads_of self.old }
+        ensures going { IsGoing R.stands self.new }
+    {
+        // Says that the passings fit 32 bits.
+        self.cpu.passings();
+        self.table.passed(&mut self.seat);
+    }
+
+    /// Says in the table that the thread has ended.
+    fn finish(&mut self)
+        requires going { IsGoing R.stands self.old }
+        requires done { IsDone (cpu_of self.old).want }
+        ensures same { IsSameWorker R.follows self.old self.new }
+        ensures loads { loads_of self.new ≡ loads_of self.old }
+        ensures ended { HasEnded R.stands self.new }
+    {
+        // Say that the passings fit 32 bits, and where the thread stands.
+        self.cpu.passings();
+        self.cpu.want();
+        self.table.ended(&mut self.seat);
+    }
+
+    /// The thread, its seat and its recorder.
+    pub fn parts(self) -> (Cpu<'s>, WorkSeat, R)
+        ensures cpu { result.0 ≡ cpu_of self.entry }
+        ensures seat { result.1 ≡ seat_of self.entry }
+        ensures recorder { result.2 ≡ recorder_of self.entry }
+    {
+        (self.cpu, self.seat, self.recorder)
+    }
+}
+
+/// Notes the event of a load, if there is one.
+fn note_any<R: Recorder>(recorder: &mut R, event: Option<Event>)
+    requires id { IfSome event (λ event. event.func < 2 ^ 28) }
+    requires room { IfSome event (λ event. (events : List Event)
+        × R.stands recorder.old events × (length events < 2 ^ 32 - 1)) }
+    ensures noted { (events : List Event) → R.stands recorder.old events
+        → R.stands recorder.new (events ++ events_in event) }
+    ensures follows { R.follows recorder.old recorder.new }
+{
+    if let Some(event) = event {
+        recorder.note(event);
+    }
+}
