@@ -5,7 +5,10 @@ mod call;
 mod calls;
 mod counts;
 mod matching;
+mod path_numbers;
+mod stack_row;
 
 pub use call::{Call, Pair};
 pub use calls::ThreadCalls;
 pub use matching::{pairs, thread_events};
+pub use stack_row::{StackFault, StackRow};
