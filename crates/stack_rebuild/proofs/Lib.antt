@@ -1,2 +1,4 @@
+pub mod Nesting
 pub mod Opening
+pub mod Spending
 pub mod Trees

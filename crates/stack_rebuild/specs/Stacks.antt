@@ -1,5 +1,5 @@
 -- The stacks of a trace: on which paths its functions were called, and what the calls of each path took.
-use Rattle.std.specs.Prelude.{◌-◌, ◌==◌, ◌||◌, Bool, true, false, ℕ, List, [], ◌∷◌, ◌++◌, length, map, filter, reverse, take, sum, nat_lt, Option, None, Some}
+use Rattle.std.specs.Prelude.{◌-◌, ◌==◌, ◌||◌, Bool, true, false, ℕ, List, [], ◌∷◌, ◌++◌, length, map, filter, reverse, take, sum_by, count_by, nat_lt, if◌then◌else◌, Option, None, Some}
 use Rattle.std.specs.List.{flat_map}
 use Rattle.std.specs.declared.cmp.Ordering.{Ordering}
 use Rattle.std.specs.Ordering.{is_eq, nat_cmp}
@@ -33,7 +33,7 @@ is_innermost at (call ∷ outer) = call.entry == at
 
 -- the durations of the pairs that were made directly in the call whose entry is at a position
 abbrev pub spent_in : List Event → ℕ → ℕ
-spent_in events at = sum (map (λ pair. pair.duration) (filter (λ pair. is_innermost at (open_before events pair.entry)) (pairs_of events)))
+spent_in events at = sum_by (λ pair. if is_innermost at (open_before events pair.entry) then pair.duration else 0) (pairs_of events)
 
 -- a pair with its path: its duration, and what is left of it without its direct children, not below 0
 pub record Timed : Type 0 where
@@ -67,13 +67,17 @@ pub record PathRow : Type 0 where
   pub sum : ℕ
   pub own : ℕ
 
+-- whether a pair has a path
+abbrev pub has_path : List ℕ → Timed → Bool
+has_path path pair = is_eq (path_cmp pair.path path)
+
 -- the row of a path
 abbrev pub row_of : List Timed → List ℕ → PathRow
-row_of pairs path = let those = filter (λ pair. is_eq (path_cmp pair.path path)) pairs in record {
+row_of pairs path = record {
   path = path;
-  count = length those;
-  sum = sum (map (λ pair. pair.duration) those);
-  own = sum (map (λ pair. pair.own) those);
+  count = count_by (has_path path) pairs;
+  sum = sum_by (λ pair. if has_path path pair then pair.duration else 0) pairs;
+  own = sum_by (λ pair. if has_path path pair then pair.own else 0) pairs;
 }
 
 -- a row for each path that has a pair, in ascending order
