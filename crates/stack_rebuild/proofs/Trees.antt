@@ -46,7 +46,7 @@ path_kept P path n within = get_or-append P (path ∷ []) [] n within
 by_kept : (P : List (List ℕ)) (path : List ℕ) (s : Step) → s.parent < length P → path_by (P ++ path ∷ []) s ≡ path_by P s
 by_kept P path s within = ap (λ (front : List ℕ). front ++ s.func ∷ []) (path_kept P path s.parent within)
 
-apart_more : (P : List (List ℕ)) (path : List ℕ) → AreApart P → ((n : ℕ) → n < length P → path_at P n ≡ path → ⊥) → AreApart (P ++ path ∷ [])
+pub apart_more : (P : List (List ℕ)) (path : List ℕ) → AreApart P → ((n : ℕ) → n < length P → path_at P n ≡ path → ⊥) → AreApart (P ++ path ∷ [])
 apart_more P path own absent = record { apart = λ n m low high. by_places n m (place n low) (place m high) }
   where
     place : (n : ℕ) → n < length (P ++ path ∷ []) → (n < length P) ⊎ (n ≡ length P)

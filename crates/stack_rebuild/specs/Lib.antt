@@ -4,5 +4,6 @@ pub mod Counts
 pub mod Histories
 pub mod PathNumbers
 pub mod PathTree
+pub mod Scanning
 pub mod Stacks
 pub mod ThreadCalls

@@ -22,11 +22,17 @@ paths_after (step ∷ before) = paths_after before ++ path_by (paths_after befor
 pub record AreApart (paths : List (List ℕ)) : Type 0 where
   pub apart : (n m : ℕ) → n < length paths → m < length paths → path_at paths n ≡ path_at paths m → n ≡ m
 
+-- a path that had no number has the next one
+pub record IsFresh (path : List ℕ) (n : ℕ) (old new : List (List ℕ)) : Type 0 where
+  pub more : new ≡ old ++ path ∷ []
+  pub last : n ≡ length old
+  pub absent : (k : ℕ) → k < length old → path_at old k ≡ path → ⊥
+
 -- a path has a number now, and each one that had a number has it still
 pub record HasNumber (path : List ℕ) (n : ℕ) (old new : List (List ℕ)) : Type 0 where
   pub is : path_at new n ≡ path
   pub within : n < length new
-  pub grows : (new ≡ old) ⊎ ((new ≡ old ++ path ∷ []) × (n ≡ length old))
+  pub grows : (new ≡ old) ⊎ IsFresh path n old new
 
 -- numbers of steps
 abbrev pub Numbers : Type 0

@@ -6,7 +6,9 @@ mod calls;
 mod counts;
 mod matching;
 mod path_numbers;
+mod path_sums;
 mod stack_row;
+mod thread_stack;
 
 pub use call::{Call, Pair};
 pub use calls::ThreadCalls;
