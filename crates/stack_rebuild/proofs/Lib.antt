@@ -1,7 +1,9 @@
+pub mod Depth
 pub mod Frames
 pub mod Nesting
 pub mod Opening
 pub mod Results
 pub mod Spending
 pub mod Sums
+pub mod Threads
 pub mod Trees

@@ -1,4 +1,5 @@
 pub mod Ascending
+pub mod ByThread
 pub mod Calls
 pub mod Counts
 pub mod Histories

@@ -1,12 +1,14 @@
 //! The calls that a trace's events make: which are open, and which entry each exit belongs to.
 #![tactic(auto)]
 
+mod by_thread;
 mod call;
 mod calls;
 mod counts;
 mod matching;
 mod path_numbers;
 mod path_sums;
+mod scan;
 mod stack_row;
 mod thread_stack;
 

@@ -1,0 +1,79 @@
+-- The places of each thread's blocks.
+use Rattle.std.proofs.Common.{◌≡◌, ◌+◌, ◌++◌, ◌<◌, ◌∙◌, ◌||◌, ℕ, suc, Bool, true, false, cond, List, [], ◌∷◌, length, take, refl, ap, sym, subst, arith, nat_eq, get_or, is_some, append_assoc}
+use Rattle.std.specs.List.{flat_map, list_any}
+use Rattle.std.specs.Ordering.{nat_cmp}
+use Rattle.std.specs.BTreeMap.{get}
+use Rattle.std.proofs.lemmas.List.{append-nil, get_or_default, take_more}
+use Rattle.std.proofs.lemmas.List.Concat.{flat_map-append}
+use Rattle.fdr_record.specs.declared.event.Event.{Event}
+use Rattle.fdr_file.specs.declared.trace.Block.{Block}
+use Rattle.stack_rebuild.specs.ByThread.{ArePlaces, Places, events_at, no_block, places_in}
+use Rattle.stack_rebuild.specs.Histories.{events_of}
+
+-- the events of a thread in one more block
+events_of-more : (thread : ℕ) (blocks : List Block) (block : Block)
+    → events_of thread (blocks ++ block ∷ []) ≡ cond (nat_eq block.thread thread) (events_of thread blocks ++ block.events) (events_of thread blocks)
+events_of-more thread [] block = by_thread (nat_eq block.thread thread)
+  where
+    by_thread : (b : Bool) → cond b (block.events ++ []) [] ≡ cond b block.events (let none : List Event = [] in none)
+    by_thread true = append-nil block.events
+    by_thread false = refl
+events_of-more thread (first ∷ blocks) block = by_threads (nat_eq first.thread thread) (nat_eq block.thread thread) (events_of-more thread blocks block)
+  where
+    by_threads : (b d : Bool) → events_of thread (blocks ++ block ∷ []) ≡ cond d (events_of thread blocks ++ block.events) (events_of thread blocks)
+        → cond b (first.events ++ events_of thread (blocks ++ block ∷ [])) (events_of thread (blocks ++ block ∷ []))
+        ≡ cond d (cond b (first.events ++ events_of thread blocks) (events_of thread blocks) ++ block.events)
+        (cond b (first.events ++ events_of thread blocks) (events_of thread blocks))
+    by_threads true true behind = ap (λ (es : List Event). first.events ++ es) behind ∙ sym (append_assoc first.events (events_of thread blocks) block.events)
+    by_threads true false behind = ap (λ (es : List Event). first.events ++ es) behind
+    by_threads false true behind = behind
+    by_threads false false behind = behind
+
+any-more : (thread : ℕ) (blocks : List Block) (block : Block)
+    → list_any (λ (b : Block). nat_eq b.thread thread) (blocks ++ block ∷ [])
+    ≡ (nat_eq block.thread thread || list_any (λ (b : Block). nat_eq b.thread thread) blocks)
+any-more thread [] block = refl
+any-more thread (first ∷ blocks) block =
+    by_threads (nat_eq first.thread thread) (nat_eq block.thread thread) (list_any (λ (b : Block). nat_eq b.thread thread) blocks) (any-more thread blocks block)
+  where
+    by_threads : (b d rest : Bool) → list_any (λ (c : Block). nat_eq c.thread thread) (blocks ++ block ∷ []) ≡ (d || rest)
+        → (b || list_any (λ (c : Block). nat_eq c.thread thread) (blocks ++ block ∷ [])) ≡ (d || (b || rest))
+    by_threads true true rest behind = refl
+    by_threads true false rest behind = refl
+    by_threads false true rest behind = behind
+    by_threads false false rest behind = behind
+
+pub places_more : (blocks : List Block) (k : ℕ) (d : Block) (places places' : Places) → k < length blocks → ArePlaces blocks (take k blocks) places
+    → ((other : ℕ) → places_in places' other ≡ cond (nat_eq (get_or blocks k d).thread other) (places_in places other ++ k ∷ []) (places_in places other))
+    → ((other : ℕ) → is_some (get nat_cmp places' other) ≡ (nat_eq (get_or blocks k d).thread other || is_some (get nat_cmp places other)))
+    → ArePlaces blocks (take (k + 1) blocks) places'
+places_more blocks k d places places' within own added present = record {
+  each = λ thread. ap (events_at blocks) (added thread)
+      ∙ (by_thread thread (nat_eq (get_or blocks k d).thread thread)
+      ∙ sym (ap (events_of thread) (take_more blocks k d within) ∙ events_of-more thread (take k blocks) (get_or blocks k d)));
+  present = λ thread. present thread
+      ∙ (ap (λ (b : Bool). nat_eq (get_or blocks k d).thread thread || b) (own.present thread)
+      ∙ sym (ap (list_any (λ (b : Block). nat_eq b.thread thread)) (take_more blocks k d within) ∙ any-more thread (take k blocks) (get_or blocks k d)));
+}
+  where
+    each_at : ℕ → List Event
+    each_at place = (get_or blocks place no_block).events
+
+    by_thread : (thread : ℕ) (b : Bool) → events_at blocks (cond b (places_in places thread ++ k ∷ []) (places_in places thread))
+        ≡ cond b (events_of thread (take k blocks) ++ (get_or blocks k d).events) (events_of thread (take k blocks))
+    by_thread thread true =
+        flat_map-append (λ (place : ℕ). (get_or blocks place no_block).events) (places_in places thread) (k ∷ [])
+        ∙ (ap (λ (es : List Event). es ++ ((get_or blocks k no_block).events ++ [])) (own.each thread)
+        ∙ ap (λ (es : List Event). events_of thread (take k blocks) ++ es)
+        (append-nil (get_or blocks k no_block).events ∙ ap (λ (b : Block). b.events) (get_or_default blocks k no_block d within)))
+    by_thread thread false = own.each thread
+
+pub places_more_by : (blocks : List Block) (k : ℕ) (block : Block) (places places' : Places) → block ≡ get_or blocks k block → k < length blocks
+    → ArePlaces blocks (take k blocks) places
+    → ((other : ℕ) → places_in places' other ≡ cond (nat_eq block.thread other) (places_in places other ++ k ∷ []) (places_in places other))
+    → ((other : ℕ) → is_some (get nat_cmp places' other) ≡ (nat_eq block.thread other || is_some (get nat_cmp places other)))
+    → ArePlaces blocks (take (k + 1) blocks) places'
+places_more_by blocks k block places places' is within own added present =
+    places_more blocks k block places places' within own
+    (subst (λ (b : Block). (other : ℕ) → places_in places' other ≡ cond (nat_eq b.thread other) (places_in places other ++ k ∷ []) (places_in places other)) is added)
+    (subst (λ (b : Block). (other : ℕ) → is_some (get nat_cmp places' other) ≡ (nat_eq b.thread other || is_some (get nat_cmp places other))) is present)
