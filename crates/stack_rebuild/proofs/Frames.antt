@@ -231,8 +231,7 @@ follows_entry e history calls calls' fs fs' paths paths' ts ts' pairs entry stan
     let frame = opens.frame in record {
       stands = stands ∙ ap (next_standing e) known.stands;
       framed = subst (AreFrames paths' (reverse (e ∷ history)) (reverse fs')) (sym now)
-          (subst (λ (l : List Frame). AreFrames paths' (reverse (e ∷ history)) l (opened ∷ open_calls history)) (sym (ap reverse opens.is ∙ turned fs frame))
-          (
+          (subst (λ (l : List Frame). AreFrames paths' (reverse (e ∷ history)) l (opened ∷ open_calls history)) (sym (ap reverse opens.is ∙ turned fs frame)) (
             record {
               path = opens.path
                   ∙ (ap (λ (path : List ℕ). path ++ e.func ∷ []) (path_top paths (reverse history) (reverse fs) (open_calls history) known.summed.root known.framed)

@@ -1,8 +1,11 @@
+pub mod Adding
+pub mod Ascents
 pub mod Depth
 pub mod Frames
 pub mod Nesting
 pub mod Opening
 pub mod Results
+pub mod RowsOf
 pub mod Spending
 pub mod Sums
 pub mod Threads

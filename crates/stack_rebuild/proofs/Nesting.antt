@@ -211,8 +211,7 @@ nested_history (e ∷ history) = by_kind e.kind refl (nested_history history)
     by_kind : (k : Kind) → e.kind ≡ k → IsNested history → IsNested (e ∷ history)
     by_kind Entry is known =
         ends (opened ∷ open_calls history) (pairs_in history) (ap (λ (k : Kind). open_after_kind k e (length history) (open_calls history)) is)
-        (ap (λ (k : Kind). pairs_in history ++ option_to_list (pair_at_kind k e (length history) (open_calls history))) is ∙ append-nil (pairs_in history))
-        (
+        (ap (λ (k : Kind). pairs_in history ++ option_to_list (pair_at_kind k e (length history) (open_calls history))) is ∙ append-nil (pairs_in history)) (
           omega (arith, length-append (reverse history) (e ∷ []), length-reverse history),
           subst (λ (n : ℕ). AllBefore n (open_calls history)) (length-reverse history) (nested_before (reverse history) (open_calls history) known.nested),
           sym (open_then history e),

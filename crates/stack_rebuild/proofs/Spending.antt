@@ -66,8 +66,12 @@ spent_more e history at nested =
     ap (λ (es : List Event). sum_by (share es at) (pairs_of (reverse (e ∷ history)))) (one_more e history)
     ∙ (ap (sum_by (share (events ++ e ∷ []) at)) (pairs_more e history)
     ∙ (let split : sum_by (share (events ++ e ∷ []) at) (pairs_in history ++ new) ≡ sum_by (share events at) (pairs_in history) + adds e at calls =
-    omega (arith, sum_by-append (share (events ++ e ∷ []) at) (pairs_in history) new, share_made events e at (length history) calls nested,
-    shares_kept events e at (length history) (open_calls history) (pairs_in history) (omega (arith, length-reverse history)) (nested_history history).ended) in
+    omega (
+      arith,
+      sum_by-append (share (events ++ e ∷ []) at) (pairs_in history) new,
+      share_made events e at (length history) calls nested,
+      shares_kept events e at (length history) (open_calls history) (pairs_in history) (omega (arith, length-reverse history)) (nested_history history).ended,
+    ) in
     split ∙ ap (λ (ps : List Pair). sum_by (share events at) ps + adds e at calls) (sym (pairs_same history))))
 
 not_innermost : (at : ℕ) (calls : List Call) → NoneAt at calls → is_innermost at calls ≡ false

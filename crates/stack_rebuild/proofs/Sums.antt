@@ -18,7 +18,7 @@ use Rattle.stack_rebuild.proofs.Trees.{apart_more, each_more, path_kept}
 
 -- ---- the order of paths
 
-nat_cmp_same : (n : ℕ) → nat_cmp n n ≡ Equal
+pub nat_cmp_same : (n : ℕ) → nat_cmp n n ≡ Equal
 nat_cmp_same n =
     let not_less : nat_lt n n ≡ false = grind (arith, nat_tests) in
     ap (λ b. cond b Less (cond (nat_eq n n) Equal Greater)) not_less ∙ ap (λ b. cond b Equal Greater) (eq-eqb n n refl)

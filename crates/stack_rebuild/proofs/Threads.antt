@@ -1,14 +1,28 @@
 -- The places of each thread's blocks.
-use Rattle.std.proofs.Common.{◌≡◌, ◌+◌, ◌++◌, ◌<◌, ◌∙◌, ◌||◌, ℕ, suc, Bool, true, false, cond, List, [], ◌∷◌, length, take, refl, ap, sym, subst, arith, nat_eq, get_or, is_some, append_assoc}
+use Rattle.std.proofs.Common.{◌≡◌, ◌+◌, ◌++◌, ◌<◌, ◌∙◌, ◌||◌, ℕ, suc, Bool, true, false, cond, List, [], ◌∷◌, length, map, take, refl, ap, sym, subst, arith, nat_eq, get_or, is_some, append_assoc, inl, inr, Option, Some, unwrap_or}
+use Rattle.std.specs.Prelude.{All}
 use Rattle.std.specs.List.{flat_map, list_any}
-use Rattle.std.specs.Ordering.{nat_cmp}
-use Rattle.std.specs.BTreeMap.{get}
+use Rattle.std.specs.Map.{keys_of, lookup}
+use Rattle.std.specs.Option.{option_map}
+use Rattle.std.specs.declared.cmp.Ordering.{Ordering}
+use Rattle.std.specs.declared.cmp.Ordering.TheVariants.{Less, Equal, Greater}
+use Rattle.std.specs.Ordering.{is_eq, nat_cmp}
+use Rattle.std.specs.Cmp.{nat_cmp_total}
+use Rattle.std.specs.FinMap.{nat_cmp-IsAntisymmetric}
+use Rattle.std.specs.BTreeMap.{IsOrdered, get, is_at}
+use Rattle.std.specs.Global.{Vec}
+use Rattle.std.proofs.lemmas.Bool.{eqb-true, eq-eqb}
 use Rattle.std.proofs.lemmas.List.{append-nil, get_or_default, take_more}
 use Rattle.std.proofs.lemmas.List.Concat.{flat_map-append}
+use Rattle.std.proofs.lemmas.List.Elements.{All-cons, All-head, All-nil, All-tail}
+use Rattle.std.proofs.lemmas.Map.Views.{All-found}
 use Rattle.fdr_record.specs.declared.event.Event.{Event}
 use Rattle.fdr_file.specs.declared.trace.Block.{Block}
-use Rattle.stack_rebuild.specs.ByThread.{ArePlaces, Places, events_at, no_block, places_in}
+use Rattle.stack_rebuild.specs.declared.thread_blocks.ThreadBlocks.{ThreadBlocks}
+use Rattle.stack_rebuild.specs.ByThread.{ArePlaces, AreThreads, Places, events_at, no_block, places_in, thread_of}
 use Rattle.stack_rebuild.specs.Histories.{events_of}
+use Rattle.stack_rebuild.proofs.Ascents.{IsIn, is_each_once, strict_from_sorted}
+use Rattle.stack_rebuild.proofs.Sums.{nat_cmp_same}
 
 -- the events of a thread in one more block
 events_of-more : (thread : ℕ) (blocks : List Block) (block : Block)
@@ -77,3 +91,79 @@ places_more_by blocks k block places places' is within own added present =
     places_more blocks k block places places' within own
     (subst (λ (b : Block). (other : ℕ) → places_in places' other ≡ cond (nat_eq b.thread other) (places_in places other ++ k ∷ []) (places_in places other)) is added)
     (subst (λ (b : Block). (other : ℕ) → is_some (get nat_cmp places' other) ≡ (nat_eq b.thread other || is_some (get nat_cmp places other))) is present)
+
+-- ---- the threads of a map
+
+equal_from : (o : Ordering) → is_eq o ≡ true → o ≡ Equal
+equal_from Less is = let never : false ≡ true = is in cc
+equal_from Equal is = refl
+equal_from Greater is = let never : false ≡ true = is in cc
+
+any-in : (thread : ℕ) (blocks : List Block) → list_any (λ (b : Block). nat_eq b.thread thread) blocks ≡ true → IsIn thread (map (λ (b : Block). b.thread) blocks)
+any-in thread [] any = let never : false ≡ true = any in absurd (let n : ⊥ = cc in n)
+any-in thread (block ∷ blocks) any = by_first (nat_eq block.thread thread) refl any (any-in thread blocks)
+  where
+    by_first : (b : Bool) → nat_eq block.thread thread ≡ b → (b || list_any (λ (c : Block). nat_eq c.thread thread) blocks) ≡ true
+        → (list_any (λ (c : Block). nat_eq c.thread thread) blocks ≡ true → IsIn thread (map (λ (c : Block). c.thread) blocks))
+        → IsIn thread (map (λ (c : Block). c.thread) (block ∷ blocks))
+    by_first true is all later = inl (sym (eqb-true block.thread thread is))
+    by_first false is all later = inr (later all)
+
+in-any : (thread : ℕ) (blocks : List Block) → IsIn thread (map (λ (b : Block). b.thread) blocks) → list_any (λ (b : Block). nat_eq b.thread thread) blocks ≡ true
+in-any thread [] is = absurd is
+in-any thread (block ∷ blocks) (inl is) =
+    ap (λ (b : Bool). b || list_any (λ (c : Block). nat_eq c.thread thread) blocks) (eq-eqb block.thread thread (sym is))
+in-any thread (block ∷ blocks) (inr is) =
+    ap (λ (b : Bool). nat_eq block.thread thread || b) (in-any thread blocks is) ∙ or_true (nat_eq block.thread thread)
+  where
+    or_true : (b : Bool) → (b || true) ≡ true
+    or_true true = refl
+    or_true false = refl
+
+abbrev Entries : Type 0
+Entries = List (ℕ × Vec ℕ)
+
+found-in : (thread : ℕ) (es : Entries) → is_some (lookup (is_at (nat_cmp thread)) es) ≡ true → IsIn thread (keys_of es)
+found-in thread [] found = let never : false ≡ true = found in absurd (let n : ⊥ = cc in n)
+found-in thread (e ∷ es) found = by_first (is_eq (nat_cmp thread e.0)) refl found (found-in thread es)
+  where
+    by_first : (b : Bool) → is_eq (nat_cmp thread e.0) ≡ b → is_some (cond b (Some e.1) (lookup (is_at (nat_cmp thread)) es)) ≡ true
+        → (is_some (lookup (is_at (nat_cmp thread)) es) ≡ true → IsIn thread (keys_of es)) → IsIn thread (keys_of (e ∷ es))
+    by_first true is all later = inl (nat_cmp-IsAntisymmetric thread e.0 (equal_from (nat_cmp thread e.0) is))
+    by_first false is all later = inr (later all)
+
+in-found : (thread : ℕ) (es : Entries) → IsIn thread (keys_of es) → is_some (lookup (is_at (nat_cmp thread)) es) ≡ true
+in-found thread [] is = absurd is
+in-found thread (e ∷ es) (inl is) =
+    ap (λ (b : Bool). is_some (cond b (Some e.1) (lookup (is_at (nat_cmp thread)) es)))
+    (ap (λ (n : ℕ). is_eq (nat_cmp thread n)) (sym is) ∙ ap is_eq (nat_cmp_same thread))
+in-found thread (e ∷ es) (inr is) = by_first (is_eq (nat_cmp thread e.0)) (in-found thread es is)
+  where
+    by_first : (b : Bool) → is_some (lookup (is_at (nat_cmp thread)) es) ≡ true → is_some (cond b (Some e.1) (lookup (is_at (nat_cmp thread)) es)) ≡ true
+    by_first true later = refl
+    by_first false later = later
+
+threads_keys : (es : Entries) → map (λ (own : ThreadBlocks). own.thread) (map thread_of es) ≡ keys_of es
+threads_keys [] = refl
+threads_keys (e ∷ es) = ap (λ (ks : List ℕ). e.0 ∷ ks) (threads_keys es)
+
+events_told : (blocks : List Block) (places : Places) (es : Entries) → ArePlaces blocks blocks places
+    → All (λ (e : ℕ × Vec ℕ). get nat_cmp places e.0 ≡ Some e.1) es
+    → All (λ (own : ThreadBlocks). events_at blocks own.places.items ≡ events_of own.thread blocks) (map thread_of es)
+events_told blocks places [] own found = All-nil (λ (t : ThreadBlocks). events_at blocks t.places.items ≡ events_of t.thread blocks)
+events_told blocks places (e ∷ es) own found =
+    All-cons (λ (t : ThreadBlocks). events_at blocks t.places.items ≡ events_of t.thread blocks) (thread_of e) (map thread_of es)
+    (ap (λ (o : Option (Vec ℕ)). events_at blocks (unwrap_or (option_map (λ (list : Vec ℕ). list.items) o) []))
+    (sym (All-head (λ (x : ℕ × Vec ℕ). get nat_cmp places x.0 ≡ Some x.1) e es found)) ∙ own.each e.0)
+    (events_told blocks places es own (All-tail (λ (x : ℕ × Vec ℕ). get nat_cmp places x.0 ≡ Some x.1) e es found))
+
+pub threads_listed : (blocks : List Block) (places : Places) → ArePlaces blocks blocks places → IsOrdered nat_cmp places
+    → AreThreads blocks (map thread_of places.entries)
+threads_listed blocks places own ordered = record {
+  are = threads_keys places.entries
+      ∙ is_each_once nat_cmp nat_cmp_total nat_cmp-IsAntisymmetric (keys_of places.entries) (map (λ (b : Block). b.thread) blocks)
+      (strict_from_sorted nat_cmp (keys_of places.entries) ordered)
+      (λ z is. any-in z blocks (sym (own.present z) ∙ in-found z places.entries is))
+      (λ z is. found-in z places.entries (own.present z ∙ in-any z blocks is));
+  told = events_told blocks places places.entries own (All-found nat_cmp_total places ordered);
+}

@@ -1,5 +1,5 @@
 -- The places of each thread's blocks, and how far a thread's calls lie inside each other, for the contracts of private functions.
-use Rattle.std.specs.Prelude.{◌≡◌, ◌==◌, Bool, ℕ, List, [], ◌∷◌, is_some, unwrap_or, slice_index_or, nat_eq}
+use Rattle.std.specs.Prelude.{◌≡◌, ◌==◌, Bool, ℕ, List, [], ◌∷◌, is_some, unwrap_or, slice_index_or, nat_eq, map, All}
 use Rattle.std.specs.List.{flat_map, list_any}
 use Rattle.std.specs.Option.{option_map}
 use Rattle.std.specs.Ordering.{nat_cmp}
@@ -10,7 +10,9 @@ use Rattle.fdr_file.specs.declared.trace.Block.{Block}
 use Rattle.xray_io.specs.declared.faults.Wall.{Wall}
 use Rattle.stack_rebuild.specs.declared.stack_row.StackFault.{StackFault}
 use Rattle.stack_rebuild.specs.declared.stack_row.StackFault.TheVariants.{Deep, NoMemory}
+use Rattle.stack_rebuild.specs.declared.thread_blocks.ThreadBlocks.{ThreadBlocks}
 use Rattle.stack_rebuild.specs.Histories.{events_of}
+use Rattle.stack_rebuild.specs.Stacks.{threads_of}
 
 -- what stands where there is no block
 abbrev pub no_block : Block
@@ -37,3 +39,12 @@ pub record ArePlaces (blocks first : List Block) (places : Places) : Type 0 wher
 abbrev pub IsFaultOf : StackFault → ℕ → Type 0 → Type 0
 IsFaultOf NoMemory thread P = Unit {0}
 IsFaultOf (Deep deep) thread P = (deep ≡ thread) × P
+
+-- threads with the places of their blocks are the threads of blocks, in ascending order
+pub record AreThreads (blocks : List Block) (threads : List ThreadBlocks) : Type 0 where
+  pub are : map (λ own. own.thread) threads ≡ threads_of blocks
+  pub told : All (λ own. events_at blocks own.places.items ≡ events_of own.thread blocks) threads
+
+-- a thread of a map with the places of its blocks
+abbrev pub thread_of : ℕ × Vec ℕ → ThreadBlocks
+thread_of (thread, places) = record { thread = thread; places = places }

@@ -5,6 +5,7 @@ pub mod Counts
 pub mod Histories
 pub mod PathNumbers
 pub mod PathTree
+pub mod Rows
 pub mod Scanning
 pub mod Stacks
 pub mod ThreadCalls

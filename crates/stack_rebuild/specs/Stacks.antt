@@ -1,5 +1,5 @@
 -- The stacks of a trace: on which paths its functions were called, and what the calls of each path took.
-use Rattle.std.specs.Prelude.{◌-◌, ◌==◌, ◌||◌, Bool, true, false, ℕ, List, [], ◌∷◌, ◌++◌, length, map, filter, reverse, take, sum_by, count_by, nat_lt, if◌then◌else◌, Option, None, Some}
+use Rattle.std.specs.Prelude.{◌≡◌, ◌-◌, ◌==◌, ◌||◌, Bool, true, false, ℕ, List, [], ◌∷◌, ◌++◌, length, map, filter, reverse, take, sum_by, count_by, nat_lt, if◌then◌else◌, Option, None, Some}
 use Rattle.std.specs.List.{flat_map}
 use Rattle.std.specs.declared.cmp.Ordering.{Ordering}
 use Rattle.std.specs.Ordering.{is_eq, nat_cmp}
@@ -10,6 +10,8 @@ use Rattle.fdr_file.specs.declared.trace.Trace.{Trace}
 use Rattle.stack_rebuild.specs.declared.call.Call.{Call}
 use Rattle.stack_rebuild.specs.declared.call.Pair.{Pair}
 use Rattle.stack_rebuild.specs.declared.stack_row.StackRow.{StackRow}
+use Rattle.stack_rebuild.specs.declared.stack_row.StackFault.{StackFault}
+use Rattle.stack_rebuild.specs.declared.stack_row.StackFault.TheVariants.{Deep, NoMemory}
 use Rattle.stack_rebuild.specs.Calls.{open_calls, pairs_of}
 use Rattle.stack_rebuild.specs.Histories.{events_of}
 use Rattle.stack_rebuild.specs.Ascending.{each_once}
@@ -98,6 +100,11 @@ abbrev pub first_of : List ℕ → Option ℕ
 first_of [] = None
 first_of (n ∷ ns) = Some n
 
--- the least thread of which at some event more calls are open than a limit
-abbrev pub deep_in : ℕ → Trace → Option ℕ
-deep_in limit trace = first_of (filter (λ thread. gets_deep limit (reverse (events_of thread trace.blocks))) (threads_of trace.blocks))
+-- the least thread of which after some event more calls are open than a limit
+abbrev pub deep_in : ℕ → List Block → Option ℕ
+deep_in limit blocks = first_of (filter (λ thread. gets_deep limit (reverse (events_of thread blocks))) (threads_of blocks))
+
+-- a fault is want of memory, or it names this thread
+abbrev pub IsDeepFault : StackFault → Option ℕ → Type 0
+IsDeepFault NoMemory deep = Unit {0}
+IsDeepFault (Deep thread) deep = deep ≡ Some thread

@@ -1,7 +1,6 @@
 //! The calls that a trace's events make: which are open, and which entry each exit belongs to.
 #![tactic(auto)]
 
-mod by_thread;
 mod call;
 mod calls;
 mod counts;
@@ -10,9 +9,13 @@ mod path_numbers;
 mod path_sums;
 mod scan;
 mod stack_row;
+mod stacks_of;
+mod thread_blocks;
 mod thread_stack;
 
 pub use call::{Call, Pair};
 pub use calls::ThreadCalls;
 pub use matching::{pairs, thread_events};
+pub use scan::MOST_OPEN;
 pub use stack_row::{StackFault, StackRow};
+pub use stacks_of::stacks;

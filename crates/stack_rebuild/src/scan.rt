@@ -15,7 +15,7 @@ use fdr_record::Event;
 use std::alloc::Global;
 
 /// How many calls of a thread may be open at once.
-pub(crate) const MOST_OPEN: usize = 4096;
+pub const MOST_OPEN: usize = 4096;
 
 /// Goes on by the events of a thread, whose blocks have these places.
 pub(crate) fn add_thread(

@@ -28,7 +28,10 @@ impl Frame {
     fn spend(&mut self, duration: u64) -> Result<(), NoMemory>
         ensures { OnOk result (self.new ≡ spending duration self.old) }
     {
-        self.spent = self.spent.checked_add(u128::from(duration)).ok_or(NoMemory)?;
+        self.spent = self
+            .spent
+            .checked_add(u128::from(duration))
+            .ok_or(NoMemory)?;
         Ok(())
     }
 }

@@ -1,5 +1,5 @@
 use Rattle.stack_rebuild.proofs.Threads.{places_more_by}
-use Rattle.stack_rebuild.proofs.by_thread.places_by_thread.Goals as goal
+use Rattle.stack_rebuild.proofs.thread_blocks.places_by_thread.Goals as goal
 
 pub grouping-preserved : goal.grouping-preserved
 grouping-preserved c =
