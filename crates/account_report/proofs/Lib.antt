@@ -4,3 +4,4 @@ pub mod Rising
 pub mod Rows
 pub mod OneOrder
 pub mod RowOrder
+pub mod AccountLines

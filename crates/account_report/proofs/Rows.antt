@@ -15,7 +15,7 @@ use Rattle.stack_rebuild.specs.Histories.{Logged}
 use Rattle.account_report.specs.declared.row.AccountRow.{AccountRow}
 use Rattle.account_report.specs.Account.{functions_in, row_of}
 use Rattle.account_report.specs.Tallies.{Tallied, has_event, row_of_entry, tally_of}
-use Rattle.account_report.proofs.Rising.{count, count-cons, count-each_once, rises-each_once, rises_from_sorted, same_rising}
+use Rattle.account_report.proofs.Rising.{count, count-cons, count-each_once, distinct-each_once, rises-each_once, rises_from_sorted, same_rising}
 
 abbrev Entries : Type 0
 Entries = List (ℕ × Tallied)
@@ -112,3 +112,8 @@ rows_sorted history es rows distinct told present same up =
     (λ k. sum_by-IsPermutation (λ x. cond (nat_eq k x) 1 0) (keys_of es) (map func rows) keys
     ∙ (count-keys k es distinct ∙ (ap {B = ℕ} (λ b. cond b 1 0) (present k) ∙ sym (count-functions k history)))) in
     rows_of_functions history rows own ∙ ap (map (row_of history)) funcs
+
+-- no function has two rows in it
+pub own_rows : (history : List Logged) → IsDistinct nat_eq (map (λ (r : AccountRow). r.func) (map (row_of history) (functions_in history)))
+own_rows history =
+    subst (IsDistinct nat_eq) (sym (functions_again history (functions_in history))) (distinct-each_once (map (λ x. x.event.func) history))
