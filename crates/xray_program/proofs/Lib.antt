@@ -5,10 +5,8 @@ pub mod Endings
 pub mod ExtractLaws
 pub mod Headline
 pub mod Images
-pub mod ItemLemmas
 pub mod Judging
 pub mod Meanings
-pub mod NumberLemmas
 pub mod Ordering
 pub mod Outputting
 pub mod PlainLaws

@@ -1,7 +1,6 @@
 pub mod Outcomes
 pub mod Taking
 pub mod Setups
-pub mod Words
 pub mod Inputs
 pub mod Outputs
 pub mod Traced
@@ -11,7 +10,6 @@ pub mod Plain
 pub mod Sim
 pub mod Commands
 pub mod Answers
-pub mod CommandLine
 pub mod Order
 pub mod Stops
 pub mod Takes

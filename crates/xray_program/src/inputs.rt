@@ -1,5 +1,5 @@
 //! The kinds of input.
-ghost use Rattle.xray_program.specs.Setups.{IsThreadCount};
+ghost use Rattle.command_words.specs.Ranges.{IsThreadCount};
 
 use crate::image_file::ImageFile;
 use crate::input::Kind;

@@ -1,6 +1,6 @@
 //! The top call: all that the program does, from the words of its command line to what it writes.
 //!
-//! The words are read first, together with the wall time (`words`). A command is one module (`sim`,
+//! The words are read first, together with the wall time (`command_words`). A command is one module (`sim`,
 //! `plain`, `extract`, `asm`), which implements `Work`: it takes its inputs in the order of the words
 //! (`input`), each of which is read, measured and judged before the next is opened, so the first that
 //! fails decides; then it does its work, and writes its outputs and its text (`delivery`). Last a line on
@@ -18,16 +18,13 @@ mod extract;
 mod image_file;
 mod input;
 mod inputs;
-mod items;
 mod laws;
-mod number_option;
 mod plain;
-mod run_options;
+mod setups;
 mod sim;
 mod sim_inputs;
 mod stop;
 mod text;
-mod words;
 mod work;
 
 pub use call::{xray, xray_still};
