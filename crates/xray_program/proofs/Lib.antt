@@ -12,6 +12,7 @@ pub mod Outputting
 pub mod PlainLaws
 pub mod PlainThreads
 pub mod ReplayPrints
+pub mod Reports
 pub mod Rows
 pub mod Saying
 pub mod SimLaws

@@ -8,11 +8,13 @@ pub mod Asm
 pub mod Extract
 pub mod Plain
 pub mod Sim
+pub mod Reports
 pub mod Commands
 pub mod Answers
 pub mod Order
 pub mod Stops
 pub mod Takes
+pub mod ReportTakes
 pub mod Works
 pub mod Ends
 pub mod SimInputs

@@ -20,6 +20,7 @@ mod input;
 mod inputs;
 mod laws;
 mod plain;
+mod report_inputs;
 mod setups;
 mod sim;
 mod sim_inputs;
