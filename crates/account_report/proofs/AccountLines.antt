@@ -6,7 +6,7 @@ use Rattle.std.proofs.lemmas.List.{append-nil, take-append-drop}
 use Rattle.std.proofs.lemmas.Grind.{flat_map-append}
 use Rattle.account_report.specs.declared.row.AccountRow.{AccountRow}
 use Rattle.account_report.specs.declared.text.AccountFormat.{AccountFormat}
-use Rattle.account_report.specs.declared.text.AccountFormat.TheVariants.{Text, Csv}
+use Rattle.account_report.specs.declared.text.AccountFormat.TheVariants.{Text}
 use Rattle.account_report.specs.AccountText.{first_line}
 
 -- the pieces of the first line

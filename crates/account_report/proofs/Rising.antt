@@ -107,6 +107,18 @@ count-ascending : (k : ℕ) (xs : List ℕ) → count k (ascending xs) ≡ count
 count-ascending k [] = refl
 count-ascending k (x ∷ xs) = omega (arith, count-put_in k x (ascending xs), count-cons k x xs, count-ascending k xs)
 
+length-put_in : (x : ℕ) (xs : List ℕ) → length (put_in nat_lt x xs) ≡ suc (length xs)
+length-put_in x [] = refl
+length-put_in x (y ∷ ys) = by_first (nat_lt x y) (length-put_in x ys)
+  where
+    by_first : (b : Bool) → length (put_in nat_lt x ys) ≡ suc (length ys) → length (cond b (x ∷ y ∷ ys) (y ∷ put_in nat_lt x ys)) ≡ suc (length (y ∷ ys))
+    by_first true behind = refl
+    by_first false behind = ap suc behind
+
+pub length-ascending : (xs : List ℕ) → length (ascending xs) ≡ length xs
+length-ascending [] = refl
+length-ascending (x ∷ xs) = length-put_in x (ascending xs) ∙ ap suc (length-ascending xs)
+
 map_itself : (xs : List ℕ) → map (λ (x : ℕ). x) xs ≡ xs
 map_itself [] = refl
 map_itself (x ∷ xs) = ap (λ (ns : List ℕ). x ∷ ns) (map_itself xs)

@@ -1,5 +1,5 @@
 -- The text of an account.
-use Rattle.std.specs.Prelude.{◌-◌, ◌==◌, ◌++◌, Bool, not, ℕ, List, [], ◌∷◌, length, map, replicate, codes, count_by, decimal, Option, if◌then◌else◌}
+use Rattle.std.specs.Prelude.{◌-◌, ◌==◌, ◌++◌, Bool, not, ℕ, List, [], ◌∷◌, length, replicate, codes, count_by, decimal, Option, if◌then◌else◌}
 use Rattle.std.specs.List.{flat_map}
 use Rattle.xray_image.specs.Program.{Program}
 use Rattle.function_names.specs.Name.{name_text}

@@ -1,8 +1,8 @@
-use Rattle.std.proofs.Common.{◌++◌, sym, refl, append_assoc, subst}
+use Rattle.std.proofs.Common.{◌++◌, sym, refl, append_assoc}
 use Rattle.std.specs.Prelude.{codes}
 use Rattle.std.specs.List.{flat_map}
 use Rattle.std.specs.Option.{option_map}
-use Rattle.xray_io.specs.Text.{AddsText, adds_more, adds_stop, adds_within, adds_failed}
+use Rattle.xray_io.specs.Text.{adds_more, adds_stop, adds_within, adds_failed}
 use Rattle.account_report.specs.AccountText.{first_line, head_words, line_text, row_text}
 use Rattle.account_report.proofs.text.add_account.Goals as goal
 
