@@ -1,6 +1,7 @@
 -- The tables, the lines and the commands of the code, as those of the definitions: texts are their bytes.
-use Rattle.std.specs.Prelude.{map}
+use Rattle.std.specs.Prelude.{ℕ, List, Option, map, option_map}
 use Rattle.command_words.specs.declared.line.Line as line
+use Rattle.command_words.specs.declared.report_options.ReportFiles as report_files
 use Rattle.command_words.specs.declared.rows.CommandRow as command_row
 use Rattle.command_words.specs.declared.rows.FileRow as file_row
 use Rattle.command_words.specs.declared.rows.OptionRow as option_row
@@ -28,6 +29,9 @@ row_view row = record { word = row.word.now; files = map file_view row.files.now
 
 abbrev pub line_view : line.Line → Line
 line_view line = record { files = map (λ name. name.now) line.files.items; given = map (λ given. (given.0.now, given.1.now)) line.given.items }
+
+abbrev pub files_view : report_files.ReportFiles → List ℕ × Option (List ℕ)
+files_view files = (files.trace.now, option_map (λ image. image.now) files.image)
 
 abbrev pub command_view : command.Command → Command
 command_view (command_of.Sim image script schedule options) = Sim image.now script.now schedule.now options
