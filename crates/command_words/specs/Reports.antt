@@ -9,7 +9,8 @@ use Rattle.command_words.specs.declared.report_options.AccountFormat.{AccountFor
 use Rattle.command_words.specs.declared.report_options.AccountFormat.TheVariants.{Text, Csv}
 use Rattle.command_words.specs.declared.report_options.AccountOptions.{AccountOptions}
 use Rattle.command_words.specs.declared.report_options.SortColumn.{SortColumn}
-use Rattle.command_words.specs.declared.report_options.SortColumn.TheVariants.{FuncId, Count, Min, Med, P90, P99, Max, Sum}
+use Rattle.command_words.specs.declared.report_options.SortColumn.TheVariants.{FuncId, Count, Min, Med}
+use Rattle.command_words.specs.declared.report_options.SortColumn.TheVariants.{P90, P99, Max, Sum}
 use Rattle.command_words.specs.declared.report_options.SortOrder.{SortOrder}
 use Rattle.command_words.specs.declared.report_options.SortOrder.TheVariants.{Ascending, Descending}
 

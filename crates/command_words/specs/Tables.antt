@@ -68,7 +68,8 @@ sort_option = record { name = codes "sort"; values = Listed columns; default = S
 
 -- the order in which they are sorted
 abbrev pub sort_order_option : OptionRow
-sort_order_option = record { name = codes "sortorder"; values = Listed (codes "asc" ∷ codes "desc" ∷ []); default = Some 0 }
+sort_order_option =
+    record { name = codes "sortorder"; values = Listed (codes "asc" ∷ codes "desc" ∷ []); default = Some 0 }
 
 -- how many of them are printed at the most; all are where it isn't given
 abbrev pub top_option : OptionRow
@@ -76,7 +77,8 @@ top_option = record { name = codes "top"; values = Number 0 4294967295; default 
 
 -- as what an account is printed
 abbrev pub account_format_option : OptionRow
-account_format_option = record { name = codes "format"; values = Listed (codes "text" ∷ codes "csv" ∷ []); default = Some 0 }
+account_format_option =
+    record { name = codes "format"; values = Listed (codes "text" ∷ codes "csv" ∷ []); default = Some 0 }
 
 -- ---- the commands
 
@@ -115,4 +117,12 @@ sim_row = record {
 
 -- the files of the commands that report on a trace
 abbrev pub report_files : List FileRow
-report_files = record { label = codes "trace"; role = Input } ∷ record { label = codes "image"; role = OptionalInput } ∷ []
+report_files =
+    record { label = codes "trace"; role = Input } ∷ record { label = codes "image"; role = OptionalInput } ∷ []
+
+abbrev pub account_row : CommandRow
+account_row = record {
+  word = codes "account";
+  files = report_files;
+  options = sort_option ∷ sort_order_option ∷ top_option ∷ account_format_option ∷ [];
+}

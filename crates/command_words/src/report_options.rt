@@ -1,6 +1,7 @@
 //! The files and options of the commands that report on a trace.
 ghost use Rattle.std.specs.Prelude.{◌≡◌, ◌≤◌, IfSome, option_map};
-ghost use Rattle.command_words.specs.Reports.{account_options_in, columns, orders, account_formats, report_files_in, top_in, choice_in};
+ghost use Rattle.command_words.specs.Reports.{account_formats, choice_in, columns, orders};
+ghost use Rattle.command_words.specs.Reports.{account_options_in, report_files_in, top_in};
 ghost use Rattle.command_words.specs.Tables.{account_format_option, sort_option, sort_order_option};
 ghost use Rattle.command_words.specs.Views.{files_view, line_view};
 

@@ -202,6 +202,13 @@ const NAMING_IMAGE: FileRow = FileRow {
     role: Role::OptionalInput,
 };
 
+/// `account TRACE [IMAGE]`: says what the functions of a trace took.
+pub(crate) const ACCOUNT: CommandRow = CommandRow {
+    word: "account",
+    files: &[TRACE, NAMING_IMAGE],
+    options: &[SORT, SORT_ORDER, TOP, ACCOUNT_FORMAT],
+};
+
 /// `asm TEXT IMAGE`: assembles an image.
 pub(crate) const ASM: CommandRow = CommandRow {
     word: "asm",
