@@ -9,6 +9,7 @@ pub mod Extract
 pub mod Plain
 pub mod Sim
 pub mod Reports
+pub mod Account
 pub mod Commands
 pub mod Answers
 pub mod Order

@@ -6,8 +6,9 @@ use Rattle.xray_io.specs.Outputs.{IsMaking, Makes}
 use Rattle.xray_io.specs.Reads.{Reads, ReadsSome, ReadsUpTo, ReadsUpToFault}
 use Rattle.xray_io.specs.World.{DeskView}
 use Rattle.xray_io.specs.declared.faults.WriteFault.{WriteFault}
+use Rattle.xray_program.specs.Reports.{report_inputs}
 use Rattle.xray_program.specs.Outcomes.{BadLine, Unread, TooLong, Refused, Done, Fell, Ending, With, Unwritten, NoMemory}
-use Rattle.command_words.specs.Words.{Command, Sim, Plain, Extract, Asm}
+use Rattle.command_words.specs.Words.{Command, Sim, Plain, Extract, Asm, Account}
 
 -- ---- a line a command
 
@@ -17,6 +18,7 @@ inputs_of (Sim image script schedule options) = (image, 4194304) ∷ (script, 10
 inputs_of (Plain image bounds) = (image, 4194304) ∷ []
 inputs_of (Extract image) = (image, 4194304) ∷ []
 inputs_of (Asm text image threshold) = (text, 4194304) ∷ []
+inputs_of (Account trace image options) = report_inputs trace image
 
 -- ---- inputs
 

@@ -10,6 +10,7 @@ ghost use Rattle.xray_program.specs.Commands.{IsStill};
 ghost use Rattle.xray_program.specs.Stops.{answer_of, told_of};
 ghost use Rattle.xray_program.specs.Works.{Ends};
 
+use crate::account::Account;
 use crate::asm::Asm;
 use crate::extract::Extract;
 use crate::plain::Plain;
@@ -150,6 +151,22 @@ fn perform_command<'a, D: Desk, O: Sink>(
                     text,
                     image,
                     threshold,
+                },
+                desk,
+                out,
+            )
+        }
+        Command::Account {
+            trace,
+            image,
+            options,
+        } => {
+            perform(
+                alloc,
+                &Account {
+                    trace,
+                    image,
+                    options,
                 },
                 desk,
                 out,
