@@ -1,14 +1,14 @@
 -- The contract of a call, from how it ends.
-use Rattle.std.proofs.Common.{◌≡◌, ◌≢◌, ◌⊎◌, ◌↔◌, ◌∙◌, ℕ, List, [], Contains, Option, Some, None, inl, inr, refl, sym, ap, subst}
+use Rattle.std.proofs.Common.{◌≡◌, ◌≢◌, ◌⊎◌, ℕ, List, Option, Some, None, inl, inr, refl, sym, subst}
 use Rattle.xray_io.specs.Calls.{Call, Went}
 use Rattle.xray_io.specs.Desk.{Entry, Absent}
 use Rattle.xray_io.specs.Faults.{Rose}
-use Rattle.xray_program.specs.Answers.{Answered, IsAnswer, IsSimulated, LeavesAll, Reports, Says}
+use Rattle.xray_program.specs.Answers.{Answered, IsAnswer, Says}
 use Rattle.xray_program.specs.Commands.{Means, HadItsTurn, outputs_named}
 use Rattle.xray_program.specs.Order.{InOrder}
-use Rattle.xray_program.specs.Outcomes.{Outcome, BadLine, Unread, TooLong, Refused, Done, Fell, Ending, With, Unwritten, NoMemory, status_of, status_at, line_at, written_by}
+use Rattle.xray_program.specs.Outcomes.{Outcome, BadLine, Unread, TooLong, Refused, Done, Fell, Ending, With, Unwritten, NoMemory, status_at, line_at, written_by}
 use Rattle.xray_program.specs.Outputs.{FailsWriting}
-use Rattle.xray_program.specs.Words.{Command}
+use Rattle.command_words.specs.Words.{Command}
 use Rattle.xray_program.specs.Works.{Ends, KeepsOthers, StandsBehind}
 use Rattle.xray_io.specs.World.{World}
 use Rattle.xray_program.proofs.Headline.{TearsNone, simulated}
@@ -62,7 +62,7 @@ by_ending tears Way said before after (With BadLine) (is, nothing) kept order to
   order = order;
   done = λ e. not_two 0 7 1 (λ x. cc) (λ x. cc) e;
   silent = λ e. absurd cc;
-  bad_line = (λ e. is, λ e. refl);
+  bad_line = λ five. (λ e. is, λ e. refl);
   refused = λ e. record { outcome = BadLine; is = refl; meant = means_bad said before.desk.held is };
   unread = λ e. absurd cc;
   unwritten = λ e. absurd cc;
@@ -79,7 +79,7 @@ by_ending tears Way said before after (With (Refused n kind refusal)) (meant, no
   order = order;
   done = λ e. not_two 0 7 2 (λ x. cc) (λ x. cc) e;
   silent = λ e. absurd cc;
-  bad_line = (λ e. absurd cc, λ e. absurd (read_it said before.desk.held (Refused n kind refusal) meant (λ x. cc) e));
+  bad_line = λ five. (λ e. absurd cc, λ e. absurd (read_it said before.desk.held (Refused n kind refusal) meant (λ x. cc) e));
   refused = λ e. record { outcome = Refused n kind refusal; is = refl; meant = meant };
   unread = λ e. absurd cc;
   unwritten = λ e. absurd cc;
@@ -96,7 +96,7 @@ by_ending tears Way said before after (With (TooLong n)) (meant, nothing) kept o
   order = order;
   done = λ e. not_two 0 7 6 (λ x. cc) (λ x. cc) e;
   silent = λ e. absurd cc;
-  bad_line = (λ e. absurd cc, λ e. absurd (read_it said before.desk.held (TooLong n) meant (λ x. cc) e));
+  bad_line = λ five. (λ e. absurd cc, λ e. absurd (read_it said before.desk.held (TooLong n) meant (λ x. cc) e));
   refused = λ e. record { outcome = TooLong n; is = refl; meant = meant };
   unread = λ e. absurd cc;
   unwritten = λ e. absurd cc;
@@ -113,7 +113,7 @@ by_ending tears Way said before after (With (Unread n)) ((turn, cause), nothing)
   order = order;
   done = λ e. not_two 0 7 3 (λ x. cc) (λ x. cc) e;
   silent = λ e. absurd cc;
-  bad_line = (λ e. absurd cc, λ e. absurd (had_turn said before.desk.held n turn e));
+  bad_line = λ five. (λ e. absurd cc, λ e. absurd (had_turn said before.desk.held n turn e));
   refused = λ e. not_three 1 2 6 3 (λ x. cc) (λ x. cc) (λ x. cc) e;
   unread = λ e. record { name = n; is = refl; turn = turn; cause = cause };
   unwritten = λ e. absurd cc;
@@ -144,7 +144,7 @@ by_ending tears Way said before after (With (Done outputs text)) (meant, writes)
     out = writes.printed;
   };
   silent = λ e. says_nothing before.err after.err told;
-  bad_line = (λ e. absurd cc, λ e. absurd (read_it said before.desk.held (Done outputs text) meant (λ x. cc) e));
+  bad_line = λ five. (λ e. absurd cc, λ e. absurd (read_it said before.desk.held (Done outputs text) meant (λ x. cc) e));
   refused = λ e. not_three 1 2 6 0 (λ x. cc) (λ x. cc) (λ x. cc) e;
   unread = λ e. absurd cc;
   unwritten = λ e. absurd cc;
@@ -170,7 +170,7 @@ by_ending tears Way said before after (With (Fell outputs text trouble)) (meant,
     out = writes.printed;
   };
   silent = λ e. absurd cc;
-  bad_line = (λ e. absurd cc, λ e. absurd (read_it said before.desk.held (Fell outputs text trouble) meant (λ x. cc) e));
+  bad_line = λ five. (λ e. absurd cc, λ e. absurd (read_it said before.desk.held (Fell outputs text trouble) meant (λ x. cc) e));
   refused = λ e. not_three 1 2 6 7 (λ x. cc) (λ x. cc) (λ x. cc) e;
   unread = λ e. absurd cc;
   unwritten = λ e. absurd cc;
@@ -187,7 +187,7 @@ by_ending tears Way said before after (Unwritten n) fails kept order told = reco
   order = order;
   done = λ e. not_two 0 7 4 (λ x. cc) (λ x. cc) e;
   silent = λ e. absurd cc;
-  bad_line = (λ e. absurd cc, λ e. absurd (read_it said before.desk.held fails.outcome fails.comes (not_bad fails.outcome (fails.outputs, fails.text) fails.writes) e));
+  bad_line = λ five. (λ e. absurd cc, λ e. absurd (read_it said before.desk.held fails.outcome fails.comes (not_bad fails.outcome (fails.outputs, fails.text) fails.writes) e));
   refused = λ e. not_three 1 2 6 4 (λ x. cc) (λ x. cc) (λ x. cc) e;
   unread = λ e. absurd cc;
   unwritten = λ e. record {
@@ -211,14 +211,14 @@ by_ending tears Way said before after (Unwritten n) fails kept order told = reco
         → Rose before.desk.write_faults after.desk.write_faults ⊎ Rose before.out.faults after.out.faults
     fault (inl (at, silent)) = inl at.fault
     fault (inr at) = inr at.fault
-by_ending tears Way said before after NoMemory (read, nothing) kept order told = record {
+by_ending tears Way said before after NoMemory nothing kept order told = record {
   ending = NoMemory;
   status = refl;
   told = told;
   order = order;
   done = λ e. not_two 0 7 5 (λ x. cc) (λ x. cc) e;
   silent = λ e. absurd cc;
-  bad_line = (λ e. absurd cc, λ e. absurd (read e));
+  bad_line = λ five. absurd (five refl);
   refused = λ e. not_three 1 2 6 5 (λ x. cc) (λ x. cc) (λ x. cc) e;
   unread = λ e. absurd cc;
   unwritten = λ e. absurd cc;

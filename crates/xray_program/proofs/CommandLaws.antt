@@ -1,11 +1,12 @@
 -- What words mean: one thing where they are decided, a refusal alone, and something in any case. A line a command.
-use Rattle.std.proofs.Common.{◌≡◌, ◌∙◌, ℕ, List, Option, Some, None, Bool, true, refl, sym}
+use Rattle.std.proofs.Common.{◌≡◌, ◌∙◌, ℕ, List, Option, Some, None, true, refl, sym}
 use Rattle.xray_io.specs.Desk.{Entry}
 use Rattle.xray_program.specs.Commands.{Comes, IsDecided, Means, TellsAll, is_decided}
-use Rattle.xray_program.specs.Inputs.{image_form}
 use Rattle.xray_program.specs.Outcomes.{Outcome, BadLine, written_by}
+use Rattle.xray_program.specs.Setups.{setup_of}
 use Rattle.xray_program.specs.Taking.{Sound}
-use Rattle.xray_program.specs.Words.{Command, Sim, Plain, Extract, Asm}
+use Rattle.command_words.specs.Words.{Command, Sim, Plain, Extract, Asm, Account}
+use Rattle.xray_program.proofs.AccountLaws.{account_alone, account_some}
 use Rattle.xray_program.proofs.AsmLaws.{asm_alone, asm_some}
 use Rattle.xray_program.proofs.ExtractLaws.{extract_alone, extract_some}
 use Rattle.xray_program.proofs.Images.{Accepts, OneVerdict, SomeVerdict, image_decided, image_judged}
@@ -31,24 +32,27 @@ pub record Existence : Type 0 where
 -- a command that is decided comes to one thing
 command_alone : Laws → (held : List ℕ → Entry) → TellsAll held → (command : Command) → is_decided command ≡ true
     → IsAlone AnyOutcome (Comes Sound held command)
-command_alone laws held told (Sim i s c setup) decided = sim_alone (image_decided laws.verdict laws.accepts) laws.run held i s c setup told
-command_alone laws held told (Plain i options) decided = plain_alone (image_decided laws.verdict laws.accepts) laws.end held i options told
+command_alone laws held told (Sim i s c options) decided = sim_alone (image_decided laws.verdict laws.accepts) laws.run held i s c (setup_of options) told
+command_alone laws held told (Plain i bounds) decided = plain_alone (image_decided laws.verdict laws.accepts) laws.end held i bounds told
 command_alone laws held told (Extract i) decided = extract_alone (image_decided laws.verdict laws.accepts) held i told
 command_alone laws held told (Asm t i threshold) decided = asm_alone held t i threshold told
+command_alone laws held told (Account t i options) decided = account_alone (image_decided laws.verdict laws.accepts) held t i options told
 
 -- a refusal of any command is all that comes of it
 command_refuses : Laws → (held : List ℕ → Entry) → TellsAll held → (command : Command) → IsAlone IsRefusal (Comes Sound held command)
-command_refuses laws held told (Sim i s c setup) = refusal_alone _ (command_alone laws held told (Sim i s c setup) refl)
-command_refuses laws held told (Plain i options) = refusal_alone _ (command_alone laws held told (Plain i options) refl)
+command_refuses laws held told (Sim i s c options) = refusal_alone _ (command_alone laws held told (Sim i s c options) refl)
+command_refuses laws held told (Plain i bounds) = refusal_alone _ (command_alone laws held told (Plain i bounds) refl)
 command_refuses laws held told (Extract i) = refusal_alone _ (command_alone laws held told (Extract i) refl)
 command_refuses laws held told (Asm t i threshold) = refusal_alone _ (command_alone laws held told (Asm t i threshold) refl)
+command_refuses laws held told (Account t i options) = refusal_alone _ (command_alone laws held told (Account t i options) refl)
 
 -- each command comes to something
 command_some : Existence → (held : List ℕ → Entry) → TellsAll held → HoldsBytes held → (command : Command) → SomeOutcome (Comes Sound held command)
-command_some laws held told holds (Sim i s c setup) = sim_some (image_judged laws.verdict laws.accepts) laws.run held i s c setup told holds
-command_some laws held told holds (Plain i options) = plain_some (image_judged laws.verdict laws.accepts) laws.end held i options told holds
+command_some laws held told holds (Sim i s c options) = sim_some (image_judged laws.verdict laws.accepts) laws.run held i s c (setup_of options) told holds
+command_some laws held told holds (Plain i bounds) = plain_some (image_judged laws.verdict laws.accepts) laws.end held i bounds told holds
 command_some laws held told holds (Extract i) = extract_some (image_judged laws.verdict laws.accepts) held i told holds
 command_some laws held told holds (Asm t i threshold) = asm_some held t i threshold told holds
+command_some laws held told holds (Account t i options) = account_some (image_judged laws.verdict laws.accepts) held t i options told holds
 
 -- ---- words
 

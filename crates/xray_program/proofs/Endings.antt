@@ -1,13 +1,13 @@
 -- How the work of a command ends, and how a call does.
-use Rattle.std.specs.Prelude.{⊤, IsErrAnd, OnOk, OnErr, IfErr}
-use Rattle.std.proofs.Common.{◌≡◌, ◌≢◌, ◌⊎◌, ◌≤◌, ◌+◌, ◌++◌, ◌∙◌, ℕ, List, [], ◌∷◌, Contains, map, Option, Some, None, Result, Ok, Err, inl, inr, refl, sym, ap, arith, subst, codes}
+use Rattle.std.specs.Prelude.{IsErrAnd}
+use Rattle.std.specs.Option.{option_map_or}
+use Rattle.std.proofs.Common.{◌≡◌, ◌⊎◌, ◌+◌, ◌++◌, ◌∙◌, ℕ, List, [], ◌∷◌, Option, Some, None, Result, Ok, Err, inl, inr, refl, sym, ap, subst}
 use Rattle.std.proofs.lemmas.List.{append-nil}
 use Rattle.fault_words.specs.Words.{words_text}
 use Rattle.xray_io.specs.Calls.{Call, Composes, Went, went_on}
-use Rattle.xray_io.specs.Desk.{Entry, Absent}
+use Rattle.xray_io.specs.Desk.{Entry}
 use Rattle.xray_io.specs.Faults.{Rose}
-use Rattle.xray_io.specs.Sink.{Adds, AddsPrefix}
-use Rattle.xray_program.specs.Commands.{Comes, Means, outputs_named, outputs_of}
+use Rattle.xray_program.specs.Commands.{Comes}
 use Rattle.xray_io.specs.Outputs.{IsMaking}
 use Rattle.xray_io.specs.Reads.{Reads, ReadsSome, ReadsUpToFault}
 use Rattle.xray_program.specs.Order.{FailsAtOutput, InOrder, IsNoCall, IsUnmade, MakesAll, ReadsAll, ReadsWhole, StopsAt, inputs_of}
@@ -15,9 +15,9 @@ use Rattle.xray_program.specs.Outcomes.{Outcome, BadLine, Unread, TooLong, Refus
 use Rattle.xray_program.specs.Outputs.{AreWhole, AreUntouched, FailsAt, FailsAtOut, FailsWriting, HoldsPrefix, WritesNothing}
 use Rattle.xray_program.specs.Stops.{answer_of, stop_line, stop_status, told_of}
 use Rattle.xray_program.specs.Takes.{IsStopAtInput, StopsTakings}
-use Rattle.xray_program.specs.Taking.{Sound, Faulty, ended_by}
-use Rattle.xray_program.specs.Words.{Command}
-use Rattle.xray_program.specs.Works.{AreMakings, Delivers, Ends, FailsToLeave, Finishes, IsLeft, KeepsOthers, StandsBehind, StopsOutputs, Writes}
+use Rattle.xray_program.specs.Taking.{Sound, ended_by}
+use Rattle.command_words.specs.Words.{Command, outputs_of}
+use Rattle.xray_program.specs.Works.{AreMakings, Delivers, Ends, Finishes, KeepsOthers, StopsOutputs, Writes}
 use Rattle.xray_io.specs.World.{DeskView, SinkView}
 use Rattle.xray_program.proofs.Ordering.{went_as}
 use Rattle.xray_program.specs.declared.stop.Stop.{Stop}
@@ -173,7 +173,7 @@ ends_at_input command desk desk_now out Way (Err s) stop is stands same went = r
       ending = NoMemory;
       status = refl;
       told = refl;
-      stands = (λ none. cc, (same, refl));
+      stands = (same, refl);
       names = kept;
       order = went_as Way _ (InOrder (Some command) desk desk_now NoMemory) went (λ calls p. inl (p.0, p.2));
     }
@@ -253,7 +253,7 @@ ends_with_work along both first second third command yields desk mid desk_now ou
       ending = NoMemory;
       status = refl;
       told = refl;
-      stands = (λ none. cc, nothing left.0);
+      stands = nothing left.0;
       names = kept;
       order = went_on along both first second third (ReadsAll (inputs_of command)) IsNoCall (InOrder (Some command) desk desk_now NoMemory) read left.1
           (λ calls later p q. inr (read_only (inputs_of command) calls later p q));
@@ -264,3 +264,36 @@ pub bad_line : (said : Option Command) (desk : DeskView) (out : SinkView) (Way :
     → Ends said desk desk out out Way (stop_status stops.BadLine) (stop_line stops.BadLine)
 bad_line said desk out Way is none =
     record { ending = With BadLine; status = refl; told = refl; stands = (is, (refl, refl)); names = λ name not. refl; order = none }
+
+-- no input was read
+no_input : (inputs : List (List ℕ × ℕ))
+    → ((name : List ℕ) × StopsAt inputs name (λ limit last. ReadsSome name (limit + 1) last ⊎ ReadsWhole name limit last) [])
+    ⊎ ReadsAll inputs []
+no_input [] = inr refl
+no_input (input ∷ inputs) = inl (
+  input.0,
+  record {
+    earlier = [];
+    limit = input.1;
+    later = inputs;
+    turn = refl;
+    before = [];
+    last = [];
+    order = refl;
+    reads = refl;
+    stops = inl (0, refl);
+  },
+)
+
+-- memory ran out while the words were read
+pub unread_words : (said : Option Command) (desk : DeskView) (out : SinkView) (Way : List Call → Type 0)
+    → Went Way IsNoCall → Ends said desk desk out out Way (stop_status stops.NoMemory) (stop_line stops.NoMemory)
+unread_words said desk out Way none = record {
+  ending = NoMemory;
+  status = refl;
+  told = refl;
+  stands = (refl, refl);
+  names = λ name not. refl;
+  order = went_as Way IsNoCall (InOrder said desk desk NoMemory) none
+      (λ calls p. subst (InOrder said desk desk NoMemory) (sym p) (no_input (option_map_or inputs_of said [])));
+}

@@ -1,9 +1,9 @@
 -- The headline of `sim`, from what it means.
-use Rattle.std.proofs.Common.{◌≡◌, ◌∙◌, ℕ, List, length, map, Option, Some, None, option_map, Ok, inl, inr, refl, sym, ap, subst, codes}
-use Rattle.xray_io.specs.Desk.{Entry, Absent, Holds}
+use Rattle.std.proofs.Common.{◌≡◌, ℕ, List, length, Option, Some, None, option_map, Ok, inl, inr, refl, subst, codes}
+use Rattle.xray_io.specs.Desk.{Entry, Holds}
 use Rattle.xray_io.specs.Sink.{Adds}
 use Rattle.machine_step.specs.declared.setup.Setup.{Setup}
-use Rattle.patch_script.specs.Plans.{Plan, waiting_line}
+use Rattle.patch_script.specs.Plans.{waiting_line}
 use Rattle.patch_script.specs.Refusals.{commands_of}
 use Rattle.step_sim.specs.Along.{TearsNoSled}
 use Rattle.step_sim.specs.FaultWords.{waits_words}
@@ -11,16 +11,16 @@ use Rattle.step_sim.specs.Replay.{AllRunOut, Cast, Moment, scheduled}
 use Rattle.step_sim.specs.Replayed.{cast_with}
 use Rattle.step_sim.specs.Schedules.{schedule_of}
 use Rattle.step_sim.specs.declared.turns.Turns.{Turns}
-use Rattle.xray_image.specs.Program.{Program}
 use Rattle.xray_program.specs.Answers.{IsSimulated}
 use Rattle.xray_program.specs.Commands.{Means}
 use Rattle.xray_program.specs.Inputs.{image_form, script_form, schedule_form}
 use Rattle.xray_program.specs.Outcomes.{Outcome, Done}
 use Rattle.xray_program.specs.Outputs.{AreWhole}
 use Rattle.xray_program.specs.Sim.{FollowsSchedule, Replayed, Replays, SimComes}
+use Rattle.xray_program.specs.Setups.{setup_of}
 use Rattle.xray_program.specs.Taking.{Form, Leaves, RefuseIf, Sound, Take}
 use Rattle.xray_program.specs.Traced.{IsTraced, Traces}
-use Rattle.xray_program.specs.Words.{Command, Sim}
+use Rattle.command_words.specs.Words.{Command}
 use Rattle.xray_io.specs.World.{World}
 
 -- where all is done, an input that is held reads as a value, and the rest is done with it
@@ -99,5 +99,5 @@ simulated_by tears before after i s c image script schedule setup outputs text i
 pub simulated : TearsNone → (said : Option Command) (before after : World) (outputs : List (List ℕ × List ℕ)) (text : List ℕ)
     → Means said before.desk.held (Done outputs text) → AreWhole outputs before.desk.held after.desk.held
     → Adds before.out.written after.out.written text → IsSimulated said before after
-simulated tears said before after outputs text meant whole adds i s c image script schedule setup says image_held script_held schedule_held =
-    simulated_by tears before after i s c image script schedule setup outputs text image_held script_held schedule_held (rw says at meant) whole adds
+simulated tears said before after outputs text meant whole adds i s c image script schedule options says image_held script_held schedule_held =
+    simulated_by tears before after i s c image script schedule (setup_of options) outputs text image_held script_held schedule_held (rw says at meant) whole adds

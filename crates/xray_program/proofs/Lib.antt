@@ -1,3 +1,4 @@
+pub mod AccountLaws
 pub mod Answering
 pub mod AsmLaws
 pub mod CommandLaws
@@ -5,15 +6,14 @@ pub mod Endings
 pub mod ExtractLaws
 pub mod Headline
 pub mod Images
-pub mod ItemLemmas
 pub mod Judging
 pub mod Meanings
-pub mod NumberLemmas
 pub mod Ordering
 pub mod Outputting
 pub mod PlainLaws
 pub mod PlainThreads
 pub mod ReplayPrints
+pub mod Reports
 pub mod Rows
 pub mod Saying
 pub mod SimLaws

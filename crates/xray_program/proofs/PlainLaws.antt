@@ -10,9 +10,9 @@ use Rattle.xray_io.specs.Desk.{Entry}
 use Rattle.xray_program.specs.Commands.{TellsAll}
 use Rattle.xray_program.specs.Inputs.{image_form}
 use Rattle.xray_program.specs.Plain.{IsPlainText, PlainComes, PlainPrints}
-use Rattle.xray_program.specs.Setups.{limits_of}
+use Rattle.xray_program.specs.Setups.{plain_limits}
 use Rattle.xray_program.specs.Taking.{Sound, Prints}
-use Rattle.xray_program.specs.declared.run_options.RunOptions.{RunOptions}
+use Rattle.command_words.specs.declared.run_options.Bounds.{Bounds}
 use Rattle.xray_program.proofs.Meanings.{AnyOutcome, HoldsBytes, IsAlone, IsDecided, IsJudged, SomeOutcome, leaves_alone, some_leaves, some_take, take_alone}
 use Rattle.xray_program.proofs.TextLists.{made, made_first, made_length, same_list}
 
@@ -46,49 +46,49 @@ some_core some bytes program limits accepted i =
     let run = some bytes program limits (i + 1) accepted in
     ((run.0, run.1, run.2), run.3)
 
-one_plain : OneEnd → (bytes : List ℕ) (program : Program) (options : RunOptions) (x y : List ℕ)
-    → IsAccepted bytes program → PlainPrints program options x → PlainPrints program options y → x ≡ y
-one_plain one_end bytes program options x y accepted p q =
-    p.joined ∙ ap (flat_map (λ t. t)) (same_list (λ i. IsPlainText program (limits_of options) (i + 1)) one_text p.texts q.texts p.each q.each (p.count ∙ sym q.count))
+one_plain : OneEnd → (bytes : List ℕ) (program : Program) (bounds : Bounds) (x y : List ℕ)
+    → IsAccepted bytes program → PlainPrints program bounds x → PlainPrints program bounds y → x ≡ y
+one_plain one_end bytes program bounds x y accepted p q =
+    p.joined ∙ ap (flat_map (λ t. t)) (same_list (λ i. IsPlainText program (plain_limits bounds) (i + 1)) one_text p.texts q.texts p.each q.each (p.count ∙ sym q.count))
     ∙ sym q.joined
   where
-    one_text : (i : ℕ) (t u : List ℕ) → IsPlainText program (limits_of options) (i + 1) t → IsPlainText program (limits_of options) (i + 1) u → t ≡ u
+    one_text : (i : ℕ) (t u : List ℕ) → IsPlainText program (plain_limits bounds) (i + 1) t → IsPlainText program (plain_limits bounds) (i + 1) u → t ≡ u
     one_text i t u a b =
-        let same = one_end bytes program (limits_of options) (i + 1) a.passed b.passed a.end b.end a.last b.last accepted a.run b.run in
+        let same = one_end bytes program (plain_limits bounds) (i + 1) a.passed b.passed a.end b.end a.last b.last accepted a.run b.run in
         a.prints ∙ rw (same.1, same.2) refl ∙ sym b.prints
 
-some_plain : SomeEnd → (bytes : List ℕ) (program : Program) (options : RunOptions) → IsAccepted bytes program
-    → (text : List ℕ) × PlainPrints program options text
-some_plain some bytes program options accepted =
-    let limits : Limits = limits_of options in
+some_plain : SomeEnd → (bytes : List ℕ) (program : Program) (bounds : Bounds) → IsAccepted bytes program
+    → (text : List ℕ) × PlainPrints program bounds text
+some_plain some bytes program bounds accepted =
+    let limits : Limits = plain_limits bounds in
     let run : (i : ℕ) → (c : Core) × IsCore program limits i c = some_core some bytes program limits accepted in
     let item : ℕ → List ℕ = λ i. plain_text (i + 1) (run i).0.1 (run i).0.2 in
-    let texts : List (List ℕ) = made item 0 options.threads in (
+    let texts : List (List ℕ) = made item 0 bounds.threads in (
       flat_map (λ t. t) texts,
       record {
         texts = texts;
-        count = made_length item 0 options.threads;
+        count = made_length item 0 bounds.threads;
         each = λ k t at. record {
           passed = (run k).0.0;
           end = (run k).0.1;
           last = (run k).0.2;
           run = (run k).1;
-          prints = sym (made_first item options.threads k t at);
+          prints = sym (made_first item bounds.threads k t at);
         };
         joined = refl;
       },
     )
 
-pub plain_alone : IsDecided image_form → OneEnd → (held : List ℕ → Entry) (image : List ℕ) (options : RunOptions) → TellsAll held
-    → IsAlone AnyOutcome (PlainComes Sound held image options)
-plain_alone is one_end held image options told =
-    take_alone image_form is AnyOutcome held image (λ program. Prints (PlainPrints program options)) (told image)
-    (λ bytes program reads. leaves_alone (λ outputs text. (outputs ≡ []) × PlainPrints program options text)
-    (λ o p t u x y. (y.0 ∙ sym x.0, one_plain one_end bytes program options u t reads y.1 x.1)))
+pub plain_alone : IsDecided image_form → OneEnd → (held : List ℕ → Entry) (image : List ℕ) (bounds : Bounds) → TellsAll held
+    → IsAlone AnyOutcome (PlainComes Sound held image bounds)
+plain_alone is one_end held image bounds told =
+    take_alone image_form is AnyOutcome held image (λ program. Prints (PlainPrints program bounds)) (told image)
+    (λ bytes program reads. leaves_alone (λ outputs text. (outputs ≡ []) × PlainPrints program bounds text)
+    (λ o p t u x y. (y.0 ∙ sym x.0, one_plain one_end bytes program bounds u t reads y.1 x.1)))
 
-pub plain_some : IsJudged image_form → SomeEnd → (held : List ℕ → Entry) (image : List ℕ) (options : RunOptions) → TellsAll held
-    → HoldsBytes held → SomeOutcome (PlainComes Sound held image options)
-plain_some is some held image options told holds =
-    some_take image_form is held image (λ program. Prints (PlainPrints program options)) (told image) holds
-    (λ bytes program reads. let text = some_plain some bytes program options reads in
-    some_leaves (λ outputs t. (outputs ≡ []) × PlainPrints program options t) [] text.0 (refl, text.1))
+pub plain_some : IsJudged image_form → SomeEnd → (held : List ℕ → Entry) (image : List ℕ) (bounds : Bounds) → TellsAll held
+    → HoldsBytes held → SomeOutcome (PlainComes Sound held image bounds)
+plain_some is some held image bounds told holds =
+    some_take image_form is held image (λ program. Prints (PlainPrints program bounds)) (told image) holds
+    (λ bytes program reads. let text = some_plain some bytes program bounds reads in
+    some_leaves (λ outputs t. (outputs ≡ []) × PlainPrints program bounds t) [] text.0 (refl, text.1))

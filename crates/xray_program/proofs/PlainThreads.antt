@@ -6,16 +6,16 @@ use Rattle.std.proofs.lemmas.List.Elements.{All-nil, All-push}
 use Rattle.xray_image.specs.Program.{Program}
 use Rattle.machine_step.specs.declared.plain_end.PlainEnd.{PlainEnd}
 use Rattle.machine_step.specs.PlainEnd.{IsPlainEnd}
-use Rattle.xray_program.specs.declared.run_options.RunOptions.{RunOptions}
+use Rattle.command_words.specs.declared.run_options.Bounds.{Bounds}
 use Rattle.xray_program.specs.Ends.{AreEnds, HasRegisters, end_text}
 use Rattle.xray_program.specs.Plain.{IsPlainText, PlainPrints}
-use Rattle.xray_program.specs.Setups.{limits_of}
+use Rattle.xray_program.specs.Setups.{plain_limits}
 use Rattle.xray_program.proofs.TextLists.{item_behind, joined_texts}
 
 -- what is printed of an end is what is printed of the last state of its run
-pub same_text : (program : Program) (options : RunOptions) (thread : ℕ) (e : PlainEnd)
-    → IsPlainEnd program (limits_of options) thread e → IsPlainText program (limits_of options) thread (end_text e)
-same_text program options thread e is = record {
+pub same_text : (program : Program) (bounds : Bounds) (thread : ℕ) (e : PlainEnd)
+    → IsPlainEnd program (plain_limits bounds) thread e → IsPlainText program (plain_limits bounds) thread (end_text e)
+same_text program bounds thread e is = record {
   passed = is.passed;
   end = e.end;
   last = is.last;
@@ -40,33 +40,33 @@ at_push (z ∷ xs) y (suc k) x is = elim (at_push xs y k x is) [
 ]
 
 -- no threads
-pub no_ends : (program : Program) (options : RunOptions) → AreEnds program options 0 []
-no_ends program options = record { count = refl; each = λ k e is. absurd (none_at k e is); registers = All-nil HasRegisters }
+pub no_ends : (program : Program) (bounds : Bounds) → AreEnds program bounds 0 []
+no_ends program bounds = record { count = refl; each = λ k e is. absurd (none_at k e is); registers = All-nil HasRegisters }
 
 -- a thread more
-pub one_end_more : (program : Program) (options : RunOptions) (threads : ℕ) (ends : List PlainEnd) (e : PlainEnd)
-    → AreEnds program options threads ends → IsPlainEnd program (limits_of options) (threads + 1) e → HasRegisters e
-    → AreEnds program options (threads + 1) (ends ++ e ∷ [])
-one_end_more program options threads ends e are is has = record {
+pub one_end_more : (program : Program) (bounds : Bounds) (threads : ℕ) (ends : List PlainEnd) (e : PlainEnd)
+    → AreEnds program bounds threads ends → IsPlainEnd program (plain_limits bounds) (threads + 1) e → HasRegisters e
+    → AreEnds program bounds (threads + 1) (ends ++ e ∷ [])
+one_end_more program bounds threads ends e are is has = record {
   count = length_push ends e ∙ ap (λ n. n + 1) are.count;
   each = λ k f at. at_place k f (at_push ends e k f at);
   registers = All-push HasRegisters ends e are.registers has;
 }
   where
     at_place : (k : ℕ) (f : PlainEnd) → (slice_get ends k ≡ Some f) ⊎ ((k ≡ length ends) × (f ≡ e))
-        → IsPlainEnd program (limits_of options) (k + 1) f
+        → IsPlainEnd program (plain_limits bounds) (k + 1) f
     at_place k f (inl before) = are.each k f before
     at_place k f (inr (last, same)) = rw (same, last, are.count) is
 
 -- the ends of all threads are printed as `plain` prints
-pub prints_all : (program : Program) (options : RunOptions) (ends : List PlainEnd)
-    → AreEnds program options options.threads ends → PlainPrints program options (flat_map end_text ends)
-prints_all program options ends are = record {
+pub prints_all : (program : Program) (bounds : Bounds) (ends : List PlainEnd)
+    → AreEnds program bounds bounds.threads ends → PlainPrints program bounds (flat_map end_text ends)
+prints_all program bounds ends are = record {
   texts = map end_text ends;
   count = length-map ends end_text ∙ are.count;
   each = λ k t at.
       let item = item_behind end_text ends k t at in
-      subst (IsPlainText program (limits_of options) (k + 1)) item.value
-      (same_text program options (k + 1) item.item (are.each k item.item item.found));
+      subst (IsPlainText program (plain_limits bounds) (k + 1)) item.value
+      (same_text program bounds (k + 1) item.item (are.each k item.item item.found));
   joined = joined_texts end_text ends;
 }

@@ -1,17 +1,18 @@
 -- The contract of the top call: what was said, the world before the call and after it, and the status.
-use Rattle.std.specs.Prelude.{◌≡◌, ◌⊎◌, ◌↔◌, ℕ, List, Contains, Option, Some, None}
+use Rattle.std.specs.Prelude.{◌≡◌, ◌≢◌, ◌⊎◌, ◌↔◌, ℕ, List, Contains, Option, Some, None}
 use Rattle.xray_io.specs.Calls.{Call, Went}
-use Rattle.xray_io.specs.Desk.{Entry, Absent, Holds}
+use Rattle.xray_io.specs.Desk.{Absent, Holds}
 use Rattle.xray_io.specs.Faults.{Rose}
 use Rattle.xray_io.specs.Sink.{Adds, AddsPrefix}
-use Rattle.machine_step.specs.declared.setup.Setup.{Setup}
+use Rattle.command_words.specs.declared.run_options.RunOptions.{RunOptions}
 use Rattle.xray_program.specs.Commands.{Means, HadItsTurn, outputs_named}
 use Rattle.xray_program.specs.Order.{InOrder}
 use Rattle.xray_program.specs.Outcomes.{Outcome, Unread, Ending, With, Unwritten, NoMemory, status_of, status_at, line_at, written_by}
 use Rattle.xray_program.specs.Outputs.{AreWhole, FailsWriting, WritesNothing}
+use Rattle.xray_program.specs.Setups.{setup_of}
 use Rattle.xray_program.specs.Sim.{FollowsSchedule}
 use Rattle.xray_program.specs.Traced.{IsTraced}
-use Rattle.xray_program.specs.Words.{Command, Sim}
+use Rattle.command_words.specs.Words.{Command, Sim}
 use Rattle.xray_io.specs.World.{SinkView, World}
 
 -- a sink got exactly this line, or a prefix of it and its faults rose
@@ -71,9 +72,9 @@ IsAnswer said before after status =
 -- `sim` was said, of inputs that the desk holds: what all of the schedule's order leaves is written
 abbrev pub IsSimulated : Option Command → (before after : World) → Type 0
 IsSimulated said before after =
-    (i s c image script schedule : List ℕ) (setup : Setup) → said ≡ Some (Sim i s c setup) → before.desk.held i ≡ Holds image
-    → before.desk.held s ≡ Holds script → before.desk.held c ≡ Holds schedule
-    → IsTraced (FollowsSchedule schedule setup) image script setup before after
+    (i s c image script schedule : List ℕ) (options : RunOptions) → said ≡ Some (Sim i s c options)
+    → before.desk.held i ≡ Holds image → before.desk.held s ≡ Holds script → before.desk.held c ≡ Holds schedule
+    → IsTraced (FollowsSchedule schedule (setup_of options)) image script (setup_of options) before after
 
 -- The whole contract of a call. Its status and its line on err are those of one ending.
 pub record Answered (said : Option Command) (before after : World) (Way : List Call → Type 0) (answer : ℕ) : Type 0 where
@@ -83,8 +84,8 @@ pub record Answered (said : Option Command) (before after : World) (Way : List C
   -- 0 and 7: all outputs are whole, and out has exactly the text. On 0 err has nothing.
   pub done : (answer ≡ 0) ⊎ (answer ≡ 7) → LeavesAll said before after ending
   pub silent : answer ≡ 0 → after.err.written ≡ before.err.written
-  -- 1 is told by the words alone; 1, 2 and 6 are what is meant
-  pub bad_line : (answer ≡ 1) ↔ (said ≡ None)
+  -- unless memory runs out, 1 comes exactly when the words say no command; 1, 2 and 6 are what is meant
+  pub bad_line : answer ≢ 5 → (answer ≡ 1) ↔ (said ≡ None)
   pub refused : (answer ≡ 1) ⊎ (answer ≡ 2) ⊎ (answer ≡ 6) → Reports said before ending
   -- 3 names an input whose turn had come, 4 the output that failed; 5 is want of memory
   pub unread : answer ≡ 3 → CouldNotRead said before after ending

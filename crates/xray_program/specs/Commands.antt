@@ -1,44 +1,42 @@
 -- What words mean: what comes of the command that they say, and of what the desk holds.
-use Rattle.std.specs.Prelude.{◌≡◌, ◌≢◌, ℕ, List, [], ◌∷◌, Bool, true, MatchOption, Option, Some, None}
+use Rattle.std.specs.Prelude.{◌≡◌, ◌≢◌, ℕ, List, [], Bool, true, MatchOption, Option}
 use Rattle.std.specs.Option.{option_map_or}
 use Rattle.xray_io.specs.Desk.{Entry, Untold}
+use Rattle.xray_program.specs.Account.{AccountComes}
 use Rattle.xray_program.specs.Asm.{AsmComes}
 use Rattle.xray_program.specs.Extract.{ExtractComes}
 use Rattle.xray_program.specs.Outcomes.{Outcome, BadLine, Unread}
 use Rattle.xray_program.specs.Plain.{PlainComes}
+use Rattle.xray_program.specs.Setups.{setup_of}
 use Rattle.xray_program.specs.Sim.{SimComes}
 use Rattle.xray_program.specs.Taking.{DeskReads, Sound, Faulty}
-use Rattle.xray_program.specs.Words.{Command, Sim, Plain, Extract, Asm}
+use Rattle.command_words.specs.Words.{Command, Sim, Plain, Extract, Asm, Account, outputs_of}
 
 -- ---- a line a command
 
 -- what comes of it
 abbrev pub Comes : DeskReads → (List ℕ → Entry) → Command → Outcome → Type 0
-Comes reads held (Sim image script schedule setup) = SimComes reads held image script schedule setup
-Comes reads held (Plain image options) = PlainComes reads held image options
+Comes reads held (Sim image script schedule options) = SimComes reads held image script schedule (setup_of options)
+Comes reads held (Plain image bounds) = PlainComes reads held image bounds
 Comes reads held (Extract image) = ExtractComes reads held image
 Comes reads held (Asm text image threshold) = AsmComes reads held text image threshold
-
--- the names of its outputs
-abbrev pub outputs_of : Command → List (List ℕ)
-outputs_of (Sim image script schedule setup) = []
-outputs_of (Plain image options) = []
-outputs_of (Extract image) = []
-outputs_of (Asm text image threshold) = image ∷ []
+Comes reads held (Account trace image options) = AccountComes reads held trace image options
 
 -- whether one thing alone comes of it, over what a desk holds: not so where threads run in an order of their own
 abbrev pub is_decided : Command → Bool
-is_decided (Sim image script schedule setup) = true
-is_decided (Plain image options) = true
+is_decided (Sim image script schedule options) = true
+is_decided (Plain image bounds) = true
 is_decided (Extract image) = true
 is_decided (Asm text image threshold) = true
+is_decided (Account trace image options) = true
 
 -- whether it waits for nobody, and starts no thread
 abbrev pub is_still : Command → Bool
-is_still (Sim image script schedule setup) = true
-is_still (Plain image options) = true
+is_still (Sim image script schedule options) = true
+is_still (Plain image bounds) = true
 is_still (Extract image) = true
 is_still (Asm text image threshold) = true
+is_still (Account trace image options) = true
 
 -- ---- what was said: a command, or none
 

@@ -7,8 +7,8 @@ use Rattle.machine_step.specs.EndedText.{ended_text}
 use Rattle.machine_step.specs.PlainEnd.{IsPlainEnd, state_of}
 use Rattle.machine_step.specs.Texts.{plain_text}
 use Rattle.machine_step.specs.Traced.{Traced}
-use Rattle.xray_program.specs.Setups.{limits_of}
-use Rattle.xray_program.specs.declared.run_options.RunOptions.{RunOptions}
+use Rattle.xray_program.specs.Setups.{plain_limits}
+use Rattle.command_words.specs.declared.run_options.Bounds.{Bounds}
 
 -- the plain text of a thread
 abbrev pub end_text : PlainEnd → List ℕ
@@ -23,8 +23,8 @@ abbrev pub HasRegisters : PlainEnd → Type 0
 HasRegisters e = length e.regs.items ≡ 16
 
 -- the ends of so many threads of a program, in the order of their numbers, from 1 on
-pub record AreEnds (program : Program) (options : RunOptions) (threads : ℕ) (ends : List PlainEnd) : Type 0 where
+pub record AreEnds (program : Program) (bounds : Bounds) (threads : ℕ) (ends : List PlainEnd) : Type 0 where
   pub count : length ends ≡ threads
   pub each : (k : ℕ) (e : PlainEnd) → slice_get ends k ≡ Some e
-      → IsPlainEnd program (limits_of options) (k + 1) e
+      → IsPlainEnd program (plain_limits bounds) (k + 1) e
   pub registers : All HasRegisters ends

@@ -1,7 +1,6 @@
 pub mod Outcomes
 pub mod Taking
 pub mod Setups
-pub mod Words
 pub mod Inputs
 pub mod Outputs
 pub mod Traced
@@ -9,12 +8,14 @@ pub mod Asm
 pub mod Extract
 pub mod Plain
 pub mod Sim
+pub mod Reports
+pub mod Account
 pub mod Commands
 pub mod Answers
-pub mod CommandLine
 pub mod Order
 pub mod Stops
 pub mod Takes
+pub mod ReportTakes
 pub mod Works
 pub mod Ends
 pub mod SimInputs

@@ -1,23 +1,24 @@
 -- In which order a call asks its desk.
-use Rattle.std.specs.Prelude.{◌≡◌, ◌⊎◌, ℕ, ◌+◌, List, [], ◌∷◌, ◌++◌, length, codes, Option, None, Some, Result, Ok, Err}
+use Rattle.std.specs.Prelude.{◌≡◌, ◌⊎◌, ℕ, ◌+◌, List, [], ◌∷◌, ◌++◌, length, codes, Option, Ok, Err}
 use Rattle.std.specs.Option.{option_map_or}
 use Rattle.xray_io.specs.Calls.{Call}
-use Rattle.xray_io.specs.Desk.{Entry}
 use Rattle.xray_io.specs.Outputs.{IsMaking, Makes}
 use Rattle.xray_io.specs.Reads.{Reads, ReadsSome, ReadsUpTo, ReadsUpToFault}
 use Rattle.xray_io.specs.World.{DeskView}
 use Rattle.xray_io.specs.declared.faults.WriteFault.{WriteFault}
-use Rattle.xray_program.specs.Outcomes.{Outcome, BadLine, Unread, TooLong, Refused, Done, Fell, Ending, With, Unwritten, NoMemory}
-use Rattle.xray_program.specs.Words.{Command, Sim, Plain, Extract, Asm}
+use Rattle.xray_program.specs.Reports.{report_inputs}
+use Rattle.xray_program.specs.Outcomes.{BadLine, Unread, TooLong, Refused, Done, Fell, Ending, With, Unwritten, NoMemory}
+use Rattle.command_words.specs.Words.{Command, Sim, Plain, Extract, Asm, Account}
 
 -- ---- a line a command
 
 -- its inputs in the order of the words, each a name and how many bytes it has at the most; one that the words leave out isn't there
 abbrev pub inputs_of : Command → List (List ℕ × ℕ)
-inputs_of (Sim image script schedule setup) = (image, 4194304) ∷ (script, 1048576) ∷ (schedule, 16777216) ∷ []
-inputs_of (Plain image options) = (image, 4194304) ∷ []
+inputs_of (Sim image script schedule options) = (image, 4194304) ∷ (script, 1048576) ∷ (schedule, 16777216) ∷ []
+inputs_of (Plain image bounds) = (image, 4194304) ∷ []
 inputs_of (Extract image) = (image, 4194304) ∷ []
 inputs_of (Asm text image threshold) = (text, 4194304) ∷ []
+inputs_of (Account trace image options) = report_inputs trace image
 
 -- ---- inputs
 

@@ -9,9 +9,9 @@ use Rattle.machine_step.specs.PlainStep.{State, Passing, PlainRun}
 use Rattle.machine_step.specs.Texts.{plain_text}
 use Rattle.xray_program.specs.Inputs.{image_form}
 use Rattle.xray_program.specs.Outcomes.{Outcome}
-use Rattle.xray_program.specs.Setups.{limits_of}
+use Rattle.xray_program.specs.Setups.{plain_limits}
 use Rattle.xray_program.specs.Taking.{DeskReads, Take, Prints}
-use Rattle.xray_program.specs.declared.run_options.RunOptions.{RunOptions}
+use Rattle.command_words.specs.declared.run_options.Bounds.{Bounds}
 
 -- the text of a thread, with the end, the counts, the registers and the output of its plain run
 pub record IsPlainText (program : Program) (limits : Limits) (thread : ℕ) (text : List ℕ) : Type 0 where
@@ -22,13 +22,13 @@ pub record IsPlainText (program : Program) (limits : Limits) (thread : ℕ) (tex
   pub prints : text ≡ plain_text thread end last
 
 -- the texts of all threads, one behind the other in the order of their numbers, from 1 on
-pub record PlainPrints (program : Program) (options : RunOptions) (text : List ℕ) : Type 0 where
+pub record PlainPrints (program : Program) (bounds : Bounds) (text : List ℕ) : Type 0 where
   pub texts : List (List ℕ)
-  pub count : length texts ≡ options.threads
+  pub count : length texts ≡ bounds.threads
   pub each : (k : ℕ) (t : List ℕ) → slice_get texts k ≡ Some t
-      → IsPlainText program (limits_of options) (k + 1) t
+      → IsPlainText program (plain_limits bounds) (k + 1) t
   pub joined : text ≡ flat_map (λ t. t) texts
 
 -- what comes of the command
-abbrev pub PlainComes : DeskReads → (List ℕ → Entry) → (image : List ℕ) → RunOptions → Outcome → Type 0
-PlainComes reads held image options = Take image_form reads held image (λ program. Prints (PlainPrints program options))
+abbrev pub PlainComes : DeskReads → (List ℕ → Entry) → (image : List ℕ) → Bounds → Outcome → Type 0
+PlainComes reads held image bounds = Take image_form reads held image (λ program. Prints (PlainPrints program bounds))

@@ -1,34 +1,34 @@
--- What threads are run with, by the options of the words and the wall time. The words say nothing of stamps, buffers and processes, so
--- these are as they are where nothing is said.
-use Rattle.std.specs.Prelude.{◌≤◌, ℕ}
-use Rattle.xray_io.specs.declared.faults.Wall.{Wall}
+-- What threads are run with, by the options of the words.
+use Rattle.command_words.specs.declared.run_options.Bounds.{Bounds}
+use Rattle.command_words.specs.declared.run_options.RunOptions.{RunOptions}
+use Rattle.command_words.specs.declared.run_options.Stamps.{Stamps}
 use Rattle.machine_step.specs.declared.limits.Limits.{Limits}
 use Rattle.machine_step.specs.declared.setup.Setup.{Setup}
-use Rattle.xray_program.specs.declared.run_options.RunOptions.{RunOptions}
 
--- what bounds each thread; only events have stamps, and none is printed
-abbrev pub limits_of : RunOptions → Limits
-limits_of options = record { fuel = options.fuel; passings = options.passings; tick = 1; tsc = 0; cpus = 1; migrate = 1048576 }
-
--- what a replay is made with that begins at this wall time
-abbrev pub setup_of : Wall → RunOptions → Setup
-setup_of wall options = record {
-  threads = options.threads;
-  size = 16384;
-  max = 100;
-  limits = limits_of options;
-  pid = 1;
-  wall = wall;
-  frequency = 0;
+-- what bounds each thread, and how its passings are stamped
+abbrev pub limits_of : Bounds → Stamps → Limits
+limits_of bounds stamps = record {
+  fuel = bounds.fuel;
+  passings = bounds.passings;
+  tick = stamps.tick;
+  tsc = stamps.tsc;
+  cpus = stamps.cpus;
+  migrate = stamps.migrate;
 }
 
--- there may be so many threads: at least one, and at most 16
-abbrev pub IsThreadCount : ℕ → Type 0
-IsThreadCount threads = (1 ≤ threads) × (threads ≤ 16)
+-- What a plain run is bounded by. No event of it is seen, so no words say how its passings are stamped: the counter
+-- stands still.
+abbrev pub plain_limits : Bounds → Limits
+plain_limits bounds = limits_of bounds (record { tick = 0; tsc = 0; frequency = 0; cpus = 1; migrate = 1 })
 
--- a setup that threads can be run with: its numbers lie within their ranges
-pub record IsSetup (setup : Setup) : Type 0 where
-  pub threads : IsThreadCount setup.threads
-  pub size : (72 ≤ setup.size) × (setup.size ≤ 1048576)
-  pub buffers : (setup.threads ≤ setup.max) × (setup.max ≤ 1024)
-  pub stamps : (1 ≤ setup.limits.cpus) × (1 ≤ setup.limits.migrate)
+-- what a run of traced threads is made with
+abbrev pub setup_of : RunOptions → Setup
+setup_of options = record {
+  threads = options.bounds.threads;
+  size = options.buffers.size;
+  max = options.buffers.max;
+  limits = limits_of options.bounds options.stamps;
+  pid = options.pid;
+  wall = options.wall;
+  frequency = options.stamps.frequency;
+}

@@ -1,5 +1,5 @@
 -- How the work of a command ends, once its inputs were taken; and how all of a call ends, before err is told.
-use Rattle.std.specs.Prelude.{◌≡◌, ◌≢◌, ◌⊎◌, ℕ, List, Contains, Option, Some, None, Result, Ok, Err, map}
+use Rattle.std.specs.Prelude.{◌≡◌, ◌⊎◌, ℕ, List, Contains, Option, Some, None, Result, Ok, Err, map}
 use Rattle.xray_io.specs.Calls.{Call, Went}
 use Rattle.xray_io.specs.Desk.{Absent}
 use Rattle.xray_io.specs.Faults.{Rose}
@@ -7,9 +7,9 @@ use Rattle.fault_words.specs.Words.{words_text}
 use Rattle.xray_io.specs.Sink.{Adds}
 use Rattle.xray_program.specs.Commands.{Means, HadItsTurn, outputs_named}
 use Rattle.xray_program.specs.Order.{FailsAtOutput, InOrder, IsNoCall, IsUnmade, MakesAll}
-use Rattle.xray_program.specs.Outcomes.{Outcome, BadLine, Unread, TooLong, Refused, Done, Fell, Ending, With, Unwritten, NoMemory, status_at, line_at, written_by}
+use Rattle.xray_program.specs.Outcomes.{Outcome, BadLine, Unread, Refused, Done, Fell, Ending, With, Unwritten, NoMemory, status_at, line_at, written_by}
 use Rattle.xray_program.specs.Outputs.{AreWhole, FailsAt, FailsWriting, WritesNothing}
-use Rattle.xray_program.specs.Words.{Command}
+use Rattle.command_words.specs.Words.{Command}
 use Rattle.xray_io.specs.World.{DeskView, SinkView}
 use Rattle.xray_program.specs.declared.stop.Stop.{Stop}
 use Rattle.xray_program.specs.declared.stop.Stop.TheVariants as stops
@@ -109,7 +109,7 @@ StandsBehind said desk desk_now out out_now (With outcome) =
     IsCaused said desk desk_now outcome × IsWritten (written_by outcome) desk desk_now out out_now
 StandsBehind said desk desk_now out out_now (Unwritten name) =
     FailsToLeave (Means said desk.held) desk desk_now out out_now name (λ _. Unit {0})
-StandsBehind said desk desk_now out out_now NoMemory = (said ≢ None) × WritesNothing desk desk_now out out_now
+StandsBehind said desk desk_now out out_now NoMemory = WritesNothing desk desk_now out out_now
 
 -- how a call ends, before err is told: with this status and this line
 pub record Ends (said : Option Command) (desk desk_now : DeskView) (out out_now : SinkView) (Way : List Call → Type 0) (answer : ℕ)

@@ -25,7 +25,7 @@ pub(crate) struct Asm<'a> {
 impl<'a> Work<'a> for Asm<'a> {
     ghost use Rattle.std.specs.Prelude.{[], ◌∷◌, ⊤};
     ghost use Rattle.xray_program.specs.Outcomes.{Done};
-    ghost use Rattle.xray_program.specs.Words as words;
+    ghost use Rattle.command_words.specs.Words as words;
 
     type Inputs = ImageFile;
 

@@ -1,20 +1,23 @@
 //! The top call.
 ghost use Rattle.std.specs.Prelude.{◌≡◌, Some};
+ghost use Rattle.command_words.specs.Items.{texts};
+ghost use Rattle.command_words.specs.Ranges.{HasRanges};
+ghost use Rattle.command_words.specs.Views.{command_view};
+ghost use Rattle.command_words.specs.Words.{reading};
 ghost use Rattle.xray_io.specs.World.{desk_view, sink_view};
 ghost use Rattle.xray_program.specs.Answers.{Answered};
 ghost use Rattle.xray_program.specs.Commands.{IsStill};
-ghost use Rattle.xray_program.specs.CommandLine.{HasRanges, command_of};
 ghost use Rattle.xray_program.specs.Stops.{answer_of, told_of};
-ghost use Rattle.xray_program.specs.Words.{reading, texts};
 ghost use Rattle.xray_program.specs.Works.{Ends};
 
+use crate::account::Account;
 use crate::asm::Asm;
 use crate::extract::Extract;
 use crate::plain::Plain;
 use crate::sim::Sim;
 use crate::stop::Stop;
-use crate::words::{Command, read_words};
 use crate::work::perform;
+use command_words::{Command, read_words};
 use std::alloc::Global;
 use std::sync::Wait;
 use std::thread::Threads;
@@ -94,7 +97,10 @@ fn perform_words<'a, D: Desk, O: Sink>(
         Ends (reading wall (texts words.now)) (seen desk.old) (seen desk.new) (got out.old) (got out.new)
         (D.along desk.old desk.new) (answer_of result) (told_of result) }
 {
-    match read_words(words, wall) {
+    let Ok(said) = read_words(alloc, wall, words) else {
+        return Err(Stop::NoMemory);
+    };
+    match said {
         Some(command) => perform_command(alloc, command, desk, out),
         None => Err(Stop::BadLine),
     }
@@ -107,10 +113,10 @@ fn perform_command<'a, D: Desk, O: Sink>(
     desk: &mut D,
     out: &mut O,
 ) -> Result<(), Stop<'a>>
-    requires { HasRanges command }
+    requires { HasRanges (command_view command) }
     ensures { let seen = desk_view D.held D.read_faults D.write_faults in
         let got = sink_view O.written O.faults in
-        Ends (Some (command_of command.entry)) (seen desk.old) (seen desk.new) (got out.old) (got out.new)
+        Ends (Some (command_view command.entry)) (seen desk.old) (seen desk.new) (got out.old) (got out.new)
         (D.along desk.old desk.new) (answer_of result) (told_of result) }
 {
     match command {
@@ -118,7 +124,7 @@ fn perform_command<'a, D: Desk, O: Sink>(
             image,
             script,
             schedule,
-            setup,
+            options,
         } => {
             perform(
                 alloc,
@@ -126,13 +132,13 @@ fn perform_command<'a, D: Desk, O: Sink>(
                     image,
                     script,
                     schedule,
-                    setup,
+                    options,
                 },
                 desk,
                 out,
             )
         }
-        Command::Plain { image, options } => perform(alloc, &Plain { image, options }, desk, out),
+        Command::Plain { image, bounds } => perform(alloc, &Plain { image, bounds }, desk, out),
         Command::Extract { image } => perform(alloc, &Extract { image }, desk, out),
         Command::Asm {
             text,
@@ -145,6 +151,22 @@ fn perform_command<'a, D: Desk, O: Sink>(
                     text,
                     image,
                     threshold,
+                },
+                desk,
+                out,
+            )
+        }
+        Command::Account {
+            trace,
+            image,
+            options,
+        } => {
+            perform(
+                alloc,
+                &Account {
+                    trace,
+                    image,
+                    options,
                 },
                 desk,
                 out,

@@ -22,7 +22,7 @@ impl<'a> Work<'a> for Extract<'a> {
     ghost use Rattle.std.specs.Prelude.{[], ⊤};
     ghost use Rattle.xray_image.specs.Extract.{extract_text};
     ghost use Rattle.xray_program.specs.Outcomes.{Done};
-    ghost use Rattle.xray_program.specs.Words as words;
+    ghost use Rattle.command_words.specs.Words as words;
 
     type Inputs = Image;
 

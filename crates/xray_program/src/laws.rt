@@ -3,7 +3,7 @@ ghost use Rattle.std.specs.Prelude.{◌≡◌, ◌<◌, ℕ, List, Option, None,
 ghost use Rattle.xray_io.specs.Desk.{Entry, Holds};
 ghost use Rattle.xray_program.specs.Commands.{IsDecided, Means, TellsAll};
 ghost use Rattle.xray_program.specs.Outcomes.{Outcome, written_by};
-ghost use Rattle.xray_program.specs.Words.{Command};
+ghost use Rattle.command_words.specs.Words.{Command};
 
 use machine_step::{one_end, some_end};
 use step_sim::{one_run, some_run};

@@ -7,10 +7,11 @@ ghost use Rattle.xray_program.specs.Ends.{AreEnds, HasRegisters, end_text};
 use crate::delivery::{NoOutputs, deliver};
 use crate::input::take;
 use crate::inputs::ImageKind;
-use crate::run_options::RunOptions;
+use crate::setups::plain_limits;
 use crate::stop::Stop;
 use crate::text::Printed;
 use crate::work::Work;
+use command_words::Bounds;
 use machine_step::{PlainEnd, plain_run, write_plain};
 use std::alloc::Global;
 use xray_image::Image;
@@ -22,20 +23,20 @@ pub(crate) struct Plain<'a> {
     /// The image file's name.
     pub(crate) image: &'a str,
     /// What bounds the threads.
-    pub(crate) options: RunOptions,
+    pub(crate) bounds: Bounds,
 }
 
 impl<'a> Work<'a> for Plain<'a> {
     ghost use Rattle.std.specs.Prelude.{⊤};
     ghost use Rattle.xray_program.specs.Plain.{PlainPrints};
     ghost use Rattle.xray_program.specs.Taking.{Prints};
-    ghost use Rattle.xray_program.specs.Words as words;
+    ghost use Rattle.command_words.specs.Words as words;
 
     type Inputs = Image;
 
-    ghost says = { λ p. words.Plain p.image.now p.options };
+    ghost says = { λ p. words.Plain p.image.now p.bounds };
 
-    ghost yields = { λ p program. Prints (PlainPrints program p.options) };
+    ghost yields = { λ p program. Prints (PlainPrints program p.bounds) };
 
     ghost fits = { λ _ _. ⊤ };
 
@@ -50,18 +51,18 @@ impl<'a> Work<'a> for Plain<'a> {
         desk: &mut D,
         out: &mut O,
     ) -> Result<(), Stop<'a>> {
-        let ends = run_threads(alloc, image, self.options)?;
+        let ends = run_threads(alloc, image, self.bounds)?;
         deliver(desk, out, &NoOutputs, &Ends { ends: &ends }, None)
     }
 }
 
 /// Runs the threads, each to its end.
-fn run_threads(alloc: Global, image: &Image, options: RunOptions) -> Result<Vec<PlainEnd>, NoMemory>
-    ensures { IfOk result (λ ends. AreEnds image.now options options.threads ends.items) }
+fn run_threads(alloc: Global, image: &Image, bounds: Bounds) -> Result<Vec<PlainEnd>, NoMemory>
+    ensures { IfOk result (λ ends. AreEnds image.now bounds bounds.threads ends.items) }
 {
     let mut ends = Vec::new(alloc);
-    for thread in 0..options.threads {
-        ends.push(plain_run(alloc, image, thread + 1, options.limits())?)?;
+    for thread in 0..bounds.threads {
+        ends.push(plain_run(alloc, image, thread + 1, plain_limits(bounds))?)?;
     }
     Ok(ends)
 }

@@ -1,19 +1,21 @@
 //! `sim`: the replay of a schedule over an image and a script.
 ghost use Rattle.std.specs.Prelude.{◌≡◌};
 ghost use Rattle.std.specs.List.{All, flat_map};
+ghost use Rattle.command_words.specs.Ranges.{AreRunOptions};
 ghost use Rattle.machine_step.specs.Traced.{IsDone};
 ghost use Rattle.xray_io.specs.Writes.{WritesText};
 ghost use Rattle.xray_program.specs.Ends.{thread_text};
-ghost use Rattle.xray_program.specs.Setups.{IsSetup};
 
 use crate::delivery::{NoOutputs, deliver};
 use crate::input::{fault_stop, take};
 use crate::inputs::{ImageKind, ScheduleKind, ScriptKind};
+use crate::setups::setup_of;
 use crate::sim_inputs::SimInputs;
 use crate::stop::Stop;
 use crate::text::Printed;
 use crate::work::Work;
-use machine_step::{Cpu, Setup, write_state};
+use command_words::RunOptions;
+use machine_step::{Cpu, write_state};
 use std::alloc::Global;
 use step_sim::simulate;
 use xray_io::{Desk, Sink, WriteFault};
@@ -31,25 +33,26 @@ pub(crate) struct Sim<'a> {
     /// The name of the schedule.
     pub(crate) schedule: &'a str,
     /// What the replay is made with.
-    pub(crate) setup: Setup,
-    ghost ranges: { IsSetup setup },
+    pub(crate) options: RunOptions,
+    ghost ranges: { AreRunOptions options },
 }
 
 impl<'a> Work<'a> for Sim<'a> {
+    ghost use Rattle.xray_program.specs.Setups.{setup_of};
     ghost use Rattle.xray_program.specs.Sim.{Replays};
     ghost use Rattle.xray_program.specs.SimInputs.{AreReadFor};
-    ghost use Rattle.xray_program.specs.Words as words;
+    ghost use Rattle.command_words.specs.Words as words;
 
     type Inputs = SimInputs;
 
-    ghost says = { λ s. words.Sim s.image.now s.script.now s.schedule.now s.setup };
+    ghost says = { λ s. words.Sim s.image.now s.script.now s.schedule.now s.options };
 
-    ghost yields = { λ s inputs. Replays s.script.now s.setup inputs.image inputs.script inputs.schedule };
+    ghost yields = { λ s inputs. Replays s.script.now (setup_of s.options) inputs.image inputs.script inputs.schedule };
 
-    ghost fits = { λ s inputs. AreReadFor s.setup.threads inputs };
+    ghost fits = { λ s inputs. AreReadFor s.options.bounds.threads inputs };
 
     fn take<D: Desk>(&self, alloc: Global, desk: &mut D) -> Result<SimInputs, Stop<'a>> {
-        let threads = self.setup.threads;
+        let threads = self.options.bounds.threads;
         let image = take(alloc, desk, self.image, &ImageKind)?;
         let kind = ScriptKind {
             image: &image,
@@ -76,7 +79,7 @@ impl<'a> Work<'a> for Sim<'a> {
             &inputs.image,
             &inputs.script,
             &inputs.schedule,
-            &self.setup,
+            &setup_of(self.options),
         ) {
             Ok(end) => deliver(desk, out, &NoOutputs, &States { cpus: &end.cpus }, None),
             Err(fault) => Err(fault_stop(self.script, SCRIPT, &fault)),

@@ -1,13 +1,13 @@
 //! A command: what it takes, and what it does with that.
 ghost use Rattle.std.specs.Prelude.{◌≡◌, ◌≤◌, ℕ, List, Some, IfOk};
+ghost use Rattle.command_words.specs.Words.{Command, outputs_of};
 ghost use Rattle.xray_io.specs.Calls.{Went};
 ghost use Rattle.xray_io.specs.World.{desk_view, sink_view};
-ghost use Rattle.xray_program.specs.Commands.{Comes, outputs_of};
+ghost use Rattle.xray_program.specs.Commands.{Comes};
 ghost use Rattle.xray_program.specs.Order.{inputs_of};
 ghost use Rattle.xray_program.specs.Outcomes.{Outcome};
 ghost use Rattle.xray_program.specs.Stops.{answer_of, told_of};
 ghost use Rattle.xray_program.specs.Takes.{AreTaken, AreTakings};
-ghost use Rattle.xray_program.specs.Words.{Command};
 ghost use Rattle.xray_program.specs.Works.{Ends, Finishes, KeepsOthers};
 
 use crate::stop::Stop;

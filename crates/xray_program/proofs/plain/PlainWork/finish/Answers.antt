@@ -4,8 +4,7 @@ use Rattle.xray_io.specs.World.{desk_view, sink_view}
 use Rattle.xray_program.specs.Ends.{end_text}
 use Rattle.xray_program.specs.Plain.{PlainPrints}
 use Rattle.xray_program.specs.Taking.{Prints}
-use Rattle.xray_program.specs.declared.stop.Stop.TheVariants.{NoMemory}
-use Rattle.xray_program.proofs.Endings.{finishes, refuses}
+use Rattle.xray_program.proofs.Endings.{finishes}
 use Rattle.xray_program.proofs.PlainThreads.{prints_all}
 use Rattle.xray_program.proofs.plain.PlainWork.finish.Goals as goal
 
@@ -14,8 +13,8 @@ returns-clause-finishes g c =
     let seen = desk_view g.D.Desk.held g.D.Desk.read_faults g.D.Desk.write_faults in
     let got = sink_view g.O.Sink.written g.O.Sink.faults in
     let program = c.args.image.now in
-    let options = c.args.self.now.options in
+    let bounds = c.args.self.now.bounds in
     let text = flat_map end_text c.deref.result.now in
-    let prints : PlainPrints program options text = rw c.deref.ensures.value (prints_all program options _ c.in_ok-ends.ensures) in
-    finishes (Prints (PlainPrints program options)) [] text None (seen c.args.desk.now) (seen c.deliver.new.desk) (got c.args.out.now) (got c.deliver.new.out)
+    let prints : PlainPrints program bounds text = rw c.deref.ensures.value (prints_all program bounds _ c.in_ok-ends.ensures) in
+    finishes (Prints (PlainPrints program bounds)) [] text None (seen c.args.desk.now) (seen c.deliver.new.desk) (got c.args.out.now) (got c.deliver.new.out)
     (g.D.Desk.along c.args.desk.now c.deliver.new.desk) c.deliver.result ([], text, (refl, prints), refl) c.deliver.ensures.delivers

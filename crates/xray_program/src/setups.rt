@@ -1,0 +1,51 @@
+//! What threads are run with, by the options of the words.
+ghost use Rattle.std.specs.Prelude.{◌≡◌};
+ghost use Rattle.xray_program.specs.Setups.{limits_of, plain_limits, setup_of};
+
+use command_words::{Bounds, RunOptions, Stamps};
+use machine_step::{Limits, Setup};
+
+/// The stamps of a plain run, of which no event is seen: the counter stands still, on one CPU.
+const UNSTAMPED: Stamps = Stamps {
+    tick: 0,
+    tsc: 0,
+    frequency: 0,
+    cpus: 1,
+    migrate: 1,
+};
+
+/// What bounds each thread, and how its passings are stamped.
+fn limits_of(bounds: Bounds, stamps: Stamps) -> Limits
+    ensures { result ≡ limits_of bounds stamps }
+{
+    Limits {
+        fuel: bounds.fuel,
+        passings: bounds.passings,
+        tick: stamps.tick,
+        tsc: stamps.tsc,
+        cpus: stamps.cpus,
+        migrate: stamps.migrate,
+    }
+}
+
+/// What a plain run is bounded by.
+pub(crate) fn plain_limits(bounds: Bounds) -> Limits
+    ensures { result ≡ plain_limits bounds }
+{
+    limits_of(bounds, UNSTAMPED)
+}
+
+/// What a run of traced threads is made with.
+pub(crate) fn setup_of(options: RunOptions) -> Setup
+    ensures { result ≡ setup_of options }
+{
+    Setup {
+        threads: options.bounds.threads,
+        size: options.buffers.size,
+        max: options.buffers.max,
+        limits: limits_of(options.bounds, options.stamps),
+        pid: options.pid,
+        wall: options.wall,
+        frequency: options.stamps.frequency,
+    }
+}
