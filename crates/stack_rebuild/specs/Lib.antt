@@ -7,5 +7,6 @@ pub mod PathNumbers
 pub mod PathTree
 pub mod Rows
 pub mod Scanning
+pub mod StackText
 pub mod Stacks
 pub mod ThreadCalls
