@@ -80,11 +80,25 @@ abbrev pub account_format_option : OptionRow
 account_format_option =
     record { name = codes "format"; values = Listed (codes "text" ∷ codes "csv" ∷ []); default = Some 0 }
 
+-- as what stacks are printed
+abbrev pub stack_format_option : OptionRow
+stack_format_option =
+    record { name = codes "format"; values = Listed (codes "human" ∷ codes "flame" ∷ []); default = Some 0 }
+
+-- as what a trace is converted
+abbrev pub convert_format_option : OptionRow
+convert_format_option = record { name = codes "format"; values = Listed (codes "yaml" ∷ []); default = Some 0 }
+
 -- ---- the commands
 
--- the options of the commands that run threads
+-- the options of a plain run
 abbrev pub bounds_options : List OptionRow
 bounds_options = threads_option ∷ fuel_option ∷ passings_option ∷ []
+
+-- the options of the commands that run traced threads
+abbrev pub run_options : List OptionRow
+run_options = threads_option ∷ fuel_option ∷ passings_option ∷ buffer_size_option ∷ buffer_max_option
+    ∷ tick_option ∷ tsc_option ∷ frequency_option ∷ cpus_option ∷ migrate_option ∷ pid_option ∷ wall_option ∷ []
 
 abbrev pub asm_row : CommandRow
 asm_row = record {
@@ -111,8 +125,9 @@ abbrev pub sim_row : CommandRow
 sim_row = record {
   word = codes "sim";
   files = record { label = codes "image"; role = Input } ∷ record { label = codes "script"; role = Input }
-      ∷ record { label = codes "schedule"; role = Input } ∷ [];
-  options = bounds_options;
+      ∷ record { label = codes "schedule"; role = Input } ∷ record { label = codes "trace"; role = Output }
+      ∷ record { label = codes "audit"; role = Output } ∷ [];
+  options = run_options;
 }
 
 -- the files of the commands that report on a trace
@@ -126,3 +141,9 @@ account_row = record {
   files = report_files;
   options = sort_option ∷ sort_order_option ∷ top_option ∷ account_format_option ∷ [];
 }
+
+abbrev pub stack_row : CommandRow
+stack_row = record { word = codes "stack"; files = report_files; options = stack_format_option ∷ [] }
+
+abbrev pub convert_row : CommandRow
+convert_row = record { word = codes "convert"; files = report_files; options = convert_format_option ∷ [] }

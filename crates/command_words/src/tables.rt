@@ -160,6 +160,20 @@ pub(crate) const ACCOUNT_FORMAT: OptionRow = OptionRow {
     default: Some(0),
 };
 
+/// As what stacks are printed.
+pub(crate) const STACK_FORMAT: OptionRow = OptionRow {
+    name: "format",
+    values: Values::Listed(&["human", "flame"]),
+    default: Some(0),
+};
+
+/// As what a trace is converted.
+pub(crate) const CONVERT_FORMAT: OptionRow = OptionRow {
+    name: "format",
+    values: Values::Listed(&["yaml"]),
+    default: Some(0),
+};
+
 /// An image that is read.
 const IMAGE: FileRow = FileRow {
     label: "image",
@@ -190,6 +204,18 @@ const SCHEDULE: FileRow = FileRow {
     role: Role::Input,
 };
 
+/// A trace that is written.
+const MADE_TRACE: FileRow = FileRow {
+    label: "trace",
+    role: Role::Output,
+};
+
+/// An audit, which is written.
+const AUDIT: FileRow = FileRow {
+    label: "audit",
+    role: Role::Output,
+};
+
 /// A trace that is read.
 const TRACE: FileRow = FileRow {
     label: "trace",
@@ -207,6 +233,20 @@ pub(crate) const ACCOUNT: CommandRow = CommandRow {
     word: "account",
     files: &[TRACE, NAMING_IMAGE],
     options: &[SORT, SORT_ORDER, TOP, ACCOUNT_FORMAT],
+};
+
+/// `stack TRACE [IMAGE]`: says what the stacks of a trace took.
+pub(crate) const STACK: CommandRow = CommandRow {
+    word: "stack",
+    files: &[TRACE, NAMING_IMAGE],
+    options: &[STACK_FORMAT],
+};
+
+/// `convert TRACE [IMAGE]`: prints a trace as a text in YAML.
+pub(crate) const CONVERT: CommandRow = CommandRow {
+    word: "convert",
+    files: &[TRACE, NAMING_IMAGE],
+    options: &[CONVERT_FORMAT],
 };
 
 /// `asm TEXT IMAGE`: assembles an image.
@@ -230,9 +270,23 @@ pub(crate) const EXTRACT: CommandRow = CommandRow {
     options: &[],
 };
 
-/// `sim IMAGE SCRIPT SCHEDULE`: replays a schedule over an image and a script.
+/// `sim IMAGE SCRIPT SCHEDULE TRACE AUDIT`: replays a schedule over an image and a script, and writes the
+/// trace and the audit of the run.
 pub(crate) const SIM: CommandRow = CommandRow {
     word: "sim",
-    files: &[IMAGE, SCRIPT, SCHEDULE],
-    options: &[THREADS, FUEL, PASSINGS],
+    files: &[IMAGE, SCRIPT, SCHEDULE, MADE_TRACE, AUDIT],
+    options: &[
+        THREADS,
+        FUEL,
+        PASSINGS,
+        BUFFER_SIZE,
+        BUFFER_MAX,
+        TICK,
+        TSC,
+        FREQUENCY,
+        CPUS,
+        MIGRATE,
+        PID,
+        WALL,
+    ],
 };
