@@ -2,6 +2,7 @@ pub mod Ascending
 pub mod ByThread
 pub mod Calls
 pub mod Counts
+pub mod FaultWords
 pub mod Histories
 pub mod PathNumbers
 pub mod PathTree

@@ -7,6 +7,7 @@ mod counts;
 mod matching;
 mod path_numbers;
 mod path_sums;
+mod refusal;
 mod scan;
 mod stack_row;
 mod stack_text;
@@ -21,3 +22,6 @@ pub use scan::MOST_OPEN;
 pub use stack_row::{StackFault, StackRow};
 pub use stack_text::{StackForm, write_stack};
 pub use stacks_of::stacks;
+
+#[cfg(test)]
+mod tests;

@@ -2,6 +2,7 @@ pub mod AccountLaws
 pub mod Answering
 pub mod AsmLaws
 pub mod CommandLaws
+pub mod ConvertLaws
 pub mod Endings
 pub mod ExtractLaws
 pub mod Headline
@@ -18,5 +19,6 @@ pub mod RunWritten
 pub mod Saying
 pub mod SimLaws
 pub mod SimTurns
+pub mod StackLaws
 pub mod TextLists
 pub mod Turns

@@ -4,13 +4,15 @@ use Rattle.std.specs.Option.{option_map_or}
 use Rattle.xray_io.specs.Desk.{Entry, Untold}
 use Rattle.xray_program.specs.Account.{AccountComes}
 use Rattle.xray_program.specs.Asm.{AsmComes}
+use Rattle.xray_program.specs.Convert.{ConvertComes}
 use Rattle.xray_program.specs.Extract.{ExtractComes}
 use Rattle.xray_program.specs.Outcomes.{Outcome, BadLine, Unread}
 use Rattle.xray_program.specs.Plain.{PlainComes}
 use Rattle.xray_program.specs.Setups.{setup_of}
 use Rattle.xray_program.specs.Sim.{SimComes}
+use Rattle.xray_program.specs.Stack.{StackComes}
 use Rattle.xray_program.specs.Taking.{DeskReads, Sound, Faulty}
-use Rattle.command_words.specs.Words.{Command, Sim, Plain, Extract, Asm, Account, outputs_of}
+use Rattle.command_words.specs.Words.{Command, Sim, Plain, Extract, Asm, Account, Stack, Convert, outputs_of}
 
 -- ---- a line a command
 
@@ -21,6 +23,8 @@ Comes reads held (Plain image bounds) = PlainComes reads held image bounds
 Comes reads held (Extract image) = ExtractComes reads held image
 Comes reads held (Asm text image threshold) = AsmComes reads held text image threshold
 Comes reads held (Account trace image options) = AccountComes reads held trace image options
+Comes reads held (Stack trace image format) = StackComes reads held trace image format
+Comes reads held (Convert trace image) = ConvertComes reads held trace image
 
 -- whether one thing alone comes of it, over what a desk holds: not so where threads run in an order of their own
 abbrev pub is_decided : Command → Bool
@@ -29,6 +33,8 @@ is_decided (Plain image bounds) = true
 is_decided (Extract image) = true
 is_decided (Asm text image threshold) = true
 is_decided (Account trace image options) = true
+is_decided (Stack trace image format) = true
+is_decided (Convert trace image) = true
 
 -- whether it waits for nobody, and starts no thread
 abbrev pub is_still : Command → Bool
@@ -37,6 +43,8 @@ is_still (Plain image bounds) = true
 is_still (Extract image) = true
 is_still (Asm text image threshold) = true
 is_still (Account trace image options) = true
+is_still (Stack trace image format) = true
+is_still (Convert trace image) = true
 
 -- ---- what was said: a command, or none
 

@@ -10,6 +10,8 @@ pub mod Plain
 pub mod Sim
 pub mod Reports
 pub mod Account
+pub mod Stack
+pub mod Convert
 pub mod Commands
 pub mod Answers
 pub mod Order
