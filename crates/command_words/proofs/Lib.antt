@@ -8,5 +8,6 @@ pub mod Pairs
 pub mod Cuts
 pub mod Gathering
 pub mod NumberLemmas
+pub mod Outputs
 pub mod Readings
 pub mod WorkedLines

@@ -63,11 +63,19 @@ made_named : outputs_named noon (codes "asm" ∷ codes "t" ∷ codes "i" ∷ [])
 made_named = refl
 
 -- a replay begins at the wall time that is handed in, and two inputs may be one
-replay : says (codes "sim" ∷ codes "s" ∷ codes "s" ∷ codes "c" ∷ codes "--fuel" ∷ codes "9" ∷ []) ≡ Some (Sim (codes "s") (codes "s") (codes "c") (record {
-  bounds = record { threads = 1; fuel = 9; passings = 1048576 };
-  stamps = record { tick = 1; tsc = 0; frequency = 0; cpus = 1; migrate = 1048576 };
-  buffers = record { size = 16384; max = 100 };
-  pid = 1;
-  wall = noon;
-}))
+replay : says (codes "sim" ∷ codes "s" ∷ codes "s" ∷ codes "c" ∷ codes "--fuel=9" ∷ codes "t" ∷ codes "a" ∷ [])
+    ≡ Some (Sim (codes "s") (codes "s") (codes "c") (codes "t") (codes "a") (record {
+      bounds = record { threads = 1; fuel = 9; passings = 1048576 };
+      stamps = record { tick = 1; tsc = 0; frequency = 0; cpus = 1; migrate = 1048576 };
+      buffers = record { size = 16384; max = 100 };
+      pid = 1;
+      wall = noon;
+    }))
 replay = refl
+
+-- an output of it has the name of no input, nor of the other output
+over_script : says (codes "sim" ∷ codes "i" ∷ codes "s" ∷ codes "c" ∷ codes "s" ∷ codes "a" ∷ []) ≡ None
+over_script = refl
+
+one_output : says (codes "sim" ∷ codes "i" ∷ codes "s" ∷ codes "c" ∷ codes "t" ∷ codes "t" ∷ []) ≡ None
+one_output = refl

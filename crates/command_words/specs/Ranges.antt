@@ -1,5 +1,5 @@
 -- The ranges of what a command holds: what the machine that replays a schedule asks of its setup, and of what bounds its threads.
-use Rattle.std.specs.Prelude.{◌+◌, ◌*◌, ◌≤◌, ℕ, IfSome}
+use Rattle.std.specs.Prelude.{◌≢◌, ◌+◌, ◌*◌, ◌≤◌, ℕ, IfSome}
 use Rattle.command_words.specs.declared.run_options.Bounds.{Bounds}
 use Rattle.command_words.specs.declared.run_options.Buffers.{Buffers}
 use Rattle.command_words.specs.declared.run_options.RunOptions.{RunOptions}
@@ -35,9 +35,9 @@ pub record AreRunOptions (options : RunOptions) : Type 0 where
   pub room : options.buffers.max * (options.buffers.size + 16) + 32 ≤ 67108864
   pub pid : options.pid ≤ 2147483647
 
--- all that a command holds is in its range
+-- all that a command holds is in its range, and of two outputs each has a name of its own
 abbrev pub HasRanges : Command → Type 0
-HasRanges (Sim image script schedule options) = AreRunOptions options
+HasRanges (Sim image script schedule trace audit options) = AreRunOptions options × (trace ≢ audit)
 HasRanges (Plain image bounds) = AreBounds bounds
 HasRanges (Extract image) = Unit {0}
 HasRanges (Asm text image threshold) = threshold ≤ 4294967295

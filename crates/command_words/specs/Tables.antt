@@ -82,9 +82,14 @@ account_format_option =
 
 -- ---- the commands
 
--- the options of the commands that run threads
+-- the options of a plain run
 abbrev pub bounds_options : List OptionRow
 bounds_options = threads_option ∷ fuel_option ∷ passings_option ∷ []
+
+-- the options of the commands that run traced threads
+abbrev pub run_options : List OptionRow
+run_options = threads_option ∷ fuel_option ∷ passings_option ∷ buffer_size_option ∷ buffer_max_option
+    ∷ tick_option ∷ tsc_option ∷ frequency_option ∷ cpus_option ∷ migrate_option ∷ pid_option ∷ wall_option ∷ []
 
 abbrev pub asm_row : CommandRow
 asm_row = record {
@@ -111,8 +116,9 @@ abbrev pub sim_row : CommandRow
 sim_row = record {
   word = codes "sim";
   files = record { label = codes "image"; role = Input } ∷ record { label = codes "script"; role = Input }
-      ∷ record { label = codes "schedule"; role = Input } ∷ [];
-  options = bounds_options;
+      ∷ record { label = codes "schedule"; role = Input } ∷ record { label = codes "trace"; role = Output }
+      ∷ record { label = codes "audit"; role = Output } ∷ [];
+  options = run_options;
 }
 
 -- the files of the commands that report on a trace

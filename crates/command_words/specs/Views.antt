@@ -34,7 +34,8 @@ abbrev pub files_view : report_files.ReportFiles → List ℕ × Option (List �
 files_view files = (files.trace.now, option_map (λ image. image.now) files.image)
 
 abbrev pub command_view : command.Command → Command
-command_view (command_of.Sim image script schedule options) = Sim image.now script.now schedule.now options
+command_view (command_of.Sim image script schedule trace audit options) =
+    Sim image.now script.now schedule.now trace.now audit.now options
 command_view (command_of.Plain image bounds) = Plain image.now bounds
 command_view (command_of.Extract image) = Extract image.now
 command_view (command_of.Asm text image threshold) = Asm text.now image.now threshold

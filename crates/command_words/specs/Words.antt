@@ -17,7 +17,7 @@ use Rattle.command_words.specs.declared.run_options.RunOptions.{RunOptions}
 use Rattle.command_words.specs.declared.run_options.Stamps.{Stamps}
 
 pub data Command : Type 0 where
-  Sim : (image script schedule : List ℕ) → (options : RunOptions) → Command
+  Sim : (image script schedule trace audit : List ℕ) → (options : RunOptions) → Command
   Plain : (image : List ℕ) → (bounds : Bounds) → Command
   Extract : (image : List ℕ) → Command
   Asm : (text image : List ℕ) → (threshold : ℕ) → Command
@@ -81,7 +81,8 @@ abbrev pub sim_in : Wall → Line → Option Command
 sim_in wall line = of_parts line.files (run_options_in wall line)
   where
     of_parts : List (List ℕ) → Option RunOptions → Option Command
-    of_parts (image ∷ script ∷ schedule ∷ []) (Some options) = Some (Sim image script schedule options)
+    of_parts (image ∷ script ∷ schedule ∷ trace ∷ audit ∷ []) (Some options) =
+        Some (Sim image script schedule trace audit options)
     of_parts _ _ = None
 
 abbrev pub plain_in : Line → Option Command
@@ -128,7 +129,7 @@ reading wall (word ∷ words) =
 
 -- the names of a command's outputs
 abbrev pub outputs_of : Command → List (List ℕ)
-outputs_of (Sim image script schedule options) = []
+outputs_of (Sim image script schedule trace audit options) = trace ∷ audit ∷ []
 outputs_of (Plain image bounds) = []
 outputs_of (Extract image) = []
 outputs_of (Asm text image threshold) = image ∷ []

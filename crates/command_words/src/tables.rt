@@ -209,6 +209,18 @@ pub(crate) const ACCOUNT: CommandRow = CommandRow {
     options: &[SORT, SORT_ORDER, TOP, ACCOUNT_FORMAT],
 };
 
+/// A trace that is written.
+const MADE_TRACE: FileRow = FileRow {
+    label: "trace",
+    role: Role::Output,
+};
+
+/// An audit, which is written.
+const AUDIT: FileRow = FileRow {
+    label: "audit",
+    role: Role::Output,
+};
+
 /// `asm TEXT IMAGE`: assembles an image.
 pub(crate) const ASM: CommandRow = CommandRow {
     word: "asm",
@@ -230,9 +242,23 @@ pub(crate) const EXTRACT: CommandRow = CommandRow {
     options: &[],
 };
 
-/// `sim IMAGE SCRIPT SCHEDULE`: replays a schedule over an image and a script.
+/// `sim IMAGE SCRIPT SCHEDULE TRACE AUDIT`: replays a schedule over an image and a script, and writes the
+/// trace and the audit of the run.
 pub(crate) const SIM: CommandRow = CommandRow {
     word: "sim",
-    files: &[IMAGE, SCRIPT, SCHEDULE],
-    options: &[THREADS, FUEL, PASSINGS],
+    files: &[IMAGE, SCRIPT, SCHEDULE, MADE_TRACE, AUDIT],
+    options: &[
+        THREADS,
+        FUEL,
+        PASSINGS,
+        BUFFER_SIZE,
+        BUFFER_MAX,
+        TICK,
+        TSC,
+        FREQUENCY,
+        CPUS,
+        MIGRATE,
+        PID,
+        WALL,
+    ],
 };

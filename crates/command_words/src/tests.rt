@@ -1,11 +1,6 @@
 use super::*;
 use crate::cutting::cut_line;
-use crate::rows::CommandRow;
-use crate::run_options::run_options_in;
-use crate::tables::{
-    BUFFER_MAX, BUFFER_SIZE, CPUS, FREQUENCY, FUEL, MIGRATE, PASSINGS, PID, THREADS, TICK, TSC,
-    WALL,
-};
+use crate::rows::{CommandRow, FileRow, OptionRow, Role, Values};
 use std::alloc::{AllocError, Global};
 use std::process::Abort;
 use std::test::Fail;
@@ -59,14 +54,38 @@ fn shown(alloc: Global, words: &[&str]) -> Result<String, AllocError> {
                 image,
                 script,
                 schedule,
+                trace,
+                audit,
                 options,
             },
         ) => {
-            let threads = options.bounds.threads;
-            let secs = options.wall.secs;
-            format!(in alloc; "sim [{image}] [{script}] [{schedule}] {threads} {secs}")
+            let options = shown_options(alloc, options)?;
+            let options = options.as_str();
+            format!(in alloc; "sim [{image}] [{script}] [{schedule}] [{trace}] [{audit}] {options}")
         }
     }
+}
+
+/// The numbers of a run's options, in the order of the table.
+fn shown_options(alloc: Global, options: RunOptions) -> Result<String, AllocError> {
+    let Bounds {
+        threads,
+        fuel,
+        passings,
+    } = options.bounds;
+    let Buffers { size, max } = options.buffers;
+    let Stamps {
+        tick,
+        tsc,
+        frequency,
+        cpus,
+        migrate,
+    } = options.stamps;
+    let Wall { secs, micros } = options.wall;
+    let pid = options.pid;
+    format!(in alloc;
+        "{threads} {fuel} {passings} {size} {max} {tick} {tsc} {frequency} {cpus} {migrate} {pid} {secs}.{micros}"
+    )
 }
 
 /// Checks what words say, one command line a row.
@@ -144,32 +163,89 @@ fn numbers_are_read_within_their_ranges(rt: HostRuntime) -> Result<(), Fail> {
 
 #[test]
 fn commands_have_their_files_and_options(rt: HostRuntime) -> Result<(), Fail> {
-    let rows: [(&[&str], &str); 17] = [
+    let rows: [(&[&str], &str); 13] = [
         (&["asm", "t", "i"], "asm [t] [i] 1"),
         (
             &["asm", "--threshold", "4294967295", "t", "i"],
             "asm [t] [i] 4294967295",
         ),
-        (&["asm", "t", "t"], "none"),
         (&["asm", "t", "--", "t"], "none"),
         (&["asm", "t", "./t"], "asm [t] [./t] 1"),
         (&["asm", "t"], "none"),
         (&["asm", "t", "i", "--threads=1"], "none"),
         (&["extract", "i"], "extract [i]"),
         (&["extract", "i", "--fuel=1"], "none"),
-        (&["sim", "i", "s", "c"], "sim [i] [s] [c] 1 43200"),
-        (
-            &["sim", "i", "i", "i", "--threads", "3"],
-            "sim [i] [i] [i] 3 43200",
-        ),
-        (&["sim", "i", "s"], "none"),
-        (&["sim", "i", "s", "c", "t", "a"], "none"),
+        (&["extract", "i", "--format=yaml"], "none"),
         (&["--help"], "none"),
         (&["help"], "none"),
         (&["extract", "-V"], "none"),
         (&["extract", "--version"], "none"),
     ];
     assert_said(&rt, rt.alloc(), &rows)
+}
+
+/// The options of a run that says none.
+const DEFAULTS: &str = "1 10000000 1048576 16384 100 1 0 0 1 1048576 1 43200.5";
+
+/// What a replay says that has its five files and these options.
+fn replay(alloc: Global, options: &str) -> Result<String, AllocError> {
+    format!(in alloc; "sim [i] [s] [c] [t] [a] {options}")
+}
+
+#[test]
+fn a_replay_has_five_files_and_twelve_options(rt: HostRuntime) -> Result<(), Fail> {
+    let alloc = rt.alloc();
+    let rows: [(&[&str], Option<&str>); 15] = [
+        (&[], Some(DEFAULTS)),
+        (
+            &[
+                "--threads=2",
+                "--fuel=3",
+                "--passings=4",
+                "--buffer-size=72",
+                "--buffer-max=2",
+                "--tick=18446744073709551615",
+                "--tsc=5",
+                "--frequency=6",
+                "--cpus=65535",
+                "--migrate=1",
+                "--pid=2147483647",
+                "--wall=7",
+            ],
+            Some("2 3 4 72 2 18446744073709551615 5 6 65535 1 2147483647 7.0"),
+        ),
+        (
+            &["--threads=4", "--buffer-max=4"],
+            Some("4 10000000 1048576 16384 4 1 0 0 1 1048576 1 43200.5"),
+        ),
+        (&["--threads=4", "--buffer-max=3"], None),
+        (
+            &["--buffer-size=65519", "--buffer-max=1024"],
+            Some("1 10000000 1048576 65519 1024 1 0 0 1 1048576 1 43200.5"),
+        ),
+        (&["--buffer-size=65520", "--buffer-max=1024"], None),
+        (&["--buffer-size=71"], None),
+        (&["--buffer-size=1048577"], None),
+        (&["--buffer-max=1025"], None),
+        (&["--cpus=0"], None),
+        (&["--migrate=1048577"], None),
+        (&["--pid=2147483648"], None),
+        (&["--wall=18446744073709551616"], None),
+        (&["--threshold=1"], None),
+        (&["b"], None),
+    ];
+    for (options, expected) in rows {
+        let mut words = vec![in alloc; "sim", "i", "s", "c", "t", "a"]?;
+        for option in options {
+            words.push(*option)?;
+        }
+        let said = shown(alloc, words.as_slice())?;
+        match expected {
+            Some(expected) => assert_eq!(rt; said, replay(alloc, expected)?),
+            None => assert_eq!(rt; said.as_str(), "none"),
+        }
+    }
+    Ok(())
 }
 
 #[test]
@@ -185,141 +261,53 @@ fn a_long_word_is_a_name_or_refused(rt: HostRuntime) -> Result<(), Fail> {
     Ok(())
 }
 
-/// A command with all options of a run.
-const WHOLE_RUN: CommandRow = CommandRow {
-    word: "run",
-    files: &[],
-    options: &[
-        THREADS,
-        FUEL,
-        PASSINGS,
-        BUFFER_SIZE,
-        BUFFER_MAX,
-        TICK,
-        TSC,
-        FREQUENCY,
-        CPUS,
-        MIGRATE,
-        PID,
-        WALL,
+/// A command with a file that may be absent, an output, and options with listed words.
+const LISTED: CommandRow = CommandRow {
+    word: "account",
+    files: &[
+        FileRow {
+            label: "out",
+            role: Role::Output,
+        },
+        FileRow {
+            label: "image",
+            role: Role::OptionalInput,
+        },
     ],
+    options: &[SORT],
 };
 
-/// The options of a run that words say, if they say some.
-fn run_options(alloc: Global, words: &[&str]) -> Result<Option<RunOptions>, AllocError> {
+/// An option with listed words.
+const SORT: OptionRow = OptionRow {
+    name: "sort",
+    values: Values::Listed(&["funcid", "count", "sum"]),
+    default: Some(0),
+};
+
+/// How many names words have for a command, and which word they list; `None` where they are no line.
+fn listed(alloc: Global, words: &[&str]) -> Result<Option<(usize, Option<u64>)>, AllocError> {
     let words = owned(alloc, words)?;
-    match cut_line(alloc, &WHOLE_RUN, words.as_slice())? {
-        Some(line) => Ok(run_options_in(NOON, &line)),
+    match cut_line(alloc, &LISTED, words.as_slice())? {
+        Some(line) => Ok(Some((line.files.len(), SORT.number_in(&line)))),
         None => Ok(None),
     }
 }
 
 #[test]
-fn a_run_has_twelve_options(rt: HostRuntime) -> Result<(), Fail> {
-    let words = [
-        "--threads=2",
-        "--fuel=3",
-        "--passings=4",
-        "--buffer-size=72",
-        "--buffer-max=2",
-        "--tick=18446744073709551615",
-        "--tsc=5",
-        "--frequency=6",
-        "--cpus=65535",
-        "--migrate=1",
-        "--pid=2147483647",
-        "--wall=7",
+fn a_file_may_be_absent_and_words_may_be_listed(rt: HostRuntime) -> Result<(), Fail> {
+    let rows: [(&[&str], Option<(usize, Option<u64>)>); 9] = [
+        (&["o"], Some((1, Some(0)))),
+        (&["o", "i", "--sort", "count"], Some((2, Some(1)))),
+        (&["--sort=sum", "o"], Some((1, Some(2)))),
+        (&["o", "--sort=su"], Some((1, None))),
+        (&["o", "--sort="], Some((1, None))),
+        (&["o", "o"], None),
+        (&[], None),
+        (&["o", "i", "j"], None),
+        (&["o", "--sort=sum", "--sort=sum"], None),
     ];
-    let said = run_options(rt.alloc(), &words)?;
-    let expected = RunOptions {
-        bounds: Bounds {
-            threads: 2,
-            fuel: 3,
-            passings: 4,
-        },
-        stamps: Stamps {
-            tick: 18_446_744_073_709_551_615,
-            tsc: 5,
-            frequency: 6,
-            cpus: 65_535,
-            migrate: 1,
-        },
-        buffers: Buffers { size: 72, max: 2 },
-        pid: 2_147_483_647,
-        wall: Wall { secs: 7, micros: 0 },
-    };
-    assert_eq!(rt; said, Some(expected));
-    Ok(())
-}
-
-#[test]
-fn a_run_has_room_for_its_buffers(rt: HostRuntime) -> Result<(), Fail> {
-    let rows: [(&[&str], bool); 6] = [
-        (&[], true),
-        (&["--threads=4", "--buffer-max=4"], true),
-        (&["--threads=4", "--buffer-max=3"], false),
-        (&["--buffer-size=65519", "--buffer-max=1024"], true),
-        (&["--buffer-size=65520", "--buffer-max=1024"], false),
-        (&["--buffer-size=1048576", "--buffer-max=64"], false),
-    ];
-    for (words, fits) in rows {
-        assert_eq!(rt; run_options(rt.alloc(), words)?.is_some(), fits);
-    }
-    Ok(())
-}
-
-/// What an account says of its options, if the words say none.
-const DEFAULTS: &str = "AccountOptions { sort: FuncId, order: Ascending, top: None, format: Text }";
-
-#[test]
-fn an_image_may_be_left_out_and_words_are_listed(rt: HostRuntime) -> Result<(), Fail> {
-    let alloc = rt.alloc();
-    let rows: [(&[&str], &str, &str); 13] = [
-        (&["t"], "account [t] None", DEFAULTS),
-        (&["t", "i"], "account [t] Some(\"i\")", DEFAULTS),
-        (
-            &["t", "t", "--sort", "funcid"],
-            "account [t] Some(\"t\")",
-            DEFAULTS,
-        ),
-        (
-            &[
-                "--sort=sum",
-                "t",
-                "--sortorder=desc",
-                "--top=0",
-                "--format",
-                "csv",
-            ],
-            "account [t] None",
-            "AccountOptions { sort: Sum, order: Descending, top: Some(0), format: Csv }",
-        ),
-        (
-            &["t", "--sort", "99p", "--top", "4294967295"],
-            "account [t] None",
-            "AccountOptions { sort: P99, order: Ascending, top: Some(4294967295), format: Text }",
-        ),
-        (&["t", "--sort=su"], "none", ""),
-        (&["t", "--sort="], "none", ""),
-        (&["t", "--sort=0"], "none", ""),
-        (&["t", "--format=yaml"], "none", ""),
-        (&["t", "--top=4294967296"], "none", ""),
-        (&["t", "i", "j"], "none", ""),
-        (&[], "none", ""),
-        (&["t", "--sort=sum", "--sort=sum"], "none", ""),
-    ];
-    for (rest, files, options) in rows {
-        let mut words = vec![in alloc; "account"]?;
-        for word in rest {
-            words.push(*word)?;
-        }
-        let said = shown(alloc, words.as_slice())?;
-        let expected = if options.is_empty() {
-            String::from_str(alloc, files)?
-        } else {
-            format!(in alloc; "{files} {options}")?
-        };
-        assert_eq!(rt; said, expected);
+    for (words, expected) in rows {
+        assert_eq!(rt; listed(rt.alloc(), words)?, expected);
     }
     Ok(())
 }

@@ -1,7 +1,7 @@
 //! The command that a command line says.
-ghost use Rattle.std.specs.Prelude.{◌≡◌, IfOk, IfSome, option_and_then, option_map};
+ghost use Rattle.std.specs.Prelude.{◌≡◌, IfOk, IfSome, option_and_then, option_map, true};
 ghost use Rattle.command_words.specs.Items.{items_of, texts};
-ghost use Rattle.command_words.specs.Lines.{line_of};
+ghost use Rattle.command_words.specs.Lines.{line_of, outputs_differ};
 ghost use Rattle.command_words.specs.Ranges.{HasRanges};
 ghost use Rattle.command_words.specs.Tables.{account_row, asm_row, extract_row, plain_row, sim_row};
 ghost use Rattle.command_words.specs.Views.{command_view, line_view};
@@ -26,6 +26,10 @@ pub enum Command<'a> {
         script: &'a str,
         /// The turns of the threads and the patcher.
         schedule: &'a str,
+        /// The trace of the events, which is an output.
+        trace: &'a str,
+        /// The audit of the run, which is an output of another name.
+        audit: &'a str,
         /// What the replay is made with.
         options: RunOptions,
     },
@@ -117,7 +121,7 @@ fn read_extract<'a>(alloc: Global, words: &'a [String]) -> Result<Option<Command
     }
 }
 
-/// `sim IMAGE SCRIPT SCHEDULE`.
+/// `sim IMAGE SCRIPT SCHEDULE TRACE AUDIT`.
 fn read_sim<'a>(
     alloc: Global,
     wall: Wall,
@@ -159,10 +163,11 @@ fn read_account<'a>(alloc: Global, words: &'a [String]) -> Result<Option<Command
 
 /// The replay that a line of `sim` says.
 fn sim_in<'a>(wall: Wall, line: &Line<'a>) -> Option<Command<'a>>
+    requires { outputs_differ sim_row.files (line_view line.now).files ≡ true }
     ensures reads { option_map command_view result ≡ sim_in wall (line_view line.now) }
     ensures ranges { IfSome (option_map command_view result) HasRanges }
 {
-    let [image, script, schedule] = line.files.as_slice() else {
+    let [image, script, schedule, trace, audit] = line.files.as_slice() else {
         return None;
     };
     let options = run_options_in(wall, line)?;
@@ -170,6 +175,8 @@ fn sim_in<'a>(wall: Wall, line: &Line<'a>) -> Option<Command<'a>>
         image,
         script,
         schedule,
+        trace,
+        audit,
         options,
     })
 }

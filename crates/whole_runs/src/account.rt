@@ -1,6 +1,6 @@
 //! `account`: its options, the names of functions, and each refusal.
 use crate::runs::{IMAGE, Run, run_words};
-use crate::traces::{
+use crate::trace_bytes::{
     CPU, ENTRY, EXIT, EXTENTS_72, EXTENTS_80, HEADER, ONE_CALL, ONE_EXIT, PREAMBLE, RECURSION,
     TWO_FUNCTIONS, file,
 };

@@ -17,4 +17,6 @@ mod runs;
 #[cfg(test)]
 mod sim;
 #[cfg(test)]
+mod trace_bytes;
+#[cfg(test)]
 mod traces;

@@ -1,7 +1,9 @@
-use Rattle.std.proofs.Common.{◌∙◌, Some, None}
+use Rattle.std.proofs.Common.{◌∙◌, Some, None, ap, option_map, sym}
 use Rattle.command_words.specs.Items.{items_of, texts}
 use Rattle.command_words.specs.Tables.{sim_row}
 use Rattle.command_words.specs.Words.{sim_in}
+use Rattle.command_words.specs.Views.{line_view}
+use Rattle.command_words.proofs.Outputs.{differ_in}
 use Rattle.command_words.proofs.Readings.{made_of}
 use Rattle.command_words.proofs.words.read_sim.Goals as goal
 
@@ -11,3 +13,8 @@ returns-in-Some-clause-reads c =
 
 pub returns-in-None-clause-reads : goal.returns-in-None-clause-reads
 returns-in-None-clause-reads c = made_of (sim_in c.args.wall) sim_row (items_of (texts c.args.words.now)) _ None c.in_ok-line.ensures c.in-None.is
+
+pub sim_in-requires : goal.sim_in-requires
+sim_in-requires c =
+    differ_in sim_row (items_of (texts c.args.words.now)) (line_view c.in-Some.line)
+    (ap (option_map line_view) (sym c.in-Some.is) ∙ c.in_ok-line.ensures)
