@@ -9,7 +9,7 @@ use Rattle.xray_program.specs.Commands.{Means, HadItsTurn, outputs_named}
 use Rattle.xray_program.specs.Order.{FailsAtOutput, InOrder, IsNoCall, IsUnmade, MakesAll}
 use Rattle.xray_program.specs.Outcomes.{Outcome, BadLine, Unread, Refused, Done, Fell, Ending, With, Unwritten, NoMemory, status_at, line_at, written_by}
 use Rattle.xray_program.specs.Outputs.{AreWhole, FailsAt, FailsWriting, WritesNothing}
-use Rattle.command_words.specs.Words.{Command, Sim, Plain, Extract, Asm}
+use Rattle.command_words.specs.Words.{Command, Sim, Plain, Extract, Asm, Account}
 use Rattle.traced_run.specs.Fits.{SetupFits}
 use Rattle.xray_program.specs.Setups.{setup_of}
 use Rattle.xray_io.specs.World.{DeskView, SinkView}
@@ -109,8 +109,8 @@ IsWritten (Some (outputs, text)) desk desk_now out out_now = Writes outputs text
 abbrev pub StandsBehind : Option Command → (desk desk_now : DeskView) → (out out_now : SinkView) → Ending → Type 0
 StandsBehind said desk desk_now out out_now (With outcome) =
     IsCaused said desk desk_now outcome × IsWritten (written_by outcome) desk desk_now out out_now
-StandsBehind said desk desk_now out out_now (Unwritten name) =
-    FailsToLeave (Means said desk.held) desk desk_now out out_now name (λ _. Unit {0})
+StandsBehind said desk desk_now out out_now (Unwritten name outputs) =
+    FailsToLeave (Means said desk.held) desk desk_now out out_now name (λ left. left ≡ outputs)
 StandsBehind said desk desk_now out out_now NoMemory = WritesNothing desk desk_now out out_now
 
 -- the numbers of a command that runs traced threads fit the records of a trace
@@ -119,6 +119,7 @@ FitsTraces (Sim image script schedule trace audit options) = SetupFits (setup_of
 FitsTraces (Plain image bounds) = Unit {0}
 FitsTraces (Extract image) = Unit {0}
 FitsTraces (Asm text image threshold) = Unit {0}
+FitsTraces (Account trace image options) = Unit {0}
 
 abbrev pub SaidFits : Option Command → Type 0
 SaidFits None = Unit {0}
