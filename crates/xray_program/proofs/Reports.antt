@@ -13,16 +13,16 @@ use Rattle.xray_io.specs.World.{DeskView}
 use Rattle.xray_program.specs.Commands.{TellsAll}
 use Rattle.xray_program.specs.Inputs.{image_form, trace_form}
 use Rattle.xray_program.specs.Order.{ReadsAll}
-use Rattle.xray_program.specs.Outcomes.{Outcome}
+use Rattle.xray_program.specs.Outcomes.{Outcome, Unread}
 use Rattle.xray_program.specs.Reports.{TakeReport, report_inputs}
-use Rattle.xray_program.specs.ReportTakes.{ImageTurn, IsReportTaken}
+use Rattle.xray_program.specs.ReportTakes.{ImageTurn, IsReportTaken, StopsReport}
 use Rattle.xray_program.specs.Takes.{AreTaken, AreTakings, Gives, IsMaybeTaken, IsMaybeTaking, IsTaken}
-use Rattle.xray_program.specs.Taking.{DeskReads, Sound, TakeMaybe}
+use Rattle.xray_program.specs.Taking.{DeskReads, Faulty, Form, Sound, Take, TakeMaybe}
 use Rattle.xray_program.specs.declared.report_inputs.ReportInputs.{ReportInputs}
 use Rattle.xray_program.specs.declared.stop.Stop.{Stop}
 use Rattle.xray_program.proofs.Meanings.{HoldsBytes, IsAlone, IsDecided, IsJudged, SomeOutcome, decided_by, judged_by, maybe_alone, some_maybe, some_take, take_alone}
 use Rattle.xray_program.proofs.Ordering.{read_on, stop_handed}
-use Rattle.xray_program.proofs.Turns.{Leads, leads, leads_on, maybe_leads_on, maybe_stops_at, stops_at}
+use Rattle.xray_program.proofs.Turns.{Leads, leads, leads_on, maybe_leads_on, maybe_stops_at, stops_at, turn_came}
 
 -- ---- the turns
 
@@ -38,9 +38,9 @@ to_image held trace image next t given =
 pub report_taken : (trace : List ℕ) (image : Option (List ℕ)) (next : Trace → Option Program → Outcome → Type 0) (before after : DeskView)
     (result : Result ReportInputs Stop) → IsReportTaken trace image before after result
     → AreTaken (λ reads. TakeReport reads before.held trace image next) (λ inputs. next inputs.trace inputs.image) before after result
-report_taken trace image next before after (Ok inputs) (given, turn) = λ outcome is.
+report_taken trace image next before after (Ok inputs) (given, turn) = λ reads outcome is.
     maybe_leads_on image_form (λ reads. TakeReport reads before.held trace image next) before turn.mid after image (λ reads program. next inputs.trace program)
-    inputs.image (to_image before.held trace image next inputs.trace given) turn.same turn.taken Sound outcome is
+    inputs.image (to_image before.held trace image next inputs.trace given) turn.same turn.taken reads outcome is
 report_taken trace image next before after (Err stop) (inl taken) =
     stops_at trace_form (λ reads. TakeReport reads before.held trace image next) before before after trace
     (λ reads t. TakeMaybe image_form reads before.held image (λ program. next t program)) stop
@@ -75,19 +75,65 @@ image_read along both first second third trace None value went then =
 image_read along both first second third trace (Some image) value went then =
     read_on along both first second third ((trace, 67108864) ∷ []) image 4194304 went then
 
+-- the turn of the trace had come; and that of the image
+pub trace_came : (held : List ℕ → Entry) (trace : List ℕ) (image : Option (List ℕ)) → StopsReport Faulty held trace image (Unread trace)
+trace_came held trace image =
+    turn_came trace_form (λ reads. StopsReport reads held trace image) held trace
+    (λ reads t. TakeMaybe image_form reads held image (λ program outcome. ⊥)) (leads (λ reads. StopsReport reads held trace image))
+
+image_came : (held : List ℕ → Entry) (trace image : List ℕ) (t : Trace) → Gives trace_form (held trace) t
+    → StopsReport Faulty held trace (Some image) (Unread image)
+image_came held trace image t given =
+    turn_came image_form (λ reads. StopsReport reads held trace (Some image)) held image (λ reads program outcome. ⊥)
+    (to_image held trace (Some image) (λ t program outcome. ⊥) t given)
+
 -- the image was a stop
 pub image_stopped : {S Y : Type 0} (along : S → S → List Call → Type 0) → Composes along → (first second third : S) (before after : DeskView)
-    (trace : List ℕ) (image : Option (List ℕ)) (result : Result Y Stop) (stop : Stop) → IsErrAnd result (λ s. s ≡ stop)
+    (held : List ℕ → Entry) (trace : List ℕ) (image : Option (List ℕ)) (t : Trace) → Gives trace_form (held trace) t
+    → (result : Result Y Stop) (stop : Stop) → IsErrAnd result (λ s. s ≡ stop)
     → IsMaybeTaken image_form image before after (Err stop) → Went (along first second) (ReadsAll ((trace, 67108864) ∷ []))
     → (let taken : Result (Option Program) Stop = Err stop in Went (along second third) (IsMaybeTaking image 4194304 taken))
-    → Went (along first third) (AreTakings (report_inputs trace image) result)
-image_stopped along both first second third before after trace None result stop is taken went then = absurd (never taken)
+    → Went (along first third) (AreTakings (λ reads. StopsReport reads held trace image) (report_inputs trace image) result)
+image_stopped along both first second third before after held trace None t given result stop is taken went then = absurd (never taken)
   where
     never : (let one : Result (Option Program) Stop = Err stop in let other : Result (Option Program) Stop = Ok None in one ≡ other) → ⊥
     never e = cc
-image_stopped along both first second third before after trace (Some image) result stop is taken went then =
-    stop_handed along both first second third image_form before after (report_inputs trace (Some image)) ((trace, 67108864) ∷ []) [] image result stop is refl
-    taken went then
+image_stopped along both first second third before after held trace (Some image) t given result stop is taken went then =
+    stop_handed along both first second third image_form before after (report_inputs trace (Some image)) ((trace, 67108864) ∷ []) [] image result stop
+    (λ reads. StopsReport reads held trace (Some image)) (image_came held trace image t given) is refl taken went then
+
+-- what comes where a turn fails comes whatever follows the inputs
+take_more : {X : Type 0} (form : Form X) (reads : DeskReads) (held : List ℕ → Entry) (name : List ℕ) (less more : X → Outcome → Type 0)
+    → ((value : X) (outcome : Outcome) → less value outcome → more value outcome) → (outcome : Outcome)
+    → Take form reads held name less outcome → Take form reads held name more outcome
+take_more form reads held name less more goes outcome (inl gone) = inl gone
+take_more form reads held name less more goes outcome (inr (bytes, may, inl long)) = inr (bytes, may, inl long)
+take_more form reads held name less more goes outcome (inr (bytes, may, inr (within, inl refused))) = inr (bytes, may, inr (within, inl refused))
+take_more form reads held name less more goes outcome (inr (bytes, may, inr (within, inr (value, read, is)))) =
+    inr (bytes, may, inr (within, inr (value, read, goes value outcome is)))
+
+maybe_more : (reads : DeskReads) (held : List ℕ → Entry) (image : Option (List ℕ)) (more : Option Program → Outcome → Type 0) (outcome : Outcome)
+    → TakeMaybe image_form reads held image (λ program outcome. ⊥) outcome → TakeMaybe image_form reads held image more outcome
+maybe_more reads held None more outcome is = absurd is
+maybe_more reads held (Some image) more outcome is =
+    take_more image_form reads held image (λ program outcome. ⊥) (λ program. more (Some program)) (λ program other never. absurd never) outcome is
+
+stops_too : (reads : DeskReads) (held : List ℕ → Entry) (trace : List ℕ) (image : Option (List ℕ)) (next : Trace → Option Program → Outcome → Type 0)
+    (outcome : Outcome) → StopsReport reads held trace image outcome → TakeReport reads held trace image next outcome
+stops_too reads held trace image next outcome is =
+    take_more trace_form reads held trace (λ t. TakeMaybe image_form reads held image (λ program other. ⊥))
+    (λ t. TakeMaybe image_form reads held image (λ program. next t program)) (λ t other. maybe_more reads held image (next t) other) outcome is
+
+pub report_takings : (held : List ℕ → Entry) (trace : List ℕ) (image : Option (List ℕ)) (next : Trace → Option Program → Outcome → Type 0)
+    (Way : List Call → Type 0) (result : Result ReportInputs Stop)
+    → Went Way (AreTakings (λ reads. StopsReport reads held trace image) (report_inputs trace image) result)
+    → Went Way (AreTakings (λ reads. TakeReport reads held trace image next) (report_inputs trace image) result)
+report_takings held trace image next Way (Ok inputs) went = went
+report_takings held trace image next Way (Err stop) went = record {
+  calls = went.calls;
+  way = went.way;
+  are = (went.are.0, went.are.1, stops_too Faulty held trace image next (Unread went.are.0) went.are.2, went.are.3);
+}
 
 -- ---- what comes of a report
 

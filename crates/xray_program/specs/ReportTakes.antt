@@ -2,9 +2,13 @@
 use Rattle.std.specs.Prelude.{◌≡◌, ◌⊎◌, ◌≤◌, ℕ, List, Option, Result, Ok, Err}
 use Rattle.fdr_file.specs.declared.trace.Trace.{Trace}
 use Rattle.xray_image.specs.Program.{Program}
+use Rattle.xray_io.specs.Desk.{Entry}
 use Rattle.xray_io.specs.World.{DeskView}
 use Rattle.xray_program.specs.Inputs.{image_form, trace_form}
+use Rattle.xray_program.specs.Outcomes.{Outcome}
+use Rattle.xray_program.specs.Reports.{TakeReport}
 use Rattle.xray_program.specs.Takes.{Gives, IsMaybeTaken, IsTaken}
+use Rattle.xray_program.specs.Taking.{DeskReads}
 use Rattle.xray_program.specs.declared.report_inputs.ReportInputs.{ReportInputs}
 use Rattle.xray_program.specs.declared.stop.Stop.{Stop}
 
@@ -22,3 +26,7 @@ IsReportTaken trace image before after (Ok inputs) =
 IsReportTaken trace image before after (Err stop) =
     IsTaken trace_form trace before after (Err stop)
     ⊎ ((t : Trace) × Gives trace_form (before.held trace) t × ImageTurn image before after (Err stop))
+
+-- what comes of the inputs where one of them is a stop, and nothing follows
+abbrev pub StopsReport : DeskReads → (List ℕ → Entry) → (trace : List ℕ) → (image : Option (List ℕ)) → Outcome → Type 0
+StopsReport reads held trace image = TakeReport reads held trace image (λ _ _ _. ⊥)

@@ -3,7 +3,7 @@ ghost use Rattle.std.specs.Prelude.{◌≡◌, ◌≤◌, option_map};
 ghost use Rattle.xray_io.specs.Calls.{Went};
 ghost use Rattle.xray_io.specs.World.{desk_view};
 ghost use Rattle.xray_program.specs.Reports.{report_inputs};
-ghost use Rattle.xray_program.specs.ReportTakes.{IsReportTaken};
+ghost use Rattle.xray_program.specs.ReportTakes.{IsReportTaken, StopsReport};
 ghost use Rattle.xray_program.specs.Takes.{AreTakings};
 
 use crate::input::{take, take_maybe};
@@ -35,8 +35,9 @@ pub(crate) fn take_report<'a, D: Desk>(
     ensures held { D.held desk.new ≡ D.held desk.old }
     ensures later { D.read_faults desk.old ≤ D.read_faults desk.new }
     ensures writes { D.write_faults desk.new ≡ D.write_faults desk.old }
-    ensures calls { Went (D.along desk.old desk.new)
-        (AreTakings (report_inputs trace.now (option_map (λ n. n.now) image.entry)) result) }
+    ensures calls { let image = option_map (λ n. n.now) image.entry in Went (D.along desk.old desk.new)
+        (AreTakings (λ reads. StopsReport reads (D.held desk.old) trace.now image)
+        (report_inputs trace.now image) result) }
 {
     let trace = take(alloc, desk, trace, &TraceKind)?;
     let image = take_maybe(alloc, desk, image, &ImageKind)?;
