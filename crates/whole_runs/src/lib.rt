@@ -17,6 +17,8 @@ mod runs;
 #[cfg(test)]
 mod sim;
 #[cfg(test)]
+mod stack;
+#[cfg(test)]
 mod trace_bytes;
 #[cfg(test)]
 mod traces;
