@@ -44,7 +44,7 @@ map_cond : (b : Bool) (pairs : List Pair) → map (λ pair. pair.duration) (cond
 map_cond true pairs = refl
 map_cond false pairs = refl
 
-durations_of-cons : (func : ℕ) (l : Logged) (h : List Logged)
+pub durations_of-cons : (func : ℕ) (l : Logged) (h : List Logged)
     → durations_of func (l ∷ h) ≡ durations_of func h ++ cond (nat_eq l.event.func func) (durations_in (pair_after l h)) []
 durations_of-cons func l h =
     let made = option_to_list (pair_after l h) in

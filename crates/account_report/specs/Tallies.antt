@@ -1,5 +1,5 @@
 -- What is kept of each function while the events go by, for the contracts of private functions.
-use Rattle.std.specs.Prelude.{◌≡◌, ◌+◌, ◌==◌, Bool, ℕ, List, [], ◌++◌, map, reverse, count_by, nat_eq, unwrap_or, is_some, Option}
+use Rattle.std.specs.Prelude.{◌≡◌, ◌+◌, ◌-◌, ◌==◌, Bool, ℕ, List, [], ◌++◌, length, map, reverse, count_by, nat_eq, unwrap_or, is_some, Option}
 use Rattle.std.specs.List.{list_any}
 use Rattle.std.specs.Option.{option_to_list}
 use Rattle.std.specs.HashMap.{get, HashMap}
@@ -12,7 +12,8 @@ use Rattle.stack_rebuild.specs.declared.call.Pair.{Pair}
 use Rattle.stack_rebuild.specs.Calls.{Standing, standing_after}
 use Rattle.stack_rebuild.specs.Histories.{Logged, logged, of_thread}
 use Rattle.account_report.specs.declared.row.AccountRow.{AccountRow}
-use Rattle.account_report.specs.Account.{durations_of, is_entry_of, is_exit_of, row_with}
+use Rattle.account_report.specs.Account.{durations_of, is_entry_of, is_exit_of, row_from}
+use Rattle.account_report.specs.Ascending.{ascending}
 
 -- the durations of a function, and how many entries and exits it had
 pub record Tallied : Type 0 where
@@ -70,6 +71,11 @@ going_on thread events history = reverse (map (logged thread) events) ++ history
 pub record Reached (thread : ℕ) (history : List Logged) (calls : Standing) (tallies : Table Tallied) : Type 0 where
   pub stands : calls ≡ standing_after (of_thread thread history)
   pub tallied : AreTallies tallies history
+
+-- the row of a function with these durations, in any order, and as many entries and exits, of which each pair has one
+abbrev pub row_with : ℕ → List ℕ → ℕ → ℕ → AccountRow
+row_with func durations entries exits =
+    let sorted = ascending durations in row_from func sorted (entries - length sorted) (exits - length sorted)
 
 -- the row of a function in a table
 abbrev pub row_of_entry : ℕ × Tallied → AccountRow

@@ -1,9 +1,9 @@
 //! What is kept of each function while the events go by.
 
-ghost use Rattle.std.specs.Prelude.{◌≡◌, ◌==◌, ◌||◌, ℕ, nat_eq, is_some, if◌then◌else◌, OnOk, slice_index};
+ghost use Rattle.std.specs.Prelude.{◌≡◌, ◌-◌, ◌==◌, ◌||◌, ℕ, length, nat_eq, is_some, if◌then◌else◌, OnOk, slice_index};
 ghost use Rattle.std.specs.HashMap.{get};
-ghost use Rattle.account_report.specs.Account.{row_from, row_with};
-ghost use Rattle.account_report.specs.Tallies.{durations_in, no_tally, tally_in, with_event};
+ghost use Rattle.account_report.specs.Account.{row_from};
+ghost use Rattle.account_report.specs.Tallies.{durations_in, no_tally, row_with, tally_in, with_event};
 
 use crate::row::AccountRow;
 use fdr_record::{Event, Kind};
@@ -76,9 +76,11 @@ impl Tally {
     }
 }
 
-/// The row of a function with these durations, which are in ascending order.
+/// The row of a function with these durations, which are in ascending order, and as many entries and
+/// exits. Each pair has one of both.
 fn row(func: u32, durations: &[u64], entries: u64, exits: u64) -> AccountRow
-    ensures { result ≡ row_from func durations.now entries exits }
+    ensures { result ≡ row_from func durations.now
+        (entries - length durations.now) (exits - length durations.now) }
 {
     let n = durations.len();
     AccountRow {

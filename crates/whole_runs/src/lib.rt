@@ -3,6 +3,8 @@
 #![tactic(auto)]
 
 #[cfg(test)]
+mod account;
+#[cfg(test)]
 mod asm;
 #[cfg(test)]
 mod desks;
@@ -14,5 +16,9 @@ mod plain;
 mod runs;
 #[cfg(test)]
 mod sim;
+#[cfg(test)]
+mod stack;
+#[cfg(test)]
+mod trace_bytes;
 #[cfg(test)]
 mod traces;

@@ -2,14 +2,17 @@
 use Rattle.std.specs.Prelude.{◌≡◌, ◌≢◌, ℕ, List, [], Bool, true, MatchOption, Option}
 use Rattle.std.specs.Option.{option_map_or}
 use Rattle.xray_io.specs.Desk.{Entry, Untold}
+use Rattle.xray_program.specs.Account.{AccountComes}
 use Rattle.xray_program.specs.Asm.{AsmComes}
+use Rattle.xray_program.specs.Convert.{ConvertComes}
 use Rattle.xray_program.specs.Extract.{ExtractComes}
 use Rattle.xray_program.specs.Outcomes.{Outcome, BadLine, Unread}
 use Rattle.xray_program.specs.Plain.{PlainComes}
 use Rattle.xray_program.specs.Setups.{setup_of}
 use Rattle.xray_program.specs.Sim.{SimComes}
+use Rattle.xray_program.specs.Stack.{StackComes}
 use Rattle.xray_program.specs.Taking.{DeskReads, Sound, Faulty}
-use Rattle.command_words.specs.Words.{Command, Sim, Plain, Extract, Asm, outputs_of}
+use Rattle.command_words.specs.Words.{Command, Sim, Plain, Extract, Asm, Account, Stack, Convert, outputs_of}
 
 -- ---- a line a command
 
@@ -19,6 +22,9 @@ Comes reads held (Sim image script schedule trace audit options) = SimComes read
 Comes reads held (Plain image bounds) = PlainComes reads held image bounds
 Comes reads held (Extract image) = ExtractComes reads held image
 Comes reads held (Asm text image threshold) = AsmComes reads held text image threshold
+Comes reads held (Account trace image options) = AccountComes reads held trace image options
+Comes reads held (Stack trace image format) = StackComes reads held trace image format
+Comes reads held (Convert trace image) = ConvertComes reads held trace image
 
 -- whether one thing alone comes of it, over what a desk holds: not so where threads run in an order of their own
 abbrev pub is_decided : Command → Bool
@@ -26,6 +32,9 @@ is_decided (Sim image script schedule trace audit options) = true
 is_decided (Plain image bounds) = true
 is_decided (Extract image) = true
 is_decided (Asm text image threshold) = true
+is_decided (Account trace image options) = true
+is_decided (Stack trace image format) = true
+is_decided (Convert trace image) = true
 
 -- whether it waits for nobody, and starts no thread
 abbrev pub is_still : Command → Bool
@@ -33,6 +42,9 @@ is_still (Sim image script schedule trace audit options) = true
 is_still (Plain image bounds) = true
 is_still (Extract image) = true
 is_still (Asm text image threshold) = true
+is_still (Account trace image options) = true
+is_still (Stack trace image format) = true
+is_still (Convert trace image) = true
 
 -- ---- what was said: a command, or none
 

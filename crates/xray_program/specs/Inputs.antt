@@ -11,6 +11,9 @@ use Rattle.patch_script.specs.FaultWords.{script_words}
 use Rattle.step_sim.specs.declared.turns.Turns.{Turns}
 use Rattle.step_sim.specs.FaultWords.{schedule_words}
 use Rattle.step_sim.specs.Schedules.{schedule_of}
+use Rattle.fdr_file.specs.declared.trace.Trace.{Trace}
+use Rattle.fdr_file.specs.Traces.{trace_of}
+use Rattle.trace_words.specs.TraceWords.{trace_words}
 use Rattle.xray_program.specs.Taking.{Form}
 
 -- the words of a refusal, where a fault has them
@@ -47,3 +50,7 @@ script_form program threads = form_by (codes "script") 1048576 (plan_of program 
 -- the schedule of a replay, for so many threads
 abbrev pub schedule_form : ℕ → Form (List Turns)
 schedule_form threads = form_by (codes "schedule") 16777216 (schedule_of threads) schedule_words
+
+-- a trace
+abbrev pub trace_form : Form Trace
+trace_form = form_by (codes "trace") 67108864 trace_of trace_words

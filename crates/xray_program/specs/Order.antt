@@ -6,10 +6,11 @@ use Rattle.xray_io.specs.Outputs.{IsMaking, Makes}
 use Rattle.xray_io.specs.Reads.{Reads, ReadsSome, ReadsUpTo, ReadsUpToFault}
 use Rattle.xray_io.specs.World.{DeskView}
 use Rattle.xray_io.specs.declared.faults.WriteFault.{WriteFault}
+use Rattle.xray_program.specs.Reports.{report_inputs}
 use Rattle.xray_program.specs.Commands.{ComesOf, HadItsTurn}
 use Rattle.xray_program.specs.Taking.{AllAccepted}
 use Rattle.xray_program.specs.Outcomes.{BadLine, Unread, TooLong, Refused, Done, Fell, Ending, With, Unwritten, NoMemory}
-use Rattle.command_words.specs.Words.{Command, Sim, Plain, Extract, Asm}
+use Rattle.command_words.specs.Words.{Command, Sim, Plain, Extract, Asm, Account, Stack, Convert}
 
 -- ---- a line a command
 
@@ -19,6 +20,9 @@ inputs_of (Sim image script schedule trace audit options) = (image, 4194304) ∷
 inputs_of (Plain image bounds) = (image, 4194304) ∷ []
 inputs_of (Extract image) = (image, 4194304) ∷ []
 inputs_of (Asm text image threshold) = (text, 4194304) ∷ []
+inputs_of (Account trace image options) = report_inputs trace image
+inputs_of (Stack trace image format) = report_inputs trace image
+inputs_of (Convert trace image) = report_inputs trace image
 
 -- ---- inputs
 

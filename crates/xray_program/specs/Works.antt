@@ -9,7 +9,7 @@ use Rattle.xray_program.specs.Commands.{Means, HadItsTurn, outputs_named}
 use Rattle.xray_program.specs.Order.{FailsAtOutput, InOrder, IsNoCall, IsUnmade, MakesAll}
 use Rattle.xray_program.specs.Outcomes.{Outcome, BadLine, Unread, Refused, Done, Fell, Ending, With, Unwritten, NoMemory, status_at, line_at, written_by}
 use Rattle.xray_program.specs.Outputs.{AreWhole, FailsAt, FailsWriting, WritesNothing}
-use Rattle.command_words.specs.Words.{Command, Sim, Plain, Extract, Asm}
+use Rattle.command_words.specs.Words.{Command, Sim, Plain, Extract, Asm, Account, Stack, Convert}
 use Rattle.traced_run.specs.Fits.{SetupFits}
 use Rattle.xray_program.specs.Setups.{setup_of}
 use Rattle.xray_io.specs.World.{DeskView, SinkView}
@@ -119,6 +119,9 @@ FitsTraces (Sim image script schedule trace audit options) = SetupFits (setup_of
 FitsTraces (Plain image bounds) = Unit {0}
 FitsTraces (Extract image) = Unit {0}
 FitsTraces (Asm text image threshold) = Unit {0}
+FitsTraces (Account trace image options) = Unit {0}
+FitsTraces (Stack trace image format) = Unit {0}
+FitsTraces (Convert trace image) = Unit {0}
 
 abbrev pub SaidFits : Option Command → Type 0
 SaidFits None = Unit {0}

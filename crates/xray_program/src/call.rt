@@ -10,10 +10,13 @@ ghost use Rattle.xray_program.specs.Commands.{IsStill};
 ghost use Rattle.xray_program.specs.Stops.{answer_of, told_of};
 ghost use Rattle.xray_program.specs.Works.{Ends, FitsTraces, SaidFits};
 
+use crate::account::Account;
 use crate::asm::Asm;
+use crate::convert::Convert;
 use crate::extract::Extract;
 use crate::plain::Plain;
 use crate::sim::Sim;
+use crate::stack::Stack;
 use crate::stop::Stop;
 use crate::traced::TraceFiles;
 use crate::work::perform;
@@ -164,6 +167,41 @@ fn perform_command<'a, D: Desk, O: Sink>(
                 desk,
                 out,
             )
+        }
+        Command::Account {
+            trace,
+            image,
+            options,
+        } => {
+            perform(
+                alloc,
+                &Account {
+                    trace,
+                    image,
+                    options,
+                },
+                desk,
+                out,
+            )
+        }
+        Command::Stack {
+            trace,
+            image,
+            format,
+        } => {
+            perform(
+                alloc,
+                &Stack {
+                    trace,
+                    image,
+                    format,
+                },
+                desk,
+                out,
+            )
+        }
+        Command::Convert { trace, image } => {
+            perform(alloc, &Convert { trace, image }, desk, out)
         }
     }
 }

@@ -4,9 +4,11 @@ ghost use Rattle.command_words.specs.Ranges.{IsThreadCount};
 use crate::image_file::ImageFile;
 use crate::input::Kind;
 use asm_text::{AsmFault, assemble};
+use fdr_file::{Trace, read_trace};
 use patch_script::{Script, ScriptFault, read_script};
 use std::alloc::Global;
 use step_sim::{Schedule, ScheduleFault, read_schedule};
+use trace_words::TraceRefusal;
 use xray_image::{Image, ImageFault, read_image};
 
 /// How many bytes an image file has at most.
@@ -20,6 +22,9 @@ const SCRIPT_LIMIT: u64 = 1_048_576;
 
 /// How many bytes a schedule has at most.
 const SCHEDULE_LIMIT: u64 = 16_777_216;
+
+/// How many bytes a trace has at most.
+const TRACE_LIMIT: u64 = 67_108_864;
 
 /// An image file.
 #[derive(Drop)]
@@ -151,5 +156,37 @@ impl Kind for ScheduleKind {
 
     fn judge(&self, alloc: Global, bytes: &[u8]) -> Result<Schedule, ScheduleFault> {
         read_schedule(alloc, bytes, self.threads)
+    }
+}
+
+/// A trace.
+#[derive(Drop)]
+pub(crate) struct TraceKind;
+
+impl Kind for TraceKind {
+    ghost use Rattle.std.specs.Prelude.{⊤};
+    ghost use Rattle.xray_program.specs.Inputs.{trace_form};
+
+    type Value = Trace;
+
+    type Refusal = TraceRefusal;
+
+    ghost form = { λ _. trace_form };
+
+    ghost fits = { λ _ _. ⊤ };
+
+    fn word(&self) -> &'static str {
+        "trace"
+    }
+
+    fn limit(&self) -> u64 {
+        TRACE_LIMIT
+    }
+
+    fn judge(&self, alloc: Global, bytes: &[u8]) -> Result<Trace, TraceRefusal> {
+        match read_trace(alloc, bytes) {
+            Ok(trace) => Ok(trace),
+            Err(fault) => Err(TraceRefusal { fault }),
+        }
     }
 }

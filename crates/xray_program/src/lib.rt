@@ -1,7 +1,7 @@
 //! The top call: all that the program does, from the words of its command line to what it writes.
 //!
 //! The words are read first, together with the wall time (`command_words`). A command is one module (`sim`,
-//! `plain`, `extract`, `asm`), which implements `Work`: it takes its inputs in the order of the words
+//! `plain`, `extract`, `asm`, `account`, `stack`, `convert`), which implements `Work`: it takes its inputs in the order of the words
 //! (`input`), each of which is read, measured and judged before the next is opened, so the first that
 //! fails decides; then it does its work, and writes its outputs and its text (`delivery`); what is written
 //! of traced threads is in `traced`. Last a line on err says what stopped the call, if something did
@@ -12,8 +12,11 @@
 //! world after it. A further command adds a case to `Comes`, and nothing to the contract.
 #![tactic(auto)]
 
+mod account;
+mod account_options;
 mod asm;
 mod call;
+mod convert;
 mod delivery;
 mod extract;
 mod image_file;
@@ -21,9 +24,11 @@ mod input;
 mod inputs;
 mod laws;
 mod plain;
+mod report_inputs;
 mod setups;
 mod sim;
 mod sim_inputs;
+mod stack;
 mod stop;
 mod text;
 mod traced;
