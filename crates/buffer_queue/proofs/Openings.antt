@@ -1,5 +1,5 @@
 -- The steps that open a pool keep the rule: pass 1 is made, queues fresh buffers, and makes the other passes.
-use Rattle.std.proofs.Common.{◌≡◌, ◌≢◌, ℕ, zero, suc, ◌+◌, ◌<◌, ◌≤◌, ◌⊎◌, true, false, true≢false, List, [], ◌∷◌, ◌++◌, length, replicate, set, sym, refl, ap, ◌∙◌, subst, ⊎_elim, append_assoc, append-nil, length-set, arith, All, inr, inl}
+use Rattle.std.proofs.Common.{◌≡◌, ℕ, zero, suc, ◌+◌, ◌<◌, ◌≤◌, true≢false, List, [], ◌∷◌, ◌++◌, length, replicate, set, sym, refl, ap, ◌∙◌, subst, ⊎_elim, append_assoc, append-nil, length-set, arith, inr, inl}
 use Rattle.std.proofs.lemmas.List.{length_push, get_or_past}
 use mathlib.Core.Option.{some, some-injective, some-ne-none}
 use lib.ListN.{get_elem?}
@@ -10,8 +10,8 @@ use Rattle.buffer_queue.specs.declared.view.View.{View}
 use Rattle.buffer_queue.specs.Views.{giving, head_view, new_view, opener, spent, stocking}
 use Rattle.buffer_queue.specs.Left.{row_at}
 use Rattle.buffer_queue.specs.Steps.{MayGive, MayStock}
-use Rattle.buffer_queue.specs.Rule.{Fits, HeadFits, IsCounted, IsUnopened, KeepsOpen, KeepsPool, PoolState, one_if, turning}
-use Rattle.buffer_queue.proofs.Places.{in_range, all_set, turning_set, turning_push, is_open, fits_live, fits_still, replicate_push, row_at_longer, at_new}
+use Rattle.buffer_queue.specs.Rule.{Fits, IsCounted, IsUnopened, KeepsOpen, KeepsPool, PoolState, turning}
+use Rattle.buffer_queue.proofs.Places.{all_set, turning_set, turning_push, is_open, fits_live, fits_still, replicate_push, row_at_longer, at_new}
 use Rattle.buffer_queue.proofs.Turns.{settled}
 
 -- ---- pass 1 is made

@@ -1,5 +1,5 @@
 -- A put and a take keep the rule. There is room for the put, and something to take.
-use Rattle.std.proofs.Common.{◌≡◌, ◌≢◌, ℕ, zero, suc, ◌+◌, ◌<◌, ◌≤◌, ◌⊎◌, Bool, true, false, List, [], ◌∷◌, ◌++◌, length, replicate, set, sym, refl, ap, ◌∙◌, subst, ⊎_elim, append_assoc, append-nil, length-set, get_or-set_same, get_or-set_other, arith, eq-or-lt_of_le, All, inr, inl, zero-le}
+use Rattle.std.proofs.Common.{◌≡◌, ◌≢◌, ℕ, zero, suc, ◌+◌, ◌<◌, true, false, List, [], ◌∷◌, ◌++◌, length, replicate, set, sym, refl, ap, ◌∙◌, subst, ⊎_elim, append_assoc, append-nil, length-set, get_or-set_same, get_or-set_other, arith, eq-or-lt_of_le, All, inr, zero-le}
 use Rattle.std.proofs.lemmas.List.{length_push, nil_from_length}
 use Rattle.std.proofs.lemmas.List.Elements.{All-push, All-tail, All-head}
 use Rattle.std.proofs.lemmas.Bool.{cases_eq, cases_Bool, eq-eqb, ne_eqb}
@@ -12,7 +12,7 @@ use Rattle.buffer_queue.specs.declared.view.View.{View}
 use Rattle.buffer_queue.specs.Views.{putting, taking}
 use Rattle.buffer_queue.specs.Left.{IsSuffix, IsUsed, of_thread, row_at}
 use Rattle.buffer_queue.specs.Steps.{IsStocked, MayPut}
-use Rattle.buffer_queue.specs.Rule.{Fits, IsCounted, KeepsOpen, KeepsPool, PoolState, one_if, turning}
+use Rattle.buffer_queue.specs.Rule.{Fits, IsCounted, KeepsOpen, KeepsPool, PoolState, one_if}
 use Rattle.buffer_queue.proofs.Places.{in_range, all_set, turning_set, turning_room, turning_some, is_open, fits_live, fits_still, of_same, of_other, of_push, counted_push}
 
 -- ---- the put

@@ -38,7 +38,7 @@ opener = record spent { opens = true }
 abbrev pub new_view : Setup → ℕ → View
 new_view setup thread = record spent { live = true; thread = thread; setup = setup }
 
--- pass 1 of a pool that has made so many passes and queued so many fresh buffers
+-- pass 1, with `given` passes made and `pushed` fresh buffers queued
 abbrev pub head_view : Setup → ℕ → ℕ → View
 head_view setup given pushed = record (new_view setup 1) { given = given; pushed = pushed }
 

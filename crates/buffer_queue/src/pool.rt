@@ -26,7 +26,7 @@ pub struct Pool {
 }
 
 impl Model for Pool {
-    ghost use Rattle.std.specs.Prelude.{◌≡◌};
+    ghost use Rattle.std.specs.Prelude.{◌≡◌, ◌≤◌};
     ghost use Rattle.crossbeam_queue.specs.Passes.{ruled_capacity};
     ghost use Rattle.buffer_queue.specs.Passes.{PoolIs};
 
@@ -34,7 +34,7 @@ impl Model for Pool {
 
     ghost view = { λ p. record { pool = p.queue.table.shared.table_id; setup = p.setup } };
 
-    ghost invariant = { λ p. ruled_capacity p.queue ≡ p.setup.max };
+    ghost invariant = { λ p. (ruled_capacity p.queue ≡ p.setup.max) × (1 ≤ p.setup.threads) };
 }
 
 impl Pool {
@@ -93,7 +93,6 @@ impl Pool {
     pub fn drain<R: Wait>(self, rt: &R, passes: Vec<PoolPass>, into: &mut Vec<Buffer>)
         requires passes { AreOf self 1 passes.items }
         requires all { vec_len passes ≡ self.setup.threads }
-        requires threads { 1 ≤ self.setup.threads }
         requires room { vec_len into.old + self.setup.max ≤ vec_capacity into.old }
         ensures { (left : List Filled) × (into.new.items ≡ into.old.items ++ left) × IsLeft self.setup (sealed_of passes.items) left }
     {
