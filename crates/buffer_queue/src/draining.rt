@@ -81,7 +81,8 @@ pub(crate) fn drain_all<R: Wait>(
     requires stocked { (view head).pushed + setup.now.threads ≡ setup.now.max }
     requires none { (view head).drained ≡ [] }
     requires room { vec_len into.old + setup.now.max ≤ vec_capacity into.old }
-    ensures { (left : List Filled) × (into.new.items ≡ into.old.items ++ left) × IsLeft setup.now ((view head).sealed ∷ (view head).returned) left }
+    ensures left { (left : List Filled) × (into.new.items ≡ into.old.items ++ left) × IsLeft setup.now ((view head).sealed ∷ (view head).returned) left }
+    ensures capacity { vec_capacity into.new ≡ vec_capacity into.old }
 {
     let mut head = head;
     for _drained in 0..setup.max - setup.threads {

@@ -94,7 +94,8 @@ impl Pool {
         requires passes { AreOf self 1 passes.items }
         requires all { vec_len passes ≡ self.setup.threads }
         requires room { vec_len into.old + self.setup.max ≤ vec_capacity into.old }
-        ensures { (left : List Filled) × (into.new.items ≡ into.old.items ++ left) × IsLeft self.setup (sealed_of passes.items) left }
+        ensures left { (left : List Filled) × (into.new.items ≡ into.old.items ++ left) × IsLeft self.setup (sealed_of passes.items) left }
+        ensures capacity { vec_capacity into.new ≡ vec_capacity into.old }
     {
         let mut others = passes;
         let first = others.remove(0);

@@ -17,8 +17,8 @@ all_rows : (v w : View) (first : PassIs) (all rest : List PassIs) → w ≡ reco
 all_rows v w first all rest e s f r some_pass =
     ap (λ (y : View). y.sealed ∷ y.returned) e ∙ (ap (λ (l : List Filled). l ∷ sealed_of rest) s ∙ (ap (λ (l : List PassIs). first.sealed ∷ sealed_of l) r ∙ first_and_rest first all some_pass f))
 
-pub returns : goal.returns
-returns g c =
-    let e = c.drain_all.ensures in
+pub returns-clause-left : goal.returns-clause-left
+returns-clause-left g c =
+    let e = c.drain_all.ensures.left in
     let r = all_rows (view c.first.inside.pass) (view c.take_in_all-head.result) c.remove-first.result c.args.passes.items _ c.take_in_all-head.ensures.head (ap (λ (p : PassIs). p.sealed) c.first.view_is) c.remove-first.ensures.value c.remove-first.ensures.items (omega arith) in
     (e.0, e.1, subst (λ (y : Setup × List (List Filled)). IsLeft y.0 y.1 e.0) (λ i. (ap (λ (p : PoolIs). p.setup) c.self.view_is i, r i)) e.2)
