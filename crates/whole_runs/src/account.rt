@@ -98,7 +98,7 @@ fn an_account_is_printed_as_its_words_ask(rt: HostRuntime) -> Result<(), Fail> {
     Ok(())
 }
 
-/// How many bytes the longest name has.
+/// The length of the longest name in bytes.
 const LONGEST_NAME: usize = 255;
 
 #[test]

@@ -1,4 +1,4 @@
-//! `stack` and `convert`: their texts, their options, and a trace whose calls go too deep.
+//! `stack` and `convert`: their texts, their options, and a trace with calls that go too deep.
 use crate::runs::{IMAGE, Run, run_words};
 use crate::trace_bytes::{CPU, ENTRY, HEADER, ONE_CALL, PREAMBLE, RECURSION, file};
 use std::alloc::Global;
@@ -6,7 +6,7 @@ use std::process::Abort;
 use std::test::Fail;
 use xray_io::MemDesk;
 
-/// What the words say of a trace, and of the image that it was made of.
+/// What the words say about a trace, and about the image that it was made with.
 fn report<R: Abort>(rt: &R, alloc: Global, trace: &[u8], words: &[&str]) -> Result<Run, Fail> {
     let mut desk = MemDesk::new(alloc, Vec::new(alloc));
     desk.put("t", trace)?;
