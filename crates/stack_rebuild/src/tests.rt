@@ -47,7 +47,7 @@ fn trace_of(alloc: Global, events: &[Said]) -> Result<Trace, Fail> {
     })
 }
 
-/// A trace of calls that are made one in another, so many that more would be too many, and then more.
+/// A trace of calls, each made in the one before. `more` says by how many they are too many.
 fn deep_trace(alloc: Global, thread: u32, more: usize) -> Result<Trace, Fail> {
     let mut blocks = Vec::new(alloc);
     for _ in 0..MOST_OPEN + more {
@@ -60,7 +60,7 @@ fn deep_trace(alloc: Global, thread: u32, more: usize) -> Result<Trace, Fail> {
     })
 }
 
-/// The text of a trace's stacks without an image.
+/// The text of a trace's stacks, without an image.
 fn printed(alloc: Global, trace: &Trace, form: StackForm) -> Result<String, Fail> {
     let rows = stacks(alloc, trace).map_err(|_| "no stacks")?;
     let mut sink = MemSink::new(alloc, Vec::new(alloc));
@@ -71,7 +71,7 @@ fn printed(alloc: Global, trace: &Trace, form: StackForm) -> Result<String, Fail
 /// Events, and the lines of their stacks in the form for flame graphs.
 const ROWS: [(&[Said], &str); 6] = [
     (&[], ""),
-    // Each exit ends the innermost call of its function; the outermost has no pair.
+    // Each exit ends the innermost call of its function. The outermost call has no pair.
     (
         &[
             (1, Kind::Entry, 1, 0),
@@ -82,7 +82,7 @@ const ROWS: [(&[Said], &str); 6] = [
         ],
         "#1;#1 25\n#1;#1;#1 10\n",
     ),
-    // A tail exit ends a call, and what is called then isn't made in it.
+    // A tail exit ends a call. What is called after that isn't made in it.
     (
         &[
             (1, Kind::Entry, 1, 0),
@@ -92,7 +92,7 @@ const ROWS: [(&[Said], &str); 6] = [
         ],
         "#1 3\n#2 2\n",
     ),
-    // Two threads with one path, and two calls of one.
+    // Two threads with the same path, and two calls of one.
     (
         &[
             (2, Kind::Entry, 7, 0),
@@ -104,7 +104,7 @@ const ROWS: [(&[Said], &str); 6] = [
         ],
         "#7 7\n",
     ),
-    // The counter goes back, so a child takes more than its parent: nothing is left.
+    // The counter goes back, so a child takes longer than its parent: 0 is left.
     (
         &[
             (1, Kind::Entry, 1, 10),
@@ -114,7 +114,7 @@ const ROWS: [(&[Said], &str); 6] = [
         ],
         "#1 0\n#1;#2 50\n",
     ),
-    // What children's children took isn't taken off again.
+    // What a child's children took isn't subtracted a second time.
     (
         &[
             (1, Kind::Entry, 1, 0),
