@@ -23,11 +23,11 @@ lines_more line (x ∷ xs) (suc i) d within =
     let rest = lines_more line xs i d (omega arith) in
     rw add-one (append_assoc (line x) (flat_map line (take i xs)) (line (get_or xs i d)) ∙ ap (λ text. line x ++ text) (rest ∙ rw add-one refl))
 
--- the lines before one of a number, and those behind it
+-- the lines before this one, and the rest
 pub lines_split : {X : Type 0} (line : X → List ℕ) (xs : List X) (i : ℕ)
     → flat_map line (take i xs) ++ flat_map line (drop i xs) ≡ flat_map line xs
 lines_split line xs i = sym (flat_map-append line (take i xs) (drop i xs)) ∙ ap (flat_map line) (take-append-drop i xs)
 
--- what stands where a slice of rows has nothing
+-- what stands for a row that a slice doesn't have
 abbrev pub no_row : AccountRow
 no_row = record { func = 0; count = 0; min = 0; med = 0; p90 = 0; p99 = 0; max = 0; sum = 0; entries = 0; exits = 0 }

@@ -1,4 +1,4 @@
--- Each pair has one entry and one exit of its function: those that are left are in no pair.
+-- Each pair has one entry and one exit of its function. The others aren't in a pair.
 use Rattle.std.proofs.Common.{◌≡◌, ◌+◌, ◌<◌, ◌≤◌, ◌∙◌, ℕ, suc, Bool, true, false, not, cond, ◌&&◌, ◌||◌, List, [], ◌∷◌, length, count_by, refl, ap, sym, subst, arith, nat_eq, Option, Some, None}
 use Rattle.std.specs.List.{list_any}
 use Rattle.std.specs.Option.{option_to_list}
@@ -28,7 +28,7 @@ apart_too m n less = grind (arith, nat_tests)
 
 -- ---- the pairs of a thread
 
--- a position is that of an entry of one of these pairs; of an exit of one
+-- a position is that of an entry of one of these pairs, or of an exit of one
 abbrev has_entry : List Pair → ℕ → Bool
 has_entry pairs i = list_any (λ pair. nat_eq pair.entry i) pairs
 
@@ -40,8 +40,8 @@ abbrev entry_at : ℕ → List Event → ℕ → Bool
 entry_at func [] k = false
 entry_at func (e ∷ es) k = cond (nat_eq (length es) k) (nat_eq e.func func && enters e.kind) (entry_at func es k)
 
--- Open calls, from the innermost outwards, of which each began before a position: their entries are in no pair, and are those that they
--- say.
+-- Open calls, from the innermost to the outermost. Each began before a position. Their entries aren't in a pair, and
+-- are those that they name.
 abbrev OpenBelow : List Event → ℕ → List Call → Type 0
 OpenBelow es bound [] = Unit {0}
 OpenBelow es bound (c ∷ outer) =
@@ -51,7 +51,7 @@ open_later : (es : List Event) (bound later : ℕ) (calls : List Call) → bound
 open_later es bound later [] up standing = tt
 open_later es bound later (c ∷ outer) up standing = (omega (arith, standing.0, up), standing.1, standing.2, standing.3)
 
--- they stand after another event that makes no pair with them
+-- they stay open after another event that makes no pair with them
 still_open : (e : Event) (es : List Event) (bound : ℕ) (calls : List Call) → bound ≤ length es
     → ((i : ℕ) → i < bound → has_entry (pairs_in (e ∷ es)) i ≡ has_entry (pairs_in es) i)
     → OpenBelow es bound calls → OpenBelow (e ∷ es) bound calls
@@ -64,7 +64,7 @@ still_open e es bound (c ∷ outer) within same standing = (
   still_open e es c.entry outer (omega (arith, standing.0, within)) (λ i below. same i (omega (arith, below, standing.0))) standing.3,
 )
 
--- the call that an exit ends is open, as are those outside it
+-- the call that an exit ends is open, and so are those outside it
 pub record Ended (es : List Event) (bound func : ℕ) (c : Call) (outer : List Call) : Type 0 where
   pub below : c.entry < bound
   pub free : has_entry (pairs_in es) c.entry ≡ false
@@ -99,7 +99,7 @@ ended es bound func (call ∷ rest) c outer is standing = by_first (nat_eq call.
         (subst (λ (f : ℕ). Ended es bound f call rest) (eqb-true call.func func same) here))
     by_first false same e rest_ended = later (rest_ended e)
 
--- what a pair that an event makes is made of
+-- what a pair of an event is made of
 pub record Made (e : Event) (at : ℕ) (calls : List Call) (pair : Pair) : Type 0 where
   pub enters_not : enters e.kind ≡ false
   pub leaves_so : leaves e.kind ≡ true
@@ -160,7 +160,7 @@ paired e es i pair some =
     ∙ (ap (λ (p : Option Pair). has_entry (pairs_in es) i || has_entry (option_to_list p) i) some
     ∙ ap (λ (b : Bool). has_entry (pairs_in es) i || b) (or_false (nat_eq pair.entry i)))
 
--- ---- what holds after each history of a thread
+-- ---- what is true after each history of a thread
 
 pub record Stands (es : List Event) : Type 0 where
   pub standing : OpenBelow es (length es) (open_calls es)
@@ -263,7 +263,7 @@ exit_past (e ∷ es) i past =
 
 -- ---- the events of all threads
 
--- an event of this thread, and one of another thread, before the part of a thread
+-- one more event, of this thread or of another one, before the part of a thread
 own_part : (thread : ℕ) (l : Logged) (h : List Logged) → nat_eq l.thread thread ≡ true → of_thread thread (l ∷ h) ≡ l.event ∷ of_thread thread h
 own_part thread l h is = ap (λ (b : Bool). cond b (l.event ∷ of_thread thread h) (of_thread thread h)) is
 
@@ -293,7 +293,7 @@ agree s t (l ∷ h) same =
 abbrev one_if : Bool → ℕ
 one_if b = cond b 1 0
 
--- the entries of a function at positions that aren't among these
+-- the entries of a function at positions other than these
 abbrev free_entry : ℕ → (ℕ → ℕ → Bool) → Logged → ℕ → Bool
 free_entry func taken l i = is_entry_of func l && not (taken l.thread i)
 
@@ -305,7 +305,7 @@ or_true : (b : Bool) → (b || true) ≡ true
 or_true true = refl
 or_true false = refl
 
--- where one position more is taken, one entry less is free, if it is an entry of the function
+-- if one more position is taken, one entry fewer is free, provided that it is an entry of the function
 one_taken : (func thread k : ℕ) (old new : ℕ → ℕ → Bool) → ((t i : ℕ) → new t i ≡ (old t i || (nat_eq t thread && nat_eq k i)))
     → old thread k ≡ false → (h : List Logged) → k < length (of_thread thread h)
     → count_placed (free_entry func new) h + cond (entry_at func (of_thread thread h) k) 1 0 ≡ count_placed (free_entry func old) h
@@ -320,7 +320,7 @@ one_taken func thread k old new more was (l ∷ h) within = by_thread (nat_eq l.
         k < length (of_thread thread h)
         → count_placed (free_entry func new) h + cond (entry_at func (of_thread thread h) k) 1 0 ≡ count_placed (free_entry func old) h
 
-    -- another position is taken as before
+    -- any other position is taken as before
     as_before : (t j : ℕ) → (nat_eq t thread && nat_eq k j) ≡ false → new t j ≡ old t j
     as_before t j is = more t j ∙ (ap (λ (b : Bool). old t j || b) is ∙ or_false (old t j))
 
@@ -399,7 +399,7 @@ one_taken func thread k old new more was (l ∷ h) within = by_thread (nat_eq l.
 
 -- ---- what is left
 
--- after an event, a position of a thread is in a pair as before, or it is that of the pair that the event makes
+-- after an event, a position of a thread is in a pair if it was before, or if it is in the pair that the event makes
 entry_in_pair : (l : Logged) (h : List Logged) (pair : Pair) → pair_after l h ≡ Some pair → (t i : ℕ)
     → is_entry_in_pair (l ∷ h) t i ≡ (is_entry_in_pair h t i || (nat_eq t l.thread && nat_eq pair.entry i))
 entry_in_pair l h pair some t i = by_thread (nat_eq l.thread t) refl
@@ -424,7 +424,7 @@ entry_in_pair l h pair some t i = by_thread (nat_eq l.thread t) refl
             never x = cc
         flip false e = e
 
--- an event that makes no pair leaves all as it was
+-- an event that makes no pair leaves everything as it was
 no_entry_more : (l : Logged) (h : List Logged) → pair_after l h ≡ None → (t i : ℕ) → is_entry_in_pair (l ∷ h) t i ≡ is_entry_in_pair h t i
 no_entry_more l h none t i = by_thread (nat_eq l.thread t) refl
   where
@@ -509,11 +509,11 @@ each_entry func (l ∷ h) = by_pair (pair_after l h) refl (each_entry func h)
           before,
         )
 
--- the exits of a function at positions that aren't among these
+-- the exits of a function at positions other than these
 abbrev free_exit : ℕ → (ℕ → ℕ → Bool) → Logged → ℕ → Bool
 free_exit func taken l i = is_exit_of func l && not (taken l.thread i)
 
--- earlier positions are in a pair as before
+-- earlier positions are in a pair if they were before
 exit_before : (l : Logged) (h : List Logged) (t i : ℕ) → i < length (of_thread t h) → is_exit_in_pair (l ∷ h) t i ≡ is_exit_in_pair h t i
 exit_before l h t i below = by_thread (nat_eq l.thread t) refl
   where
@@ -536,7 +536,7 @@ exit_before l h t i below = by_thread (nat_eq l.thread t) refl
         ∙ (ap (λ (b : Bool). has_exit (pairs_in own) i || b) (by_pair p_new refl) ∙ or_false (has_exit (pairs_in own) i)))
     by_thread false is = ap (λ (es : List Event). has_exit (pairs_in es) i) (other_part t l h is)
 
--- its own position is in a pair if it makes one
+-- the event's own position is in a pair if it makes one
 exit_here : (l : Logged) (h : List Logged)
     → is_exit_in_pair (l ∷ h) l.thread (length (of_thread l.thread h)) ≡ has_exit (option_to_list (pair_after l h)) (length (of_thread l.thread h))
 exit_here l h =

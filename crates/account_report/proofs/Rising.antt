@@ -1,4 +1,4 @@
--- Ascending lists of numbers: there is one with given numbers.
+-- Ascending lists of numbers: there is only one with the same numbers.
 use Rattle.std.proofs.Common.{◌≡◌, ◌+◌, ◌<◌, ◌≤◌, ◌∙◌, ℕ, suc, Bool, true, false, cond, List, [], ◌∷◌, length, map, count_by, refl, ap, sym, subst, arith, nat_eq, nat_lt, get_or}
 use Rattle.std.specs.Prelude.{IsPermutation}
 use Rattle.std.specs.List.{AllByRecursion, IsDistinct}
@@ -60,7 +60,7 @@ same_rising (x ∷ xs) (y ∷ ys) up also same =
     same_rising xs ys up.1 also.1 (λ k. omega (arith, same k, count-cons k x xs, count-cons k y ys, ap (one_at k) first)) in
     ap (λ (n : ℕ). n ∷ xs) first ∙ ap (λ (ns : List ℕ). y ∷ ns) rest
 
--- what a sort by a number leaves is ascending in it
+-- a list that is sorted by a number is ascending in it
 all_from_places : {X : Type 0} (n : X → ℕ) (low : ℕ) (xs : List X) → ((j : ℕ) (d : X) → j < length xs → low ≤ n (get_or xs j d)) → AllFrom low (map n xs)
 all_from_places n low [] each = tt
 all_from_places n low (x ∷ xs) each = (each 0 x (omega arith), all_from_places n low xs (λ j d within. each (suc j) d (omega arith)))
@@ -209,7 +209,7 @@ rises-each_once ns = rises_from_climbs (each_once ns) (climbs-each_once ns)
 pub count-each_once : (k n : ℕ) (ns : List ℕ) → count k (each_once (n ∷ ns)) ≡ cond (nat_eq k n) 1 (count k (each_once ns))
 count-each_once k n ns = count-with_number k n (each_once ns) (climbs-each_once ns)
 
--- none of them is another one
+-- none of them is another number
 apart_from_above : (n : ℕ) (xs : List ℕ) → AllAbove n xs → AllByRecursion (λ x. nat_eq n x ≡ false) xs
 apart_from_above n [] all = tt
 apart_from_above n (x ∷ xs) all = (let above : n < x = all.0 in grind (arith, nat_tests), apart_from_above n xs all.1)

@@ -1,4 +1,4 @@
--- The rows of a table that tells what a history tells.
+-- The rows of a table that says what a history says.
 use Rattle.std.proofs.Common.{◌≡◌, ◌-◌, ◌∙◌, length, count_by, ℕ, Bool, true, false, cond, ◌||◌, List, [], ◌∷◌, map, refl, ap, sym, subst, arith, nat_eq, Option, Some, None, is_some}
 use Rattle.std.specs.Prelude.{IsPermutation, All}
 use Rattle.std.specs.Cmp.{nat_eq_equiv}
@@ -36,7 +36,7 @@ entry_told history func tally told =
 found_here : (func : ℕ) (tally : Tallied) (es : Entries) → lookup (nat_eq func) ((func, tally) ∷ es) ≡ Some tally
 found_here func tally es = ap (λ b. cond b (Some tally) (lookup (nat_eq func) es)) (eq-eqb func func refl)
 
--- what an entry behind the first one has is found there
+-- what an entry after the first one has is found there
 found_behind : (k : ℕ) (v : Tallied) (e : ℕ × Tallied) (es : Entries) → IsDistinct nat_eq (keys_of (e ∷ es)) → lookup (nat_eq k) es ≡ Some v
     → lookup (nat_eq k) (e ∷ es) ≡ Some v
 found_behind k v e es distinct found = by_first (nat_eq k e.0) refl
@@ -87,7 +87,7 @@ count-functions k (l ∷ history) =
     by_first true behind = refl
     by_first false behind = behind
 
--- rows of which each is that of its function are those of their functions
+-- if each row is that of its function, the rows are those of their functions
 rows_of_functions : (history : List Logged) (rows : List AccountRow) → All (λ (r : AccountRow). r ≡ row_of history r.func) rows
     → rows ≡ map (row_of history) (map (λ (r : AccountRow). r.func) rows)
 rows_of_functions history [] all = refl
@@ -122,7 +122,7 @@ rows_sorted history es rows distinct told present same up =
     ∙ (count-keys k es distinct ∙ (ap {B = ℕ} (λ b. cond b 1 0) (present k) ∙ sym (count-functions k history)))) in
     rows_of_functions history rows own ∙ ap (map (row_of history)) funcs
 
--- no function has two rows in it
+-- no function has two rows
 pub own_rows : (history : List Logged) → IsDistinct nat_eq (map (λ (r : AccountRow). r.func) (map (row_of history) (functions_in history)))
 own_rows history =
     subst (IsDistinct nat_eq) (sym (functions_again history (functions_in history))) (distinct-each_once (map (λ x. x.event.func) history))

@@ -15,7 +15,7 @@ has_latencies row = not (row.count == 0)
 abbrev pub latencies_of : List AccountRow → ℕ
 latencies_of rows = count_by has_latencies rows
 
--- a number of a row that only its durations give: without them a dash
+-- a number of a row that comes from its durations; if there are none, a dash
 abbrev pub duration_word : AccountRow → ℕ → List ℕ
 duration_word row n = if row.count == 0 then codes "-" else decimal n
 
@@ -33,12 +33,12 @@ head_words =
     codes "funcid" ∷ codes "count" ∷ codes "min" ∷ codes "med" ∷ codes "90p" ∷ codes "99p" ∷ codes "max" ∷ codes "sum"
     ∷ codes "entries" ∷ codes "exits" ∷ []
 
--- a word in its column: at the right end of ten places, a longer word whole; csv has no columns
+-- a word in its column: at the right end of ten places, or whole if it is longer; csv has no columns
 abbrev pub placed : AccountFormat → List ℕ → List ℕ
 placed Text word = replicate (10 - length word) 32 ++ word
 placed Csv word = word
 
--- what stands between columns
+-- the text between columns
 abbrev pub separator_text : AccountFormat → List ℕ
 separator_text Text = codes " "
 separator_text Csv = codes ","
@@ -50,7 +50,7 @@ column_text format word = placed format word ++ separator_text format
 abbrev pub line_text : AccountFormat → List (List ℕ) → List ℕ → List ℕ
 line_text format words name = flat_map (column_text format) words ++ name ++ codes "\n"
 
--- the line of a row, with the name that its function has in a program
+-- the line of a row, with the name of its function in a program
 abbrev pub row_text : AccountFormat → Option Program → AccountRow → List ℕ
 row_text format program row = line_text format (words_of row) (name_text program row.func)
 

@@ -15,11 +15,11 @@ use std::alloc::Global;
 use std::collections::HashMap;
 use xray_io::NoMemory;
 
-/// The account of a trace: a row for each function that has an event, in ascending order of their ids.
-/// The time is linear in the number of events, but for the sorting of the durations.
+/// The account of a trace: a row for each function that has an event, in ascending order of ids.
+/// `NoMemory` means that an allocation was refused.
 pub fn account(alloc: Global, trace: &Trace) -> Result<Vec<AccountRow>, NoMemory>
     ensures rows { IfOk result (λ rows. rows.items ≡ account_of trace.now) }
-    // As `order_rows` wants them.
+    // As `order_rows` asks for.
     ensures distinct { IfOk result (λ rows. IsDistinct nat_eq (map (λ row. row.func) rows.items)) }
 {
     let mut rows = rows_of(alloc, tallies(alloc, trace)?)?;

@@ -41,7 +41,7 @@ fn trace_of(alloc: Global, events: &[Said]) -> Result<Trace, Fail> {
     })
 }
 
-/// The text of rows without an image.
+/// The text of rows, without an image.
 fn printed(alloc: Global, rows: &[AccountRow], format: AccountFormat) -> Result<String, Fail> {
     let mut sink = MemSink::new(alloc, Vec::new(alloc));
     write_account(rows, latencies(rows), None, format, &mut sink).map_err(|_| "write fault")?;
@@ -75,7 +75,7 @@ const ROWS: [(&[Said], &str); 9] = [
         "2,0,-,-,-,-,-,-,0,2,#2\n",
     ),
     (&[(1, Kind::Entry, 2, 5)], "2,0,-,-,-,-,-,-,1,0,#2\n"),
-    // A call that ends with the one that it was made in, and its own exit after that.
+    // A call that ends with the one that it was made in, and then its own exit.
     (
         &[
             (1, Kind::Entry, 9, 0),
@@ -100,7 +100,7 @@ const ROWS: [(&[Said], &str); 9] = [
         &[(4, Kind::Entry, u32::MAX, 8), (4, Kind::Exit, u32::MAX, 8)],
         "4294967295,1,0,0,0,0,0,0,0,0,#4294967295\n",
     ),
-    // A sum that 64 bits don't hold.
+    // A sum that doesn't fit 64 bits.
     (
         &[
             (1, Kind::Entry, 1, 1),
@@ -171,7 +171,7 @@ fn row_with(key: SortKey, func: u32, number: u64) -> AccountRow {
     row
 }
 
-/// The functions of rows in an order, of which these many are kept.
+/// The functions of the rows that are kept, in an order.
 fn ordered(
     alloc: Global,
     key: SortKey,

@@ -13,25 +13,24 @@ use function_names::add_name;
 use xray_image::Image;
 use xray_io::{Piece, Sink, Text, WriteFault};
 
-/// How many places a column has that is aligned. A longer number stands whole.
+/// The width of an aligned column. A longer number is printed whole.
 const WIDTH: usize = 10;
 
-/// How an account is printed.
+/// The form of a printed account.
 #[derive(Clone, Copy, Debug, PartialEq, Eq)]
 pub enum AccountFormat {
-    /// Columns that end in the same place of each line, for readers. The first line says how many
+    /// Columns that end at the same place of each line, for readers. The first line says how many
     /// functions have a pair.
     Text,
     /// Values with commas between them, for other programs.
     Csv,
 }
 
-/// Writes an account: a head line and a line for each row, as it is told of the rows, in their order.
-/// Takes no memory.
+/// Writes an account: a head line, and a line for each row, in the order of the rows.
 ///
-/// `latencies` is the number in the first line: of the functions that have a pair, whether or not they
-/// have a row. A row is named as its function is in `image`, and otherwise by `#` and its id. The
-/// columns are those of `llvm-xray account`, in cycles, and two more.
+/// `latencies` is the number in the first line: how many functions have a pair, whether or not they
+/// have a row. A row has the name of its function in `image`, or `#` and the id if there is no
+/// name. The columns are those of `llvm-xray account`, in cycles, and two more.
 ///
 /// On `WriteFault` a prefix of the text was written, and the sink counted a fault.
 pub fn write_account<S: Sink>(
@@ -84,7 +83,7 @@ fn add_first_line<S: Sink>(
     }
 }
 
-/// The line of the columns' names.
+/// The line with the names of the columns.
 fn head_line(format: AccountFormat) -> &'static [u8]
     ensures { result.now ≡ line_text format head_words (codes "function") }
 {
@@ -127,7 +126,7 @@ fn add_row<S: Sink>(
     text.bytes(b"\n")
 }
 
-/// Adds the columns of a row, each with what stands behind it.
+/// Adds the columns of a row, each with what follows it.
 fn add_columns<S: Sink>(
     text: &mut Text<S>,
     row: &AccountRow,
@@ -161,7 +160,7 @@ fn add_columns<S: Sink>(
     ])
 }
 
-/// What stands between two columns.
+/// The text between two columns.
 fn separator(format: AccountFormat) -> &'static [u8]
     ensures { result.now ≡ separator_text format }
 {
@@ -171,7 +170,7 @@ fn separator(format: AccountFormat) -> &'static [u8]
     }
 }
 
-/// A number in its column.
+/// A number, in its column.
 fn number(n: u128, format: AccountFormat) -> Piece<'static>
     ensures { piece_text result ≡ placed format (decimal n) }
 {
@@ -184,7 +183,7 @@ fn number(n: u128, format: AccountFormat) -> Piece<'static>
     }
 }
 
-/// A number of a row that only durations give, in its column. Without a pair it is a dash.
+/// A number of a row that comes from durations, in its column. If there is no pair, it is a dash.
 fn duration(row: &AccountRow, n: u128, format: AccountFormat) -> Piece<'static>
     ensures { piece_text result ≡ placed format (duration_word row.now n) }
 {

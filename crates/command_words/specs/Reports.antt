@@ -22,7 +22,7 @@ report_files_in (trace ∷ []) = Some (trace, None)
 report_files_in (trace ∷ image ∷ []) = Some (trace, Some image)
 report_files_in files = None
 
--- one of these choices: the one in the place of the word that is given, or of the default
+-- one of these choices: the one at the place of the word that is given, or of the default
 abbrev pub choice_in : {X : Type 0} → OptionRow → (choices : List X) → Line → Option X
 choice_in option choices line = option_and_then (slice_get choices) (number_in option line)
 
@@ -40,7 +40,7 @@ account_formats = Text ∷ Csv ∷ []
 abbrev pub stack_formats : List StackFormat
 stack_formats = Human ∷ Flame ∷ []
 
--- how many rows are printed at the most: the number that is given, or none for all of them
+-- the most rows that are printed: the number that is given, or none for all rows
 abbrev pub top_in : Line → Option (Option ℕ)
 top_in line = option_map_or (λ value. option_map (λ top. Some top) (number_of top_option.values value))
     (value_in top_option.name line) (Some None)

@@ -1,4 +1,4 @@
--- The tables, the lines and the commands of the code, as those of the definitions: texts are their bytes.
+-- The tables, the lines and the commands of the code, as those of the definitions. Texts are their bytes.
 use Rattle.std.specs.Prelude.{ℕ, List, Option, map, option_map}
 use Rattle.command_words.specs.declared.line.Line as line
 use Rattle.command_words.specs.declared.report_options.ReportFiles as report_files

@@ -29,7 +29,7 @@ pub data Command : Type 0 where
 
 -- ---- the options of the commands that run threads
 
--- what bounds the threads
+-- the limits of the threads
 abbrev pub bounds_in : Line → Option Bounds
 bounds_in line = of_numbers (number_in threads_option line) (number_in fuel_option line) (number_in passings_option line)
   where
@@ -55,14 +55,14 @@ buffers_in line = of_numbers (number_in buffer_size_option line) (number_in buff
     of_numbers (Some size) (Some max) = Some (record { size = size; max = max })
     of_numbers _ _ = None
 
--- the wall time: the seconds that are given and no microseconds, or the one that is handed in
+-- the wall time: the given seconds with no microseconds, or the time that is passed in
 abbrev pub wall_in : Wall → Line → Option Wall
 wall_in wall line = option_map_or
     (λ value. option_map (λ secs. record { secs = secs; micros = 0 }) (number_of wall_option.values value))
     (value_in wall_option.name line) (Some wall)
 
--- There is a buffer for each thread; and a trace file of 67,108,864 bytes has room for its header of 32 and for all buffers, each with 16
--- more.
+-- There is a buffer for each thread. A trace file of 67,108,864 bytes has room for its header of 32 bytes and for all
+-- buffers, each with 16 more.
 abbrev pub have_room : RunOptions → Bool
 have_room options = nat_le options.bounds.threads options.buffers.max
     && nat_le (options.buffers.max * (options.buffers.size + 16) + 32) 67108864
@@ -124,7 +124,7 @@ stack_in line = of_parts (report_files_in line.files) (choice_in stack_format_op
     of_parts (Some files) (Some format) = Some (Stack files.0 files.1 format)
     of_parts _ _ = None
 
--- a trace is converted to YAML alone
+-- a trace is converted only to YAML
 abbrev pub convert_in : Line → Option Command
 convert_in line = of_parts (report_files_in line.files) (number_in convert_format_option line)
   where
@@ -158,6 +158,6 @@ outputs_of (Account trace image options) = []
 outputs_of (Stack trace image format) = []
 outputs_of (Convert trace image) = []
 
--- the names of the outputs that words ask for; the wall time has no part in them
+-- the names of the outputs that words ask for; they don't depend on the wall time
 abbrev pub outputs_named : Wall → List (List ℕ) → List (List ℕ)
 outputs_named wall words = option_map_or outputs_of (reading wall words) []

@@ -39,7 +39,7 @@ pub enum SortColumn {
     Sum,
 }
 
-/// In which order the rows of an account are sorted.
+/// The order in which the rows of an account are sorted.
 #[derive(Clone, Copy, Debug, PartialEq, Eq)]
 pub enum SortOrder {
     /// The least value comes first.
@@ -48,7 +48,7 @@ pub enum SortOrder {
     Descending,
 }
 
-/// As what an account is printed.
+/// The form in which an account is printed.
 #[derive(Clone, Copy, Debug, PartialEq, Eq)]
 pub enum AccountFormat {
     /// Columns, for readers.
@@ -57,12 +57,12 @@ pub enum AccountFormat {
     Csv,
 }
 
-/// As what stacks are printed.
+/// The form in which stacks are printed.
 #[derive(Clone, Copy, Debug, PartialEq, Eq)]
 pub enum StackFormat {
     /// Columns, for readers.
     Human,
-    /// A line a stack, for tools that draw flame graphs.
+    /// A line per stack, for tools that draw flame graphs.
     Flame,
 }
 
@@ -71,15 +71,15 @@ pub enum StackFormat {
 pub struct AccountOptions {
     /// The column by which the rows are sorted.
     pub sort: SortColumn,
-    /// In which order they are sorted.
+    /// The order in which they are sorted.
     pub order: SortOrder,
-    /// How many rows are printed at the most. None for all rows.
+    /// The most rows that are printed. `None` means all rows.
     pub top: Option<u32>,
-    /// As what the account is printed.
+    /// The form in which the account is printed.
     pub format: AccountFormat,
 }
 
-/// The files of a report. None unless there are one or two.
+/// The files of a report. `None` unless there are one or two.
 pub(crate) fn report_files_in<'a>(line: &Line<'a>) -> Option<ReportFiles<'a>>
     ensures { option_map files_view result ≡ report_files_in (line_view line.now).files }
 {
@@ -93,7 +93,7 @@ pub(crate) fn report_files_in<'a>(line: &Line<'a>) -> Option<ReportFiles<'a>>
     }
 }
 
-/// The column that a line names. None if its word is none of the columns.
+/// The column that a line names. `None` if its word isn't a column.
 fn column_in(line: &Line<'_>) -> Option<SortColumn>
     ensures { result ≡ choice_in sort_option columns (line_view line.now) }
 {
@@ -109,7 +109,7 @@ fn column_in(line: &Line<'_>) -> Option<SortColumn>
     }
 }
 
-/// The order that a line names. None if its word is none of the orders.
+/// The order that a line names. `None` if its word isn't an order.
 fn order_in(line: &Line<'_>) -> Option<SortOrder>
     ensures { result ≡ choice_in sort_order_option orders (line_view line.now) }
 {
@@ -119,7 +119,7 @@ fn order_in(line: &Line<'_>) -> Option<SortOrder>
     }
 }
 
-/// The format that a line names. None if its word is none of the formats.
+/// The format that a line names. `None` if its word isn't a format.
 fn account_format_in(line: &Line<'_>) -> Option<AccountFormat>
     ensures { result ≡ choice_in account_format_option account_formats (line_view line.now) }
 {
@@ -129,7 +129,7 @@ fn account_format_in(line: &Line<'_>) -> Option<AccountFormat>
     }
 }
 
-/// The format of stacks that a line names. None if its word is none of the formats.
+/// The format of stacks that a line names. `None` if its word isn't a format.
 pub(crate) fn stack_format_in(line: &Line<'_>) -> Option<StackFormat>
     ensures { result ≡ choice_in stack_format_option stack_formats (line_view line.now) }
 {
@@ -139,8 +139,8 @@ pub(crate) fn stack_format_in(line: &Line<'_>) -> Option<StackFormat>
     }
 }
 
-/// How many rows are printed at the most: the number that is given, or none for all of them. None if the
-/// value is no such number.
+/// The most rows that are printed: the number that is given, or none for all rows. `None` if the
+/// value isn't such a number.
 fn top_in(line: &Line<'_>) -> Option<Option<u32>>
     ensures reads { result ≡ top_in (line_view line.now) }
 {
@@ -153,7 +153,7 @@ fn top_in(line: &Line<'_>) -> Option<Option<u32>>
     }
 }
 
-/// The options of an account. None if a value is none that it may be.
+/// The options of an account. `None` if a value isn't allowed.
 pub(crate) fn account_options_in(line: &Line<'_>) -> Option<AccountOptions>
     ensures reads { result ≡ account_options_in (line_view line.now) }
     ensures ranges { IfSome result (λ options. IfSome options.top (λ top. top ≤ 4294967295)) }

@@ -9,7 +9,7 @@ pub(crate) const THREADS: OptionRow = OptionRow {
     default: Some(1),
 };
 
-/// How many instructions a thread makes at the most.
+/// The most instructions that a thread makes.
 pub(crate) const FUEL: OptionRow = OptionRow {
     name: "fuel",
     values: Values::Number {
@@ -19,7 +19,7 @@ pub(crate) const FUEL: OptionRow = OptionRow {
     default: Some(10_000_000),
 };
 
-/// How many passings a thread makes at the most.
+/// The most passings that a thread makes.
 pub(crate) const PASSINGS: OptionRow = OptionRow {
     name: "passings",
     values: Values::Number {
@@ -29,7 +29,7 @@ pub(crate) const PASSINGS: OptionRow = OptionRow {
     default: Some(1_048_576),
 };
 
-/// How many bytes a buffer of events has.
+/// The size of a buffer of events in bytes.
 pub(crate) const BUFFER_SIZE: OptionRow = OptionRow {
     name: "buffer-size",
     values: Values::Number {
@@ -49,7 +49,7 @@ pub(crate) const BUFFER_MAX: OptionRow = OptionRow {
     default: Some(100),
 };
 
-/// How many cycles the counter goes on with each instruction.
+/// By how many cycles each instruction advances the counter.
 pub(crate) const TICK: OptionRow = OptionRow {
     name: "tick",
     values: Values::Number {
@@ -59,7 +59,7 @@ pub(crate) const TICK: OptionRow = OptionRow {
     default: Some(1),
 };
 
-/// Where the counter begins, in cycles.
+/// The counter at the start, in cycles.
 pub(crate) const TSC: OptionRow = OptionRow {
     name: "tsc",
     values: Values::Number {
@@ -69,7 +69,7 @@ pub(crate) const TSC: OptionRow = OptionRow {
     default: Some(0),
 };
 
-/// How many cycles the counter makes in a second; 0 says nothing.
+/// The frequency of the counter in cycles per second. 0 means that it isn't known.
 pub(crate) const FREQUENCY: OptionRow = OptionRow {
     name: "frequency",
     values: Values::Number {
@@ -109,7 +109,7 @@ pub(crate) const PID: OptionRow = OptionRow {
     default: Some(1),
 };
 
-/// The wall time, in seconds. Where it isn't given it is the time that is handed in.
+/// The wall time, in seconds. If it isn't given, it is the time that is passed in.
 pub(crate) const WALL: OptionRow = OptionRow {
     name: "wall",
     values: Values::Number {
@@ -119,7 +119,7 @@ pub(crate) const WALL: OptionRow = OptionRow {
     default: None,
 };
 
-/// How many instruction lines a function has at the least that gets sleds.
+/// The least number of instruction lines with which a function gets sleds.
 pub(crate) const THRESHOLD: OptionRow = OptionRow {
     name: "threshold",
     values: Values::Number {
@@ -143,7 +143,7 @@ pub(crate) const SORT_ORDER: OptionRow = OptionRow {
     default: Some(0),
 };
 
-/// How many rows of an account are printed at the most. All are where it isn't given.
+/// The most rows of an account that are printed. If it isn't given, all are.
 pub(crate) const TOP: OptionRow = OptionRow {
     name: "top",
     values: Values::Number {
@@ -153,21 +153,21 @@ pub(crate) const TOP: OptionRow = OptionRow {
     default: None,
 };
 
-/// As what an account is printed.
+/// The form in which an account is printed.
 pub(crate) const ACCOUNT_FORMAT: OptionRow = OptionRow {
     name: "format",
     values: Values::Listed(&["text", "csv"]),
     default: Some(0),
 };
 
-/// As what stacks are printed.
+/// The form in which stacks are printed.
 pub(crate) const STACK_FORMAT: OptionRow = OptionRow {
     name: "format",
     values: Values::Listed(&["human", "flame"]),
     default: Some(0),
 };
 
-/// As what a trace is converted.
+/// The form that a trace is converted to.
 pub(crate) const CONVERT_FORMAT: OptionRow = OptionRow {
     name: "format",
     values: Values::Listed(&["yaml"]),
@@ -198,7 +198,7 @@ const SCRIPT: FileRow = FileRow {
     role: Role::Input,
 };
 
-/// A schedule of the turns.
+/// A schedule: the order of the turns.
 const SCHEDULE: FileRow = FileRow {
     label: "schedule",
     role: Role::Input,
@@ -228,14 +228,15 @@ const NAMING_IMAGE: FileRow = FileRow {
     role: Role::OptionalInput,
 };
 
-/// `account TRACE [IMAGE]`: says what the functions of a trace took.
+/// `account TRACE [IMAGE]`: prints how often the functions of a trace were called, and for how
+/// long.
 pub(crate) const ACCOUNT: CommandRow = CommandRow {
     word: "account",
     files: &[TRACE, NAMING_IMAGE],
     options: &[SORT, SORT_ORDER, TOP, ACCOUNT_FORMAT],
 };
 
-/// `stack TRACE [IMAGE]`: says what the stacks of a trace took.
+/// `stack TRACE [IMAGE]`: prints how often each stack of a trace occurred, and for how long.
 pub(crate) const STACK: CommandRow = CommandRow {
     word: "stack",
     files: &[TRACE, NAMING_IMAGE],
@@ -256,7 +257,7 @@ pub(crate) const ASM: CommandRow = CommandRow {
     options: &[THRESHOLD],
 };
 
-/// `plain IMAGE`: runs an image without sleds on each thread.
+/// `plain IMAGE`: runs an image on each thread, with its sleds only counted.
 pub(crate) const PLAIN: CommandRow = CommandRow {
     word: "plain",
     files: &[IMAGE],

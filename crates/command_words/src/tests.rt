@@ -4,14 +4,14 @@ use std::process::Abort;
 use std::test::Fail;
 use xray_io::Wall;
 
-/// The wall time that is handed in.
+/// The wall time that is passed in.
 const NOON: Wall = Wall {
     secs: 43_200,
     micros: 5,
 };
 
-/// Command lines and what they say, by hand: words with bars between them, and then the command with each
-/// name in brackets and its numbers in the order of the table of options.
+/// Command lines and what they say, by hand. Each has words with bars between them, and then the
+/// command, with each name in brackets and its numbers in the order of the table of options.
 const SAID: &str = "\
 plain => none
  => none
@@ -111,7 +111,7 @@ convert|t|i|--format|yaml => convert [t] Some(\"i\")
 convert|t|--format=human => none
 ";
 
-/// Words as a program is given them, of a line with bars between the words.
+/// Words as a program gets them, from a line with bars between the words.
 fn words_of(alloc: Global, line: &str) -> Result<Vec<String>, AllocError> {
     let mut words = Vec::new(alloc);
     for word in line.split('|') {
@@ -120,7 +120,8 @@ fn words_of(alloc: Global, line: &str) -> Result<Vec<String>, AllocError> {
     Ok(words)
 }
 
-/// The command that words say, with each name in brackets, and its numbers; `none` where they say none.
+/// The command that words say, with each name in brackets, and its numbers. `none` if they say no
+/// command.
 fn shown(alloc: Global, words: &[String]) -> Result<String, AllocError> {
     match read_words(alloc, NOON, words)? {
         None => String::from_str(alloc, "none"),

@@ -19,7 +19,7 @@ use crate::tables::{ACCOUNT, ASM, CONVERT, CONVERT_FORMAT, EXTRACT, PLAIN, SIM, 
 use std::alloc::{AllocError, Global};
 use xray_io::Wall;
 
-/// What the program is asked to do, with the names of the files for it and its options.
+/// What the program is asked to do: the command, the names of its files, and its options.
 #[derive(Clone, Copy, Debug)]
 pub enum Command<'a> {
     /// Replays a schedule over an image and a script.
@@ -30,18 +30,18 @@ pub enum Command<'a> {
         script: &'a str,
         /// The turns of the threads and the patcher.
         schedule: &'a str,
-        /// The trace of the events, which is an output.
+        /// The trace of the events, an output.
         trace: &'a str,
-        /// The audit of the run, which is an output of another name.
+        /// The audit of the run, an output with another name.
         audit: &'a str,
         /// What the replay is made with.
         options: RunOptions,
     },
-    /// Runs an image without sleds on each thread.
+    /// Runs an image on each thread, with its sleds only counted.
     Plain {
         /// The image file.
         image: &'a str,
-        /// What bounds the threads.
+        /// The limits of the threads.
         bounds: Bounds,
     },
     /// Prints the sled map of an image.
@@ -55,10 +55,10 @@ pub enum Command<'a> {
         text: &'a str,
         /// The image file, which is the output.
         image: &'a str,
-        /// How many instruction lines a function has at the least that gets sleds.
+        /// The least number of instruction lines with which a function gets sleds.
         threshold: u32,
     },
-    /// Prints what the functions of a trace took.
+    /// Prints how often the functions of a trace were called, and for how long.
     Account {
         /// The trace.
         trace: &'a str,
@@ -67,13 +67,13 @@ pub enum Command<'a> {
         /// How the account is printed.
         options: AccountOptions,
     },
-    /// Prints what the stacks of a trace took.
+    /// Prints how often each stack of a trace occurred, and for how long.
     Stack {
         /// The trace.
         trace: &'a str,
         /// The image that names the functions, if there is one.
         image: Option<&'a str>,
-        /// As what the stacks are printed.
+        /// The form in which the stacks are printed.
         format: StackFormat,
     },
     /// Prints a trace as a text in YAML.
@@ -85,11 +85,11 @@ pub enum Command<'a> {
     },
 }
 
-/// The command that words say at a wall time; None where they say none. The words are those after
+/// The command that words say at a wall time, or `None` if they say none. The words are those after
 /// the program's own name. A run begins at the wall time, unless the words say another.
 ///
 /// # Errors
-/// `AllocError` where an allocation is refused; nothing else is an error.
+/// `AllocError` means that an allocation was refused. There are no other errors.
 pub fn read_words<'a>(
     alloc: Global,
     wall: Wall,

@@ -1,10 +1,10 @@
--- How functions are named in the texts that are printed of a trace.
+-- How functions are named in texts about a trace.
 use Rattle.std.specs.Prelude.{ℕ, List, ◌++◌, codes, decimal, Option, Some, None}
 use Rattle.std.specs.Option.{unwrap_or}
 use Rattle.xray_image.specs.Program.{Program}
 use Rattle.xray_image.specs.Ids.{name_of}
 
--- what stands for the name of a function that isn't known: # and its id
+-- the text for the name of a function that isn't known: # and its id
 abbrev pub number_text : ℕ → List ℕ
 number_text id = codes "#" ++ decimal id
 

@@ -1,4 +1,4 @@
-//! The names of functions in the texts that are printed of a trace.
+//! The names of functions in texts about a trace.
 #![tactic(auto)]
 
 mod name;

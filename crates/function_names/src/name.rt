@@ -7,9 +7,8 @@ ghost use Rattle.function_names.specs.Name.{name_in, name_text, number_text};
 use xray_image::Image;
 use xray_io::{Piece, Sink, Text, WriteFault};
 
-/// Adds the name of the function with an id: the name that it has in the image. Without an image, and if
-/// the image has no such id, this is `#` and the id in decimal digits. Takes no memory, and looks once
-/// into the image.
+/// Adds the name of the function with an id, as the image has it. If there is no image, or if the
+/// image has no such id, adds `#` and the id in decimal digits.
 ///
 /// On `WriteFault` a prefix of what the text was given is written, and the sink counted a fault.
 pub fn add_name<S: Sink>(
@@ -36,7 +35,7 @@ fn add_name_in<S: Sink>(text: &mut Text<S>, image: &Image, id: u32) -> Result<()
     }
 }
 
-/// Adds what stands for a name that isn't known.
+/// Adds the text for a name that isn't known.
 fn add_number<S: Sink>(text: &mut Text<S>, id: u32) -> Result<(), WriteFault>
     ensures { AddsText S.written S.faults S.along text.old text.new (number_text id) result }
 {

@@ -83,7 +83,7 @@ first_deep limit blocks ts i d (Deep deep) own within before of =
     ∙ ap (λ (b : Bool). cond b (thread ∷ []) (let none : List ℕ = [] in none)) here)))) in
     ap (λ (ns : List ℕ). first_of (filter (is_deep limit blocks) ns)) (sym own.are) ∙ (ap first_of split ∙ ap (λ (n : ℕ). Some n) (sym of.0))
 
--- ---- the same of a thread that stands at a place
+-- ---- the same for a thread at a place
 
 pub adds_thread : (blocks : List Block) (ts : List ThreadBlocks) (i : ℕ) (one : ThreadBlocks) (paths : List (List ℕ)) (tallies : List Tally) → AreThreads blocks ts
     → i < length ts → one ≡ get_or ts i one → AreSums paths tallies (flat_map (pairs_of_thread blocks) (take i (names ts)) ++ timed_in (events_at blocks one.places.items))

@@ -1,4 +1,4 @@
--- Lists in ascending order: there is one with given items.
+-- Lists in ascending order: there is only one with the same items.
 use Rattle.std.proofs.Common.{◌≡◌, ◌⊎◌, ◌+◌, ◌<◌, ◌∙◌, ℕ, zero, suc, List, [], ◌∷◌, length, map, refl, ap, sym, subst, arith, get_or, inl, inr}
 use Rattle.std.specs.Prelude.{Contains, IsPermutation}
 use Rattle.std.specs.declared.cmp.Ordering.{Ordering}
@@ -140,7 +140,7 @@ each_once-in compare exact [] z is = is
 each_once-in compare exact (x ∷ xs) z (inl own) = put_once-in compare exact x (each_once compare xs) z (inl own)
 each_once-in compare exact (x ∷ xs) z (inr there) = put_once-in compare exact x (each_once compare xs) z (inr (each_once-in compare exact xs z there))
 
--- a strict list with the items of a list is that
+-- a strict list with the items of a list is that list
 pub is_each_once : {X : Type 0} (compare : X → X → Ordering) → IsTotalOrder compare → ((x y : X) → compare x y ≡ Equal → x ≡ y) → (ys xs : List X)
     → Strict compare ys → ((z : X) → IsIn z ys → IsIn z xs) → ((z : X) → IsIn z xs → IsIn z ys) → ys ≡ each_once compare xs
 is_each_once compare total exact ys xs strict to from =

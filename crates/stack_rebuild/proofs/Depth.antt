@@ -31,7 +31,7 @@ turned_at events history i d within =
     ∙ ap (λ (es : List Event). reverse (drop (i + 1) events) ++ es) more))
     ∙ append_assoc (reverse (drop (i + 1) events)) (get_or events i d ∷ reverse (take i events)) history
 
--- where more calls are open than a limit after one of the events, they are so in the whole
+-- if more calls are open than a limit after one of the events, they are so in the whole
 pub deep_at : (limit : ℕ) (events history : List Event) (i : ℕ) (d : Event) (calls calls' : Standing) (depth : ℕ) → i < length events
     → calls ≡ standing_after (reverse (take i events) ++ history) → calls' ≡ next_standing (get_or events i d) calls → depth ≡ length calls'.calls → limit < depth
     → gets_deep limit (reverse events ++ history) ≡ true

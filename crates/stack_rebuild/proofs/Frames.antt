@@ -24,7 +24,7 @@ use Rattle.stack_rebuild.proofs.Spending.{adds, made, path_of-cons, spent_at_end
 
 -- ---- the innermost frame
 
--- a list with one more item behind it is that item in front of the list, from the other side
+-- a list with one more item at its end, turned around, begins with that item
 pub turned : {X : Type 0} (xs : List X) (x : X) → reverse (xs ++ x ∷ []) ≡ x ∷ reverse xs
 turned xs x = reverse-append xs (x ∷ [])
 
@@ -204,7 +204,7 @@ frames_spent paths e history ended (f ∷ fs) (call ∷ outer) nested is own all
 
 -- ---- one more event
 
--- where an event ends no call, nothing more was spent
+-- if an event ends no call, nothing more was spent
 nothing_spent : (e : Event) (history : List Event) → ended_by e.kind e.func (open_calls history) ≡ [] → (at : ℕ)
     → spent_in (reverse (e ∷ history)) at ≡ spent_in (reverse history) at
 nothing_spent e history none at =

@@ -1,4 +1,4 @@
--- Texts that are put together of one for each item of a list.
+-- Texts that are put together from one for each item of a list.
 use Rattle.std.proofs.Common.{◌≡◌, ◌<◌, ◌≤◌, ◌-◌, arith, Option, ◌+◌, ◌++◌, ◌∙◌, ℕ, List, [], ◌∷◌, length, map, take, drop, get_or, refl, sym, ap}
 use Rattle.std.specs.Prelude.{codes}
 use Rattle.std.specs.List.{flat_map}
@@ -31,11 +31,11 @@ lines_at line xs i d within =
     ap (λ (text : List ℕ). flat_map line (take i xs) ++ text) (sym (append-nil (line (get_or xs i d))))
     ∙ (sym (flat_map-append line (take i xs) (get_or xs i d ∷ [])) ∙ ap (flat_map line) (sym (take_more xs i d within)))
 
--- a list without its first item, as slices show it
+-- a list without its first item, as slices give it
 pub behind_first : {X : Type 0} (x : X) (xs : List X) → take (length (x ∷ xs) - 1) (drop 1 (x ∷ xs)) ≡ xs
 behind_first x xs = take_all (length (x ∷ xs) - 1) xs (omega arith)
 
--- the text of a path from its first function and the others
+-- the text of a path, from its first function and the others
 pub path_from : (program : Option Program) (path : List ℕ) → 1 ≤ length path
     → name_text program (get_or path 0 0) ++ flat_map (λ f. codes ";" ++ name_text program f) (take (length path - 1) (drop 1 path)) ≡ path_text program path
 path_from program [] some = absurd (omega (arith, some))

@@ -1,4 +1,4 @@
--- The calls of a thread lie one inside the other.
+-- The calls of a thread are nested.
 use Rattle.std.proofs.Common.{◌≡◌, ◌+◌, ◌-◌, ◌++◌, ◌<◌, ◌≤◌, ◌∙◌, ℕ, suc, Bool, true, false, cond, List, [], ◌∷◌, length, map, reverse, take, refl, ap, sym, subst, arith, nat_eq, Option, Some, None, sum_by, length-append}
 use Rattle.std.specs.Option.{option_to_list}
 use Rattle.std.proofs.Math.Seq.{take-length, take-append_seam}
@@ -16,7 +16,7 @@ use Rattle.stack_rebuild.specs.Stacks.{Timed, is_innermost, open_before, pair_pa
 
 -- ---- what an event ends
 
--- the calls that an event ends and those outside it: none where it ends none
+-- the call that an event ends and those outside it, or none if it ends none
 abbrev pub ended_by : Kind → ℕ → List Call → List Call
 ended_by Entry func calls = []
 ended_by Exit func calls = from_innermost func calls
@@ -27,7 +27,7 @@ pair_by Entry e at calls = refl
 pair_by Exit e at calls = refl
 pair_by TailExit e at calls = refl
 
--- ---- events and one more
+-- ---- one more event
 
 abbrev pub in_order : List Event → List Event
 in_order history = reverse history
@@ -53,17 +53,17 @@ abbrev pub AllBefore : ℕ → List Call → Type 0
 AllBefore at [] = Unit {0}
 AllBefore at (call ∷ outer) = (call.entry < at) × AllBefore at outer
 
--- each call has its entry behind those outside it, which were open just before it
+-- each call has its entry after those outside it, which were open just before it
 abbrev pub Nested : List Event → List Call → Type 0
 Nested events [] = Unit {0}
 Nested events (call ∷ outer) = (call.entry < length events) × AllBefore call.entry outer × (outer ≡ open_before events call.entry) × Nested events outer
 
--- none of these calls has its entry at a position
+-- none of these calls has its entry at this position
 abbrev pub NoneAt : ℕ → List Call → Type 0
 NoneAt at [] = Unit {0}
 NoneAt at (call ∷ outer) = (nat_eq call.entry at ≡ false) × NoneAt at outer
 
--- each pair has its entry before a position, and at none of these calls
+-- each pair has its entry before a position, and not that of one of these calls
 abbrev pub AllEnded : ℕ → List Call → List Pair → Type 0
 AllEnded end calls [] = Unit {0}
 AllEnded end calls (pair ∷ pairs) = (pair.entry < end) × NoneAt pair.entry calls × AllEnded end calls pairs
@@ -106,7 +106,7 @@ none_from at func (call ∷ outer) none = by_func (nat_eq call.func func) (none_
     by_func true behind = none
     by_func false behind = behind
 
--- the innermost call of a function is of it
+-- the innermost call of a function belongs to it
 pub its_func : (func : ℕ) (calls : List Call) (ended : Call) (outer : List Call) → from_innermost func calls ≡ ended ∷ outer → ended.func ≡ func
 its_func func [] ended outer is = absurd (omega (arith, ap {B = ℕ} length is))
 its_func func (call ∷ calls) ended outer is = by_func (nat_eq call.func func) refl is (its_func func calls ended outer)
@@ -140,7 +140,7 @@ ended_less : (end more : ℕ) (calls : List Call) (pairs : List Pair) → end �
 ended_less end more calls [] low all = tt
 ended_less end more calls (pair ∷ pairs) low all = (omega (arith, all.0), all.1, ended_less end more calls pairs low all.2)
 
--- pairs that are over are over when another call is opened
+-- pairs that have ended stay so when another call is opened
 ended_open : (end : ℕ) (calls : List Call) (call : Call) (pairs : List Pair) → end ≡ call.entry → AllEnded end calls pairs
     → AllEnded (end + 1) (call ∷ calls) pairs
 ended_open end calls call [] at all = tt

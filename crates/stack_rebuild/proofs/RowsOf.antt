@@ -90,7 +90,7 @@ rows_are paths tallies pairs sums (suc n) low =
         (row_is paths tallies pairs sums n (omega (arith, low))) (All-nil (λ (row : PathRow). row ≡ row_of pairs row.path))
     by_count false = All-nil (λ (row : PathRow). row ≡ row_of pairs row.path)
 
--- a row's path has a lower number, and pairs
+-- the path of a row has a lower number, and it has pairs
 rows-in : (paths : List (List ℕ)) (tallies : List Tally) (n : ℕ) (path : List ℕ) → IsIn path (paths_of_rows (rows_below paths tallies n))
     → (k : ℕ) × (k < n) × (path_at paths k ≡ path) × (0 < (get_or tallies k no_tally).count)
 rows-in paths tallies zero path is = absurd is
@@ -132,7 +132,7 @@ in-rows paths tallies (suc n) k low some =
         let lower : k < n = let e : nat_eq k n ≡ false = is in grind (arith, nat_tests) in
         append-left (paths_of_rows (rows_below paths tallies n)) (paths_of_rows (rows_at paths tallies n)) (path_at paths k) (later lower)
 
--- no two rows have one path
+-- no two rows have the same path
 none_any : (path : List ℕ) (others : List (List ℕ)) → ((z : List ℕ) → IsIn z others → path ≡ z → ⊥) → list_any (eq_by_cmp path_cmp path) others ≡ false
 none_any path [] apart = refl
 none_any path (other ∷ others) apart = by_first (eq_by_cmp path_cmp path other) refl (none_any path others (λ z is. apart z (inr is)))

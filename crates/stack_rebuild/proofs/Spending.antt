@@ -11,11 +11,11 @@ use Rattle.stack_rebuild.specs.Calls.{cycles_between, open_calls, pair_at, pair_
 use Rattle.stack_rebuild.specs.Stacks.{Timed, is_innermost, open_before, pair_path, path_of, spent_in, timed, timed_in}
 use Rattle.stack_rebuild.proofs.Nesting.{AllBefore, AllEnded, IsNested, Nested, NoneAt, before_less, ended_by, func_ended, nested_before, nested_ended, nested_history, none_before, none_ended, one_more, open_kept, pair_by}
 
--- what a pair adds to what was spent in the call whose entry is at a position
+-- what a pair adds to what was spent in the call with its entry at a position
 abbrev share : List Event → ℕ → Pair → ℕ
 share events at pair = cond (is_innermost at (open_before events pair.entry)) pair.duration 0
 
--- what the end of a call adds to it
+-- what the end of a call adds to that
 abbrev pub adds : Event → ℕ → List Call → ℕ
 adds e at [] = 0
 adds e at (ended ∷ outer) = cond (is_innermost at outer) (cycles_between ended.tsc e.tsc) 0
@@ -83,7 +83,7 @@ pub adds_none : (e : Event) (at : ℕ) (calls : List Call) → NoneAt at calls �
 adds_none e at [] none = refl
 adds_none e at (ended ∷ outer) none = ap (λ b. cond b (cycles_between ended.tsc e.tsc) 0) (not_innermost at outer none.1)
 
--- nor to itself
+-- nor to that call itself
 pub adds_itself : (e : Event) (events : List Event) (ended : Call) (outer : List Call) → Nested events (ended ∷ outer) → adds e ended.entry (ended ∷ outer) ≡ 0
 adds_itself e events ended outer nested =
     ap (λ b. cond b (cycles_between ended.tsc e.tsc) 0) (not_innermost ended.entry outer (none_before ended.entry outer nested.1))
@@ -137,7 +137,7 @@ timed_kept e history calls (pair ∷ pairs) nested none all =
     ap (λ (t : Timed). t ∷ map (timed (reverse (e ∷ history))) pairs) one
     ∙ ap (λ (ts : List Timed). timed (reverse history) pair ∷ ts) (timed_kept e history calls pairs nested none all.2)
 
--- the functions of calls, the innermost of which is the last one
+-- the functions of calls; that of the innermost call is the last one
 pub path_of-cons : (call : Call) (outer : List Call) → path_of (call ∷ outer) ≡ path_of outer ++ call.func ∷ []
 path_of-cons call outer = reverse-append (call.func ∷ []) (map (λ (c : Call). c.func) outer)
 

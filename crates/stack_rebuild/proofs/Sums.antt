@@ -85,7 +85,7 @@ tally_more b pairs pair path is = by_answer b is
         (omega (arith, sum_by-append (λ (p : Timed). cond (has_path path p) p.duration 0) pairs (pair ∷ []), sum_by-cons (λ (p : Timed). cond (has_path path p) p.duration 0) pair [], ap {B = ℕ} (λ a. cond a pair.duration 0) has))
         (omega (arith, sum_by-append (λ (p : Timed). cond (has_path path p) p.own 0) pairs (pair ∷ []), sum_by-cons (λ (p : Timed). cond (has_path path p) p.own 0) pair [], ap {B = ℕ} (λ a. cond a pair.own 0) has))
 
--- no pair has a path that has no number
+-- no pair has a path without a number
 none_has : (paths : List (List ℕ)) (path : List ℕ) (pairs : List Timed) → AllNumbered paths pairs
     → ((k : ℕ) → k < length paths → path_at paths k ≡ path → ⊥) → tally_of pairs path ≡ no_tally
 none_has paths path [] numbered absent = refl

@@ -7,7 +7,7 @@ use Rattle.std.proofs.lemmas.List.{append_cancel_right, reverse-append, reverse-
 use Rattle.stack_rebuild.specs.declared.path_numbers.Step.{Step}
 use Rattle.stack_rebuild.specs.PathNumbers.{AreApart, AreNumbered, Climbs, HasNumber, Numbers, is_step, number_in, path_at, path_by, paths_after}
 
--- what holds at each place of a list, and of one more item, holds at each place of both
+-- what holds at each place of a list, and for one more item, holds at each place of both
 pub each_more : {X : Type 0} (Q : ℕ → X → Type 0) (xs : List X) (x : X) → ((i : ℕ) (d : X) → i < length xs → Q i (get_or xs i d)) → Q (length xs) x
     → (i : ℕ) (d : X) → i < length (xs ++ x ∷ []) → Q i (get_or (xs ++ x ∷ []) i d)
 each_more Q xs x before here i d within =
@@ -15,7 +15,7 @@ each_more Q xs x before here i d within =
     (λ k low. subst (Q k) (sym (get_or-append xs (x ∷ []) d k low)) (before k d low))
     (subst (Q (length xs)) (sym (get_or-append_seam xs x [] d)) here) i (omega (arith, length-append xs (x ∷ [])))
 
--- the last items of two equal lists are equal, and so are the others
+-- if two lists are equal, their last items are equal, and so are the others
 pub last_same : {X : Type 0} (xs ys : List X) (x y : X) → xs ++ x ∷ [] ≡ ys ++ y ∷ [] → x ≡ y
 last_same xs ys x y same =
     let turned = sym (reverse-append xs (x ∷ [])) ∙ (ap reverse same ∙ reverse-append ys (y ∷ [])) in
@@ -61,7 +61,7 @@ apart_more P path own absent = record { apart = λ n m low high. by_places n m (
     by_places n m (inr here) (inl high) same = absurd (absent m high (sym (path_kept P path m high) ∙ (sym same ∙ at_end n here)))
     by_places n m (inr here) (inr also) same = here ∙ sym also
 
--- a step whose path has no number is no step of the tree
+-- a step whose path has no number isn't a step of the tree
 absent_step : (P : List (List ℕ)) (steps : List Step) (numbers : Numbers) (s : Step) → AreNumbered P steps numbers
     → ((n : ℕ) → n < length P → path_at P n ≡ path_by P s → ⊥) → (i : ℕ) (d : Step) → i < length steps → s ≡ get_or steps i d → ⊥
 absent_step P steps numbers s tree absent i d within same =
@@ -126,7 +126,7 @@ tree_more V steps steps' numbers numbers' s n view tree low absent more count pu
     (subst (λ (paths : List (List ℕ)). (k : ℕ) → k < length paths → path_at paths k ≡ path_by paths s → ⊥) (sym view) absent)
     (λ q. put q ∙ ap (λ (k : ℕ). cond (is_step s q) (Some k) (number_in numbers q)) number)))
 
--- where a step was added and taken away again, and the table has the numbers that it had
+-- a step was added and removed again, and the table has the numbers that it had
 pub tree_kept : (steps more less : List Step) (n : ℕ) (numbers numbers' : Numbers) (s : Step) → AreNumbered (paths_after (reverse steps)) steps numbers
     → more ≡ steps ++ s ∷ [] → n ≡ length more → less ≡ take (n - 1) more → ((q : Step) → number_in numbers' q ≡ number_in numbers q)
     → AreNumbered (paths_after (reverse less)) less numbers'
@@ -142,7 +142,7 @@ tree_kept steps more less n numbers numbers' s tree added count taken same =
       apart = tree.apart;
     })
 
--- a step that the table doesn't have makes a path that has no number
+-- a step that the table doesn't have makes a path without a number
 pub absent_path : (V : List (List ℕ)) (steps : List Step) (numbers : Numbers) (s : Step) → paths_after (reverse steps) ≡ V
     → AreNumbered (paths_after (reverse steps)) steps numbers → s.parent < length V → number_in numbers s ≡ None
     → (n : ℕ) → n < length V → path_at V n ≡ path_by V s → ⊥

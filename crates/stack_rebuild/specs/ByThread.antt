@@ -1,4 +1,4 @@
--- The places of each thread's blocks, and how far a thread's calls lie inside each other, for the contracts of private functions.
+-- The places of each thread's blocks, and how deep a thread's calls go, for the contracts of private functions.
 use Rattle.std.specs.Prelude.{◌≡◌, ◌==◌, Bool, ℕ, List, [], ◌∷◌, is_some, unwrap_or, slice_index_or, nat_eq, map, All}
 use Rattle.std.specs.List.{flat_map, list_any}
 use Rattle.std.specs.Option.{option_map}
@@ -14,7 +14,7 @@ use Rattle.stack_rebuild.specs.declared.thread_blocks.ThreadBlocks.{ThreadBlocks
 use Rattle.stack_rebuild.specs.Histories.{events_of}
 use Rattle.stack_rebuild.specs.Stacks.{threads_of}
 
--- what stands where there is no block
+-- what stands for a block that isn't there
 abbrev pub no_block : Block
 no_block = record { thread = 0; wall = record { secs = 0; micros = 0 }; pid = 0; events = [] }
 
@@ -35,7 +35,7 @@ pub record ArePlaces (blocks first : List Block) (places : Places) : Type 0 wher
   pub each : (thread : ℕ) → events_at blocks (places_in places thread) ≡ events_of thread first
   pub present : (thread : ℕ) → is_some (get nat_cmp places thread) ≡ list_any (λ block. block.thread == thread) first
 
--- a fault is want of memory, or it is of a thread of which this holds
+-- a fault is want of memory, or it names a thread for which this holds
 abbrev pub IsFaultOf : StackFault → ℕ → Type 0 → Type 0
 IsFaultOf NoMemory thread P = Unit {0}
 IsFaultOf (Deep deep) thread P = (deep ≡ thread) × P

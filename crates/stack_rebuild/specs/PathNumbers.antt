@@ -1,34 +1,34 @@
--- Paths by numbers, for the contracts of private functions.
+-- Numbers for paths, for the contracts of private functions.
 use Rattle.std.specs.Prelude.{◌≡◌, ◌<◌, ◌≤◌, ◌+◌, ◌-◌, ◌++◌, ◌⊎◌, ◌==◌, ◌&&◌, Bool, ℕ, List, [], ◌∷◌, length, reverse, Option, Some, slice_index_or}
 use Rattle.std.specs.HashMap.{get, HashMap}
 use Rattle.std.specs.declared.hash.FoldHasher.{FoldHasher}
 use Rattle.std.specs.declared.hash.BuildHasherDefault.{BuildHasherDefault}
 use Rattle.stack_rebuild.specs.declared.path_numbers.Step.{Step}
 
--- the path of a number
+-- the path with this number
 abbrev pub path_at : List (List ℕ) → ℕ → List ℕ
 path_at paths n = slice_index_or paths n []
 
--- the path of a step: that of its parent, and its function
+-- the path of a step: that of its parent, and then its function
 abbrev pub path_by : List (List ℕ) → Step → List ℕ
 path_by paths step = path_at paths step.parent ++ step.func ∷ []
 
--- the paths that steps make, which are listed from the last one to the first. Number 0 is the empty path
+-- The paths that steps make, if the steps are listed from the last one to the first. Number 0 is the empty path.
 abbrev pub paths_after : List Step → List (List ℕ)
 paths_after [] = [] ∷ []
 paths_after (step ∷ before) = paths_after before ++ path_by (paths_after before) step ∷ []
 
--- no two numbers have one path
+-- no two numbers have the same path
 pub record AreApart (paths : List (List ℕ)) : Type 0 where
   pub apart : (n m : ℕ) → n < length paths → m < length paths → path_at paths n ≡ path_at paths m → n ≡ m
 
--- a path that had no number has the next one
+-- a path that had no number has the next number
 pub record IsFresh (path : List ℕ) (n : ℕ) (old new : List (List ℕ)) : Type 0 where
   pub more : new ≡ old ++ path ∷ []
   pub last : n ≡ length old
   pub absent : (k : ℕ) → k < length old → path_at old k ≡ path → ⊥
 
--- a path has a number now, and each one that had a number has it still
+-- A path has a number. Each path that had a number still has it.
 pub record HasNumber (path : List ℕ) (n : ℕ) (old new : List (List ℕ)) : Type 0 where
   pub is : path_at new n ≡ path
   pub within : n < length new
@@ -45,7 +45,7 @@ is_step step other = (step.parent == other.parent) && (step.func == other.func)
 abbrev pub number_in : Numbers → Step → Option ℕ
 number_in numbers step = get is_step numbers step
 
--- a step goes on behind the path of a lower number, and makes the path of its own
+-- a step goes on from the path of a lower number, and makes its own path
 pub record Climbs (paths : List (List ℕ)) (i : ℕ) (step : Step) : Type 0 where
   pub lower : step.parent ≤ i
   pub is : path_at paths (i + 1) ≡ path_by paths step

@@ -11,7 +11,7 @@ use Rattle.stack_rebuild.specs.Stacks.{PathRow, path_cmp}
 abbrev pub row_by : List ℕ → Tally → PathRow
 row_by path tally = record { path = path; count = tally.count; sum = tally.sum; own = tally.own }
 
--- the row of a path by its number, if it has a pair
+-- the row of a path with this number, if it has a pair
 abbrev pub rows_at : List (List ℕ) → List Tally → ℕ → List PathRow
 rows_at paths tallies n = let tally = slice_index_or tallies n no_tally in if nat_lt 0 tally.count then row_by (path_at paths n) tally ∷ [] else []
 
@@ -20,6 +20,6 @@ abbrev pub rows_below : List (List ℕ) → List Tally → ℕ → List PathRow
 rows_below paths tallies zero = []
 rows_below paths tallies (suc n) = rows_below paths tallies n ++ rows_at paths tallies n
 
--- whether a row's path comes before that of another one
+-- whether a row's path comes before that of another row
 abbrev pub row_before : StackRow → StackRow → Bool
 row_before row other = is_lt (path_cmp row.path.items other.path.items)

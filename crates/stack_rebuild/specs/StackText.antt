@@ -13,13 +13,13 @@ abbrev pub path_text : Option Program → List ℕ → List ℕ
 path_text program [] = []
 path_text program (func ∷ inner) = name_text program func ++ flat_map (λ f. codes ";" ++ name_text program f) inner
 
--- what stands before a row's path: for readers three columns of ten places, a longer number whole
+-- the text before a row's path: for readers, three columns of ten places, with a longer number whole
 abbrev pub columns_text : StackForm → PathRow → List ℕ
 columns_text Human row =
     right_aligned row.count 10 ++ codes " " ++ right_aligned row.sum 10 ++ codes " " ++ right_aligned row.own 10 ++ codes " "
 columns_text Flame row = []
 
--- what stands behind it: in the form for flame graphs what was spent in its calls themselves
+-- the text after it: in the form for flame graphs, the time in its calls without other functions
 abbrev pub weight_text : StackForm → PathRow → List ℕ
 weight_text Human row = codes "\n"
 weight_text Flame row = codes " " ++ decimal row.own ++ codes "\n"

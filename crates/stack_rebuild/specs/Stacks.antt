@@ -1,4 +1,4 @@
--- The stacks of a trace: on which paths its functions were called, and what the calls of each path took.
+-- The stacks of a trace: on which paths its functions were called, and for how long.
 use Rattle.std.specs.Prelude.{◌≡◌, ◌-◌, ◌==◌, ◌||◌, Bool, true, false, ℕ, List, [], ◌∷◌, ◌++◌, length, map, filter, reverse, take, sum_by, count_by, nat_lt, if◌then◌else◌, Option, None, Some}
 use Rattle.std.specs.List.{flat_map}
 use Rattle.std.specs.declared.cmp.Ordering.{Ordering}
@@ -16,28 +16,28 @@ use Rattle.stack_rebuild.specs.Calls.{open_calls, pairs_of}
 use Rattle.stack_rebuild.specs.Histories.{events_of}
 use Rattle.stack_rebuild.specs.Ascending.{each_once}
 
--- the calls that are open just before the event at a position, from the innermost outwards
+-- the calls that are open just before the event at a position, from the innermost to the outermost
 abbrev pub open_before : List Event → ℕ → List Call
 open_before events at = open_calls (reverse (take at events))
 
--- the functions of calls, from the outermost inwards
+-- the functions of calls, from the outermost to the innermost
 abbrev pub path_of : List Call → List ℕ
 path_of calls = reverse (map (λ call. call.func) calls)
 
--- the path of a pair: the functions of the calls that are open just before its entry, then its own
+-- the path of a pair: the functions of the calls that are open just before its entry, and then its own
 abbrev pub pair_path : List Event → Pair → List ℕ
 pair_path events pair = path_of (open_before events pair.entry) ++ pair.func ∷ []
 
--- whether the innermost of some calls is the one whose entry is at a position
+-- whether the innermost of some calls is the one with its entry at a position
 abbrev pub is_innermost : ℕ → List Call → Bool
 is_innermost at [] = false
 is_innermost at (call ∷ outer) = call.entry == at
 
--- the durations of the pairs that were made directly in the call whose entry is at a position
+-- the durations of the pairs that were made directly in the call with its entry at a position
 abbrev pub spent_in : List Event → ℕ → ℕ
 spent_in events at = sum_by (λ pair. if is_innermost at (open_before events pair.entry) then pair.duration else 0) (pairs_of events)
 
--- a pair with its path: its duration, and what is left of it without its direct children, not below 0
+-- a pair with its path: its duration, and what is left of it without its direct children, at least 0
 pub record Timed : Type 0 where
   pub path : List ℕ
   pub duration : ℕ
@@ -62,7 +62,7 @@ all_timed blocks = flat_map (λ thread. timed_in (events_of thread blocks)) (thr
 abbrev pub path_cmp : List ℕ → List ℕ → Ordering
 path_cmp = slice_cmp nat_cmp
 
--- what a path has: its pairs, and the sums of their durations and of what is left of them
+-- the numbers of a path: how many pairs it has, and the sums of their durations and of what is left of them
 pub record PathRow : Type 0 where
   pub path : List ℕ
   pub count : ℕ
@@ -100,7 +100,7 @@ abbrev pub first_of : List ℕ → Option ℕ
 first_of [] = None
 first_of (n ∷ ns) = Some n
 
--- the least thread of which after some event more calls are open than a limit
+-- the least thread that has more calls open than a limit, after some event
 abbrev pub deep_in : ℕ → List Block → Option ℕ
 deep_in limit blocks = first_of (filter (λ thread. gets_deep limit (reverse (events_of thread blocks))) (threads_of blocks))
 

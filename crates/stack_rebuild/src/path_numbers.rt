@@ -1,4 +1,4 @@
-//! Paths by numbers.
+//! Numbers for paths.
 
 ghost use Rattle.std.specs.Prelude.{◌≡◌, ◌<◌, ◌++◌, ℕ, [], ◌∷◌, length, IfOk};
 ghost use Rattle.stack_rebuild.specs.PathNumbers.{AreApart, HasNumber, path_at, path_by};
@@ -8,24 +8,24 @@ use std::collections::HashMap;
 use std::marker::Model;
 use xray_io::NoMemory;
 
-/// How a path goes on: behind the path of a number, by a function.
+/// A step from one path to a longer one: the number of the path, and the function that it goes on
+/// with.
 #[derive(Clone, Copy, Debug, PartialEq, Eq, Hash)]
 pub(crate) struct Step {
-    /// The number of the path in front of it.
+    /// The number of the path without its last function.
     parent: usize,
     /// The id of the function.
     func: u32,
 }
 
-/// The paths that came so far, each with a number. The empty path has number 0. Contracts see them as
-/// a list.
+/// The paths so far, each with a number. The empty path has number 0. In contracts they are a list.
 ///
-/// They are a tree: a path is its last function, and the number of the path in front of it.
+/// They form a tree. A path is its last function, and the number of the path before that.
 #[derive(Debug, Drop)]
 pub(crate) struct PathNumbers {
-    /// The steps that make the paths, from number 1 on.
+    /// The steps to the paths, from number 1 on.
     steps: Vec<Step>,
-    /// The numbers of the paths that steps make.
+    /// The numbers of the paths by their steps.
     numbers: HashMap<Step, usize>,
 }
 
@@ -42,7 +42,7 @@ impl Model for PathNumbers {
 }
 
 impl PathNumbers {
-    /// The empty path alone.
+    /// Only the empty path.
     pub(crate) fn new(alloc: Global) -> PathNumbers
         ensures { result ≡ [] ∷ [] }
     {
@@ -52,7 +52,7 @@ impl PathNumbers {
         }
     }
 
-    /// No two numbers have one path.
+    /// No two numbers have the same path.
     pub(crate) fn count(&self) -> usize
         ensures count { result ≡ length self.now }
         ensures apart { AreApart self.now }
@@ -60,7 +60,7 @@ impl PathNumbers {
         self.steps.len() + 1
     }
 
-    /// The number of the path that goes on by a function behind that of a number.
+    /// The number of a path with one more function.
     pub(crate) fn number_of(&mut self, parent: usize, func: u32) -> Result<usize, NoMemory>
         requires { parent < length self.old }
         ensures { IfOk result (λ n.
@@ -92,7 +92,7 @@ impl PathNumbers {
         }
     }
 
-    /// The path of a number.
+    /// The path with this number.
     pub(crate) fn path(&self, alloc: Global, number: usize) -> Result<Vec<u32>, NoMemory>
         requires { number < length self.now }
         ensures { IfOk result (λ path. path.items ≡ path_at self.now number) }

@@ -1,4 +1,4 @@
-//! What the pairs of each path come to.
+//! The sums over the pairs of each path.
 
 ghost use Rattle.std.specs.Prelude.{◌≡◌, ◌<◌, ◌++◌, List, [], ◌∷◌, length, IfOk, OnOk};
 ghost use Rattle.stack_rebuild.specs.PathNumbers.{HasNumber, path_at};
@@ -9,8 +9,8 @@ use crate::path_numbers::PathNumbers;
 use std::alloc::Global;
 use xray_io::NoMemory;
 
-/// How many pairs a path has, and the sums of their durations and of what is left of them without
-/// their direct children.
+/// How many pairs a path has, and two sums: of their durations, and of their durations without
+/// those of direct children.
 #[derive(Clone, Copy, Debug)]
 pub(crate) struct Tally {
     pub(crate) count: u64,
@@ -30,7 +30,7 @@ impl Tally {
         }
     }
 
-    /// One more pair. No memory holds a trace of more events than the numbers can count.
+    /// One more pair. No trace in memory has more events than the numbers can count.
     fn add(&mut self, duration: u64, own: u128) -> Result<(), NoMemory>
         ensures { OnOk result (self.new ≡ with_pair duration own self.old) }
     {
@@ -41,7 +41,7 @@ impl Tally {
     }
 }
 
-/// The paths that came so far, and a tally for each.
+/// The paths so far, with a tally for each.
 #[derive(Debug, Drop)]
 pub(crate) struct PathSums {
     pub(crate) paths: PathNumbers,
@@ -60,7 +60,7 @@ impl PathSums {
         Ok(PathSums { paths, tallies })
     }
 
-    /// The number of the path that goes on by a function behind that of a number.
+    /// The number of a path with one more function.
     pub(crate) fn number_of(&mut self, parent: usize, func: u32) -> Result<usize, NoMemory>
         requires { parent < length self.old.paths }
         ensures number { IfOk result (λ n.
@@ -76,7 +76,7 @@ impl PathSums {
         Ok(number)
     }
 
-    /// One more pair of a path, by its number.
+    /// One more pair of a path with this number.
     pub(crate) fn add(&mut self, number: usize, duration: u64, own: u128) -> Result<(), NoMemory>
         ensures paths { self.new.paths ≡ self.old.paths }
         ensures sums { OnOk result ((pairs : List Timed)

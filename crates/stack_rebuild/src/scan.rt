@@ -14,10 +14,10 @@ use fdr_file::Block;
 use fdr_record::Event;
 use std::alloc::Global;
 
-/// How many calls of a thread may be open at once.
+/// The most calls of a thread that may be open at once.
 pub const MOST_OPEN: usize = 4096;
 
-/// Goes on by the events of a thread, whose blocks have these places.
+/// Takes the events of a thread. Its blocks are at these places.
 pub(crate) fn add_thread(
     alloc: Global,
     sums: &mut PathSums,
@@ -43,7 +43,7 @@ pub(crate) fn add_thread(
     Ok(())
 }
 
-/// Goes on by the events of the block at a place.
+/// Takes the events of the block at a place.
 fn add_block(
     stack: &mut ThreadStack,
     sums: &mut PathSums,
@@ -78,7 +78,7 @@ fn add_block(
     }
 }
 
-/// Goes on by events of a thread.
+/// Takes events of a thread.
 fn add_events(
     stack: &mut ThreadStack,
     sums: &mut PathSums,

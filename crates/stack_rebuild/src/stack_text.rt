@@ -15,24 +15,24 @@ use function_names::add_name;
 use xray_image::Image;
 use xray_io::{Piece, Sink, Text, WriteFault};
 
-/// How many places a column has. A longer number stands whole.
+/// The width of a column. A longer number is printed whole.
 const WIDTH: usize = 10;
 
-/// How stacks are printed.
+/// The form of printed stacks.
 #[derive(Clone, Copy, Debug, PartialEq, Eq)]
 pub enum StackForm {
-    /// For readers: a head line, and for each path how many pairs it has, the sum of their durations,
-    /// and what of it wasn't spent in other functions.
+    /// For readers: a head line, and for each path the number of its pairs, the sum of their
+    /// durations, and that sum without the time in other functions.
     Human,
-    /// For flame graphs: for each path its names and what was spent in its calls themselves. This is
-    /// what Brendan Gregg's FlameGraph takes.
+    /// For flame graphs: for each path its names, and the time in its calls without other
+    /// functions. Brendan Gregg's FlameGraph reads this.
     Flame,
 }
 
-/// Writes stacks: a line for each row, in their order. Takes no memory.
+/// Writes stacks: a line for each row, in the order of the rows.
 ///
-/// A path is its functions' names, from the outermost inwards, joined by `;`. A function is named as in
-/// `image`, and otherwise by `#` and its id. Numbers are in cycles.
+/// A path is the names of its functions, outermost first, joined by `;`. A function has its name in
+/// `image`, or `#` and its id if there is no name. Numbers are in cycles.
 ///
 /// On `WriteFault` a prefix of the text was written, and the sink counted a fault.
 pub fn write_stack<S: Sink>(
@@ -127,7 +127,7 @@ fn add_columns<S: Sink>(
     }
 }
 
-/// A number in its column.
+/// A number, in its column.
 fn column(number: u128) -> Piece<'static>
     ensures { piece_text result ≡ right_aligned number 10 }
 {
@@ -137,7 +137,7 @@ fn column(number: u128) -> Piece<'static>
     }
 }
 
-/// Adds what stands behind a path.
+/// Adds what follows a path.
 fn add_weight<S: Sink>(
     text: &mut Text<S>,
     row: &StackRow,
@@ -174,7 +174,7 @@ fn add_path<S: Sink>(
     }
 }
 
-/// Adds the names of a path's functions behind the first one.
+/// Adds the names of a path's functions after the first one.
 fn add_inner<S: Sink>(
     text: &mut Text<S>,
     inner: &[u32],
@@ -190,7 +190,7 @@ fn add_inner<S: Sink>(
     Ok(())
 }
 
-/// Adds a name behind others.
+/// Adds a name after others.
 fn add_behind<S: Sink>(
     text: &mut Text<S>,
     func: u32,

@@ -15,9 +15,9 @@ use std::alloc::Global;
 use std::cmp::Ordering;
 use xray_io::NoMemory;
 
-/// The stacks of a trace: a row for each path that has a pair of an entry and an exit, over all threads,
-/// in ascending order of the paths as lists of numbers. The time is linear in the number of events, but
-/// for what is printed of the paths, and for the sorting of the rows.
+/// The stacks of a trace: a row for each path that has a pair of an entry and an exit, over all
+/// threads. The rows are in ascending order of the paths as lists of numbers. `StackFault` says why
+/// there may be none.
 pub fn stacks(alloc: Global, trace: &Trace) -> Result<Vec<StackRow>, StackFault>
     ensures rows { IfOk result (λ rows. map told rows.items ≡ stack_of trace.now) }
     ensures shallow { OnOk result (deep_in MOST_OPEN trace.now.blocks ≡ None) }
@@ -45,7 +45,7 @@ fn sums_of(alloc: Global, blocks: &[Block]) -> Result<PathSums, StackFault>
     Ok(sums)
 }
 
-/// A row for each path that has a pair, by the numbers of the paths.
+/// A row for each path that has a pair, in the order of the paths' numbers.
 fn rows_of(alloc: Global, sums: &PathSums) -> Result<Vec<StackRow>, NoMemory>
     ensures { IfOk result (λ rows. map told rows.items
         ≡ rows_below sums.now.paths sums.now.tallies.items (length sums.now.paths)) }
@@ -57,7 +57,7 @@ fn rows_of(alloc: Global, sums: &PathSums) -> Result<Vec<StackRow>, NoMemory>
     Ok(rows)
 }
 
-/// The row of a path by its number, if it has a pair.
+/// Adds the row of a path with this number, if it has a pair.
 fn add_row(
     alloc: Global,
     rows: &mut Vec<StackRow>,

@@ -47,10 +47,10 @@ fn trace_of(alloc: Global, events: &[Said]) -> Result<Trace, Fail> {
     })
 }
 
-/// A trace of calls that are made one in another, so many that more would be too many, and then more.
-fn deep_trace(alloc: Global, thread: u32, more: usize) -> Result<Trace, Fail> {
+/// A trace of calls of a thread that are made one in another, and of a call of thread 1.
+fn deep_trace(alloc: Global, thread: u32, count: usize) -> Result<Trace, Fail> {
     let mut blocks = Vec::new(alloc);
-    for _ in 0..MOST_OPEN + more {
+    for _ in 0..count {
         blocks.push(block_of(alloc, (thread, Kind::Entry, 1, 0))?)?;
     }
     blocks.push(block_of(alloc, (1, Kind::Entry, 1, 0))?)?;
@@ -147,9 +147,9 @@ fn stacks_are_printed_by_their_paths(rt: HostRuntime) -> Result<(), Fail> {
 
 #[test]
 fn a_thread_with_too_many_open_calls_is_named(rt: HostRuntime) -> Result<(), Fail> {
-    let full = deep_trace(rt.alloc(), 3, 0)?;
+    let full = deep_trace(rt.alloc(), 3, MOST_OPEN)?;
     assert_eq!(rt; printed(rt.alloc(), &full, StackForm::Flame)?.as_str(), "");
-    let deep = deep_trace(rt.alloc(), 3, 1)?;
+    let deep = deep_trace(rt.alloc(), 3, MOST_OPEN + 1)?;
     assert_eq!(rt; stacks(rt.alloc(), &deep).err(), Some(StackFault::Deep(3)));
     Ok(())
 }

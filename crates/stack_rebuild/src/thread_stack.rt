@@ -14,7 +14,7 @@ use fdr_record::{Event, Kind};
 use std::alloc::Global;
 use xray_io::NoMemory;
 
-/// What is followed of an open call.
+/// What is kept of an open call.
 #[derive(Clone, Copy, Debug)]
 pub(crate) struct Frame {
     /// The number of its path.
@@ -24,7 +24,7 @@ pub(crate) struct Frame {
 }
 
 impl Frame {
-    /// Adds a duration to what was spent. No memory holds a trace of more events than it can count.
+    /// Adds a duration to what was spent. No trace in memory has more events than it can count.
     fn spend(&mut self, duration: u64) -> Result<(), NoMemory>
         ensures { OnOk result (self.new ≡ spending duration self.old) }
     {
@@ -36,7 +36,7 @@ impl Frame {
     }
 }
 
-/// Where a thread stands, and a frame for each open call, the outermost first.
+/// A thread after its events so far, and a frame for each open call, outermost first.
 #[derive(Debug, Drop)]
 pub(crate) struct ThreadStack {
     pub(crate) calls: ThreadCalls,
@@ -55,7 +55,7 @@ impl ThreadStack {
         }
     }
 
-    /// Goes on by the thread's next event.
+    /// Takes the thread's next event.
     pub(crate) fn take(&mut self, sums: &mut PathSums, event: &Event) -> Result<(), NoMemory>
         requires { AreWithin sums.old.paths self.old.frames.items }
         ensures within { OnOk result (AreWithin sums.new.paths self.new.frames.items) }
@@ -78,7 +78,7 @@ impl ThreadStack {
     }
 }
 
-/// Opens a frame for a call of a function, in the innermost one.
+/// Opens a frame for a call of a function, inside the innermost one.
 fn open_frame(frames: &mut Vec<Frame>, sums: &mut PathSums, func: u32) -> Result<(), NoMemory>
     requires { AreWithin sums.old.paths frames.old.items }
     ensures within { OnOk result (AreWithin sums.new.paths frames.new.items) }
@@ -93,7 +93,7 @@ fn open_frame(frames: &mut Vec<Frame>, sums: &mut PathSums, func: u32) -> Result
     Ok(())
 }
 
-/// The number of the path of the innermost frame, and that of the empty path where there is none.
+/// The number of the innermost frame's path, or that of the empty path if there is no frame.
 fn innermost(frames: &[Frame]) -> usize
     ensures { result ≡ top_of (reverse frames.now) }
 {
@@ -103,7 +103,7 @@ fn innermost(frames: &[Frame]) -> usize
     }
 }
 
-/// Ends the frames from a depth on. The first of these has a pair, with this duration.
+/// Ends the frames from a depth on. The outermost of them has a pair, with this duration.
 fn end_frame(
     frames: &mut Vec<Frame>,
     sums: &mut PathSums,

@@ -1,4 +1,4 @@
-//! The words in which a line on err says why a file is no trace.
+//! The words that a line on err gives for a file that isn't a trace.
 #![tactic(auto)]
 
 mod refusal;

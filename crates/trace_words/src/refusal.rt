@@ -1,4 +1,4 @@
-//! Why a file is no trace, with the words for it.
+//! Why a file isn't a trace, with the words for it.
 
 ghost use Rattle.std.specs.Prelude.{◌≡◌, ◌++◌, codes, decimal};
 ghost use Rattle.xray_io.specs.Piece.{piece_text};
@@ -10,7 +10,7 @@ use fdr_file::TraceFault;
 use fdr_record::RecFault;
 use xray_io::Piece;
 
-/// The fault of `read_trace`, as one that has the words of its refusal.
+/// The fault of `read_trace`, with the words of its refusal.
 #[derive(Clone, Copy, Debug, Drop, PartialEq, Eq)]
 pub struct TraceRefusal {
     /// What is wrong with the file.
@@ -43,7 +43,7 @@ fn numbered(name: &'static [u8], number: u64) -> Words<'static>
     Words::two(Piece::Bytes(name), Piece::Number(u128::from(number)))
 }
 
-/// The words for a place at which no record stands.
+/// The words for a place where no record stands.
 fn bad(place: u64, fault: RecFault) -> Words<'static>
     ensures { words_text result ≡ codes "Bad " ++ decimal place ++ codes " " ++ record_words fault }
 {
@@ -56,7 +56,7 @@ fn bad(place: u64, fault: RecFault) -> Words<'static>
     }
 }
 
-/// The pieces for why bytes are no record, with a blank before them.
+/// The pieces that say why bytes aren't a record, with a blank before them.
 fn record_pieces(fault: RecFault) -> (Piece<'static>, Piece<'static>)
     ensures { piece_text result.0 ++ piece_text result.1 ≡ codes " " ++ record_words fault }
 {

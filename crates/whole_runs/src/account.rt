@@ -1,5 +1,7 @@
 //! `account`: its options, the names of functions, and each refusal.
+use crate::asm::FIBONACCI;
 use crate::runs::{IMAGE, Run, run_words};
+use crate::sim::TRACED;
 use crate::trace_bytes::{
     CPU, ENTRY, EXIT, EXTENTS_72, EXTENTS_80, HEADER, ONE_CALL, ONE_EXIT, PREAMBLE, RECURSION,
     TWO_FUNCTIONS, file,
@@ -95,6 +97,42 @@ fn an_account_is_printed_as_its_words_ask(rt: HostRuntime) -> Result<(), Fail> {
         assert_eq!(rt; run.status, 0);
         assert_eq!(rt; run.out.as_str(), text);
     }
+    Ok(())
+}
+
+const CSV_OF_FIBONACCI: &str = "funcid,count,min,med,90p,99p,max,sum,entries,exits,function\n\
+    1,87564,3,7,142,1719,213128,11532192,0,0,fib\n";
+
+/// Four threads make 43,782 passings each. With buffers for all of their events each call is a pair.
+#[test]
+fn four_threads_of_a_recursive_function_are_accounted(rt: HostRuntime) -> Result<(), Fail> {
+    let mut desk = trace_desk(rt.alloc(), b"", b"")?;
+    desk.put("x", FIBONACCI.as_bytes())?;
+    desk.put("s", TRACED.as_bytes())?;
+    desk.put("c", b"")?;
+    for words in [
+        &["asm", "x", "i"][..],
+        &["sim", "i", "s", "c", "t", "a", "--threads", "4"],
+        &[
+            "sim",
+            "i",
+            "s",
+            "c",
+            "u",
+            "b",
+            "--threads=4",
+            "--buffer-max=64",
+        ],
+    ] {
+        let run = run_words(&rt, words, &mut desk, &[], &[])?;
+        assert_eq!(rt; run.status, 0);
+    }
+    assert_eq!(rt; desk.get("t").ok_or("no trace")?.len(), 1_408_096);
+    assert_eq!(rt; desk.get("u").ok_or("no trace")?.len(), 1_014_496);
+    let words = ["account", "t", "i", "--format", "csv"];
+    let run = run_words(&rt, &words, &mut desk, &[], &[])?;
+    assert_eq!(rt; run.status, 0);
+    assert_eq!(rt; run.out.as_str(), CSV_OF_FIBONACCI);
     Ok(())
 }
 

@@ -1,10 +1,10 @@
-//! Desks that tests need beside the one in memory.
+//! Desks that tests need besides the one in memory.
 ghost use Rattle.std.specs.Prelude.{◌^◌};
 ghost use Rattle.xray_io.specs.Desk.{Untold};
 
 use xray_io::{Desk, Failed, MemDesk, ReadFail};
 
-/// A desk that gives one byte a read, and takes one a write.
+/// A desk that reads and writes one byte a call.
 #[derive(Drop)]
 pub struct Trickle {
     desk: MemDesk,

@@ -1,4 +1,4 @@
-//! One thread, whose sleds are patched before its start and unpatched behind it.
+//! One thread, with its sleds patched before its start and unpatched after it.
 use crate::desks::Trickle;
 use crate::runs::{IMAGE, SCHEDULE, SCRIPT, STATE, desk_of, run_words};
 use std::process::Abort;

@@ -1,5 +1,5 @@
-//! Whole runs: the top call from its words to its output, over a desk and sinks in memory. There
-//! are tests alone.
+//! Whole runs: the top call from its words to its output, over a desk and sinks in memory. The
+//! crate has only tests.
 #![tactic(auto)]
 
 #[cfg(test)]

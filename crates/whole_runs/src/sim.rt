@@ -8,7 +8,8 @@ use std::thread::Threads;
 
 pub const SIM: [&str; 6] = ["sim", "i", "s", "c", "t", "a"];
 
-/// All is ready before the thread starts: the sleds are patched, a handler is set, and the log is initialized.
+/// Everything is ready before the thread starts: the sleds are patched, a handler is set, and the
+/// log is initialized.
 pub const TRACED: &str = "patch\nset_handler\ninit\ngo\n";
 
 /// The sleds are patched while the threads run: id, opcode, offset and head of the entry sled, and then of the exit
@@ -57,13 +58,14 @@ fn a_schedule_says_between_which_loads_sleds_are_patched(rt: HostRuntime) -> Res
     for (script, schedule, marks) in [
         (TRACED, "", "+2"),
         ("go", "", ".2"),
-        // The head of the entry sled is loaded, then both are unpatched, and then the rest is loaded.
+        // The head of the entry sled is loaded. Then both sleds are unpatched, and the rest is
+        // loaded.
         (
             "patch\nset_handler\ninit\ngo\nunpatch",
             "t 1 1\np 2",
             "+1 .1",
         ),
-        // All but the head of the entry sled is stored.
+        // Everything is stored except the head of the entry sled.
         (LIVE, "p 3\nt 1 1", ".2"),
         (LIVE, "p 3\nt 1 1\np 5", ".1 +1"),
         (LIVE, "p 4", "+1 .1"),
@@ -95,7 +97,7 @@ fn marks_tell_of_the_handler_and_the_log(rt: HostRuntime) -> Result<(), Fail> {
     Ok(())
 }
 
-/// Thread 1 has passed the entry sled before it is patched; thread 2 runs behind all.
+/// Thread 1 has passed the entry sled before it is patched. Thread 2 runs after that.
 #[test]
 fn each_thread_has_marks_of_its_own(rt: HostRuntime) -> Result<(), Fail> {
     let words = ["sim", "i", "s", "c", "t", "a", "--threads", "2"];
@@ -110,7 +112,7 @@ fn each_thread_has_marks_of_its_own(rt: HostRuntime) -> Result<(), Fail> {
     assert_prints(&rt, &words, LIVE, "t 1 1\np 8", states)
 }
 
-/// Thread 16 makes the first load, and all others run behind the schedule.
+/// Thread 16 makes the first load, and all others run after the schedule.
 #[test]
 fn there_may_be_sixteen_threads(rt: HostRuntime) -> Result<(), Fail> {
     let alloc = rt.alloc();
@@ -308,7 +310,7 @@ fn a_schedule_is_refused_by_its_first_fault(rt: HostRuntime) -> Result<(), Fail>
     Ok(())
 }
 
-/// That a script waits is told once the schedule was judged.
+/// The schedule is judged before a script that waits is refused.
 #[test]
 fn a_script_that_waits_is_refused_behind_the_schedule(rt: HostRuntime) -> Result<(), Fail> {
     const HELD: &str = "set_handler\ninit\nhold 1 2\ngo\nawait 1 2\npatch\nrelease 1";

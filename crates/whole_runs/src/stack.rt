@@ -1,17 +1,16 @@
 //! `stack` and `convert`: their texts, their options, and a trace whose calls go too deep.
-use crate::runs::{IMAGE, Run, run_words};
+use crate::runs::{IMAGE, run_words};
 use crate::trace_bytes::{CPU, ENTRY, HEADER, ONE_CALL, PREAMBLE, RECURSION, file};
 use std::alloc::Global;
-use std::process::Abort;
 use std::test::Fail;
 use xray_io::MemDesk;
 
-/// What the words say of a trace, and of the image that it was made of.
-fn report<R: Abort>(rt: &R, alloc: Global, trace: &[u8], words: &[&str]) -> Result<Run, Fail> {
+/// A desk that holds a trace as `t` and an image as `i`.
+fn trace_desk(alloc: Global, trace: &[u8]) -> Result<MemDesk, Fail> {
     let mut desk = MemDesk::new(alloc, Vec::new(alloc));
     desk.put("t", trace)?;
     desk.put("i", &IMAGE)?;
-    run_words(rt, words, &mut desk, &[], &[])
+    Ok(desk)
 }
 
 const TEXT_OF_ONE_CALL: &str =
@@ -45,7 +44,8 @@ fn a_trace_is_printed_as_its_words_ask(rt: HostRuntime) -> Result<(), Fail> {
             YAML_OF_NONE,
         ),
     ] {
-        let run = report(&rt, alloc, &file(alloc, parts)?, words)?;
+        let mut desk = trace_desk(alloc, &file(alloc, parts)?)?;
+        let run = run_words(&rt, words, &mut desk, &[], &[])?;
         assert_eq!(rt; run.err.as_str(), "");
         assert_eq!(rt; run.status, 0);
         assert_eq!(rt; run.out.as_str(), text);
@@ -64,7 +64,8 @@ fn options_come_once_and_have_known_words(rt: HostRuntime) -> Result<(), Fail> {
         &["convert", "t", "--format=yaml", "--format", "yaml"],
         &["convert"],
     ] {
-        let run = report(&rt, alloc, &file(alloc, &ONE_CALL)?, words)?;
+        let mut desk = trace_desk(alloc, &file(alloc, &ONE_CALL)?)?;
+        let run = run_words(&rt, words, &mut desk, &[], &[])?;
         assert_eq!(rt; run.err.as_str(), BAD_LINE);
         assert_eq!(rt; run.status, 1);
         assert_eq!(rt; run.out.as_str(), "");
@@ -88,7 +89,9 @@ fn more_open_calls_than_are_followed_are_refused(rt: HostRuntime) -> Result<(), 
         for _ in 0..count {
             trace.extend_from_slice(ENTRY)?;
         }
-        let run = report(&rt, alloc, &trace, &["stack", "t", "--format", "flame"])?;
+        let mut desk = trace_desk(alloc, &trace)?;
+        let words = ["stack", "t", "--format", "flame"];
+        let run = run_words(&rt, &words, &mut desk, &[], &[])?;
         assert_eq!(rt; run.err.as_str(), line);
         assert_eq!(rt; run.status, status);
         assert_eq!(rt; run.out.as_str(), "");

@@ -1,8 +1,8 @@
-//! Traces, put together of their parts.
+//! Traces, put together from their parts.
 use std::alloc::Global;
 use std::test::Fail;
 
-/// A header of constant and nonstop counters, of buffers of 16,384 bytes.
+/// A header with a constant and nonstop counter, and with buffers of 16,384 bytes.
 pub const HEADER: &[u8] =
     b"\x03\0\x01\0\x03\0\0\0\0\0\0\0\0\0\0\0\0\x40\0\0\0\0\0\0\0\0\0\0\0\0\0\0";
 
@@ -30,14 +30,14 @@ pub const EXIT: &[u8] = b"\x12\0\0\0\0\0\0\0";
 
 pub const EXIT_AFTER_2: &[u8] = b"\x12\0\0\0\x02\0\0\0";
 
-/// A file of one block, in which function 1 is called once, for 2 cycles.
+/// A file of one block. Function 1 is called once, for 2 cycles.
 pub const ONE_CALL: [&[u8]; 6] = [HEADER, EXTENTS_80, PREAMBLE, CPU, ENTRY, EXIT_AFTER_2];
 
-/// A file of one block, with an exit of function 1 alone.
+/// A file of one block, with only an exit of function 1.
 pub const ONE_EXIT: [&[u8]; 5] = [HEADER, EXTENTS_72, PREAMBLE, CPU_AT_2, EXIT];
 
-/// A file of one block, in which function 1 calls itself twice, and the outermost call doesn't end: its durations are
-/// 10 and 35.
+/// A file of one block. Function 1 calls itself twice, and the outermost call doesn't end. Its
+/// durations are 10 and 35.
 pub const RECURSION: [&[u8]; 9] = [
     HEADER,
     EXTENTS_104,
@@ -50,7 +50,7 @@ pub const RECURSION: [&[u8]; 9] = [
     b"\x12\0\0\0\x0F\0\0\0",
 ];
 
-/// A file of one block, in which function 2 is called for 1 cycle, and function 1 for 5.
+/// A file of one block. Function 2 is called for 1 cycle, and function 1 for 5.
 pub const TWO_FUNCTIONS: [&[u8]; 8] = [
     HEADER,
     b"\x0F\x60\0\0\0\0\0\0\0\0\0\0\0\0\0\0",
@@ -62,7 +62,7 @@ pub const TWO_FUNCTIONS: [&[u8]; 8] = [
     b"\x12\0\0\0\x05\0\0\0",
 ];
 
-/// The bytes of parts, one behind the other.
+/// The bytes of parts, one after the other.
 pub fn file(alloc: Global, parts: &[&[u8]]) -> Result<Vec<u8>, Fail> {
     let mut bytes = Vec::new(alloc);
     for part in parts {

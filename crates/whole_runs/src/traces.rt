@@ -1,4 +1,5 @@
-//! `sim`: the trace and the audit of worked rows, byte by byte, and what stands of them when a call of the desk fails.
+//! `sim`: the trace and the audit of worked rows, byte by byte, and what is left of them if a call
+//! of the desk fails.
 use crate::asm::{CALL, ODD_EXIT, STRAIGHT_LINE, TAIL_JUMP};
 use crate::desks::Trickle;
 use crate::runs::{IMAGE, desk_of, run_words};
@@ -11,7 +12,8 @@ use std::thread::Threads;
 /// The words of a replay whose trace has a wall time of 0.
 const REPLAY: [&str; 8] = ["sim", "i", "s", "c", "t", "a", "--wall", "0"];
 
-/// What `sim` is asked for, and what it leaves. The bytes of the traces were worked by hand, record by record.
+/// What `sim` is asked for, and what it leaves. The bytes of the traces were worked by hand, record
+/// by record.
 struct Row<'r> {
     /// The assembler text of the image.
     text: &'r str,
@@ -67,7 +69,7 @@ const ROWS: [Row; 18] = [
             marks .2\n\
             recycled 0\n",
     },
-    // A passing that has begun is recorded, although its sled is unpatched meanwhile.
+    // A passing that has begun is recorded, even if its sled is unpatched meanwhile.
     Row {
         text: STRAIGHT_LINE,
         options: &["--wall", "0"],
@@ -91,7 +93,7 @@ const ROWS: [Row; 18] = [
             marks +1 .1\n\
             recycled 0\n",
     },
-    // A sled of which all but the head is stored is unpatched.
+    // A sled is unpatched until its head is stored.
     Row {
         text: STRAIGHT_LINE,
         options: &["--wall", "0"],
@@ -194,7 +196,7 @@ const ROWS: [Row; 18] = [
             marks +2\n\
             recycled 0\n",
     },
-    // A counter that is further on gets a TSCWrap record.
+    // A greater advance of the counter gets a TSCWrap record.
     Row {
         text: ODD_EXIT,
         options: &["--wall", "0", "--tick=4294967296"],
@@ -431,7 +433,7 @@ const ROWS: [Row; 18] = [
             marks +4\n\
             recycled 0\n",
     },
-    // The numbers of the words stand in the header, in the preamble and in the audit.
+    // The numbers of the words are in the header, in the preamble and in the audit.
     Row {
         text: STRAIGHT_LINE,
         options: &[
@@ -463,7 +465,7 @@ const ROWS: [Row; 18] = [
             marks +2\n\
             recycled 0\n",
     },
-    // Without a wall time in the words, the trace has the one that was handed in.
+    // If the words have no wall time, the trace has the one that was passed in.
     Row {
         text: STRAIGHT_LINE,
         options: &[],
@@ -528,7 +530,7 @@ fn a_replay_leaves_its_trace_and_its_audit(rt: HostRuntime) -> Result<(), Fail> 
     Ok(())
 }
 
-/// The ends of the ranges of buffers, and a trace of at most 67,108,864 bytes.
+/// The ends of the ranges of buffers, and of a trace of at most 67,108,864 bytes.
 #[test]
 fn buffers_have_their_ranges(rt: HostRuntime) -> Result<(), Fail> {
     for (options, status) in [
@@ -591,7 +593,7 @@ fn a_call_of_the_desk_that_fails_leaves_later_outputs_untouched(
 /// The second append of one byte fails: the trace is a prefix, and the audit isn't begun.
 #[test]
 fn a_trace_that_fails_in_the_middle_is_a_prefix(rt: HostRuntime) -> Result<(), Fail> {
-    // A read for each byte of the three inputs, and one that finds the end of each.
+    // A read for each byte of the three inputs, and one more that finds the end of each.
     let reads = (IMAGE.len() + 1 + TRACED.len() + 1 + 1) as u64;
     let desk = desk_of(rt.alloc(), &[reads + 2], &IMAGE, TRACED, "")?;
     let mut trickle = Trickle::new(desk);

@@ -232,7 +232,7 @@ by_ending laws Way said before after NoMemory fits nothing kept order told = rec
   headline = λ e. absurd cc;
 }
 
--- a call that ended so, and whose line is on err
+-- a call that ended in this way, with its line on err
 pub answered : CallLaws → (Way : List Call → Type 0) (said : Option Command) (before after : World) (answer : ℕ) (line : List ℕ)
     → (answer ≡ 0 → SaidFits said) → Ends said before.desk after.desk before.out after.out Way answer line → Says before.err after.err line
     → Answered said before after Way answer

@@ -1,4 +1,5 @@
--- What words mean: one thing where they are decided, a refusal alone, and something in any case. A line a command.
+-- What words mean: only one thing if they are decided, a refusal and nothing else, and something in any case. Each
+-- command has a line.
 use Rattle.std.proofs.Common.{◌≡◌, ◌∙◌, ℕ, List, Option, Some, None, true, refl, sym}
 use Rattle.xray_io.specs.Desk.{Entry}
 use Rattle.xray_program.specs.Commands.{Comes, IsDecided, Means, TellsAll, is_decided}
@@ -29,9 +30,9 @@ pub record Existence : Type 0 where
   pub end : SomeEnd
   pub run : StillRun
 
--- ---- a line a command
+-- ---- a line for each command
 
--- a command that is decided comes to one thing
+-- a command that is decided comes to only one thing
 command_alone : Laws → (held : List ℕ → Entry) → TellsAll held → (command : Command) → is_decided command ≡ true
     → IsAlone AnyOutcome (Comes Sound held command)
 command_alone laws held told (Sim i s c t a options) decided = sim_alone (image_decided laws.verdict laws.accepts) laws.run held i s c t a (setup_of options) told
@@ -42,7 +43,7 @@ command_alone laws held told (Account t i options) decided = account_alone (imag
 command_alone laws held told (Stack t i format) decided = stack_alone (image_decided laws.verdict laws.accepts) held t i format told
 command_alone laws held told (Convert t i) decided = convert_alone (image_decided laws.verdict laws.accepts) held t i told
 
--- a refusal of any command is all that comes of it
+-- if a refusal comes of a command, nothing else does
 command_refuses : Laws → (held : List ℕ → Entry) → TellsAll held → (command : Command) → IsAlone IsRefusal (Comes Sound held command)
 command_refuses laws held told (Sim i s c t a options) = refusal_alone _ (command_alone laws held told (Sim i s c t a options) refl)
 command_refuses laws held told (Plain i bounds) = refusal_alone _ (command_alone laws held told (Plain i bounds) refl)

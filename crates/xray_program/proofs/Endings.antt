@@ -64,7 +64,7 @@ finishes comes outputs text trouble desk desk_now out out_now Way (Err (stops.Un
     record { outcome = ended_by outputs text trouble; comes = is; outputs = outputs; text = text; writes = ended_writes outputs text trouble; failed = fails; then_so = unmade }
 finishes comes outputs text trouble desk desk_now out out_now Way (Err stops.NoMemory) is delivers = absurd delivers
 
--- inputs that are refused once all of them were judged, or want of memory, and nothing was written
+-- inputs that are refused once all of them were judged, or want of memory: nothing was written
 pub refuses : (comes : Outcome → Type 0) (desk : DeskView) (out : SinkView) (Way : List Call → Type 0) (stop : Stop) (result : Result (Unit {0}) Stop)
     → IsErrAnd result (λ s. s ≡ stop) → Finishes comes desk desk out out Way (Err stop) → Finishes comes desk desk out out Way result
 refuses comes desk out Way stop (Ok done) is stands = absurd is
@@ -72,7 +72,7 @@ refuses comes desk out Way stop (Err s) is stands = rw is stands
 
 -- ---- from the inputs on
 
--- what failed over a desk failed over one that held the same, and had counted the same
+-- what failed over a desk failed over one that held the same, with the same counts of faults
 fails_over : (outputs : List (List ℕ × List ℕ)) (text : List ℕ) (desk mid desk_now : DeskView) (out out_now : SinkView) (name : List ℕ)
     → mid.held ≡ desk.held → mid.write_faults ≡ desk.write_faults → FailsWriting outputs text mid desk_now out out_now name
     → FailsWriting outputs text desk desk_now out out_now name

@@ -11,7 +11,7 @@ use Rattle.xray_program.specs.Taking.{DeskReads, Faulty, Form}
 use Rattle.xray_program.specs.declared.stop.Stop.{Stop}
 use Rattle.xray_program.specs.declared.stop.Stop.TheVariants as stops
 
--- of the same calls something else is said
+-- something else is said of the same calls
 pub went_as : {C : Type 0} (Way P Q : List C → Type 0) → Went Way P → ((calls : List C) → P calls → Q calls) → Went Way Q
 went_as Way P Q went then = record { calls = went.calls; way = went.way; are = then went.calls went.are }
 
@@ -71,7 +71,7 @@ one_taking form name before after Way (Err stop) comes came taken went = record 
   );
 }
 
--- the stop that a `?` hands on, of an input after these
+-- the stop that a `?` passes on, of an input after these
 pub stop_handed : {S X Y : Type 0} (along : S → S → List Call → Type 0) → Composes along → (first second third : S) (form : Form X) (before after : DeskView)
     (inputs earlier later : List (List ℕ × ℕ)) (name : List ℕ) (result : Result Y Stop) (stop : Stop) (comes : DeskReads → Outcome → Type 0)
     → comes Faulty (Unread name) → IsErrAnd result (λ s. s ≡ stop) → inputs ≡ earlier ++ (name, form.limit) ∷ later

@@ -49,7 +49,7 @@ report_taken trace image next before after (Err stop) (inr (t, given, turn)) =
     maybe_stops_at image_form (λ reads. TakeReport reads before.held trace image next) before turn.mid after image (λ reads program. next t program) stop
     (to_image before.held trace image next t given) turn.same turn.later turn.taken
 
--- the stop that a `?` hands on
+-- the stop that a `?` passes on
 pub stop_of_trace : (trace : List ℕ) (image : Option (List ℕ)) (before after : DeskView) (result : Result ReportInputs Stop) (stop : Stop)
     → IsErrAnd result (λ s. s ≡ stop) → IsTaken trace_form trace before after (Err stop) → IsReportTaken trace image before after result
 stop_of_trace trace image before after (Ok inputs) stop is taken = absurd is
@@ -102,7 +102,7 @@ image_stopped along both first second third before after held trace (Some image)
     stop_handed along both first second third image_form before after (report_inputs trace (Some image)) ((trace, 67108864) ∷ []) [] image result stop
     (λ reads. StopsReport reads held trace (Some image)) (image_came held trace image t given) is refl taken went then
 
--- what comes where a turn fails comes whatever follows the inputs
+-- what comes if a turn fails comes whatever follows the inputs
 take_more : {X : Type 0} (form : Form X) (reads : DeskReads) (held : List ℕ → Entry) (name : List ℕ) (less more : X → Outcome → Type 0)
     → ((value : X) (outcome : Outcome) → less value outcome → more value outcome) → (outcome : Outcome)
     → Take form reads held name less outcome → Take form reads held name more outcome

@@ -85,7 +85,7 @@ pub turn_came : {X : Type 0} (form : Form X) (comes : DeskReads → Outcome → 
     (next : DeskReads → X → Outcome → Type 0) → Leads comes (λ reads. Take form reads held name (next reads)) → comes Faulty (Unread name)
 turn_came form comes held name next leads = leads Faulty (Unread name) (inl (tt, refl))
 
--- a count that rose has risen since before
+-- a count that rose has risen since an earlier moment
 rose_since : (first before now : ℕ) → first ≤ before → Rose before now → Rose first now
 rose_since first before now up rose = omega arith
 
@@ -117,7 +117,7 @@ stops_at form comes before mid after name next (stops.Fell trouble) leads same u
 stops_at form comes before mid after name next (stops.Unwritten n) leads same up taken = taken
 stops_at form comes before mid after name next stops.NoMemory leads same up taken = tt
 
--- the stop that a `?` hands on
+-- the stop that a `?` passes on
 pub handed_on : {X : Type 0} (comes : DeskReads → Outcome → Type 0) (yields : X → Outcome → Type 0) (before after : DeskView) (result : Result X Stop)
     (stop : Stop) → IsErrAnd result (λ s. s ≡ stop) → IsStopAtInput comes before after stop → AreTaken comes yields before after result
 handed_on comes yields before after (Ok inputs) stop is stands = absurd is

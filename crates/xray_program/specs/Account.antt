@@ -1,4 +1,4 @@
--- `account`: what the functions of a trace took.
+-- `account`: how often the functions of a trace were called, and for how long.
 use Rattle.std.specs.Prelude.{◌≡◌, ℕ, List, [], Bool, true, false, Option}
 use Rattle.account_report.specs.Account.{account_of}
 use Rattle.account_report.specs.AccountText.{account_text, latencies_of}
@@ -43,8 +43,8 @@ format_of Csv = formats.Csv
 
 -- ---- the report
 
--- The account of a trace, in the order that is asked for, and of its rows as many as are asked for. The functions that have a pair are
--- counted over all rows. A program names the functions, if there is one.
+-- The account of a trace, in the order that the words ask for, and with as many rows as they ask for. The functions
+-- that have a pair are counted over all rows. A program names the functions, if there is one.
 abbrev pub account_report : AccountOptions → Trace → Option Program → List ℕ
 account_report options trace program =
     let rows = account_of trace in

@@ -14,7 +14,7 @@ use Rattle.xray_program.specs.Stack.{StackComes}
 use Rattle.xray_program.specs.Taking.{DeskReads, Sound, Faulty}
 use Rattle.command_words.specs.Words.{Command, Sim, Plain, Extract, Asm, Account, Stack, Convert, outputs_of}
 
--- ---- a line a command
+-- ---- a line for each command
 
 -- what comes of it
 abbrev pub Comes : DeskReads → (List ℕ → Entry) → Command → Outcome → Type 0
@@ -26,7 +26,7 @@ Comes reads held (Account trace image options) = AccountComes reads held trace i
 Comes reads held (Stack trace image format) = StackComes reads held trace image format
 Comes reads held (Convert trace image) = ConvertComes reads held trace image
 
--- whether one thing alone comes of it, over what a desk holds: not so where threads run in an order of their own
+-- whether only one outcome comes of it, over what a desk holds; that isn't so if threads run in an order of their own
 abbrev pub is_decided : Command → Bool
 is_decided (Sim image script schedule trace audit options) = true
 is_decided (Plain image bounds) = true
@@ -52,11 +52,11 @@ is_still (Convert trace image) = true
 abbrev pub ComesOf : DeskReads → Option Command → (List ℕ → Entry) → Outcome → Type 0
 ComesOf reads said held outcome = MatchOption said (outcome ≡ BadLine) (λ command. Comes reads held command outcome)
 
--- what it means over what a desk holds: what comes of it where no read fails
+-- what it means over what a desk holds: what comes of it if no read fails
 abbrev pub Means : Option Command → (List ℕ → Entry) → Outcome → Type 0
 Means said held outcome = ComesOf Sound said held outcome
 
--- the turn of this name had come: it is what can't be read, where reads fail
+-- the turn of this name had come: it is what can't be read, if reads fail
 abbrev pub HadItsTurn : Option Command → (List ℕ → Entry) → List ℕ → Type 0
 HadItsTurn said held name = ComesOf Faulty said held (Unread name)
 
@@ -64,13 +64,13 @@ HadItsTurn said held name = ComesOf Faulty said held (Unread name)
 abbrev pub outputs_named : Option Command → List (List ℕ)
 outputs_named said = option_map_or outputs_of said []
 
--- one thing alone is meant; nobody is waited for
+-- only one outcome is meant; nobody is waited for
 abbrev pub IsDecided : Option Command → Type 0
 IsDecided said = option_map_or is_decided said true ≡ true
 
 abbrev pub IsStill : Option Command → Type 0
 IsStill said = option_map_or is_still said true ≡ true
 
--- the desk says of every name what it holds
+-- the desk reports of every name what it holds
 abbrev pub TellsAll : (List ℕ → Entry) → Type 0
 TellsAll held = (name : List ℕ) → held name ≢ Untold

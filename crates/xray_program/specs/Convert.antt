@@ -6,6 +6,6 @@ use Rattle.xray_program.specs.Reports.{TakeReport}
 use Rattle.xray_program.specs.Taking.{DeskReads}
 use Rattle.yaml_convert.specs.Yaml.{yaml_text}
 
--- what comes of the command: the text of the trace, whose functions a program names, if there is one
+-- what comes of the command: the text of the trace; a program names its functions, if there is one
 abbrev pub ConvertComes : DeskReads → (List ℕ → Entry) → (trace : List ℕ) → (image : Option (List ℕ)) → Outcome → Type 0
 ConvertComes reads held trace image = TakeReport reads held trace image (λ t program outcome. outcome ≡ Done [] (yaml_text program t))

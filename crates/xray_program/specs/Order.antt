@@ -1,4 +1,4 @@
--- In which order a call asks its desk.
+-- The order in which a call asks its desk.
 use Rattle.std.specs.Prelude.{◌≡◌, ◌⊎◌, ℕ, ◌+◌, List, [], ◌∷◌, ◌++◌, length, codes, Option, Ok, Err}
 use Rattle.std.specs.Option.{option_map_or}
 use Rattle.xray_io.specs.Calls.{Call}
@@ -12,9 +12,10 @@ use Rattle.xray_program.specs.Taking.{AllAccepted}
 use Rattle.xray_program.specs.Outcomes.{BadLine, Unread, TooLong, Refused, Done, Fell, Ending, With, Unwritten, NoMemory}
 use Rattle.command_words.specs.Words.{Command, Sim, Plain, Extract, Asm, Account, Stack, Convert}
 
--- ---- a line a command
+-- ---- a line for each command
 
--- its inputs in the order of the words, each a name and how many bytes it has at the most; one that the words leave out isn't there
+-- its inputs in the order of the words, each with its name and the most bytes that it may have; one that the words
+-- leave out isn't listed
 abbrev pub inputs_of : Command → List (List ℕ × ℕ)
 inputs_of (Sim image script schedule trace audit options) = (image, 4194304) ∷ (script, 1048576) ∷ (schedule, 16777216) ∷ []
 inputs_of (Plain image bounds) = (image, 4194304) ∷ []
@@ -26,7 +27,8 @@ inputs_of (Convert trace image) = report_inputs trace image
 
 -- ---- inputs
 
--- an input was read whole: each byte asked for once, from the first to the end, and at most one past its limit
+-- an input was read whole: each read began where the one before it ended, and none asked for a byte past the first
+-- after its limit
 abbrev pub ReadsWhole : List ℕ → (limit : ℕ) → List Call → Type 0
 ReadsWhole name limit calls = (to : ℕ) × ReadsUpTo name (limit + 1) to (Ok 0) calls
 
@@ -36,7 +38,7 @@ ReadsAll [] calls = calls ≡ []
 ReadsAll (input ∷ inputs) calls =
     (mine : List Call) × (later : List Call) × (calls ≡ mine ++ later) × ReadsWhole input.0 input.1 mine × ReadsAll inputs later
 
--- the inputs before this one were read whole; this is said of its calls, and no other was asked for
+-- the inputs before this one were read whole; this is said of its calls, and no other input was asked for
 pub record StopsAt (inputs : List (List ℕ × ℕ)) (name : List ℕ) (Last : (limit : ℕ) → List Call → Type 0) (calls : List Call) : Type 0 where
   pub earlier : List (List ℕ × ℕ)
   pub limit : ℕ
@@ -50,7 +52,7 @@ pub record StopsAt (inputs : List (List ℕ × ℕ)) (name : List ℕ) (Last : (
 
 -- ---- outputs
 
--- each output was made, one after another: its name created once, and then its bytes appended
+-- each output was made, one after another: its name was created once, and then its bytes were appended
 abbrev pub MakesAll : List (List ℕ × List ℕ) → List Call → Type 0
 MakesAll [] calls = calls ≡ []
 MakesAll (output ∷ outputs) calls =
@@ -88,8 +90,9 @@ pub record ReadsThen (inputs : List (List ℕ × ℕ)) (Then : List Call → Typ
   pub reads : ReadsAll inputs before
   pub goes_on : Then last
 
--- The calls of a call that ended so. None is made where the words say no command. A refusal comes of the last input that was read; or it
--- comes late, though each input was accepted. Memory runs out before any call, or at an input whose turn had come, or later.
+-- The calls of a call that ended in this way. If the words say no command, there are none. A refusal comes of the last
+-- input that was read, or it comes late, though each input was accepted. Memory runs out before any call, or at an
+-- input whose turn had come, or later.
 abbrev pub InOrder : Option Command → (desk desk_now : DeskView) → Ending → List Call → Type 0
 InOrder said desk desk_now (With BadLine) calls = calls ≡ []
 InOrder said desk desk_now (With (Unread name)) calls =

@@ -12,7 +12,7 @@ use Rattle.xray_program.specs.Taking.{DeskReads}
 use Rattle.xray_program.specs.declared.report_inputs.ReportInputs.{ReportInputs}
 use Rattle.xray_program.specs.declared.stop.Stop.{Stop}
 
--- the turn of the image ended so, after the turn of the trace
+-- the turn of the image ended in this way, after the turn of the trace
 pub record ImageTurn (image : Option (List ℕ)) (before after : DeskView) (result : Result (Option Program) Stop) : Type 0 where
   pub mid : DeskView
   pub same : mid.held ≡ before.held
@@ -27,6 +27,6 @@ IsReportTaken trace image before after (Err stop) =
     IsTaken trace_form trace before after (Err stop)
     ⊎ ((t : Trace) × Gives trace_form (before.held trace) t × ImageTurn image before after (Err stop))
 
--- what comes of the inputs where one of them is a stop, and nothing follows
+-- what comes of the inputs if one of them is a stop, and nothing follows
 abbrev pub StopsReport : DeskReads → (List ℕ → Entry) → (trace : List ℕ) → (image : Option (List ℕ)) → Outcome → Type 0
 StopsReport reads held trace image = TakeReport reads held trace image (λ _ _ _. ⊥)

@@ -7,12 +7,12 @@ use Rattle.xray_program.specs.Inputs.{image_form, trace_form}
 use Rattle.xray_program.specs.Outcomes.{Outcome}
 use Rattle.xray_program.specs.Taking.{DeskReads, Take, TakeMaybe}
 
--- the trace is taken, then the image, if there is one, and what follows is theirs
+-- The trace is taken, and then the image, if there is one. What follows gets both.
 abbrev pub TakeReport : DeskReads → (List ℕ → Entry) → (trace : List ℕ) → (image : Option (List ℕ)) → (Trace → Option Program → Outcome → Type 0)
     → Outcome → Type 0
 TakeReport reads held trace image next = Take trace_form reads held trace (λ t. TakeMaybe image_form reads held image (λ program. next t program))
 
--- an image that the words may leave out, with how many bytes it has at the most
+-- an image that the words may leave out, with the most bytes that it may have
 abbrev pub image_input : Option (List ℕ) → List (List ℕ × ℕ)
 image_input None = []
 image_input (Some image) = (image, 4194304) ∷ []

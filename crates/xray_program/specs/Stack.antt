@@ -1,4 +1,4 @@
--- `stack`: on which paths the functions of a trace were called, and what these calls took.
+-- `stack`: on which paths the functions of a trace were called, and for how long.
 use Rattle.std.specs.Prelude.{◌≡◌, ℕ, List, [], Option, option_map, codes}
 use Rattle.command_words.specs.declared.report_options.StackFormat.{StackFormat}
 use Rattle.command_words.specs.declared.report_options.StackFormat.TheVariants.{Human, Flame}
@@ -20,8 +20,8 @@ abbrev pub form_of : StackFormat → StackForm
 form_of Human = forms.Human
 form_of Flame = forms.Flame
 
--- What comes of the judged inputs: a trace of which a thread has too many calls open at once is refused for the least such thread; else its
--- stacks are printed. A program names the functions, if there is one.
+-- What comes of the judged inputs. If a thread of the trace has too many calls open at once, the trace is refused for
+-- the least such thread. Otherwise its stacks are printed. A program names the functions, if there is one.
 abbrev pub StacksCome : (trace : List ℕ) → StackFormat → Trace → Option Program → Outcome → Type 0
 StacksCome trace format t program =
     RefuseIf (option_map deep_words (deep_in MOST_OPEN t.blocks)) trace (codes "trace")

@@ -1,4 +1,4 @@
-//! `account`: what the functions of a trace took.
+//! `account`: how often the functions of a trace were called, and for how long.
 ghost use Rattle.std.specs.Prelude.{◌≡◌, option_map};
 
 use crate::account_options::{format_of, is_descending, key_of};
@@ -20,7 +20,7 @@ pub(crate) struct Account<'a> {
     pub(crate) trace: &'a str,
     /// The name of the image that names the functions, if the words name one.
     pub(crate) image: Option<&'a str>,
-    /// Which rows are printed, in which order, and how.
+    /// The rows that are printed, their order, and their form.
     pub(crate) options: AccountOptions,
 }
 

@@ -5,7 +5,7 @@ ghost use Rattle.xray_program.specs.Account.{format_of, is_descending, key_of};
 use account_report::{AccountFormat, SortKey};
 use command_words::{AccountFormat as FormatWord, SortColumn, SortOrder};
 
-/// The column by which rows are ordered.
+/// The column that the rows are ordered by.
 pub(crate) fn key_of(column: SortColumn) -> SortKey
     ensures { result ≡ key_of column }
 {

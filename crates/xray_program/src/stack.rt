@@ -1,4 +1,4 @@
-//! `stack`: on which paths the functions of a trace were called, and what these calls took.
+//! `stack`: on which paths the functions of a trace were called, and for how long.
 ghost use Rattle.std.specs.Prelude.{◌≡◌, option_map};
 ghost use Rattle.xray_program.specs.Stack.{form_of};
 
@@ -66,7 +66,7 @@ impl<'a> Work<'a> for Stack<'a> {
     }
 }
 
-/// How stacks are printed, as the report has it.
+/// The form of stacks, as the report has it.
 fn form_of(format: StackFormat) -> StackForm
     ensures { result ≡ form_of format }
 {

@@ -16,8 +16,9 @@ use xray_io::{Desk, Sink};
 
 /// A command that waits for nobody, with the names and the options that its words say.
 ///
-/// `take` takes its inputs, each in its turn, and does nothing else. `finish` does the work over them,
-/// with all the memory that it wants, and then writes the outputs and the text by `deliver`.
+/// `take` takes its inputs, each in its turn, and does nothing else. `finish` does the work over
+/// them. It asks for all the memory that it needs, and then writes the outputs and the text by
+/// `deliver`.
 pub(crate) trait Work<'a> {
     /// The inputs, once all of them were judged.
     type Inputs: Drop;
@@ -28,7 +29,7 @@ pub(crate) trait Work<'a> {
     /// What comes of the inputs.
     ghost yields: { Self → Self.Inputs → Outcome → Type 0 };
 
-    /// What the inputs have of each other.
+    /// What has to be true between the inputs.
     ghost fits: { Self → Self.Inputs → Type 0 };
 
     /// Takes the inputs in the order of the words. The first that fails decides.
@@ -60,7 +61,7 @@ pub(crate) trait Work<'a> {
             KeepsOthers (outputs_of (says self.now)) (seen desk.old) (seen desk.new) };
 }
 
-/// Does all of a command, and leaves err alone.
+/// Does all of a command, and leaves err as it is.
 pub(crate) fn perform<'a, W: Work<'a>, D: Desk, O: Sink>(
     alloc: Global,
     work: &W,

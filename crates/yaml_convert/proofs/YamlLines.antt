@@ -52,7 +52,7 @@ pub end_pieces : (block : Block) (event : Event) (cpu thread pid tsc : ℕ) (kin
 end_pieces block event cpu thread pid tsc kind same_cpu same_thread same_pid same_kind same_tsc =
     rw (same_cpu, same_thread, same_pid, same_kind, same_tsc) (simp append_assoc)
 
--- what stands where a slice has nothing
+-- what stands for an event that a slice doesn't have
 abbrev pub no_event : Event
 no_event = record { cpu = 0; func = 0; kind = Entry; tsc = 0 }
 

@@ -20,13 +20,13 @@ header_text header =
     codes "---\nheader:\n  version: " ++ decimal header.version ++ codes "\n  type: 1\n  constant-tsc: " ++ truth_text header.constant
     ++ codes "\n  nonstop-tsc: " ++ truth_text header.nonstop ++ codes "\n  cycle-frequency: " ++ decimal header.frequency ++ codes "\n"
 
--- as llvm-xray's convert names the kinds
+-- the names that llvm-xray's convert has for the kinds
 abbrev pub kind_text : Kind → List ℕ
 kind_text Entry = codes "function-enter"
 kind_text Exit = codes "function-exit"
 kind_text TailExit = codes "function-tail-exit"
 
--- the line of an event, before the name of its function and behind it
+-- the line of an event, before the name of its function and after it
 abbrev pub event_start : Event → List ℕ
 event_start event = codes "  - { type: 0, func-id: " ++ decimal event.func ++ codes ", function: '"
 
@@ -46,7 +46,7 @@ block_lines program block = flat_map (event_line program block) block.events
 abbrev pub has_events : Block → Bool
 has_events block = nat_lt 0 (length block.events)
 
--- what the records begin with: an empty list stands in its own line
+-- the text that the records begin with; an empty list is on the same line
 abbrev pub records_start : List Block → List ℕ
 records_start blocks = if list_any has_events blocks then codes "records:\n" else codes "records: []\n"
 

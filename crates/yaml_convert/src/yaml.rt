@@ -13,12 +13,12 @@ use function_names::add_name;
 use xray_image::Image;
 use xray_io::{Piece, Sink, Text, WriteFault};
 
-/// Writes a trace as `llvm-xray convert -f=yaml` does, as a YAML document: its header, and a line for
-/// each event, block by block in the order of the file. Takes no memory.
+/// Writes a trace as `llvm-xray convert -f=yaml` does, as a YAML document: its header, and a line
+/// for each event, block by block in the order of the file.
 ///
-/// A function is named as in `image`, and otherwise by `#` and its id. The type of the header is always
-/// 1, that of the Flight Data Recorder mode, and that of a record 0. `process` is the process of the
-/// event's block, and `tsc` its counter in cycles.
+/// A function has its name in `image`, or `#` and its id if there is no name. The type of the
+/// header is always 1, that of the Flight Data Recorder mode. The type of a record is always 0.
+/// `process` is the process of the event's block, and `tsc` its counter in cycles.
 ///
 /// On `WriteFault` a prefix of the text was written, and the sink counted a fault.
 pub fn write_yaml<S: Sink>(
@@ -80,7 +80,7 @@ fn add_records<S: Sink>(
     add_blocks(text, blocks, image)
 }
 
-/// What the records begin with.
+/// The text that the records begin with.
 fn records_line(blocks: &[Block]) -> &'static [u8]
     ensures { result.now ≡ records_start blocks.now }
 {
@@ -158,7 +158,7 @@ fn add_event<S: Sink>(
     add_end(text, block, event)
 }
 
-/// Adds what stands before the name of an event's function.
+/// Adds the text before the name of an event's function.
 fn add_start<S: Sink>(text: &mut Text<S>, event: &Event) -> Result<(), WriteFault>
     ensures { AddsText S.written S.faults S.along text.old text.new
         (event_start event.now) result }
@@ -170,7 +170,7 @@ fn add_start<S: Sink>(text: &mut Text<S>, event: &Event) -> Result<(), WriteFaul
     ])
 }
 
-/// Adds what stands behind it.
+/// Adds the text after it.
 fn add_end<S: Sink>(text: &mut Text<S>, block: &Block, event: &Event) -> Result<(), WriteFault>
     ensures { AddsText S.written S.faults S.along text.old text.new
         (event_end block.now event.now) result }
@@ -190,7 +190,7 @@ fn add_end<S: Sink>(text: &mut Text<S>, block: &Block, event: &Event) -> Result<
     ])
 }
 
-/// How a kind of events is printed.
+/// The word for a kind of events.
 fn kind_bytes(kind: Kind) -> &'static [u8]
     ensures { result.now ≡ kind_text kind }
 {
@@ -201,7 +201,7 @@ fn kind_bytes(kind: Kind) -> &'static [u8]
     }
 }
 
-/// How a yes or no is printed.
+/// The word for a yes or no.
 fn truth_bytes(holds: bool) -> &'static [u8]
     ensures { result.now ≡ truth_text holds }
 {
