@@ -11,8 +11,8 @@ pub record PoolIs : Type 0 where
   pub pool : TableId
   pub setup : Setup
 
--- The pass of a thread: of which pool it is, what that was made with, the thread's number, and the buffers that the thread
--- has sealed, in order.
+-- The pass of a thread: of which pool it is, what that was made with, the thread's number, and the buffers that the
+-- thread has sealed, in order.
 pub record PassIs : Type 0 where
   pub pool : TableId
   pub setup : Setup
@@ -62,9 +62,10 @@ pool_is pool setup = record { pool = pool; setup = setup }
 abbrev pub known : Pass Filled View → View
 known pass = view pass
 
--- A pass in a thread's hands. Pass 1 has queued all fresh buffers, made all passes, drained nothing and been handed none
--- back.
+-- A pass in a thread's hands. Pass 1 has queued all fresh buffers, made all passes, drained nothing and been handed
+-- none back.
 pub record IsReady (v : View) : Type 0 where
   pub live : v.live ≡ true
   pub rests : v.between ≡ false
-  pub head : v.thread ≡ 1 → (v.pushed + v.setup.threads ≡ v.setup.max) × (v.drained ≡ []) × (v.returned ≡ []) × (v.given ≡ v.setup.threads)
+  pub head : v.thread ≡ 1
+      → (v.pushed + v.setup.threads ≡ v.setup.max) × (v.drained ≡ []) × (v.returned ≡ []) × (v.given ≡ v.setup.threads)

@@ -1,5 +1,5 @@
--- The rule of the pool: what holds between any two steps, of what is queued and of what the passes know. A thread's number
--- is the place of its pass in the list of views. At place 0 is the pass that only opens the pool.
+-- The rule of the pool: what holds between any two steps, of what is queued and of what the passes know. A thread's
+-- number is the place of its pass in the list of views. At place 0 is the pass that only opens the pool.
 use Rattle.std.specs.Prelude.{◌≡◌, ◌<◌, ◌≤◌, ◌⊎◌, ◌+◌, ℕ, Bool, true, false, List, [], ◌∷◌, ◌++◌, All, length, replicate, slice_index_or}
 use mathlib.Core.Option.{some}
 use lib.ListN.{get_elem?}
@@ -23,9 +23,9 @@ abbrev pub IsCounted : ℕ → List Filled → Type 0
 IsCounted thread buffers = (k : ℕ) (other : Filled) → k < length buffers
     → ((slice_index_or buffers k other).thread ≡ thread) × ((slice_index_or buffers k other).serial ≡ k)
 
--- What a pool has come to: what it was made with; how many passes were made, that at place 0 among them; how many fresh
--- buffers were queued; how many passes pass 1 was handed back, from thread 2 on; which buffers were drained; and for each
--- place, what its thread has sealed.
+-- What a pool has come to: what it was made with; how many passes were made, that at place 0 among them; how many
+-- fresh buffers were queued; how many passes pass 1 was handed back, from thread 2 on; which buffers were drained;
+-- and for each place, what its thread has sealed.
 pub record PoolState : Type 0 where
   pub setup : Setup
   pub passes : ℕ
@@ -57,11 +57,11 @@ pub record Fits (state : PoolState) (place : ℕ) (v : View) : Type 0 where
   pub rests : v.live ≡ false → v.between ≡ false
   pub opened : v.opens ≡ false
 
--- What holds of an opened pool. First, of its passes: there is one for each thread, none is made twice, and what each knows
--- is so. Then of its stages: while fresh buffers are queued, pass 1 is alone and nothing is sealed; while buffers are
--- drained, pass 1 has all other passes and stands between no put and take. Last, of its buffers, both drained and queued:
--- fresh ones come first; those of a thread are the last that it sealed, and all of them while a fresh one is left; and
--- there are as many as were queued fresh, and one more for each pass between a put and a take.
+-- What holds of an opened pool. First, of its passes: there is one for each thread, none is made twice, and what each
+-- knows is so. Then of its stages: while fresh buffers are queued, pass 1 is alone and nothing is sealed; while
+-- buffers are drained, pass 1 has all other passes and stands between no put and take. Last, of its buffers, both
+-- drained and queued: fresh ones come first; those of a thread are the last that it sealed, and all of them while a
+-- fresh one is left; and there are as many as were queued fresh, and one more for each pass between a put and a take.
 pub record KeepsOpen (items : List Filled) (views : List View) : Type 0 where
   pub state : PoolState
   pub fresh : ℕ
@@ -73,7 +73,8 @@ pub record KeepsOpen (items : List Filled) (views : List View) : Type 0 where
   pub fit : (place : ℕ) (v : View) → get_elem? views place ≡ some v → Fits state place v
   pub counted : (place : ℕ) → IsCounted place (row_at state.sealed place)
   pub enough : state.pushed + state.setup.threads ≤ state.setup.max
-  pub stocking : state.pushed + state.setup.threads < state.setup.max → (state.passes ≡ 2) × (used ≡ []) × ((place : ℕ) → row_at state.sealed place ≡ [])
+  pub stocking : state.pushed + state.setup.threads < state.setup.max
+      → (state.passes ≡ 2) × (used ≡ []) × ((place : ℕ) → row_at state.sealed place ≡ [])
   pub draining : 0 < length state.drained → (state.joined + 2 ≡ state.passes) × (turning views ≡ 0)
   pub all : state.drained ++ items ≡ replicate fresh (empty_buffer state.setup.size) ++ used
   pub last : (place : ℕ) → IsSuffix (of_thread place used) (row_at state.sealed place)

@@ -1,9 +1,8 @@
 //! How a pool ends: pass 1 is handed all other passes back, and takes all that is queued.
 
-ghost use Rattle.std.specs.Prelude.{◌≡◌, ◌<◌, ◌≤◌, ◌+◌, [], ◌∷◌, ◌++◌, List, length, true, vec_capacity, vec_len};
+ghost use Rattle.std.specs.Prelude.{◌≡◌, ◌<◌, ◌≤◌, ◌+◌, [], ◌∷◌, length, true, vec_capacity, vec_len};
 ghost use Rattle.crossbeam_queue.specs.Passes.{view, IsPassOf, IsSamePass};
-ghost use Rattle.fdr_buffer.specs.Filled.{Filled};
-ghost use Rattle.buffer_queue.specs.Left.{IsLeft};
+ghost use Rattle.buffer_queue.specs.Left.{AddsLeft};
 ghost use Rattle.buffer_queue.specs.Passes.{pool_is, sealed_of, AreOf};
 ghost use Rattle.buffer_queue.specs.Steps.{MayDrain};
 ghost use Rattle.buffer_queue.specs.Views.{draining, taking_in};
@@ -45,6 +44,7 @@ pub(crate) fn take_in_all(
     ensures head { view result ≡ record (view head) { returned = sealed_of others.items } }
 {
     let mut head = head;
+    // Only the contract reads the setup.
     let _setup = *setup;
     for other in others {
         take_in(queue, &mut head, other);
@@ -81,7 +81,7 @@ pub(crate) fn drain_all<R: Wait>(
     requires stocked { (view head).pushed + setup.now.threads ≡ setup.now.max }
     requires none { (view head).drained ≡ [] }
     requires room { vec_len into.old + setup.now.max ≤ vec_capacity into.old }
-    ensures left { (left : List Filled) × (into.new.items ≡ into.old.items ++ left) × IsLeft setup.now ((view head).sealed ∷ (view head).returned) left }
+    ensures left { AddsLeft setup.now ((view head).sealed ∷ (view head).returned) into.old.items into.new.items }
     ensures capacity { vec_capacity into.new ≡ vec_capacity into.old }
 {
     let mut head = head;

@@ -1,8 +1,7 @@
 //! The pool.
 
-ghost use Rattle.std.specs.Prelude.{◌≡◌, ◌<◌, ◌≤◌, ◌+◌, ◌-◌, ◌^◌, ◌++◌, List, IfOk, length, true, vec_capacity, vec_len};
-ghost use Rattle.fdr_buffer.specs.Filled.{Filled};
-ghost use Rattle.buffer_queue.specs.Left.{IsLeft};
+ghost use Rattle.std.specs.Prelude.{◌≡◌, ◌<◌, ◌≤◌, ◌+◌, ◌-◌, ◌^◌, IfOk, length, true, vec_capacity, vec_len};
+ghost use Rattle.buffer_queue.specs.Left.{AddsLeft};
 ghost use Rattle.buffer_queue.specs.Passes.{sealed_of, sealing, AreNew, AreOf, IsOf};
 
 use crate::draining::{drain_all, take_in_all};
@@ -94,7 +93,7 @@ impl Pool {
         requires passes { AreOf self 1 passes.items }
         requires all { vec_len passes ≡ self.setup.threads }
         requires room { vec_len into.old + self.setup.max ≤ vec_capacity into.old }
-        ensures left { (left : List Filled) × (into.new.items ≡ into.old.items ++ left) × IsLeft self.setup (sealed_of passes.items) left }
+        ensures left { AddsLeft self.setup (sealed_of passes.items) into.old.items into.new.items }
         ensures capacity { vec_capacity into.new ≡ vec_capacity into.old }
     {
         let mut others = passes;

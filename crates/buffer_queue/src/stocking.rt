@@ -28,6 +28,7 @@ fn open<O: Opening>(queue: &Queue, unused: Pass<Buffer, View>, setup: &Setup) ->
     ensures head { view result ≡ head_view setup.now 1 0 }
 {
     let mut unused = unused;
+    // Only the contract reads the setup.
     let _setup = *setup;
     queue.another::<Opens<O>>(&mut unused)
 }
@@ -94,7 +95,8 @@ fn give(queue: &Queue, head: &mut Pass<Buffer, View>) -> PoolPass
     requires given { 0 < (view head.old).given }
     ensures queue { IsSamePass head.old head.new }
     ensures head { view head.new ≡ giving (view head.old) }
-    ensures pass { result ≡ pass_is queue.now.table.shared.table_id (new_view (view head.old).setup ((view head.old).given + 1)) }
+    ensures pass { result ≡ pass_is queue.now.table.shared.table_id
+        (new_view (view head.old).setup ((view head.old).given + 1)) }
 {
     let pass = queue.another::<Gives>(head);
     PoolPass { pass, count: 0 }
@@ -114,8 +116,10 @@ pub(crate) fn give_all(
     requires least { 72 ≤ setup.now.size }
     requires most { setup.now.size ≤ 1048576 }
     ensures queue { IfOk result (λ hands. IsSamePass head.old head.new) }
-    ensures head { IfOk result (λ hands. view head.new ≡ head_view setup.now setup.now.threads (setup.now.max - setup.now.threads)) }
-    ensures hands { IfOk result (λ hands. AreNew (pool_is queue.now.table.shared.table_id setup.now) 2 setup.now.threads hands.items) }
+    ensures head { IfOk result (λ hands.
+        view head.new ≡ head_view setup.now setup.now.threads (setup.now.max - setup.now.threads)) }
+    ensures hands { IfOk result (λ hands.
+        AreNew (pool_is queue.now.table.shared.table_id setup.now) 2 setup.now.threads hands.items) }
 {
     let mut hands = Vec::new(alloc);
     for _given in 1..setup.threads {
@@ -133,6 +137,7 @@ pub(crate) fn first_pass(queue: &Queue, head: Pass<Buffer, View>, setup: &Setup)
     requires enough { setup.now.threads ≤ setup.now.max }
     ensures { result ≡ new_pass (pool_is queue.now.table.shared.table_id setup.now) 1 }
 {
+    // Only the contract reads the setup.
     let _setup = *setup;
     PoolPass {
         pass: head,
