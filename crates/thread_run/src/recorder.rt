@@ -30,7 +30,7 @@ pub struct RingRecorder {
 
 impl RingRecorder {
     ghost use Rattle.traced_run.specs.Kept.{buffers_behind, stamp_of};
-    ghost use Rattle.thread_run.specs.Rings.{buffers_in, segments_in, stamp_in, thread_in, CutsAnew, StandsFor, StandsForMore};
+    ghost use Rattle.thread_run.specs.Rings.{buffers_in, segments_begun, segments_in, stamp_in, thread_in, CutsAnew, StandsFor, StandsForMore};
 
     /// The ring of a thread, with an equal share of all buffers, rounded down. All of them are fresh.
     /// `NoMemory` comes when an allocation was refused.
@@ -79,7 +79,8 @@ impl RingRecorder {
 
     /// Into how many segments the events were cut.
     pub fn segments(&self) -> u32
-        ensures { (events : List Event) → StandsFor self.now events
+        ensures begun { result ≡ segments_begun self.now }
+        ensures count { (events : List Event) → StandsFor self.now events
             → result ≡ length (segments_in self.now events) }
     {
         self.segments
@@ -87,7 +88,8 @@ impl RingRecorder {
 
     /// How many of the segments are lost: all but as many as there are buffers.
     pub fn lost(&self) -> u32
-        ensures { (events : List Event) → StandsFor self.now events
+        ensures begun { result ≡ segments_begun self.now - length (buffers_in self.now) }
+        ensures count { (events : List Event) → StandsFor self.now events
             → result ≡ length (segments_in self.now events) - length (buffers_in self.now) }
     {
         let sealed = self.sealed.len();
@@ -98,6 +100,7 @@ impl RingRecorder {
     /// Moves the buffers that hold a segment behind others, the oldest first. `kept` has to have room.
     pub fn collect(self, kept: &mut Vec<Buffer>)
         requires room { vec_len kept.old + length (buffers_in self) ≤ vec_capacity kept.old }
+        ensures begun { kept.new.items ≡ kept.old.items ++ filter is_begun (buffers_in self) }
         ensures kept { (events : List Event) → StandsFor self events
             → kept.new.items ≡ kept.old.items ++ buffers_behind (stamp_in self)
             (length (segments_in self events) - length (buffers_in self)) (thread_in self) (segments_in self events) }
