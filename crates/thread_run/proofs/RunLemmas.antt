@@ -1,10 +1,11 @@
 -- What workers leave is what runs leave.
-use Rattle.std.proofs.Common.{◌≡◌, ℕ, zero, suc, ◌+◌, ◌-◌, ◌<◌, ◌≤◌, inl, inr, List, [], ◌∷◌, ◌++◌, Option, Some, None, refl, sym, subst, ap, ◌∙◌, arith, length, map}
-use Rattle.std.specs.Prelude.{◌⊎◌, filter, option_map, slice_get}
+use Rattle.std.proofs.Common.{◌≡◌, ℕ, zero, suc, ◌+◌, ◌-◌, ◌<◌, ◌≤◌, inl, inr, List, [], ◌∷◌, ◌++◌, Option, Some, None, refl, sym, subst, ap, ◌∙◌, arith, drop, get_or, length, map, take}
+use Rattle.std.specs.Prelude.{◌⊎◌, All, filter, option_map, slice_get}
 use Rattle.std.proofs.lemmas.List.{length-map}
-use Rattle.std.proofs.lemmas.Option.{slice_get-map, slice_get_within}
+use Rattle.std.proofs.lemmas.Option.{slice_get-get_or, slice_get-map, slice_get_within}
 use Rattle.std.specs.List.{enumerate_from, flat_map}
 use Rattle.xray_image.specs.Program.{IsAccepted, Program}
+use Rattle.patch_script.specs.declared.command.Command.{Command}
 use Rattle.patch_script.specs.Plans.{Plan}
 use Rattle.patch_script.specs.Refusals.{commands_of}
 use Rattle.fdr_record.specs.declared.event.Event.{Event}
@@ -296,3 +297,44 @@ one_worker plan setup Is old new worker count many are is good more i other foun
           let place : count + 1 ≡ i + 1 = omega (arith, many, at) in
           (subst (λ (k : ℕ). IsWorkerOfRun plan setup k other) place (subst (IsWorkerOfRun plan setup (count + 1)) same is), subst Is same good)
     ]
+
+-- ---- what was written back of a slice
+
+take_own : {X : Type 0} (xs ys : List X) → take (length xs) (xs ++ ys) ≡ xs
+take_own [] ys = refl
+take_own (x ∷ xs) ys = ap (λ zs. x ∷ zs) (take_own xs ys)
+
+pub written_back : {X : Type 0} (len : ℕ) (old new : List X) → len ≡ length new → take len (new ++ drop (length new) old) ≡ new
+written_back len old new e = ap (λ (k : ℕ). take k (new ++ drop (length new) old)) e ∙ take_own new (drop (length new) old)
+
+pub all_are : (plan : Plan) (setup : Setup) (Is : Worker RingRecorder → Type 0) (workers : List (Worker RingRecorder))
+    → AreWorkersOfRun plan setup Is workers → All Is workers
+all_are plan setup Is workers are k d within = (are k (get_or workers k d) (slice_get-get_or workers k d within)).1
+
+pub all_shares : (plan : Plan) (setup : Setup) (Is : Worker RingRecorder → Type 0) (workers : List (Worker RingRecorder))
+    → AreWorkersOfRun plan setup Is workers → All (λ w. length (buffers_in (recorder_of w)) ≡ share_of setup) workers
+all_shares plan setup Is workers are k d within = (are k (get_or workers k d) (slice_get-get_or workers k d within)).0.count
+
+pub left_written : OneEnd → (plan : Plan) (setup : Setup) (program : Program) (taken new : List (Worker RingRecorder)) (cpus : List Traced)
+    (counts first : List ℕ) (buffers : List Filled) → plan.program ≡ program → taken ≡ new → AreWorkersOfRun plan setup (HasEnded StandsFor) new
+    → length new ≡ setup.threads
+    → cpus ≡ map (λ w. cpu_of w) taken → counts ≡ map (λ w. segments_begun (recorder_of w)) taken
+    → first ≡ map (λ w. segments_begun (recorder_of w) - length (buffers_in (recorder_of w))) taken
+    → buffers ≡ flat_map (λ w. filter is_begun (buffers_in (recorder_of w))) taken
+    → HaveRunBeside program (commands_of plan.lines) setup cpus counts first buffers
+left_written one plan setup program taken new cpus counts first buffers same_program same are count a b c d =
+    let Script : List Command = commands_of plan.lines in
+    let so = left_so plan setup one new are count in
+    let of_program = subst (λ (q : Program). HaveRunBeside q Script setup (map (λ w. cpu_of w) new) (map (λ w. segments_begun (recorder_of w)) new)
+    (map (λ w. segments_begun (recorder_of w) - length (buffers_in (recorder_of w))) new)
+    (flat_map (λ w. filter is_begun (buffers_in (recorder_of w))) new)) same_program so in
+    let of_taken = subst (λ (ws : List (Worker RingRecorder)). HaveRunBeside program Script setup (map (λ w. cpu_of w) ws)
+    (map (λ w. segments_begun (recorder_of w)) ws) (map (λ w. segments_begun (recorder_of w) - length (buffers_in (recorder_of w))) ws)
+    (flat_map (λ w. filter is_begun (buffers_in (recorder_of w))) ws)) (sym same) of_program in
+    subst (λ (bs : List Filled). HaveRunBeside program Script setup cpus counts first bs) (sym d)
+    (subst (λ (ns : List ℕ). HaveRunBeside program Script setup cpus counts ns (flat_map (λ w. filter is_begun (buffers_in (recorder_of w))) taken)) (sym c)
+    (subst (λ (ns : List ℕ). HaveRunBeside program Script setup cpus ns (map (λ w. segments_begun (recorder_of w) - length (buffers_in (recorder_of w))) taken)
+    (flat_map (λ w. filter is_begun (buffers_in (recorder_of w))) taken)) (sym b)
+    (subst (λ (ts : List Traced). HaveRunBeside program Script setup ts (map (λ w. segments_begun (recorder_of w)) taken)
+    (map (λ w. segments_begun (recorder_of w) - length (buffers_in (recorder_of w))) taken)
+    (flat_map (λ w. filter is_begun (buffers_in (recorder_of w))) taken)) (sym a) of_taken)))
