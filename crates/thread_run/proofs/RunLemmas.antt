@@ -1,7 +1,10 @@
 -- What workers leave is what runs leave.
-use Rattle.std.proofs.Common.{◌≡◌, ℕ, zero, suc, ◌+◌, ◌-◌, ◌<◌, ◌≤◌, inl, inr, List, [], ◌∷◌, ◌++◌, Option, Some, None, refl, sym, subst, ap, ◌∙◌, arith, drop, get_or, length, map, take}
+use Rattle.std.proofs.Common.{◌≡◌, ℕ, zero, suc, ◌+◌, ◌-◌, ◌*◌, ◌<◌, ◌≤◌, inl, inr, List, [], ◌∷◌, ◌++◌, Option, Some, None, refl, sym, subst, ap, ◌∙◌, arith, append-nil, append_assoc, drop, get_or, length, map, take}
 use Rattle.std.specs.Prelude.{◌⊎◌, All, filter, option_map, slice_get}
+use mathlib.Core.List.{map-append}
 use Rattle.std.proofs.lemmas.List.{length-map}
+use Rattle.std.proofs.lemmas.List.Elements.{All-head, All-tail}
+use Rattle.std.proofs.Math.Nat.{mul-div-le, mul-le-mul_right, suc-mul}
 use Rattle.std.proofs.lemmas.Option.{slice_get-get_or, slice_get-map, slice_get_within}
 use Rattle.std.specs.List.{enumerate_from, flat_map}
 use Rattle.xray_image.specs.Program.{IsAccepted, Program}
@@ -338,3 +341,40 @@ left_written one plan setup program taken new cpus counts first buffers same_pro
     (subst (λ (ts : List Traced). HaveRunBeside program Script setup ts (map (λ w. segments_begun (recorder_of w)) taken)
     (map (λ w. segments_begun (recorder_of w) - length (buffers_in (recorder_of w))) taken)
     (flat_map (λ w. filter is_begun (buffers_in (recorder_of w))) taken)) (sym a) of_taken)))
+
+-- ---- what is left of one worker after another
+
+pub map_more : {X Y : Type 0} (f : X → Y) (xs : List X) (x : X) (items new : List Y) (value : Y) → items ≡ map f xs → new ≡ items ++ value ∷ []
+    → value ≡ f x → new ≡ map f (xs ++ x ∷ [])
+map_more f xs x items new value so more is =
+    more ∙ ap (λ ys. ys ++ value ∷ []) so ∙ ap (λ y. map f xs ++ y ∷ []) is ∙ sym (map-append f xs (x ∷ []))
+
+pub flat_more : {X Y : Type 0} (f : X → List Y) (xs : List X) (x : X) (items new ys : List Y) → items ≡ flat_map f xs → new ≡ items ++ ys
+    → ys ≡ f x → new ≡ flat_map f (xs ++ x ∷ [])
+flat_more f [] x items new ys so more is = more ∙ ap (λ zs. zs ++ ys) so ∙ is ∙ sym (append-nil (f x))
+flat_more f (z ∷ xs) x items new ys so more is =
+    more ∙ ap (λ zs. zs ++ ys) so ∙ append_assoc (f z) (flat_map f xs) ys
+    ∙ ap (λ zs. f z ++ zs) (flat_more f xs x (flat_map f xs) (flat_map f xs ++ ys) ys refl refl is)
+
+one_share : (count share : ℕ) → (count + 1) * share ≡ count * share + share
+one_share count share =
+    let next : count + 1 ≡ suc count = omega arith in
+    ap (λ (k : ℕ). k * share) next ∙ suc-mul count share
+
+pub few_more : (count share old more new total : ℕ) → total ≡ count + 1 → old ≤ count * share → more ≡ share → new ≤ old + more → new ≤ total * share
+few_more count share old more new total is few same up =
+    subst (λ (k : ℕ). new ≤ k * share) (sym is) (omega (arith, few, same, up, one_share count share))
+
+-- there is room for one share more
+pub has_share : (setup : Setup) (count old more room : ℕ) → count < setup.threads → old ≤ count * share_of setup → more ≡ share_of setup
+    → setup.max ≤ room → old + more ≤ room
+has_share setup count old more room another few same enough =
+    let all : (count + 1) * share_of setup ≤ setup.threads * share_of setup = mul-le-mul_right (share_of setup) (omega (arith, another)) in
+    omega (arith, few, same, enough, one_share count (share_of setup), all, mul-div-le setup.max setup.threads)
+
+last_is : {X : Type 0} (P : X → Type 0) (ys rest : List X) (x : X) → All P ((ys ++ x ∷ []) ++ rest) → P x
+last_is P [] rest x all = All-head P x rest all
+last_is P (y ∷ ys) rest x all = last_is P ys rest x (All-tail P y ((ys ++ x ∷ []) ++ rest) all)
+
+pub it_is_one : {X : Type 0} (P : X → Type 0) (xs before rest : List X) (x : X) → All P xs → (before ++ x ∷ []) ++ rest ≡ xs → P x
+it_is_one P xs before rest x all order = last_is P before rest x (subst (All P) (sym order) all)
