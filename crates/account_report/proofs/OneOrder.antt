@@ -1,4 +1,4 @@
--- Lists in strict order: there is one with given items.
+-- Lists in strict order: there is only one with the same items.
 use Rattle.std.proofs.Common.{◌≡◌, ◌⊎◌, ◌+◌, ◌<◌, ◌∙◌, ℕ, zero, suc, Bool, true, false, cond, List, [], ◌∷◌, length, map, refl, ap, sym, subst, arith, nat_eq, get_or, inl, inr}
 use Rattle.std.specs.Prelude.{Contains, IsPermutation}
 use Rattle.std.specs.Cmp.{IsStrictWeakOrder}
@@ -60,9 +60,9 @@ same_strict {X} before laws (x ∷ xs) (y ∷ ys) up also to from =
     rest_of a later b others strict same z is (inl here) =
         let own : before a a ≡ true = subst (λ (w : X). before a w ≡ true) (here ∙ sym same) (strict z is) in absurd (never_both before laws a a own own)
 
--- ---- what a sort leaves of items of which no two have one number
+-- ---- what a sort leaves of items, if no two have the same number
 
--- of two items with different numbers one precedes the other
+-- of two items with different numbers, one precedes the other
 abbrev pub Decides : {X : Type 0} → (X → ℕ) → (X → X → Bool) → Type 0
 Decides {X} number before = (x y : X) → (number x ≡ number y → ⊥) → before x y ≡ false → before y x ≡ true
 
@@ -169,7 +169,7 @@ strict-ordered_by number before laws decides (x ∷ xs) distinct =
     (λ y is. apart_from_distinct number x xs (IsDistinct-head nat_eq (number x) (map number xs) distinct) y (in-ordered_by before xs y is))
     (strict-ordered_by number before laws decides xs (IsDistinct-tail nat_eq (number x) (map number xs) distinct))
 
--- what a sort leaves of items with different numbers is the items put in order
+-- a sort of items with different numbers leaves the items in order
 pub one_order : {X : Type 0} (number : X → ℕ) (before : X → X → Bool) → IsStrictWeakOrder before → Decides number before → (xs sorted : List X)
     → IsDistinct nat_eq (map number xs) → IsPermutation xs sorted → IsSortedBy before sorted → sorted ≡ ordered_by before xs
 one_order number before laws decides xs sorted distinct same up =

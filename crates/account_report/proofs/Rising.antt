@@ -1,6 +1,7 @@
--- Ascending lists of numbers: there is one with given numbers.
+-- Ascending lists of numbers: there is only one with the same numbers.
 use Rattle.std.proofs.Common.{◌≡◌, ◌+◌, ◌<◌, ◌≤◌, ◌∙◌, ℕ, suc, Bool, true, false, cond, List, [], ◌∷◌, length, map, count_by, refl, ap, sym, subst, arith, nat_eq, nat_lt, get_or}
 use Rattle.std.specs.Prelude.{IsPermutation}
+use Rattle.std.specs.List.{AllByRecursion, IsDistinct}
 use Rattle.std.specs.List.Sorted.{IsNonDecreasingBy}
 use Rattle.std.proofs.lemmas.Bool.{eqb-true, eq-eqb}
 use Rattle.std.proofs.lemmas.Bool.Decides.{nat_tests}
@@ -59,7 +60,7 @@ same_rising (x ∷ xs) (y ∷ ys) up also same =
     same_rising xs ys up.1 also.1 (λ k. omega (arith, same k, count-cons k x xs, count-cons k y ys, ap (one_at k) first)) in
     ap (λ (n : ℕ). n ∷ xs) first ∙ ap (λ (ns : List ℕ). y ∷ ns) rest
 
--- what a sort by a number leaves is ascending in it
+-- a list that is sorted by a number is ascending in it
 all_from_places : {X : Type 0} (n : X → ℕ) (low : ℕ) (xs : List X) → ((j : ℕ) (d : X) → j < length xs → low ≤ n (get_or xs j d)) → AllFrom low (map n xs)
 all_from_places n low [] each = tt
 all_from_places n low (x ∷ xs) each = (each 0 x (omega arith), all_from_places n low xs (λ j d within. each (suc j) d (omega arith)))
@@ -105,6 +106,18 @@ rises-ascending (x ∷ xs) = rises-put_in x (ascending xs) (rises-ascending xs)
 count-ascending : (k : ℕ) (xs : List ℕ) → count k (ascending xs) ≡ count k xs
 count-ascending k [] = refl
 count-ascending k (x ∷ xs) = omega (arith, count-put_in k x (ascending xs), count-cons k x xs, count-ascending k xs)
+
+length-put_in : (x : ℕ) (xs : List ℕ) → length (put_in nat_lt x xs) ≡ suc (length xs)
+length-put_in x [] = refl
+length-put_in x (y ∷ ys) = by_first (nat_lt x y) (length-put_in x ys)
+  where
+    by_first : (b : Bool) → length (put_in nat_lt x ys) ≡ suc (length ys) → length (cond b (x ∷ y ∷ ys) (y ∷ put_in nat_lt x ys)) ≡ suc (length (y ∷ ys))
+    by_first true behind = refl
+    by_first false behind = ap suc behind
+
+pub length-ascending : (xs : List ℕ) → length (ascending xs) ≡ length xs
+length-ascending [] = refl
+length-ascending (x ∷ xs) = length-put_in x (ascending xs) ∙ ap suc (length-ascending xs)
 
 map_itself : (xs : List ℕ) → map (λ (x : ℕ). x) xs ≡ xs
 map_itself [] = refl
@@ -195,3 +208,16 @@ rises-each_once ns = rises_from_climbs (each_once ns) (climbs-each_once ns)
 
 pub count-each_once : (k n : ℕ) (ns : List ℕ) → count k (each_once (n ∷ ns)) ≡ cond (nat_eq k n) 1 (count k (each_once ns))
 count-each_once k n ns = count-with_number k n (each_once ns) (climbs-each_once ns)
+
+-- none of them is another number
+apart_from_above : (n : ℕ) (xs : List ℕ) → AllAbove n xs → AllByRecursion (λ x. nat_eq n x ≡ false) xs
+apart_from_above n [] all = tt
+apart_from_above n (x ∷ xs) all = (let above : n < x = all.0 in grind (arith, nat_tests), apart_from_above n xs all.1)
+
+distinct_from_climbs : (xs : List ℕ) → Climbs xs → IsDistinct nat_eq xs
+unfolding IsDistinct
+distinct_from_climbs [] up = tt
+distinct_from_climbs (x ∷ xs) up = (apart_from_above x xs up.0, distinct_from_climbs xs up.1)
+
+pub distinct-each_once : (ns : List ℕ) → IsDistinct nat_eq (each_once ns)
+distinct-each_once ns = distinct_from_climbs (each_once ns) (climbs-each_once ns)

@@ -7,7 +7,7 @@ use Rattle.account_report.specs.declared.row.SortKey.{SortKey}
 use Rattle.account_report.specs.Ordered.{column, row_before}
 use Rattle.account_report.proofs.OneOrder.{Decides}
 
--- whether a number and a function precede others
+-- whether one number and function precede another number and function
 abbrev pair_before : ℕ → ℕ → ℕ → ℕ → Bool
 pair_before n f m g = nat_lt n m || (nat_eq n m && nat_lt f g)
 

@@ -1,5 +1,5 @@
--- The rows of a table that tells what a history tells.
-use Rattle.std.proofs.Common.{◌≡◌, ◌∙◌, ℕ, Bool, true, false, cond, ◌||◌, List, [], ◌∷◌, map, refl, ap, sym, subst, arith, nat_eq, Option, Some, None, is_some}
+-- The rows of a table that says what a history says.
+use Rattle.std.proofs.Common.{◌≡◌, ◌-◌, ◌∙◌, length, count_by, ℕ, Bool, true, false, cond, ◌||◌, List, [], ◌∷◌, map, refl, ap, sym, subst, arith, nat_eq, Option, Some, None, is_some}
 use Rattle.std.specs.Prelude.{IsPermutation, All}
 use Rattle.std.specs.Cmp.{nat_eq_equiv}
 use Rattle.std.specs.List.{IsDistinct}
@@ -13,21 +13,30 @@ use Rattle.std.proofs.lemmas.List.Elements.{All-cons, All-head, All-nil, All-tai
 use Rattle.std.proofs.lemmas.List.Sorted.{All-permutation, IsPermutation-map, sum_by-IsPermutation}
 use Rattle.stack_rebuild.specs.Histories.{Logged}
 use Rattle.account_report.specs.declared.row.AccountRow.{AccountRow}
-use Rattle.account_report.specs.Account.{functions_in, row_of}
+use Rattle.account_report.specs.Account.{durations_of, functions_in, is_entry_of, is_exit_of, lone_entries, lone_exits, row_from, row_of}
+use Rattle.account_report.specs.Ascending.{ascending}
 use Rattle.account_report.specs.Tallies.{Tallied, has_event, row_of_entry, tally_of}
-use Rattle.account_report.proofs.Rising.{count, count-cons, count-each_once, rises-each_once, rises_from_sorted, same_rising}
+use Rattle.account_report.proofs.Lone.{each_entry, each_exit}
+use Rattle.account_report.proofs.Rising.{length-ascending, count, count-cons, count-each_once, distinct-each_once, rises-each_once, rises_from_sorted, same_rising}
 
 abbrev Entries : Type 0
 Entries = List (ℕ × Tallied)
 
 -- the row of an entry
 entry_told : (history : List Logged) (func : ℕ) (tally : Tallied) → tally ≡ tally_of history func → row_of_entry (func, tally) ≡ row_of history func
-entry_told history func tally told = ap (λ (t : Tallied). row_of_entry (func, t)) told
+entry_told history func tally told =
+    let durations = ascending (durations_of func history) in
+    let many = length-ascending (durations_of func history) in
+    let entries : count_by (is_entry_of func) history - length durations ≡ lone_entries history func = omega (arith, many, each_entry func history) in
+    let exits : count_by (is_exit_of func) history - length durations ≡ lone_exits history func = omega (arith, many, each_exit func history) in
+    ap (λ (t : Tallied). row_of_entry (func, t)) told
+    ∙ (ap (λ (n : ℕ). row_from func durations n (count_by (is_exit_of func) history - length durations)) entries
+    ∙ ap (λ (n : ℕ). row_from func durations (lone_entries history func) n) exits)
 
 found_here : (func : ℕ) (tally : Tallied) (es : Entries) → lookup (nat_eq func) ((func, tally) ∷ es) ≡ Some tally
 found_here func tally es = ap (λ b. cond b (Some tally) (lookup (nat_eq func) es)) (eq-eqb func func refl)
 
--- what an entry behind the first one has is found there
+-- what an entry after the first one has is found there
 found_behind : (k : ℕ) (v : Tallied) (e : ℕ × Tallied) (es : Entries) → IsDistinct nat_eq (keys_of (e ∷ es)) → lookup (nat_eq k) es ≡ Some v
     → lookup (nat_eq k) (e ∷ es) ≡ Some v
 found_behind k v e es distinct found = by_first (nat_eq k e.0) refl
@@ -78,7 +87,7 @@ count-functions k (l ∷ history) =
     by_first true behind = refl
     by_first false behind = behind
 
--- rows of which each is that of its function are those of their functions
+-- if each row is that of its function, the rows are those of their functions
 rows_of_functions : (history : List Logged) (rows : List AccountRow) → All (λ (r : AccountRow). r ≡ row_of history r.func) rows
     → rows ≡ map (row_of history) (map (λ (r : AccountRow). r.func) rows)
 rows_of_functions history [] all = refl
@@ -112,3 +121,8 @@ rows_sorted history es rows distinct told present same up =
     (λ k. sum_by-IsPermutation (λ x. cond (nat_eq k x) 1 0) (keys_of es) (map func rows) keys
     ∙ (count-keys k es distinct ∙ (ap {B = ℕ} (λ b. cond b 1 0) (present k) ∙ sym (count-functions k history)))) in
     rows_of_functions history rows own ∙ ap (map (row_of history)) funcs
+
+-- no function has two rows
+pub own_rows : (history : List Logged) → IsDistinct nat_eq (map (λ (r : AccountRow). r.func) (map (row_of history) (functions_in history)))
+own_rows history =
+    subst (IsDistinct nat_eq) (sym (functions_again history (functions_in history))) (distinct-each_once (map (λ x. x.event.func) history))

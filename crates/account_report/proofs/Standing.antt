@@ -1,4 +1,4 @@
--- Where the threads stand after a block, and what a trace comes to, block by block.
+-- Where the threads are after a block, and what a trace comes to, block by block.
 use Rattle.std.proofs.Common.{◌≡◌, ◌+◌, ◌++◌, ◌∙◌, ℕ, Bool, true, false, cond, List, [], ◌∷◌, length, map, reverse, take, refl, ap, sym, nat_eq, ◌<◌, get_or, unwrap_or, Option, Some}
 use Rattle.std.specs.HashMap.{get}
 use Rattle.std.proofs.lemmas.List.{append-nil, reverse-append, take_more}
@@ -20,7 +20,7 @@ of_thread-append thread (l ∷ ls) later = by_thread (nat_eq l.thread thread) (o
     by_thread true behind = ap (λ (es : List Event). l.event ∷ es) behind
     by_thread false behind = behind
 
--- events of one thread are none of another
+-- events of one thread aren't events of another
 none_of_other : (thread other : ℕ) (events : List Event) → nat_eq thread other ≡ false → of_thread other (reverse (map (logged thread) events)) ≡ []
 none_of_other thread other [] apart = refl
 none_of_other thread other (e ∷ events) apart =

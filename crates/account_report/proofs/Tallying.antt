@@ -1,4 +1,4 @@
--- What one more event changes of what a history tells of a function.
+-- What one more event changes in what a history says of a function.
 use Rattle.std.proofs.Common.{◌≡◌, ◌+◌, ◌++◌, ◌∙◌, ℕ, Bool, true, false, cond, ◌&&◌, ◌||◌, List, [], ◌∷◌, length, map, reverse, take, refl, ap, sym, subst, arith, nat_eq, ◌<◌, get_or, Option, is_some}
 use Rattle.std.specs.Prelude.{filter}
 use Rattle.std.specs.HashMap.{get}
@@ -21,7 +21,7 @@ use Rattle.account_report.specs.Tallies.{Reached, Table, Tallied, durations_in, 
 abbrev pub pair_after : Logged → List Logged → Option Pair
 pair_after l before = let own = of_thread l.thread before in pair_at l.event (length own) (open_calls own)
 
--- a pair is one of the function of its event
+-- a pair is of the function of its event
 abbrev is_pair_of : ℕ → Pair → Bool
 is_pair_of func pair = nat_eq pair.func func
 
@@ -44,7 +44,7 @@ map_cond : (b : Bool) (pairs : List Pair) → map (λ pair. pair.duration) (cond
 map_cond true pairs = refl
 map_cond false pairs = refl
 
-durations_of-cons : (func : ℕ) (l : Logged) (h : List Logged)
+pub durations_of-cons : (func : ℕ) (l : Logged) (h : List Logged)
     → durations_of func (l ∷ h) ≡ durations_of func h ++ cond (nat_eq l.event.func func) (durations_in (pair_after l h)) []
 durations_of-cons func l h =
     let made = option_to_list (pair_after l h) in
@@ -63,7 +63,7 @@ same_tally x y d e f =
     ap (λ (n : List ℕ). tallied_as n x.entries x.exits) d
     ∙ (ap (λ (n : ℕ). tallied_as y.durations n x.exits) e ∙ ap (λ (n : ℕ). tallied_as y.durations y.entries n) f)
 
--- the tally behind an event: a new one with these three is the old one, or that with the event
+-- the tally after an event: a new one with these three is the old one, or the old one with the event
 counted : (b : Bool) (k : Kind) (ds : List ℕ) (old new : Tallied) → new.durations ≡ old.durations ++ cond b ds []
     → new.entries ≡ cond (b && enters k) 1 0 + old.entries → new.exits ≡ cond (b && leaves k) 1 0 + old.exits → new ≡ cond b (with_event k ds old) old
 counted true Entry ds old new d e f = same_tally new _ d (omega arith) (omega arith)
@@ -77,11 +77,11 @@ tally_of-cons l h func =
     counted (nat_eq l.event.func func) l.event.kind (durations_in (pair_after l h)) (tally_of h func) (tally_of (l ∷ h) func) (durations_of-cons func l h)
     (sum_by-cons (λ x. cond (is_entry_of func x) 1 0) l h) (sum_by-cons (λ x. cond (is_exit_of func x) 1 0) l h)
 
--- an event of the thread goes to its part of a history, and one of another thread doesn't
+-- an event of the thread is added to its part of a history, and one of another thread isn't
 pub of_thread-own : (thread : ℕ) (e : Event) (h : List Logged) → of_thread thread (logged thread e ∷ h) ≡ e ∷ of_thread thread h
 of_thread-own thread e h = ap (λ b. cond b (e ∷ of_thread thread h) (of_thread thread h)) (eq-eqb thread thread refl)
 
--- a history that goes on by events goes on by one more
+-- a history that goes on with events goes on with one more
 going_on-more : (thread : ℕ) (events : List Event) (i : ℕ) (d : Event) (h : List Logged) → i < length events
     → going_on thread (take (i + 1) events) h ≡ logged thread (get_or events i d) ∷ going_on thread (take i events) h
 going_on-more thread events i d h within =
@@ -118,6 +118,6 @@ reached_more thread h events i d pair calls calls' tallies tallies' within reach
     subst (λ (history : List Logged). Reached thread history calls' tallies') (sym (going_on-more thread events i d h within))
     (reached_behind thread (going_on thread (take i events) h) (get_or events i d) pair calls calls' tallies tallies' reached made stands each present)
 
--- what stands where a slice has nothing
+-- what stands for an item that a slice doesn't have
 abbrev pub no_event : Event
 no_event = record { cpu = 0; func = 0; kind = Entry; tsc = 0 }

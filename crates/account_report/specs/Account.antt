@@ -1,9 +1,11 @@
--- The account of a trace: what its functions took.
-use Rattle.std.specs.Prelude.{◌-◌, ◌*◌, ◌/◌, ◌==◌, ◌&&◌, Bool, true, false, ℕ, List, length, map, filter, sum, count_by, slice_index}
+-- The account of a trace: how often its functions were called, and for how long.
+use Rattle.std.specs.Prelude.{◌+◌, ◌-◌, ◌*◌, ◌/◌, ◌==◌, ◌&&◌, Bool, true, false, not, ℕ, List, [], ◌∷◌, length, map, filter, sum, slice_index, if◌then◌else◌}
+use Rattle.std.specs.List.{list_any}
 use Rattle.fdr_record.specs.declared.event.Kind.{Kind}
 use Rattle.fdr_record.specs.declared.event.Kind.TheVariants.{Entry, Exit, TailExit}
 use Rattle.fdr_file.specs.declared.trace.Trace.{Trace}
-use Rattle.stack_rebuild.specs.Histories.{Logged, history_of, all_pairs}
+use Rattle.stack_rebuild.specs.Calls.{pairs_in}
+use Rattle.stack_rebuild.specs.Histories.{Logged, history_of, of_thread, all_pairs}
 use Rattle.account_report.specs.declared.row.AccountRow.{AccountRow}
 use Rattle.account_report.specs.Ascending.{ascending, each_once}
 
@@ -29,7 +31,33 @@ is_exit_of func l = (l.event.func == func) && leaves l.event.kind
 abbrev pub durations_of : ℕ → List Logged → List ℕ
 durations_of func history = map (λ pair. pair.duration) (filter (λ pair. pair.func == func) (all_pairs history))
 
--- the row of a function with these durations, in ascending order, and as many entries and exits. Each pair has one entry and one exit
+-- ---- entries and exits that aren't in a pair
+
+-- whether the event of a thread at a position is the entry of one of the thread's pairs
+abbrev pub is_entry_in_pair : List Logged → (thread position : ℕ) → Bool
+is_entry_in_pair history thread position = list_any (λ pair. pair.entry == position) (pairs_in (of_thread thread history))
+
+-- whether it is the exit of one of these pairs
+abbrev pub is_exit_in_pair : List Logged → (thread position : ℕ) → Bool
+is_exit_in_pair history thread position = list_any (λ pair. pair.exit == position) (pairs_in (of_thread thread history))
+
+-- how many events of a history pass a test, which looks at the event and at its position among the events of its thread
+abbrev pub count_placed : (Logged → ℕ → Bool) → List Logged → ℕ
+count_placed test [] = 0
+count_placed test (l ∷ before) = (if test l (length (of_thread l.thread before)) then 1 else 0) + count_placed test before
+
+-- how many entries of a function aren't in a pair
+abbrev pub lone_entries : List Logged → ℕ → ℕ
+lone_entries history func = count_placed (λ l position. is_entry_of func l && not (is_entry_in_pair history l.thread position)) history
+
+-- how many exits and tail exits of a function aren't in a pair
+abbrev pub lone_exits : List Logged → ℕ → ℕ
+lone_exits history func = count_placed (λ l position. is_exit_of func l && not (is_exit_in_pair history l.thread position)) history
+
+-- ---- rows
+
+-- the row of a function with these durations, in ascending order, and with this many entries and exits that aren't in a
+-- pair
 abbrev pub row_from : ℕ → List ℕ → ℕ → ℕ → AccountRow
 row_from func durations entries exits = let n = length durations in record {
   func = func;
@@ -40,15 +68,12 @@ row_from func durations entries exits = let n = length durations in record {
   p99 = slice_index durations (99 * n / 100);
   max = slice_index durations (n - 1);
   sum = sum durations;
-  entries = entries - n;
-  exits = exits - n;
+  entries = entries;
+  exits = exits;
 }
 
-abbrev pub row_with : ℕ → List ℕ → ℕ → ℕ → AccountRow
-row_with func durations entries exits = row_from func (ascending durations) entries exits
-
 abbrev pub row_of : List Logged → ℕ → AccountRow
-row_of history func = row_with func (durations_of func history) (count_by (is_entry_of func) history) (count_by (is_exit_of func) history)
+row_of history func = row_from func (ascending (durations_of func history)) (lone_entries history func) (lone_exits history func)
 
 -- the functions that have an event, in ascending order
 abbrev pub functions_in : List Logged → List ℕ

@@ -16,12 +16,12 @@ column P99 row = row.p99
 column Max row = row.max
 column Sum row = row.sum
 
--- the number that comes first: the lesser one, or, descending, the greater one
+-- the number that comes first: the lesser one, or the greater one if the order is descending
 abbrev pub comes_first : Bool → ℕ → ℕ → Bool
 comes_first false n m = nat_lt n m
 comes_first true n m = nat_lt m n
 
--- whether a row stands before another one: by the column, and where they have the same there, by ascending functions
+-- whether a row comes before another one: by the column, and if they have the same number there, by ascending functions
 abbrev pub row_before : SortKey → Bool → AccountRow → AccountRow → Bool
 row_before key descending row other =
     comes_first descending (column key row) (column key other) || ((column key row == column key other) && nat_lt row.func other.func)
@@ -31,6 +31,6 @@ abbrev pub first_rows : Option ℕ → List AccountRow → List AccountRow
 first_rows None rows = rows
 first_rows (Some top) rows = take top rows
 
--- the rows in order, and of these the first ones
+-- the first rows of the rows in order
 abbrev pub arranged : SortKey → Bool → Option ℕ → List AccountRow → List AccountRow
 arranged key descending top rows = first_rows top (ordered_by (row_before key descending) rows)

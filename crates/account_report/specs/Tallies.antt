@@ -1,5 +1,5 @@
--- What is kept of each function while the events go by, for the contracts of private functions.
-use Rattle.std.specs.Prelude.{◌≡◌, ◌+◌, ◌==◌, Bool, ℕ, List, [], ◌++◌, map, reverse, count_by, nat_eq, unwrap_or, is_some, Option}
+-- What is kept of each function while events are taken, for the contracts of private functions.
+use Rattle.std.specs.Prelude.{◌≡◌, ◌+◌, ◌-◌, ◌==◌, Bool, ℕ, List, [], ◌++◌, length, map, reverse, count_by, nat_eq, unwrap_or, is_some, Option}
 use Rattle.std.specs.List.{list_any}
 use Rattle.std.specs.Option.{option_to_list}
 use Rattle.std.specs.HashMap.{get, HashMap}
@@ -12,7 +12,8 @@ use Rattle.stack_rebuild.specs.declared.call.Pair.{Pair}
 use Rattle.stack_rebuild.specs.Calls.{Standing, standing_after}
 use Rattle.stack_rebuild.specs.Histories.{Logged, logged, of_thread}
 use Rattle.account_report.specs.declared.row.AccountRow.{AccountRow}
-use Rattle.account_report.specs.Account.{durations_of, is_entry_of, is_exit_of, row_with}
+use Rattle.account_report.specs.Account.{durations_of, is_entry_of, is_exit_of, row_from}
+use Rattle.account_report.specs.Ascending.{ascending}
 
 -- the durations of a function, and how many entries and exits it had
 pub record Tallied : Type 0 where
@@ -39,7 +40,7 @@ with_event TailExit durations tally = record tally { durations = tally.durations
 abbrev pub durations_in : Option Pair → List ℕ
 durations_in pair = map (λ p. p.duration) (option_to_list pair)
 
--- tables by a number
+-- tables with numbers as keys
 abbrev pub Table : Type 0 → Type 0
 Table X = HashMap ℕ X (BuildHasherDefault FoldHasher)
 
@@ -53,23 +54,29 @@ standing_in threads thread = unwrap_or (get nat_eq threads thread) (standing_aft
 abbrev pub has_event : List Logged → ℕ → Bool
 has_event history func = list_any (λ l. l.event.func == func) history
 
--- each thread stands where its part of a history brings it
+-- each thread is where its part of a history brings it
 pub record AreStanding (threads : Table Standing) (history : List Logged) : Type 0 where
   pub each : (thread : ℕ) → standing_in threads thread ≡ standing_after (of_thread thread history)
 
--- what is kept of the functions is what a history tells of them
+-- what is kept of the functions is what a history says of them
 pub record AreTallies (tallies : Table Tallied) (history : List Logged) : Type 0 where
   pub each : (func : ℕ) → tally_in tallies func ≡ tally_of history func
   pub present : (func : ℕ) → is_some (get nat_eq tallies func) ≡ has_event history func
 
--- a history that goes on by the events of a thread
+-- a history that goes on with the events of a thread
 abbrev pub going_on : ℕ → List Event → List Logged → List Logged
 going_on thread events history = reverse (map (logged thread) events) ++ history
 
--- a thread and the functions after a history
+-- the calls of a thread and the tallies of the functions, after a history
 pub record Reached (thread : ℕ) (history : List Logged) (calls : Standing) (tallies : Table Tallied) : Type 0 where
   pub stands : calls ≡ standing_after (of_thread thread history)
   pub tallied : AreTallies tallies history
+
+-- the row of a function with these durations, in any order, and with these numbers of entries and exits; each pair has
+-- one of both
+abbrev pub row_with : ℕ → List ℕ → ℕ → ℕ → AccountRow
+row_with func durations entries exits =
+    let sorted = ascending durations in row_from func sorted (entries - length sorted) (exits - length sorted)
 
 -- the row of a function in a table
 abbrev pub row_of_entry : ℕ × Tallied → AccountRow

@@ -6,7 +6,12 @@ mod report;
 mod row;
 mod scan;
 mod tally;
+mod text;
 
 pub use order::order_rows;
-pub use report::account;
+pub use report::{account, latencies};
 pub use row::{AccountRow, SortKey};
+pub use text::{AccountFormat, write_account};
+
+#[cfg(test)]
+mod tests;

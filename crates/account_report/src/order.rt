@@ -10,11 +10,11 @@ ghost use Rattle.account_report.specs.Ordered.{arranged, column, first_rows, row
 use crate::row::{AccountRow, SortKey};
 use std::cmp::Ordering;
 
-/// Orders rows by a column, and keeps the first ones. Rows that have the same number there go by
-/// ascending functions, in both directions. Takes no memory.
+/// Orders rows by a column, and keeps the first ones. Rows with the same number in the column are
+/// in the order of ascending functions, in both directions.
 ///
-/// `top` is how many rows are kept; without it all are. Rows of one function that have the same number
-/// in the column go in any order.
+/// `top` is how many rows are kept. Without it all rows are kept. Rows of one function with the
+/// same number in the column may be in any order.
 pub fn order_rows(rows: &mut Vec<AccountRow>, sort: SortKey, descending: bool, top: Option<u32>)
     ensures exact { IsDistinct nat_eq (map (λ row. row.func) rows.old.items)
         → rows.new.items ≡ arranged sort descending top rows.old.items }

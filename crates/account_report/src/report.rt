@@ -2,7 +2,9 @@
 
 ghost use Rattle.std.specs.Prelude.{◌≡◌, nat_eq, map, IfOk};
 ghost use Rattle.std.specs.HashMap.{IsUnique};
+ghost use Rattle.std.specs.List.{IsDistinct};
 ghost use Rattle.account_report.specs.Account.{account_of};
+ghost use Rattle.account_report.specs.AccountText.{latencies_of};
 ghost use Rattle.account_report.specs.Tallies.{row_of_entry};
 
 use crate::row::AccountRow;
@@ -13,10 +15,12 @@ use std::alloc::Global;
 use std::collections::HashMap;
 use xray_io::NoMemory;
 
-/// The account of a trace: a row for each function that has an event, in ascending order of their ids.
-/// The time is linear in the number of events, but for the sorting of the durations.
+/// The account of a trace: a row for each function that has an event, in ascending order of ids.
+/// `NoMemory` means that an allocation was refused.
 pub fn account(alloc: Global, trace: &Trace) -> Result<Vec<AccountRow>, NoMemory>
-    ensures { IfOk result (λ rows. rows.items ≡ account_of trace.now) }
+    ensures rows { IfOk result (λ rows. rows.items ≡ account_of trace.now) }
+    // As `order_rows` asks for.
+    ensures distinct { IfOk result (λ rows. IsDistinct nat_eq (map (λ row. row.func) rows.items)) }
 {
     let mut rows = rows_of(alloc, tallies(alloc, trace)?)?;
     rows.sort_unstable_by_key(|row| row.func);
@@ -33,4 +37,11 @@ fn rows_of(alloc: Global, tallies: HashMap<u32, Tally>) -> Result<Vec<AccountRow
         rows.push(tally.into_row(func))?;
     }
     Ok(rows)
+}
+
+/// How many functions of an account have a pair, and so durations.
+pub fn latencies(rows: &[AccountRow]) -> u64
+    ensures { result ≡ latencies_of rows.now }
+{
+    rows.iter().filter(|row| row.count > 0).count() as u64
 }

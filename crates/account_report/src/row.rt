@@ -1,26 +1,26 @@
-/// What the account tells of a function, over all threads of a trace. Durations are in cycles.
+/// What the account says of a function, over all threads of a trace. Durations are in cycles.
 #[derive(Clone, Copy, Debug, PartialEq, Eq)]
 pub struct AccountRow {
     /// The id of the function.
     pub func: u32,
-    /// How many pairs of an entry and an exit it has. Where there are none, the seven numbers from
-    /// here to `sum` are 0.
+    /// How many pairs of an entry and an exit the function has. If there are none, the seven
+    /// numbers from here to `sum` are 0.
     pub count: u64,
-    /// The least of their durations.
+    /// The least duration of a pair.
     pub min: u64,
-    /// Of the n durations in ascending order, counted from 0, the item n / 2.
+    /// The median: item n / 2 of the n durations in ascending order, counted from 0.
     pub med: u64,
-    /// The item 9 n / 10.
+    /// Item 9 n / 10 of these.
     pub p90: u64,
-    /// The item 99 n / 100.
+    /// Item 99 n / 100 of these.
     pub p99: u64,
-    /// The greatest duration.
+    /// The greatest duration of a pair.
     pub max: u64,
     /// The sum of the durations.
     pub sum: u128,
-    /// How many of its entries are in no pair.
+    /// How many of its entries aren't in a pair.
     pub entries: u64,
-    /// How many of its exits and tail exits are in no pair.
+    /// How many of its exits and tail exits aren't in a pair.
     pub exits: u64,
 }
 
@@ -35,11 +35,11 @@ pub enum SortKey {
     Min,
     /// The median.
     Med,
-    /// The item 9 n / 10.
+    /// Item 9 n / 10 of the durations.
     P90,
-    /// The item 99 n / 100.
+    /// Item 99 n / 100 of the durations.
     P99,
-    /// The greatest duration.
+    /// The greatest duration of a pair.
     Max,
     /// The sum of the durations.
     Sum,

@@ -12,7 +12,7 @@ use std::alloc::Global;
 use std::collections::HashMap;
 use xray_io::NoMemory;
 
-/// What the events of a trace tell of each function.
+/// What the events of a trace say of each function.
 pub(crate) fn tallies(alloc: Global, trace: &Trace) -> Result<HashMap<u32, Tally>, NoMemory>
     ensures { IfOk result (λ tallies. AreTallies tallies (history_of trace.now)) }
 {
@@ -24,7 +24,7 @@ pub(crate) fn tallies(alloc: Global, trace: &Trace) -> Result<HashMap<u32, Tally
     Ok(tallies)
 }
 
-/// Goes on by the events of a block.
+/// Takes the events of a block.
 fn add_block(
     alloc: Global,
     threads: &mut HashMap<u32, ThreadCalls>,
@@ -45,7 +45,7 @@ fn add_block(
     Ok(())
 }
 
-/// The open calls of a thread, taken out of the table.
+/// Takes the open calls of a thread out of the table.
 fn take_out(alloc: Global, threads: &mut HashMap<u32, ThreadCalls>, thread: u32) -> ThreadCalls
     ensures taken { result ≡ standing_in threads.old thread }
     ensures others { (other : ℕ) → (thread ≡ other → ⊥)
@@ -57,7 +57,7 @@ fn take_out(alloc: Global, threads: &mut HashMap<u32, ThreadCalls>, thread: u32)
     }
 }
 
-/// Goes on by events of a thread.
+/// Takes events of a thread.
 fn add_events(
     alloc: Global,
     calls: &mut ThreadCalls,

@@ -1,9 +1,9 @@
-//! What is kept of each function while the events go by.
+//! What is kept of each function while events are taken.
 
-ghost use Rattle.std.specs.Prelude.{◌≡◌, ◌==◌, ◌||◌, ℕ, nat_eq, is_some, if◌then◌else◌, OnOk, slice_index};
+ghost use Rattle.std.specs.Prelude.{◌≡◌, ◌-◌, ◌==◌, ◌||◌, ℕ, length, nat_eq, is_some, if◌then◌else◌, OnOk, slice_index};
 ghost use Rattle.std.specs.HashMap.{get};
-ghost use Rattle.account_report.specs.Account.{row_from, row_with};
-ghost use Rattle.account_report.specs.Tallies.{durations_in, no_tally, tally_in, with_event};
+ghost use Rattle.account_report.specs.Account.{row_from};
+ghost use Rattle.account_report.specs.Tallies.{durations_in, no_tally, row_with, tally_in, with_event};
 
 use crate::row::AccountRow;
 use fdr_record::{Event, Kind};
@@ -52,7 +52,7 @@ impl Tally {
         if let Some(pair) = pair {
             self.durations.push(pair.duration)?;
         }
-        // No memory holds a trace of more events.
+        // No trace in memory has more events.
         match kind {
             Kind::Entry => self.entries = self.entries.checked_add(1).ok_or(NoMemory)?,
             Kind::Exit | Kind::TailExit => {
@@ -62,7 +62,7 @@ impl Tally {
         Ok(())
     }
 
-    /// The row of the function, whose id it is.
+    /// The row of the function with this id.
     pub(crate) fn into_row(self, func: u32) -> AccountRow
         ensures { result ≡ row_with func self.durations self.entries self.exits }
     {
@@ -76,9 +76,11 @@ impl Tally {
     }
 }
 
-/// The row of a function with these durations, which are in ascending order.
+/// The row of a function with these durations, in ascending order, and with these numbers of
+/// entries and exits. Each pair has one entry and one exit.
 fn row(func: u32, durations: &[u64], entries: u64, exits: u64) -> AccountRow
-    ensures { result ≡ row_from func durations.now entries exits }
+    ensures { result ≡ row_from func durations.now
+        (entries - length durations.now) (exits - length durations.now) }
 {
     let n = durations.len();
     AccountRow {
@@ -95,7 +97,7 @@ fn row(func: u32, durations: &[u64], entries: u64, exits: u64) -> AccountRow
     }
 }
 
-/// The item at a place, and 0 where there is none.
+/// The item at a place, or 0 if there is none.
 fn item(durations: &[u64], place: usize) -> u64
     ensures { result ≡ slice_index durations.now place }
 {

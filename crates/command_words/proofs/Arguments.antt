@@ -1,4 +1,4 @@
--- What items do to the arguments of a command of clap that takes files and options of one value.
+-- What items do to the arguments of a command of clap that takes files, and options with one value.
 use Rattle.std.proofs.Common.{◌≡◌, ◌∙◌, ℕ, Bool, cond, true, false, suc, refl, ap, List, [], ◌∷◌, ◌++◌, Option, Some, None, append-nil, true≢false, nat_lt}
 use Rattle.std.specs.List.{find}
 use Rattle.std.specs.Option.{option_map_or, option_and_then}
@@ -15,7 +15,7 @@ use Rattle.clap.specs.declared.parser.matches.ValueSource.TheVariants.{CommandLi
 use Rattle.command_words.specs.Clapped.{after}
 use Rattle.command_words.specs.Items.{Item, File, Given, Bare}
 
--- a command of these arguments, as clap builds it: with no help, no version and no subcommand
+-- a command with these arguments, as clap builds it: it has no help, no version and no subcommand
 abbrev pub leaf : Text → List Rule → Shape
 leaf word rules = record (new_shape word) {
   rules = rules;
@@ -26,7 +26,7 @@ leaf word rules = record (new_shape word) {
   is_built = true;
 }
 
--- an argument, as clap builds it, that takes one value, once: it alone has its id, and it has no short name and no default
+-- An argument, as clap builds it, that takes one value, once. No other has its id. It has no short name and no default.
 pub record IsOne (rules : List Rule) (rule : Rule) : Type 0 where
   pub only : arg_by_id rules rule.id ≡ Some rule
   pub range : rule.range ≡ Some (record { start_inclusive = 1; end_inclusive = 1 })
@@ -66,7 +66,7 @@ after_else (kind ∷ kinds) second outcome = refl
 abbrev pub row_for : Rule → Text → Row
 row_for rule value = record { id = rule.id; values = value ∷ []; count = None; source = Some CommandLine; reading = reading_by rule }
 
--- the rows after its use: none where it was used before
+-- the rows after its use, or none if it was used before
 abbrev pub used_one : Rule → Text → List Row → Option (List Row)
 used_one rule value rows = if has_row rule.id rows then None else Some (rows ++ row_for rule value ∷ [])
 
@@ -87,7 +87,7 @@ use_at id change row rows false has =
     let same : without id rows ≡ rows = absent id (λ _. []) [] rows has ∙ append-nil rows in
     rw (same, has) (ap (λ found. Some found) (absent id change (row ∷ []) rows has))
 
--- what clap makes of a use with one value
+-- what clap makes of one use with one value
 pub use_is : (rules : List Rule) (rule : Rule) → IsOne rules rule → (value : Text) (rows : List Row)
     → after (use_fault false rule (value ∷ []) rows) (Some (used rule (value ∷ []) rows)) ≡ used_one rule value rows
 use_is rules rule one value rows =
@@ -95,17 +95,17 @@ use_is rules rule one value rows =
 
 -- ---- a run over items
 
--- the rows after a use of an argument, if there is such a one
+-- the rows after a use of an argument, if there is one
 abbrev pub used_by : Option Rule → Text → Option (List Row) → Option (List Row)
 used_by None value rows = None
 used_by (Some rule) value None = None
 used_by (Some rule) value (Some rows) = used_one rule value rows
 
--- the argument of an option as it is written, with two dashes (45)
+-- the argument of an option as written, with two dashes (45)
 abbrev pub arg_by_option : List Rule → Text → Option Rule
 arg_by_option rules option = option_and_then (arg_by_long rules) (option_and_then (strip_byte 45) (strip_byte 45 option))
 
--- the rows after items, from those before them and the place of the next file on
+-- the rows after items, from the rows before them and the place of the next file
 abbrev pub run : List Rule → Option (List Row) → ℕ → List Item → Option (List Row)
 run rules rows place [] = rows
 run rules rows place (File name ∷ items) = run rules (used_by (arg_by_index rules place) name rows) (suc place) items
@@ -116,7 +116,7 @@ used_none : (rule : Option Rule) (value : Text) → used_by rule value None ≡ 
 used_none None value = refl
 used_none (Some rule) value = refl
 
--- where one item failed, the run does
+-- if one item failed, the run fails
 pub run_none : (rules : List Rule) (place : ℕ) (items : List Item) → run rules None place items ≡ None
 run_none rules place [] = refl
 run_none rules place (File name ∷ items) = rw (used_none (arg_by_index rules place) name) (run_none rules (suc place) items)

@@ -45,7 +45,7 @@ filled_is place (file ∷ files) names few =
     let next : min (place + 1) usize_max ≡ suc place = omega arith in
     rw next (ap (λ rules. built_file place file ∷ rules) (filled_is (suc place) files names (omega arith)))
 
--- a command with arguments more
+-- a command with more arguments
 abbrev with_more : App → List Rule → App
 with_more app rules = on_top (λ s. record s { rules = s.rules ++ rules }) app
 
@@ -54,7 +54,7 @@ with_rules app [] = ap (λ rules. on_top (λ s. record s { rules = rules }) app)
 with_rules app (rule ∷ rules) =
     with_rules (with_rule app rule) rules ∙ ap (λ rules. on_top (λ s. record s { rules = rules }) app) (append_assoc app.top.rules (rule ∷ []) rules)
 
--- the arguments of a row as they are asked of clap, and as it builds them
+-- the arguments of a row, as clap is asked for them and as it builds them
 abbrev asked : CommandRow → List Rule
 asked row = map file_rule row.files ++ map option_rule (option_names row)
 
@@ -81,7 +81,7 @@ few_files row is = go (nat_lt (length row.files) 100) refl (and_parts (are_disti
 
 -- ---- looking an argument up
 
--- a file at this place, where there is one
+-- the file at this place, if there is one
 abbrev pub first_built : ℕ → List FileRow → Option Rule
 first_built place [] = None
 first_built place (file ∷ files) = Some (built_file place file)
@@ -90,7 +90,7 @@ no_place : (names : List Text) (place : ℕ) → arg_by_index (map built_option 
 no_place [] place = refl
 no_place (name ∷ names) place = no_place names place
 
--- after so many files comes the next one, at the next place
+-- after these files comes the next one, at the next place
 pub at_place : (from : ℕ) (before files : List FileRow) (names : List Text) (place : ℕ) → length before + from ≡ place
     → arg_by_index (rules_from from (before ++ files) names) place ≡ first_built place files
 at_place from [] [] names place here = no_place names place
@@ -132,7 +132,7 @@ ids_are : (place : ℕ) (files : List FileRow) (names : List Text) → map (λ r
 ids_are place [] names = ids_of_options names
 ids_are place (file ∷ files) names = ap (λ ids. file.label ∷ ids) (ids_are (suc place) files names)
 
--- where ids differ, each finds its own argument
+-- if ids differ, each finds its own argument
 each_only : (rules : List Rule) → are_distinct (map (λ rule. rule.id) rules) ≡ true → Each (λ rule. arg_by_id rules rule.id ≡ Some rule) rules
 each_only [] distinct = tt
 each_only (rule ∷ rules) distinct =
@@ -144,7 +144,7 @@ each_only (rule ∷ rules) distinct =
           (each_only rules parts.1),
     )
 
--- the rest of what makes an argument take one value
+-- the rest of what lets an argument take one value
 abbrev IsMade : Rule → Type 0
 IsMade rule = (rules : List Rule) → arg_by_id rules rule.id ≡ Some rule → IsOne rules rule
 
@@ -206,7 +206,7 @@ none_is_early count place [] [] = refl
 none_is_early count place [] (name ∷ names) = none_is_early count place [] names
 none_is_early count place (file ∷ files) names = none_is_early count (suc place) files names
 
--- the tests of clap, which the command passes where its arguments do
+-- the tests of clap; the command passes them if its arguments do
 passes : (word : Text) (asked filled : List Rule) (count : ℕ) → list_all (λ a. a.is_simple) asked ≡ true → list_all (λ a. a.is_simple) filled ≡ true
     → list_any (is_early_multiple (count_by (λ a. is_some a.index) filled)) filled ≡ false → list_all (λ a. a.is_free) filled ≡ true
     → filled_from 1 asked ≡ filled → is_simple_and_free (with_more (bare_app word) asked) ≡ true

@@ -43,7 +43,7 @@ lacks_is place (file ∷ files) names pairs =
 
 -- ---- the test
 
--- where nothing has a name, what may not be absent is missing
+-- if no file has a name, those that may not be absent are missing
 nothing_misses : (files : List FileRow) → not (misses files []) ≡ list_all is_optional files
 nothing_misses [] = refl
 nothing_misses (file ∷ files) = go (is_optional file) (nothing_misses files)
@@ -52,7 +52,7 @@ nothing_misses (file ∷ files) = go (is_optional file) (nothing_misses files)
     go true more = more
     go false more = refl
 
--- a pair that is no file's changes nothing for files
+-- a pair that belongs to no file changes nothing for files
 misses_past : (files : List FileRow) (pair : Pair) (pairs : List Pair) → Each (λ file. bytes_eq pair.0 file.label ≡ false) files → misses files (pair ∷ pairs) ≡ misses files pairs
 misses_past files pair pairs differ =
     any_alike (λ file. not (is_optional file) && not (taken file.label (pair ∷ pairs))) (λ file. not (is_optional file) && not (taken file.label pairs)) files
@@ -61,7 +61,7 @@ misses_past files pair pairs differ =
     (λ file differs _. rw differs refl) differ differ)
 
 module _ (names : List Text) where
-  -- an option's pair, before the pairs after it, is no file's
+  -- an option's pair, before the pairs after it, belongs to no file
   misses_option : (files : List FileRow) (option value : Text) (pairs : List Pair) → are_distinct (map (λ file. file.label) files ++ names) ≡ true
       → list_any (λ name. bytes_eq (dashed name) option) names ≡ true → misses files (named_pair (undashed option) value pairs) ≡ misses files pairs
   misses_option files option value pairs distinct among = go option (optional option) among
@@ -99,7 +99,7 @@ module _ (names : List Text) where
 
 -- ---- the line
 
--- a row that is no file's changes nothing for files
+-- a row that belongs to no file changes nothing for files
 names_past : (files : List FileRow) (pair : Pair) (pairs : List Pair) → Each (λ file. bytes_eq pair.0 file.label ≡ false) files
     → names_in files (rows_of (pair ∷ pairs)) ≡ names_in files (rows_of pairs)
 names_past files pair pairs differ =
@@ -159,7 +159,7 @@ module _ (names : List Text) where
           let unlike_option : bytes_eq option (dashed name) ≡ false = other_way (dashed name) option (unlike name) in
           rw (none, unlike_option) more
 
--- the files have other names than each option
+-- no option has the name of a file
 apart_each : (files : List FileRow) (names : List Text) → are_distinct (map (λ file. file.label) files ++ names) ≡ true → Each (λ name. Each (λ file. bytes_eq file.label name ≡ false) files) names
 apart_each [] names distinct = all names
   where
@@ -187,7 +187,7 @@ line_is row items distinct all =
 
 -- ---- both
 
--- an answer, where three tests pass
+-- an answer, if three tests pass
 none_where : {X : Type 0} (h o f : Bool) (x : Option X) → false ≡ (h && f) → (if h && o && f then x else None) ≡ None
 none_where false o f x fails = refl
 none_where true false f x fails = refl
@@ -197,7 +197,7 @@ none_at : {X : Type 0} (h f : Bool) (x : Option X) → (if h && false && f then 
 none_at false f x = refl
 none_at true f x = refl
 
--- the line, where items are the command's
+-- the line, if items are the command's
 cut : (row : CommandRow) (items : List Item) → are_distinct (labels_of row ++ option_names row) ≡ true
     → option_map (line_in row) (option_and_then (complete (rules_by row)) (run (rules_by row) (Some []) 1 items)) ≡ (if is_cut row items then Some (line_by row items) else None)
 cut row items distinct =
@@ -215,14 +215,14 @@ cut row items distinct =
         let parts = and_parts h f (sym same) in
         rw (missing, parts.0, parts.1) (ap (λ line. Some line) (line_is row items distinct e))
 
--- clap's rows hold the line that the words say, where they say one
+-- clap's rows hold the line that the words say, if they say one
 pub cut_is : (row : CommandRow) → is_row row ≡ true → (words : List Text) → Each IsText words
     → option_map (line_in row) (clap_rows (app_by row) words) ≡ (if is_cut row (items_of words) then Some (line_by row (items_of words)) else None)
 cut_is row is words texts = ap (option_map (line_in row)) (rows_are row is words texts) ∙ cut row (items_of words) (row_is_distinct row is)
 
 -- ---- the answer
 
--- where clap takes no words, they say no line
+-- if clap takes no words, they say no line
 pub refused : (row : CommandRow) (items : List Item) → None ≡ (if is_cut row items then Some (line_by row items) else None) → None ≡ line_of row items
 refused row items none = go (is_cut row items) (outputs_differ row.files (files_of items)) none
   where
@@ -230,7 +230,7 @@ refused row items none = go (is_cut row items) (outputs_differ row.files (files_
     go true d h = cc
     go false d h = refl
 
--- where it does, they say one unless an output has the name of another file
+-- if it does, they say one, unless an output has the name of another file
 pub answered : (row : CommandRow) (items : List Item) (line : Line) (differ : Bool) → Some line ≡ (if is_cut row items then Some (line_by row items) else None)
     → differ ≡ outputs_differ row.files line.files → (if differ then Some line else None) ≡ line_of row items
 answered row items line differ some is = rw is (go (is_cut row items) some)

@@ -61,7 +61,7 @@ mapped_twice f g (x ∷ xs) = ap (λ zs. g (f x) ∷ zs) (mapped_twice f g xs)
 
 -- ---- looking up
 
--- the place of a text among texts behind references
+-- the place of a text among texts that are referred to
 pub position_of_texts : (word : Text) (words : List (Bor Text)) (from : ℕ) → position_from (bytes_eq word) from (map (λ w. w.now) words) ≡ position_from (λ w. bytes_eq word w.now) from words
 position_of_texts word [] from = refl
 position_of_texts word (one ∷ words) from = go (bytes_eq word one.now) (position_of_texts word words (from + 1))
@@ -81,14 +81,14 @@ given_from_place name pairs i = find (λ (given : Text × Text). bytes_eq given.
 
 -- ---- the names of outputs
 
--- the outputs from a place on, and a test that each passes
+-- the outputs from a place on, and a test that all of them pass
 abbrev pub outputs_from : List FileRow → List (Bor Text) → ℕ → List Text
 outputs_from files names i = outputs_in (map file_view (drop i files)) (map (λ name. name.now) (drop i names))
 
 abbrev pub pass_from : (Text → Bool) → List FileRow → List (Bor Text) → ℕ → Bool
 pass_from p files names i = list_all p (outputs_from files names i)
 
--- the next name is no output's, or passes
+-- the next name isn't an output's, or passes
 pub pass_next : (p : Text → Bool) (files : List FileRow) (names : List (Bor Text)) (i : ℕ) (d : FileRow) (e : Bor Text) → i < length files → i < length names
     → pass_from p files names i ≡ (if is_written (get_or files i d).role then p (get_or names i e).now && pass_from p files names (i + 1) else pass_from p files names (i + 1))
 pass_next p files names i d e in_files in_names = rw (add-one, drop-cons files i d, drop-cons names i e) (go (is_written (get_or files i d).role))
@@ -106,7 +106,7 @@ pass_end p files names i beyond = rw (drop_all i names beyond) (go (map file_vie
     go [] = refl
     go (file ∷ files) = refl
 
--- so an output whose name fails decides, and else what comes after it does
+-- so an output whose name fails decides, and otherwise what comes after it does
 pub pass_fails : (p : Text → Bool) (files : List FileRow) (names : List (Bor Text)) (i : ℕ) (d : FileRow) (e : Bor Text) → i < length files → i < length names
     → is_written (get_or files i d).role ≡ true → p (get_or names i e).now ≡ false → pass_from p files names i ≡ false
 pass_fails p files names i d e in_files in_names written fails = pass_next p files names i d e in_files in_names ∙ rw (written, fails) refl

@@ -1,5 +1,5 @@
--- What clap makes of the words of a command that takes files and options of one value: a run over their items, after which nothing that
--- is required is missing.
+-- What clap makes of the words of a command that takes files and options with one value: a run over their items, after
+-- which nothing required is missing.
 use Rattle.std.proofs.Common.{◌≡◌, ◌∙◌, ◌&&◌, Bool, cond, true, false, not, refl, ap, ap₂, List, [], ◌∷◌, Option, Some, None}
 use Rattle.std.specs.List.{fold, list_any}
 use Rattle.std.specs.Prelude.{if◌then◌else◌, option_and_then}
@@ -15,11 +15,11 @@ use Rattle.command_words.proofs.Arguments.{Each, IsOne, leaf, run}
 use Rattle.command_words.proofs.WordShapes.{IsText}
 use Rattle.command_words.proofs.Walking.{walk_is}
 
--- an argument that is required has no row
+-- a required argument has no row
 abbrev pub lacks : List Rule → List Row → Bool
 lacks rules rows = list_any (λ rule. rule.required && not (is_given rule.id rows)) rules
 
--- the rows, where what is required is there
+-- the rows, if what is required is there
 abbrev pub complete : List Rule → List Row → Option (List Row)
 complete rules rows = if lacks rules rows then None else Some rows
 

@@ -9,7 +9,7 @@ use Rattle.command_words.specs.Numbers.{number_within}
 digits : IsNumeralModel (λ ds. all_ascii_digits ds ≡ true) (digits_value 10)
 digits = numerals_by_value _ tells_all_ascii_digits
 
--- a word that is read as a number within the range
+-- a word that is read as a number in the range
 pub number_found : (E : Type 0) (least most n : ℕ) (word : List ℕ) → ParsesUnsigned {E = E} 64 10 word (Ok n) → least ≤ n → n ≤ most
     → number_within least most word ≡ Some n
 number_found E least most n word reads low high =
@@ -18,7 +18,7 @@ number_found E least most n word reads low high =
     let all : all_ascii_digits ds ≡ true = digits.from ds reads.0.0.1 in
     rw (some, all, ← reads.1, le-leb least n low, le-leb n most high) refl
 
--- one that is read as no number
+-- a word that isn't read as a number
 refused : (some all low high : Bool) (n : ℕ) → ((some ≡ true) → (all ≡ true) → (high ≡ true) → ⊥)
     → cond (some && all && low && high) (Some n) None ≡ None
 refused true true true true n never = absurd (never refl refl refl)

@@ -1,4 +1,4 @@
--- The names of outputs: none is the name of another file.
+-- The names of outputs. No other file has the name of an output.
 use Rattle.std.proofs.Common.{◌≡◌, ◌≢◌, ◌∙◌, ◌&&◌, ◌==◌, ◌<◌, ◌≤◌, ℕ, Bool, true, false, true≢false}
 use Rattle.std.proofs.Common.{List, [], ◌∷◌, length, map, count_by, slice_index_or, Option, Some, None}
 use Rattle.std.proofs.Common.{Bor, refl, sym, arith}
@@ -11,7 +11,7 @@ use Rattle.command_words.specs.Rows.{CommandRow}
 use Rattle.command_words.specs.Tables.{sim_row}
 use Rattle.command_words.proofs.Texts.{and_parts, same_text}
 
--- in a line that words say no output has the name of another file
+-- in a line that words say, no output has the name of another file
 pub differ_in : (row : CommandRow) (items : List Item) (line : Line) → Some line ≡ line_of row items
     → outputs_differ row.files line.files ≡ true
 differ_in row items line is = go (is_cut row items) (outputs_differ row.files (files_of items)) refl is

@@ -34,7 +34,7 @@ rows_of pairs = map row_of pairs
 abbrev pub undashed : Text → Option Text
 undashed option = option_and_then (strip_byte 45) (strip_byte 45 option)
 
--- an option has two dashes before its name, or it is none of any name
+-- an option has two dashes before its name, or has no name
 pub data Optional : Text → Type 0 where
   written : (name : Text) → Optional (45 ∷ 45 ∷ name)
   other : (option : Text) → undashed option ≡ None → ((name : Text) → bytes_eq (dashed name) option ≡ false) → Optional option
@@ -71,7 +71,7 @@ abbrev pub named_pair : Option Text → Text → List Pair → List Pair
 named_pair None value pairs = pairs
 named_pair (Some name) value pairs = (name, value) ∷ pairs
 
--- each file name with what the next file is called, and each value with the name of its option
+-- each file name with the name of the next file, and each value with the name of its option
 abbrev pub pairs_of : List FileRow → List Item → List Pair
 pairs_of files [] = []
 pairs_of [] (File name ∷ items) = []
@@ -98,7 +98,7 @@ values_at id pairs = filter_map (value_at id) pairs
 abbrev pub taken : Text → List Pair → Bool
 taken id pairs = list_any (λ pair. bytes_eq pair.0 id) pairs
 
--- one that is taken has a value
+-- an id that is taken has a value
 taken_has : (id : Text) (pairs : List Pair) → taken id pairs ≡ true → 1 ≤ length (values_at id pairs)
 taken_has id [] e = absurd (true≢false (sym e))
 taken_has id (pair ∷ pairs) e = go (bytes_eq pair.0 id) e (taken_has id pairs)
@@ -107,7 +107,7 @@ taken_has id (pair ∷ pairs) e = go (bytes_eq pair.0 id) e (taken_has id pairs)
     go true h more = omega arith
     go false h more = more h
 
--- one that isn't has none
+-- an id that isn't taken has none
 free_has : (id : Text) (pairs : List Pair) → taken id pairs ≡ false → values_at id pairs ≡ []
 free_has id [] e = refl
 free_has id (pair ∷ pairs) e = go (bytes_eq pair.0 id) e (free_has id pairs)
@@ -127,7 +127,7 @@ taken_append id (first ∷ pairs) pair free differs = go (bytes_eq first.0 id) f
 values_append : (id : Text) (pairs : List Pair) (pair : Pair) → values_at id (pairs ++ pair ∷ []) ≡ values_at id pairs ++ values_at id (pair ∷ [])
 values_append id pairs pair = filter_map-append (value_at id) pairs (pair ∷ [])
 
--- each id has a value at the most
+-- each id has at most one value
 abbrev pub OnceEach : List Pair → Type 0
 OnceEach pairs = (id : Text) → length (values_at id pairs) ≤ 1
 
@@ -191,7 +191,7 @@ module _ (files : List FileRow) (names : List Text) where
       (each_with (λ n. bytes_eq file.label n ≡ false) (λ n. Unit {0}) (λ n. within (seen ++ (file.label, name) ∷ []) items n ≡ within seen (File name ∷ items) n) names
       (λ n differs _. rw (values_append n seen (file.label, name), differs, append-nil (values_at n seen)) refl) apart (each_all (λ n. Unit {0}) names (λ n. tt)))
 
-  -- an option's value counts wherever it stands
+  -- an option's value counts wherever it is
   option_within : (option value : Text) (items : List Item) (seen : List Pair)
       → list_all (within (seen ++ (option, value) ∷ []) items) names ≡ list_all (within seen (Given (dashed option) value ∷ items)) names
   option_within option value items seen =
@@ -218,7 +218,7 @@ module _ (files : List FileRow) (names : List Text) where
       le_false : (a b : ℕ) → suc b ≤ a → nat_le a b ≡ false
       le_false a b less = grind arith
 
-  -- the files that are left have other names than the options
+  -- no file that is left has the name of an option
   pub apart : (left : List FileRow) (option : Text) → are_distinct (map (λ file. file.label) left ++ names) ≡ true → list_any (λ n. bytes_eq n option) names ≡ true
       → Each (λ file. bytes_eq option file.label ≡ false) left
   apart [] option distinct among = tt

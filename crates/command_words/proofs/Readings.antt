@@ -8,7 +8,7 @@ use Rattle.command_words.specs.Views.{line_view}
 use Rattle.command_words.specs.Words.{Command}
 use Rattle.command_words.specs.declared.line.Line as code
 
--- the command that is made of a line, and none where there is no line
+-- the command that is made of a line, or none if there is no line
 pub made_of : (make : Line → Option Command) (row : CommandRow) (items : List Item) (found now : Option code.Line) → option_map line_view found ≡ line_of row items → found ≡ now
     → option_and_then make (option_map line_view now) ≡ option_and_then make (line_of row items)
 made_of make row items found now says is = ap (λ f. option_and_then make (option_map line_view f)) (sym is) ∙ ap (option_and_then make) says

@@ -55,7 +55,7 @@ pub each_mapped : {X Y : Type 0} (P : Y → Type 0) (f : X → Y) (xs : List X) 
 each_mapped P f [] each = tt
 each_mapped P f (x ∷ xs) each = (each.0, each_mapped P f xs each.1)
 
--- where none passes, each fails
+-- if none passes, each fails
 pub each_fails : {X : Type 0} (p : X → Bool) (xs : List X) → list_any p xs ≡ false → Each (λ x. p x ≡ false) xs
 each_fails p [] none = tt
 each_fails p (x ∷ xs) none = go (p x) refl none (each_fails p xs)
@@ -75,7 +75,7 @@ each_among P (n ∷ names) name each among = go (bytes_eq n name) refl among (ea
         rw (← same) each.0
     go false e h more = more h
 
--- so if one among them fails, not all pass
+-- so if one of them fails, not all pass
 pub not_all : (p : Text → Bool) (names : List Text) (name : Text) → list_any (λ n. bytes_eq n name) names ≡ true → p name ≡ false → list_all p names ≡ false
 not_all p [] name among fails = absurd (true≢false (sym among))
 not_all p (n ∷ names) name among fails = go (bytes_eq n name) refl among (λ h. not_all p names name h fails)
@@ -92,7 +92,7 @@ not_all p (n ∷ names) name among fails = go (bytes_eq n name) refl among (λ h
         rw first refl
     go false e h more = rw (more h) (last (p n))
 
--- tests and answers that agree on each
+-- tests and answers that agree on each item
 pub all_alike : {X : Type 0} (p q : X → Bool) (xs : List X) → Each (λ x. p x ≡ q x) xs → list_all p xs ≡ list_all q xs
 all_alike p q [] each = refl
 all_alike p q (x ∷ xs) each = ap₂ (λ a b. a && b) each.0 (all_alike p q xs each.1)

@@ -1,5 +1,5 @@
--- clap's walk over words is a run over the items that they say. clap settles an option late, so its state is what it would come to if
--- the words ended: `finish`.
+-- clap's walk over words is a run over the items that they say. clap settles an option late, so the state is what it
+-- would come to if the words ended: `finish`.
 use Rattle.std.proofs.Common.{◌≡◌, ◌∙◌, ◌+◌, ◌<◌, ◌==◌, ◌&&◌, ℕ, Bool, true, false, not, suc, refl, sym, ap, arith, min, List, [], ◌∷◌, map, length, Option, Some, None, true≢false, nat_lt}
 use Rattle.std.specs.List.{find, fold, list_any, before_first, after_first}
 use Rattle.std.specs.Option.{option_map_or}
@@ -19,11 +19,11 @@ use Rattle.command_words.specs.Items.{Item, File, Given, Bare, is_name, is_equal
 use Rattle.command_words.proofs.Arguments.{Each, IsOne, after_else, arg_by_option, found_each, leaf, run, run_none, use_is, used_by, used_one}
 use Rattle.command_words.proofs.WordShapes.{IsText, Shaped, named, dashes, long, short, before_cons, after_cons, before_none, first_char, shaped}
 
--- the rows, where what is held fails nowhere
+-- the rows, if nothing that is held fails
 abbrev pub finish : List Rule → Held → Option (List Row)
 finish rules held = after (settle_fault rules false held) (Some (settled rules held).rows)
 
--- the rows after the words, from where a walk stands
+-- the rows after the words, from where a walk is
 abbrev pub outcome : Text → List Rule → Walk → List Text → Option (List Row)
 outcome command rules walk words = after (walk_fault (leaf command rules) [] walk words) (finish rules (fold (walked rules []) walk words).held)
 
@@ -98,7 +98,7 @@ positional_walk rules a one word place small rows pending waiting trailing =
     let next : min (place + 1) usize_max ≡ suc place = omega arith in
     rw (one.range, one.action, one.trailing, and-false (is_pending a pending), or-false trailing, next) refl
 
--- the word's turn, and then the words after it, whose outcome is `rest` of the walk
+-- the turn of the word, and then the words after it; `rest` is the outcome of the walk over these
 positional_turn : (rules : List Rule) (command word : Text) (place : ℕ) (items : List Item) (rest : Walk → Option (List Row)) (rows : List Row) (pending : Pending) (waiting : Waiting) (trailing : Bool)
     → Each (IsOne rules) rules
     → ((rows : List Row) (pending : Pending) → rest (walk_at (holds rows pending) idle (suc place) trailing) ≡ run rules (finish rules (holds rows pending)) (suc place) items)
@@ -170,7 +170,7 @@ not_long y ys other = go (y == 61) refl
     go true e = rw e refl
     go false e = rw (before_cons is_equals y ys e, other) refl
 
--- and the items have none
+-- and the items have no such option
 short_items : (rules : List Rule) (y : ℕ) (ys : List ℕ) → (y == 45) ≡ false → (rows : Option (List Row)) (place : ℕ) (words : List Text)
     → run rules rows place (items_after None ((45 ∷ y ∷ ys) ∷ words)) ≡ None
 short_items rules y ys other rows place words = rw other (go (list_any is_equals (45 ∷ y ∷ ys)))
@@ -213,17 +213,17 @@ opened rules rows place items (kind ∷ kinds) = sym (run_none rules place items
 -- ---- words before the word --
 
 module _ (rules : List Rule) (command : Text) (each : Each (IsOne rules) rules) where
-  -- the words that are left, where nothing waits
+  -- the words that are left, if nothing waits
   abbrev Idle : List Text → Type 0
   Idle words = (rows : List Row) (pending : Pending) (place : ℕ)
       → outcome command rules (walk_at (holds rows pending) idle place false) words ≡ run rules (finish rules (holds rows pending)) place (items_after None words)
 
-  -- and where an option wants its value
+  -- and if an option wants its value
   abbrev Wants : List Text → Type 0
   Wants words = (word : Text) (a : Rule) (rows : List Row) (place : ℕ) → arg_by_option rules word ≡ Some a → IsOne rules a
       → outcome command rules (walk_at (holds rows (Some (a.id, []))) (option a.id) place false) words ≡ run rules (Some rows) place (items_after (Some word) words)
 
-  -- an option with two dashes, as one word with its value or alone
+  -- an option with two dashes, as one word with its value, or by itself
   abbrev Met : Text → Option Rule → Option Text → List Row → Pending → Held × Step
   Met x o v rows pending = after_flag rules idle x (long_met rules o v (holds rows pending)).0 (long_met rules o v (holds rows pending)).1
 

@@ -8,7 +8,7 @@ use Rattle.std.proofs.lemmas.Bool.{eqb-true}
 use Rattle.clap.specs.Lexer.{long_of, short_of}
 use Rattle.command_words.specs.Items.{is_name}
 
--- a name; the word --; an option with two dashes (45); and one dash before something else
+-- a name, the word --, an option with two dashes (45), or one dash before something else
 pub data Shaped : List ℕ → Type 0 where
   named : (word : List ℕ) → is_name word ≡ true → long_of word ≡ None → short_of word ≡ None → bytes_eq word (codes "--") ≡ false → Shaped word
   dashes : Shaped (45 ∷ 45 ∷ [])
@@ -34,7 +34,7 @@ shaped (x ∷ y ∷ rest) = go (x == 45) refl (y == 45) refl
     go true e false f = rw (eqb-true x 45 e) (short y rest f)
     go false e d f = named (x ∷ y ∷ rest) (rw e refl) (rw e refl) (rw e refl) (rw e refl)
 
--- the word is text: it is what its characters are written as
+-- the word is text: its bytes are those of its characters
 abbrev pub IsText : List ℕ → Type 0
 IsText word = encode_utf8_all (chars word) ≡ word
 
@@ -50,7 +50,7 @@ first_char y rest text = go (chars (y ∷ rest)) refl
         absurd (omega arith)
     go (x ∷ xs) e = (x, rw e refl)
 
--- what stands before and after the first byte that passes, past one that doesn't
+-- what comes before and after the first byte that passes, after one that doesn't
 pub before_cons : (p : ℕ → Bool) (x : ℕ) (xs : List ℕ) → p x ≡ false → before_first p (x ∷ xs) ≡ x ∷ before_first p xs
 before_cons p x xs fails =
     let next : 1 + position_or_len p xs ≡ suc (position_or_len p xs) = omega arith in
@@ -61,7 +61,7 @@ after_cons p x xs fails =
     let next : (1 + position_or_len p xs) + 1 ≡ suc (position_or_len p xs + 1) = omega arith in
     rw (fails, next) refl
 
--- where none passes, all stands before it
+-- if none passes, all comes before it
 pub before_none : (p : ℕ → Bool) (xs : List ℕ) → list_any p xs ≡ false → before_first p xs ≡ xs
 before_none p [] none = refl
 before_none p (x ∷ xs) none = go (p x) refl none (before_none p xs)

@@ -1,10 +1,10 @@
--- Command lines, worked by hand: what the definitions of `specs/` make of them.
+-- Command lines worked by hand: what the definitions make of them.
 use Rattle.std.proofs.Common.{◌≡◌, ℕ, List, [], ◌∷◌, Option, Some, None, refl}
 use Rattle.std.specs.Prelude.{codes}
 use Rattle.xray_io.specs.declared.faults.Wall.{Wall}
 use Rattle.command_words.specs.Words.{Command, Sim, Plain, Extract, Asm, outputs_named, reading}
 
--- a wall time that is handed in
+-- a wall time that is passed in
 noon : Wall
 noon = record { secs = 43200; micros = 5 }
 
@@ -39,7 +39,7 @@ dashed_value = refl
 shortened : says (codes "plain" ∷ codes "--thread=7" ∷ codes "i" ∷ []) ≡ None
 shortened = refl
 
--- after -- all words are names, and one dash alone is a name
+-- after -- all words are names, and one dash by itself is a name
 names_only : says (codes "extract" ∷ codes "--" ∷ codes "--help" ∷ []) ≡ Some (Extract (codes "--help"))
 names_only = refl
 
@@ -52,7 +52,7 @@ help = refl
 one_name_more : says (codes "extract" ∷ codes "i" ∷ codes "j" ∷ []) ≡ None
 one_name_more = refl
 
--- the output of asm has no other file's name
+-- no other file has the name of asm's output
 made : says (codes "asm" ∷ codes "t" ∷ codes "i" ∷ codes "--threshold" ∷ codes "0" ∷ []) ≡ Some (Asm (codes "t") (codes "i") 0)
 made = refl
 
@@ -62,7 +62,7 @@ onto_itself = refl
 made_named : outputs_named noon (codes "asm" ∷ codes "t" ∷ codes "i" ∷ []) ≡ codes "i" ∷ []
 made_named = refl
 
--- a replay begins at the wall time that is handed in, and two inputs may be one
+-- a replay begins at the wall time that is passed in, and two inputs may be the same
 replay : says (codes "sim" ∷ codes "s" ∷ codes "s" ∷ codes "c" ∷ codes "--fuel=9" ∷ codes "t" ∷ codes "a" ∷ [])
     ≡ Some (Sim (codes "s") (codes "s") (codes "c") (codes "t") (codes "a") (record {
       bounds = record { threads = 1; fuel = 9; passings = 1048576 };
@@ -73,7 +73,7 @@ replay : says (codes "sim" ∷ codes "s" ∷ codes "s" ∷ codes "c" ∷ codes "
     }))
 replay = refl
 
--- an output of it has the name of no input, nor of the other output
+-- an output may not have the name of an input or of the other output
 over_script : says (codes "sim" ∷ codes "i" ∷ codes "s" ∷ codes "c" ∷ codes "s" ∷ codes "a" ∷ []) ≡ None
 over_script = refl
 

@@ -1,4 +1,4 @@
--- What clap is asked: a command by its row, which is given the words after its own; and what clap makes of these.
+-- What clap is asked, and what it makes of it. clap gets a command by its row, and the words after the command's own.
 use Rattle.std.specs.Prelude.{List, [], ◌∷◌, true, not, Option, Some, None, fold, map, option_map}
 use Rattle.std.specs.List.{filter_map}
 use Rattle.clap.specs.Faults.{fault_of}
@@ -17,11 +17,11 @@ use Rattle.command_words.specs.Rows.{CommandRow, FileRow, OptionRow, is_optional
 abbrev pub option_rule : Text → Rule
 option_rule name = record (new_rule name) { long = Some name; action = Some Set }
 
--- a file is one positional
+-- a file is one positional argument
 abbrev pub file_rule : FileRow → Rule
 file_rule file = record (new_rule file.label) { action = Some Set; required = not (is_optional file) }
 
--- a command with no arguments, which is given the words after its own, and knows none for help and version
+-- a command without arguments; clap gets the words after its own, and knows no words for help and version
 abbrev pub bare_app : Text → App
 bare_app word = on_top (λ s. record s { no_binary_name = true; disable_help_flag = true; disable_version_flag = true }) (new_app word)
 
@@ -31,26 +31,26 @@ app_by row = fold with_rule (fold with_rule (bare_app row.word) (map file_rule r
 
 -- ---- its matches
 
--- the outcome, where nothing failed before it
+-- the outcome, if nothing failed before it
 abbrev pub after : {X : Type 0} → Kinds → Option X → Option X
 after [] outcome = outcome
 after (kind ∷ kinds) outcome = None
 
--- the rows that clap makes of words, where it takes them
+-- the rows that clap makes of words, if it takes them
 abbrev pub clap_rows : App → List Text → Option (List Row)
 clap_rows app words = after (fault_of app words) (Some (matches_of app words))
 
 abbrev pub rows_in : ArgMatches → List Row
 rows_in matches = rows_of (found_of matches)
 
--- the names that rows have for files, in their order
+-- the names of files in the rows, in order
 abbrev pub names_in : List FileRow → List Row → List Text
 names_in files rows = filter_map (λ file. first_of file.label rows) files
 
--- the options that rows have, in their order, each name with its first value
+-- the options in the rows, in order: each name with its first value
 abbrev pub given_in : List OptionRow → List Row → List (Text × Text)
 given_in options rows = filter_map (λ option. option_map (λ value. (option.name, value)) (first_of option.name rows)) options
 
--- the line that rows hold
+-- the line that the rows hold
 abbrev pub line_in : CommandRow → List Row → Line
 line_in row rows = record { files = names_in row.files rows; given = given_in row.options rows }

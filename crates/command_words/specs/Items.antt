@@ -8,22 +8,22 @@ use Rattle.std.specs.declared.alloc.Global.{Global}
 abbrev pub texts : List (String Global) → List (List ℕ)
 texts words = map string_bytes words
 
--- a file name; an option with its value; or an option that has none
+-- a file name, an option with its value, or an option without one
 pub data Item : Type 0 where
   File : (name : List ℕ) → Item
   Given : (option value : List ℕ) → Item
   Bare : (option : List ℕ) → Item
 
--- a word of two or more characters that begins with - (45) is no name
+-- a word of two or more characters that begins with - (45) isn't a name
 abbrev pub is_name : List ℕ → Bool
 is_name (first ∷ second ∷ rest) = not (first == 45)
 is_name word = true
 
--- the character = stands between an option and its value
+-- the character = comes between an option and its value
 abbrev pub is_equals : ℕ → Bool
 is_equals byte = byte == 61
 
--- What words say, where an option may stand before them that wants its value: that is the next word, if it could be a name. After a
+-- What words say after an option that may want its value. The value is the next word, if that could be a name. After a
 -- word -- all words are file names.
 abbrev pub items_after : Option (List ℕ) → List (List ℕ) → List Item
 items_after None [] = []
@@ -41,7 +41,7 @@ items_after None (word ∷ words) =
 abbrev pub items_of : List (List ℕ) → List Item
 items_of words = items_after None words
 
--- the name, where an item is one
+-- the name, if an item is one
 abbrev pub file_of : Item → Option (List ℕ)
 file_of (File name) = Some name
 file_of (Given option value) = None
@@ -55,7 +55,7 @@ files_of items = filter_map file_of items
 abbrev pub dashed : List ℕ → List ℕ
 dashed name = 45 ∷ 45 ∷ name
 
--- the value that an item gives the option of this name, where it gives it one
+-- the value that an item gives the option of this name, if it does
 abbrev pub value_of : List ℕ → Item → Option (List ℕ)
 value_of name (File other) = None
 value_of name (Given option value) = if bytes_eq option (dashed name) then Some value else None
@@ -65,7 +65,7 @@ value_of name (Bare option) = None
 abbrev pub values_of : List ℕ → List Item → List (List ℕ)
 values_of name items = filter_map (value_of name) items
 
--- an item is a file name, or one of the options of these names with a value
+-- an item is a file name, or an option of one of these names with a value
 abbrev pub is_among : List (List ℕ) → Item → Bool
 is_among names (File name) = true
 is_among names (Given option value) = list_any (λ name. bytes_eq (dashed name) option) names

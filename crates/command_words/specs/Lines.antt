@@ -1,4 +1,4 @@
--- What the words after a command say by its row: its files, and the options that they give, each with its value.
+-- What the words after a command say, by its row: its files, and the options that they give, each with its value.
 use Rattle.std.specs.Prelude.{ℕ, ◌==◌, ◌&&◌, List, [], ◌∷◌, length, Bool, true, false, if◌then◌else◌, Option, Some, None, count_by, find, nat_le, option_map, slice_get}
 use Rattle.std.specs.List.{filter_map, list_all}
 use Rattle.std.specs.Option.{option_map_or}
@@ -7,14 +7,15 @@ use Rattle.command_words.specs.Items.{Item, files_of, is_among, values_of}
 use Rattle.command_words.specs.Numbers.{number_of}
 use Rattle.command_words.specs.Rows.{CommandRow, FileRow, OptionRow, is_optional, is_output, option_names}
 
--- the names of the files in their order; and the options that are given, in the order of the command's row, each name with its value
+-- The names of the files in order. The options that are given, in the order of the command's row: each name with its
+-- value.
 pub record Line : Type 0 where
   pub files : List (List ℕ)
   pub given : List (List ℕ × List ℕ)
 
 -- ---- which words are a line
 
--- each item is a file name, or one of the options of these names with its value
+-- each item is a file name, or an option of one of these names with its value
 abbrev pub have_only : List (List ℕ) → List Item → Bool
 have_only names items = list_all (is_among names) items
 
@@ -22,7 +23,7 @@ have_only names items = list_all (is_among names) items
 abbrev pub comes_once : List Item → List ℕ → Bool
 comes_once items name = nat_le (length (values_of name items)) 1
 
--- each file has a name, in their order, but those after the last name that may be absent
+-- each file has a name, in order; only files after the last name may be missing, and they may be absent
 abbrev pub fit : List FileRow → List (List ℕ) → Bool
 fit files [] = list_all is_optional files
 fit [] (name ∷ names) = false
@@ -34,22 +35,22 @@ outputs_in (file ∷ files) (name ∷ names) =
     if is_output file then name ∷ outputs_in files names else outputs_in files names
 outputs_in _ _ = []
 
--- no output has the name of another file: its name comes once
+-- no output has the name of another file: its name comes only once
 abbrev pub outputs_differ : List FileRow → List (List ℕ) → Bool
 outputs_differ files names = list_all (λ output. count_by (bytes_eq output) names == 1) (outputs_in files names)
 
--- items are the command's files and its options, each option at most once
+-- the items are the command's files and its options, each option at most once
 abbrev pub is_cut : CommandRow → List Item → Bool
 is_cut row items =
     have_only (option_names row) items && list_all (comes_once items) (option_names row) && fit row.files (files_of items)
 
 -- ---- the line
 
--- the option with its value, where items give it one
+-- the option with its value, if items give it one
 abbrev pub given_by : List Item → OptionRow → Option (List ℕ × List ℕ)
 given_by items option = option_map (λ value. (option.name, value)) (slice_get (values_of option.name items) 0)
 
--- what items that are the command's say
+-- what items of the command say
 abbrev pub line_by : CommandRow → List Item → Line
 line_by row items = record { files = files_of items; given = filter_map (given_by items) row.options }
 
@@ -64,6 +65,6 @@ line_of row items =
 abbrev pub value_in : List ℕ → Line → Option (List ℕ)
 value_in name line = option_map (λ given. given.1) (find (λ given. bytes_eq given.0 name) line.given)
 
--- The number that its value stands for, or its default where it isn't given. None where it has a value that it may not have.
+-- The number that its value stands for, or its default if it isn't given. None if it has a value that isn't allowed.
 abbrev pub number_in : OptionRow → Line → Option ℕ
 number_in option line = option_map_or (number_of option.values) (value_in option.name line) option.default

@@ -4,12 +4,12 @@ use Rattle.std.specs.List.{position_from}
 use Rattle.std.specs.Str.{all_ascii_digits, bytes_eq}
 use Rattle.std.specs.Str.Parse.{digits_value, without_leading_plus}
 
--- what the value of an option may be: a number in decimal, from the least to the most; or one of these words
+-- What the value of an option may be: a decimal number from the least to the most, or one of these words.
 pub data Values : Type 0 where
   Number : (least most : ℕ) → Values
   Listed : (words : List (List ℕ)) → Values
 
--- the number that a word writes in decimal, within a range: zeros may lead, and one plus before them
+-- the number that a word writes in decimal, within a range; leading zeros are allowed, and one plus before them
 abbrev pub number_within : (least most : ℕ) → List ℕ → Option ℕ
 number_within least most word =
     let digits = without_leading_plus word in
@@ -17,7 +17,7 @@ number_within least most word =
     if nat_le 1 (length digits) && all_ascii_digits digits
     && nat_le least number && nat_le number most then Some number else None
 
--- the number that a value stands for: the one that it writes, or its place among the words that are listed, from 0
+-- the number that a value stands for: the one that it writes, or its place among the listed words, from 0
 abbrev pub number_of : Values → List ℕ → Option ℕ
 number_of (Number least most) value = number_within least most value
 number_of (Listed words) value = position_from (bytes_eq value) 0 words

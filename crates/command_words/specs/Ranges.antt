@@ -1,32 +1,34 @@
--- The ranges of what a command holds: what the machine that replays a schedule asks of its setup, and of what bounds its threads.
-use Rattle.std.specs.Prelude.{◌≢◌, ◌+◌, ◌*◌, ◌≤◌, ℕ}
+-- The ranges of what a command holds. They are what the machine that replays a schedule asks of its setup and of its
+-- threads' limits.
+use Rattle.std.specs.Prelude.{◌≢◌, ◌+◌, ◌*◌, ◌≤◌, ℕ, IfSome}
 use Rattle.command_words.specs.declared.run_options.Bounds.{Bounds}
 use Rattle.command_words.specs.declared.run_options.Buffers.{Buffers}
 use Rattle.command_words.specs.declared.run_options.RunOptions.{RunOptions}
 use Rattle.command_words.specs.declared.run_options.Stamps.{Stamps}
-use Rattle.command_words.specs.Words.{Command, Sim, Plain, Extract, Asm}
+use Rattle.command_words.specs.Words.{Command, Sim, Plain, Extract, Asm, Account, Stack, Convert}
 
--- there may be so many threads: at least one, and at most 16
+-- there may be this many threads: at least one, and at most 16
 abbrev pub IsThreadCount : ℕ → Type 0
 IsThreadCount threads = (1 ≤ threads) × (threads ≤ 16)
 
--- threads may be bounded so
+-- threads may have these limits
 pub record AreBounds (bounds : Bounds) : Type 0 where
   pub threads : IsThreadCount bounds.threads
   pub fuel : bounds.fuel ≤ 1000000000
   pub passings : bounds.passings ≤ 1048576
 
--- passings may be stamped so
+-- passings may be stamped in this way
 pub record AreStamps (stamps : Stamps) : Type 0 where
   pub cpus : (1 ≤ stamps.cpus) × (stamps.cpus ≤ 65535)
   pub migrate : (1 ≤ stamps.migrate) × (stamps.migrate ≤ 1048576)
 
--- a run may have such buffers
+-- a run may have these buffers
 pub record AreBuffers (buffers : Buffers) : Type 0 where
   pub size : (72 ≤ buffers.size) × (buffers.size ≤ 1048576)
   pub max : (1 ≤ buffers.max) × (buffers.max ≤ 1024)
 
--- a run may have these options: each is in its range, there is a buffer for each thread, and a trace file has room for all of them
+-- A run may have these options. Each is in its range, there is a buffer for each thread, and all of them fit a trace
+-- file.
 pub record AreRunOptions (options : RunOptions) : Type 0 where
   pub bounds : AreBounds options.bounds
   pub stamps : AreStamps options.stamps
@@ -35,9 +37,12 @@ pub record AreRunOptions (options : RunOptions) : Type 0 where
   pub room : options.buffers.max * (options.buffers.size + 16) + 32 ≤ 67108864
   pub pid : options.pid ≤ 2147483647
 
--- all that a command holds is in its range, and of two outputs each has a name of its own
+-- all that a command holds is in its range, and no two outputs have the same name
 abbrev pub HasRanges : Command → Type 0
 HasRanges (Sim image script schedule trace audit options) = AreRunOptions options × (trace ≢ audit)
 HasRanges (Plain image bounds) = AreBounds bounds
 HasRanges (Extract image) = Unit {0}
 HasRanges (Asm text image threshold) = threshold ≤ 4294967295
+HasRanges (Account trace image options) = IfSome options.top (λ top. top ≤ 4294967295)
+HasRanges (Stack trace image format) = Unit {0}
+HasRanges (Convert trace image) = Unit {0}

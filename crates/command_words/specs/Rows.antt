@@ -7,13 +7,13 @@ use Rattle.command_words.specs.Numbers.{Values, is_among_values}
 use Rattle.command_words.specs.declared.rows.Role.{Role}
 use Rattle.command_words.specs.declared.rows.Role.TheVariants.{Input, OptionalInput, Output}
 
--- an option: its name, what its value may be, and the number that stands where it isn't given, if one does
+-- an option: its name, what its value may be, and the number that is used if it isn't given, if there is one
 pub record OptionRow : Type 0 where
   pub name : List ℕ
   pub values : Values
   pub default : Option ℕ
 
--- a file of a command: what it is called, and what the command does with it
+-- a file of a command: its name in the command line, and what the command does with it
 pub record FileRow : Type 0 where
   pub label : List ℕ
   pub role : Role
@@ -42,7 +42,7 @@ is_optional file = may_be_absent file.role
 abbrev pub is_output : FileRow → Bool
 is_output file = is_written file.role
 
--- what the files of a command are called, and what its options are
+-- the names of a command's files in the command line, and those of its options
 abbrev pub labels_of : CommandRow → List (List ℕ)
 labels_of row = map (λ file. file.label) row.files
 
@@ -54,10 +54,10 @@ abbrev pub are_distinct : List (List ℕ) → Bool
 are_distinct [] = true
 are_distinct (text ∷ texts) = not (list_any (bytes_eq text) texts) && are_distinct texts
 
--- a row that commands may have: all that it names has a name of its own, and there are few files
+-- A row that commands may have. All that it names have different names, and there are few files.
 abbrev pub is_row : CommandRow → Bool
 is_row row = are_distinct (labels_of row ++ option_names row) && nat_lt (length row.files) 100
 
--- the number that stands where the option isn't given is one that a value may stand for
+-- a number that is used if the option isn't given is one that a value may stand for
 abbrev pub has_default_in_range : OptionRow → Bool
 has_default_in_range option = option_map_or (is_among_values option.values) option.default true

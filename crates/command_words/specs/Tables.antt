@@ -1,5 +1,5 @@
 -- The one table of options and the one of commands.
-use Rattle.std.specs.Prelude.{List, [], ◌∷◌, Some, None, codes}
+use Rattle.std.specs.Prelude.{ℕ, List, [], ◌∷◌, Some, None, codes}
 use Rattle.command_words.specs.Numbers.{Number, Listed}
 use Rattle.command_words.specs.Rows.{CommandRow, FileRow, OptionRow}
 use Rattle.command_words.specs.declared.rows.Role.TheVariants.{Input, OptionalInput, Output}
@@ -10,15 +10,15 @@ use Rattle.command_words.specs.declared.rows.Role.TheVariants.{Input, OptionalIn
 abbrev pub threads_option : OptionRow
 threads_option = record { name = codes "threads"; values = Number 1 16; default = Some 1 }
 
--- how many instructions each makes at the most
+-- the most instructions that each thread makes
 abbrev pub fuel_option : OptionRow
 fuel_option = record { name = codes "fuel"; values = Number 0 1000000000; default = Some 10000000 }
 
--- how many passings each makes at the most
+-- the most passings that each thread makes
 abbrev pub passings_option : OptionRow
 passings_option = record { name = codes "passings"; values = Number 0 1048576; default = Some 1048576 }
 
--- how many bytes a buffer of events has
+-- the size of a buffer of events in bytes
 abbrev pub buffer_size_option : OptionRow
 buffer_size_option = record { name = codes "buffer-size"; values = Number 72 1048576; default = Some 16384 }
 
@@ -26,15 +26,15 @@ buffer_size_option = record { name = codes "buffer-size"; values = Number 72 104
 abbrev pub buffer_max_option : OptionRow
 buffer_max_option = record { name = codes "buffer-max"; values = Number 1 1024; default = Some 100 }
 
--- how many cycles the counter goes on with each instruction
+-- by how many cycles each instruction advances the counter
 abbrev pub tick_option : OptionRow
 tick_option = record { name = codes "tick"; values = Number 0 18446744073709551615; default = Some 1 }
 
--- where the counter begins
+-- the counter at the start
 abbrev pub tsc_option : OptionRow
 tsc_option = record { name = codes "tsc"; values = Number 0 18446744073709551615; default = Some 0 }
 
--- how many cycles the counter makes in a second; 0 says nothing
+-- the frequency of the counter in cycles per second; 0 means that it isn't known
 abbrev pub frequency_option : OptionRow
 frequency_option = record { name = codes "frequency"; values = Number 0 18446744073709551615; default = Some 0 }
 
@@ -50,13 +50,44 @@ migrate_option = record { name = codes "migrate"; values = Number 1 1048576; def
 abbrev pub pid_option : OptionRow
 pid_option = record { name = codes "pid"; values = Number 0 2147483647; default = Some 1 }
 
--- the wall time in seconds; it is the one handed in where it isn't given
+-- the wall time in seconds; if it isn't given, it is the one that is passed in
 abbrev pub wall_option : OptionRow
 wall_option = record { name = codes "wall"; values = Number 0 18446744073709551615; default = None }
 
--- how many instruction lines a function has at the least that gets sleds
+-- the least number of instruction lines with which a function gets sleds
 abbrev pub threshold_option : OptionRow
 threshold_option = record { name = codes "threshold"; values = Number 0 4294967295; default = Some 1 }
+
+-- the column by which the rows of an account are sorted
+abbrev pub sort_option : OptionRow
+sort_option = record { name = codes "sort"; values = Listed columns; default = Some 0 }
+  where
+    columns : List (List ℕ)
+    columns = codes "funcid" ∷ codes "count" ∷ codes "min" ∷ codes "med" ∷ codes "90p" ∷ codes "99p" ∷ codes "max"
+        ∷ codes "sum" ∷ []
+
+-- the order in which they are sorted
+abbrev pub sort_order_option : OptionRow
+sort_order_option =
+    record { name = codes "sortorder"; values = Listed (codes "asc" ∷ codes "desc" ∷ []); default = Some 0 }
+
+-- the most rows that are printed; if it isn't given, all are
+abbrev pub top_option : OptionRow
+top_option = record { name = codes "top"; values = Number 0 4294967295; default = None }
+
+-- the form in which an account is printed
+abbrev pub account_format_option : OptionRow
+account_format_option =
+    record { name = codes "format"; values = Listed (codes "text" ∷ codes "csv" ∷ []); default = Some 0 }
+
+-- the form in which stacks are printed
+abbrev pub stack_format_option : OptionRow
+stack_format_option =
+    record { name = codes "format"; values = Listed (codes "human" ∷ codes "flame" ∷ []); default = Some 0 }
+
+-- the form that a trace is converted to
+abbrev pub convert_format_option : OptionRow
+convert_format_option = record { name = codes "format"; values = Listed (codes "yaml" ∷ []); default = Some 0 }
 
 -- ---- the commands
 
@@ -98,3 +129,21 @@ sim_row = record {
       ∷ record { label = codes "audit"; role = Output } ∷ [];
   options = run_options;
 }
+
+-- the files of the commands that report on a trace
+abbrev pub report_files : List FileRow
+report_files =
+    record { label = codes "trace"; role = Input } ∷ record { label = codes "image"; role = OptionalInput } ∷ []
+
+abbrev pub account_row : CommandRow
+account_row = record {
+  word = codes "account";
+  files = report_files;
+  options = sort_option ∷ sort_order_option ∷ top_option ∷ account_format_option ∷ [];
+}
+
+abbrev pub stack_row : CommandRow
+stack_row = record { word = codes "stack"; files = report_files; options = stack_format_option ∷ [] }
+
+abbrev pub convert_row : CommandRow
+convert_row = record { word = codes "convert"; files = report_files; options = convert_format_option ∷ [] }

@@ -1,4 +1,4 @@
-//! Words cut into a line by `clap`, by the row of a command.
+//! Cutting words into a line with `clap`, by the row of a command.
 ghost use Rattle.std.specs.Prelude.{◌≡◌, IfOk, count_by, fold, map, option_map, true};
 ghost use Rattle.std.specs.Str.{bytes_eq};
 ghost use Rattle.clap.specs.Faults.{is_simple_and_free};
@@ -15,7 +15,7 @@ use clap::error::ErrorKind;
 use clap::{Arg, ArgAction, ArgMatches};
 use std::alloc::{AllocError, Global};
 
-/// The line that the words after a command say by its row; None where they say none.
+/// The line that the words after a command say, by the command's row. `None` if they say none.
 pub(crate) fn cut_line<'a>(
     alloc: Global,
     row: &CommandRow,
@@ -46,8 +46,8 @@ fn clap_command<'a>(alloc: Global, row: &CommandRow) -> Result<clap::Command<'a>
     with_options(alloc, command, row.options)
 }
 
-/// A command with no arguments, which is given the words after its own, and knows none for help or
-/// version.
+/// A command without arguments. clap gets the words after the command's own, and knows no words for
+/// help or version.
 fn bare_command<'a>(alloc: Global, word: &'a str) -> clap::Command<'a>
     ensures { app_of result ≡ bare_app word.entry.now }
 {
@@ -57,7 +57,7 @@ fn bare_command<'a>(alloc: Global, word: &'a str) -> clap::Command<'a>
         .disable_version_flag(true)
 }
 
-/// The command with a file more.
+/// The command with one more file.
 fn with_file<'a>(
     alloc: Global,
     command: clap::Command<'a>,
@@ -87,7 +87,7 @@ fn with_files<'a>(
     Ok(command)
 }
 
-/// The command with an option more.
+/// The command with one more option.
 fn with_option<'a>(
     alloc: Global,
     command: clap::Command<'a>,
@@ -115,7 +115,7 @@ fn with_options<'a>(
     Ok(command)
 }
 
-/// The matches, where the command takes the words.
+/// The matches, if the command takes the words.
 fn matches_of<'a>(
     command: clap::Command<'a>,
     words: &'a [String],
@@ -133,7 +133,7 @@ fn matches_of<'a>(
     }
 }
 
-/// The line that matches hold.
+/// The line that the matches hold.
 fn line_in<'a>(
     alloc: Global,
     row: &CommandRow,
@@ -146,7 +146,7 @@ fn line_in<'a>(
     Ok(Line { files, given })
 }
 
-/// The names that matches have for files, in their order.
+/// The names of files in the matches, in order.
 fn files_in<'a>(
     alloc: Global,
     files: &[FileRow],
@@ -164,7 +164,7 @@ fn files_in<'a>(
     Ok(names)
 }
 
-/// The options that matches have, in the order of the rows, each name with its value.
+/// The options in the matches, in the order of the rows: each name with its value.
 fn given_in<'a>(
     alloc: Global,
     options: &[OptionRow],
@@ -182,7 +182,7 @@ fn given_in<'a>(
     Ok(given)
 }
 
-/// Whether no output among the files has the name of another.
+/// Whether no output has the name of another file.
 fn outputs_differ(files: &[FileRow], names: &[&str]) -> bool
     ensures { result ≡ outputs_differ (map file_view files.now) (map (λ name. name.now) names.now) }
 {

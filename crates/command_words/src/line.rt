@@ -9,17 +9,17 @@ ghost use Rattle.command_words.specs.Views.{line_view, option_view, values_view}
 
 use crate::rows::{OptionRow, Values};
 
-/// What the words after a command say by the command's row.
+/// What the words after a command say, by the command's row.
 #[derive(Drop)]
 pub(crate) struct Line<'a> {
-    /// The names of the files, in their order.
+    /// The names of the files, in order.
     pub(crate) files: Vec<&'a str>,
-    /// The options that are given, in the order of the row: each name with its value.
+    /// The options that are given, in the order of the row. Each name has its value.
     pub(crate) given: Vec<(&'a str, &'a str)>,
 }
 
 impl<'a> Line<'a> {
-    /// The value that it gives the option of this name.
+    /// The value that the line gives this option.
     pub(crate) fn value(&self, name: &str) -> Option<&'a str>
         ensures { option_copied result ≡ value_in name.now (line_view self.now) }
     {
@@ -33,8 +33,8 @@ impl<'a> Line<'a> {
 }
 
 impl OptionRow {
-    /// The number that a line gives it, or its default. None where the line gives it a value that it
-    /// may not have, and where it isn't given and has no default.
+    /// The number that a line gives the option, or its default. `None` if the line gives it a value
+    /// that isn't allowed, or if the line gives it no value and it has no default.
     pub(crate) fn number_in(&self, line: &Line<'_>) -> Option<u64>
         requires { has_default_in_range (option_view self.now) ≡ true }
         ensures number { result ≡ number_in (option_view self.now) (line_view line.now) }
@@ -48,7 +48,7 @@ impl OptionRow {
 }
 
 impl Values {
-    /// The number that a value stands for. None where it is none of these values.
+    /// The number that a value stands for. `None` if the value isn't allowed.
     #[tactic(auto, using(crate::proofs::Gathering::position_of_texts))]
     pub(crate) fn number_of(&self, value: &str) -> Option<u64>
         ensures number { result ≡ number_of (values_view self.now) value.now }
@@ -61,8 +61,8 @@ impl Values {
     }
 }
 
-/// The number that a word writes in decimal, where it lies within a range. Zeros may lead, and one
-/// plus before them.
+/// The number that a word writes in decimal, if it is in the range. Leading zeros are allowed, and
+/// one plus before them.
 fn number_within(least: u64, most: u64, word: &str) -> Option<u64>
     ensures number { result ≡ number_within least most word.now }
     ensures within { IfSome result (λ number. (least ≤ number) × (number ≤ most)) }

@@ -7,12 +7,12 @@ ghost use Rattle.command_words.specs.Rows.{is_written, may_be_absent};
 pub(crate) enum Values {
     /// A number in decimal.
     Number {
-        /// The least that it may be.
+        /// The least value.
         least: u64,
-        /// The most that it may be.
+        /// The greatest value.
         most: u64,
     },
-    /// One of these words, which stands for its place among them, counted from 0.
+    /// One of these words. It stands for its place among them, counted from 0.
     Listed(&'static [&'static str]),
 }
 
@@ -23,7 +23,7 @@ pub(crate) struct OptionRow {
     pub(crate) name: &'static str,
     /// What its value may be.
     pub(crate) values: Values,
-    /// The number that stands where it isn't given. None where no number of the table does.
+    /// The number that is used if the option isn't given. `None` if the table has no such number.
     pub(crate) default: Option<u64>,
 }
 
@@ -34,7 +34,7 @@ pub(crate) enum Role {
     Input,
     /// It reads the file, which may be absent.
     OptionalInput,
-    /// It writes the file. No other file of the command has its name.
+    /// It writes the file. No other file of the command may have its name.
     Output,
 }
 
@@ -63,7 +63,7 @@ impl Role {
 /// A file of a command.
 #[derive(Clone, Copy, Debug)]
 pub(crate) struct FileRow {
-    /// What it is called.
+    /// The name of its place in the command line.
     pub(crate) label: &'static str,
     /// What the command does with it.
     pub(crate) role: Role,
@@ -74,7 +74,7 @@ pub(crate) struct FileRow {
 pub(crate) struct CommandRow {
     /// Its word.
     pub(crate) word: &'static str,
-    /// Its files, in the order of their names. Those that may be absent are the last ones.
+    /// Its files, in the order of their names. Files that may be absent come last.
     pub(crate) files: &'static [FileRow],
     /// Its options.
     pub(crate) options: &'static [OptionRow],

@@ -11,34 +11,35 @@ use crate::tables::{
 };
 use xray_io::Wall;
 
-/// How many bytes a trace file may have.
+/// The most bytes that a trace file may have.
 const TRACE_LIMIT: u64 = 67_108_864;
 
-/// How many bytes a trace file has before its buffers.
+/// How many bytes of a trace file come before its buffers.
 const TRACE_HEADER: u64 = 32;
 
-/// How many bytes a trace file has before each buffer.
+/// How many bytes of a trace file come before each buffer.
 const BUFFER_HEADER: u64 = 16;
 
-/// What bounds the threads of a run.
+/// The limits of a run's threads.
 #[derive(Clone, Copy, Debug, PartialEq, Eq)]
 pub struct Bounds {
     /// How many threads there are, from 1 to 16.
     pub threads: u32,
-    /// How many instructions a thread makes at the most, up to 1,000,000,000.
+    /// The most instructions that a thread makes, up to 1,000,000,000.
     pub fuel: u64,
-    /// How many passings of sleds a thread makes at the most, up to 1,048,576.
+    /// The most passings of sleds that a thread makes, up to 1,048,576.
     pub passings: u32,
 }
 
 /// How the passings of a run are stamped.
 #[derive(Clone, Copy, Debug, PartialEq, Eq)]
 pub struct Stamps {
-    /// How many cycles the counter (TSC) goes on with each instruction.
+    /// By how many cycles each instruction advances the counter (TSC).
     pub tick: u64,
-    /// Where the counter begins, in cycles.
+    /// The counter at the start, in cycles.
     pub tsc: u64,
-    /// How many cycles the counter makes in a second, as the trace's header says; 0 says nothing.
+    /// The frequency of the counter in cycles per second, as the trace's header says it. 0 means
+    /// that it isn't known.
     pub frequency: u64,
     /// How many CPUs a thread moves between, at least 1.
     pub cpus: u16,
@@ -49,20 +50,20 @@ pub struct Stamps {
 /// The buffers of a run's events.
 #[derive(Clone, Copy, Debug, PartialEq, Eq)]
 pub struct Buffers {
-    /// How many bytes a buffer has, from 72 to 1,048,576.
+    /// The size of a buffer in bytes, from 72 to 1,048,576.
     pub size: u32,
-    /// How many buffers there are, from one a thread to 1,024.
+    /// How many buffers there are: at least one per thread, at most 1,024.
     pub max: u32,
 }
 
 /// All options of a run.
 #[derive(Clone, Copy, Debug, PartialEq, Eq)]
 pub struct RunOptions {
-    /// What bounds the threads.
+    /// The limits of its threads.
     pub bounds: Bounds,
     /// How passings are stamped.
     pub stamps: Stamps,
-    /// The buffers of events. A trace file of 67,108,864 bytes has room for all of them.
+    /// The buffers of events. All of them fit a trace file of 67,108,864 bytes.
     pub buffers: Buffers,
     /// The number of the process, below 2^31.
     pub pid: u32,
@@ -71,7 +72,7 @@ pub struct RunOptions {
 }
 
 impl RunOptions {
-    /// Whether there is a buffer for each thread, and a trace file has room for all buffers.
+    /// Whether there is a buffer for each thread, and all buffers fit a trace file.
     fn have_room(&self) -> bool
         requires { AreBuffers self.now.buffers }
         ensures { result ≡ have_room self.now }
@@ -83,7 +84,7 @@ impl RunOptions {
     }
 }
 
-/// What bounds the threads. None where a value is none that it may be.
+/// The limits of the threads. `None` if a value isn't allowed.
 pub(crate) fn bounds_in(line: &Line<'_>) -> Option<Bounds>
     ensures reads { result ≡ bounds_in (line_view line.now) }
     ensures ranges { IfSome result AreBounds }
@@ -98,7 +99,7 @@ pub(crate) fn bounds_in(line: &Line<'_>) -> Option<Bounds>
     })
 }
 
-/// How passings are stamped. None where a value is none that it may be.
+/// How passings are stamped. `None` if a value isn't allowed.
 fn stamps_in(line: &Line<'_>) -> Option<Stamps>
     ensures reads { result ≡ stamps_in (line_view line.now) }
     ensures ranges { IfSome result AreStamps }
@@ -117,7 +118,7 @@ fn stamps_in(line: &Line<'_>) -> Option<Stamps>
     })
 }
 
-/// The buffers. None where a value is none that it may be.
+/// The buffers. `None` if a value isn't allowed.
 fn buffers_in(line: &Line<'_>) -> Option<Buffers>
     ensures reads { result ≡ buffers_in (line_view line.now) }
     ensures ranges { IfSome result AreBuffers }
@@ -130,8 +131,8 @@ fn buffers_in(line: &Line<'_>) -> Option<Buffers>
     })
 }
 
-/// The wall time: the one that is given, or the one that is handed in. None where the value is no
-/// number of seconds.
+/// The wall time that the line gives, or else the one that is passed in. `None` if the value isn't
+/// a number of seconds.
 fn wall_in(wall: Wall, line: &Line<'_>) -> Option<Wall>
     ensures { result ≡ wall_in wall (line_view line.now) }
 {
@@ -144,8 +145,8 @@ fn wall_in(wall: Wall, line: &Line<'_>) -> Option<Wall>
     }
 }
 
-/// All options of a run that begins at this wall time, unless the line says another. None where a
-/// value is none that it may be, and where the buffers have no room.
+/// All options of a run. It begins at this wall time, unless the line gives another. `None` if a
+/// value isn't allowed, or if the buffers don't fit.
 pub(crate) fn run_options_in(wall: Wall, line: &Line<'_>) -> Option<RunOptions>
     ensures reads { result ≡ run_options_in wall (line_view line.now) }
     ensures ranges { IfSome result AreRunOptions }

@@ -9,7 +9,7 @@ pub(crate) const THREADS: OptionRow = OptionRow {
     default: Some(1),
 };
 
-/// How many instructions a thread makes at the most.
+/// The most instructions that a thread makes.
 pub(crate) const FUEL: OptionRow = OptionRow {
     name: "fuel",
     values: Values::Number {
@@ -19,7 +19,7 @@ pub(crate) const FUEL: OptionRow = OptionRow {
     default: Some(10_000_000),
 };
 
-/// How many passings a thread makes at the most.
+/// The most passings that a thread makes.
 pub(crate) const PASSINGS: OptionRow = OptionRow {
     name: "passings",
     values: Values::Number {
@@ -29,7 +29,7 @@ pub(crate) const PASSINGS: OptionRow = OptionRow {
     default: Some(1_048_576),
 };
 
-/// How many bytes a buffer of events has.
+/// The size of a buffer of events in bytes.
 pub(crate) const BUFFER_SIZE: OptionRow = OptionRow {
     name: "buffer-size",
     values: Values::Number {
@@ -49,7 +49,7 @@ pub(crate) const BUFFER_MAX: OptionRow = OptionRow {
     default: Some(100),
 };
 
-/// How many cycles the counter goes on with each instruction.
+/// By how many cycles each instruction advances the counter.
 pub(crate) const TICK: OptionRow = OptionRow {
     name: "tick",
     values: Values::Number {
@@ -59,7 +59,7 @@ pub(crate) const TICK: OptionRow = OptionRow {
     default: Some(1),
 };
 
-/// Where the counter begins, in cycles.
+/// The counter at the start, in cycles.
 pub(crate) const TSC: OptionRow = OptionRow {
     name: "tsc",
     values: Values::Number {
@@ -69,7 +69,7 @@ pub(crate) const TSC: OptionRow = OptionRow {
     default: Some(0),
 };
 
-/// How many cycles the counter makes in a second; 0 says nothing.
+/// The frequency of the counter in cycles per second. 0 means that it isn't known.
 pub(crate) const FREQUENCY: OptionRow = OptionRow {
     name: "frequency",
     values: Values::Number {
@@ -109,7 +109,7 @@ pub(crate) const PID: OptionRow = OptionRow {
     default: Some(1),
 };
 
-/// The wall time, in seconds. Where it isn't given it is the time that is handed in.
+/// The wall time, in seconds. If it isn't given, it is the time that is passed in.
 pub(crate) const WALL: OptionRow = OptionRow {
     name: "wall",
     values: Values::Number {
@@ -119,7 +119,7 @@ pub(crate) const WALL: OptionRow = OptionRow {
     default: None,
 };
 
-/// How many instruction lines a function has at the least that gets sleds.
+/// The least number of instruction lines with which a function gets sleds.
 pub(crate) const THRESHOLD: OptionRow = OptionRow {
     name: "threshold",
     values: Values::Number {
@@ -127,6 +127,51 @@ pub(crate) const THRESHOLD: OptionRow = OptionRow {
         most: 4_294_967_295,
     },
     default: Some(1),
+};
+
+/// The column by which the rows of an account are sorted.
+pub(crate) const SORT: OptionRow = OptionRow {
+    name: "sort",
+    values: Values::Listed(&["funcid", "count", "min", "med", "90p", "99p", "max", "sum"]),
+    default: Some(0),
+};
+
+/// The order in which the rows of an account are sorted.
+pub(crate) const SORT_ORDER: OptionRow = OptionRow {
+    name: "sortorder",
+    values: Values::Listed(&["asc", "desc"]),
+    default: Some(0),
+};
+
+/// The most rows of an account that are printed. If it isn't given, all are.
+pub(crate) const TOP: OptionRow = OptionRow {
+    name: "top",
+    values: Values::Number {
+        least: 0,
+        most: 4_294_967_295,
+    },
+    default: None,
+};
+
+/// The form in which an account is printed.
+pub(crate) const ACCOUNT_FORMAT: OptionRow = OptionRow {
+    name: "format",
+    values: Values::Listed(&["text", "csv"]),
+    default: Some(0),
+};
+
+/// The form in which stacks are printed.
+pub(crate) const STACK_FORMAT: OptionRow = OptionRow {
+    name: "format",
+    values: Values::Listed(&["human", "flame"]),
+    default: Some(0),
+};
+
+/// The form that a trace is converted to.
+pub(crate) const CONVERT_FORMAT: OptionRow = OptionRow {
+    name: "format",
+    values: Values::Listed(&["yaml"]),
+    default: Some(0),
 };
 
 /// An image that is read.
@@ -153,7 +198,7 @@ const SCRIPT: FileRow = FileRow {
     role: Role::Input,
 };
 
-/// A schedule of the turns.
+/// A schedule: the order of the turns.
 const SCHEDULE: FileRow = FileRow {
     label: "schedule",
     role: Role::Input,
@@ -171,6 +216,40 @@ const AUDIT: FileRow = FileRow {
     role: Role::Output,
 };
 
+/// A trace that is read.
+const TRACE: FileRow = FileRow {
+    label: "trace",
+    role: Role::Input,
+};
+
+/// An image that names the functions of a trace.
+const NAMING_IMAGE: FileRow = FileRow {
+    label: "image",
+    role: Role::OptionalInput,
+};
+
+/// `account TRACE [IMAGE]`: prints how often the functions of a trace were called, and for how
+/// long.
+pub(crate) const ACCOUNT: CommandRow = CommandRow {
+    word: "account",
+    files: &[TRACE, NAMING_IMAGE],
+    options: &[SORT, SORT_ORDER, TOP, ACCOUNT_FORMAT],
+};
+
+/// `stack TRACE [IMAGE]`: prints how often each stack of a trace occurred, and for how long.
+pub(crate) const STACK: CommandRow = CommandRow {
+    word: "stack",
+    files: &[TRACE, NAMING_IMAGE],
+    options: &[STACK_FORMAT],
+};
+
+/// `convert TRACE [IMAGE]`: prints a trace as a text in YAML.
+pub(crate) const CONVERT: CommandRow = CommandRow {
+    word: "convert",
+    files: &[TRACE, NAMING_IMAGE],
+    options: &[CONVERT_FORMAT],
+};
+
 /// `asm TEXT IMAGE`: assembles an image.
 pub(crate) const ASM: CommandRow = CommandRow {
     word: "asm",
@@ -178,7 +257,7 @@ pub(crate) const ASM: CommandRow = CommandRow {
     options: &[THRESHOLD],
 };
 
-/// `plain IMAGE`: runs an image without sleds on each thread.
+/// `plain IMAGE`: runs an image on each thread, with its sleds only counted.
 pub(crate) const PLAIN: CommandRow = CommandRow {
     word: "plain",
     files: &[IMAGE],

@@ -3,18 +3,23 @@ ghost use Rattle.std.specs.Prelude.{◌≡◌, IfOk, IfSome, option_and_then, op
 ghost use Rattle.command_words.specs.Items.{items_of, texts};
 ghost use Rattle.command_words.specs.Lines.{line_of, outputs_differ};
 ghost use Rattle.command_words.specs.Ranges.{HasRanges};
-ghost use Rattle.command_words.specs.Tables.{asm_row, extract_row, plain_row, sim_row};
+ghost use Rattle.command_words.specs.Tables.{account_row, asm_row, convert_row, extract_row, plain_row};
+ghost use Rattle.command_words.specs.Tables.{sim_row, stack_row};
 ghost use Rattle.command_words.specs.Views.{command_view, line_view};
-ghost use Rattle.command_words.specs.Words.{asm_in, extract_in, plain_in, reading, sim_in};
+ghost use Rattle.command_words.specs.Words.{account_in, asm_in, convert_in, extract_in, plain_in};
+ghost use Rattle.command_words.specs.Words.{reading, sim_in, stack_in};
 
 use crate::cutting::cut_line;
 use crate::line::Line;
+use crate::report_options::{
+    AccountOptions, ReportFiles, StackFormat, account_options_in, report_files_in, stack_format_in,
+};
 use crate::run_options::{Bounds, RunOptions, bounds_in, run_options_in};
-use crate::tables::{ASM, EXTRACT, PLAIN, SIM, THRESHOLD};
+use crate::tables::{ACCOUNT, ASM, CONVERT, CONVERT_FORMAT, EXTRACT, PLAIN, SIM, STACK, THRESHOLD};
 use std::alloc::{AllocError, Global};
 use xray_io::Wall;
 
-/// What the program is asked to do, with the names of the files for it and its options.
+/// What the program is asked to do: the command, the names of its files, and its options.
 #[derive(Clone, Copy, Debug)]
 pub enum Command<'a> {
     /// Replays a schedule over an image and a script.
@@ -25,18 +30,18 @@ pub enum Command<'a> {
         script: &'a str,
         /// The turns of the threads and the patcher.
         schedule: &'a str,
-        /// The trace of the events, which is an output.
+        /// The trace of the events, an output.
         trace: &'a str,
-        /// The audit of the run, which is an output of another name.
+        /// The audit of the run, an output with another name.
         audit: &'a str,
         /// What the replay is made with.
         options: RunOptions,
     },
-    /// Runs an image without sleds on each thread.
+    /// Runs an image on each thread, with its sleds only counted.
     Plain {
         /// The image file.
         image: &'a str,
-        /// What bounds the threads.
+        /// The limits of the threads.
         bounds: Bounds,
     },
     /// Prints the sled map of an image.
@@ -50,16 +55,41 @@ pub enum Command<'a> {
         text: &'a str,
         /// The image file, which is the output.
         image: &'a str,
-        /// How many instruction lines a function has at the least that gets sleds.
+        /// The least number of instruction lines with which a function gets sleds.
         threshold: u32,
+    },
+    /// Prints how often the functions of a trace were called, and for how long.
+    Account {
+        /// The trace.
+        trace: &'a str,
+        /// The image that names the functions, if there is one.
+        image: Option<&'a str>,
+        /// How the account is printed.
+        options: AccountOptions,
+    },
+    /// Prints how often each stack of a trace occurred, and for how long.
+    Stack {
+        /// The trace.
+        trace: &'a str,
+        /// The image that names the functions, if there is one.
+        image: Option<&'a str>,
+        /// The form in which the stacks are printed.
+        format: StackFormat,
+    },
+    /// Prints a trace as a text in YAML.
+    Convert {
+        /// The trace.
+        trace: &'a str,
+        /// The image that names the functions, if there is one.
+        image: Option<&'a str>,
     },
 }
 
-/// The command that words say at a wall time; None where they say none. The words are those after
+/// The command that words say at a wall time, or `None` if they say none. The words are those after
 /// the program's own name. A run begins at the wall time, unless the words say another.
 ///
 /// # Errors
-/// `AllocError` where an allocation is refused; nothing else is an error.
+/// `AllocError` means that an allocation was refused. There are no other errors.
 pub fn read_words<'a>(
     alloc: Global,
     wall: Wall,
@@ -80,6 +110,12 @@ pub fn read_words<'a>(
         read_sim(alloc, wall, rest)
     } else if word == ASM.word {
         read_asm(alloc, rest)
+    } else if word == ACCOUNT.word {
+        read_account(alloc, rest)
+    } else if word == STACK.word {
+        read_stack(alloc, rest)
+    } else if word == CONVERT.word {
+        read_convert(alloc, rest)
     } else {
         Ok(None)
     }
@@ -133,6 +169,42 @@ fn read_asm<'a>(alloc: Global, words: &'a [String]) -> Result<Option<Command<'a>
 {
     match cut_line(alloc, &ASM, words)? {
         Some(line) => Ok(asm_in(&line)),
+        None => Ok(None),
+    }
+}
+
+/// `account TRACE [IMAGE]`.
+fn read_account<'a>(alloc: Global, words: &'a [String]) -> Result<Option<Command<'a>>, AllocError>
+    ensures reads { IfOk result (λ said. option_map command_view said
+        ≡ option_and_then account_in (line_of account_row (items_of (texts words.entry.now)))) }
+    ensures ranges { IfOk result (λ said. IfSome (option_map command_view said) HasRanges) }
+{
+    match cut_line(alloc, &ACCOUNT, words)? {
+        Some(line) => Ok(account_in(&line)),
+        None => Ok(None),
+    }
+}
+
+/// `stack TRACE [IMAGE]`.
+fn read_stack<'a>(alloc: Global, words: &'a [String]) -> Result<Option<Command<'a>>, AllocError>
+    ensures reads { IfOk result (λ said. option_map command_view said
+        ≡ option_and_then stack_in (line_of stack_row (items_of (texts words.entry.now)))) }
+    ensures ranges { IfOk result (λ said. IfSome (option_map command_view said) HasRanges) }
+{
+    match cut_line(alloc, &STACK, words)? {
+        Some(line) => Ok(stack_in(&line)),
+        None => Ok(None),
+    }
+}
+
+/// `convert TRACE [IMAGE]`.
+fn read_convert<'a>(alloc: Global, words: &'a [String]) -> Result<Option<Command<'a>>, AllocError>
+    ensures reads { IfOk result (λ said. option_map command_view said
+        ≡ option_and_then convert_in (line_of convert_row (items_of (texts words.entry.now)))) }
+    ensures ranges { IfOk result (λ said. IfSome (option_map command_view said) HasRanges) }
+{
+    match cut_line(alloc, &CONVERT, words)? {
+        Some(line) => Ok(convert_in(&line)),
         None => Ok(None),
     }
 }
@@ -194,4 +266,42 @@ fn asm_in<'a>(line: &Line<'a>) -> Option<Command<'a>>
         image,
         threshold: threshold as u32,
     })
+}
+
+/// The account that a line of `account` says.
+fn account_in<'a>(line: &Line<'a>) -> Option<Command<'a>>
+    ensures reads { option_map command_view result ≡ account_in (line_view line.now) }
+    ensures ranges { IfSome (option_map command_view result) HasRanges }
+{
+    let ReportFiles { trace, image } = report_files_in(line)?;
+    let options = account_options_in(line)?;
+    Some(Command::Account {
+        trace,
+        image,
+        options,
+    })
+}
+
+/// The stacks that a line of `stack` asks for.
+fn stack_in<'a>(line: &Line<'a>) -> Option<Command<'a>>
+    ensures reads { option_map command_view result ≡ stack_in (line_view line.now) }
+    ensures ranges { IfSome (option_map command_view result) HasRanges }
+{
+    let ReportFiles { trace, image } = report_files_in(line)?;
+    let format = stack_format_in(line)?;
+    Some(Command::Stack {
+        trace,
+        image,
+        format,
+    })
+}
+
+/// The conversion that a line of `convert` asks for.
+fn convert_in<'a>(line: &Line<'a>) -> Option<Command<'a>>
+    ensures reads { option_map command_view result ≡ convert_in (line_view line.now) }
+    ensures ranges { IfSome (option_map command_view result) HasRanges }
+{
+    let ReportFiles { trace, image } = report_files_in(line)?;
+    let _yaml = CONVERT_FORMAT.number_in(line)?;
+    Some(Command::Convert { trace, image })
 }

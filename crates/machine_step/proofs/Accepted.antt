@@ -1,4 +1,4 @@
--- What an accepted file says of its units and sleds.
+-- What an accepted file says about its units and sleds.
 use Rattle.std.proofs.Common.{◌≡◌, ◌≢◌, ℕ, zero, suc, ◌+◌, ◌<◌, ◌≤◌, ◌^◌, Bool, true, false, List, [], ◌∷◌, length, map, take, drop, Option, Some, None, refl, sym, ap, subst, ◌∙◌, inl, inr, arith, add-one, length-append}
 use Rattle.std.specs.Prelude.{slice_get, if◌then◌else◌, option_and_then, ◌⊎◌, ◌++◌}
 use Rattle.std.specs.Option.{option_map}
@@ -100,7 +100,7 @@ numbered_sled address sleds (ReturnSled shift ∷ pieces) (suc i) u k found is =
 numbered_sled address sleds (Align ∷ pieces) (suc i) u k found is =
     let later = numbered_sled (address + 1) (sleds + 0) pieces i u k found is in omega arith
 
--- each sled of the code has its entry of the map
+-- each sled of the code has its entry in the map
 pub has_sled : (bytes : List ℕ) (program : Program) → IsAccepted bytes program → (i : ℕ) (u : Unit) (k : ℕ)
     → slice_get program.units i ≡ Some u → u.what ≡ whats.Sled k → k < length program.sleds
 has_sled bytes program accepted i u k found is =
@@ -124,7 +124,7 @@ width_of_piece sleds (JumpSled shift) = refl
 width_of_piece sleds (ReturnSled shift) = refl
 width_of_piece sleds Align = refl
 
--- units from an address on begin there or behind it
+-- units from an address on begin there or after it
 begins_behind : (address sleds : ℕ) (pieces : List Piece) (i : ℕ) (u : Unit) → slice_get (units_from address sleds pieces) i ≡ Some u
     → address ≤ u.address
 begins_behind address sleds [] i u found = absurd cc
@@ -172,14 +172,14 @@ are_in_order bytes program accepted =
 
 -- ---- the steps so far
 
--- each step stands at its place
+-- each step is at its place
 pub record HoldsSteps (program : Program) (all : List Step) : Type 0 where
   pub each : (place : ℕ) (step : Step) → slice_get all place ≡ Some step → IsStepAt program place step
 
 pub no_steps : (program : Program) → HoldsSteps program []
 no_steps program = record { each = λ place step found. absurd cc }
 
--- what is found in a list with one more
+-- what is found in a list with one more item
 found_more : (all : List Step) (last : Step) (i : ℕ) (step : Step) → slice_get (all ++ last ∷ []) i ≡ Some step
     → (slice_get all i ≡ Some step) ⊎ ((i ≡ length all) × (last ≡ step))
 found_more [] last zero step found = inr (refl, cc)

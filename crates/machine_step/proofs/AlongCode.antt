@@ -1,4 +1,4 @@
--- Whatever a thread loads along code that keeps sleds whole is allowed.
+-- What a thread loads from code that keeps sleds whole is allowed.
 use Rattle.std.proofs.Common.{zero, suc, ◌≡◌, ℕ, ◌+◌, ◌≤◌, List, [], ◌∷◌, ◌++◌, Bool, true, false, Option, Some, refl, sym, ap, subst, ◌∙◌, arith}
 use Rattle.std.specs.Prelude.{◌==◌, if◌then◌else◌, slice_get, take}
 use Rattle.std.specs.List.{All}
@@ -17,7 +17,8 @@ use Rattle.machine_step.specs.Follows.{Follows, none, later, loaded}
 
 -- ---- loads from the first one on
 
--- loads of the words that `next` wants behind each other, with the values of places that never fall, from one place up to another
+-- loads of the words that `next` wants one after the other, with the values at places that never fall, from one place
+-- to another
 abbrev pub Fits : Program → (ℕ → ℕ → ℕ) → (List Load → Option ℕ) → ℕ → List Load → ℕ → Type 0
 Fits program code next low [] high = low ≤ high
 Fits program code next low (load ∷ loads) high =
@@ -65,12 +66,12 @@ fits_same program code next other low (load ∷ loads) high same (place, le, fir
 
 -- ---- the stages of a passing
 
--- the word that is wanted behind loads that bring a passing so far
+-- the word that is wanted after loads that bring a passing this far
 abbrev pub behind : Reading → (List Load → Option ℕ) → Option ℕ
 behind (Wants word) next = Some word
 behind (Marked mark loads) next = next loads
 
--- whatever loads fit, the value of the word that is wanted behind them is allowed
+-- whatever loads fit, the value of the word that is wanted after them is allowed
 abbrev IsSafe : Program → ℕ → (ℕ → ℕ → ℕ) → (List Load → Option ℕ) → ℕ → Type 0
 IsSafe program thread code next low =
     (loads : List Load) (high word : ℕ) → Fits program code next low loads high → next loads ≡ Some word

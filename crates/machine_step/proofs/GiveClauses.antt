@@ -1,4 +1,4 @@
--- What giving a value to a traced thread leaves, as the contract says it.
+-- What giving a value to a traced thread leaves, in the words of the contract.
 use Rattle.std.proofs.Common.{◌≡◌, ◌==◌, ℕ, Bool, true, false, List, [], ◌∷◌, ◌++◌, Option, Some, None, refl, sym, ap, ◌∙◌, subst}
 use Rattle.std.specs.Prelude.{if◌then◌else◌, slice_get}
 use Rattle.fdr_record.specs.declared.event.Event.{Event}
@@ -29,7 +29,7 @@ use Rattle.machine_step.proofs.LoadFacts.{events_more}
 use Rattle.machine_step.proofs.Opening.{standing}
 use Rattle.machine_step.proofs.Tracing.{before_of}
 
--- the value is allowed of the word of its stage
+-- the value is allowed for the word of its stage
 allowed_here : (a : Inside) (place k : ℕ) (at_stage : Stage) (value : ℕ) → a.stand ≡ Loading place k at_stage → Allows (traced a) (traced a).want value
     → IsAllowed a.steps.now a.thread (word_at a.steps.now a.thread k at_stage) value
 allowed_here a place k at_stage value is allows =
@@ -57,7 +57,7 @@ clause_ends a sound place k at_stage value is mark behind allows m ms stand at e
     subst (λ (ls : List Load). HasLoaded (traced (passed_on a m ms stand)) all (loads ++ ls)) (load_here a place k at_stage value is)
     (ends_loads a sound place k at_stage value is mark behind (allowed_here a place k at_stage value is allows) m ms stand at ending all loads has)
 
--- the passing ended so
+-- the passing ended in this way
 pub ending_of : (a : Inside) (place k : ℕ) (at : IsAtPassing a place k) (m : Machine) (ms : MarkList) (stand : Stand) (mark : Mark)
     → IsWithin a.limits m → ms.items ≡ a.marks.items ++ mark ∷ [] → ms.room ≡ a.marks.room
     → ((address j : ℕ) → IsAtSled a.steps.now a.limits address place j a.machine → PassesTo a.steps.now a.limits address a.machine stand m)
@@ -71,7 +71,7 @@ pub between_of : (a : Inside) (place k : ℕ) (at : IsAtPassing a place k) (m : 
 between_of a place k at m ms stand mark ending =
     is_between a.steps.now a.limits a.thread at.address a.machine m (ending.made ∷ []) stand ending.runs
 
--- the events with that of the passing
+-- the events, with that of the passing
 pub clause_events : (a : Inside) → IsSound a → (place k : ℕ) → IsAtPassing a place k → (ms : List Mark) (mark : Mark) (answer : Option Event) (sled : Sled)
     → ms ≡ a.marks.items ++ mark ∷ [] → slice_get a.steps.now.sleds k ≡ Some sled
     → ((address j : ℕ) → answer ≡ (if is_recorded mark then Some (event_of (passing_at a.limits a.thread (state_at address a.machine) j sled)) else None))
@@ -87,7 +87,7 @@ clause_events a sound place k at ms mark answer sled more found answered =
     one : (s t : Sled) → Some s ≡ Some t → s ≡ t
     one s t is = cc
 
--- a release word is loaded again behind a release word alone
+-- a release word is loaded again only after a release word
 only_behind : (at_stage : Stage) (value : ℕ) → behind_load at_stage value ≡ Loads stages.Release → at_stage ≡ stages.Release
 only_behind stages.Release value behind = refl
 only_behind stages.Head value behind = by (value == patched_head) behind

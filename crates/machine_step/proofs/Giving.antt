@@ -77,7 +77,7 @@ loads_here a sound place k at_stage is at all loads has =
           (here.adds load))));
     }
 
--- ---- the loads with one more
+-- ---- the loads, with one more
 
 got_more : {X : Type 0} (xs : List X) (x : X) (i : ℕ) (y : X) → slice_get (xs ++ x ∷ []) i ≡ Some y
     → ((slice_get xs i ≡ Some y) × (take i (xs ++ x ∷ []) ≡ take i xs)) ⊎ ((x ≡ y) × (take i (xs ++ x ∷ []) ≡ xs))
@@ -138,7 +138,7 @@ goes_on_loads a sound place k at_stage next value is behind allowed all loads ha
 
 -- ---- a passing that ends
 
--- its fields behind the passing
+-- its fields after the passing
 abbrev pub passed_on : Inside → Machine → MarkList → Stand → Inside
 passed_on a m ms stand = record a { machine = m; marks = ms; stand = stand }
 
@@ -208,7 +208,7 @@ sound_behind a sound place k at m ms stand mark ending =
       stands = stands.0;
     }
 
--- lists that are as long in front go on alike
+-- lists with prefixes of equal length have the same rest
 split_rest : {X : Type 0} (xs ys : List X) (x : X) (xs' rest : List X) → length xs ≡ length ys → xs ++ x ∷ xs' ≡ ys ++ rest → rest ≡ x ∷ xs'
 split_rest [] [] x xs' rest long same = sym same
 split_rest [] (first ∷ ys) x xs' rest long same = absurd (omega arith)
@@ -220,7 +220,7 @@ no_more : {X : Type 0} (xs : List X) → length xs ≡ 0 → xs ≡ []
 no_more [] long = refl
 no_more (x ∷ xs) long = absurd (omega arith)
 
--- behind a passing the thread stands before another, or has ended
+-- after a passing the thread is before another one, or has ended
 abbrev pub IsBetween : Stand → Type 0
 IsBetween (Gate place k) = Unit {0}
 IsBetween (Loading place k at) = ⊥
@@ -232,7 +232,7 @@ is_between program limits thread address before after passed (Gate place k) run 
 is_between program limits thread address before after passed (Loading place k at) run = run
 is_between program limits thread address before after passed (Ended end) run = tt
 
--- what it wants behind these passings
+-- what it wants after these passings
 pub wants_at : (b : Inside) → IsSound b → (passed rest all : List Passing) (end : End) (last : State) (wanted : Option ℕ)
     → PlainRun b.steps.now b.limits b.thread all end last → all ≡ passed ++ rest → length b.marks.items ≡ length passed
     → wanted ≡ next_from b.steps.now b.thread b.hold (length b.marks.items) (sleds_of rest) []

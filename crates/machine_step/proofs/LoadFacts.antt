@@ -1,4 +1,4 @@
--- What a value that is loaded tells: which event comes, whether it keeps the thread, and how much nearer its end is.
+-- What a loaded value says: which event comes, whether the thread stays held, and how much nearer its end is.
 use Rattle.std.proofs.Common.{◌≡◌, ℕ, suc, ◌+◌, ◌-◌, ◌*◌, ◌<◌, ◌≤◌, ◌==◌, Bool, true, false, List, [], ◌∷◌, ◌++◌, length, Option, Some, None, refl, sym, ap, ◌∙◌, subst, length-append, arith}
 use Rattle.std.specs.Prelude.{◌↔◌, if◌then◌else◌, IsSome, nat_le}
 use Rattle.std.proofs.lemmas.Bool.{le-leb, leb-true, eqb-true}
@@ -33,7 +33,7 @@ use Rattle.machine_step.proofs.WordsAt.{same_stage}
 
 -- ---- which event comes
 
--- no passing is recorded but behind a state of 2
+-- a passing is recorded only after a state of 2
 loads_or_loads : (b : Bool) (x y : Stage) (mark : Mark) → (if b then Loads x else Loads y) ≡ Ends mark → ⊥
 loads_or_loads true x y mark is = cc
 loads_or_loads false x y mark is = cc
@@ -63,7 +63,7 @@ recorded_behind stages.Offset value mark is recorded = absurd cc
 recorded_behind stages.Handler value mark is recorded = absurd (unrecorded_or_loads (value == 0) stages.State mark marks.NoHandler refl recorded is)
 recorded_behind stages.State value mark is recorded = (refl, state_is value (value == 2) mark refl recorded is)
 
--- and there it is
+-- and after that it is
 recorded_at : (value : ℕ) (mark : Mark) → value ≡ 2 → behind_load stages.State value ≡ Ends mark → is_recorded mark ≡ true
 recorded_at value mark two is =
     let at : behind_load stages.State 2 ≡ Ends mark = ap (behind_load stages.State) (sym two) ∙ is in
@@ -142,7 +142,7 @@ if_same : (b : Bool) (event : Event) (xs : List Event) → xs ≡ [] → (if b t
 if_same true event xs none = ap (λ es. event ∷ es) none
 if_same false event xs none = none
 
--- one mark more adds the event of its passing, where it is recorded
+-- one more mark adds the event of its passing, if that is recorded
 recorded_more : (passed : List Passing) (next : Passing) (later : List Passing) (ms : List Mark) (mark : Mark) → length ms ≡ length passed
     → recorded (passed ++ next ∷ later) (ms ++ mark ∷ []) ≡ recorded (passed ++ next ∷ later) ms ++ (if is_recorded mark then event_of next ∷ [] else [])
 recorded_more [] next later [] mark long =
@@ -183,7 +183,7 @@ marks_added program thread made old new mark is (Gate place k) between = (mark, 
 marks_added program thread made old new mark is (Loading place k at) between = absurd between
 marks_added program thread made old new mark is (Ended end) between = (mark, is)
 
--- ---- a value that keeps the thread
+-- ---- a value that keeps the thread held
 
 -- it is a release word of 0
 release_at : (a : Inside) → IsSound a → (place k : ℕ) (at_stage : Stage) → a.stand ≡ Loading place k at_stage
@@ -245,7 +245,7 @@ steps_left_at program thread k stages.Offset within some = low_word program (wor
 steps_left_at program thread k stages.Handler within some = low_word program (word_at program thread k stages.Handler) (omega arith)
 steps_left_at program thread k stages.State within some = low_word program (word_at program thread k stages.State) (omega arith)
 
--- a load that goes on comes to a nearer stage, but for a release word of 0
+-- a load that goes on comes to a nearer stage, unless it is a release word of 0
 next_left : (program : Program) (thread k : ℕ) (at_stage next : Stage) (value : ℕ) → k < length program.sleds → 0 < thread
     → behind_load at_stage value ≡ Loads next → ((at_stage ≡ stages.Release) × (value ≡ 0) → ⊥)
     → left_at program thread k next < left_at program thread k at_stage

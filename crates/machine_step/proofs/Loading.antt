@@ -1,4 +1,4 @@
--- What one load more makes of a thread's marks, and of the word that it loads next.
+-- What one more load does to a thread's marks, and to the word that it loads next.
 use Rattle.std.proofs.Common.{◌≡◌, ℕ, suc, ◌+◌, ◌==◌, Bool, true, false, List, [], ◌∷◌, ◌++◌, length, Option, Some, refl, sym, ap, ◌∙◌, subst, arith}
 use Rattle.std.specs.Prelude.{if◌then◌else◌}
 use Rattle.xray_image.specs.Program.{Program}
@@ -29,7 +29,7 @@ pub starts : (program : Program) (thread k : ℕ) (held : Bool) (loads : List Lo
 starts program thread k true loads = refl
 starts program thread k false loads = refl
 
--- behind a load
+-- after a load
 abbrev pub read_on : Program → ℕ → ℕ → Next → List Load → Reading
 read_on program thread k (Loads stage) loads = from_stage program thread k stage loads
 read_on program thread k (Ends mark) loads = Marked mark loads
@@ -59,7 +59,7 @@ stage_wants program thread k stages.Offset = refl
 stage_wants program thread k stages.Handler = refl
 stage_wants program thread k stages.State = refl
 
--- loads that bring a passing to a word bring it to a stage
+-- if loads bring a passing to a word, they bring it to a stage
 record OpenAt (program : Program) (thread k : ℕ) (from : Stage) (loads : List Load) (word : ℕ) : Type 0 where
   at : Stage
   word_is : word ≡ word_at program thread k at
@@ -96,7 +96,7 @@ closed_on : (program : Program) (thread k : ℕ) (loads : List Load) (mark : Mar
 closed_on program thread k loads mark behind more later (Loads stage) is = later stage is
 closed_on program thread k loads mark behind more later (Ends m) is = cc
 
--- loads behind its mark are left to the next passing
+-- loads after its mark belong to the next passing
 closed_at : (program : Program) (thread k : ℕ) (from : Stage) (loads : List Load) (mark : Mark) (behind more : List Load)
     → from_stage program thread k from loads ≡ Marked mark behind
     → from_stage program thread k from (loads ++ more) ≡ Marked mark (behind ++ more)
@@ -109,7 +109,7 @@ closed_at program thread k from (load ∷ loads) mark behind more is =
 
 -- ---- all passings
 
--- the marks and the next word by the first passing's reading
+-- the marks and the next word, by the reading of the first passing
 abbrev marks_by : Reading → (List Load → List Mark) → List Mark
 marks_by (Wants word) later = []
 marks_by (Marked mark behind) later = mark ∷ later behind
@@ -146,14 +146,15 @@ pub first_next : (program : Program) (thread : ℕ) (hold : Option ℕ) (number 
 first_next program thread hold number k sleds =
     next_step program thread hold number k sleds [] _ (first_reading program thread k (is_held_at hold number))
 
--- what one load more makes of marks and the next word, in a passing of a sled with others behind it: by what the load leads to
+-- what one more load does to the marks and the next word, in a passing of a sled with others after it, by what the load
+-- leads to
 abbrev pub Adds : Program → ℕ → Option ℕ → ℕ → ℕ → List ℕ → List Mark → List Mark → Option ℕ → Next → Type 0
 Adds program thread hold number k rest before after wanted (Loads stage) =
     (after ≡ before) × (wanted ≡ Some (word_at program thread k stage))
 Adds program thread hold number k rest before after wanted (Ends mark) =
     (after ≡ before ++ mark ∷ []) × (wanted ≡ next_from program thread hold (number + length before + 1) rest [])
 
--- a mark in front of all
+-- one more mark before all others
 adds_in_front : (program : Program) (thread : ℕ) (hold : Option ℕ) (number k : ℕ) (rest : List ℕ) (mark : Mark) (before after all all' : List Mark)
     (wanted wanted' : Option ℕ) (next : Next) → all ≡ mark ∷ before → all' ≡ mark ∷ after → wanted' ≡ wanted
     → Adds program thread hold (number + 1) k rest before after wanted next
@@ -182,7 +183,7 @@ adds_first program thread hold number k sleds loads (Ends mark) is =
       next_step program thread hold number k sleds loads (Marked mark []) is ∙ ap (λ n. next_from program thread hold n sleds []) count,
     )
 
--- loads that want a word are in a passing, at a stage of it
+-- if loads want a word, they are in a passing, at one of its stages
 pub record InPassing (program : Program) (thread : ℕ) (hold : Option ℕ) (number : ℕ) (sleds : List ℕ) (loads : List Load) (word : ℕ) : Type 0 where
   pub sled : ℕ
   pub rest : List ℕ

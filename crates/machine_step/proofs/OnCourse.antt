@@ -19,7 +19,7 @@ use Rattle.machine_step.proofs.OneEnd.{Passes, same_step}
 
 -- ---- longer ways
 
--- a step behind a way
+-- one step after a way
 pub reaches_more : (program : Program) (limits : Limits) (thread n : ℕ) (s t u : State) (passed made : List Passing)
     → Reaches program limits thread n s passed t → PlainStep program limits thread t made (Goes u)
     → Reaches program limits thread (suc n) s (passed ++ made) u
@@ -40,7 +40,7 @@ reaches_more program limits thread (suc n) s t u passed made (first, later, mid,
   ap (λ (ps : List Passing). ps ++ made) joined ∙ append_assoc first later made,
 )
 
--- a run behind a way
+-- a run after a way
 pub runs_behind : (program : Program) (limits : Limits) (thread n n' : ℕ) (s t last : State) (passed later : List Passing) (end : End)
     → Reaches program limits thread n s passed t → RunsTo program limits thread n' t later end last
     → (m : ℕ) × RunsTo program limits thread m s (passed ++ later) end last
@@ -62,7 +62,7 @@ runs_behind program limits thread (suc n) n' s t last passed later end (first, r
       ),
     )
 
--- a way behind a way
+-- a way after a way
 pub reaches_behind : (program : Program) (limits : Limits) (thread n n' : ℕ) (s t u : State) (passed later : List Passing)
     → Reaches program limits thread n s passed t → Reaches program limits thread n' t later u
     → (m : ℕ) × Reaches program limits thread m s (passed ++ later) u
@@ -84,9 +84,9 @@ reaches_behind program limits thread (suc n) n' s t u passed later (first, rest,
       ),
     )
 
--- ---- the passing that a run comes to is the next of it
+-- ---- the passing that a run comes to is its next one
 
--- the passings of a run go on so behind those up to a passing
+-- after those up to a passing, the passings of a run go on like this
 pub record GoesOnBy (all passed : List Passing) (next : Passing) : Type 0 where
   pub later : List Passing
   pub is : all ≡ passed ++ next ∷ later
@@ -189,7 +189,7 @@ step_count program limits thread s made next (inl (far, none, is)) =
     let same : passings_of next ≡ s.passings = ap passings_of is in omega arith
 step_count program limits thread s made next (inr (u, among, at, step)) = unit_count program limits thread s u.what made next step
 
--- as many passings are counted as lie on the way
+-- as many passings are counted as there are on the way
 pub way_count : (program : Program) (limits : Limits) (thread n : ℕ) (s t : State) (passed : List Passing)
     → Reaches program limits thread n s passed t → t.passings ≡ s.passings + length passed
 way_count program limits thread zero s t passed (none, same) =

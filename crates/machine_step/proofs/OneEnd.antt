@@ -1,4 +1,4 @@
--- Plain runs of one thread reach one end.
+-- Plain runs of one thread reach the same end.
 use Rattle.std.proofs.Common.{◌≡◌, ℕ, zero, suc, ◌+◌, ◌==◌, Bool, true, false, List, [], ◌∷◌, Some, sym, ap, ◌∙◌, subst, inl, inr, MatchBool}
 use Rattle.std.specs.Prelude.{slice_get}
 use Rattle.xray_image.specs.declared.sled.Sled.{Sled}
@@ -41,7 +41,7 @@ same_unit_step program limits thread s (whats.Sled k) made made' next next' step
     same_passing program limits thread s k (s.passings == limits.passings) made made' next next' step step'
 same_unit_step program limits thread s whats.Pad made made' next next' (m, n) (m', n') = (m ∙ sym m', n ∙ sym n')
 
--- where no two units begin at one address, a thread's step is a function of its state
+-- if no two units begin at one address, a thread's step depends only on its state
 pub same_step : (program : Program) → OneUnit program → (limits : Limits) (thread : ℕ) (s : State)
     (made made' : List Passing) (next next' : Next)
     → PlainStep program limits thread s made next → PlainStep program limits thread s made' next'
@@ -54,7 +54,7 @@ same_step program one limits thread s made made' next next' (inr (u, is, at, ste
     same_unit_step program limits thread s v.what made made' next next'
     (subst (λ (w : Unit). UnitStep program limits thread s w.what made next) same step) step'
 
--- what two runs tell alike
+-- what two runs say in common
 pub record SameEnd (passed passed' : List Passing) (end end' : End) (last last' : State) : Type 0 where
   pub passings : passed ≡ passed'
   pub ends : end ≡ end'

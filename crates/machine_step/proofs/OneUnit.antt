@@ -1,4 +1,4 @@
--- Units that stand one behind the other begin at different addresses.
+-- Units that come one after the other begin at different addresses.
 use Rattle.std.proofs.Common.{◌≡◌, ℕ, zero, suc, ◌+◌, ◌<◌, ◌≤◌, List, [], ◌∷◌, length, get_or, refl, sym, ◌∙◌, arith}
 use Rattle.std.specs.Prelude.{Contains}
 use Rattle.subset_decode.specs.declared.instr.Instr.TheVariants.{Mov, Add, Sub, Push, Pop, Call, Jmp, Jnz, Ret, Out}
@@ -7,7 +7,7 @@ use Rattle.xray_image.specs.Units.{Piece, Instruction, JumpSled, ReturnSled, Ali
 use Rattle.xray_image.specs.Container.{base_address}
 use Rattle.xray_image.specs.Program.{Program, IsAccepted}
 
--- a piece has a byte at least
+-- a piece has at least one byte
 pub has_byte : (piece : Piece) → 1 ≤ length (piece_bytes piece)
 has_byte (Instruction (Mov dst imm)) = grind arith
 has_byte (Instruction (Add dst src)) = grind arith
@@ -23,7 +23,7 @@ has_byte (JumpSled shift) = grind arith
 has_byte (ReturnSled shift) = grind arith
 has_byte Align = grind arith
 
--- units from an address on begin there or behind it
+-- units from an address on begin there or after it
 pub from_address : (address sleds : ℕ) (pieces : List Piece) (i : ℕ) (d : Unit)
     → i < length (units_from address sleds pieces) → address ≤ (get_or (units_from address sleds pieces) i d).address
 from_address address sleds [] i d below = absurd (omega arith)
@@ -32,7 +32,7 @@ from_address address sleds (piece ∷ pieces) (suc i) d below =
     let later = from_address (address + length (piece_bytes piece)) (sleds + sleds_in piece) pieces i d (omega arith) in
     omega arith
 
--- of units from an address on, two that begin at one address are one
+-- two units that begin at one address are the same
 pub same_unit : (address sleds : ℕ) (pieces : List Piece) (i j : ℕ) (d e : Unit)
     → i < length (units_from address sleds pieces) → j < length (units_from address sleds pieces)
     → (get_or (units_from address sleds pieces) i d).address ≡ (get_or (units_from address sleds pieces) j e).address

@@ -19,7 +19,7 @@ use Rattle.machine_step.specs.Traced.{Allows, HasLoaded, IsLoadable, IsWant, Sta
 use Rattle.machine_step.proofs.Tracing.{before_of, begins_at, stands_before, stands_past}
 use Rattle.machine_step.proofs.WordsAt.{allowed_at, allows_at}
 
--- what it wants tells where it stands, whatever its stand
+-- what it wants says where it is, wherever that is
 stands_as : (a : Inside) → IsSound a → (stand : Stand) → StandsSo a stand
     → StandsAs (traced a) (want_at a.steps.now a.thread a.machine.passings stand)
 stands_as a sound (Gate place k) at = stands_before a sound place k at
@@ -41,7 +41,7 @@ loading_at a sound place k at_stage is = (subst (StandsSo a) is sound.stands).0
 pub gate_at : (a : Inside) → IsSound a → (place k : ℕ) → a.stand ≡ Gate place k → IsAtPassing a place k
 gate_at a sound place k is = subst (StandsSo a) is sound.stands
 
--- the first stage is the release word's only where the script holds the thread
+-- the first stage is the release word's only if the script holds the thread
 held_by : (held passing : ℕ) (b : Bool) → (held == passing) ≡ b → stage_by b ≡ stages.Release → held ≡ passing
 held_by held passing true is same = eqb-true held passing is
 held_by held passing false is same = absurd cc
@@ -50,7 +50,7 @@ pub first_of_hold : (hold : Option ℕ) (passing : ℕ) → IsStageOf hold passi
 first_of_hold None passing same = absurd cc
 first_of_hold (Some held) passing same = ap Some (held_by held passing (held == passing) refl same)
 
--- its fields with another stand
+-- its fields, with another stand
 abbrev pub standing : Inside → Stand → Inside
 standing a stand = record a { stand = stand }
 
@@ -80,7 +80,7 @@ sound_loading a sound place k at_stage at held = record {
   stands = (same_at a (Loading place k at_stage) place k at, held);
 }
 
--- the loads are the same, and the first word of the passing is wanted
+-- the loads stay, and the first word of the passing is wanted
 pub opened_loads : (a : Inside) → IsSound a → (place k : ℕ) (at_stage : Stage) → a.stand ≡ Gate place k
     → at_stage ≡ first_stage a.hold a.machine.passings → (all : List Passing) (loads : List Load)
     → HasLoaded (traced a) all loads → HasLoaded (traced (standing a (Loading place k at_stage))) all loads
@@ -97,13 +97,13 @@ opened_loads a sound place k at_stage is first all loads has =
       wants = next ∙ ap (λ (s : Stage). Some (word_at a.steps.now a.thread k s)) (sym first);
     }
 
--- what it wants tells where it stands
+-- what it wants says where it is
 pub stands_now : (a : Inside) → IsSound a → StandsAs (traced a) (traced a).want
 stands_now a sound = stands a sound a.stand refl
 
 -- ---- which values are allowed
 
--- what is allowed at the stage of its stand is what it allows
+-- what is allowed at its stage is what it allows
 pub allows_by : (a : Inside) → IsSound a → (place k : ℕ) (at_stage : Stage) (value : ℕ) → a.stand ≡ Loading place k at_stage → (answer : Bool)
     → ((sled : Sled) → slice_get a.steps.now.sleds k ≡ Some sled → IsTrue answer ↔ AllowsAt a.steps.now.trampolines sled at_stage value)
     → IsTrue answer ↔ Allows (traced a) (traced a).want value
@@ -118,7 +118,7 @@ allows_by a sound place k at_stage value is answer allows =
 
 -- ---- the word that it wants
 
--- the words of a passing stand before the progress words
+-- the words of a passing come before the progress words
 word_within : (program : Program) (thread threads k : ℕ) (at_stage : Stage) → k < length program.sleds → thread ≤ threads
     → word_at program thread k at_stage < progress_word program threads 1
 word_within program thread threads k stages.Release within no_more = omega arith

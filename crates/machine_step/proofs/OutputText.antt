@@ -25,7 +25,7 @@ two_digits n large small =
     let same : n / 16 % 16 ≡ n / 16 = omega arith in
     rw (some, none, same) refl
 
--- a byte in two digits
+-- a byte as two digits
 byte_by_size : (b : ℕ) → b < 256 → (low : Bool) → nat_lt b 16 ≡ low → hexadecimal b 2 ≡ byte_text b
 byte_by_size b small true is =
     let below = ltb-true b 16 is in
@@ -53,7 +53,7 @@ output_more output i b below is small =
     append_assoc (codes "output ") (flat_map byte_text (take i output)) (hexadecimal b 2)
     ∙ ap (λ t. codes "output " ++ t) (ap (λ t. flat_map byte_text (take i output) ++ t) one ∙ all)
 
--- the bytes so far, and those behind them
+-- the bytes so far, and the rest
 pub output_split : (output : List ℕ) (i : ℕ) → 0 < length output
     → (codes "output " ++ flat_map byte_text (take i output)) ++ (flat_map byte_text (drop i output) ++ line_feed) ≡ output_line output
 output_split output i some =

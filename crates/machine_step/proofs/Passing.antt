@@ -47,15 +47,15 @@ same_sled_at : (program : Program) (place : ℕ) (a b : Step) → IsStepAt progr
 same_sled_at program place a b is is' =
     sled_at_unit program (slice_get program.units place) a is ∙ sym (sled_at_unit program (slice_get program.units place) b is')
 
--- the sled is due by any step that stands there
+-- the sled is due at any step that is there
 due_there : (program : Program) (limits : Limits) (address place k : ℕ) (m : Machine) (step : Step) → IsStepAt program place step
     → IsAtSled program limits address place k m → due_sled limits m step ≡ Some k
 due_there program limits address place k m step is at =
     ap (λ (o : Option ℕ). if m.passings == limits.passings then None else o) (same_sled_at program place step at.step is at.is_step) ∙ at.due
 
--- ---- behind the passing
+-- ---- after the passing
 
--- a run behind a step that makes a passing
+-- a run after a step that makes a passing
 run_on : (program : Program) (limits : Limits) (thread address there : ℕ) (m after last : Machine) (made : Passing) (stand : Stand)
     → PlainStep program limits thread (state_at address m) (made ∷ []) (Goes (state_at there after))
     → RunsBy program limits thread there after [] stand last
@@ -66,7 +66,7 @@ run_on program limits thread address there m after last made (Loading place k at
 run_on program limits thread address there m after last made (Ended end) step (to, (n, run)) =
     (to, (suc n, (made ∷ [], [], state_at there after, step, run, refl)))
 
--- the passing of a machine before a sled, and where its step leads by its way
+-- the passing of a machine before a sled, and where its step leads
 pub record PassesBy (program : Program) (limits : Limits) (thread address place : ℕ) (m after : Machine) (way : Way) : Type 0 where
   pub made : Passing
   pub next : Next

@@ -37,7 +37,7 @@ address_found (first ∷ units) zero u found =
     let same : first ≡ u = cc in ap (λ (v : Unit). Some v.address) same
 address_found (first ∷ units) (suc i) u found = address_found units i u found
 
--- behind a first unit that begins elsewhere, each place is one more
+-- after a first unit that begins elsewhere, each place is one more
 pub place_more : (first : Unit) (units : List Unit) (a i : ℕ) → first.address ≢ a → IsPlaceOf units a i → IsPlaceOf (first ∷ units) a (suc i)
 place_more first units a i other (inl found) = inl found
 place_more first units a i other (inr (last, none)) = inr (ap suc last, among)
@@ -56,7 +56,7 @@ pub has_place : (units : List Unit) (a : ℕ) → (i : ℕ) × IsPlaceOf units a
 has_place [] a = (zero, inr (refl, λ among. omega (arith, among.1)))
 has_place (first ∷ units) a = place_after first units a (first.address == a) refl (has_place units a)
 
--- a place is one of the units' or that behind them
+-- a place is that of a unit, or the one after the units
 pub place_within : (units : List Unit) (a i : ℕ) → IsPlaceOf units a i → i < length units + 1
 place_within units a i (inl found) =
     let below = slice_get_within (addresses units) i a found in omega (arith, length-map units (λ u. u.address))

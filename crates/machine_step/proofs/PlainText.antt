@@ -17,7 +17,7 @@ pub counts_pieces : (thread : ℕ) (name : List ℕ) (end : End) (n i p instruct
 counts_pieces thread name end n i p instructions passings same_n same_name same_i same_p =
     rw (same_n, same_name, same_i, same_p) (simp append_assoc)
 
--- hexadecimal digits with no zeros in front
+-- hexadecimal digits without leading zeros
 pub unpadded : (n : ℕ) → replicate (0 - length (digits 16 false n)) 48 ++ digits 16 false n ≡ digits 16 false n
 unpadded n = let none : 0 - length (digits 16 false n) ≡ 0 = omega arith in rw none
 
@@ -33,7 +33,7 @@ registers_more r (row ∷ rows) (suc i) name n found =
     append_assoc (register_text r row) (flat_map (register_text r) (take i rows)) (name ++ (hexadecimal (slice_index r n) 0 ++ 32 ∷ []))
     ∙ ap (λ t. register_text r row ++ t) (registers_more r rows i name n found)
 
--- the registers so far, and what is behind them
+-- the registers so far, and what follows them
 pub registers_split : (r : List ℕ) (zero_flag : Bool) (i : ℕ)
     → flat_map (register_text r) (take i printed_registers) ++ (flat_map (register_text r) (drop i printed_registers) ++ (flag_text zero_flag ++ line_feed))
     ≡ registers_line r zero_flag
@@ -43,7 +43,7 @@ registers_split r zero_flag i =
     sym (append_assoc (flat_map (register_text r) (take i printed_registers)) (flat_map (register_text r) (drop i printed_registers)) (flag_text zero_flag ++ line_feed))
     ∙ (ap (λ t. t ++ (flag_text zero_flag ++ line_feed)) rows ∙ sym (append_assoc (flat_map (register_text r) printed_registers) (flag_text zero_flag) line_feed))
 
--- all registers, and what is behind them
+-- all registers, and what follows them
 pub registers_all : (r : List ℕ) (zero_flag : Bool) (i : ℕ) (flag : List ℕ) → i ≡ 14 → flag ≡ flag_text zero_flag ++ line_feed
     → flat_map (register_text r) (take i printed_registers) ++ flag ≡ registers_line r zero_flag
 registers_all r zero_flag i flag all same =

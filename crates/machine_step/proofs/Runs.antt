@@ -14,7 +14,8 @@ use Rattle.machine_step.specs.Steps.{IsPlaceOf, IsStepAt}
 use Rattle.machine_step.proofs.Places.{place_within}
 use Rattle.machine_step.proofs.Stepping.{left_of, Nearer, LeadsBy, AreInOrder, step_at_place}
 
--- what is left to do of so many places: all places for each instruction and each passing left, and those behind this one
+-- how many steps are left at most: all places for each instruction and each passing that is left, and those after this
+-- one
 abbrev pub measure : Limits → ℕ → ℕ → Machine → ℕ
 measure limits places place m = left_of limits m * places + (places - place)
 
@@ -32,7 +33,7 @@ measure_falls limits places place next before after within (inr (at, same)) =
     let left : left_of limits after ≡ left_of limits before = ap (left_of limits) same in
     rw left (omega arith)
 
--- a step in front of a run
+-- one step before a run
 pub step_in_front : (program : Program) (limits : Limits) (thread : ℕ) (s mid : State) (made : List Passing) (end : End) (left : Machine)
     → PlainStep program limits thread s made (Goes mid) → RunsFrom program limits thread mid end left
     → RunsFrom program limits thread s end left
@@ -53,14 +54,14 @@ last_step program limits thread address s made end left step = record {
   runs = step;
 }
 
--- a machine at a place, where what it still runs is what it runs from a start
+-- a machine at a place, with the rest of its run being the rest of a run from a start
 pub record Stands (program : Program) (limits : Limits) (start : State) (place : ℕ) (m : Machine) : Type 0 where
   pub address : ℕ
   pub placed : IsPlaceOf program.units address place
   pub on : (thread : ℕ) (end : End) (left : Machine) → RunsFrom program limits thread (state_at address m) end left
       → RunsFrom program limits thread start end left
 
--- where a step leads, the machine stands again
+-- wherever a step leads, the machine is on that run again
 pub record StandsAgain (program : Program) (limits : Limits) (start : State) (place : ℕ) (m : Machine) (next : ℕ) (after : Machine) : Type 0 where
   pub stands : Stands program limits start next after
   pub nearer : Nearer limits place m next after
@@ -84,7 +85,7 @@ goes_on program ordered limits start place m step stands is within next after wa
       nearer = leads.3;
     }
 
--- where a step returns to an address, the machine stands at its place
+-- if a step returns to an address, the machine is at its place
 pub goes_back : (program : Program) → AreInOrder program → (limits : Limits) (start : State) (place : ℕ) (m : Machine) (step : Step)
     → Stands program limits start place m → IsStepAt program place step → IsWithin limits m
     → (address next : ℕ) (after : Machine) → Back address ≡ (stepping limits place m step).way → after ≡ (stepping limits place m step).left
@@ -105,7 +106,7 @@ goes_back program ordered limits start place m step stands is within address nex
       nearer = inl leads.1;
     }
 
--- where a step ends the thread, the run is whole
+-- if a step ends the thread, the run is complete
 pub ends_there : (program : Program) → AreInOrder program → (limits : Limits) (start : State) (place : ℕ) (m : Machine) (step : Step)
     → Stands program limits start place m → IsStepAt program place step → IsWithin limits m
     → (end : End) (after : Machine) → Stops end ≡ (stepping limits place m step).way → after ≡ (stepping limits place m step).left
@@ -118,7 +119,7 @@ ends_there program ordered limits start place m step stands is within end after 
     (last_step program limits thread leads.0 (state_at stands.address m) (steps.plain thread).0 end after
     (subst (λ (n : Next). PlainStep program limits thread (state_at stands.address m) (steps.plain thread).0 n) leads.1 (steps.plain thread).1))
 
--- the place of a machine that stands is one of the steps'
+-- the place of a machine is one of the steps'
 pub stands_within : (program : Program) (limits : Limits) (start : State) (place : ℕ) (m : Machine) → Stands program limits start place m
     → place < length program.units + 1
 stands_within program limits start place m stands = place_within program.units stands.address place stands.placed

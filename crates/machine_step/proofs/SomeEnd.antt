@@ -1,4 +1,4 @@
--- Each machine that stands somewhere runs to an end.
+-- Each machine at a place runs to an end.
 use Rattle.std.proofs.Common.{◌≡◌, ℕ, zero, suc, ◌+◌, ◌<◌, ◌==◌, Bool, true, false, List, [], ◌∷◌, length, Option, Some, None, refl, arith}
 use Rattle.std.specs.Prelude.{◌%◌, ◌++◌, if◌then◌else◌, slice_get, slice_index, MatchOption}
 use Rattle.std.proofs.lemmas.Bool.{eqb-false}
@@ -81,14 +81,14 @@ within_if : (limits : Limits) (b : Bool) (f g : Taken) → (b ≡ true → IsWit
 within_if limits true f g at_true at_false = at_true refl
 within_if limits false f g at_true at_false = at_false refl
 
--- one instruction more, whatever else changes
+-- one more instruction, whatever else changes
 counted_within : (limits : Limits) (m after : Machine) → IsWithin limits m → (m.instructions == limits.fuel) ≡ false
     → after.instructions ≡ m.instructions + 1 → after.passings ≡ m.passings → IsWithin limits after
 counted_within limits m after within fuel instructions passings =
     let some = eqb-false m.instructions limits.fuel fuel in
     record { fuel = omega (arith, within.fuel); passings = omega (arith, within.passings) }
 
--- where there is no fuel, nothing changes
+-- if there is no fuel, nothing changes
 fuelled_within : (limits : Limits) (m : Machine) (taken : Taken) → IsWithin limits m
     → ((m.instructions == limits.fuel) ≡ false → IsWithin limits taken.left)
     → IsWithin limits (if m.instructions == limits.fuel then ending ends.Fuel m else taken).left
@@ -171,7 +171,7 @@ record ReachesEnd (program : Program) (limits : Limits) (thread : ℕ) (start : 
   left : Machine
   run : RunsFrom program limits thread start end left
 
--- by the way that a step takes, where a machine of which less is left to do runs to an end
+-- by the way that a step takes, if each machine with fewer steps left runs to an end
 end_by_way : (program : Program) → AreInOrder program → (limits : Limits) (thread : ℕ) (start : State)
     (place : ℕ) (m : Machine) (step : Step) → Stands program limits start place m → IsStepAt program place step → IsWithin limits m
     → ((next : ℕ) (after : Machine) → Stands program limits start next after → IsWithin limits after
@@ -197,7 +197,7 @@ end_by_way program ordered limits thread start place m step stands is within lat
   run = ends_there program ordered limits start place m step stands is within end (stepping limits place m step).left way refl thread;
 }
 
--- a machine that stands runs to an end, by what is left to do of it
+-- a machine at a place runs to an end, by induction on what is left
 reaches_end : (program : Program) → AreInOrder program → NamesSleds program → (limits : Limits) (thread : ℕ) (start : State)
     → (n place : ℕ) (m : Machine) → Stands program limits start place m → IsWithin limits m
     → measure limits (length program.units + 1) place m < n → ReachesEnd program limits thread start

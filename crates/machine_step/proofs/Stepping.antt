@@ -1,4 +1,4 @@
--- What a step makes of a machine is what the plain step makes of its state.
+-- What a step does to a machine is what the plain step does to its state.
 use Rattle.std.proofs.Common.{◌≡◌, ◌≢◌, ℕ, ◌+◌, ◌-◌, ◌<◌, ◌==◌, Bool, true, false, List, [], ◌∷◌, length, Option, Some, None, refl, sym, ap, subst, ◌∙◌, inl, inr, arith}
 use Rattle.std.specs.Prelude.{◌⊎◌, if◌then◌else◌, slice_get, slice_index, Contains, MatchOption}
 use Rattle.std.proofs.lemmas.Bool.{eqb-false}
@@ -27,22 +27,22 @@ use Rattle.machine_step.specs.Steps.{IsPlaceOf, IsStepOfInstruction, IsStepOf, I
 use Rattle.machine_step.proofs.OneEnd.{Passes}
 use Rattle.machine_step.proofs.Places.{found_contains, contains_address, found_address}
 
--- how many instructions and passings are left to a machine
+-- how many instructions and passings a machine has left
 abbrev pub left_of : Limits → Machine → ℕ
 left_of limits m = (limits.fuel - m.instructions) + (limits.passings - m.passings)
 
--- a sled of a kind behind its passing
+-- a sled of this kind, after its passing
 abbrev behind_sled : Limits → ℕ → Machine → SledKind → Taken
 behind_sled limits place m kinds.Entry = staying (place + 1) m
 behind_sled limits place m kinds.Tail = staying (place + 1) m
 behind_sled limits place m kinds.Exit = leaving limits m
 
--- an instruction or a passing fewer is left, or the place is the next one
+-- one instruction or passing fewer is left, or the place is the next one
 abbrev pub Nearer : Limits → ℕ → Machine → ℕ → Machine → Type 0
 Nearer limits place before next after =
     (left_of limits after < left_of limits before) ⊎ ((next ≡ place + 1) × (after ≡ before))
 
--- the way that a step takes leads where the plain step does
+-- the way of the step leads where the plain step leads
 abbrev pub LeadsBy : List Unit → Limits → ℕ → Machine → Way → Machine → Next → Type 0
 LeadsBy units limits place before (To to) after next =
     (address : ℕ) × IsPlaceOf units address to × (next ≡ Goes (state_at address after)) × Nearer limits place before to after
@@ -54,19 +54,19 @@ LeadsBy units limits place before (Stops end) after next =
 abbrev pub Leads : List Unit → Limits → ℕ → Machine → Taken → Next → Type 0
 Leads units limits place before taken next = LeadsBy units limits place before taken.way taken.left next
 
--- both choose by one test
+-- both choose by the same test
 by_test : (units : List Unit) (limits : Limits) (place : ℕ) (m : Machine) (b : Bool) (f g : Taken) (x y : Next)
     → (b ≡ true → Leads units limits place m f x) → (b ≡ false → Leads units limits place m g y)
     → Leads units limits place m (if b then f else g) (if b then x else y)
 by_test units limits place m true f g x y at_true at_false = at_true refl
 by_test units limits place m false f g x y at_true at_false = at_false refl
 
--- an instruction more is one fewer left
+-- one more instruction is one fewer left
 spends : (limits : Limits) (m : Machine) → IsWithin limits m → m.instructions ≢ limits.fuel
     → (limits.fuel - (m.instructions + 1)) + (limits.passings - m.passings) < left_of limits m
 spends limits m within fuel = omega arith
 
--- and so is a passing
+-- and so is one more passing
 passes : (limits : Limits) (m : Machine) → IsWithin limits m → m.passings ≢ limits.passings
     → (limits.fuel - m.instructions) + (limits.passings - (m.passings + 1)) < left_of limits m
 passes limits m within passings = omega arith
@@ -103,7 +103,7 @@ out_leads units limits place to there address port m next within fuel =
     by_test units limits place m (length m.output == output_limit) _ _ _ _ (λ _. (address, refl))
     (λ _. (there, next, refl, inl (spends limits m within fuel)))
 
--- an instruction whose step is made wherever it has fuel
+-- an instruction whose step is made if there is fuel
 fuel_leads : (units : List Unit) (limits : Limits) (place address : ℕ) (m : Machine) (taken : Taken) (next : Next)
     → (m.instructions ≢ limits.fuel → Leads units limits place m taken next)
     → Leads units limits place m (if m.instructions == limits.fuel then ending ends.Fuel m else taken) (fuelled limits (state_at address m) next)
@@ -111,7 +111,7 @@ fuel_leads units limits place address m taken next leads =
     by_test units limits place m (m.instructions == limits.fuel) _ _ _ _ (λ _. (address, refl))
     (λ e. leads (eqb-false m.instructions limits.fuel e))
 
--- a step by an equation
+-- a step, by an equation
 by_step : (units : List Unit) (limits : Limits) (place : ℕ) (m : Machine) (step other : Step) (next : Next) → step ≡ other
     → Leads units limits place m (stepping limits place m other) next → Leads units limits place m (stepping limits place m step) next
 by_step units limits place m step other next is leads =
@@ -157,7 +157,7 @@ instruction_leads units limits place behind address m (Out port) step next withi
     by_step units limits place m step steps.Out _ is
     (fuel_leads units limits place address m _ _ (out_leads units limits place (place + 1) behind address port m next within))
 
--- what is nearer than one that is nearer
+-- nearer than something nearer
 leads_on : (units : List Unit) (limits : Limits) (place : ℕ) (before m : Machine) (way : Way) (after : Machine) (next : Next)
     → left_of limits m < left_of limits before
     → LeadsBy units limits place m way after next → LeadsBy units limits place before way after next
@@ -169,7 +169,7 @@ leads_on units limits place before m (To to) after next fewer (address, there, g
 leads_on units limits place before m (Back address) after next fewer (goes, less) = (goes, omega arith)
 leads_on units limits place before m (Stops end) after next fewer (address, stops) = (address, stops)
 
--- a sled behind its passing
+-- a sled after its passing
 behind_leads : (units : List Unit) (limits : Limits) (place address : ℕ) (before m : Machine) (kind : SledKind)
     → IsPlaceOf units (address + 11) (place + 1) → IsWithin limits m → left_of limits m < left_of limits before
     → Leads units limits place before (behind_sled limits place m kind) (behind_passing limits (state_at address m) kind)
@@ -181,13 +181,13 @@ behind_leads units limits place address before m kinds.Exit next within fewer =
 
 -- ---- the passings that a step makes
 
--- at a sled: none where all are made, or else its own
+-- at a sled: none if all are used, or else its own
 abbrev pub MadeBy : Program → Limits → ℕ → State → ℕ → Bool → List Passing → Type 0
 MadeBy program limits thread s k true made = made ≡ []
 MadeBy program limits thread s k false made =
     (sled : Sled) × (slice_get program.sleds k ≡ Some sled) × (made ≡ passing_at limits thread s k sled ∷ [])
 
--- elsewhere none
+-- none elsewhere
 abbrev pub MadeAt : Program → Limits → ℕ → State → Option ℕ → List Passing → Type 0
 MadeAt program limits thread s None made = made ≡ []
 MadeAt program limits thread s (Some k) made = MadeBy program limits thread s k (s.passings == limits.passings) made
@@ -296,7 +296,7 @@ pub record StepsTo (program : Program) (limits : Limits) (place address : ℕ) (
       × MadeAt program limits thread (state_at address m) (sled_at step) made
   pub leads : Leads program.units limits place m (stepping limits place m step) next
 
--- the place behind a unit is that of the address behind it
+-- the place after a unit is that of the address after it
 pub record AreInOrder (program : Program) : Type 0 where
   pub behind : (place : ℕ) (u : Unit) → slice_get program.units place ≡ Some u
       → IsPlaceOf program.units (u.address + width_of u.what) (place + 1)

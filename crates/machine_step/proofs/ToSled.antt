@@ -67,7 +67,7 @@ pub way_within : (program : Program) (limits : Limits) (start : ℕ) (first : Ma
 way_within program limits start first place m way address placed =
     let here = way.on address placed in place_within program.units here.0 place here.1
 
--- one step more that is quiet
+-- one more step without a passing
 step_quiet : (program : Program) (limits : Limits) (thread address there : ℕ) (first m after : Machine) (made : List Passing)
     → (n : ℕ) × Reaches program limits thread n (state_at address first) [] (state_at there m)
     → (next : ℕ) → PlainStep program limits thread (state_at there m) made (Goes (state_at next after)) → made ≡ []
@@ -139,7 +139,7 @@ way_ends program ordered limits start first place m step way is within quietly e
           (subst (λ (n : Next). PlainStep program limits thread (state_at here.0 m) plain.0 n) leads.1 plain.1)),
     )
 
--- what is left to do falls with each step
+-- what is left gets less with each step
 pub falls_to : (program : Program) → AreInOrder program → (limits : Limits) (start : ℕ) (first : Machine) (place : ℕ) (m : Machine) (step : Step)
     → OnWay program limits start first place m → (address : ℕ) → IsPlaceOf program.units address start
     → IsStepAt program place step → IsWithin limits m
@@ -166,7 +166,7 @@ falls_back program ordered limits start first place m step way address placed is
 
 -- ---- before a sled
 
--- before a sled that is due, the plain step is its passing, and leads where the machine's step does
+-- before a sled that is due, the plain step is its passing, and it leads where the machine's step leads
 pub record AtPassing (program : Program) (limits : Limits) (thread address place k : ℕ) (m : Machine) (step : Step) : Type 0 where
   pub sled : Sled
   pub found : slice_get program.sleds k ≡ Some sled

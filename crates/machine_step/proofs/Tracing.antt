@@ -20,7 +20,7 @@ use Rattle.machine_step.proofs.OneEnd.{same_step}
 use Rattle.machine_step.proofs.OnCourse.{GoesOnBy, next_of_run}
 use Rattle.machine_step.proofs.ToSled.{at_passing}
 
--- ---- where it stands
+-- ---- where it is
 
 -- the passing that the thread is before
 pub record Before (a : Inside) (place k : ℕ) (at : IsAtPassing a place k) : Type 0 where
@@ -49,7 +49,7 @@ before_of a sound place k at =
       left = omega (arith, within.passings);
     }
 
--- the state in which contracts see it
+-- the state, as contracts see it
 same_state : (a : Inside) → IsSound a → (address : ℕ) → state_at address a.machine ≡ traced_at address (traced a)
 same_state a sound address =
     ap (λ n. let s : State = record {
@@ -85,7 +85,7 @@ pub found_behind : {X : Type 0} (xs : List X) (x : X) (ys : List X) → slice_ge
 found_behind [] x ys = refl
 found_behind (first ∷ xs) x ys = found_behind xs x ys
 
--- lists that are split where both are as long
+-- lists that are split after prefixes of equal length
 pub same_split : {X : Type 0} (xs ys : List X) (x y : X) (xs' ys' : List X) → length xs ≡ length ys → xs ++ x ∷ xs' ≡ ys ++ y ∷ ys'
     → (x ≡ y) × (xs' ≡ ys')
 same_split [] [] x y xs' ys' long same = (cc, cc)
@@ -110,7 +110,7 @@ goes_on_by a sound place k at all end last run =
     next_of_run a.steps.now (accepted_units sound.bytes a.steps.now sound.accepted) a.limits a.thread at.passed all (state_at at.address a.machine)
     at.next end last at.comes run
 
--- ---- a gate that is opened
+-- ---- a gate is opened
 
 first_word_by : (program : Program) (thread k : ℕ) (held : Bool)
     → (if held then Rattle.sled_words.specs.Words.release_word program thread else Rattle.sled_words.specs.Words.word_of k Rattle.sled_words.specs.declared.part.Part.TheVariants.Head)

@@ -22,11 +22,12 @@ example = record {
 load : ℕ → ℕ → Load
 load word value = record { word = word; value = value }
 
--- at the entry a patched head and what belongs to it, and no handler
+-- at the entry a patched head with its other parts, and no handler
 at_entry : List Load
 at_entry = load 0 0xBA41 ∷ load 1 1 ∷ load 2 0xE8 ∷ load 3 0x1FFFF5 ∷ load 8 0 ∷ []
 
--- a thread that is held at its second passing, the exit: it loads its release word until that is 1, and then an unpatched head
+-- A thread is held at its second passing, which is the exit. It loads its release word until that is 1, and then an
+-- unpatched head.
 at_exit : List Load
 at_exit = load 10 0 ∷ load 10 1 ∷ load 4 0xBAC3 ∷ []
 
@@ -42,7 +43,7 @@ both_marks : marks_of example 1 (Some 1) (0 ∷ 1 ∷ [])
 unfolding example load
 both_marks = refl
 
--- a passing that has no mark yet is none of them
+-- a passing without a mark isn't one of them
 open_passing : loads_by_passing example 1 None 0 (0 ∷ 1 ∷ []) (load 0 0xBA41 ∷ load 1 1 ∷ []) ≡ []
 unfolding example load
 open_passing = refl

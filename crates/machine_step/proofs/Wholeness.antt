@@ -1,4 +1,4 @@
--- Where each load is allowed, each passing decodes its sled whole.
+-- If each load is allowed, each passing decodes its sled whole.
 use Rattle.std.proofs.Common.{◌≡◌, ◌≢◌, ℕ, zero, suc, ◌+◌, ◌-◌, List, [], ◌∷◌, ◌++◌, Bool, true, false, Option, Some, refl, sym, ap, subst, ◌∙◌, inl, inr, arith, take, length, length-append}
 use Rattle.std.specs.Prelude.{◌==◌, if◌then◌else◌, slice_get}
 use Rattle.std.specs.List.{All}
@@ -21,13 +21,13 @@ use Rattle.machine_step.specs.Whole.{AreWhole, IsWhole, Loaded, loads_by_passing
 use Rattle.machine_step.specs.Follows.{Follows}
 use Rattle.machine_step.proofs.AlongCode.{Fits, follows_fits, behind, by_test, loads_allowed, next_is}
 
--- a load of a part of a sled gave a value that is allowed there
+-- a load of a part of a sled gave an allowed value
 abbrev IsPartAllowed : Program → Load → Type 0
 IsPartAllowed program load =
     (k : ℕ) (sled : Sled) (part : Part) → slice_get program.sleds k ≡ Some sled → load.word ≡ word_of k part
     → IsAllowedPart program.trampolines sled part load.value
 
--- loads of the words that `next` wants behind each other, those of parts of sleds each of a value that is allowed
+-- loads of the words that `next` wants one after the other; for parts of sleds, each value is allowed
 abbrev Fit : Program → (List Load → Option ℕ) → List Load → Type 0
 Fit program next [] = Unit {0}
 Fit program next (load ∷ loads) =
@@ -52,7 +52,7 @@ fit_same program next other (load ∷ loads) same (first, allowed, rest) =
 
 -- ---- what the loads of a passing found
 
--- what a list has, a longer one has
+-- what is in a list is in a longer one
 one_more : (loads : List Load) (load : Load) (k : ℕ) (part : Part) (value : ℕ) → Loaded loads k part value → Loaded (load ∷ loads) k part value
 one_more loads load k part value (i, within, at) = (suc i, omega arith, at)
 
@@ -60,7 +60,7 @@ first_loaded : (loads : List Load) (load : Load) (k : ℕ) (part : Part) (value 
     → Loaded (load ∷ loads) k part value
 first_loaded loads load k part value word is = (0, omega arith, (λ i. record { word = word i; value = is i }))
 
--- loads that begin with those of a passing, of which a fact holds, and go on with others
+-- loads that begin with those of a passing, for which a fact holds, and go on with others
 record Cut (program : Program) (next : List Load → Option ℕ) (P : List Load → Type 0) (loads more : List Load) : Type 0 where
   own : List Load
   parts : loads ≡ own ++ more
@@ -89,7 +89,7 @@ last_load program next Q load loads more m mark same fit found =
       rest = subst (Fit program next) e fit;
     }
 
--- what the loads of a passing of the sled of a number found, where that is a sled
+-- what the loads of a passing found, if it is of a sled that exists
 abbrev OfSled : Program → ℕ → (Sled → List Load → Type 0) → List Load → Type 0
 OfSled program k P own = (sled : Sled) → slice_get program.sleds k ≡ Some sled → P sled own
 
@@ -164,7 +164,7 @@ module _ (program : Program) (next : List Load → Option ℕ) where
         })
         (cut_opcode loads more mark same rest)
 
-    -- a head that isn't the patched one is unpatched
+    -- a head that isn't the patched one is an unpatched one
     unpatched_head_loaded : (load : Load) (sled : Sled) → load.word ≡ word_of k Head → load.value ≢ patched_head
         → IsAllowedPart program.trampolines sled Head load.value → IsWhole program k sled (load ∷ [])
     unpatched_head_loaded load sled word other (inl e) = absurd (other e)
@@ -236,14 +236,14 @@ one_behind : (program : Program) (thread : ℕ) (hold : Option ℕ) (number k : 
     ≡ take (length loads - length more) loads ∷ loads_by_passing program thread hold (number + 1) sleds more
 one_behind program thread hold number k sleds loads mark more e = rw e refl
 
--- the front of two lists one behind the other
+-- the prefix of two lists, one after the other
 front_of : (loads own more : List Load) → loads ≡ own ++ more → take (length loads - length more) loads ≡ own
 front_of loads own more parts =
     let long : length loads ≡ length own + length more = ap length parts ∙ length-append own more in
     let count : length own ≡ length loads - length more = omega arith in
     ap (take (length loads - length more)) parts ∙ take_at own more (length loads - length more) count
 
--- the first passing, where it has its mark, and those behind it
+-- the first passing, once it has its mark, and those after it
 whole_at : (program : Program) (next : List Load → Option ℕ) (j : ℕ) (sleds : List ℕ) (loads more : List Load) (cuts : List (List Load))
     → Cut program next (OfSled program j (IsWhole program j)) loads more
     → (k : ℕ) (sled : Sled) (own : List Load) → slice_get program.sleds k ≡ Some sled

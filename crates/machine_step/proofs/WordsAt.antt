@@ -12,7 +12,7 @@ use Rattle.machine_step.specs.declared.stage.Stage.{Stage}
 use Rattle.machine_step.specs.declared.stage.Stage.TheVariants as stages
 use Rattle.machine_step.specs.Stages.{word_at, AllowsAt}
 
--- the word of a passing tells its stage
+-- the word of a passing determines its stage
 pub same_stage : (program : Program) (thread k : ℕ) (a b : Stage) → k < length program.sleds → 0 < thread
     → word_at program thread k a ≡ word_at program thread k b → a ≡ b
 same_stage program thread k stages.Release stages.Release below some same = refl
@@ -65,7 +65,7 @@ same_stage program thread k stages.State stages.Offset below some same = absurd 
 same_stage program thread k stages.State stages.Handler below some same = absurd (omega arith)
 same_stage program thread k stages.State stages.State below some same = refl
 
--- the word of a part tells its sled and the part
+-- the word of a part determines its sled and the part
 same_part : (k j : ℕ) (a b : Part) → word_of k a ≡ word_of j b → (k ≡ j) × (a ≡ b)
 same_part k j parts.Head parts.Head same = (omega arith, refl)
 same_part k j parts.Head parts.Id same = absurd (omega arith)
@@ -90,7 +90,7 @@ part_below k n parts.Id below = omega arith
 part_below k n parts.Opcode below = omega arith
 part_below k n parts.Offset below = omega arith
 
--- ---- what is allowed at a stage is what is allowed of its word
+-- ---- what is allowed at a stage is what is allowed for its word
 
 part_allowed : (program : Program) (thread k value : ℕ) (sled : Sled) (part : Part) → slice_get program.sleds k ≡ Some sled
     → IsAllowedPart program.trampolines sled part value → IsAllowed program thread (word_of k part) value

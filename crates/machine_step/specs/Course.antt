@@ -4,7 +4,7 @@ use Rattle.xray_image.specs.Program.{Program}
 use Rattle.machine_step.specs.declared.limits.Limits.{Limits}
 use Rattle.machine_step.specs.PlainStep.{State, Next, Goes, Passing, PlainStep, opening}
 
--- so many steps lead from a state to another, with these passings on the way
+-- this many steps lead from one state to another, with these passings on the way
 abbrev pub Reaches : Program → Limits → ℕ → ℕ → State → List Passing → State → Type 0
 Reaches program limits thread zero s passed reached = (passed ≡ []) × (reached ≡ s)
 Reaches program limits thread (suc n) s passed reached =
@@ -13,7 +13,7 @@ Reaches program limits thread (suc n) s passed reached =
     × Reaches program limits thread n mid later reached
     × (passed ≡ made ++ later)
 
--- the steps of a thread lead from its opening, with these passings on the way, to a state in which its next step is a passing
+-- the steps of a thread lead from its opening, with these passings on the way, to a state whose next step is a passing
 pub record ComesTo (program : Program) (limits : Limits) (thread : ℕ) (passed : List Passing) (s : State) (next : Passing) : Type 0 where
   pub steps : ℕ
   pub reached : Reaches program limits thread steps (opening program thread) passed s

@@ -5,7 +5,8 @@ use Rattle.machine_step.specs.declared.want.Want.TheVariants.{Gate, Load, Done}
 use Rattle.machine_step.specs.Texts.{state_text}
 use Rattle.machine_step.specs.Traced.{Traced, state_at}
 
--- of one that has ended: its end, its counts, its registers, its output and its marks; its address isn't printed
+-- the text of a thread that has ended: its end, its counts, its registers, its output and its marks; its address isn't
+-- printed
 abbrev pub ended_text : ℕ → Traced → Want → List ℕ
 ended_text thread t (Gate passing) = []
 ended_text thread t (Load word) = []

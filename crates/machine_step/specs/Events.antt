@@ -20,11 +20,11 @@ event_kind sleds.Tail = events.TailExit
 abbrev pub event_of : Passing → Event
 event_of p = record { cpu = p.cpu; func = p.id; kind = event_kind p.kind; tsc = p.counter }
 
--- the events of passings with these marks: of those that were recorded, in order
+-- the events of passings with these marks: those of the passings that were recorded, in order
 abbrev pub recorded : List Passing → List Mark → List Event
 recorded passed marks = map (λ p. event_of p.0) (filter (λ p. is_recorded p.1) (zip passed marks))
 
--- the events of one load: one, or none
+-- the events of one load: one or none
 abbrev pub events_in : Option Event → List Event
 events_in None = []
 events_in (Some event) = event ∷ []

@@ -5,9 +5,10 @@ use Rattle.sled_words.specs.Words.{release_word}
 use Rattle.handler_word.specs.declared.mark.Mark.{Mark}
 use Rattle.machine_step.specs.Loads.{Load, next_load, marks_of}
 
--- The loads that a thread can have made when a script is at a place, of those from `start` on: none; or those of before, and the script has
--- gone on; or one more, of the word that the thread wants next, as it stands at the place, which the bound of the passing allows. So the
--- places of the loads never fall. The code tells the value of a word at a place, and the bound the last place for the loads of a passing.
+-- The loads that a thread can have made when a script is at a place, counted from `start` on. There are none. Or they
+-- are those made at an earlier place. Or there is one more: the thread loads the word that it wants next, as it is at
+-- this place, and the bound of the passing allows that. So the places of the loads never fall. `code` gives the value
+-- of a word at a place, and `bound` the last place for the loads of a passing.
 pub data Follows (program : Program) (code : ℕ → ℕ → ℕ) (start : ℕ) (bound : ℕ → ℕ) (thread : ℕ) (hold : Option ℕ) (sleds : List ℕ)
     : List Load → ℕ → Type 0 where
   none : Follows program code start bound thread hold sleds [] start
@@ -18,8 +19,8 @@ pub data Follows (program : Program) (code : ℕ → ℕ → ℕ) (start : ℕ) 
       → place ≤ bound (length (marks_of program thread hold sleds loads))
       → Follows program code start bound thread hold sleds (loads ++ record { word = word; value = code place word } ∷ []) place
 
--- The marks follow the script up to a place: they are those of loads that follow it, with none from a release word that still held the
--- thread.
+-- The marks follow the script up to a place: they are the marks of loads that follow it. None of these loads is of a
+-- release word that still held the thread.
 pub record MarksFollow (program : Program) (code : ℕ → ℕ → ℕ) (start : ℕ) (bound : ℕ → ℕ) (thread : ℕ) (hold : Option ℕ) (sleds : List ℕ)
     (marks : List Mark) (place : ℕ) : Type 0 where
   pub loads : List Load

@@ -1,4 +1,4 @@
--- What the fields of `Steps` and of a `Cpu` say, and what holds of them.
+-- What the fields of `Steps` and of a `Cpu` say, and what is true of them.
 use Rattle.std.specs.Prelude.{◌≡◌, ◌<◌, ◌≤◌, ℕ, List, length, Option, Some}
 use Rattle.xray_image.specs.Program.{Program, IsAccepted}
 use Rattle.machine_step.specs.declared.cpu.Cpu.TheInside.{Inside}
@@ -18,22 +18,22 @@ use Rattle.machine_step.specs.Standing.{IsAtSled}
 use Rattle.machine_step.specs.Steps.{AreStepsOf}
 use Rattle.machine_step.specs.Traced.{Traced}
 
--- the program that a table of steps is of
+-- the program that a table of steps belongs to
 abbrev pub program_run : table.Inside → Program
 program_run s = s.image.now
 
--- some accepted file holds the image, and they are its steps
+-- some accepted file holds the image, and these are its steps
 pub record IsTable (s : table.Inside) : Type 0 where
   pub accepted : (bytes : List ℕ) × IsAccepted bytes s.image.now
   pub steps : AreStepsOf s.image.now s.all.items
 
--- what a thread wants that stands so and has made so many passings
+-- what a thread wants that is here and has made this many passings
 abbrev pub want_at : Program → ℕ → ℕ → Stand → Want
 want_at program thread made (Gate place sled) = wants.Gate made
 want_at program thread made (Loading place sled stage) = wants.Load (word_at program thread sled stage)
 want_at program thread made (Ended end) = wants.Done end
 
--- the traced thread that the fields tell
+-- the traced thread that the fields say
 abbrev pub traced : Inside → Traced
 traced a = record {
   program = a.steps.now;
@@ -66,17 +66,18 @@ pub record IsPastEnd (a : Inside) (end : End) : Type 0 where
   pub count : length passed ≡ a.machine.passings
   pub run : PlainRun a.steps.now a.limits a.thread passed end (state_at address a.machine)
 
--- a release word is loaded only where the script holds the thread
+-- a release word is loaded only if the script holds the thread
 abbrev pub IsStageOf : Option ℕ → ℕ → Stage → Type 0
 IsStageOf hold passing stage = stage ≡ stages.Release → hold ≡ Some passing
 
--- where the thread stands
+-- where the thread is
 abbrev pub StandsSo : Inside → Stand → Type 0
 StandsSo a (Gate place sled) = IsAtPassing a place sled
 StandsSo a (Loading place sled stage) = IsAtPassing a place sled × IsStageOf a.hold a.machine.passings stage
 StandsSo a (Ended end) = IsPastEnd a end
 
--- some accepted file holds the image, the counts are within their limits, there is room for all marks, and the thread stands on its plain run
+-- some accepted file holds the image, the counts are within their limits, there is room for all marks, and the thread
+-- is on its plain run
 pub record IsSound (a : Inside) : Type 0 where
   pub bytes : List ℕ
   pub accepted : IsAccepted bytes a.steps.now

@@ -1,4 +1,4 @@
--- What steps make of a machine, for the contracts of private functions.
+-- What steps do to a machine, for the contracts of private functions.
 use Rattle.std.specs.Prelude.{◌≤◌, ◌+◌, ◌-◌, ◌^◌, ◌%◌, ◌==◌, ◌&&◌, ℕ, List, [], ◌∷◌, ◌++◌, length, false, if◌then◌else◌, replicate, slice_index, slice_set}
 use Rattle.machine_step.specs.declared.limits.Limits.{Limits}
 use Rattle.machine_step.specs.declared.end.End.{End}
@@ -45,7 +45,7 @@ pub record Taken : Type 0 where
   pub way : Way
   pub left : Machine
 
--- the end of the thread, at which nothing is counted
+-- the end of the thread, with nothing counted
 abbrev pub ending : End → Machine → Taken
 ending end m = record { way = ways.Ends end; left = m }
 
@@ -57,28 +57,28 @@ going place m = record { way = ways.To place; left = record m { instructions = m
 abbrev pub loading : ℕ → ℕ → ℕ → Machine → Taken
 loading place reg value m = going place (record m { registers = slice_set m.registers reg value })
 
--- the same of a value that was computed, which the zero flag tells of
+-- the same for a value that was computed, by which the zero flag is set
 abbrev pub computing : ℕ → ℕ → ℕ → Machine → Taken
 computing place reg value m = going place (record m { registers = slice_set m.registers reg value; zero_flag = value == 0 })
 
--- a value onto the stack, where there is room
+-- a value is pushed, if there is room
 abbrev pub pushing : ℕ → ℕ → Machine → Taken
 pushing place value m =
     if length m.stack == stack_limit then ending ends.StackFull m else going place (record m { stack = value ∷ m.stack })
 
--- the value on top of the stack into a register, where there is one
+-- the value on top of the stack goes into a register, if there is one
 abbrev pub popping : ℕ → ℕ → Machine → List ℕ → Taken
 popping place reg m [] = ending ends.StackEmpty m
 popping place reg m (value ∷ stack) =
     going place (record m { registers = slice_set m.registers reg value; stack = stack })
 
--- back to the address on top of the stack, or from the thread where there is none
+-- back to the address on top of the stack, or out of the thread if there is none
 abbrev pub returning : Machine → List ℕ → Taken
 returning m [] = record { way = ways.Ends ends.Returned; left = record m { instructions = m.instructions + 1 } }
 returning m (address ∷ stack) =
     record { way = ways.Back address; left = record m { stack = stack; instructions = m.instructions + 1 } }
 
--- the low byte of rax to the output, where there is room
+-- the low byte of rax is output, if there is room
 abbrev pub putting : ℕ → Machine → Taken
 putting place m =
     if length m.output == output_limit then ending ends.OutputFull m
@@ -88,16 +88,16 @@ putting place m =
 abbrev pub staying : ℕ → Machine → Taken
 staying place m = record { way = ways.To place; left = m }
 
--- an exit sled behind its passing: a return
+-- an exit sled after its passing: a return
 abbrev pub leaving : Limits → Machine → Taken
 leaving limits m = if m.instructions == limits.fuel then ending ends.Fuel m else returning m m.stack
 
--- a passing, where one is left, and what is behind it
+-- a passing, if one is left, and what follows it
 abbrev pub passing : Limits → Machine → (Machine → Taken) → Taken
 passing limits m behind =
     if m.passings == limits.passings then ending ends.Passings m else behind (record m { passings = m.passings + 1 })
 
--- the step at a place, where it has the fuel that it wants
+-- the step at a place, once it has the fuel that it wants
 abbrev pub acting : Limits → ℕ → Machine → Step → Taken
 acting limits place m (steps.Mov dst imm) = loading (place + 1) dst imm m
 acting limits place m (steps.Add dst src) =
@@ -121,7 +121,7 @@ abbrev pub stepping : Limits → ℕ → Machine → Step → Taken
 stepping limits place m step =
     if wants_fuel step && (m.instructions == limits.fuel) then ending ends.Fuel m else acting limits place m step
 
--- from a state the thread runs to this end, and the machine is left so
+-- from this state the thread runs to this end, and leaves the machine like this
 pub record RunsFrom (program : Program) (limits : Limits) (thread : ℕ) (s : State) (end : End) (left : Machine) : Type 0 where
   pub steps : ℕ
   pub passed : List Passing

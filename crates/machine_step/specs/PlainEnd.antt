@@ -1,4 +1,4 @@
--- What the end of a plain run tells.
+-- What the end of a plain run says.
 use Rattle.std.specs.Prelude.{◌≡◌, ℕ, List, []}
 use Rattle.xray_image.specs.Program.{Program}
 use Rattle.machine_step.specs.declared.limits.Limits.{Limits}
@@ -17,7 +17,7 @@ pub record IsPlainEnd (program : Program) (limits : Limits) (number : ℕ) (e : 
   pub instructions : e.instructions ≡ last.instructions
   pub passings : e.passings ≡ last.passings
 
--- a state of which an end tells all that is printed
+-- a state that agrees with an end in all that is printed
 abbrev pub state_of : PlainEnd → State
 state_of e = record {
   address = 0;

@@ -1,4 +1,4 @@
--- The plain machine: what a thread does where its sleds are only counted.
+-- The plain machine: what a thread does if its sleds are only counted.
 use Rattle.std.specs.Prelude.{◌≡◌, ◌≢◌, ◌^◌, ◌+◌, ◌*◌, ◌/◌, ◌%◌, ◌==◌, ◌⊎◌, ℕ, zero, suc, List, [], ◌∷◌, ◌++◌, length, Bool, false, if◌then◌else◌, Some, replicate, slice_get, slice_index, slice_set, Contains, MatchBool, ◌-◌, ℤ}
 use Rattle.std.specs.Int.{w64, cast_unsigned}
 use Rattle.subset_decode.specs.declared.instr.Instr.{Instr}
@@ -15,7 +15,7 @@ use Rattle.machine_step.specs.declared.limits.Limits.{Limits}
 use Rattle.machine_step.specs.declared.end.End.{End}
 use Rattle.machine_step.specs.declared.end.End.TheVariants as ends
 
--- what a thread is between two steps; register n stands at place n, the top of the stack in front
+-- a thread between two steps; register n is at place n, and the top of the stack comes first
 pub record State : Type 0 where
   pub address : ℕ
   pub registers : List ℕ
@@ -25,7 +25,7 @@ pub record State : Type 0 where
   pub instructions : ℕ
   pub passings : ℕ
 
--- a thread at the entry function's start: its number in rdi, all else 0
+-- a thread at the start of the entry function, with its number in rdi and 0 everywhere else
 abbrev pub opening : Program → ℕ → State
 opening program thread = record {
   address = program.entry;
@@ -37,16 +37,16 @@ opening program thread = record {
   passings = 0;
 }
 
--- a step leads on, or is the thread's end
+-- a step leads on, or it is the thread's end
 pub data Next : Type 0 where
   Goes : (next : State) → Next
   Ends : (end : End) → (last : State) → Next
 
--- the state behind an instruction that goes on at an address
+-- the state after an instruction that goes on at an address
 abbrev pub counted : State → ℕ → State
 counted s address = record s { address = address; instructions = s.instructions + 1 }
 
--- `ret`, also in the place of an exit sled: on an empty stack it is the end
+-- `ret`, which an exit sled is too; on an empty stack it is the end
 abbrev pub returns : State → List ℕ → Next
 returns s [] = Ends ends.Returned (counted s s.address)
 returns s (address ∷ stack) = Goes (record (counted s address) { stack = stack })
@@ -62,28 +62,28 @@ output_limit = 65536
 abbrev pub register : State → ℕ → ℕ
 register s n = slice_index s.registers n
 
--- what an addition or a subtraction leaves, going on at an address: the value mod 2^64, and whether it is 0
+-- what an addition or a subtraction leaves, and goes on at an address: the value mod 2^64, and whether it is 0
 abbrev pub computed : State → ℕ → ℕ → ℕ → State
 computed s behind dst value =
     record (counted s behind) { registers = slice_set s.registers dst (value % 2 ^ 64); zero_flag = value % 2 ^ 64 == 0 }
 
--- a value on the stack, where there is room
+-- a value is pushed, if there is room
 abbrev pub pushed : State → ℕ → ℕ → Next
 pushed s address value =
     if length s.stack == stack_limit then Ends ends.StackFull s
     else Goes (record (counted s address) { stack = value ∷ s.stack })
 
--- the value on top of the stack into a register, where there is one
+-- the value on top of the stack goes into a register, if there is one
 abbrev pub popped : State → ℕ → ℕ → List ℕ → Next
 popped s behind reg [] = Ends ends.StackEmpty s
 popped s behind reg (value ∷ stack) =
     Goes (record (counted s behind) { registers = slice_set s.registers reg value; stack = stack })
 
--- where a branch goes: the address behind it and the distance that it names, mod 2^64
+-- where a branch goes: the address after it plus the distance that it names, mod 2^64
 abbrev pub branched : ℕ → ℤ → ℕ
 branched behind distance = (behind + cast_unsigned w64 distance) % 2 ^ 64
 
--- what an instruction does, where `behind` is the address behind it; the target of a branch counts from there
+-- what an instruction does; `behind` is the address after it, from which a branch counts
 abbrev pub does : State → ℕ → Instr → Next
 does s behind (Mov dst imm) = Goes (record (counted s behind) { registers = slice_set s.registers dst imm })
 does s behind (Add dst src) = Goes (computed s behind dst (register s dst + register s src))
@@ -102,13 +102,13 @@ does s behind (Out port) =
 abbrev pub fuelled : Limits → State → Next → Next
 fuelled limits s next = if s.instructions == limits.fuel then Ends ends.Fuel s else next
 
--- behind its passing, an entry or tail sled does nothing, and an exit sled is a return
+-- after its passing, an entry or tail sled does nothing, and an exit sled is a return
 abbrev pub behind_passing : Limits → State → SledKind → Next
 behind_passing limits s kinds.Entry = Goes (record s { address = s.address + 11 })
 behind_passing limits s kinds.Tail = Goes (record s { address = s.address + 11 })
 behind_passing limits s kinds.Exit = fuelled limits s (returns s s.stack)
 
--- a passing of a sled: of which, with the stamp that its event has
+-- a passing of a sled, with the stamp of its event
 pub record Passing : Type 0 where
   pub sled : ℕ
   pub id : ℕ
@@ -138,7 +138,7 @@ UnitStep program limits thread s (whats.Sled k) made next =
 UnitStep program limits thread s whats.Pad made next =
     (made ≡ []) × (next ≡ Goes (record s { address = s.address + 1 }))
 
--- the step of a thread: that of the unit at its address, or its end where no unit is
+-- the step of a thread: that of the unit at its address, or its end if there is no unit
 abbrev pub PlainStep : Program → Limits → ℕ → State → List Passing → Next → Type 0
 PlainStep program limits thread s made next =
     (((u : Unit) → Contains program.units u → u.address ≢ s.address) × (made ≡ []) × (next ≡ Ends ends.BadTarget s))
@@ -153,7 +153,7 @@ RunsTo program limits thread (suc n) s passed end last =
     × RunsTo program limits thread n mid later end last
     × (passed ≡ made ++ later)
 
--- what the steps of a thread reach from its opening: its passings, its end and its last state
+-- what the steps of a thread come to from its opening: its passings, its end and its last state
 abbrev pub PlainRun : Program → Limits → ℕ → List Passing → End → State → Type 0
 PlainRun program limits thread passed end last =
     (n : ℕ) × RunsTo program limits thread n (opening program thread) passed end last

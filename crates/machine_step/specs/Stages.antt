@@ -23,7 +23,7 @@ word_at program thread sled stages.Offset = word_of sled Offset
 word_at program thread sled stages.Handler = handler_word program
 word_at program thread sled stages.State = state_word program
 
--- the stage with which a passing begins
+-- the stage that a passing begins with
 abbrev pub stage_by : Bool → Stage
 stage_by true = stages.Release
 stage_by false = stages.Head
@@ -31,7 +31,7 @@ stage_by false = stages.Head
 abbrev pub first_stage : Option ℕ → ℕ → Stage
 first_stage hold passing = stage_by (is_held_at hold passing)
 
--- what a load of a value leads to
+-- what the load of a value leads to
 abbrev pub behind_load : Stage → ℕ → Next
 behind_load stages.Release value = if value == 0 then Loads stages.Release else Loads stages.Head
 behind_load stages.Head value = if value == patched_head then Loads stages.Id else Ends marks.Skipped

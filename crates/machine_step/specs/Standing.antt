@@ -1,4 +1,4 @@
--- Where machines stand on their way, for the contracts of private functions.
+-- Where machines are on their way, for the contracts of private functions.
 use Rattle.std.specs.Prelude.{◌≡◌, ◌==◌, ℕ, List, [], ◌∷◌, Option, Some, None, if◌then◌else◌}
 use Rattle.xray_image.specs.Program.{Program}
 use Rattle.machine_step.specs.declared.limits.Limits.{Limits}
@@ -11,18 +11,18 @@ use Rattle.machine_step.specs.Course.{Reaches}
 use Rattle.machine_step.specs.Machine.{state_at}
 use Rattle.machine_step.specs.Steps.{IsPlaceOf, IsStepAt, sled_at}
 
--- the sled of a step, where there is one and a passing is left for it
+-- the sled of a step, if it has one and a passing is left for it
 abbrev pub due_sled : Limits → Machine → Step → Option ℕ
 due_sled limits m step = if m.passings == limits.passings then None else sled_at step
 
--- a machine at an address is before the sled of a number, and has a passing for it
+-- a machine at an address is before the sled of this number, and has a passing for it
 pub record IsAtSled (program : Program) (limits : Limits) (address place k : ℕ) (m : Machine) : Type 0 where
   pub placed : IsPlaceOf program.units address place
   pub step : Step
   pub is_step : IsStepAt program place step
   pub due : due_sled limits m step ≡ Some k
 
--- steps with these passings on the way lead a machine from an address to where it stands
+-- steps with these passings on the way lead a machine from an address to where it is
 abbrev pub RunsBy : Program → Limits → ℕ → ℕ → Machine → List Passing → Stand → Machine → Type 0
 RunsBy program limits thread address before passed (Gate place k) after =
     (there : ℕ) × IsAtSled program limits there place k after

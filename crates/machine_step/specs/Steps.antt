@@ -14,13 +14,13 @@ use Rattle.machine_step.specs.declared.step.Step.{Step}
 use Rattle.machine_step.specs.declared.step.Step.TheVariants as steps
 use Rattle.machine_step.specs.PlainStep.{branched}
 
--- the place of an address: the number of the unit that begins there, or that behind the last where none does
+-- the place of an address: the number of the unit that begins there, or if there is none, the place after the last unit
 abbrev pub IsPlaceOf : List Unit → ℕ → ℕ → Type 0
 IsPlaceOf units address place =
     (slice_get (addresses units) place ≡ Some address)
     ⊎ ((place ≡ length units) × (Contains (addresses units) address → ⊥))
 
--- the step of an instruction; `behind` is the address behind it
+-- the step of an instruction; `behind` is the address after it
 abbrev pub IsStepOfInstruction : List Unit → ℕ → Instr → Step → Type 0
 IsStepOfInstruction units behind (Mov dst imm) step = step ≡ steps.Mov dst imm
 IsStepOfInstruction units behind (Add dst src) step = step ≡ steps.Add dst src
@@ -50,7 +50,7 @@ IsStepOf program address (whats.Sled k) step =
     (sled : Sled) × (slice_get program.sleds k ≡ Some sled) × (step ≡ step_of_sled k sled.kind)
 IsStepOf program address whats.Pad step = step ≡ steps.Pad
 
--- the step at a place: of the unit with this number, or none behind the last
+-- the step at a place: that of the unit with this number, or none after the last unit
 abbrev pub IsStepAt : Program → ℕ → Step → Type 0
 IsStepAt program place step =
     MatchOption (slice_get program.units place) (step ≡ steps.Nowhere) (λ u. IsStepOf program u.address u.what step)

@@ -1,4 +1,4 @@
--- The texts in which a thread's end is printed.
+-- The texts that print a thread's end.
 use Rattle.std.specs.Prelude.{ℕ, List, [], ◌∷◌, ◌++◌, Bool, true, false, codes, decimal, slice_index, ◌/◌, ◌%◌}
 use Rattle.std.specs.Fmt.{digits}
 use Rattle.std.specs.List.{flat_map}
@@ -17,7 +17,7 @@ end_text ends.StackFull = codes "stack-full"
 end_text ends.StackEmpty = codes "stack-empty"
 end_text ends.BadTarget = codes "bad-target"
 
--- lower-case hexadecimal, without zeros in front
+-- lower-case hexadecimal, without leading zeros
 abbrev pub hexadecimal : ℕ → List ℕ
 hexadecimal n = digits 16 false n
 
@@ -35,7 +35,7 @@ abbrev pub flag_text : Bool → List ℕ
 flag_text true = codes "zf=1"
 flag_text false = codes "zf=0"
 
--- two digits a byte, or - for none
+-- two digits per byte, or - if there are none
 abbrev pub byte_text : ℕ → List ℕ
 byte_text b = hexadecimal (b / 16) ++ hexadecimal (b % 16)
 
@@ -46,7 +46,7 @@ output_text (b ∷ bytes) = flat_map byte_text (b ∷ bytes)
 abbrev pub line_feed : List ℕ
 line_feed = 10 ∷ []
 
--- the end, with so many instructions and passings
+-- the end, with these counts of instructions and passings
 abbrev pub counts_text : ℕ → End → ℕ → ℕ → List ℕ
 counts_text thread end instructions passings =
     codes "thread " ++ decimal thread ++ codes " " ++ end_text end
@@ -68,10 +68,10 @@ output_line output = codes "output " ++ output_text output ++ line_feed
 abbrev pub marks_line : List Mark → List ℕ
 marks_line marks = codes "marks " ++ runs_text marks ++ line_feed
 
--- what is printed of a plain run: three lines
+-- the text of a plain run: three lines
 abbrev pub plain_text : ℕ → End → State → List ℕ
 plain_text thread end last = counts_line thread end last ++ registers_line last.registers last.zero_flag ++ output_line last.output
 
--- what is printed of a replayed one: the same and a fourth line
+-- the text of a replayed thread: the same and a fourth line
 abbrev pub state_text : ℕ → End → State → List Mark → List ℕ
 state_text thread end last marks = plain_text thread end last ++ marks_line marks

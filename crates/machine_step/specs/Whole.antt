@@ -1,4 +1,4 @@
--- Which passings decode whole.
+-- Which passings decode their sleds whole.
 use Rattle.std.specs.Prelude.{◌+◌, ◌-◌, ◌⊎◌, ℕ, List, [], ◌∷◌, length, take, Contains, Option, Some, slice_get, ◌≡◌}
 use Rattle.xray_image.specs.declared.sled.Sled.{Sled}
 use Rattle.xray_image.specs.Program.{Program}
@@ -24,11 +24,13 @@ pub record FoundPatched (program : Program) (k : ℕ) (sled : Sled) (loads : Lis
   pub opcode : Loaded loads k Opcode (patched program.trampolines sled Opcode)
   pub offset : Loaded loads k Offset (patched program.trampolines sled Offset)
 
--- A passing with these loads decodes the sled whole: it found it unpatched, or all of it patched. Any other passing is torn.
+-- A passing with these loads decodes the sled whole: it found the sled unpatched, or all of it patched. Any other
+-- passing is torn.
 abbrev pub IsWhole : Program → ℕ → Sled → List Load → Type 0
 IsWhole program k sled loads = FoundUnpatched k sled loads ⊎ FoundPatched program k sled loads
 
--- the loads of each passing that has its mark, of a thread that has passings, from one of a number on, at sleds of these numbers
+-- The loads of each passing that has its mark. The thread has passings at the sleds of these numbers, numbered from a
+-- number on.
 abbrev pub loads_by_passing : Program → ℕ → Option ℕ → ℕ → List ℕ → List Load → List (List Load)
 loads_by_passing program thread hold number [] loads = []
 loads_by_passing program thread hold number (sled ∷ sleds) loads =

@@ -8,13 +8,13 @@ use crate::stage::Stage;
 use sled_words::{JUMP_HEAD, PATCHED_HEAD, Part, part_value};
 use xray_image::{Image, SledKind};
 
-/// The byte C3, `ret`, with which an unpatched exit sled begins.
+/// The byte C3, `ret`, which begins an unpatched exit sled.
 const RETURN: u64 = 0xC3;
 
-/// The greatest number of a state of the log.
+/// The greatest number of a log state.
 const LAST_STATE: u64 = 4;
 
-/// Whether a value may be loaded at a stage of a passing of a sled.
+/// Whether a value may be loaded at this stage of a passing of a sled.
 pub(crate) fn allows(image: &Image, stage: Stage, sled: u32, value: u64) -> bool
     requires { sled < length image.now.sleds }
     ensures { (s : Sled) → slice_get image.now.sleds sled ≡ Some s
@@ -30,8 +30,8 @@ pub(crate) fn allows(image: &Image, stage: Stage, sled: u32, value: u64) -> bool
     }
 }
 
-/// Whether a value is a head of an unpatched sled of a kind: a jump over the sled, or a return with
-/// any byte behind it.
+/// Whether a value is the head of an unpatched sled of this kind: a jump over the sled, or a return
+/// with any second byte.
 fn is_unpatched_head(kind: SledKind, value: u64) -> bool
     ensures { IsTrue result ↔ IsUnpatchedHead kind value }
 {

@@ -24,15 +24,13 @@ use std::alloc::Global;
 use std::marker::Model;
 use xray_io::NoMemory;
 
-/// A thread whose sleds may be patched while it runs, between two loads.
+/// A thread whose sleds may be patched between two of its loads.
 ///
-/// It runs the plain instructions by itself up to the next sled, and then wants the words of its
-/// passing, one load after the other. Whoever has the words gives it their values: `want` tells what
-/// is due, `opened` lets it into a passing, and `give` hands it a value. Whatever the values are,
-/// before its passing n it is where its plain run is before its passing n. A patched sled also
+/// It runs the plain instructions by itself up to the next sled. Then it wants the words of its
+/// passing, one load after the other. `want` says what it wants, `opened` lets it into a passing,
+/// and `give` gives it a value. Each value has to be one that `allowed` accepts. Then, before each
+/// passing, the thread is where its plain run is before the same passing. A patched sled also
 /// writes r10, which no instruction names and no text prints.
-///
-/// All memory of its own is taken when it is made.
 #[derive(Drop)]
 pub struct Cpu<'a> {
     steps: &'a Steps<'a>,
@@ -60,12 +58,11 @@ impl<'a> Model for Cpu<'a> {
 impl<'a> Cpu<'a> {
     ghost use Rattle.machine_step.specs.Traced.{Allows, HasLoaded, IsDone, IsFresh, IsGate, IsKept, IsLoad, IsLoadable, IsSameThread, IsThreadOf, MarksAdded, StandsAs, load_of, loads_left};
 
-    /// A thread before its first load: it has run to its first sled, or to its end where it comes to
-    /// none. Threads count from 1; `hold` is the passing before which the script holds it.
+    /// A thread before its first load. It has run to its first sled, or to its end if it comes to
+    /// none. Threads count from 1. `hold` is the passing before which the script holds the thread.
+    /// All threads of an image borrow its steps.
     ///
-    /// Takes all memory of the thread: for its stack and its output, and for a mark of each passing up
-    /// to the limit. `NoMemory` comes if some of it was refused. All threads of an image borrow its
-    /// steps.
+    /// `NoMemory` means that an allocation was refused.
     pub fn new(
         alloc: Global,
         steps: &'a Steps<'a>,
@@ -101,7 +98,8 @@ impl<'a> Cpu<'a> {
     #[inline]
     pub fn want(&self) -> Want
         ensures want { result ≡ self.now.want }
-        // Before a passing it is where its plain run comes to it, and at its end where that ends.
+        // Before a passing, the thread is where its plain run comes to it. At its end, it is where
+        // its plain run ends.
         ensures stands { StandsAs self.now self.now.want }
         ensures word { IsLoadable self.now self.now.want }
     {
@@ -133,9 +131,9 @@ impl<'a> Cpu<'a> {
         }
     }
 
-    /// Whether a value may stand in the word that the thread wants: a release word or the handler's
-    /// word is 0 or 1, and the state 0 to 4; the head of a sled is unpatched or patched, and its
-    /// other parts are what patching stores.
+    /// Whether the word that the thread wants may have this value. A release word and the handler's
+    /// word are 0 or 1, and the state is 0 to 4. The head of a sled is patched or unpatched, and
+    /// its other parts are what patching stores.
     pub fn allowed(&self, value: u64) -> bool
         requires { IsLoad self.now.want }
         ensures { IsTrue result ↔ Allows self.now self.now.want value }
@@ -146,9 +144,9 @@ impl<'a> Cpu<'a> {
         }
     }
 
-    /// Gives the thread the value of the word that it wants. Where that ends its passing, the
-    /// passing gets its mark, and the thread runs on to its next sled or to its end. An event comes
-    /// exactly where the value is that of a log that records: the event of the passing.
+    /// Gives the thread the value of the word that it wants. If that ends the passing, the passing
+    /// gets its mark, and the thread runs on to its next sled or to its end. The answer is the
+    /// event of the passing exactly when the value is the state of a log that records.
     pub fn give(&mut self, value: u64) -> Option<Event>
         requires { Allows self.old self.old.want value }
         ensures thread { IsSameThread self.old self.new }
@@ -162,7 +160,7 @@ impl<'a> Cpu<'a> {
             → recorded passed self.new.marks
             ≡ recorded passed self.old.marks ++ events_in result }
 
-        // A release word of 0 changes nothing; each other load brings the thread nearer to its end.
+        // A release word of 0 changes nothing. Any other load brings the thread nearer to its end.
         ensures kept { IsKept self.old value → self.new ≡ self.old }
         ensures nearer { (IsKept self.old value → ⊥) → loads_left self.new < loads_left self.old }
     {
@@ -196,8 +194,8 @@ impl<'a> Cpu<'a> {
         self.thread
     }
 
-    /// The value of the general register of a number, numbered as in `Reg`. Those that no
-    /// instruction names, rsp and r10, are 0.
+    /// The value of the general register of this number, numbered as in `Reg`. rsp and r10, which
+    /// no instruction names, are 0.
     pub fn reg(&self, n: u8) -> u64
         requires { n < REGISTERS }
         ensures { result ≡ slice_index self.now.registers n }
@@ -212,7 +210,7 @@ impl<'a> Cpu<'a> {
         self.machine.registers.all()
     }
 
-    /// Whether the last `add` or `sub` gave 0; false before the first of them.
+    /// Whether the last `add` or `sub` gave 0. It is false before the first of them.
     pub fn zf(&self) -> bool
         ensures { result ≡ self.now.zero_flag }
     {
@@ -226,21 +224,21 @@ impl<'a> Cpu<'a> {
         self.machine.output.bytes()
     }
 
-    /// The marks of the passings that are made.
+    /// The marks of the passings that were made.
     pub fn marks(&self) -> &Marks
         ensures { result.now.items ≡ self.now.marks }
     {
         &self.marks
     }
 
-    /// How many instructions are made.
+    /// How many instructions were made.
     pub fn instructions(&self) -> u64
         ensures { result ≡ self.now.instructions }
     {
         self.machine.instructions
     }
 
-    /// How many passings are made.
+    /// How many passings were made.
     pub fn passings(&self) -> u32
         ensures { result ≡ length self.now.marks }
     {

@@ -5,11 +5,11 @@ pub enum End {
     Returned,
     /// Before an instruction, with all fuel used.
     Fuel,
-    /// Before a sled, with all passings made.
+    /// Before a sled, with all passings used.
     Passings,
-    /// At an output beyond 65,536 bytes.
+    /// At an output of more than 65,536 bytes.
     OutputFull,
-    /// At a push or a call on a stack of 65,536 values.
+    /// At a push or a call with 65,536 values on the stack.
     StackFull,
     /// At a pop on an empty stack.
     StackEmpty,

@@ -1,4 +1,5 @@
-//! Laws of the plain machine and of its loads, each the contract of a function that does nothing.
+//! Laws of the plain machine and of its loads. Each law is the contract of a function that does
+//! nothing.
 ghost use Rattle.std.specs.Prelude.{◌≡◌, ℕ, List, Option, Some, All};
 ghost use Rattle.xray_image.specs.Program.{Program, IsAccepted};
 ghost use Rattle.sled_words.specs.Allowed.{IsAllowed};
@@ -10,9 +11,9 @@ ghost use Rattle.machine_step.specs.Follows.{Follows};
 ghost use Rattle.machine_step.specs.Loads.{AreWanted, Load, next_load};
 ghost use Rattle.machine_step.specs.Whole.{AreWhole};
 
-/// A thread of an accepted image reaches one end: all plain runs of it have the same passings, the
-/// same end and the same last state, so what is printed of a plain run is a function of the image,
-/// the limits and the thread.
+/// A thread of an accepted image reaches only one end. All its plain runs have the same passings,
+/// the same end and the same last state. So what is printed of a plain run depends only on the
+/// image, the limits and the thread.
 pub fn one_end()
     ensures { (bytes : List ℕ) (program : Program) (limits : Limits) (thread : ℕ)
         (passed passed' : List Passing) (end end' : End) (last last' : State)
@@ -23,7 +24,7 @@ pub fn one_end()
 {}
 
 /// A thread of an accepted image reaches an end, whatever the image, the thread's number and the
-/// limits: with `one_end`, exactly one.
+/// limits are. With `one_end`, it reaches exactly one.
 pub fn some_end()
     ensures { (bytes : List ℕ) (program : Program) (limits : Limits) (thread : ℕ)
         → IsAccepted bytes program
@@ -31,10 +32,10 @@ pub fn some_end()
         × PlainRun program limits thread passed end last }
 {}
 
-/// However the loads of a thread fall between the changes of code that keeps sleds whole, each value that
-/// it has loaded is allowed, and so is the next one; and each passing decodes its sled whole. It is the
-/// same for a replay's loads and for those of running threads. Nothing is asked of the thread, of the
-/// sleds that it passes or of the bounds.
+/// Let code change in a way that keeps sleds whole. However the loads of a thread fall between the
+/// changes, each value that it has loaded is allowed, and so is the next one. Each of its passings
+/// decodes its sled whole. This holds for the loads of a replay and for those of running threads.
+/// Nothing is asked of the thread, of the sleds that it passes, or of the bounds.
 pub fn what_follows_is_allowed()
     ensures wanted { (program : Program) (code : ℕ → ℕ → ℕ) (start : ℕ) (bound : ℕ → ℕ) (thread : ℕ) (hold : Option ℕ)
         (sleds : List ℕ) (loads : List Load) (place : ℕ)
@@ -55,8 +56,8 @@ pub fn what_follows_is_allowed()
         → AreWhole program thread hold sleds loads }
 {}
 
-/// Loads of the words that a thread wants behind each other, each of a value that is allowed, tear no
-/// sled: each passing decodes its sled whole, wherever the values come from.
+/// If a thread loads the words that it wants one after the other, and each value is allowed, no
+/// sled is torn. Each passing decodes its sled whole, wherever the values come from.
 pub fn allowed_loads_are_whole()
     ensures { (program : Program) (thread : ℕ) (hold : Option ℕ) (sleds : List ℕ) (loads : List Load)
         → AreWanted program thread hold sleds loads

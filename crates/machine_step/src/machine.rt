@@ -1,4 +1,4 @@
-//! What a thread is between two steps, and what a step makes of it.
+//! A thread between two steps, and what a step does to it.
 
 ghost use Rattle.std.specs.Prelude.{◌≡◌, ◌<◌, ◌+◌, ◌^◌, ◌==◌, ◌&&◌, false, [], IfOk};
 ghost use Rattle.machine_step.specs.Machine.{first_machine, IsWithin, loading, computing, pushing, popping, returning, putting, going, staying, leaving, passing, acting, stepping};
@@ -13,7 +13,7 @@ use crate::step::{Step, Way};
 use std::alloc::{AllocError, Global};
 use subset_decode::Reg;
 
-/// All that a thread is but the place where it stands.
+/// All of a thread except its place.
 #[derive(Drop)]
 pub(crate) struct Machine {
     pub(crate) registers: Registers,
@@ -25,7 +25,7 @@ pub(crate) struct Machine {
 }
 
 impl Machine {
-    /// A thread before its first step. Takes all memory that its steps need.
+    /// A thread before its first step. Asks for all the room that its steps need.
     pub(crate) fn new(alloc: Global, thread: u32) -> Result<Self, AllocError>
         ensures { IfOk result (λ m. m ≡ first_machine thread) }
     {
@@ -39,7 +39,7 @@ impl Machine {
         })
     }
 
-    /// Makes the step that stands at a place.
+    /// Makes the step at a place.
     #[inline]
     pub(crate) fn step(&mut self, step: &Step, place: usize, limits: Limits) -> Way
         requires within { IsWithin limits self.old }
@@ -54,7 +54,7 @@ impl Machine {
         self.act(step, place, limits)
     }
 
-    /// Whether a step is an instruction for which there is no fuel.
+    /// Whether a step is an instruction, with no fuel left for it.
     #[inline]
     fn lacks_fuel(&self, step: &Step, fuel: u64) -> bool
         ensures { result ≡ (wants_fuel step.now && (self.now.instructions == fuel)) }
@@ -112,7 +112,7 @@ impl Machine {
         }
     }
 
-    /// Passes a sled that does nothing, where a passing is left.
+    /// Passes a sled that does nothing, if a passing is left.
     #[inline]
     fn pass(&mut self, next: usize, limits: Limits) -> Way
         requires { IsWithin limits self.old }
@@ -127,7 +127,7 @@ impl Machine {
         Way::To(next)
     }
 
-    /// Passes a sled that returns, where a passing is left.
+    /// Passes a sled that returns, if a passing is left.
     #[inline]
     fn leave(&mut self, limits: Limits) -> Way
         requires { IsWithin limits self.old }
@@ -167,7 +167,7 @@ impl Machine {
         self.go(next)
     }
 
-    /// Gives a register a value that was computed, and the zero flag what it says.
+    /// Gives a register a value that was computed, and sets the zero flag by it.
     #[inline]
     fn compute(&mut self, next: usize, dst: Reg, value: u64) -> Way
         requires fuel { self.old.instructions + 1 < 2 ^ 64 }
@@ -179,7 +179,7 @@ impl Machine {
         self.go(next)
     }
 
-    /// Pushes a value, where there is room.
+    /// Pushes a value, if there is room.
     #[inline]
     fn push(&mut self, next: usize, value: u64) -> Way
         requires fuel { self.old.instructions + 1 < 2 ^ 64 }
@@ -193,7 +193,7 @@ impl Machine {
         self.go(next)
     }
 
-    /// Pops a value into a register, where there is one.
+    /// Pops a value into a register, if there is one.
     #[inline]
     fn pop(&mut self, next: usize, reg: Reg) -> Way
         requires fuel { self.old.instructions + 1 < 2 ^ 64 }
@@ -220,7 +220,7 @@ impl Machine {
         }
     }
 
-    /// Outputs AL, where there is room.
+    /// Outputs AL, if there is room.
     #[inline]
     fn put(&mut self, next: usize) -> Way
         requires fuel { self.old.instructions + 1 < 2 ^ 64 }

@@ -5,10 +5,10 @@ ghost use Rattle.std.specs.Prelude.{◌≡◌, ◌≢◌, ◌==◌, [], ◌∷�
 use std::alloc::{AllocError, Global};
 use std::marker::Model;
 
-/// How many bytes a thread outputs at the most.
+/// The most bytes that a thread outputs.
 pub const OUTPUT_LIMIT: usize = 65_536;
 
-/// The bytes of all `out`s, in order. All room is taken when it is made.
+/// The bytes of all `out`s, in order, in room of a fixed size.
 #[derive(Drop)]
 pub(crate) struct Output {
     bytes: Vec<u8>,
@@ -36,7 +36,7 @@ impl Output {
         })
     }
 
-    /// Whether there is no room for a byte more.
+    /// Whether there is no room for another byte.
     #[inline]
     pub(crate) fn is_full(&self) -> bool
         ensures { result ≡ (length self.now == OUTPUT_LIMIT) }
@@ -60,7 +60,7 @@ impl Output {
         &self.bytes
     }
 
-    /// All bytes, for good.
+    /// All bytes, as a vector.
     pub(crate) fn into_bytes(self) -> Vec<u8>
         ensures { result.items ≡ self }
     {

@@ -1,4 +1,5 @@
-//! The plain text of a thread: its end and its counts, its registers, and its output.
+//! The plain text of a thread: the line of its end and counts, that of its registers, and that of
+//! its output.
 
 ghost use Rattle.std.specs.Prelude.{◌≡◌, ◌++◌, ◌<◌, length, slice_get, Some};
 ghost use Rattle.machine_step.specs.PlainEnd.{state_of};
@@ -11,9 +12,9 @@ use crate::plain_end::PlainEnd;
 use crate::registers::REGISTERS;
 use xray_io::{Piece, Sink, Text, WriteFault};
 
-/// Writes the plain text of a thread's end: three lines, each with its line feed. Takes no memory.
+/// Writes the plain text of a thread's end: three lines, each with its line feed.
 ///
-/// On `WriteFault` a front of the text was written, and the sink counted a fault.
+/// On `WriteFault` a prefix of the text was written, and the sink counted a fault.
 pub fn write_plain<S: Sink>(end: &PlainEnd, sink: &mut S) -> Result<(), WriteFault>
     requires { length end.now.regs.items ≡ REGISTERS }
     ensures { WritesText S.written S.faults S.along sink.old sink.new
@@ -35,7 +36,7 @@ fn add_lines<S: Sink>(text: &mut Text<S>, end: &PlainEnd) -> Result<(), WriteFau
     add_output(text, &end.output)
 }
 
-/// Adds the line of a thread's end and its counts to a text.
+/// Adds the line of a thread's end and counts to a text.
 pub(crate) fn add_counts<S: Sink>(
     text: &mut Text<S>,
     thread: u32,
@@ -59,7 +60,7 @@ pub(crate) fn add_counts<S: Sink>(
     ])
 }
 
-/// How an end is printed.
+/// The name of an end, as texts have it.
 pub fn end_name(end: End) -> &'static [u8]
     ensures { result.now ≡ end_text end }
 {
@@ -74,7 +75,7 @@ pub fn end_name(end: End) -> &'static [u8]
     }
 }
 
-/// Adds the line of a thread's registers, register n at place n, and its zero flag to a text.
+/// Adds the line of a thread's registers and its zero flag to a text. Register n is at place n.
 pub(crate) fn add_registers<S: Sink>(
     text: &mut Text<S>,
     registers: &[u64],
@@ -101,8 +102,7 @@ pub(crate) fn add_registers<S: Sink>(
 /// How many registers are printed: all but rsp and r10.
 const PRINTED_REGISTERS: usize = 14;
 
-/// How the register at a place of the line is printed: what stands before its value, and its
-/// number.
+/// The register at a place of the line: the text before its value, and its number.
 fn printed_register(place: usize) -> (&'static [u8], usize)
     requires { place < PRINTED_REGISTERS }
     ensures row { slice_get printed_registers place ≡ Some (result.0.now, result.1) }
@@ -133,7 +133,7 @@ fn flag_line(zero_flag: bool) -> &'static [u8]
     if zero_flag { b"zf=1\n" } else { b"zf=0\n" }
 }
 
-/// Adds the line of a thread's output to a text: two digits a byte, or - for none.
+/// Adds the line of a thread's output to a text: two digits per byte, or - if there are none.
 pub(crate) fn add_output<S: Sink>(text: &mut Text<S>, output: &[u8]) -> Result<(), WriteFault>
     ensures { AddsText S.written S.faults S.along text.old text.new
         (output_line output.now) result }

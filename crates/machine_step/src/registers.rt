@@ -11,7 +11,7 @@ pub const REGISTERS: usize = 16;
 /// The number of rax, whose low byte is AL.
 const RAX: usize = 0;
 
-/// The number of rdi, in which a thread finds its own number.
+/// The number of rdi, which holds a thread's own number at its start.
 const RDI: usize = 7;
 
 /// The values of the general registers. Those that no instruction names stay 0.
@@ -33,7 +33,7 @@ impl Model for Registers {
 impl Registers {
     ghost use Rattle.std.specs.Prelude.{◌%◌, replicate, slice_set};
 
-    /// Those of a thread before its first step.
+    /// The registers of a thread before its first step.
     pub(crate) fn new(thread: u32) -> Self
         ensures { result ≡ slice_set (replicate 16 0) 7 thread }
     {

@@ -14,12 +14,11 @@ use crate::steps::Steps;
 use std::alloc::Global;
 use xray_io::NoMemory;
 
-/// Runs a thread from the entry function's start to its end. It finds its number in rdi. Entry and
-/// tail sleds do nothing, exit sleds are a `ret`, and each sled that is passed is counted; an
-/// instruction costs one of the fuel, and the passing of a sled none.
+/// Runs a thread from the start of the entry function to its end. Its number is in rdi. Entry and
+/// tail sleds do nothing, exit sleds are a `ret`, and each sled that is passed is counted. An
+/// instruction uses one unit of fuel, and the passing of a sled uses none.
 ///
-/// All memory is taken before the first step: for the whole of the stack and the output. `NoMemory`
-/// comes if some of it was refused.
+/// `NoMemory` means that an allocation was refused.
 pub fn plain_run(
     alloc: Global,
     steps: &Steps,
@@ -28,7 +27,7 @@ pub fn plain_run(
 ) -> Result<PlainEnd, NoMemory>
     ensures run { IfOk result (IsPlainEnd steps.now limits thread) }
     ensures registers { IfOk result (λ e. length e.regs.items ≡ 16) }
-    // No instruction names rsp or r10.
+    // rsp and r10 are 0, since no instruction names them.
     ensures unnamed { IfOk result (λ e.
         (slice_index e.regs.items 4 ≡ 0) × (slice_index e.regs.items 10 ≡ 0)) }
 {
@@ -47,7 +46,7 @@ pub fn plain_run(
     })
 }
 
-/// Runs a machine from the entry function's start to its end.
+/// Runs a machine from the start of the entry function to its end.
 fn run(machine: &mut Machine, steps: &Steps, limits: Limits) -> End
     requires within { IsWithin limits machine.old }
     ensures { (thread : ℕ) → RunsFrom steps.now limits thread

@@ -1,21 +1,21 @@
 use crate::limits::Limits;
 use xray_io::Wall;
 
-/// What a replay or a run is made with, beside its image and its script.
+/// What a replay or a run is made with, besides its image and its script.
 #[derive(Clone, Copy, Debug, PartialEq, Eq)]
 pub struct Setup {
     /// How many threads run, from 1 to 16.
     pub threads: u32,
-    /// How many bytes a buffer of events has, from 72 to 1,048,576.
+    /// The size of a buffer of events in bytes, from 72 to 1,048,576.
     pub size: u32,
-    /// How many buffers there are, from one a thread to 1,024.
+    /// How many buffers there are: at least one per thread, at most 1,024.
     pub max: u32,
-    /// What bounds each thread, and how its passings are stamped.
+    /// The limits of each thread, and how its passings are stamped.
     pub limits: Limits,
     /// The process's number, below 2^31.
     pub pid: u32,
     /// The wall time that is written in each buffer.
     pub wall: Wall,
-    /// How many cycles the counter makes in a second, as the trace's header tells it.
+    /// The frequency of the counter in cycles per second, as the trace's header says it.
     pub frequency: u64,
 }

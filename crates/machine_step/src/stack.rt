@@ -5,11 +5,10 @@ ghost use Rattle.std.specs.Prelude.{◌≡◌, ◌≢◌, ◌==◌, [], ◌∷�
 use std::alloc::{AllocError, Global};
 use std::marker::Model;
 
-/// How many values a stack has at the most.
+/// The most values on a stack.
 pub const STACK_LIMIT: usize = 65_536;
 
-/// The values that were pushed, return addresses among them, the top in front. All room is taken
-/// when it is made.
+/// The values that were pushed, including return addresses, top first. The room has a fixed size.
 #[derive(Drop)]
 pub(crate) struct Stack {
     values: Vec<u64>,
@@ -37,7 +36,7 @@ impl Stack {
         })
     }
 
-    /// Whether there is no room for a value more.
+    /// Whether there is no room for another value.
     #[inline]
     pub(crate) fn is_full(&self) -> bool
         ensures { result ≡ (length self.now == STACK_LIMIT) }
@@ -54,7 +53,7 @@ impl Stack {
         self.values.push_reserved(value);
     }
 
-    /// Pops the value on top. None where there is none.
+    /// Pops the value on top, or answers `None` if there is none.
     #[inline]
     pub(crate) fn pop(&mut self) -> Option<u64>
         ensures { MatchOption result ((self.old ≡ []) × (self.new ≡ []))

@@ -6,7 +6,7 @@ ghost use Rattle.xray_image.specs.Program.{Program};
 use handler_word::Mark;
 use sled_words::{PATCHED_HEAD, Part, word_of};
 
-/// The handler's word where no handler is set, and a release word that keeps its thread.
+/// The handler's word if no handler is set, and a release word that holds its thread.
 const UNSET: u64 = 0;
 
 /// The state of a log that records.
@@ -15,7 +15,7 @@ const INITIALIZED: u64 = 2;
 /// The word of a passing that a thread loads next.
 #[derive(Clone, Copy)]
 pub(crate) enum Stage {
-    /// The thread's release word, where the script holds it here.
+    /// The thread's release word, if the script holds the thread here.
     Release,
     /// The sled's head.
     Head,
@@ -27,7 +27,7 @@ pub(crate) enum Stage {
     Offset,
     /// The handler's word.
     Handler,
-    /// The log's state, where a handler is set.
+    /// The log's state, if a handler is set.
     State,
 }
 
@@ -40,7 +40,7 @@ pub(crate) enum Next {
     Ends(Mark),
 }
 
-/// The stage with which a passing begins.
+/// The stage that a passing begins with.
 pub(crate) fn first_stage(hold: Option<u32>, passing: u32) -> Stage
     ensures { result ≡ first_stage hold passing }
 {
@@ -50,7 +50,8 @@ pub(crate) fn first_stage(hold: Option<u32>, passing: u32) -> Stage
     }
 }
 
-/// The number of the word that is loaded at a stage of a passing of a sled, one of so many.
+/// The number of the word that is loaded at a stage of a passing of this sled. There are `sleds`
+/// sleds.
 pub(crate) fn word_at(stage: Stage, sled: u32, sleds: u32, thread: u32) -> u32
     requires exists { sled < sleds }
     requires few { sleds ≤ 4096 }
@@ -69,7 +70,7 @@ pub(crate) fn word_at(stage: Stage, sled: u32, sleds: u32, thread: u32) -> u32
     }
 }
 
-/// What a load of a value leads to.
+/// What the load of a value leads to.
 #[inline]
 pub(crate) fn behind_load(stage: Stage, value: u64) -> Next
     ensures { result ≡ behind_load stage value }

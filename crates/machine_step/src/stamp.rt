@@ -11,8 +11,7 @@ use fdr_record::{Event, Kind};
 use handler_word::Mark;
 use xray_image::{Sled, SledKind};
 
-/// The event of the passing of a sled that a machine is about to make, where its mark says that it
-/// is recorded.
+/// The event of the passing that a machine is about to make, if its mark says that it is recorded.
 pub(crate) fn event_at(
     sled: Sled,
     thread: u32,
@@ -45,7 +44,7 @@ fn cpu_at(thread: u32, passing: u32, limits: Limits) -> u16
     ((u64::from(thread) + moves) % u64::from(limits.cpus)) as u16
 }
 
-/// The cycle counter behind so many instructions. It wraps at 2^64.
+/// The counter after this many instructions. It wraps at 2^64.
 fn counter_at(instructions: u64, limits: Limits) -> u64
     ensures { result ≡ (limits.tsc + limits.tick * instructions) % 2 ^ 64 }
 {
@@ -54,7 +53,7 @@ fn counter_at(instructions: u64, limits: Limits) -> u64
         .wrapping_add(limits.tick.wrapping_mul(instructions))
 }
 
-/// The kind of an event at a sled of a kind.
+/// The kind of an event at a sled of this kind.
 fn event_kind(kind: SledKind) -> Kind
     ensures { result ≡ event_kind kind }
 {

@@ -1,4 +1,4 @@
-//! Where a thread stands, and how it runs from one sled to the next.
+//! Where a thread is, and how it runs from one sled to the next.
 
 ghost use Rattle.std.specs.Prelude.{◌≡◌, ◌<◌, ℕ, List};
 ghost use Rattle.xray_image.specs.Program.{IsAccepted};
@@ -13,10 +13,10 @@ use crate::stage::Stage;
 use crate::step::{Step, Way};
 use crate::steps::Steps;
 
-/// Where a thread stands between two loads.
+/// Where a thread is between two loads.
 #[derive(Clone, Copy)]
 pub(crate) enum Stand {
-    /// Before a sled that it has a passing for; `place` is the sled's place among the steps, and
+    /// Before a sled that it has a passing for. `place` is the sled's place among the steps, and
     /// `sled` its number in the map.
     Gate {
         place: usize,
@@ -62,7 +62,7 @@ pub(crate) fn run_to_sled(
     }
 }
 
-/// The sled of a step, where there is one and a passing is left for it.
+/// The sled of a step, if it has one and a passing is left for it.
 #[inline]
 fn due_sled(machine: &Machine, step: &Step, limits: Limits) -> Option<u32>
     ensures { result ≡ due_sled limits machine.now step.now }
@@ -73,7 +73,7 @@ fn due_sled(machine: &Machine, step: &Step, limits: Limits) -> Option<u32>
     step.sled()
 }
 
-/// Lets a machine that stands before a sled pass it, and run on to the next one or to its end.
+/// Lets a machine before a sled pass it, and run on to the next one or to its end.
 pub(crate) fn pass_sled(machine: &mut Machine, steps: &Steps, limits: Limits, place: usize) -> Stand
     requires accepted { (bytes : List ℕ) × IsAccepted bytes steps.now }
     requires within { IsWithin limits machine.old }

@@ -14,10 +14,10 @@ use crate::want::Want;
 use handler_word::{Marks, add_runs};
 use xray_io::{Sink, Text, WriteFault};
 
-/// Writes the state text of a thread that has ended: the three lines of its plain text and one of its
-/// marks, each with its line feed. Takes no memory.
+/// Writes the state text of a thread that has ended: the three lines of its plain text and one of
+/// its marks, each with its line feed.
 ///
-/// On `WriteFault` a front of the text was written, and the sink counted a fault.
+/// On `WriteFault` a prefix of the text was written, and the sink counted a fault.
 pub fn write_state<S: Sink>(thread: u32, cpu: &Cpu, sink: &mut S) -> Result<(), WriteFault>
     requires { IsDone cpu.now.want }
     ensures { WritesText S.written S.faults S.along sink.old sink.new
@@ -69,7 +69,7 @@ fn add_plain<S: Sink>(
     add_output(text, cpu.output())
 }
 
-/// Adds the line of a thread's marks to a text, for one that has more to say.
+/// Adds the line of a thread's marks to a text that may say more.
 pub fn add_marks<S: Sink>(text: &mut Text<S>, marks: &Marks) -> Result<(), WriteFault>
     ensures { AddsText S.written S.faults S.along text.old text.new
         (marks_line marks.now.items) result }

@@ -1,4 +1,4 @@
-//! The units of an image as the machine takes them: with all that its steps need at hand.
+//! The units of an image in the form that the machine runs.
 
 ghost use Rattle.std.specs.Prelude.{◌≡◌};
 ghost use Rattle.machine_step.specs.Steps.{sled_at, wants_fuel};
@@ -6,8 +6,8 @@ ghost use Rattle.machine_step.specs.Steps.{sled_at, wants_fuel};
 use crate::end::End;
 use subset_decode::Reg;
 
-/// What stands at a place of the code. Places are the numbers of units, and behind them one more at
-/// which nothing stands. A branch names the place that it leads to.
+/// What is at a place of the code. Places are the numbers of units. One more place comes after
+/// them, with nothing at it. A branch names the place that it leads to.
 #[derive(Clone, Copy)]
 pub(crate) enum Step {
     Mov { dst: Reg, imm: u32 },
@@ -15,24 +15,25 @@ pub(crate) enum Step {
     Sub { dst: Reg, src: Reg },
     Push { reg: Reg },
     Pop { reg: Reg },
-    /// `back` is the address behind it.
+    /// `back` is the address after it.
     Call { target: u32, back: u64 },
     Jmp { target: u32 },
     Jnz { target: u32 },
     Ret,
     Out,
-    /// A sled that does nothing: of an entry or before a tail jump. `sled` is its number in the map.
+    /// A sled that does nothing, at an entry or before a tail jump. `sled` is its number in the
+    /// map.
     Passing { sled: u32 },
-    /// A sled that returns: of an exit. `sled` is its number in the map.
+    /// A sled that returns, at an exit. `sled` is its number in the map.
     Leaving { sled: u32 },
     /// The alignment byte.
     Pad,
-    /// No unit: the place of all addresses at which no unit begins.
+    /// No unit: the place of all addresses where no unit begins.
     Nowhere,
 }
 
 impl Step {
-    /// Whether it is an instruction, and so wants fuel. A sled that returns wants it only behind
+    /// Whether it is an instruction, and so wants fuel. A sled that returns wants fuel only after
     /// its passing.
     #[inline]
     pub(crate) fn wants_fuel(&self) -> bool
@@ -44,7 +45,7 @@ impl Step {
         )
     }
 
-    /// The number of the sled, where it is one.
+    /// The number of the sled, if it is one.
     #[inline]
     pub(crate) fn sled(&self) -> Option<u32>
         ensures { result ≡ sled_at self.now }
@@ -61,7 +62,7 @@ impl Step {
 pub(crate) enum Way {
     /// To this place.
     To(usize),
-    /// Back to this address, which a `ret` popped.
+    /// Back to this address, popped by a `ret`.
     Back(u64),
     /// The thread ends.
     Ends(End),

@@ -13,9 +13,10 @@ use subset_decode::{Instr, LONGEST, encode};
 use xray_image::{Image, SledKind, Unit, What};
 use xray_io::NoMemory;
 
-/// An image as threads run it: a step of each unit, with the place that a branch goes to.
+/// An image as threads run it: a step for each unit. A step of a branch has the place that it goes
+/// to.
 ///
-/// It is made once, and all threads of the image borrow it. Contracts see it as the image's program.
+/// It is made once, and all threads of the image borrow it. In contracts it is the image's program.
 #[derive(Drop)]
 pub struct Steps<'i> {
     image: &'i Image,
@@ -36,11 +37,11 @@ impl<'i> Model for Steps<'i> {
 }
 
 impl<'i> Steps<'i> {
-    /// The steps of an image. Takes all memory of the table; `NoMemory` comes if it was refused.
+    /// The steps of an image. `NoMemory` means that an allocation was refused.
     pub fn new(alloc: Global, image: &'i Image) -> Result<Steps<'i>, NoMemory>
         ensures program { IfOk result (λ steps. steps ≡ image.now) }
     {
-        // Says that some accepted file holds the image.
+        // Called for its contract: some accepted file holds the image.
         image.base();
         let all = all_steps(alloc, image)?;
         Ok(Steps { image, all })
@@ -74,7 +75,7 @@ impl<'i> Steps<'i> {
         place_of(self.image, address) as usize
     }
 
-    /// The place at which threads start.
+    /// The place where threads start.
     pub(crate) fn start(&self) -> usize
         ensures place { IsPlaceOf self.now.units self.now.entry result }
         ensures accepted { (bytes : List ℕ) × IsAccepted bytes self.now }
@@ -83,7 +84,7 @@ impl<'i> Steps<'i> {
     }
 }
 
-/// A step of each unit, and one of no unit at the end. Takes memory once.
+/// A step for each unit, and at the end one that is no unit.
 fn all_steps(alloc: Global, image: &Image) -> Result<Vec<Step>, AllocError>
     requires { (bytes : List ℕ) × IsAccepted bytes image.now }
     ensures { IfOk result (λ all. AreStepsOf image.now all.items) }
@@ -108,14 +109,14 @@ fn place_of(image: &Image, address: u64) -> u32
     }
 }
 
-/// The place to which a branch leads that counts from an address.
+/// The place that a branch leads to. Its distance counts from the address `behind`.
 fn target_of(image: &Image, behind: u64, distance: i32) -> u32
     ensures { IsPlaceOf image.now.units (branched behind distance) result }
 {
     place_of(image, behind.wrapping_add_signed(i64::from(distance)))
 }
 
-/// The step of an instruction, where `behind` is the address behind it.
+/// The step of an instruction. `behind` is the address after it.
 fn step_of_instruction(image: &Image, behind: u64, instr: Instr) -> Step
     requires { IsNamed instr }
     ensures { IsStepOfInstruction image.now.units behind instr result }
@@ -141,7 +142,7 @@ fn step_of_instruction(image: &Image, behind: u64, instr: Instr) -> Step
     }
 }
 
-/// The step of the sled of a number, which is of this kind.
+/// The step of the sled with this number and of this kind.
 fn step_of_sled(sled: u32, kind: SledKind) -> Step
     ensures { result ≡ step_of_sled sled kind }
 {
@@ -151,7 +152,7 @@ fn step_of_sled(sled: u32, kind: SledKind) -> Step
     }
 }
 
-/// How many bytes an instruction has.
+/// The length of an instruction in bytes.
 fn length_of(instr: &Instr) -> u8
     ensures exact { result ≡ length (spelling instr.now) }
     ensures short { result ≤ LONGEST }

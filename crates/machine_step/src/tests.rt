@@ -6,6 +6,7 @@ use xray_image::read_image;
 use xray_io::MemSink;
 
 mod ends;
+mod sizes;
 mod traced;
 
 /// A function `main` that outputs an A: an entry sled, `mov eax, 0x41`, `out 1, al`, an exit sled.
@@ -28,7 +29,7 @@ const OUTPUTS_AN_A: [u8; 170] = [
     0, 0, 0, 0, 0, 0, 0, 0,
 ];
 
-/// The limits that a run has where nothing else is said.
+/// The limits of a run unless a test says otherwise.
 const DEFAULT_LIMITS: Limits = Limits {
     fuel: 10_000_000,
     passings: 1_048_576,

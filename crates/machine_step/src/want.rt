@@ -7,6 +7,6 @@ pub enum Want {
     Gate(u32),
     /// The value of the word of this number: the next load of the passing that it is in.
     Load(u32),
-    /// Nothing: it has ended so.
+    /// Nothing: it has ended in this way.
     Done(End),
 }

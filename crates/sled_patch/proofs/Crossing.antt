@@ -1,4 +1,4 @@
--- The table may be shared by threads.
+-- Threads may share the table.
 use denote.Param.Send.{IsSync, sendable}
 use Rattle.std.proofs.Crossing.{crosses}
 use Rattle.atomic_table.proofs.owned.Table.TheSendSync.{the_sync as words_sync, the_field_sync as words_field}

@@ -11,7 +11,7 @@ use sled_rule::{CodeTable, PatchSeat};
 use std::sync::Wait;
 use xray_io::Gate;
 
-/// Makes the micro steps before the place where threads start. They are stores alone.
+/// Makes the micro steps before the place where threads start. All of them are stores.
 pub fn run_prefix(table: &CodeTable, seat: &mut PatchSeat)
     requires own { IsPatcherOf table.now seat.old }
     requires begins { (patch_view seat.old).place ≡ 0 }
@@ -24,8 +24,9 @@ pub fn run_prefix(table: &CodeTable, seat: &mut PatchSeat)
     }
 }
 
-/// Makes all micro steps from the place on. The gate is called with the place before each store. At an await that isn't
-/// reached it waits and looks again, so it may wait forever where the awaited thread makes no more passings.
+/// Makes all micro steps from the place on. Calls the gate with the place before each store. At an
+/// await that isn't reached it waits and looks again. So it may wait forever, if the awaited thread
+/// makes no more passings.
 pub fn run_script<R: Wait, G: Gate + Sync>(
     rt: &R,
     table: &CodeTable,

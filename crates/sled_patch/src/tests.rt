@@ -1,4 +1,4 @@
-//! Runs of scripts over the table of an image with one function that outputs an A.
+//! Runs of scripts over the table of an image with one function that prints an A.
 
 ghost use Rattle.std.specs.Prelude.{◌≡◌, ◌+◌, ◌*◌, ◌<◌, ◌≤◌, [], length, IfOk};
 ghost use Rattle.std.specs.Thread.{IsSync};
@@ -18,7 +18,8 @@ use text_lines::count_lines;
 use xray_image::read_image;
 use xray_io::OpenGate;
 
-/// A function `main` that outputs an A: an entry sled at 0x1000, `mov eax, 0x41`, `out 1, al` and an exit sled at 0x1012.
+/// A function `main` that prints an A: an entry sled at 0x1000, `mov eax, 0x41`, `out 1, al` and an
+/// exit sled at 0x1012.
 const OUTPUTS_AN_A: [u8; 170] = [
     // magic, version, base 0x1000
     0x58, 0x52, 0x49, 0x4D, 1, 0, 0, 0, 0x00, 0x10, 0, 0, 0, 0, 0, 0,
@@ -80,13 +81,13 @@ fn unpatching_a_sled_that_was_never_patched_leaves_the_code_as_it_was(
     Ok(())
 }
 
-/// Stores that wait for both threads on the way.
+/// Stores that wait for both threads in between.
 const LIVE: &[u8] = b"go\nawait 1 10\npatch\nawait 2 20\nunpatch\nawait 1 30\npatch\nawait 2 40\n";
 
 /// The words of both sleds before any store.
 const FIRST: [u64; 8] = [0x09EB, 0x841F_0F66, 0, 512, 0x2EC3, 0x841F_0F66, 0, 512];
 
-/// The micro steps of the script, each with the word and the value that it stores; awaits store nothing.
+/// The micro steps of the script: the word and the value of each store, and nothing for an await.
 const STEPS: [Option<(u32, u64)>; 22] = [
     None,
     Some((1, 1)),
@@ -112,7 +113,7 @@ const STEPS: [Option<(u32, u64)>; 22] = [
     None,
 ];
 
-/// The value of a word behind the first micro steps.
+/// The value of a word after the first micro steps.
 fn value_at(place: usize, word: u32) -> u64 {
     let mut value = FIRST.get(word as usize).copied().unwrap_or(0);
     for step in STEPS.iter().take(place) {
@@ -125,7 +126,7 @@ fn value_at(place: usize, word: u32) -> u64 {
     value
 }
 
-/// The first place from one on at which a word has a value.
+/// The first place, from `from` on, at which a word has a value.
 fn place_of(word: u32, value: u64, from: usize) -> Option<usize> {
     (from..23).find(|place| value_at(*place, word) == value)
 }
@@ -137,8 +138,8 @@ struct Walked {
     lawful: bool,
 }
 
-/// Fetches the words of both sleds again and again, and ends. A value is lawful where it stood in its word, at places
-/// that never fall.
+/// Fetches the words of both sleds again and again, and ends. A value is lawful if its word had it
+/// at some place, and these places never fall.
 fn walk(table: &CodeTable, mut seat: WorkSeat) -> Walked
     requires own { IsWorkerOf table.now seat }
     requires words { 8 ≤ code_words (script_of table.now) }
@@ -180,7 +181,7 @@ struct Run {
     second: Walked,
 }
 
-/// Lets two threads fetch while a third runs the script.
+/// Lets two threads fetch while a third one runs the script.
 fn run_beside<R: Threads + Wait + Sync>(
     rt: &R,
     table: &CodeTable,
@@ -229,7 +230,7 @@ fn run_beside<R: Threads + Wait + Sync>(
     }
 }
 
-/// Lets two threads fetch beside each other.
+/// Lets two threads fetch at the same time.
 fn walk_both<R: Threads + Sync>(
     rt: &R,
     table: &CodeTable,

@@ -21,7 +21,7 @@ use Rattle.sled_rule.proofs.Keeps.{IsLater, still, stays, known_work, known_patc
 use Rattle.sled_rule.proofs.Patching.{knowing_core}
 
 module _ (plan : Plan) where
-  -- a seat's view is cut in two
+  -- a seat's view is split in two
   comes : (s : State (Unit {0}) View) (r : KeepsCode plan s) (p' : PatchView) (owner' : ℕ → ℕ) (me : ℕ) (left right : View) → IsCore plan s.words p'
       → IsLater plan s.words s.words r.patch p' r.owner owner' me
       → Knows plan s.words p' r.patcher owner' me left → Knows plan s.words p' r.patcher owner' (length (set s.views me left)) right
@@ -117,7 +117,7 @@ module _ (plan : Plan) where
       comes s r r.patch r.owner id (Work v) (Tally (tally_at v)) r.core (still plan s.words r.patch r.owner id)
       k record { script = k.script; first = k.first; given = k.given; count = omega arith } (λ j a b. refl)
 
-  -- what the other seat's view tells
+  -- what the other seat's view says
   other_view : (s : State (Unit {0}) View) (r : KeepsCode plan s) (id other : ℕ) (both w w' : View) → ¬ (other ≡ id) → get_elem? (set s.views id both) other ≡ some w → w ≡ w'
       → Knows plan s.words r.patch r.patcher r.owner other w'
   other_view s r id other both w w' apart at is = subst (Knows plan s.words r.patch r.patcher r.owner other) is (r.each other w (sym (set_else s.views id other both apart) ∙ at))

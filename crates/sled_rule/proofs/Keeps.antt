@@ -1,4 +1,4 @@
--- What a step leaves to other seats, and the rule behind a step.
+-- What a step leaves to other seats, and the rule after a step.
 use Rattle.std.proofs.Common.{◌≡◌, ◌≢◌, inl, inr, ℕ, ◌<◌, ◌≤◌, List, [], ◌∷◌, ◌++◌, length, get_or, set, sym, refl, ◌∙◌, subst, arith}
 use Rattle.std.proofs.Common.{get_or-set_other, get_or-set_same}
 use mathlib.Core.Logic.{dite}
@@ -17,7 +17,7 @@ use Rattle.sled_rule.specs.declared.views.View.TheVariants.{Patch, Work, Note, T
 use Rattle.patch_script.specs.Plans.{Plan}
 use Rattle.sled_rule.specs.Rule.{progress, progress_slot, Rises, IsLawful, IsMet, IsCore, IsWork, Knows, KeepsCode}
 
--- what other seats rely on over a step, but for the seat `me`
+-- what the other seats, all but `me`, rely on over a step
 pub record IsLater (plan : Plan) (words words' : List ℕ) (p p' : PatchView) (owner owner' : ℕ → ℕ) (me : ℕ) : Type 0 where
   pub place : p.place ≤ p'.place
   pub given : p.given ≤ p'.given
@@ -55,7 +55,7 @@ module _ (plan : Plan) where
       }
   stays words words' p p' owner owner' patcher me j l other same Spent k = tt
 
-  -- the rule behind a step of the seat
+  -- the rule after a step of the seat
   pub moves : (s : State (Unit {0}) View) (r : KeepsCode plan s) (words' : List ℕ) (homes' : List (maybe.Option (Unit {0}))) (p' : PatchView) (owner' : ℕ → ℕ) (me : ℕ) (w : View)
       → IsCore plan words' p' → IsLater plan s.words words' r.patch p' r.owner owner' me → Knows plan words' p' r.patcher owner' me w
       → ((j : ℕ) → j ≢ me → j ≡ r.patcher → r.patch ≡ p')
@@ -71,7 +71,7 @@ module _ (plan : Plan) where
     ];
   }
 
-  -- the same at a load, which leaves the words
+  -- the same for a load, which leaves the words as they are
   pub loads : (s : State (Unit {0}) View) (r : KeepsCode plan s) (i : ℕ) (homes' : List (maybe.Option (Unit {0}))) (p' : PatchView) (owner' : ℕ → ℕ) (me : ℕ) (w : View)
       → IsCore plan s.words p' → IsLater plan s.words s.words r.patch p' r.owner owner' me → Knows plan s.words p' r.patcher owner' me w
       → ((j : ℕ) → j ≢ me → j ≡ r.patcher → r.patch ≡ p')
@@ -79,14 +79,14 @@ module _ (plan : Plan) where
   loads s r i homes' p' owner' me w core later mine same =
       subst (λ (ws : List ℕ). KeepsCode plan record { words = ws; homes = homes'; views = set s.views me w }) (sym (set-get_or s.words i 0)) (moves s r s.words homes' p' owner' me w core later mine same)
 
-  -- what the seat's own view tells
+  -- what the seat's own view says
   pub known_work : (s : State (Unit {0}) View) (r : KeepsCode plan s) (me : ℕ) (view : View) (v : WorkView) → get_elem? s.views me ≡ some view → view ≡ Work v → IsWork plan s.words r.patch r.owner me v
   known_work s r me view v at is = subst (Knows plan s.words r.patch r.patcher r.owner me) is (r.each me view at)
 
   pub known_patch : (s : State (Unit {0}) View) (r : KeepsCode plan s) (me : ℕ) (view : View) (p : PatchView) → get_elem? s.views me ≡ some view → view ≡ Patch p → (p ≡ r.patch) × (me ≡ r.patcher)
   known_patch s r me view p at is = subst (Knows plan s.words r.patch r.patcher r.owner me) is (r.each me view at)
 
-  -- progress words that a store leaves, or raises
+  -- progress words that a store leaves as they are, or raises
   pub progress_else : (words : List ℕ) (i n t : ℕ) → progress_slot plan t ≢ i → progress plan (set words i n) t ≡ progress plan words t
   progress_else words i n t other = get_or-set_other words i (progress_slot plan t) n 0 other
 

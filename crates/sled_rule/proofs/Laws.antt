@@ -14,7 +14,7 @@ use Rattle.patch_script.specs.Refusals.{commands_of}
 use Rattle.patch_script.specs.StoredWords.{AreCodeAt}
 use Rattle.sled_rule.specs.Plans.{code_in, bound_in, start_in, total_in, micro_in, code_words}
 
--- the code behind one more micro step
+-- the code after one more micro step
 abbrev pub CodeNext : Plan → Type 0
 CodeNext plan = (place word : ℕ) → code_in plan (place + 1) word ≡ unwrap_or (stored_in word (micro_in plan place)) (code_in plan place word)
 
@@ -31,7 +31,7 @@ pub code_first : ((program : Program) (script : List Command) (threads : ℕ) �
 unfolding code_in
 code_first said plan word within = said plan.program (commands_of plan.lines) plan.threads word within
 
--- a place behind no await for more passings than a thread has made is within the bound of its passing
+-- a place that comes after no await for more passings than a thread has made is within the bound of its passing
 abbrev pub BoundReached : Plan → Type 0
 BoundReached plan = (thread passing place : ℕ) → place ≤ total_in plan
     → ((i count : ℕ) → i < place → micro_in plan i ≡ Await thread count → count ≤ passing) → place ≤ bound_in plan thread passing
@@ -56,7 +56,7 @@ pub total_is : (plan : Plan) (total : ℕ) → total ≡ total_of plan.program (
 unfolding total_in
 total_is plan total is = sym is
 
--- ---- a store or an await stands within the script
+-- ---- a store or an await is within the script
 
 store_before_end : (steps : List Micro) (place word value : ℕ) → unwrap_or (slice_get steps place) End ≡ Store word value → place < length steps
 store_before_end [] place word value is = cc
@@ -76,7 +76,7 @@ pub await_within : (plan : Plan) (place thread count : ℕ) → micro_in plan pl
 unfolding micro_in total_in
 await_within plan place thread count is = await_before_end (micros plan.program (commands_of plan.lines)) place thread count is
 
--- ---- the code behind a store, and behind an await
+-- ---- the code after a store, and after an await
 
 pub code_stored : (plan : Plan) → CodeNext plan → (place word value w : ℕ) → micro_in plan place ≡ Store word value
     → code_in plan (place + 1) w ≡ unwrap_or (stored_in w (Store word value)) (code_in plan place w)
@@ -88,7 +88,7 @@ pub code_awaited : (plan : Plan) → CodeNext plan → (place thread count w : �
 code_awaited plan next place thread count w is =
     subst (λ (m : Micro). code_in plan (place + 1) w ≡ unwrap_or (stored_in w m) (code_in plan place w)) is (next place w)
 
--- the end stands at the last place
+-- the end is at the last place
 pub end_is : (plan script : Plan) (place at : ℕ) (IsEnd : Type 0) → script ≡ plan → place ≡ at → at ≤ total_in script
     → IsEnd ↔ (total_of plan.program (commands_of plan.lines) ≤ place) → IsEnd ↔ (at ≡ total_in plan)
 unfolding total_in
@@ -98,7 +98,7 @@ end_is plan script place at IsEnd same here within said =
       λ is. said.1 (omega arith),
     )
 
--- a word that the script stores in is none of the progress words
+-- a word that the script stores in isn't a progress word
 pub stored_here : (plan : Plan) (word value : ℕ) → IsWithin plan (Store word value) → word < code_words plan
 unfolding code_words
 stored_here plan word value within = within

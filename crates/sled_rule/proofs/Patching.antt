@@ -24,7 +24,7 @@ use Rattle.sled_rule.proofs.Keeps.{IsLater, still, moves, loads, known_patch, pr
 
 -- ---- a store of the script
 
--- a word behind a store
+-- a word after a store
 stored_word : (words : List ℕ) (i n w before : ℕ) → i < length words → get_or words w 0 ≡ before
     → get_or (set words i n) w 0 ≡ unwrap_or (stored_in w (Store i n)) before
 stored_word words i n w before inside is = dite (ℕ_discrete i w)
@@ -83,7 +83,7 @@ patches plan next slots id me word n p is at_step inside s r _ at _ =
 
 -- ---- a load of the progress word that is awaited
 
--- what the words hold, where more of a thread is known
+-- what the words hold, if more of a thread is known
 pub knowing_core : (plan : Plan) (words : List ℕ) (p : PatchView) (t n : ℕ) → IsCore plan words p → n ≤ progress plan words t → IsCore plan words (knowing p t n)
 knowing_core plan words p t n core le = record {
   script = core.script;

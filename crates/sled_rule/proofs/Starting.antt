@@ -40,7 +40,7 @@ zeros_behind_zeros zero m j = zeros m j
 zeros_behind_zeros (suc n) m zero = refl
 zeros_behind_zeros (suc n) m (suc j) = zeros_behind_zeros n m j
 
--- behind the sleds' words there are zeros
+-- after the sleds' words there are zeros
 behind_sleds : (program : Program) (threads more i : ℕ) → 4 * length program.sleds ≤ i → get_or (initial_words program threads ++ replicate more 0) i 0 ≡ 0
 behind_sleds program threads more i behind =
     let all : List ℕ = all_sled_words program in

@@ -19,13 +19,13 @@ use Rattle.sled_rule.proofs.Keeps.{IsLater, still, moves, loads, known_work, pro
 
 -- ---- a load
 
--- the first place from `low` on at which a word has a value
+-- the first place, from `low` on, at which a word has a value
 record IsFirst (f : ℕ → ℕ) (value low place : ℕ) : Type 0 where
   from : low ≤ place
   here : f place ≡ value
   before : (p : ℕ) → low ≤ p → p < place → f p ≡ value → ⊥
 
--- where some place has the value, there is a first one, no further
+-- if some place has the value, there is a first one at or before it
 first_place : (f : ℕ → ℕ) (value low n : ℕ) → f (low + n) ≡ value → (place : ℕ) × (place ≤ low + n) × IsFirst f value low place
 first_place f value low zero e =
     (low, omega arith, record { from = omega arith; here = let z : low + 0 ≡ low = omega arith in ap f (sym z) ∙ e; before = λ p a b. absurd (omega arith) })
@@ -50,7 +50,7 @@ reaches : (plan : Plan) → BoundReached plan → (words : List ℕ) (p : PatchV
 reaches plan bounds words p owner me v core k =
     bounds v.thread v.count p.place core.place (λ i c l e. let a = core.awaited i v.thread c l e in let b = k.count in omega arith)
 
--- a seat's view behind a load
+-- a seat's view after a load
 loading_work : (plan : Plan) (words : List ℕ) (p : PatchView) (owner : ℕ → ℕ) (me : ℕ) (v : WorkView) (word value place : ℕ) → IsCore plan words p → IsWork plan words p owner me v
     → place ≤ p.place → place ≤ bound_in plan v.thread v.count → IsFirst (λ x. code_in plan x word) value v.seen place → IsWork plan words p owner me (loading v word value place)
 loading_work plan words p owner me v word value place core k le bound l =
@@ -100,7 +100,7 @@ fetches plan bounds slots id me word v is inside s r _ at _ =
 
 -- ---- a store of the thread's count
 
--- what the words hold behind it
+-- what the words hold after it
 counted_core : (plan : Plan) (words : List ℕ) (p : PatchView) (owner : ℕ → ℕ) (me : ℕ) (v : WorkView) (n : ℕ) → IsCore plan words p → IsWork plan words p owner me v → v.count ≤ n
     → IsCore plan (set words (progress_slot plan v.thread) n) p
 counted_core plan words p owner me v n core k le =

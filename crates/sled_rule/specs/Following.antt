@@ -11,7 +11,7 @@ use Rattle.sled_rule.specs.Rule.{IsLawful, Rises}
 abbrev pub IsFollowing : WorkView → Type 0
 IsFollowing v = Rises v.script v.thread (start_in v.script) v.loads v.seen
 
--- it is a fact: it has one proof at most
+-- it has at most one proof
 lawful_prop : (plan : Plan) (thread : ℕ) (load : Load) → IsProp (IsLawful plan thread load)
 lawful_prop plan thread load = hlevel props
 

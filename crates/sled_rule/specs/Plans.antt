@@ -1,4 +1,4 @@
--- A script as the table's rule speaks of it: what stands where, and when.
+-- A script as the table's rule speaks of it: what is where, and when.
 use Rattle.std.specs.Prelude.{◌≡◌, ℕ}
 use Rattle.sled_words.specs.Words.{code_word_count}
 use Rattle.patch_script.specs.declared.micro.Micro.{Micro}
@@ -17,7 +17,7 @@ code_in plan place word = code_at plan.program (commands_of plan.lines) place wo
 unfoldable pub bound_in : Plan → ℕ → ℕ → ℕ
 bound_in plan thread passing = bound_of plan.program (commands_of plan.lines) thread passing
 
--- the place where threads start, and the place behind all micro steps
+-- the place where threads start, and the place after all micro steps
 unfoldable pub start_in : Plan → ℕ
 start_in plan = start_of plan.program (commands_of plan.lines)
 

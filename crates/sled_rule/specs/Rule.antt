@@ -1,4 +1,4 @@
--- The rule of the table: what holds of its words, and of what the seats know, between any two steps.
+-- The rule of the table: what is true of its words, and of what the seats know, between any two steps.
 use Rattle.std.specs.Prelude.{◌≡◌, ℕ, ◌+◌, ◌*◌, ◌<◌, ◌≤◌, List, [], ◌∷◌, length, slice_index}
 use mathlib.Core.Option.{some}
 use lib.ListN.{get_elem?}
@@ -16,12 +16,12 @@ use Rattle.sled_rule.specs.declared.views.View.TheVariants.{Patch, Work, Note, T
 use Rattle.sled_rule.specs.Plans.{code_in, bound_in, start_in, total_in, micro_in, code_words}
 use Rattle.sled_rule.specs.Views.{ended_count, first_patch}
 
--- Where a thread's progress word stands in the table: behind the words that are fetched, each in a cache line of its own, which is eight
--- words. Callers name it by its number, as if it stood beside its neighbours.
+-- Where the progress word of a thread is in the table. Progress words come after the words that are fetched, each in a
+-- cache line of its own, which is eight words. Callers use its number, as if progress words were next to each other.
 abbrev pub progress_slot : Plan → ℕ → ℕ
 progress_slot plan thread = code_words plan + 8 * thread
 
--- how many words the table has for that
+-- how many words the table has, with these lines
 abbrev pub slot_count : Plan → ℕ
 slot_count plan = code_words plan + 8 * (plan.threads + 1)
 
@@ -29,7 +29,7 @@ slot_count plan = code_words plan + 8 * (plan.threads + 1)
 abbrev pub progress : Plan → List ℕ → ℕ → ℕ
 progress plan words thread = slice_index words (progress_slot plan thread)
 
--- a load found a value that its word has at its place, which is within the bound of the passing
+-- a load found a value that its word has at its place, and the place is within the bound of the passing
 pub record IsLawful (plan : Plan) (thread : ℕ) (load : Load) : Type 0 where
   pub value : code_in plan load.place load.word ≡ load.value
   pub bound : load.place ≤ bound_in plan thread load.count
@@ -46,7 +46,7 @@ pub record IsMet (met : List Met) (thread : ℕ) : Type 0 where
   pub at : get_elem? met index ≡ some one
   pub is : one.thread ≡ thread
 
--- a thread that was met had a seat, had seen no place that is to come, and has ended
+-- a thread that was met had a seat, had seen no place that is still to come, and has ended
 pub record WasMet (plan : Plan) (words : List ℕ) (p : PatchView) (one : Met) : Type 0 where
   pub first : 0 < one.thread
   pub given : one.thread ≤ p.given
@@ -59,21 +59,21 @@ pub record IsCore (plan : Plan) (words : List ℕ) (p : PatchView) : Type 0 wher
   pub wide : length words ≡ slot_count plan
   pub place : p.place ≤ total_in plan
   pub given : p.given ≤ plan.threads
-  -- each word but the progress words is the code at the place
+  -- each word, except the progress words, is the code at the place
   pub code : (word : ℕ) → word < code_words plan → slice_index words word ≡ code_in plan p.place word
-  -- threads have seats only from the start on
+  -- threads have seats only after the start
   pub started : 0 < p.given → start_in plan ≤ p.place
   pub met : (i : ℕ) (one : Met) → get_elem? p.met i ≡ some one → WasMet plan words p one
   -- no thread was met twice
   pub once : (i j : ℕ) (one other : Met) → get_elem? p.met i ≡ some one → get_elem? p.met j ≡ some other → one.thread ≡ other.thread → i ≡ j
   -- a thread without a seat has made no passing
   pub idle : (thread : ℕ) → p.given < thread → thread ≤ plan.threads → progress plan words thread ≡ 0
-  -- each await that was passed is reached
+  -- each await that was passed was reached
   pub awaited : (i thread count : ℕ) → i < p.place → micro_in plan i ≡ Await thread count → count ≤ progress plan words thread
   pub room : length p.known ≡ plan.threads + 1
   pub known : (thread : ℕ) → thread ≤ plan.threads → slice_index p.known thread ≤ progress plan words thread
 
--- what the seat of a number knows that is a thread's; each thread has one owner
+-- what a thread's seat of this number knows; each thread has one owner
 pub record IsWork (plan : Plan) (words : List ℕ) (p : PatchView) (owner : ℕ → ℕ) (seat : ℕ) (v : WorkView) : Type 0 where
   pub script : v.script ≡ plan
   pub first : 0 < v.thread
@@ -95,7 +95,7 @@ pub record IsTally (plan : Plan) (words : List ℕ) (p : PatchView) (v : TallyVi
   pub given : v.thread ≤ p.given
   pub count : v.count ≤ progress plan words v.thread
 
--- what the view of the seat of a number says is so; there is one patcher
+-- what the view of the seat of this number says is so; there is one patcher
 module _ (plan : Plan) (words : List ℕ) (p : PatchView) (patcher : ℕ) (owner : ℕ → ℕ) (seat : ℕ) where
   abbrev pub Knows : View → Type 0
   Knows (Patch v) = (v ≡ p) × (seat ≡ patcher)

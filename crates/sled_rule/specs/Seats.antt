@@ -46,8 +46,8 @@ IsNoteOf table note = (note.seat.table_id ≡ table.table.shared.table_id) × ((
 abbrev pub IsTallyOf : CodeTable → Tally → Type 0
 IsTallyOf table tally = (tally.seat.table_id ≡ table.table.shared.table_id) × ((tally_view tally).script ≡ script_of table)
 
--- The awaited thread had a value, no less than what was known of it and known from then on. The answer is whether the value reaches the
--- await's count; where it does, the await is passed.
+-- The awaited thread had a value. It is at least what was known of the thread, and is known from then on. The answer is
+-- whether the value reaches the await's count. If it does, the await is passed.
 pub record IsLooked (old : PatchView) (result : Bool) (new : PatchView) : Type 0 where
   pub thread : ℕ
   pub count : ℕ

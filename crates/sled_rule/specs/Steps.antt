@@ -1,4 +1,4 @@
--- What each step of a seat tells it.
+-- What each step of a seat lets it learn.
 use Rattle.std.specs.Prelude.{◌≡◌, ℕ, ◌<◌, ◌≤◌, [], slice_index}
 use mathlib.Core.Option.{some}
 use lib.ListN.{get_elem?}
@@ -42,8 +42,8 @@ tally_of _ = record { script = no_plan; thread = 0; count = 0 }
 
 -- ---- steps
 
--- A value was found in a word: it stands there at a place that isn't before what the seat had seen, nor past the bound of its passing.
--- Of such places it is the first.
+-- A value was found in a word. The word has it at a place that isn't before what the seat had seen, and isn't past the
+-- bound of its passing. The place is the first such place.
 pub record IsFetched (old : WorkView) (word value : ℕ) (new : WorkView) : Type 0 where
   pub place : ℕ
   pub from : old.seen ≤ place
@@ -52,7 +52,7 @@ pub record IsFetched (old : WorkView) (word value : ℕ) (new : WorkView) : Type
   pub first : (before : ℕ) → old.seen ≤ before → before < place → code_in old.script before word ≡ value → ⊥
   pub view : new ≡ loading old word value place
 
--- a step of a seat, and a seat's view with the slots that it holds, which are none
+-- a step of a seat, and a seat's view with its slots, of which there are none
 abbrev At : Type 0
 At = Step (Unit {0})
 
@@ -76,7 +76,7 @@ looked step before found after =
     → (slice_index (patch_of before.0).known thread ≤ found) × (after.0 ≡ Patch (looked_at (patch_of before.0) thread count found)))
     × (after.1 ≡ before.1)
 
--- no thread that was met had seen a place that is to come
+-- no thread that was met had seen a place that is still to come
 abbrev pub confirmed : At → Sat → ℕ → Sat → Type 0
 confirmed step before found after =
     (after.0 ≡ before.0) × (after.1 ≡ before.1)

@@ -13,7 +13,7 @@ ended_count = 18446744073709551615
 
 -- ---- the patcher's
 
--- at first: no micro step was made, no thread has a seat, and nothing is known of any
+-- at first: no micro step was made, no thread has a seat, and nothing is known of any thread
 abbrev pub first_patch : Plan → PatchView
 first_patch plan = record { script = plan; place = 0; given = 0; met = []; known = replicate (plan.threads + 1) 0 }
 
@@ -29,7 +29,7 @@ giving p = record p { given = p.given + 1 }
 abbrev pub knowing : PatchView → ℕ → ℕ → PatchView
 knowing p thread count = record p { known = slice_set p.known thread count }
 
--- an await for a count was looked at, and the thread had a value; the await is passed where that reaches the count
+-- an await for a count was looked at, and the thread had a value; if that reaches the count, the await is passed
 abbrev pub looked_at : PatchView → ℕ → ℕ → ℕ → PatchView
 looked_at p thread count value = record p {
   place = (if nat_lt value count then p.place else p.place + 1);

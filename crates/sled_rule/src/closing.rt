@@ -15,15 +15,16 @@ use atomic_table::Closed;
 use std::alloc::Global;
 
 impl CodeTable {
-    /// How many words there are by number: those before the progress words, and one for each thread.
+    /// How many words there are by number: those before the progress words, and one per thread.
     pub fn word_count(&self) -> u32
         ensures { result ≡ word_count (script_of self.now).program (script_of self.now).threads }
     {
         self.code_len as u32 + self.threads
     }
 
-    /// Ends the table, and writes its last words into a slice, each at its number: those of the script at the place, and
-    /// the progress words of the threads. All seats that were given were met.
+    /// Ends the table, and writes its last words into a slice, each at its number: those of the
+    /// script at the place, and the progress words of the threads. All seats that were given have
+    /// to be met before.
     pub fn close(self, seat: PatchSeat, into: &mut [u64])
         requires own { IsPatcherOf self seat }
         requires met { AllMet (patch_view seat) }
@@ -32,7 +33,7 @@ impl CodeTable {
             → slice_index into.new word ≡ code_in (script_of self) (patch_view seat).place word }
         ensures ended { (thread : ℕ) → 0 < thread → thread ≤ (patch_view seat).given
             → slice_index into.new (progress_word (script_of self).program (script_of self).threads thread) ≡ ended_count }
-        // A thread that was given no seat has made no passing.
+        // A thread without a seat has made no passing.
         ensures idle { (thread : ℕ) → (patch_view seat).given < thread → thread ≤ (script_of self).threads
             → slice_index into.new (progress_word (script_of self).program (script_of self).threads thread) ≡ 0 }
     {
@@ -53,7 +54,8 @@ impl CodeTable {
     }
 }
 
-/// Copies the words to their numbers: the first ones, and then those that stand a line apart.
+/// Copies the words to their numbers: first those next to each other, and then those in cache lines
+/// of their own.
 fn copy_words(closed: &Closed<(), Global>, code_len: usize, into: &mut [u64])
     requires full { IsFull closed.now.words }
     requires few { code_len ≤ length into.old }

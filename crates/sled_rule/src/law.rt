@@ -4,8 +4,8 @@ use crate::views::View;
 use atomic_table::TableRule;
 use patch_script::Script;
 
-/// The rule of the code table: between any two steps the words are the code at the patcher's place, and no seat knows
-/// anything that isn't so. The table's key is its script.
+/// The rule of the code table. Between any two steps the words are the code at the patcher's place,
+/// and no seat knows anything that isn't so. The table's key is its script.
 pub struct CodeRule;
 
 impl TableRule<(), View, Script> for CodeRule {

@@ -1,8 +1,8 @@
 //! Code words that threads load while one patcher stores them, under a rule.
 //!
-//! A `CodeTable` has the words and the script. What a call does, and what it says, goes by seats: the patcher's, one a
-//! thread, and the notes and tallies by which one of them learns what another knows. `views` has what a seat knows, and
-//! `law` the rule that all of it keeps between any two steps.
+//! A `CodeTable` has the words and the script. Calls go by seats: the patcher has one, and so has
+//! each thread. By notes and tallies one of them learns what another knows. `views` has what a seat
+//! knows. `law` has the rule that all of it keeps between any two steps.
 #![tactic(auto)]
 
 mod closing;

@@ -16,10 +16,10 @@ use xray_image::Image;
 use xray_io::NoMemory;
 
 impl CodeTable {
-    /// A table with the words of an image and of so many threads, before the first micro step of a script that was read
-    /// for both; and the patcher's seat.
+    /// A table with the words of an image and of `threads` threads, before the first micro step of
+    /// a script that was read for both, and the patcher's seat.
     ///
-    /// Takes all memory of the table. `NoMemory` comes where some of it was refused.
+    /// `NoMemory` means that an allocation was refused.
     pub fn new(
         alloc: Global,
         image: &Image,
@@ -34,7 +34,7 @@ impl CodeTable {
         ensures view { IfOk result (λ made. patch_view made.1 ≡ first_patch script) }
     {
         stores_give_the_code();
-        // Says that there are few micro steps.
+        // Called for its contract: there are few micro steps.
         script.total();
         let code_len = 4 * image.sled_count() as usize + 2 + threads as usize;
         let words = opening_words(alloc, image, threads, code_len)?;
@@ -61,7 +61,7 @@ impl CodeTable {
     }
 }
 
-/// The words before the script, with progress words that stand apart.
+/// The words before the script, with progress words in cache lines of their own.
 fn opening_words(
     alloc: Global,
     image: &Image,
@@ -73,7 +73,7 @@ fn opening_words(
     ensures { IfOk result (λ words. words.items
         ≡ words_before image.now threads ++ replicate (8 + 7 * threads) 0) }
 {
-    // Says that there are few sleds.
+    // Called for its contract: there are few sleds.
     image.sled_count();
     let mut words = initial_words(alloc, image, threads)?;
     words.resize(code_len + LINE * (threads as usize + 1), 0)?;

@@ -17,7 +17,8 @@ use atomic_table::Seat;
 use patch_script::{Micro, stores_give_the_code};
 
 impl CodeTable {
-    /// The micro step at the place, which is made next. `End` exactly where all were made.
+    /// The micro step at the place, which is made next. The answer is `End` exactly when all were
+    /// made.
     pub fn next_micro(&self, seat: &PatchSeat) -> Micro
         requires own { IsPatcherOf self.now seat.now }
         ensures micro { micro_in (script_of self.now) (patch_view seat.now).place ≡ result }
@@ -54,14 +55,14 @@ impl CodeTable {
         }
     }
 
-    /// Looks whether the thread that the micro step at the place awaits has made its passings, and passes the await where
-    /// it has. It loads the thread's progress word once.
+    /// Looks whether the thread that the micro step at the place awaits has made its passings. If
+    /// it has, the await is passed. Loads the thread's progress word once.
     pub fn look(&self, seat: &mut PatchSeat) -> bool
         requires own { IsPatcherOf self.now seat.old }
         requires waits { IsAwaitAt (script_of self.now) (patch_view seat.old).place }
         ensures own { IsPatcherOf self.now seat.new }
         ensures looked { IsLooked (patch_view seat.old) result (patch_view seat.new) }
-        // An await whose count is known to be reached is passed.
+        // If it is known that an await's count is reached, the await is passed.
         ensures known { (thread count : ℕ)
             → micro_in (script_of self.now) (patch_view seat.old).place ≡ Await thread count
             → count ≤ slice_index (patch_view seat.old).known thread → result ≡ true }
@@ -98,8 +99,8 @@ impl CodeTable {
         self.table.shared.load::<Look>(seat, word)
     }
 
-    /// The seat of the next thread, from 1 on, which has seen what was stored before threads start. It is given at the
-    /// place where they start.
+    /// The seat of the next thread, from 1 on. It has seen all stores before the place where
+    /// threads start. Seats are given at that place.
     pub fn split(&self, seat: &mut PatchSeat) -> WorkSeat
         requires own { IsPatcherOf self.now seat.old }
         requires starts { (patch_view seat.old).place ≡ start_in (script_of self.now) }
@@ -136,7 +137,7 @@ impl CodeTable {
         self.table.shared.load::<Confirm>(&mut seat.seat, 0);
     }
 
-    /// Writes the place down, for a thread. The seat stays as it is.
+    /// Writes the place into a note for a thread. The seat stays as it is.
     pub fn note(&self, seat: &mut PatchSeat) -> Note
         requires own { IsPatcherOf self.now seat.old }
         ensures own { IsPatcherOf self.now seat.new }
@@ -148,7 +149,8 @@ impl CodeTable {
         Note { seat }
     }
 
-    /// Takes in a tally: what is known of its thread becomes the tally's count, where that is more.
+    /// Takes in a tally. If the tally's count is more than what is known of its thread, it is known
+    /// from then on.
     pub fn heed(&self, seat: &mut PatchSeat, tally: Tally)
         requires own { IsPatcherOf self.now seat.old }
         requires own_tally { IsTallyOf self.now tally }

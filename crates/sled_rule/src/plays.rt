@@ -1,4 +1,4 @@
-//! The kinds of step, each with what it tells its seat.
+//! The kinds of steps. Each says what its seat learns.
 
 ghost use Rattle.sled_rule.specs.Steps.{fetched, counted, patched, looked, confirmed};
 
@@ -53,7 +53,7 @@ impl Split<View> for Give {
     ghost right = { λ v. Work (next_work (patch_of v)) };
 }
 
-/// The patcher writes its place down.
+/// The patcher writes its place into a note.
 pub(crate) struct WriteNote;
 
 impl Split<View> for WriteNote {
@@ -66,7 +66,7 @@ impl Split<View> for WriteNote {
     ghost right = { λ v. Note (note_at (patch_of v)) };
 }
 
-/// A thread writes its count down.
+/// A thread writes its count into a tally.
 pub(crate) struct WriteTally;
 
 impl Split<View> for WriteTally {
@@ -105,7 +105,7 @@ impl Join<View> for Heed {
     ghost spent = { Spent };
 }
 
-/// The patcher takes a thread's seat back.
+/// The patcher takes back a thread's seat.
 pub(crate) struct Meet;
 
 impl Join<View> for Meet {

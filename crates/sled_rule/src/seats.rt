@@ -1,5 +1,5 @@
-//! The seats of a table: what the patcher, a thread, a note and a tally know of it. They have no lifetime and may go to
-//! other threads.
+//! The seats of a table: what the patcher, a thread, a note and a tally know of it. They have no
+//! lifetime, and may go to other threads.
 
 ghost use Rattle.std.specs.Prelude.{◌≡◌, ◌<◌, ◌≤◌, []};
 ghost use Rattle.sled_rule.specs.declared.views.View.TheVariants.{Patch, Work, Note, Tally};
@@ -10,7 +10,7 @@ ghost use Rattle.sled_rule.specs.Steps.{patch_of, work_of, note_of, tally_of};
 use crate::views::View;
 use atomic_table::Seat;
 
-/// The patcher's seat: who has it makes the script's micro steps, one after the other.
+/// The patcher's seat. Its holder makes the script's micro steps, one after the other.
 #[derive(Drop)]
 pub struct PatchSeat {
     pub(crate) place: u64,
@@ -21,7 +21,7 @@ pub struct PatchSeat {
     ghost within: { (patch_of seat.me.0).place ≤ total_in (patch_of seat.me.0).script },
 }
 
-/// A thread's seat: who has it loads words for this thread.
+/// A thread's seat. Its holder loads words for this thread.
 #[derive(Drop)]
 pub struct WorkSeat {
     pub(crate) thread: u32,
@@ -33,14 +33,15 @@ pub struct WorkSeat {
     ghost one: { (0 < thread) × (thread ≤ (work_of seat.me.0).script.threads) },
 }
 
-/// A place of the patcher. A thread that hears it loads nothing older.
+/// A place of the patcher. After hearing it, a thread loads nothing older.
 #[derive(Drop)]
 pub struct Note {
     pub(crate) seat: Seat<(), View>,
     ghost is: { (seat.me.0 ≡ Note (note_of seat.me.0)) × (seat.me.1 ≡ []) },
 }
 
-/// A thread and a count of its passings. A patcher that heeds it passes each await for no more of them.
+/// A thread and a count of its passings. After heeding it, the patcher passes each await of the
+/// thread for at most that many.
 #[derive(Drop)]
 pub struct Tally {
     pub(crate) seat: Seat<(), View>,
@@ -71,7 +72,7 @@ impl WorkSeat {
         self.thread
     }
 
-    /// How many passings the thread has made; 2^64 - 1 where it has ended.
+    /// How many passings the thread has made, or 2^64 - 1 if it has ended.
     #[inline]
     pub fn count(&self) -> u64
         ensures { result ≡ (work_view self.now).count }

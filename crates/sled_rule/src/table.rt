@@ -13,10 +13,11 @@ use std::alloc::Global;
 /// How many words a progress word takes in the table: a cache line of 64 bytes.
 pub(crate) const LINE: usize = 8;
 
-/// The words of an image's sleds and of the threads that pass them. One patcher stores in them what a script says, while
-/// threads load them.
+/// The words of an image's sleds and of the threads that pass them. One patcher stores in them what
+/// a script says, while threads load them.
 ///
-/// Every step is one sequentially consistent load or store of one word. None of them waits or takes memory.
+/// Every step is one sequentially consistent load or store of one word. No step waits for another
+/// thread.
 #[derive(Drop)]
 pub struct CodeTable {
     pub(crate) script: Script,

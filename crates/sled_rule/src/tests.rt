@@ -1,4 +1,4 @@
-//! The calls of a table one after the other, on an image with one function that outputs an A.
+//! The calls of a table one after the other, on an image with one function that prints an A.
 
 ghost use Rattle.std.specs.Prelude.{◌≡◌, ◌<◌, ◌≤◌, ◌*◌, ◌+◌, length, IfOk};
 ghost use Rattle.sled_words.specs.Words.{word_count};
@@ -13,7 +13,8 @@ use std::test::Fail;
 use text_lines::count_lines;
 use xray_image::read_image;
 
-/// A function `main` that outputs an A: an entry sled at 0x1000, `mov eax, 0x41`, `out 1, al` and an exit sled at 0x1012.
+/// A function `main` that prints an A: an entry sled at 0x1000, `mov eax, 0x41`, `out 1, al` and an
+/// exit sled at 0x1012.
 const OUTPUTS_AN_A: [u8; 170] = [
     // magic, version, base 0x1000
     0x58, 0x52, 0x49, 0x4D, 1, 0, 0, 0, 0x00, 0x10, 0, 0, 0, 0, 0, 0,
@@ -46,7 +47,7 @@ fn begin<R: Abort + AllocGlobal>(rt: &R, text: &[u8]) -> Result<(CodeTable, Patc
     Ok(made)
 }
 
-/// Makes some stores, which are what the script says next.
+/// Makes `stores` stores. They are what the script says next.
 fn store(rt: &impl Abort, table: &CodeTable, seat: &mut PatchSeat, stores: u32)
     requires { IsPatcherOf table.now seat.old }
     ensures own { IsPatcherOf table.now seat.new }
@@ -60,7 +61,7 @@ fn store(rt: &impl Abort, table: &CodeTable, seat: &mut PatchSeat, stores: u32)
     }
 }
 
-/// Looks at an await, which is what the script says next.
+/// Looks at an await. It is what the script says next.
 fn look(rt: &impl Abort, table: &CodeTable, seat: &mut PatchSeat) -> bool
     requires { IsPatcherOf table.now seat.old }
     ensures own { IsPatcherOf table.now seat.new }
@@ -85,7 +86,7 @@ fn finish(table: CodeTable, mut seat: PatchSeat, mut worker: WorkSeat, into: &mu
     table.close(seat, into);
 }
 
-/// The head of the first sled, as a thread finds it that was told of all stores so far.
+/// The head of the first sled, as a thread finds it after hearing of all stores so far.
 fn told_head(table: &CodeTable, patcher: &mut PatchSeat, worker: &mut WorkSeat) -> u64
     requires patcher { IsPatcherOf table.now patcher.old }
     requires worker { IsWorkerOf table.now worker.old }

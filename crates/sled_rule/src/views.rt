@@ -1,4 +1,4 @@
-//! What each seat knows, for contracts alone: no value of these types is made.
+//! What each seat knows, for contracts only: no value of these types is made.
 
 use patch_script::Script;
 
@@ -10,12 +10,12 @@ pub struct Load {
     pub word: u64,
     /// The value that was found.
     pub value: u64,
-    /// The place of the script that was found for the value: the first one, from what the seat had seen, at which the
-    /// word has it.
+    /// The place of the script for the value: the first one at which the word has it, from what the
+    /// seat had seen on.
     pub place: u64,
 }
 
-/// A thread that was met, with what its seat had seen.
+/// A thread that was met, and what its seat had seen.
 pub struct Met {
     pub thread: u64,
     pub seen: u64,
@@ -28,9 +28,9 @@ pub struct PatchView {
     pub place: u64,
     /// How many threads were given seats.
     pub given: u64,
-    /// The threads that were met, the last one first. A clause sees a list of any length.
+    /// The threads that were met, the last one first. In clauses this is a list of any length.
     pub met: [Met; 0],
-    /// For each thread a count that it has at least reached, at the thread's number.
+    /// For each thread, at its number, a count that it has reached or passed.
     pub known: [u64; 0],
 }
 
@@ -39,9 +39,10 @@ pub struct WorkView {
     pub script: Script,
     /// The thread's number, from 1.
     pub thread: u64,
-    /// A place of the script that the patcher has come to: no load of the seat finds anything older.
+    /// A place of the script that the patcher has come to. No load of the seat finds anything
+    /// older.
     pub seen: u64,
-    /// How many passings the thread has made; 2^64 - 1 where it has ended.
+    /// How many passings the thread has made, or 2^64 - 1 if it has ended.
     pub count: u64,
     /// The loads of the seat in order.
     pub loads: [Load; 0],
@@ -70,6 +71,6 @@ pub enum View {
     Note(NoteView),
     /// A tally's.
     Tally(TallyView),
-    /// A seat, note or tally that was handed back.
+    /// That of a seat, note or tally that was handed back.
     Spent,
 }

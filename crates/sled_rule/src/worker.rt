@@ -12,7 +12,7 @@ use crate::table::{CodeTable, LINE};
 use patch_script::awaits_bound_passings;
 
 impl CodeTable {
-    /// How many words there are before the progress words: the numbers that may be fetched are those below.
+    /// How many words there are before the progress words. Words with lower numbers may be fetched.
     #[inline]
     pub fn code_word_count(&self) -> u32
         ensures { result ≡ code_words (script_of self.now) }
@@ -20,8 +20,8 @@ impl CodeTable {
         self.code_len as u32
     }
 
-    /// Loads a word: its value at a place of the script that isn't before what the seat has seen, which becomes that place.
-    /// The word is none of the progress words.
+    /// Loads a word, which isn't a progress word. Its value is that at a place of the script which
+    /// isn't before what the seat has seen. From then on the seat has seen that place.
     #[inline]
     pub fn fetch(&self, seat: &mut WorkSeat, word: u32) -> u64
         requires own { IsWorkerOf self.now seat.old }
@@ -35,7 +35,7 @@ impl CodeTable {
             .load::<Fetch>(&mut seat.seat, word as usize)
     }
 
-    /// The thread has made one more passing: stores the count in its progress word.
+    /// The thread has made one more passing. Stores the count in its progress word.
     #[inline]
     pub fn passed(&self, seat: &mut WorkSeat)
         requires own { IsWorkerOf self.now seat.old }
@@ -46,7 +46,8 @@ impl CodeTable {
         self.count_to(seat, seat.count + 1);
     }
 
-    /// The thread has ended: stores 2^64 - 1 in its progress word, so that no await is left to wait for it.
+    /// The thread has ended. Stores 2^64 - 1 in its progress word, so that no await waits for it
+    /// any more.
     pub fn ended(&self, seat: &mut WorkSeat)
         requires own { IsWorkerOf self.now seat.old }
         requires going { (work_view seat.old).count < ended_count }
@@ -56,7 +57,7 @@ impl CodeTable {
         self.count_to(seat, u64::MAX);
     }
 
-    /// Stores a count, which is no less than the one before.
+    /// Stores a count that isn't less than the one before.
     #[inline]
     fn count_to(&self, seat: &mut WorkSeat, count: u64)
         requires own { IsWorkerOf self.now seat.old }
@@ -71,7 +72,7 @@ impl CodeTable {
         seat.count = count;
     }
 
-    /// Writes the thread's count down, for the patcher. The seat stays as it is.
+    /// Writes the thread's count into a tally for the patcher. The seat stays as it is.
     pub fn tally(&self, seat: &mut WorkSeat) -> Tally
         requires own { IsWorkerOf self.now seat.old }
         ensures own { IsWorkerOf self.now seat.new }
@@ -83,7 +84,8 @@ impl CodeTable {
         Tally { seat }
     }
 
-    /// Takes in a note: what the seat has seen becomes the note's place, where that is later.
+    /// Takes in a note. If the note's place is later than what the seat has seen, the seat has seen
+    /// that place from then on.
     pub fn hear(&self, seat: &mut WorkSeat, note: Note)
         requires own { IsWorkerOf self.now seat.old }
         requires own_note { IsNoteOf self.now note }

@@ -1,1 +1,13 @@
+pub mod Adding
+pub mod Ascents
+pub mod Depth
+pub mod Frames
+pub mod Lines
+pub mod Nesting
 pub mod Opening
+pub mod Results
+pub mod RowsOf
+pub mod Spending
+pub mod Sums
+pub mod Threads
+pub mod Trees

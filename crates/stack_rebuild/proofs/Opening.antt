@@ -1,4 +1,4 @@
--- The innermost open call of a function, among calls that are listed from the outermost inwards.
+-- The innermost open call of a function, in a list of calls from the outermost to the innermost.
 use Rattle.std.proofs.Common.{◌≡◌, ℕ, Bool, true, false, cond, List, [], ◌∷◌, reverse, count_by, refl, ap, ◌∙◌, arith, nat_eq}
 use Rattle.std.proofs.lemmas.List.Sorted.{sum_by-IsPermutation, IsPermutation-reverse}
 use Rattle.std.proofs.lemmas.List.Sums.{sum_by-cons}
@@ -19,7 +19,7 @@ none_from func (call ∷ outer) none = by_first (nat_eq call.func func) refl (no
     by_first true is behind = absurd (omega (arith, sum_by-cons (one_of func) call outer, ap {B = ℕ} (λ b. cond b 1 0) is))
     by_first false is behind = behind (omega (arith, sum_by-cons (one_of func) call outer))
 
--- where no call is of the function, none is its innermost one
+-- if no call is of the function, none is its innermost one
 pub from_innermost-none : (func : ℕ) (calls : List Call) → count_by (is_of func) calls ≡ 0 → from_innermost func (reverse calls) ≡ []
 from_innermost-none func calls none =
     none_from func (reverse calls) (sum_by-IsPermutation (one_of func) calls (reverse calls) (IsPermutation-reverse calls) ∙ none)

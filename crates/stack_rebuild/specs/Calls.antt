@@ -1,5 +1,5 @@
--- The calls of one thread: which are open, and which pairs of an entry and an exit its events make.
--- A history is what a thread's events were so far, listed from the last one to the first. A position counts a thread's events from 0.
+-- The calls of one thread: which are open, and which pairs of an entry and an exit its events make. A history is the
+-- events of a thread so far, listed from the last one to the first. A position counts a thread's events from 0.
 use Rattle.std.specs.Prelude.{◌+◌, ◌-◌, ◌%◌, ◌^◌, ◌==◌, ℕ, suc, List, [], ◌∷◌, ◌++◌, length, reverse, Option, Some, None, if◌then◌else◌}
 use Rattle.std.specs.Option.{option_to_list}
 use Rattle.fdr_record.specs.declared.event.Event.{Event}
@@ -8,23 +8,23 @@ use Rattle.fdr_record.specs.declared.event.Kind.TheVariants.{Entry, Exit, TailEx
 use Rattle.stack_rebuild.specs.declared.call.Call.{Call}
 use Rattle.stack_rebuild.specs.declared.call.Pair.{Pair}
 
--- how far a counter went on from one value to another, in 64 bits
+-- how far a counter advances from one value to another, in 64 bits
 abbrev pub cycles_between : ℕ → ℕ → ℕ
 cycles_between from to = (to + (2 ^ 64 - from)) % 2 ^ 64
 
--- Open calls are listed from the innermost outwards.
+-- Open calls are listed from the innermost to the outermost.
 
--- the calls from the innermost one of a function outwards: none where no call of it is open
+-- the calls from the innermost one of a function outwards, or none if no call of the function is open
 abbrev pub from_innermost : ℕ → List Call → List Call
 from_innermost func [] = []
 from_innermost func (call ∷ outer) = if call.func == func then call ∷ outer else from_innermost func outer
 
--- what an exit leaves open: the calls outside the one that it ends, or all where it ends none
+-- what an exit leaves open: the calls outside the one that it ends, or all if it ends none
 abbrev pub left_open : List Call → List Call → List Call
 left_open calls [] = calls
 left_open calls (ended ∷ outer) = outer
 
--- the calls that are open after an event at a position, from those before it
+-- the calls that are open after an event at a position, by those before it
 abbrev pub open_after_kind : Kind → Event → ℕ → List Call → List Call
 open_after_kind Entry e at calls = record { entry = at; func = e.func; tsc = e.tsc } ∷ calls
 open_after_kind Exit e at calls = left_open calls (from_innermost e.func calls)
@@ -43,7 +43,7 @@ abbrev pub pair_of_call : Event → ℕ → List Call → Option Pair
 pair_of_call e at [] = None
 pair_of_call e at (ended ∷ outer) = Some (record { func = e.func; entry = ended.entry; exit = at; duration = cycles_between ended.tsc e.tsc })
 
--- the pair that an event at a position makes, from the calls that are open before it
+-- the pair that an event at a position makes, by the calls that are open before it
 abbrev pub pair_at_kind : Kind → Event → ℕ → List Call → Option Pair
 pair_at_kind Entry e at calls = None
 pair_at_kind Exit e at calls = pair_of_call e at (from_innermost e.func calls)
@@ -61,7 +61,7 @@ pairs_in (e ∷ before) = pairs_in before ++ option_to_list (pair_at e (length b
 abbrev pub pairs_of : List Event → List Pair
 pairs_of events = pairs_in (reverse events)
 
--- where a thread stands: how many events it had, and its open calls
+-- a thread after some events: how many there were, and its open calls
 pub record Standing : Type 0 where
   pub events : ℕ
   pub calls : List Call
@@ -69,6 +69,6 @@ pub record Standing : Type 0 where
 abbrev pub standing_after : List Event → Standing
 standing_after history = record { events = length history; calls = open_calls history }
 
--- where it stands after one more event
+-- the thread after one more event
 abbrev pub next_standing : Event → Standing → Standing
 next_standing e before = record { events = suc before.events; calls = open_after e before.events before.calls }

@@ -1,4 +1,5 @@
--- The histories of a trace, whose threads' events come block by block. A history is listed from the last event to the first.
+-- The histories of a trace, to which the threads add events block by block. A history is listed from the last event to
+-- the first.
 use Rattle.std.specs.Prelude.{◌==◌, ℕ, List, [], ◌∷◌, ◌++◌, length, reverse, map, if◌then◌else◌}
 use Rattle.std.specs.List.{flat_map}
 use Rattle.std.specs.Option.{option_to_list}
@@ -25,11 +26,11 @@ logged thread event = record { thread = thread; event = event }
 abbrev pub all_events : List Block → List Logged
 all_events blocks = flat_map (λ block. map (logged block.thread) block.events) blocks
 
--- what a whole trace comes to
+-- the history of a whole trace
 abbrev pub history_of : Trace → List Logged
 history_of trace = reverse (all_events trace.blocks)
 
--- the part of a history that is of one thread
+-- the part of a history that belongs to one thread
 abbrev pub of_thread : ℕ → List Logged → List Event
 of_thread thread [] = []
 of_thread thread (l ∷ before) = if l.thread == thread then l.event ∷ of_thread thread before else of_thread thread before

@@ -1,10 +1,10 @@
--- What the fields of a thread's open calls tell.
+-- What the fields of a thread's open calls say.
 use Rattle.std.specs.Prelude.{reverse}
 use Rattle.stack_rebuild.specs.declared.calls.ThreadCalls.TheInside.{Inside}
 use Rattle.stack_rebuild.specs.Calls.{Standing}
 use Rattle.stack_rebuild.specs.Counts.{AreCountsOf}
 
--- where the thread stands
+-- where the thread is
 abbrev pub standing_in : Inside → Standing
 standing_in a = record { events = a.events; calls = reverse a.calls.items }
 

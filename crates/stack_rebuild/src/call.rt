@@ -1,4 +1,4 @@
-/// A call that is open: its entry was recorded, and no exit that ends it.
+/// An open call: its entry was recorded, and no exit that ends it.
 #[derive(Clone, Copy, Debug, PartialEq, Eq)]
 pub struct Call {
     /// The position of its entry among the events of its thread, from 0.
@@ -18,6 +18,6 @@ pub struct Pair {
     pub entry: usize,
     /// The position of the exit or tail exit, from 0.
     pub exit: usize,
-    /// How far the counter went on from the entry to the exit, in cycles and in 64 bits.
+    /// How far the counter advanced from the entry to the exit, in cycles and in 64 bits.
     pub duration: u64,
 }

@@ -12,18 +12,17 @@ use std::collections::HashMap;
 use std::marker::Model;
 use xray_io::NoMemory;
 
-/// Where a thread stands after its events so far: how many they were, and which calls are open.
-/// Contracts see these two.
+/// A thread after its events so far. In contracts it is how many events there were, and which calls
+/// are open.
 ///
-/// An entry opens a call. An exit or tail exit ends the innermost open call of its function, and with
-/// it those that were made in it, whose exits were lost; where no call of the function is open, it
-/// changes nothing. Each event takes a bounded number of look-ups, beside a step for each call that it
-/// ends.
+/// An entry opens a call. An exit or tail exit ends the innermost open call of its function. It
+/// also ends the calls that were made in that call and are still open, whose exits were lost. If no
+/// call of the function is open, it changes nothing.
 #[derive(Debug, Drop)]
 pub struct ThreadCalls {
     /// How many events there were.
     events: usize,
-    /// The open calls, the outermost first.
+    /// The open calls, outermost first.
     calls: Vec<Call>,
     /// How many calls of each function are open.
     counts: HashMap<u32, usize>,
@@ -60,15 +59,15 @@ impl ThreadCalls {
         self.calls.len()
     }
 
-    /// Goes on by the thread's next event, and answers the pair that it makes. After `NoMemory` the
-    /// thread is lost: nothing is said of where it stands.
+    /// Takes the thread's next event, and answers the pair that it makes. After `NoMemory` no
+    /// clause says where the thread is.
     pub fn take(&mut self, event: &Event) -> Result<Option<Pair>, NoMemory>
         ensures pair { IfOk result (λ pair.
             pair ≡ pair_at event.now self.old.events self.old.calls) }
         ensures stands { OnOk result (self.new ≡ next_standing event.now self.old) }
     {
         let at = self.events;
-        // No memory holds a trace of more events.
+        // No trace in memory has more events.
         self.events = at.checked_add(1).ok_or(NoMemory)?;
         match event.kind {
             Kind::Entry => {
@@ -107,7 +106,7 @@ fn pair_with(event: &Event, at: usize, ended: &Call) -> Pair
     }
 }
 
-/// Opens a call inside those that are open.
+/// Opens a call inside the open ones.
 fn open_call(
     calls: &mut Vec<Call>,
     counts: &mut HashMap<u32, usize>,
@@ -127,7 +126,7 @@ fn open_call(
     }
 }
 
-/// Ends the innermost open call of a function, and with it those that were made in it.
+/// Ends the innermost open call of a function, and all calls that were made in it.
 fn end_call(calls: &mut Vec<Call>, counts: &mut HashMap<u32, usize>, func: u32) -> Option<Call>
     requires { AreCountsOf calls.old.items counts.old }
     ensures ended { MatchOption result

@@ -5,7 +5,23 @@ mod call;
 mod calls;
 mod counts;
 mod matching;
+mod path_numbers;
+mod path_sums;
+mod refusal;
+mod scan;
+mod stack_row;
+mod stack_text;
+mod stacks_of;
+mod thread_blocks;
+mod thread_stack;
 
 pub use call::{Call, Pair};
 pub use calls::ThreadCalls;
 pub use matching::{pairs, thread_events};
+pub use scan::MOST_OPEN;
+pub use stack_row::{StackFault, StackRow};
+pub use stack_text::{StackForm, write_stack};
+pub use stacks_of::stacks;
+
+#[cfg(test)]
+mod tests;

@@ -1,4 +1,4 @@
-//! The pairs of a thread, and the events of one.
+//! The pairs of a thread's events, and the events of one thread.
 
 ghost use Rattle.std.specs.Prelude.{◌≡◌, IfOk};
 ghost use Rattle.stack_rebuild.specs.Calls.{pairs_of};
@@ -11,10 +11,10 @@ use fdr_record::Event;
 use std::alloc::Global;
 use xray_io::NoMemory;
 
-/// The pairs that the events of a thread make, in the order of their exits. An exit or tail exit belongs
-/// to the innermost open call of its function; the calls that were made in it and are still open end
-/// with it and are in no pair, and neither is an exit of a function that isn't open. The time is linear
-/// in the number of events.
+/// The pairs that the events of a thread make, in the order of their exits. An exit or tail exit
+/// belongs to the innermost open call of its function. Calls that were made in that call and are
+/// still open end with it, and are in no pair. An exit of a function with no open call is in no
+/// pair either. `NoMemory` means that an allocation was refused.
 pub fn pairs(alloc: Global, events: &[Event]) -> Result<Vec<Pair>, NoMemory>
     ensures { IfOk result (λ pairs. pairs.items ≡ pairs_of events.now) }
 {

@@ -36,7 +36,7 @@ pub records_of : (p : Patcher) (ts : List Traced) (pool : Pool) (i : ℕ) (t : T
     → Records p t pool
 records_of p ts pool i t (r, pooled, at) found = (r, pooled, record_of r pooled p ts pool i t at found)
 
--- so many turns of one thread
+-- n turns of one thread
 pub turns_recorded : (r : Recording) (pooled : Pooled) (p : Patcher) (ts : List Traced) (pool pool' : Pool) (i n : ℕ) (old new : Traced)
     → AllRecordAt r pooled p ts pool → slice_get ts i ≡ Some old → IsSameThread old new
     → RecordAt r (turns n (turn_in r old.thread) pooled) p new pool'
@@ -63,7 +63,7 @@ thread_recorded r pooled p ts pool pool' line number count i old new is place at
     let numbered = subst (λ (k : ℕ). AllRecordAt r (turns count (turn_in r k) pooled) p (slice_set ts i new) pool') place moved in
     subst (λ (l : Turns). AllRecordAt r (line_in r pooled l) p (slice_set ts i new) pool') (sym is) numbered
 
--- steps of the patcher leave the loads and the stock
+-- steps of the patcher leave the loads and the stock as they are
 steps_stock : (cast : Cast) (n : ℕ) (pooled : Pooled) → (turns n (pooled_step cast) pooled).stock ≡ pooled.stock
 steps_stock cast zero pooled = refl
 steps_stock cast (suc n) pooled = steps_stock cast n (pooled_step cast pooled)
@@ -97,7 +97,7 @@ patcher_recorded r pooled old new ts pool line count is at there =
 
 -- ---- lines
 
--- lines lead all on
+-- lines lead all threads on
 abbrev pub LeadRecords : List Turns → Patcher → List Traced → Pool → Patcher → List Traced → Pool → Type 0
 LeadRecords lines p ts pool p' ts' pool' =
     (r : Recording) (pooled : Pooled) → AllRecordAt r pooled p ts pool → AllRecordAt r (fold (line_in r) pooled lines) p' ts' pool'

@@ -22,7 +22,7 @@ use Rattle.step_sim.proofs.OneThread.{same_again, thread_moved}
 
 -- ---- lists
 
--- an item of a list in which one was set
+-- an item of a list in which one item was set
 pub set_cases : {X : Type 0} (ts : List X) (i j : ℕ) (new t : X) → slice_get (slice_set ts i new) j ≡ Some t
     → ((j ≡ i) × (t ≡ new)) ⊎ ((j ≢ i) × (slice_get ts j ≡ Some t))
 set_cases ts i j new t found =
@@ -95,7 +95,7 @@ one_moved cast threads limits m m' p ts i old new at found same there room other
         let own = others t.thread its.first other in
         thread_moved cast m m' t t its (same_again t) room (subst (HasLoaded t its.passed) (sym own) its.loaded)
 
--- so many turns of one thread
+-- n turns of one thread
 pub turns_moved : (cast : Cast) (threads : ℕ) (limits : Limits) (m : Moment) (p : Patcher) (ts : List Traced) (i n : ℕ) (old new : Traced)
     → AllStandAt cast threads limits m p ts → slice_get ts i ≡ Some old → IsSameThread old new
     → StandAt cast (turns n (thread_turn cast old.thread) m) p new
@@ -140,7 +140,7 @@ patcher_line cast threads limits m old new ts line count is at patcher words =
 
 -- ---- lines
 
--- lines lead all on
+-- lines lead all threads on
 abbrev pub LeadAll : List Turns → Patcher → List Traced → Patcher → List Traced → Type 0
 LeadAll lines p ts p' ts' =
     (cast : Cast) (threads : ℕ) (limits : Limits) (m : Moment) → AllStandAt cast threads limits m p ts
@@ -163,7 +163,7 @@ pub play_on : (lines : List Turns) (p q : Patcher) (ts us : List Traced) → Lea
 play_on lines p q ts us leads (cast, threads, limits, m, at) =
     (cast, threads, limits, fold (line_turns cast) m lines, leads cast threads limits m at)
 
--- as many as before
+-- there are as many as before
 pub same_count : (lines : List Turns) (p q : Patcher) (ts us : List Traced) → LeadAll lines p ts q us → AllPlay p ts → length us ≡ length ts
 same_count lines p q ts us leads (cast, threads, limits, m, at) = (leads cast threads limits m at).count ∙ sym at.count
 
@@ -206,7 +206,7 @@ run_count n p ts us runs (cast, threads, limits, m, at) =
     let here = runs cast threads limits m at in
     here.2.count ∙ sym at.count
 
--- the first threads rest, and one more does
+-- the first threads rest, and so does one more
 abbrev pub FirstRest : ℕ → List Traced → Type 0
 FirstRest n ts = (i : ℕ) (t : Traced) → i < n → slice_get ts i ≡ Some t → Rests t
 

@@ -29,7 +29,7 @@ pub at_start : (program : Program) (script : List Command) (s : Inside) → Hold
 at_start program script s holds =
     subst (λ (x : Start). HoldsStart x s) (sym (start_is program script (start_of program script) s holds.patcher)) holds
 
--- ---- what play asks for
+-- ---- what `play` asks for
 
 pub started : SmallIds → (start : Start) (s : Inside) → start_in s ≡ start → IsAtStart s
     → Begun start.program start.script start.setup s.patcher s.cpus.items s.pool

@@ -30,7 +30,7 @@ use Rattle.step_sim.proofs.ReplayAlong.{first_along, no_loads, of_thread_is}
 some_is_not_none : (n : ℕ) → Some n ≡ None → ⊥
 some_is_not_none n e = cc
 
--- a script at which nobody waits holds no thread
+-- a script at which nothing may wait holds no thread
 pub no_holds : (lines : Lines) → waiting_line lines ≡ None → (number : ℕ) → hold_of number (commands_of lines) ≡ None
 no_holds [] e number = refl
 no_holds ((n, commands.Patch) ∷ rest) e number = no_holds rest e number
@@ -90,7 +90,7 @@ item_of lists i number e =
     let back : number - 1 ≡ i = omega (arith, e) in
     ap (λ (k : ℕ). unwrap_or (slice_get lists k) []) back
 
--- all threads and the patcher stand at the first moment
+-- all threads and the patcher are at the first moment
 pub begins : (program : Program) (script : List Command) (threads : ℕ) (limits : Limits) (p : Patcher) (ts : List Traced)
     → length ts ≡ threads → AllHaveBegun program script threads limits ts → ((number : ℕ) → hold_of number script ≡ None)
     → IsPatcherAt program script (start_of program script) p → vec_len p.words ≡ word_count program threads → (its : Gathered ts)

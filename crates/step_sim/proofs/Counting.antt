@@ -10,7 +10,7 @@ use Rattle.step_sim.proofs.PoolLemmas.{eqb_is, eqb_not}
 
 -- ---- sums over threads
 
--- the sum of what is counted for n threads, from one of a number on
+-- the sum of what is counted for n threads, from one thread on
 abbrev pub summed : (ℕ → ℕ) → ℕ → ℕ → ℕ
 summed F first zero = 0
 summed F first (suc n) = F first + summed F (first + 1) n
@@ -44,7 +44,7 @@ summed_runs f F (run ∷ runs) first (suc n) count is =
 
 -- ---- one thread has one more
 
--- one more for a thread
+-- one more for one thread
 abbrev pub with_one : ℕ → (ℕ → ℕ) → ℕ → ℕ
 with_one owner F t = if owner == t then suc (F t) else F t
 
@@ -76,7 +76,7 @@ abbrev pub IsSegmentOf : ℕ → Item → Type 0
 IsSegmentOf threads Fresh = ⊥
 IsSegmentOf threads (Segment thread serial) = (1 ≤ thread) × (thread ≤ threads)
 
--- the item is fresh, or such a segment
+-- the item isn't begun, or is such a segment
 abbrev pub IsItemOf : ℕ → Item → Type 0
 IsItemOf threads Fresh = Unit {0}
 IsItemOf threads (Segment thread serial) = (1 ≤ thread) × (thread ≤ threads)
@@ -105,14 +105,14 @@ summed_among threads (Segment owner serial ∷ items) ((low, high), own) =
     ∙ summed_one owner (λ k. segments_among k items) 1 threads low (omega (arith, high))
     ∙ ap suc (summed_among threads items own)
 
--- ---- a queue of fresh buffers and segments
+-- ---- a queue of buffers that aren't begun, and of segments
 
 pub all_segments : (threads : ℕ) (items : List Item) → AllByRecursion (IsSegmentOf threads) items → segment_items items ≡ length items
 all_segments threads [] own = refl
 all_segments threads (Fresh ∷ items) (here, own) = absurd here
 all_segments threads (Segment thread serial ∷ items) (here, own) = ap suc (all_segments threads items own)
 
--- the segments among the first items: as many as there are behind the fresh ones
+-- the segments among the first items: as many as come after the ones that aren't begun
 pub first_segments : (threads spare n : ℕ) (pushed : List Item) → AllByRecursion (IsSegmentOf threads) pushed → n ≤ spare + length pushed
     → segment_items (take n (replicate spare Fresh ++ pushed)) ≡ n - spare
 first_segments threads zero zero pushed own few = refl
@@ -150,7 +150,7 @@ pub front_items : (threads spare n : ℕ) (pushed : List Item) → AllByRecursio
     → AllByRecursion (IsItemOf threads) (take n (replicate spare Fresh ++ pushed))
 front_items threads spare n pushed own = take_items threads n (replicate spare Fresh ++ pushed) (fresh_items threads spare pushed own)
 
--- fresh items are nobody's
+-- items that aren't begun belong to no thread
 pub fresh_serials : (spare thread : ℕ) (pushed : List Item) → serials_of thread (replicate spare Fresh ++ pushed) ≡ serials_of thread pushed
 fresh_serials zero thread pushed = refl
 fresh_serials (suc spare) thread pushed = fresh_serials spare thread pushed

@@ -22,12 +22,12 @@ use Rattle.step_sim.proofs.Bounds.{OneEnd, marks_alike, run_alike}
 
 -- ---- one thread
 
--- the marks of a thread where a replay stands
+-- the marks of a thread where a replay is
 abbrev pub marks_in : Recording → Pooled → ℕ → List Mark
 marks_in r last thread =
     marks_of r.cast.program thread (hold_of thread r.cast.script) (of_thread r.cast.passings thread) (of_thread last.moment.loads thread)
 
--- the run is that of a thread, with what it has marked and lost
+-- the run of a thread, with what it has marked and lost
 pub record IsRunOf (r : Recording) (last : Pooled) (ts : List Traced) (thread : ℕ) (run : ThreadRun) : Type 0 where
   pub passed : run.passed ≡ of_thread r.passed thread
   pub marks : run.marks ≡ marks_in r last thread
@@ -89,7 +89,7 @@ run_of r last p ts pool i t one (bytes, accepted) at within found rests =
 
 -- ---- all threads
 
--- the runs of n threads, from one of a number on
+-- the runs of n threads, from one thread on
 pub record AllRuns (r : Recording) (last : Pooled) (ts : List Traced) (first n : ℕ) : Type 0 where
   pub runs : List ThreadRun
   pub count : length runs ≡ n
@@ -141,7 +141,7 @@ all_runs r last p ts pool one accepted at rests =
 
 -- ---- lists by the numbers of threads
 
--- a list with one item a thread
+-- a list with one item per thread
 pub items_are : {X : Type 0} (xs : List X) (F : ℕ → X) (first n : ℕ) → length xs ≡ n
     → ((j : ℕ) (x : X) → slice_get xs j ≡ Some x → x ≡ F (first + j)) → xs ≡ map F (numbers_from first n)
 items_are [] F first zero count is = refl
@@ -171,7 +171,7 @@ runs_map {Y = Y} f F (run ∷ runs) first (suc n) count is =
     behind : (j : ℕ) → first + suc j ≡ first + 1 + j
     behind j = omega arith
 
--- what is made of each item of a list and its number
+-- what is made of each item of a list with its number
 pub enumerated_map : {X Y : Type 0} (f : ℕ × X → Y) (F : ℕ → Y) (xs : List X) (first n : ℕ) → length xs ≡ n
     → ((j : ℕ) (x : X) → slice_get xs j ≡ Some x → f (first + j, x) ≡ F (first + j)) → map f (enumerate_from first xs) ≡ map F (numbers_from first n)
 enumerated_map f F [] first zero count is = refl
@@ -188,7 +188,7 @@ enumerated_map {X = X} {Y = Y} f F (x ∷ xs) first (suc n) count is =
     behind : (j : ℕ) → first + suc j ≡ first + 1 + j
     behind j = omega arith
 
--- the buffers that are made of each run and its number
+-- the buffers that are made of each run with its number
 pub enumerated_buffers : (F : ℕ → List Filled) (f : ℕ × ThreadRun → List Filled) (runs : List ThreadRun) (first n : ℕ) → length runs ≡ n
     → ((j : ℕ) (run : ThreadRun) → slice_get runs j ≡ Some run → F (first + j) ≡ f (first + j, run))
     → flat_map F (numbers_from first n) ≡ flat_map f (enumerate_from first runs)

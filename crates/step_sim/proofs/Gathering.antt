@@ -20,7 +20,7 @@ use Rattle.step_sim.proofs.PoolLemmas.{eqb_is, eqb_not, hand_held, hand_of_threa
 
 -- ---- buffers of one thread, taken out of a list
 
--- the list round a place
+-- the list around a place
 round : (xs : List Filled) (i : ℕ) (x : Filled) → i < length xs → x ≡ get_or xs i x → xs ≡ take i xs ++ x ∷ drop (suc i) xs
 round xs i x within is =
     sym (take-append-drop i xs) ∙ ap (λ (ys : List Filled). take i xs ++ ys)
@@ -82,7 +82,7 @@ flat_same F G first (suc n) same =
     ∙ ap (λ (xs : List Filled). G first ++ xs)
     (flat_same F G (first + 1) n (λ t low high. same t (omega (arith, low)) (omega (arith, high))))
 
--- a list with one number a thread
+-- a list with one number per thread
 pub counts_are : (ns : List ℕ) (F : ℕ → ℕ) (first n : ℕ) → length ns ≡ n → ((i k : ℕ) → slice_get ns i ≡ Some k → k ≡ F (first + i))
     → ns ≡ map F (numbers_from first n)
 counts_are [] F first zero count is = refl
@@ -121,7 +121,7 @@ queue_of stamp events thread (Segment owner serial ∷ items) = elim (cases_eq o
 
 -- ---- the hands of one thread
 
--- a hand is of no thread, or of its own
+-- a hand belongs to no thread, or to its own
 abbrev IsOwn : ℕ → Filled → Type 0
 IsOwn thread hand = (hand.begun ≡ false) ⊎ ((hand.begun ≡ true) × (hand.thread ≡ thread))
 
@@ -140,7 +140,7 @@ filter_skips p x xs e = rw e refl
 filter_takes : (p : Filled → Bool) (x : Filled) (xs : List Filled) → p x ≡ true → filter p (x ∷ xs) ≡ x ∷ filter p xs
 filter_takes p x xs e = rw e refl
 
--- those of later threads are no hands of this one
+-- the hands of later threads don't belong to this one
 hands_behind : (hands : List Filled) (k thread : ℕ) → thread ≤ k
     → ((i : ℕ) (hand : Filled) → slice_get hands i ≡ Some hand → IsOwn (k + i + 1) hand) → filter (is_of thread) hands ≡ []
 hands_behind [] k thread low own = refl
@@ -206,7 +206,7 @@ numbered segs (suc n) few =
     ∙ sym (take_more (enumerate_from 0 segs) n none (omega (arith, within, length-enumerate_from 0 segs)))
     ∙ ap (λ (k : ℕ). take k (enumerate_from 0 segs)) (sym more)
 
--- the queue's segments of a thread are those that it hasn't lost
+-- the segments of a thread in the queue are those that it hasn't lost
 queue_serials : (stamp : Stamp) (threads : ℕ) (events : Histories) (stock : Stock) (pool : Pool) (thread : ℕ)
     → PoolHolds stamp threads events stock pool
     → serials_of thread stock.queue ≡ drop (segments_among thread stock.taken) (below (length (segments_in stamp events thread) - 1))

@@ -1,4 +1,4 @@
--- What a replay loses: no more segments than the queue has no buffers for.
+-- What a replay loses: as many segments as the queue has no buffers for.
 use Rattle.std.proofs.Common.{◌≡◌, ◌⊎◌, ℕ, zero, suc, ◌+◌, ◌-◌, ◌<◌, ◌≤◌, List, [], ◌∷◌, ◌++◌, Bool, true, false, Option, Some, inl, inr, refl, sym, subst, ap, ◌∙◌, arith, length, map, fold, drop, take}
 use Rattle.std.specs.Prelude.{◌&&◌, ◌==◌, if◌then◌else◌, nat_lt, replicate, slice_get}
 use Rattle.std.specs.List.{All, enumerate_from}
@@ -37,12 +37,12 @@ use Rattle.step_sim.proofs.TurnLemmas.{turn_other}
 
 -- ---- what a replay keeps
 
--- In the queue, and among what was taken from it, stand of each thread all segments but the last, in order.
+-- The queue, and what was taken from it, have all segments of each thread except the last, in order.
 abbrev AreInOrder : Pooling → Pooled → Type 0
 AreInOrder pooling x =
     (t : ℕ) → 0 < t → serials_of t (x.stock.taken ++ x.stock.queue) ≡ below (pooling.segment_count t x.moment - 1)
 
--- at first there is none
+-- at first there are none
 none_yet : (cast : Cast) (passed : List (List Passing)) (size t : ℕ) → length (segments_at cast passed size t (first_pooled cast (pooling_of cast passed size 0)).moment) ≡ 0
 none_yet cast passed size t =
     let loads : of_thread (first_pooled cast (pooling_of cast passed size 0)).moment.loads t ≡ [] =
@@ -77,11 +77,11 @@ queued_serials t thread serial stock =
     ap (serials_of t) (same_items stock.taken stock.queue (Segment thread serial))
     ∙ serials_of-append t (stock.taken ++ stock.queue) (Segment thread serial ∷ [])
 
--- the serials of a thread in a stock
+-- the numbers of a thread's segments in a stock
 abbrev in_stock : ℕ → Stock → List ℕ
 in_stock t stock = serials_of t (stock.taken ++ stock.queue)
 
--- another thread's turn leaves them
+-- a turn of another thread leaves them as they are
 other_serials : (t thread before after : ℕ) (stock : Stock) → (t ≡ thread → ⊥)
     → in_stock t (stock_behind thread before after stock) ≡ in_stock t stock
 other_serials t thread before after stock apart = by_test (nat_lt 0 before && (after == before + 1))
@@ -92,7 +92,7 @@ other_serials t thread before after stock apart = by_test (nat_lt 0 before && (a
         ∙ ap (λ (ns : List ℕ). in_stock t stock ++ ns) (serial_other thread t (before - 1) (λ same. apart (sym same))) ∙ append-nil (in_stock t stock)
     by_test false = refl
 
--- its own adds the one that was open
+-- a turn of the thread itself adds the segment that was open
 own_serials : (thread before after : ℕ) (stock : Stock) → IsSameOrNext before after → in_stock thread stock ≡ below (before - 1)
     → in_stock thread (stock_behind thread before after stock) ≡ below (after - 1)
 own_serials thread before after stock (inl same) is =
@@ -171,7 +171,7 @@ no_run : (j : ℕ) (run : ThreadRun) → slice_get [] j ≡ Some run → ⊥
 no_run zero run e = cc
 no_run (suc j) run e = cc
 
--- what is read of the runs is what is told of their numbers
+-- what is read of the runs is what is said by their numbers
 run_at : {Y : Type 0} (f : ThreadRun → Y) (F : ℕ → Y) (runs : List ThreadRun) (first n : ℕ) → map f runs ≡ map F (numbers_from first n)
     → (j : ℕ) (run : ThreadRun) → slice_get runs j ≡ Some run → f run ≡ F (first + j)
 run_at f F [] first n same j run found = absurd (no_run j run found)

@@ -1,4 +1,4 @@
--- One load more of a thread: at most one mark, one event and one segment more.
+-- One more load of a thread: at most one more mark, event and segment.
 use Rattle.std.proofs.Common.{◌≡◌, ◌⊎◌, ℕ, zero, suc, ◌+◌, ◌-◌, ◌<◌, ◌≤◌, List, [], ◌∷◌, ◌++◌, Bool, true, false, Option, Some, None, inl, inr, refl, sym, ap, ◌∙◌, arith, length, map, subst}
 use Rattle.std.specs.Prelude.{◌==◌, filter, if◌then◌else◌}
 use Rattle.std.specs.List.{zip}
@@ -26,7 +26,8 @@ use Rattle.step_sim.proofs.TurnLemmas.{turn_own}
 
 -- ---- one passing
 
--- how far loads bring a passing, and those loads with one more: to a word both; to a mark with that one; or to a mark before it
+-- How far loads bring a passing, and how far they bring it with one more. Both come to a word; or the first to a word,
+-- and the second to a mark; or both to the same mark.
 abbrev OneMore : Load → Reading → Reading → Type 0
 OneMore load (Wants word) (Wants next) = Unit {0}
 OneMore load (Wants word) (Marked mark behind) = behind ≡ []
@@ -107,7 +108,7 @@ start_more program thread false sled loads load = head_more program sled loads l
 
 -- ---- the marks of a thread
 
--- no loads, no marks
+-- without loads there are no marks
 no_start : (program : Program) (thread : ℕ) (held : Bool) (sled : ℕ) → (word : ℕ) × (from_start program thread held sled [] ≡ Wants word)
 no_start program thread true sled = (_, refl)
 no_start program thread false sled = (_, refl)
@@ -119,7 +120,7 @@ no_marks program thread hold number (sled ∷ sleds) =
     let wants = no_start program thread (is_held_at hold number) sled in
     rw wants.1 refl
 
--- the marks with a load more
+-- the marks with one more load
 record MoreMarks (program : Program) (thread : ℕ) (hold : Option ℕ) (number : ℕ) (sleds : List ℕ) (loads : List Load) (load : Load) : Type 0 where
   more : List Mark
   is : marks_from program thread hold number sleds (loads ++ load ∷ []) ≡ marks_from program thread hold number sleds loads ++ more
@@ -173,7 +174,7 @@ more_events (p ∷ passed) (mark ∷ marks) more = by_mark (is_recorded mark) re
 
 -- ---- its segments
 
--- a number is another, or one more
+-- a number is the same as another, or one more
 abbrev pub IsSameOrNext : ℕ → ℕ → Type 0
 IsSameOrNext old new = (new ≡ old) ⊎ (new ≡ old + 1)
 
@@ -209,7 +210,7 @@ more_segments size events (event ∷ next ∷ more) few = absurd (omega (arith, 
 
 -- ---- a turn
 
--- a turn of a thread leaves it as many segments, or one more
+-- after a turn of a thread it has as many segments as before, or one more
 pub turn_segments : (cast : Cast) (passed : List (List Passing)) (size thread : ℕ) (m : Moment)
     → IsSameOrNext (length (segments_at cast passed size thread m)) (length (segments_at cast passed size thread (thread_turn cast thread m)))
 turn_segments cast passed size thread m = by_wanted (wanted_by cast thread m) refl

@@ -30,7 +30,7 @@ use Rattle.step_sim.proofs.PoolLemmas.{GoesOn, all_closed_more, all_held_same, e
 
 -- ---- no event
 
--- a pool holds what it holds, however the histories are told
+-- a pool holds what it holds, however the histories are written
 pub holds_same : (stamp : Stamp) (threads : ℕ) (events later : Histories) (stock : Stock) (pool : Pool) → ((k : ℕ) → later k ≡ events k)
     → PoolHolds stamp threads events stock pool → PoolHolds stamp threads later stock pool
 holds_same stamp threads events later stock pool same holds =
@@ -80,7 +80,7 @@ notes_some old new thread event its is notes stamp threads events later stock ho
 pub history_is : (r : Recording) (m : Moment) (thread : ℕ) → 0 < thread → histories r m thread ≡ events_at r.cast r.passed thread m
 history_is r m thread some = rw (eqb_not thread 0 (λ e. omega (arith, e, some))) refl
 
--- a thread that loads leaves the events of the others
+-- a thread that loads leaves the events of the others as they are
 histories_other : (r : Recording) (m : Moment) (thread other : ℕ) → 0 < thread → other ≢ thread
     → histories r (thread_turn r.cast thread m) other ≡ histories r m other
 histories_other r m thread zero some apart = refl
@@ -101,7 +101,7 @@ marks_at_moment cast m old t at same loaded =
     (of_thread cast.passings old.thread) (of_thread m.loads old.thread) (of_thread m.loads old.thread)
     (same.program ∙ at.program_is) same.thread (same.hold ∙ at.free ∙ sym at.no_hold) (sym at.sleds) refl
 
--- its events are those that its marks tell
+-- its events are those that its marks record
 pub events_of_marks : (r : Recording) (m : Moment) (p : Patcher) (old mid : Traced) → StandAt r.cast m p old → IsSameThread old mid
     → KeepsLoads old mid → histories r m old.thread ≡ recorded (of_thread r.passed old.thread) mid.marks
 events_of_marks r m p old mid at same keeps =
@@ -126,7 +126,7 @@ its_small : (r : Recording) (pooled : Pooled) (p : Patcher) (old : Traced) (pool
 its_small r pooled p old pool at =
     at.traced.small old.thread at.stands.thread.first (omega (arith, at.stands.thread.last, at.threads_are))
 
--- what `give` says of events
+-- what `give` says about events
 abbrev pub GivesEvent : Traced → Traced → Option Event → Type 0
 GivesEvent mid new event =
     (passed : List Passing) (end : End) (last : State) → PlainRun mid.program mid.limits mid.thread passed end last
@@ -158,7 +158,7 @@ can_note p old mid new pool (Some event) thread (r, pooled, at) same keeps gives
       event_small passed mid.marks new.marks event (its_small r pooled p old pool at) (gives passed run.0 run.1 run.2),
     )
 
--- the same thread, with the pool behind its load
+-- the same thread, with the pool after its load
 pub load_recorded : (r : Recording) (pooled : Pooled) (p : Patcher) (old mid new : Traced) (pool pool' : Pool) (event : Option Event) (thread : ℕ)
     → RecordAt r pooled p old pool → IsSameThread old mid → KeepsLoads old mid → IsSameThread mid new → GivesEvent mid new event
     → thread ≡ mid.thread → NotesAny pool pool' thread event
@@ -210,7 +210,7 @@ ended_recorded r pooled p old mid pool at same keeps rests =
       holds = at.holds;
     })
 
--- a thread that no hold stops isn't kept
+-- a thread that no hold stops isn't held by a value
 pub not_kept : (p : Patcher) (old mid : Traced) (value : ℕ) → Play p old → IsSameThread old mid → IsKept mid value → ⊥
 not_kept p old mid value (cast, m, at) same kept =
     let free : ◌≡◌ {A = Option ℕ} (Some (length mid.marks)) None = sym kept.held ∙ same.hold ∙ at.thread.free in cc
@@ -229,7 +229,7 @@ turns_stop : {X : Type 0} (n : ℕ) (turn : X → X) (x : X) → turn x ≡ x �
 turns_stop zero turn x e = refl
 turns_stop (suc n) turn x e = ap (turns n turn) e ∙ turns_stop n turn x e
 
--- so many turns of a thread lead it and the pool on
+-- n turns of a thread lead it and the pool on
 abbrev pub LeadsRecord : ℕ → Patcher → Traced → Pool → Traced → Pool → Type 0
 LeadsRecord n p old pool new pool' =
     (r : Recording) (pooled : Pooled) → RecordAt r pooled p old pool → RecordAt r (turns n (turn_in r old.thread) pooled) p new pool'

@@ -1,10 +1,10 @@
--- A schedule leaves one list of marks to each thread.
+-- A schedule leaves each thread only one list of marks.
 use Rattle.std.proofs.Common.{◌≡◌, ℕ, zero, suc, ◌+◌, List, length, None, refl, sym, ap, ◌∙◌, subst}
 use Rattle.handler_word.specs.declared.mark.Mark.{Mark}
 use Rattle.step_sim.specs.declared.turns.Turns.{Turns}
 use Rattle.step_sim.specs.Replay.{Cast, Moment, wanted_by, thread_turn, turns, RunsOut, AllRunOut, scheduled, marks_at, Replay}
 
--- a turn that does nothing does nothing again
+-- a turn that does nothing does nothing when it is repeated
 turns_still : (n : ℕ) (turn : Moment → Moment) (m : Moment) → turn m ≡ m → turns n turn m ≡ m
 turns_still zero turn m e = refl
 turns_still (suc n) turn m e = ap (turns n turn) e ∙ turns_still n turn m e
@@ -13,7 +13,7 @@ turns_still (suc n) turn m e = ap (turns n turn) e ∙ turns_still n turn m e
 ended_still : (cast : Cast) (thread : ℕ) (m : Moment) → wanted_by cast thread m ≡ None → thread_turn cast thread m ≡ m
 ended_still cast thread m e = rw e refl
 
--- a thread ends at one moment, however many turns are counted
+-- a thread ends at the same moment, however many turns are counted
 same_end : (cast : Cast) (thread a b : ℕ) (m : Moment)
     → wanted_by cast thread (turns a (thread_turn cast thread) m) ≡ None
     → wanted_by cast thread (turns b (thread_turn cast thread) m) ≡ None

@@ -1,4 +1,4 @@
--- A schedule leaves one list of runs.
+-- A schedule leaves only one list of runs.
 use Rattle.std.proofs.Common.{◌≡◌, ℕ, zero, suc, ◌+◌, List, [], ◌∷◌, Some, refl, sym, subst, ap, ◌∙◌, arith, length, map}
 use Rattle.std.specs.Prelude.{slice_get}
 use Rattle.xray_image.specs.Program.{IsAccepted, Program}
@@ -18,7 +18,7 @@ use Rattle.step_sim.specs.Replayed.{IsReplayOf, cast_of, cast_with, passed_of, p
 use Rattle.step_sim.proofs.Bounds.{OneEnd}
 use Rattle.step_sim.proofs.PooledReplay.{same_queue}
 
--- each runs as its plain run does, from a thread on
+-- from a thread on, each runs as its plain run does
 abbrev ArePlain : Program → Limits → ℕ → List ThreadRun → Type 0
 ArePlain program limits k runs =
     (i : ℕ) (run : ThreadRun) → slice_get runs i ≡ Some run → PlainRun program limits (k + i) run.passed run.end run.last

@@ -32,9 +32,9 @@ same_then a b c one other = record {
   limits = other.limits ∙ one.limits;
 }
 
--- ---- where it stands
+-- ---- where it is
 
--- the same thread, with its loads at another moment, stands there
+-- the same thread, with its loads at another moment, is there
 pub thread_moved : (cast : Cast) (m m' : Moment) (old new : Traced) (at : IsThreadAt cast m old) → IsSameThread old new
     → length m'.loads ≡ length m.loads → HasLoaded new at.passed (of_thread m'.loads old.thread) → IsThreadAt cast m' new
 thread_moved cast m m' old new at same room loaded = record {
@@ -49,7 +49,7 @@ thread_moved cast m m' old new at same room loaded = record {
   loaded = subst (λ (n : ℕ). HasLoaded new at.passed (of_thread m'.loads n)) (sym same.thread) loaded;
 }
 
--- a patcher stands at each moment of its place
+-- a patcher is at each moment of its place
 pub patcher_stays : (cast : Cast) (m m' : Moment) (p : Patcher) → m'.place ≡ m.place → IsPatcherAt cast.program cast.script m.place p
     → IsPatcherAt cast.program cast.script m'.place p
 patcher_stays cast m m' p e at = subst (λ (q : ℕ). IsPatcherAt cast.program cast.script q p) (sym e) at
@@ -74,7 +74,7 @@ next_alike program program' thread thread' hold hold' sleds sleds' loads a b c d
     ∙ ap (λ (x : Option ℕ). next_load program' thread' x sleds loads) c
     ∙ ap (λ (x : List ℕ). next_load program' thread' hold' x loads) d
 
--- what it wants in the replay is what it wants behind its loads
+-- what it wants in the replay is what it wants after its loads
 wanted_is : (cast : Cast) (m : Moment) (old mid : Traced) (at : IsThreadAt cast m old) → IsSameThread old mid
     → wanted_by cast old.thread m ≡ wanted_behind mid at.passed (of_thread m.loads old.thread)
 wanted_is cast m old mid at same =
@@ -82,7 +82,7 @@ wanted_is cast m old mid at same =
     (of_thread cast.passings old.thread) (sleds_of at.passed) (of_thread m.loads old.thread)
     (sym (same.program ∙ at.program_is)) (sym same.thread) (at.no_hold ∙ sym (same.hold ∙ at.free)) at.sleds
 
--- what a thread says about its loads, behind the gate of its passing
+-- what a thread says about its loads, after the gate of its passing
 abbrev pub KeepsLoads : Traced → Traced → Type 0
 KeepsLoads old mid = (passed : List Passing) (loads : List Load) → HasLoaded old passed loads → HasLoaded mid passed loads
 
@@ -104,7 +104,7 @@ none_wanted cast m p old mid at same keeps rests =
     subst (IsWant mid at.thread.passed (wanted_behind mid at.thread.passed (of_thread m.loads old.thread)) loaded.end) wants loaded.wants in
     wanted_is cast m old mid at.thread same ∙ next.0
 
--- the word is there
+-- the word exists
 pub word_there : (p : Patcher) (old mid : Traced) (word : ℕ) → Play p old → IsSameThread old mid → KeepsLoads old mid
     → mid.want ≡ Loads word → word < vec_len p.words
 word_there p old mid word (cast, m, at) same keeps wants =
@@ -165,7 +165,7 @@ ended_turn cast m p old mid at same keeps rests =
 
 -- ---- many turns
 
--- so many turns of a thread lead one that stands at a moment on
+-- n turns of a thread lead one on that is at a moment
 abbrev pub LeadsOn : ℕ → Patcher → Traced → Traced → Type 0
 LeadsOn n p old new =
     (cast : Cast) (m : Moment) → StandAt cast m p old → StandAt cast (turns n (thread_turn cast old.thread) m) p new
@@ -178,7 +178,7 @@ one_more n p old mid new same leads turn cast m at =
     let next = subst (λ (k : ℕ). StandAt cast (thread_turn cast k here) p new) same.thread (turn cast here (leads cast m at)) in
     subst (λ (x : Moment). StandAt cast x p new) (sym (turns_more n (thread_turn cast old.thread) m)) next
 
--- who plays at first plays on
+-- a thread that plays at first plays on
 pub plays_on : (n : ℕ) (p : Patcher) (old new : Traced) → LeadsOn n p old new → Play p old → Play p new
 plays_on n p old new leads (cast, m, at) = (cast, turns n (thread_turn cast old.thread) m, leads cast m at)
 
@@ -186,7 +186,7 @@ plays_on n p old new leads (cast, m, at) = (cast, turns n (thread_turn cast old.
 pub rest_wants_none : (cast : Cast) (m : Moment) (p : Patcher) (t : Traced) → StandAt cast m p t → Rests t → wanted_by cast t.thread m ≡ None
 rest_wants_none cast m p t at rests = none_wanted cast m p t t at (same_again t) (λ passed loads is. is) rests
 
--- behind turns of which the last found an end, all further turns do nothing
+-- after turns of which the last found an end, all later turns do nothing
 pub ends_early : (made count : ℕ) (p : Patcher) (old new : Traced) → made ≤ count → IsSameThread old new → LeadsOn made p old new → Rests new
     → LeadsOn count p old new
 ends_early made count p old new few same leads rests cast m at =
@@ -196,7 +196,7 @@ ends_early made count p old new few same leads rests cast m at =
     subst (λ (x : Moment). StandAt cast x p new)
     (sym (turns_up_to made count (thread_turn cast old.thread) m few (turn_without cast old.thread here none))) (leads cast m at)
 
--- turns that lead to an end are all
+-- turns that lead to an end are all of them
 pub has_run_out : (n : ℕ) (p : Patcher) (old new : Traced) → IsSameThread old new → LeadsOn n p old new → Rests new
     → (cast : Cast) (m : Moment) → StandAt cast m p old → (last : Moment) × RunsOut cast old.thread m last × StandAt cast last p new
 has_run_out n p old new same leads rests cast m at =

@@ -26,7 +26,7 @@ eqb_is a b e = eq-eqb a b e
 pub eqb_not : (a b : ℕ) → a ≢ b → (a == b) ≡ false
 eqb_not a b apart = grind (arith, nat_tests)
 
--- a segment is of its own thread
+-- a segment belongs to its own thread
 pub serial_own : (thread serial : ℕ) → serials_of thread (Segment thread serial ∷ []) ≡ serial ∷ []
 serial_own thread serial = rw (eqb_is thread thread refl) refl
 
@@ -51,7 +51,7 @@ length-below (suc n) = omega (arith, length-append (below n) (n ∷ []), length-
 
 -- ---- the queue
 
--- the front item of a queue behind which an item was put
+-- the first item of a queue, once an item was put at its end
 record Front {X : Type 0} (queue : List X) (item : X) : Type 0 where
   front : X
   is : take 1 (queue ++ item ∷ []) ≡ front ∷ []
@@ -70,7 +70,7 @@ same_items taken queue item =
 
 -- ---- segments that stay
 
--- more segments, of which all but the last were there
+-- more segments; all but the last of them were there before
 pub record Grows (before after : List (List Event)) : Type 0 where
   pub longer : length before ≤ length after
   pub same : (i : ℕ) → i + 1 < length after → slice_get after i ≡ slice_get before i
@@ -131,7 +131,7 @@ pub stock_stays : (thread before after : ℕ) (stock : Stock) → (before ≡ 0)
 stock_stays thread before after stock (inl none) = rw none refl
 stock_stays thread before after stock (inr same) = rw (same, no_more before) refl
 
--- as many closed segments of each thread
+-- there are as many closed segments of each thread as before
 closed_count : (stamp : Stamp) (events later : Histories) (thread k : ℕ) → Stays stamp events later thread
     → length (segments_in stamp later k) - 1 ≡ length (segments_in stamp events k) - 1
 closed_count stamp events later thread k stays = elim (cases_eq k thread) [
@@ -220,7 +220,7 @@ pub opened_hand : (stamp : Stamp) (threads : ℕ) (events : Histories) (stock : 
 opened_hand stamp threads events stock pool thread hand some holds found begun =
     was_opened stamp events thread hand (hand_of_thread stamp threads events stock pool thread hand some holds found) begun
 
--- the count of a thread in a list with one a thread
+-- the count of a thread in a list with one per thread
 count_at : (ns : List ℕ) (thread n : ℕ) → 0 < thread → thread ≤ length ns
     → ((i k : ℕ) → slice_get ns i ≡ Some k → i ≡ thread - 1 → k ≡ n) → slice_index ns (thread - 1) ≡ n
 count_at ns thread n some there is =
@@ -240,7 +240,7 @@ first_at stamp threads events stock pool thread some few holds =
     let number : i + 1 ≡ thread = omega (arith, place, some) in
     holds.first i k found ∙ ap (λ (t : ℕ). segments_among t stock.taken) number)
 
--- a thread has no more segments than events
+-- a thread has at most as many segments as events
 pub nonempty_count : (segs : List (List Event)) → All (λ s. s ≢ []) segs → length segs ≤ length (flat_map (λ s. s) segs)
 nonempty_count [] some = omega arith
 nonempty_count (seg ∷ segs) some =
@@ -283,7 +283,7 @@ hand_held stamp events thread hand was =
     ap (λ (segs : List (List Event)). slice_get segs (length was.whole)) was.is ∙ slice_get-seam was.whole was.last [] in
     was.holds ∙ ap (λ (o : Option (List Event)). buffer_of stamp thread (length was.whole, unwrap_or o [])) (sym found)
 
--- the queue with the hand behind it
+-- the queue, with the hand at its end
 queue_held : (stamp : Stamp) (threads : ℕ) (events : Histories) (stock : Stock) (pool : Pool) (thread : ℕ) (hand : Filled)
     (was : WasOpened stamp events thread hand) → PoolHolds stamp threads events stock pool
     → pool.queue ++ hand ∷ [] ≡ map (held stamp events) (stock.queue ++ sealing thread was.whole ∷ [])
@@ -292,7 +292,7 @@ queue_held stamp threads events stock pool thread hand was holds =
     ∙ ap (λ (b : Filled). map (held stamp events) stock.queue ++ b ∷ []) (hand_held stamp events thread hand was)
     ∙ sym (map-append (held stamp events) stock.queue (sealing thread was.whole ∷ []))
 
--- the buffer that is taken holds the front item
+-- the buffer that is taken holds the first item
 taken_held : (stamp : Stamp) (threads : ℕ) (events : Histories) (stock : Stock) (pool : Pool) (thread : ℕ) (hand taken : Filled)
     (was : WasOpened stamp events thread hand) → PoolHolds stamp threads events stock pool
     → taken ∷ [] ≡ take 1 (pool.queue ++ hand ∷ [])
@@ -304,14 +304,14 @@ taken_held stamp threads events stock pool thread hand taken was holds e =
     ∙ take-map (held stamp events) 1 (stock.queue ++ item ∷ []) ∙ ap (map (held stamp events)) (front_of stock.queue item).is in
     cc
 
--- whatever an item holds, its buffer has the size of all
+-- whatever an item holds, its buffer has the size of all buffers
 pub held_size : (stamp : Stamp) (events : Histories) (item : Item) → (held stamp events item).size ≡ stamp.size
 held_size stamp events Fresh = refl
 held_size stamp events (Segment owner serial) = refl
 
 -- ---- what is lost
 
--- the item at the front is closed, or the one that was put behind an empty queue
+-- the first item is closed, or it is the one that was put into an empty queue
 front_within : (stamp : Stamp) (events : Histories) (threads thread serial : ℕ) (queue : List Item) → 0 < thread → thread ≤ threads
     → All (IsClosed stamp events threads) queue → (owner number : ℕ) → (front_of queue (Segment thread serial)).front ≡ Segment owner number
     → (0 < owner) × (owner ≤ threads)
@@ -324,7 +324,7 @@ front_within stamp events threads thread serial (item ∷ queue) some few closed
     subst (IsClosed stamp events threads) e (All-head (IsClosed stamp events threads) item queue closed) in
     (is.0, is.1)
 
--- the numbers of a thread's segments behind an item that was put in the queue
+-- the numbers of a thread's segments after an item was put into the queue
 serials_behind : (stamp : Stamp) (threads : ℕ) (events : Histories) (stock : Stock) (pool : Pool) (k : ℕ) (item : Item)
     → PoolHolds stamp threads events stock pool
     → serials_of k ((stock.taken ++ take 1 (stock.queue ++ item ∷ [])) ++ drop 1 (stock.queue ++ item ∷ []))
@@ -334,7 +334,7 @@ serials_behind stamp threads events stock pool k item holds =
     ∙ serials_of-append k (stock.taken ++ stock.queue) (item ∷ [])
     ∙ ap (λ (ns : List ℕ). ns ++ serials_of k (item ∷ [])) (holds.order k)
 
--- a thread whose segment comes to the front has lost fewer than it has put in the queue
+-- a thread whose segment comes first in the queue has lost fewer than it has put into the queue
 fewer_lost : (stamp : Stamp) (threads : ℕ) (events : Histories) (stock : Stock) (pool : Pool) (thread serial owner number : ℕ)
     → PoolHolds stamp threads events stock pool → (front_of stock.queue (Segment thread serial)).front ≡ Segment owner number
     → segments_among owner stock.taken < (length (segments_in stamp events owner) - 1) + length (serials_of owner (Segment thread serial ∷ []))
@@ -361,7 +361,7 @@ fewer_lost stamp threads events stock pool thread serial owner number holds e =
       length-below (length (segments_in stamp events owner) - 1),
     )
 
--- the count of a list in which one was set
+-- the count in a list in which one was set
 set_at : (ns : List ℕ) (thread owner n : ℕ) → 0 < thread → 0 < owner → thread ≤ length ns
     → ((owner ≡ thread) × (slice_index (slice_set ns (thread - 1) n) (owner - 1) ≡ n))
     ⊎ ((owner ≢ thread) × (slice_index (slice_set ns (thread - 1) n) (owner - 1) ≡ slice_index ns (owner - 1)))
@@ -414,7 +414,7 @@ can_lose stamp threads events stock pool thread n hand taken sealed some few hol
         } in
         subst (CanLose pool.first.items sealed) (sym its) all
 
--- the counts of lost segments behind a taken buffer
+-- the counts of lost segments after a buffer was taken
 lost_is : (stamp : Stamp) (threads : ℕ) (events : Histories) (stock : Stock) (pool : Pool) (front : Item) (i k : ℕ)
     → PoolHolds stamp threads events stock pool
     → ((owner number : ℕ) → front ≡ Segment owner number → (0 < owner) × (owner ≤ threads))
@@ -446,7 +446,7 @@ lost_is stamp threads events stock pool (Segment owner number) i k holds within 
         ∙ ap (λ (ns : List ℕ). serials_of (i + 1) stock.taken ++ ns) (serial_other owner (i + 1) number other)
         ∙ append-nil (serials_of (i + 1) stock.taken)))
 
--- ---- the pool behind such an event
+-- ---- the pool after such an event
 
 turns_on : (n : ℕ) → 0 < n → (nat_lt 0 n && (n + 1 == n + 1)) ≡ true
 turns_on n some = grind (arith, nat_tests)
@@ -521,7 +521,7 @@ closed_turned stamp threads events later stock thread whole last next some few c
     (all_closed_more stamp events later thread threads stock.queue (cuts_on stamp events later thread whole last next cuts) closed)
     (All-cons (IsClosed stamp later threads) (sealing thread whole) [] one (All-nil (IsClosed stamp later threads)))
 
--- the pool with the hand in the queue, and the event in the front buffer
+-- the pool with the hand in the queue, and the event in the buffer that was first
 pub turn_holds : (stamp : Stamp) (threads : ℕ) (events later : Histories) (stock : Stock) (thread n : ℕ) (old new : Pool)
     (hand taken next_hand : Filled) (next : List Event) (was : WasOpened stamp events thread hand) → 0 < thread → thread ≤ threads
     → PoolHolds stamp threads events stock old → Cuts stamp events later thread was.whole was.last next
@@ -682,7 +682,7 @@ turn_loses pool thread n event hand taken sealed (stamp, threads, events, stock,
     (sealed_read stamp threads events stock pool thread n some few holds count) in
     can_lose stamp threads events stock pool thread (n + 1) hand taken sealed some few holds was front more.0 set begun
 
--- the front buffer has room for an event
+-- the buffer that was first has room for an event
 pub turn_has_room : (pool : Pool) (thread : ℕ) (event : Event) (hand taken : Filled) → CanNote pool thread
     → IsFull pool thread event → ((size : ℕ) (events : List Event) → 72 ≤ size → All (λ s. IsTrue (has_room size s)) (segments size events))
     → hand ≡ get_or pool.hands.items (thread - 1) hand → taken ∷ [] ≡ take 1 (pool.queue ++ hand ∷ [])
@@ -786,7 +786,7 @@ first_notes old new thread event hand next_hand (stamp', threads', events', stoc
         } in
         stay_holds stamp threads events later stock thread old new next_hand some holds stays one hands queue sealed first wall pid
 
--- an event for which the hand has room
+-- an event that the hand has room for
 pub join_notes : (old new : Pool) (thread : ℕ) (event : Event) (hand next_hand : Filled) → CanNote old thread → hand.begun ≡ true
     → has_room hand.size (hand.events ++ event ∷ []) ≡ true → JoinedSaid → hand ≡ get_or old.hands.items (thread - 1) hand
     → next_hand ≡ record hand { events = hand.events ++ event ∷ [] }
@@ -825,7 +825,7 @@ join_notes old new thread event hand next_hand (stamp', threads', events', stock
     } in
     stay_holds stamp threads events later stock thread old new next_hand some holds stays one hands queue sealed first wall pid
 
--- the count that was set is read back
+-- the count that was set is read again
 pub read_back : (pool : Pool) (thread n read : ℕ) → CanNote pool thread
     → read ≡ get_or (slice_set pool.sealed.items (thread - 1) n) (thread - 1) read → read ≡ n
 read_back pool thread n read (stamp, threads, events, stock, holds, some, few, room) is =

@@ -1,4 +1,4 @@
--- A replay with buffers goes through the moments of the replay, and leaves one queue.
+-- A replay with buffers goes through the moments of the replay without them, and leaves one queue.
 use Rattle.std.proofs.Common.{◌≡◌, ℕ, zero, suc, ◌+◌, List, [], ◌∷◌, length, fold, None, refl, sym, ap, ◌∙◌, subst, arith}
 use Rattle.std.specs.Prelude.{◌&&◌, ◌==◌, false, nat_lt}
 use Rattle.std.proofs.lemmas.Bool.Decides.{nat_tests}
@@ -90,7 +90,7 @@ pub turns_still : (n : ℕ) (turn : Pooled → Pooled) (p : Pooled) → turn p �
 turns_still zero turn p e = refl
 turns_still (suc n) turn p e = ap (turns n turn) e ∙ turns_still n turn p e
 
--- a thread ends at one moment, however many turns are counted
+-- a thread ends at the same moment, however many turns are counted
 same_end : (cast : Cast) (pooling : Pooling) (thread a b : ℕ) (p : Pooled)
     → wanted_by cast thread (turns a (pooled_turn cast pooling thread) p).moment ≡ None
     → wanted_by cast thread (turns b (pooled_turn cast pooling thread) p).moment ≡ None

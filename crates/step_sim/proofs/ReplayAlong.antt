@@ -18,7 +18,7 @@ use Rattle.step_sim.specs.declared.turns.Turns.TheVariants.{Thread, Patcher}
 use Rattle.step_sim.specs.Replay.{AllRunOut, Cast, Moment, first_moment, line_turns, of_thread, patcher_turn, scheduled, thread_turn, turns, wanted_by}
 use Rattle.step_sim.specs.Along.{AllFollow, IsAlong, NamesThread}
 
--- ---- lists of one item a thread
+-- ---- lists of one item per thread
 
 pub of_thread_is : (lists : List (List Load)) (thread : ℕ) → of_thread lists thread ≡ get_or lists (thread - 1) []
 of_thread_is lists thread = unwrap_or-slice_get lists (thread - 1) []
@@ -88,7 +88,7 @@ patcher_along cast m within along thread some =
 
 -- ---- moments
 
--- the first commands have no more micro steps than all
+-- the first commands have at most as many micro steps as all commands
 pub front_steps : (program : Program) (earlier : List ℕ) (n : ℕ) (script : List Command)
     → length (micros_behind program earlier (take n script)) ≤ length (micros_behind program earlier script)
 front_steps program earlier zero script = omega arith

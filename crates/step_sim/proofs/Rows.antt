@@ -31,7 +31,7 @@ example = record {
 script : List Command
 script = commands.Patch ∷ commands.Go ∷ commands.Unpatch ∷ []
 
--- id, opcode and offset of each sled are stored before its head; unpatching stores heads alone
+-- the id, opcode and offset of each sled are stored before its head; unpatching stores only heads
 stores : micros example script ≡
     Store 1 1 ∷ Store 2 0xE8 ∷ Store 3 0x1FFFF5 ∷ Store 0 0xBA41
     ∷ Store 5 1 ∷ Store 6 0xE9 ∷ Store 7 0x1FFFF3 ∷ Store 4 0xBA41
@@ -50,7 +50,7 @@ starts = refl
 cast : Cast
 cast = record { program = example; script = script; passings = (0 ∷ 1 ∷ []) ∷ [] }
 
--- the thread has read the first head when both sleds are unpatched
+-- the thread has loaded the first head when both sleds are unpatched
 in_the_middle : marks_at cast (turns 20 (thread_turn cast 1) (scheduled cast (Thread 1 1 ∷ Patcher 2 ∷ []))) ≡ (NoHandler ∷ Skipped ∷ []) ∷ []
 unfolding example script cast
 in_the_middle = refl

@@ -1,4 +1,4 @@
--- A text that is a schedule gives turns to its threads.
+-- A text that is a schedule gives turns only to its threads.
 use Rattle.std.proofs.Common.{◌≡◌, ◌<◌, ◌≤◌, ◌++◌, ℕ, Bool, true, false, List, [], ◌∷◌, Some, None, Ok, refl, arith}
 use Rattle.std.specs.Prelude.{nat_le, ◌&&◌}
 use Rattle.std.specs.List.{All, flat_map}

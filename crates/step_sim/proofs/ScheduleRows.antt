@@ -1,4 +1,4 @@
--- Small texts, worked by hand: the schedules that they are, and why others are none.
+-- Small texts worked by hand: the schedules that they are, and why others aren't schedules.
 use Rattle.std.proofs.Common.{◌≡◌, ℕ, List, [], ◌∷◌, ◌++◌, refl}
 use Rattle.std.specs.Prelude.{codes, Ok, Err}
 use Rattle.step_sim.specs.declared.fault.ScheduleFault.TheVariants as faults
@@ -22,14 +22,14 @@ in_order = refl
 skipped : schedule_of 1 (text (codes "# a load" ∷ [] ∷ codes "t 1 1 # then all" ∷ codes "  " ∷ []) ++ codes "p 4294967295") ≡ Ok (Thread 1 1 ∷ Patcher 4294967295 ∷ [])
 skipped = refl
 
--- blanks are spaces and tabs, a carriage return before the line feed is none of the line, and zeros may lead
+-- Blanks are spaces and tabs. A carriage return before the line feed is no part of the line. Leading zeros are allowed.
 blanks : schedule_of 1 (codes " t" ++ 9 ∷ codes "01  5 " ++ 13 ∷ 10 ∷ []) ≡ Ok (Thread 1 5 ∷ [])
 blanks = refl
 
 last_thread : schedule_of 16 (codes "t 16 3") ≡ Ok (Thread 16 3 ∷ [])
 last_thread = refl
 
--- ---- lines that are none of a schedule
+-- ---- lines that aren't those of a schedule
 
 no_steps : schedule_of 1 (codes "p 0") ≡ Err (faults.Syntax 1)
 no_steps = refl
@@ -61,11 +61,11 @@ thread_above = refl
 thread_zero : schedule_of 16 (codes "t 0 1") ≡ Err (faults.Thread 1)
 thread_zero = refl
 
--- a word that is no number is no thread
+-- a word that isn't a number names no thread
 thread_word : schedule_of 16 (codes "t x 1") ≡ Err (faults.Thread 1)
 thread_word = refl
 
--- ---- the first refusal is told
+-- ---- the answer is the first refusal
 
 syntax_first : schedule_of 16 (codes "t x 0") ≡ Err (faults.Syntax 1)
 syntax_first = refl

@@ -39,7 +39,7 @@ use Rattle.step_sim.proofs.StockRuns.{segments_same}
 
 -- ---- the number of segments
 
--- a hand and what was put in the queue before it are all segments
+-- a hand and what was put into the queue before it are all segments
 held_all : {stamp : _} (thread : ℕ) (segs : List (List Event)) (hand : Filled) (put : ℕ) → IsHand stamp thread segs hand → put ≡ length segs - 1
     → segments_held hand put ≡ length segs
 held_all thread segs hand put (unbegun none e) is = rw e (omega (arith, ap length none))
@@ -54,9 +54,9 @@ there_is [] i within = absurd (omega (arith, within))
 there_is (x ∷ xs) zero within = (x, refl)
 there_is (x ∷ xs) (suc i) within = there_is xs i (omega (arith, within))
 
--- ---- the buffers that were put
+-- ---- the buffers that were put into the queue
 
--- the law that segments have events, and the numbers of buffers that were put can be counted on
+-- segments have events, by a law; so the numbers of buffers that were put into the queue can be counted on
 pub sealed_fit : AllSaid → SomeSaid → (r : Recording) (last : Pooled) (p : Patcher) (ts : List Traced) (pool : Pool) → OneEnd
     → (bytes : List ℕ) × IsAccepted bytes r.cast.program → AllRecordAt r last p ts pool → All Rests ts → All (λ n. n + 1 < 2 ^ 32) pool.sealed.items
 sealed_fit hold some r last p ts pool one accepted at rest =
@@ -88,7 +88,7 @@ sealed_fit hold some r last p ts pool one accepted at rest =
 
 -- ---- the whole
 
--- what was told of the buffers
+-- what the buffers were found to hold
 pub record Collected (pool : Pool) (threads : ℕ) (sealed segments first : List ℕ) (buffers : List Filled) : Type 0 where
   pub sealed_are : sealed ≡ pool.sealed.items
   pub segment_count : length segments ≡ length pool.hands.items

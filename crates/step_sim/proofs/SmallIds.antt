@@ -40,7 +40,7 @@ event_small passed old new event small is =
     subst FitsRecord last
     (all (length (recorded passed old)) event (omega (arith, length-append (recorded passed old) (event ∷ []))))
 
--- no more events than marks
+-- there are at most as many events as marks
 pub recorded_short : (passed : List Passing) (marks : List Mark) → length (recorded passed marks) ≤ length marks
 recorded_short [] marks = omega arith
 recorded_short (p ∷ passed) [] = omega arith

@@ -1,4 +1,4 @@
--- Where a script holds nobody, each schedule leaves marks.
+-- If a script holds no thread, each schedule leaves marks.
 use Rattle.std.proofs.Common.{◌≡◌, ℕ, zero, suc, ◌+◌, ◌-◌, ◌*◌, ◌<◌, ◌≤◌, List, [], ◌∷◌, ◌++◌, Bool, true, false, Option, Some, None, refl, sym, ◌∙◌, subst, arith, length, length-append, fold}
 use Rattle.std.specs.Prelude.{◌==◌, if◌then◌else◌}
 use Rattle.std.proofs.lemmas.List.{length-map}
@@ -20,13 +20,13 @@ use Rattle.step_sim.proofs.TurnLemmas.{turn_length, turn_own, turns_hold, turns_
 
 -- ---- a passing
 
--- what one more load does behind loads of this number, of which a passing takes at most so many: one that still wants a word has
--- made fewer, and one that is marked keeps its mark
+-- What one more load does after `made` loads. A passing takes at most `most` of them. One that still wants a word has
+-- made fewer, and one that is marked keeps its mark.
 abbrev Goes : ℕ → Reading → Reading → ℕ → Load → Type 0
 Goes most (Wants word) after made load = made < most
 Goes most (Marked mark behind) after made load = after ≡ Marked mark (behind ++ load ∷ [])
 
--- the same with one load before
+-- the same with one load before it
 goes_on : (most : ℕ) (reading after : Reading) (made : ℕ) (load : Load) → Goes most reading after made load
     → Goes (suc most) reading after (suc made) load
 goes_on most (Wants word) after made load few = omega arith
@@ -37,13 +37,13 @@ by_test : (b : Bool) (M : Bool → Type 0) → M true → M false → M b
 by_test true M at_true at_false = at_true
 by_test false M at_true at_false = at_false
 
--- from the state word on a passing takes one load
+-- a passing takes one load from the state word on
 state_goes : (program : Program) (loads : List Load) (load : Load)
     → Goes 1 (from_state program loads) (from_state program (loads ++ load ∷ [])) (length loads) load
 state_goes program [] load = omega arith
 state_goes program (first ∷ loads) load = refl
 
--- from the handler word on two
+-- two from the handler word on
 handler_goes : (program : Program) (loads : List Load) (load : Load)
     → Goes 2 (from_handler program loads) (from_handler program (loads ++ load ∷ [])) (length loads) load
 handler_goes program [] load = omega arith
@@ -54,21 +54,21 @@ handler_goes program (first ∷ loads) load =
     refl
     (goes_on 1 (from_state program loads) (from_state program (loads ++ load ∷ [])) (length loads) load (state_goes program loads load))
 
--- from the offset on three
+-- three from the offset on
 offset_goes : (program : Program) (sled : ℕ) (loads : List Load) (load : Load)
     → Goes 3 (from_offset program sled loads) (from_offset program sled (loads ++ load ∷ [])) (length loads) load
 offset_goes program sled [] load = omega arith
 offset_goes program sled (first ∷ loads) load =
     goes_on 2 (from_handler program loads) (from_handler program (loads ++ load ∷ [])) (length loads) load (handler_goes program loads load)
 
--- from the opcode on four
+-- four from the opcode on
 opcode_goes : (program : Program) (sled : ℕ) (loads : List Load) (load : Load)
     → Goes 4 (from_opcode program sled loads) (from_opcode program sled (loads ++ load ∷ [])) (length loads) load
 opcode_goes program sled [] load = omega arith
 opcode_goes program sled (first ∷ loads) load =
     goes_on 3 (from_offset program sled loads) (from_offset program sled (loads ++ load ∷ [])) (length loads) load (offset_goes program sled loads load)
 
--- from the id on five
+-- five from the id on
 id_goes : (program : Program) (sled : ℕ) (loads : List Load) (load : Load)
     → Goes 5 (from_id program sled loads) (from_id program sled (loads ++ load ∷ [])) (length loads) load
 id_goes program sled [] load = omega arith
@@ -88,7 +88,8 @@ head_goes program sled (first ∷ loads) load =
 
 -- ---- a thread
 
--- the most loads that are left: of an open passing those up to six, and all of the later ones; behind a mark those of the later ones
+-- The most loads that are left. An open passing has those up to six, and the later ones all of theirs. After a mark,
+-- only the later ones have loads left.
 abbrev left_of : Reading → ℕ → ℕ → (List Load → ℕ) → ℕ
 left_of (Wants word) made whole later = (6 - made) + whole
 left_of (Marked mark behind) made whole later = later behind
@@ -98,7 +99,7 @@ abbrev left : Program → List ℕ → List Load → ℕ
 left program [] loads = 0
 left program (sled ∷ sleds) loads = left_of (from_head program sled loads) (length loads) (6 * length sleds) (left program sleds)
 
--- they are six a passing at the most
+-- there are at most six per passing
 left_few : (program : Program) (sleds : List ℕ) (loads : List Load) → left program sleds loads ≤ 6 * length sleds
 left_few program [] loads = omega arith
 left_few program (sled ∷ sleds) loads = by_reading (left_few program sleds) (from_head program sled loads)
@@ -108,7 +109,7 @@ left_few program (sled ∷ sleds) loads = by_reading (left_few program sleds) (f
     by_reading few (Wants word) = omega arith
     by_reading few (Marked mark behind) = omega (arith, few behind)
 
--- the word that is wanted behind loads that bring a passing so far
+-- the word that is wanted after loads that bring a passing this far
 abbrev wanted_of : Reading → (List Load → Option ℕ) → Option ℕ
 wanted_of (Wants word) later = Some word
 wanted_of (Marked mark behind) later = later behind
@@ -119,13 +120,13 @@ next_is : (program : Program) (thread number sled : ℕ) (sleds : List ℕ) (loa
 next_is program thread number sled sleds loads (Wants word) e = rw e refl
 next_is program thread number sled sleds loads (Marked mark more) e = rw e refl
 
--- behind one more load of an open passing fewer are left
+-- after one more load of an open passing fewer are left
 fewer_left : (program : Program) (sleds : List ℕ) (made : ℕ) (r : Reading) → made < 6
     → left_of r (made + 1) (6 * length sleds) (left program sleds) < (6 - made) + 6 * length sleds
 fewer_left program sleds made (Wants word) few = omega arith
 fewer_left program sleds made (Marked mark behind) few = omega (arith, left_few program sleds behind)
 
--- what is left falls with each load
+-- each load leaves fewer
 left_falls : (program : Program) (thread number : ℕ) (sleds : List ℕ) (loads : List Load) (load : Load) (word : ℕ)
     → next_from program thread None number sleds loads ≡ Some word → left program sleds (loads ++ load ∷ []) < left program sleds loads
 left_falls program thread number [] loads load word wants = cc
@@ -156,7 +157,7 @@ left_falls program thread number (sled ∷ sleds) loads load word wants =
 abbrev left_at : Cast → ℕ → Moment → ℕ
 left_at cast thread m = left cast.program (of_thread cast.passings thread) (of_thread m.loads thread)
 
--- what is left falls with each turn of a thread that wants a word
+-- each turn of a thread that wants a word leaves fewer
 turn_falls : (cast : Cast) (thread : ℕ) (m : Moment) (word : ℕ) → hold_of thread cast.script ≡ None → thread - 1 < length m.loads
     → wanted_by cast thread m ≡ Some word → left_at cast thread (thread_turn cast thread m) < left_at cast thread m
 turn_falls cast thread m word free within wants =
@@ -166,11 +167,11 @@ turn_falls cast thread m word free within wants =
     (sym (turn_own cast thread m word within wants))
     (left_falls cast.program thread 0 (of_thread cast.passings thread) (of_thread m.loads thread) load word unheld)
 
--- a thread's turns that bring it to its end
+-- the turns of a thread that bring it to its end
 abbrev Ends : Cast → ℕ → Moment → Type 0
 Ends cast thread m = (n : ℕ) × (wanted_by cast thread (turns n (thread_turn cast thread) m) ≡ None)
 
--- one turn and those behind it
+-- one turn and those after it
 one_before : (cast : Cast) (thread : ℕ) (m : Moment) → Ends cast thread (thread_turn cast thread m) → Ends cast thread m
 one_before cast thread m (n, none) = (suc n, none)
 
@@ -179,7 +180,7 @@ by_word : (w : Option ℕ) (M : Type 0) → (w ≡ None → M) → ((word : ℕ)
 by_word None M at_none at_some = at_none refl
 by_word (Some word) M at_none at_some = at_some word refl
 
--- a thread that isn't held ends behind finitely many turns
+-- a thread that isn't held ends after finitely many turns
 ends_behind : (cast : Cast) (thread : ℕ) → hold_of thread cast.script ≡ None → (most : ℕ) (m : Moment) → thread - 1 < length m.loads
     → left_at cast thread m ≤ most → Ends cast thread m
 ends_behind cast thread free zero m within few =
@@ -194,7 +195,7 @@ ends_behind cast thread free (suc most) m within few =
 
 -- ---- all threads run out
 
--- nobody is held by the script of a replay
+-- the script of a replay holds no thread
 abbrev NobodyHeld : Cast → Type 0
 NobodyHeld cast = (thread : ℕ) → hold_of thread cast.script ≡ None
 
@@ -214,7 +215,7 @@ patcher_length : (cast : Cast) (n : ℕ) (m : Moment) → length (turns n (patch
 patcher_length cast n m =
     turns_hold (λ (x : Moment). length x.loads ≡ length m.loads) (patcher_turn cast) (λ x e. e) n m refl
 
--- behind the lines of a schedule there are as many lists of loads
+-- after the lines of a schedule there are as many lists of loads
 lines_length : (cast : Cast) (lines : List Turns) (m : Moment) → length (fold (line_turns cast) m lines).loads ≡ length m.loads
 lines_length cast [] m = refl
 lines_length cast (Thread thread count ∷ lines) m =
@@ -222,7 +223,7 @@ lines_length cast (Thread thread count ∷ lines) m =
 lines_length cast (Patcher count ∷ lines) m =
     lines_length cast lines (turns count (patcher_turn cast) m) ∙ patcher_length cast count m
 
--- where nobody is held each schedule leaves marks
+-- if no thread is held, each schedule leaves marks
 pub some_marks : (cast : Cast) (schedule : List Turns) → NobodyHeld cast → (marks : List (List Mark)) × Replay cast schedule marks
 some_marks cast schedule free =
     let begun : length (first_moment cast).loads ≡ length cast.passings = length-map cast.passings (λ _. []) in
@@ -230,7 +231,7 @@ some_marks cast schedule free =
     let out = all_run_out cast free (length cast.passings) 1 (scheduled cast schedule) (omega arith) (omega arith) in
     (marks_at cast out.0, (out.0, out.1, refl))
 
--- so where its script has no line at which a thread or the patcher may wait
+-- so it does if its script has no line at which a thread or the patcher may wait
 pub still_marks : (cast : Cast) (schedule : List Turns) (lines : Lines) → cast.script ≡ commands_of lines → waiting_line lines ≡ None
     → (marks : List (List Mark)) × Replay cast schedule marks
 still_marks cast schedule lines said still =

@@ -28,7 +28,7 @@ SomeEnd =
     (bytes : List ℕ) (program : Program) (limits : Limits) (thread : ℕ) → IsAccepted bytes program
     → (passed : List Passing) × (end : End) × (last : State) × PlainRun program limits thread passed end last
 
--- a schedule leaves marks where the script holds nobody
+-- a schedule leaves marks if the script holds no thread
 abbrev pub SomeMarks : Type 0
 SomeMarks = (cast : Cast) (schedule : List Turns) → ((thread : ℕ) → hold_of thread cast.script ≡ None) → (marks : List (List Mark)) × Replay cast schedule marks
 

@@ -1,4 +1,4 @@
--- How many segments are lost: what stands in the queue, and what was taken away from it, through a replay.
+-- How many segments are lost: what is in the queue, and what was taken away from it, through a replay.
 use Rattle.std.proofs.Common.{◌≡◌, ℕ, zero, suc, ◌+◌, ◌-◌, ◌<◌, ◌≤◌, List, [], ◌∷◌, ◌++◌, Bool, true, false, Some, refl, sym, subst, ap, ◌∙◌, arith, length, length-append, fold, append_assoc, drop, take}
 use Rattle.std.specs.Prelude.{◌&&◌, ◌==◌, if◌then◌else◌, nat_lt, replicate, slice_get, sum_by}
 use Rattle.std.specs.List.{AllByRecursion}
@@ -28,8 +28,8 @@ use Rattle.step_sim.proofs.PoolLemmas.{length-below, serials_of-append}
 
 -- ---- the stock
 
--- The queue was given so many fresh buffers, and then these segments. As many items were taken away from its front as segments were
--- given to it.
+-- The queue was given `spare` buffers that aren't begun, and then these segments. As many items were taken away from
+-- its start as segments were given to it.
 pub record StockIs (threads spare : ℕ) (stock : Stock) : Type 0 where
   pub pushed : List Item
   pub own : AllByRecursion (IsSegmentOf threads) pushed
@@ -121,7 +121,7 @@ each_run : (P : ThreadRun → Type 0) (runs : List ThreadRun) → ((j : ℕ) (ru
 each_run P [] each = tt
 each_run P (run ∷ runs) each = (each zero run refl, each_run P runs (λ j. each (suc j)))
 
--- The losses of runs, by a stock in which stand, of each thread, the segments that it has put in the queue.
+-- The losses of runs, by a stock that has, for each thread, the segments that it has put into the queue.
 pub losses_of : (size spare threads : ℕ) (runs : List ThreadRun) (stock : Stock) (segs : ℕ → ℕ) → length runs ≡ threads
     → ((j : ℕ) (run : ThreadRun) → slice_get runs j ≡ Some run → run.lost ≡ segments_among (1 + j) stock.taken)
     → ((j : ℕ) (run : ThreadRun) → slice_get runs j ≡ Some run → segment_count size run ≡ segs (1 + j))

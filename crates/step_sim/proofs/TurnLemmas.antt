@@ -20,19 +20,19 @@ turns_add (suc a) b turn m =
 pub turns_more : (n : ℕ) (turn : Turn) (m : Moment) → turns (n + 1) turn m ≡ turn (turns n turn m)
 turns_more n turn m = turns_add n 1 turn m
 
--- a turn that does nothing does nothing again
+-- a turn that does nothing does nothing when it is repeated
 pub turns_still : (n : ℕ) (turn : Turn) (m : Moment) → turn m ≡ m → turns n turn m ≡ m
 turns_still zero turn m e = refl
 turns_still (suc n) turn m e = ap (turns n turn) e ∙ turns_still n turn m e
 
--- so many turns are those up to one that does nothing
+-- turns are those up to one that does nothing
 pub turns_up_to : (made count : ℕ) (turn : Turn) (m : Moment) → made ≤ count → turn (turns made turn m) ≡ turns made turn m
     → turns count turn m ≡ turns made turn m
 turns_up_to made count turn m few e =
     let whole : count ≡ made + (count - made) = omega arith in
     ap (λ n. turns n turn m) whole ∙ turns_add made (count - made) turn m ∙ turns_still (count - made) turn (turns made turn m) e
 
--- what turns keep, each of them keeping it
+-- what each turn keeps, all turns keep
 pub turns_hold : (P : Moment → Type 0) (turn : Turn) → ((m : Moment) → P m → P (turn m)) → (n : ℕ) (m : Moment) → P m → P (turns n turn m)
 turns_hold P turn keeps zero m is = is
 turns_hold P turn keeps (suc n) m is = turns_hold P turn keeps n (turn m) (keeps m is)

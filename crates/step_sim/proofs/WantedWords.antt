@@ -135,7 +135,7 @@ next_within program threads thread hold number (p ∷ passed) loads word known a
         ≡ next_from program thread hold (number + 1) (sleds_of passed) behind = rw is refl in
         rest (number + 1) behind (sym later ∙ e)
 
--- a word that a thread loads next
+-- the word that a thread loads next
 pub wanted_within : (program : Program) (limits : Limits) (threads thread : ℕ) (hold : Option ℕ) (passed : List Passing) (loads : List Load) (word : ℕ)
     (end : End) (last : State) → PlainRun program limits thread passed end last → thread ≤ threads
     → next_load program thread hold (sleds_of passed) loads ≡ Some word → word < word_count program threads

@@ -1,4 +1,4 @@
--- The loads of a replay's threads, along its script.
+-- The loads of a replay's threads, as they follow its script.
 use Rattle.std.specs.Prelude.{◌<◌, ◌≤◌, ℕ, ⊤}
 use Rattle.patch_script.specs.CodeAt.{code_at}
 use Rattle.patch_script.specs.Micros.{hold_of, start_of, total_of}
@@ -13,15 +13,15 @@ abbrev pub NamesThread : Turns → Type 0
 NamesThread (Thread thread count) = 0 < thread
 NamesThread (Patcher count) = ⊤
 
--- At a moment the loads of each thread, from 1 on, follow the script up to the moment's place. A replay waits for no thread: the bound of
--- each passing is the script's end.
+-- At a moment, the loads of each thread, from 1 on, follow the script up to the moment's place. A replay waits for no
+-- thread: the bound of each passing is the script's end.
 abbrev pub AllFollow : Cast → Moment → Type 0
 AllFollow cast moment =
     (thread : ℕ) → 0 < thread
     → Follows cast.program (code_at cast.program cast.script) (start_of cast.program cast.script) (λ _. total_of cast.program cast.script)
     thread (hold_of thread cast.script) (of_thread cast.passings thread) (of_thread moment.loads thread) moment.place
 
--- what each moment of a replay keeps: all loads follow the script, and the patcher stands within it
+-- what each moment of a replay keeps: all loads follow the script, and the patcher is within it
 pub record IsAlong (cast : Cast) (moment : Moment) : Type 0 where
   pub along : AllFollow cast moment
   pub within : moment.place ≤ total_of cast.program cast.script

@@ -21,7 +21,7 @@ held stamp events Fresh = empty_buffer stamp.size
 held stamp events (Segment thread serial) =
     buffer_of stamp thread (serial, unwrap_or (slice_get (segments_in stamp events thread) serial) [])
 
--- an item is fresh, or a segment of one of the threads that isn't its last
+-- an item isn't begun, or is a segment of one of the threads that isn't its last
 abbrev pub IsClosed : Stamp → Histories → ℕ → Item → Type 0
 IsClosed stamp events threads Fresh = ⊤
 IsClosed stamp events threads (Segment thread serial) =
@@ -32,13 +32,13 @@ abbrev pub below : ℕ → List ℕ
 below zero = []
 below (suc n) = below n ++ n ∷ []
 
--- the buffer that a thread with these segments holds: a fresh one, or that of its last segment
+-- the buffer that a thread with these segments holds: one that isn't begun, or that of its last segment
 pub data IsHand (stamp : Stamp) (thread : ℕ) (segs : List (List Event)) (hand : Filled) : Type 0 where
   unbegun : segs ≡ [] → hand ≡ empty_buffer stamp.size → IsHand stamp thread segs hand
   opened : (whole : List (List Event)) → (events : List Event) → segs ≡ whole ++ events ∷ []
       → hand ≡ buffer_of stamp thread (length whole, events) → IsHand stamp thread segs hand
 
--- a pool holds these events of so many threads, with this stock
+-- a pool holds these events of this many threads, with this stock
 pub record PoolHolds (stamp : Stamp) (threads : ℕ) (events : Histories) (stock : Stock) (pool : Pool) : Type 0 where
   pub least : 72 ≤ stamp.size
   pub wall : pool.wall ≡ stamp.wall
@@ -53,7 +53,7 @@ pub record PoolHolds (stamp : Stamp) (threads : ℕ) (events : Histories) (stock
   pub closed : All (IsClosed stamp events threads) stock.queue
   pub order : (thread : ℕ) → serials_of thread (stock.taken ++ stock.queue) ≡ below (length (segments_in stamp events thread) - 1)
 
--- a pool with one event more of a thread, whatever it held
+-- a pool with one more event of a thread, whatever it held
 abbrev pub NotesEvent : Pool → Pool → ℕ → Event → Type 0
 NotesEvent old new thread event =
     (stamp : Stamp) (threads : ℕ) (events later : Histories) (stock : Stock) → PoolHolds stamp threads events stock old

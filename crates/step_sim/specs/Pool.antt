@@ -1,5 +1,5 @@
--- The replay of a schedule with a queue of buffers, over the moments of the replay: what stands in the queue, and what was taken
--- away from it.
+-- The replay of a schedule with a queue of buffers, over the moments of the replay: what is in the queue, and what was
+-- taken away from it.
 use Rattle.std.specs.Prelude.{◌≡◌, ◌+◌, ◌-◌, ◌&&◌, ◌==◌, ℕ, zero, suc, nat_lt, List, [], ◌∷◌, ◌++◌, length, take, drop, fold, replicate, None, if◌then◌else◌}
 use Rattle.step_sim.specs.declared.turns.Turns.{Turns}
 use Rattle.step_sim.specs.declared.turns.Turns.TheVariants.{Thread, Patcher}
@@ -10,24 +10,24 @@ pub data Item : Type 0 where
   Fresh : Item
   Segment : (thread : ℕ) → (serial : ℕ) → Item
 
--- what a replay knows of its buffers: how many segments the events of a thread have at a moment, and how many buffers stand in the
--- queue at first
+-- what a replay knows of its buffers: how many segments the events of a thread have at a moment, and how many buffers
+-- are in the queue at first
 pub record Pooling : Type 0 where
   pub segment_count : ℕ → Moment → ℕ
   pub spare : ℕ
 
--- the buffers that no thread holds, by what they hold: those in the queue, its front first, and all that were taken away from it, the
--- first first
+-- the buffers that no thread holds, by what they hold: those in the queue, and all that were taken away from it, each
+-- in order
 pub record Stock : Type 0 where
   pub queue : List Item
   pub taken : List Item
 
--- an item goes to the back of the queue, and the front one is taken away: this very item, where no other stands there
+-- an item goes to the end of the queue, and the first one is taken away; that is the same item if the queue was empty
 abbrev pub queued : Item → Stock → Stock
 queued item stock = record { queue = drop 1 (stock.queue ++ item ∷ []); taken = stock.taken ++ take 1 (stock.queue ++ item ∷ []) }
 
--- Behind a turn of a thread. Where its events have one segment more than before, and had one at least, the segment that was open
--- goes to the queue.
+-- The stock after a turn of a thread. If the events of the thread have one more segment than before, and had at least
+-- one, the segment that was open goes to the queue.
 abbrev pub stock_behind : ℕ → ℕ → ℕ → Stock → Stock
 stock_behind thread before after stock =
     if nat_lt 0 before && (after == before + 1) then queued (Segment thread (before - 1)) stock else stock
@@ -37,14 +37,14 @@ pub record Pooled : Type 0 where
   pub moment : Moment
   pub stock : Stock
 
--- at first: the first moment, and fresh buffers alone
+-- at first: the first moment, and only buffers that aren't begun
 abbrev pub first_stock : ℕ → Stock
 first_stock spare = record { queue = replicate spare Fresh; taken = [] }
 
 abbrev pub first_pooled : Cast → Pooling → Pooled
 first_pooled cast pooling = record { moment = first_moment cast; stock = first_stock pooling.spare }
 
--- a thread's turn is its turn at the moment, with what it does to the queue
+-- a thread's turn is its turn at the moment, together with what it does to the queue
 abbrev pub pooled_turn : Cast → Pooling → ℕ → Pooled → Pooled
 pooled_turn cast pooling thread pooled = record { moment = after; stock = stock_behind thread (segments_at pooled.moment) (segments_at after) pooled.stock }
   where
@@ -54,7 +54,7 @@ pooled_turn cast pooling thread pooled = record { moment = after; stock = stock_
     segments_at : Moment → ℕ
     segments_at moment = pooling.segment_count thread moment
 
--- the patcher's turn changes the moment alone
+-- the patcher's turn changes only the moment
 abbrev pub pooled_step : Cast → Pooled → Pooled
 pooled_step cast pooled = record pooled { moment = patcher_turn cast pooled.moment }
 
@@ -66,19 +66,19 @@ pooled_line cast pooling pooled (Patcher count) = turns count (pooled_step cast)
 abbrev pub pooled_lines : Cast → Pooling → List Turns → Pooled
 pooled_lines cast pooling schedule = fold (pooled_line cast pooling) (first_pooled cast pooling) schedule
 
--- a thread runs out: as many turns as bring it to its end
+-- a thread runs out: it makes as many turns as bring it to its end
 abbrev pub PooledRunsOut : Cast → Pooling → ℕ → Pooled → Pooled → Type 0
 PooledRunsOut cast pooling thread before after =
     (n : ℕ) × (after ≡ turns n (pooled_turn cast pooling thread) before) × (wanted_by cast thread after.moment ≡ None)
 
--- so many threads run out, one after the other, from one of a number on
+-- n threads run out, one after the other, from a thread on
 abbrev pub AllPooledRunOut : Cast → Pooling → ℕ → ℕ → Pooled → Pooled → Type 0
 AllPooledRunOut cast pooling zero thread before after = after ≡ before
 AllPooledRunOut cast pooling (suc n) thread before after =
     (mid : Pooled) × PooledRunsOut cast pooling thread before mid × AllPooledRunOut cast pooling n (thread + 1) mid after
 
--- Where a schedule leaves a replay with buffers: behind its lines in order each thread has run out, thread 1 first. The micro steps
--- that are left change no buffer.
+-- Where a schedule leaves a replay with buffers. After its lines, in order, each thread has run out, thread 1 first.
+-- The micro steps that are left change no buffer.
 abbrev pub PooledReplay : Cast → Pooling → List Turns → Pooled → Type 0
 PooledReplay cast pooling schedule last =
     AllPooledRunOut cast pooling (length cast.passings) 1 (pooled_lines cast pooling schedule) last

@@ -20,32 +20,33 @@ events_at cast passed thread moment =
 abbrev pub segments_at : Cast → List (List Passing) → ℕ → ℕ → Moment → List (List Event)
 segments_at cast passed size thread moment = segments size (events_at cast passed thread moment)
 
--- a replay with so many spare buffers of this size
+-- a replay with this many spare buffers of this size
 abbrev pub pooling_of : Cast → List (List Passing) → ℕ → ℕ → Pooling
 pooling_of cast passed size spare =
     record { segment_count = λ thread moment. length (segments_at cast passed size thread moment); spare = spare }
 
--- the counts of lost segments behind a buffer that was taken away: its thread's is one more, if it held a segment
+-- the counts of lost segments after a buffer was taken away: that of its thread is one more, if the buffer held a
+-- segment
 abbrev pub lost_behind : Filled → List ℕ → List ℕ
 lost_behind buffer first =
     if buffer.begun then slice_set first (buffer.thread - 1) (slice_index first (buffer.thread - 1) + 1) else first
 
--- whether a buffer holds a segment of a thread
+-- whether a buffer holds a segment of this thread
 abbrev pub is_of : ℕ → Filled → Bool
 is_of thread buffer = buffer.begun && (buffer.thread == thread)
 
--- the segments of a thread that has put so many buffers in the queue and holds this one
+-- how many segments a thread has that has put this many buffers into the queue and holds this one
 abbrev pub segments_held : Filled → ℕ → ℕ
 segments_held hand put = if hand.begun then put + 1 else 0
 
--- a thread has lost fewer segments than it has put in the queue
+-- a thread has lost fewer segments than it has put into the queue
 pub record CanLose (first sealed : List ℕ) (thread : ℕ) : Type 0 where
   pub some : 0 < thread
   pub first_there : thread ≤ length first
   pub sealed_there : thread ≤ length sealed
   pub fewer : slice_index first (thread - 1) < slice_index sealed (thread - 1)
 
--- so many numbers from one on
+-- n numbers from one on
 abbrev pub numbers_from : ℕ → ℕ → List ℕ
 numbers_from first zero = []
 numbers_from first (suc n) = first ∷ numbers_from (first + 1) n

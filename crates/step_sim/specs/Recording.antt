@@ -1,4 +1,4 @@
--- Where a replay with buffers stands, for the contracts of private functions.
+-- Where a replay with buffers is, for the contracts of private functions.
 use Rattle.std.specs.Prelude.{◌≡◌, ◌≢◌, ◌<◌, ◌≤◌, ◌^◌, ◌++◌, ◌==◌, ℕ, List, [], length, All, Option, if◌then◌else◌}
 use Rattle.fdr_record.specs.declared.event.Event.{Event}
 use Rattle.machine_step.specs.declared.end.End.{End}
@@ -32,7 +32,7 @@ pooling_in r = pooling_of r.cast r.passed r.stamp.size r.spare
 abbrev pub histories : Recording → Moment → Histories
 histories r moment thread = if thread == 0 then [] else events_at r.cast r.passed thread moment
 
--- the passings are those of the threads' plain runs, at these sleds, and each function's id fits its record
+-- the passings are those of the threads' plain runs, at these sleds, and the id of each function fits its record
 pub record IsTraced (r : Recording) : Type 0 where
   pub run : (thread : ℕ) → 0 < thread → thread ≤ r.threads
       → (end : End) × (last : State) × PlainRun r.cast.program r.limits thread (of_thread r.passed thread) end last
@@ -43,7 +43,7 @@ pub record IsTraced (r : Recording) : Type 0 where
 abbrev pub PoolAt : Recording → Pooled → Pool → Type 0
 PoolAt r pooled pool = PoolHolds r.stamp r.threads (histories r pooled.moment) pooled.stock pool
 
--- patcher, thread and pool stand where a replay is
+-- the patcher, the thread and the pool are where a replay is
 pub record RecordAt (r : Recording) (pooled : Pooled) (p : Patcher) (t : Traced) (pool : Pool) : Type 0 where
   pub stands : StandAt r.cast pooled.moment p t
   pub limits_are : t.limits ≡ r.limits
@@ -51,7 +51,7 @@ pub record RecordAt (r : Recording) (pooled : Pooled) (p : Patcher) (t : Traced)
   pub traced : IsTraced r
   pub holds : PoolAt r pooled pool
 
--- they stand somewhere
+-- they are somewhere in a replay
 abbrev pub Records : Patcher → Traced → Pool → Type 0
 Records p t pool = (r : Recording) × (pooled : Pooled) × RecordAt r pooled p t pool
 
@@ -67,7 +67,7 @@ NotesAny old new thread event =
     → PoolHolds stamp threads later
     (stock_behind thread (length (segments_in stamp events thread)) (length (segments_in stamp later thread)) stock) new
 
--- all threads, thread 1 first, the patcher and the pool stand where a replay is
+-- all threads, in order, the patcher and the pool are where a replay is
 pub record AllRecordAt (r : Recording) (pooled : Pooled) (p : Patcher) (ts : List Traced) (pool : Pool) : Type 0 where
   pub stands : AllStandAt r.cast r.threads r.limits pooled.moment p ts
   pub traced : IsTraced r

@@ -1,4 +1,4 @@
--- The replay of a schedule: turns over a place of the script and a list of loads for each thread.
+-- The replay of a schedule: turns that change a place of the script and a list of loads for each thread.
 use Rattle.std.specs.Prelude.{◌≡◌, ℕ, zero, suc, ◌+◌, ◌-◌, min, List, [], ◌∷◌, ◌++◌, length, Option, Some, None, map, fold, unwrap_or, slice_get, slice_set}
 use Rattle.std.specs.List.{enumerate_from}
 use Rattle.xray_image.specs.Program.{Program}
@@ -10,13 +10,13 @@ use Rattle.machine_step.specs.Loads.{Load, next_load, marks_of}
 use Rattle.step_sim.specs.declared.turns.Turns.{Turns}
 use Rattle.step_sim.specs.declared.turns.Turns.TheVariants.{Thread, Patcher}
 
--- what a replay knows of the threads and the script: the sleds that each thread passes, thread 1 first
+-- what a replay knows of the threads and the script: the sleds that each thread passes, in the order of the threads
 pub record Cast : Type 0 where
   pub program : Program
   pub script : List Command
   pub passings : List (List ℕ)
 
--- where a replay is: the micro steps made so far, and the loads of each thread so far
+-- where a replay is: how many micro steps were made, and the loads of each thread
 pub record Moment : Type 0 where
   pub place : ℕ
   pub loads : List (List Load)
@@ -28,16 +28,17 @@ first_moment cast = record {
   loads = map (λ _. []) cast.passings;
 }
 
--- the item of a thread in a list with one item a thread
+-- the item of a thread in a list with one item per thread
 abbrev pub of_thread : {X : Type 0} → List (List X) → ℕ → List X
 of_thread lists thread = unwrap_or (slice_get lists (thread - 1)) []
 
--- the word that a thread loads next; none where it has ended
+-- the word that a thread loads next, or none if it has ended
 abbrev pub wanted_by : Cast → ℕ → Moment → Option ℕ
 wanted_by cast thread moment =
     next_load cast.program thread (hold_of thread cast.script) (of_thread cast.passings thread) (of_thread moment.loads thread)
 
--- a thread's turn is its next load, of the word's value at the place; one that has ended does nothing
+-- A thread's turn is its next load, with the word's value at the place. The turn of a thread that has ended does
+-- nothing.
 abbrev pub thread_turn : Cast → ℕ → Moment → Moment
 thread_turn cast thread moment = loaded (wanted_by cast thread moment)
   where
@@ -49,11 +50,11 @@ thread_turn cast thread moment = loaded (wanted_by cast thread moment)
           ++ record { word = word; value = code_at cast.program cast.script moment.place word } ∷ []);
     }
 
--- the patcher's turn is a micro step; at the script's end it does nothing
+-- The patcher's turn is a micro step. At the script's end it does nothing.
 abbrev pub patcher_turn : Cast → Moment → Moment
 patcher_turn cast moment = record moment { place = min (moment.place + 1) (total_of cast.program cast.script) }
 
--- so many turns
+-- n turns
 abbrev pub turns : {X : Type 0} → ℕ → (X → X) → X → X
 turns zero turn moment = moment
 turns (suc n) turn moment = turns n turn (turn moment)
@@ -66,12 +67,12 @@ line_turns cast moment (Patcher count) = turns count (patcher_turn cast) moment
 abbrev pub scheduled : Cast → List Turns → Moment
 scheduled cast schedule = fold (line_turns cast) (first_moment cast) schedule
 
--- a thread runs out: as many turns as bring it to its end
+-- a thread runs out: it makes as many turns as bring it to its end
 abbrev pub RunsOut : Cast → ℕ → Moment → Moment → Type 0
 RunsOut cast thread before after =
     (n : ℕ) × (after ≡ turns n (thread_turn cast thread) before) × (wanted_by cast thread after ≡ None)
 
--- so many threads run out, one after the other, from one of a number on
+-- n threads run out, one after the other, from a thread on
 abbrev pub AllRunOut : Cast → ℕ → ℕ → Moment → Moment → Type 0
 AllRunOut cast zero thread before after = after ≡ before
 AllRunOut cast (suc n) thread before after =
@@ -85,8 +86,8 @@ marks_at cast moment = map marks_of_thread (enumerate_from 1 cast.passings)
     marks_of_thread (thread, sleds) =
         marks_of cast.program thread (hold_of thread cast.script) sleds (of_thread moment.loads thread)
 
--- The marks of the threads that a schedule leaves: its lines in order; behind them each thread runs out, thread 1 first;
--- and then the patcher makes the micro steps that are left, which changes no mark.
+-- The marks of the threads that a schedule leaves. Its lines come in order. After them each thread runs out, thread 1
+-- first. Then the patcher makes the micro steps that are left, which change no mark.
 abbrev pub Replay : Cast → List Turns → List (List Mark) → Type 0
 Replay cast schedule marks =
     (last : Moment) × AllRunOut cast (length cast.passings) 1 (scheduled cast schedule) last × (marks ≡ marks_at cast last)

@@ -23,11 +23,11 @@ cast_of program script passings = record { program = program; script = script; p
 abbrev pub passed_of : List ThreadRun → List (List Passing)
 passed_of runs = map (λ run. run.passed) runs
 
--- what is replayed where the threads run so
+-- what is replayed if the threads run in this way
 abbrev pub cast_with : Program → List Command → List ThreadRun → Cast
 cast_with program script runs = cast_of program script (map sleds_of (passed_of runs))
 
--- the buffers that it has besides one a thread, by the setup
+-- the buffers of a setup besides one per thread
 abbrev pub spare_of : Setup → ℕ
 spare_of setup = setup.max - setup.threads
 
@@ -35,8 +35,8 @@ abbrev pub pooling_with : Program → List Command → Setup → List ThreadRun 
 pooling_with program script setup runs =
     pooling_of (cast_with program script runs) (passed_of runs) setup.size (spare_of setup)
 
--- The runs that a schedule leaves, thread 1 first: where its turns come to, each thread has these marks, and so many of its segments
--- were taken away from the queue.
+-- The runs that a schedule leaves, thread 1 first. When its turns are over, each thread has these marks, and this many
+-- of its segments were taken away from the queue.
 pub record IsReplayOf (program : Program) (script : List Command) (schedule : List Turns) (setup : Setup) (runs : List ThreadRun) : Type 0 where
   pub run : IsRun program setup runs
   pub last : Pooled
@@ -44,9 +44,9 @@ pub record IsReplayOf (program : Program) (script : List Command) (schedule : Li
   pub marks : map (λ run. run.marks) runs ≡ marks_at (cast_with program script runs) last.moment
   pub lost : map (λ run. run.lost) runs ≡ map (λ thread. segments_among thread last.stock.taken) (numbers_from 1 setup.threads)
 
--- What a replay leaves is what the runs leave that its schedule leaves: the threads; how many buffers each has put into the queue, how
--- many segments it has, and how many of them are lost; and the buffers of those that are left. So many are lost as the queue had no
--- buffers for.
+-- A replay leaves what the runs of its schedule leave: the threads; how many buffers each has put into the queue, how
+-- many segments it has, and how many of them are lost; and the buffers of those that are left. As many are lost as the
+-- queue had no buffers for.
 pub record IsSimulated (program : Program) (script : List Command) (schedule : List Turns) (setup : Setup) (cpus : List Traced)
     (sealed segments first : List ℕ) (buffers : List Filled) : Type 0 where
   pub runs : List ThreadRun

@@ -1,4 +1,4 @@
--- Schedules as texts: what their lines say, and what is wrong with them.
+-- Schedules as texts: what their lines say, and what is wrong with a text.
 use Rattle.std.specs.Prelude.{ℕ, ◌&&◌, ◌≤◌, Bool, true, false, nat_eq, nat_le, List, [], ◌∷◌, ◌++◌, length, Option, Some, None, Result, Ok, Err, codes, if◌then◌else◌}
 use Rattle.std.specs.Cmp.Lexicographic.{pointwise}
 use Rattle.std.specs.List.{flat_map}
@@ -15,12 +15,12 @@ use Rattle.step_sim.specs.declared.turns.Turns.TheVariants.{Thread, Patcher}
 
 -- ---- what a line says
 
--- behind `t`: the thread T and its loads K
+-- after `t`: the thread T and its loads K
 abbrev pub loads_of : List (List ℕ) → Said
 loads_of (thread ∷ count ∷ []) = Loads (number_of thread) (number_of count)
 loads_of words = Unknown
 
--- behind `p`: the patcher's micro steps K
+-- after `p`: the patcher's micro steps K
 abbrev pub steps_of : List (List ℕ) → Said
 steps_of (count ∷ []) = Steps (number_of count)
 steps_of words = Unknown
@@ -63,18 +63,18 @@ is_well_formed (Loads thread count) = is_count count
 is_well_formed (Steps count) = is_count count
 is_well_formed Unknown = false
 
--- no thread is named, or one that there is
+-- no thread is named, or one that exists
 abbrev pub names_threads : ℕ → Said → Bool
 names_threads threads Nothing = true
 names_threads threads (Loads thread count) = is_thread threads thread
 names_threads threads (Steps count) = true
 names_threads threads Unknown = true
 
--- this fault, unless the test holds
+-- this fault, unless the test passes
 abbrev pub unless : Bool → ScheduleFault → List ScheduleFault
 unless holds fault = if holds then [] else fault ∷ []
 
--- what is wrong with what a line says: Syntax stands before Thread
+-- what is wrong with what a line says: Syntax comes before Thread
 abbrev pub said_faults : ℕ → ℕ → Said → List ScheduleFault
 said_faults threads number said =
     unless (is_well_formed said) (faults.Syntax number) ++ unless (names_threads threads said) (faults.Thread number)
@@ -95,7 +95,7 @@ faults_of threads text =
 abbrev pub turns_of : List ℕ → List Turns
 turns_of text = flat_map line_turns (numbered_lines text)
 
--- these turns where nothing is wrong, and else the first fault
+-- these turns if nothing is wrong, or else the first fault
 abbrev pub decided : List ScheduleFault → List Turns → Result (List Turns) ScheduleFault
 decided [] turns = Ok turns
 decided (fault ∷ later) turns = Err fault
@@ -104,7 +104,7 @@ decided (fault ∷ later) turns = Err fault
 abbrev pub schedule_of : ℕ → List ℕ → Result (List Turns) ScheduleFault
 schedule_of threads text = decided (faults_of threads text) (turns_of text)
 
--- turns that a schedule may give to so many threads: one at least, of one of the threads or of the patcher
+-- turns that a schedule may give to this many threads: at least one, of one of the threads or of the patcher
 abbrev pub AreTurnsOf : ℕ → Turns → Type 0
 AreTurnsOf threads (Thread thread count) = (1 ≤ thread) × (thread ≤ threads) × (1 ≤ count)
 AreTurnsOf threads (Patcher count) = 1 ≤ count

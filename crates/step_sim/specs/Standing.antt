@@ -1,4 +1,4 @@
--- Where the threads and the patcher of a replay stand, for the contracts of private functions.
+-- Where the threads and the patcher of a replay are, for the contracts of private functions.
 use Rattle.std.specs.Prelude.{◌≡◌, ◌<◌, ◌≤◌, ◌+◌, ◌^◌, ℕ, List, [], length, slice_get, vec_len, Some, None}
 use Rattle.xray_image.specs.Program.{Program}
 use Rattle.sled_words.specs.Words.{word_count}
@@ -17,7 +17,7 @@ use Rattle.step_sim.specs.Replay.{Cast, Moment, of_thread}
 
 -- ---- one patcher, one thread
 
--- the patcher has made the first micro steps of a script, up to a place, and no other
+-- the patcher has made the first micro steps of a script, up to a place, and no others
 pub record IsPatcherAt (program : Program) (script : List Command) (place : ℕ) (p : Patcher) : Type 0 where
   pub program_is : p.script.now.program ≡ program
   pub script_is : commands_of p.script.now.lines ≡ script
@@ -37,14 +37,14 @@ pub record IsThreadAt (cast : Cast) (moment : Moment) (t : Traced) : Type 0 wher
   pub sleds : of_thread cast.passings t.thread ≡ sleds_of passed
   pub loaded : HasLoaded t passed (of_thread moment.loads t.thread)
 
--- patcher and thread stand at a moment, and the thread's words are there
+-- the patcher and the thread are at a moment, and the thread's words exist
 pub record StandAt (cast : Cast) (moment : Moment) (p : Patcher) (t : Traced) : Type 0 where
   pub along : IsAlong cast moment
   pub patcher : IsPatcherAt cast.program cast.script moment.place p
   pub words : word_count cast.program t.threads ≤ vec_len p.words
   pub thread : IsThreadAt cast moment t
 
--- they stand at some moment of some replay
+-- they are at some moment of some replay
 abbrev pub Play : Patcher → Traced → Type 0
 Play p t = (cast : Cast) × (moment : Moment) × StandAt cast moment p t
 
@@ -57,7 +57,7 @@ pub record Rests (t : Traced) : Type 0 where
 
 -- ---- all threads
 
--- the patcher and all threads, thread 1 first, stand at a moment
+-- the patcher and all threads, in order, are at a moment
 pub record AllStandAt (cast : Cast) (threads : ℕ) (limits : Limits) (moment : Moment) (p : Patcher) (ts : List Traced) : Type 0 where
   pub count : length ts ≡ threads
   pub passings : length cast.passings ≡ threads
@@ -69,16 +69,16 @@ pub record AllStandAt (cast : Cast) (threads : ℕ) (limits : Limits) (moment : 
   pub no_hold : (number : ℕ) → hold_of number cast.script ≡ None
   pub each : (i : ℕ) (t : Traced) → slice_get ts i ≡ Some t → IsThreadAt cast moment t
 
--- they stand at some moment of some replay
+-- they are at some moment of some replay
 abbrev pub AllPlay : Patcher → List Traced → Type 0
 AllPlay p ts = (cast : Cast) × (threads : ℕ) × (limits : Limits) × (moment : Moment) × AllStandAt cast threads limits moment p ts
 
--- a thread that was given no load yet
+-- a thread that has loaded nothing yet
 pub record HasBegun (program : Program) (script : List Command) (threads : ℕ) (limits : Limits) (number : ℕ) (t : Traced) : Type 0 where
   pub thread_is : IsThreadOf program number threads (hold_of number script) limits t
   pub passed : List Passing
   pub loaded : HasLoaded t passed []
 
--- all threads, thread 1 first, were given no load yet
+-- all threads, in order, have loaded nothing yet
 abbrev pub AllHaveBegun : Program → List Command → ℕ → Limits → List Traced → Type 0
 AllHaveBegun program script threads limits ts = (i : ℕ) (t : Traced) → slice_get ts i ≡ Some t → HasBegun program script threads limits (i + 1) t

@@ -12,12 +12,12 @@ use Rattle.step_sim.specs.Replayed.{spare_of}
 use Rattle.step_sim.specs.Standing.{AllHaveBegun, IsPatcherAt}
 use Rattle.step_sim.specs.Starts.{Start}
 
--- what the fields are a replay of
+-- the replay that the fields are of
 abbrev pub start_in : Inside → Start
 start_in s = record { program = s.patcher.script.now.program; script = commands_of s.patcher.script.now.lines; setup = s.setup }
 
--- the patcher has made the steps before `go`, the threads have loaded nothing, the buffers hold nothing, and there is room for what is
--- left at the end
+-- the patcher has made the steps before `go`, the threads have loaded nothing, the buffers hold nothing, and there is
+-- room for what is left at the end
 pub record HoldsStart (start : Start) (s : Inside) : Type 0 where
   pub accepted : (bytes : List ℕ) × IsAccepted bytes start.program
   pub free : (number : ℕ) → hold_of number start.script ≡ None

@@ -1,4 +1,4 @@
--- What a replay is of.
+-- What a replay is made of.
 use Rattle.std.specs.Prelude.{List}
 use Rattle.xray_image.specs.Program.{Program}
 use Rattle.patch_script.specs.declared.command.Command.{Command}

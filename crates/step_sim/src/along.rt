@@ -1,4 +1,4 @@
-//! Laws of the moments of a replay, each the contract of a function that does nothing.
+//! Laws of the moments of a replay. Each law is the contract of a function that does nothing.
 
 ghost use Rattle.std.specs.Prelude.{◌≡◌, ◌<◌, ℕ, List, Some, Ok, All, length};
 ghost use Rattle.sled_words.specs.Allowed.{IsAllowed};
@@ -11,9 +11,9 @@ ghost use Rattle.step_sim.specs.Replay.{AllRunOut, Cast, Moment, first_moment, p
 use machine_step::what_follows_is_allowed;
 use patch_script::each_script_keeps_sleds;
 
-/// At each moment of a replay the loads of each thread follow the script: at first, and behind each turn
-/// of a thread or of the patcher. So the value of the word that a thread wants next is allowed, and no
-/// passing has torn its sled.
+/// At each moment of a replay the loads of each thread follow the script: at the first moment, and
+/// after each turn of a thread or of the patcher. So the value of the word that a thread wants next
+/// is allowed, and no passing has torn its sled.
 pub fn a_replay_reads_along()
     ensures first { (cast : Cast) → IsAlong cast (first_moment cast) }
     ensures thread { (cast : Cast) (thread : ℕ) (moment : Moment) → 0 < thread
@@ -29,13 +29,13 @@ pub fn a_replay_reads_along()
     what_follows_is_allowed();
 }
 
-/// No replay tears a sled, whatever the program, the script and the schedule are: when all threads have
-/// run out, each passing of each of them has decoded its sled whole.
+/// No replay tears a sled, whatever the program, the script and the schedule are. When all threads
+/// have run out, each of their passings has decoded its sled whole.
 pub fn no_replay_tears_a_sled()
     ensures named { (cast : Cast) (schedule : List Line) (last : Moment) → All NamesThread schedule
         → AllRunOut cast (length cast.passings) 1 (scheduled cast schedule) last
         → TearsNoSled cast last }
-    // Each text that is a schedule names threads from 1 on.
+    // Each text that is a schedule names only threads from 1 on.
     ensures read { (cast : Cast) (threads : ℕ) (text : List ℕ) (schedule : List Line) (last : Moment)
         → schedule_of threads text ≡ Ok schedule
         → AllRunOut cast (length cast.passings) 1 (scheduled cast schedule) last

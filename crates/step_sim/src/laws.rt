@@ -1,4 +1,4 @@
-//! Laws of replays, each the contract of a function that does nothing.
+//! Laws of replays. Each law is the contract of a function that does nothing.
 ghost use Rattle.std.specs.Prelude.{◌≡◌, ℕ, All, List, None, Ok};
 ghost use Rattle.xray_image.specs.Program.{IsAccepted, Program};
 ghost use Rattle.patch_script.specs.declared.command.Command.{Command};
@@ -17,27 +17,27 @@ ghost use Rattle.step_sim.specs.Schedules.{AreTurnsOf, schedule_of};
 
 use machine_step::{one_end, some_end};
 
-/// A schedule leaves one list of marks to each thread: what is printed of a replay is a function of
-/// the program, the script, the passings and the schedule.
+/// A schedule leaves each thread only one list of marks. What is printed of a replay depends only
+/// on the program, the script, the passings and the schedule.
 pub fn one_replay()
     ensures { (cast : Cast) (schedule : List Line) (marks others : List (List Mark))
         → Replay cast schedule marks → Replay cast schedule others → marks ≡ others }
 {}
 
-/// A schedule leaves marks, whatever the program, the passings and the schedule are, where the script
-/// holds nobody: each thread runs out behind finitely many turns. With `one_replay`, exactly one list
-/// of marks to each thread.
+/// If the script holds no thread, a schedule leaves marks, whatever the program, the passings and
+/// the schedule are. Each thread runs out after finitely many turns. With `one_replay`, each thread
+/// has exactly one list of marks.
 pub fn some_replay()
     ensures free { (cast : Cast) (schedule : List Line) → ((thread : ℕ) → hold_of thread cast.script ≡ None)
         → (marks : List (List Mark)) × Replay cast schedule marks }
-    // A script without a line at which a thread or the patcher may wait holds nobody.
+    // A script holds no thread if it has no line at which a thread or the patcher may wait.
     ensures still { (cast : Cast) (schedule : List Line) (lines : Lines) → cast.script ≡ commands_of lines
         → waiting_line lines ≡ None → (marks : List (List Mark)) × Replay cast schedule marks }
 {}
 
-/// A replay with buffers goes through the moments of the replay without them, whatever is counted as a
-/// segment and however many buffers there are: it leaves the same marks. And each replay is one with
-/// buffers.
+/// A replay with buffers goes through the moments of the replay without them, and leaves the same
+/// marks. It doesn't matter what counts as a segment, or how many buffers there are. Each replay is
+/// one with buffers.
 pub fn buffers_change_no_replay()
     ensures is { (cast : Cast) (pooling : Pooling) (schedule : List Line) (last : Pooled)
         → PooledReplay cast pooling schedule last → Replay cast schedule (marks_at cast last.moment) }
@@ -47,14 +47,15 @@ pub fn buffers_change_no_replay()
         × (marks ≡ marks_at cast last.moment) }
 {}
 
-/// A schedule leaves one moment, one queue of buffers, and one list of those that were taken away.
+/// A schedule leaves only one moment, one queue of buffers, and one list of the buffers that were
+/// taken away.
 pub fn one_pooled_replay()
     ensures { (cast : Cast) (pooling : Pooling) (schedule : List Line) (last other : Pooled)
         → PooledReplay cast pooling schedule last → PooledReplay cast pooling schedule other
         → last ≡ other }
 {}
 
-/// A schedule leaves one list of runs: whatever is printed and written of them is a function of the
+/// A schedule leaves only one list of runs. What is printed and written of them depends only on the
 /// program, the script, the schedule and the setup.
 pub fn one_run()
     ensures { (bytes : List ℕ) (program : Program) (script : List Command) (schedule : List Line)
@@ -65,13 +66,13 @@ pub fn one_run()
     one_end();
 }
 
-/// A schedule leaves runs, whatever the program, the schedule and the setup are, where the script holds
-/// nobody. With `one_run`, exactly one list of them.
+/// If the script holds no thread, a schedule leaves runs, whatever the program, the schedule and
+/// the setup are. With `one_run`, there is exactly one list of them.
 pub fn some_run()
     ensures free { (bytes : List ℕ) (program : Program) (script : List Command) (schedule : List Line)
         (setup : Setup) → IsAccepted bytes program → ((thread : ℕ) → hold_of thread script ≡ None)
         → (runs : List ThreadRun) × IsReplayOf program script schedule setup runs }
-    // A script without a line at which a thread or the patcher may wait holds nobody.
+    // A script holds no thread if it has no line at which a thread or the patcher may wait.
     ensures still { (bytes : List ℕ) (program : Program) (script : List Command) (schedule : List Line)
         (setup : Setup) (lines : Lines) → IsAccepted bytes program → script ≡ commands_of lines
         → waiting_line lines ≡ None
@@ -80,14 +81,14 @@ pub fn some_run()
     some_end();
 }
 
-/// A replay loses no more segments than its queue has no buffers for, and of each thread that has
-/// segments it keeps the last one: whatever the program, the script and the setup are, where the
-/// schedule gives turns to its threads alone.
+/// A replay loses as many segments as its queue has no buffers for. It keeps the last segment of
+/// each thread that has segments. This holds for any program, script and setup, if the schedule
+/// gives turns only to the setup's threads.
 pub fn a_replay_loses_few()
     ensures named { (program : Program) (script : List Command) (schedule : List Line) (setup : Setup)
         (runs : List ThreadRun) → All (AreTurnsOf setup.threads) schedule
         → IsReplayOf program script schedule setup runs → AreLost setup.size (spare_of setup) runs }
-    // Each text that is a schedule for so many threads gives turns to these alone.
+    // A text that is a schedule for this many threads gives turns only to them.
     ensures read { (program : Program) (script : List Command) (text : List ℕ) (schedule : List Line)
         (setup : Setup) (runs : List ThreadRun) → schedule_of setup.threads text ≡ Ok schedule
         → IsReplayOf program script schedule setup runs → AreLost setup.size (spare_of setup) runs }

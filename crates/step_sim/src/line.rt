@@ -8,7 +8,7 @@ use crate::fault::ScheduleFault;
 use crate::turns::Turns;
 use text_lines::{Line, Words, parse_number};
 
-/// What the words of a line say. A number is `None` where its word is none.
+/// What the words of a line say. A number is `None` if its word isn't one.
 #[derive(Clone, Copy)]
 pub(crate) enum Said {
     /// There are no words.
@@ -25,11 +25,11 @@ pub(crate) enum Said {
         /// K, how many micro steps.
         count: Option<u32>,
     },
-    /// The words are none of a schedule.
+    /// The words aren't those of a schedule.
     Unknown,
 }
 
-/// What the words behind `t` say.
+/// What the words after `t` say.
 fn loads_of(mut words: Words) -> Said
     ensures { result ≡ loads_of words.entry }
 {
@@ -44,7 +44,7 @@ fn loads_of(mut words: Words) -> Said
     }
 }
 
-/// What the words behind `p` say.
+/// What the words after `p` say.
 fn steps_of(mut words: Words) -> Said
     ensures { result ≡ steps_of words.entry }
 {
@@ -73,7 +73,7 @@ fn said_by(mut words: Words) -> Said
     }
 }
 
-/// The turns that a line gives which says this, or the first refusal that applies.
+/// The turns of a line that says this, or its first refusal.
 fn judged(said: Said, number: u32, threads: u32) -> Result<Option<Turns>, ScheduleFault>
     ensures reads { listed result ≡ decided (said_faults threads number said) (turns_said said) }
     ensures within { IfOk result (λ turns. IfSome turns (AreTurnsOf threads)) }
@@ -94,8 +94,7 @@ fn judged(said: Said, number: u32, threads: u32) -> Result<Option<Turns>, Schedu
     }
 }
 
-/// The turns that a line gives; none where it has no words. The first refusal of the line where one
-/// applies.
+/// The turns of a line, or none if it has no words. If the line is refused, its first refusal.
 pub(crate) fn read_line(line: &Line, threads: u32) -> Result<Option<Turns>, ScheduleFault>
     ensures reads { listed result
         ≡ decided (line_faults threads (line.now.number, line.now.bytes.now))

@@ -14,13 +14,13 @@ use std::alloc::Global;
 use xray_image::Image;
 use xray_io::NoMemory;
 
-/// The words of an image and its threads, with the script whose first micro steps are made in them.
+/// The words of an image and its threads, and the script whose first micro steps were made in them.
 #[derive(Drop)]
 pub(crate) struct Patcher<'a> {
     script: &'a Script,
     /// The words by their numbers.
     words: Vec<u64>,
-    /// How many micro steps are made.
+    /// How many micro steps were made.
     place: u64,
 }
 
@@ -29,7 +29,7 @@ impl<'a> Patcher<'a> {
     ghost use Rattle.patch_script.specs.CodeAt.{code_at};
     ghost use Rattle.step_sim.specs.Standing.{IsPatcherAt};
 
-    /// The words as they are when the threads start: with the script's steps before `go` made.
+    /// The words as they are when the threads start: after the script's steps before `go`.
     pub(crate) fn new(
         alloc: Global,
         image: &Image,
@@ -53,7 +53,7 @@ impl<'a> Patcher<'a> {
         Ok(patcher)
     }
 
-    /// The value that a word has.
+    /// The value of a word.
     pub(crate) fn load(&self, word: u32) -> u64
         requires { word < vec_len self.now.words }
         ensures { (program : Program) (script : List Command) (place : ℕ)
@@ -63,7 +63,7 @@ impl<'a> Patcher<'a> {
         self.words[word as usize]
     }
 
-    /// Makes so many micro steps, or those that are left where they are fewer.
+    /// Makes this many micro steps, or all that are left if there are fewer.
     pub(crate) fn make_steps(&mut self, count: u64)
         ensures at { (program : Program) (script : List Command) (place : ℕ)
             → IsPatcherAt program script place self.old
@@ -77,7 +77,7 @@ impl<'a> Patcher<'a> {
         }
     }
 
-    /// Makes the next micro step. Tells whether there was one.
+    /// Makes the next micro step. Answers whether there was one.
     fn make_step(&mut self) -> bool
         ensures at { (program : Program) (script : List Command) (place : ℕ)
             → IsPatcherAt program script place self.old
@@ -95,7 +95,7 @@ impl<'a> Patcher<'a> {
         true
     }
 
-    /// What a micro step does to the words. Nobody waits: the script has no `await`.
+    /// What a micro step does to the words. Nothing waits: the script has no `await`.
     fn apply(&mut self, step: Micro)
         ensures words { self.new.words.items ≡ stored self.old.words.items step }
         ensures room { vec_len self.new.words ≡ vec_len self.old.words }
@@ -114,7 +114,7 @@ impl<'a> Patcher<'a> {
         ensures script { self.new.script ≡ self.old.script }
         ensures place { self.new.place ≡ self.old.place }
     {
-        // A script stores in no word that isn't there.
+        // A script stores only in words that exist.
         if let Some(held) = self.words.get_mut(word as usize) {
             *held = value;
         }

@@ -12,14 +12,15 @@ use machine_step::Setup;
 use std::alloc::Global;
 use xray_io::{NoMemory, Wall};
 
-/// The buffers of all threads: one in the hand of each, and the others in a queue. A thread whose hand
-/// is full puts it at the back of the queue and takes the front one, whose segment is lost.
+/// The buffers of all threads. Each thread has one in its hand, and the others are in a queue. A
+/// thread whose hand is full puts it at the end of the queue and takes the first one, whose segment
+/// is lost.
 #[derive(Drop)]
 pub(crate) struct Pool {
-    /// The buffer that each thread fills, thread 1 first.
+    /// The buffer that each thread fills, in the order of the threads.
     hands: Vec<Buffer>,
     queue: Ring<Buffer>,
-    /// How many buffers each thread has put at the back of the queue.
+    /// How many buffers each thread has put into the queue.
     sealed: Vec<u32>,
     /// How many of those were taken away again.
     first: Vec<u32>,
@@ -27,16 +28,18 @@ pub(crate) struct Pool {
     pid: u32,
 }
 
-/// What the buffers of a replay leave, thread 1 first.
+/// What the buffers of a replay leave, in the order of the threads.
 #[derive(Drop)]
 pub(crate) struct Left {
-    /// How many buffers each thread has put at the back of the queue.
+    /// How many buffers each thread has put into the queue.
     pub(crate) sealed: Vec<u32>,
-    /// How many segments each thread has: one a buffer that it has put there, and the one in its hand.
+    /// How many segments each thread has: one per buffer that it has put into the queue, and the
+    /// one in its hand.
     pub(crate) segments: Vec<u32>,
-    /// How many of the buffers that were put there were taken away again.
+    /// How many of the buffers in the queue were taken away again.
     pub(crate) first: Vec<u32>,
-    /// The buffers that hold a segment: by thread, and then by segment.
+    /// The buffers that hold a segment, thread by thread. Those of a thread are in the order of its
+    /// segments.
     pub(crate) kept: Vec<Buffer>,
 }
 
@@ -46,7 +49,7 @@ impl Pool {
     ghost use Rattle.step_sim.specs.Holding.{CanNote, IsFull, NotesEvent, PoolHolds};
     ghost use Rattle.step_sim.specs.Recording.{NotesAny};
 
-    /// The buffers before the first event: all of them fresh.
+    /// The buffers before the first event. None of them is begun.
     pub(crate) fn new(alloc: Global, setup: &Setup) -> Result<Pool, NoMemory>
         requires least { 72 ≤ setup.now.size }
         requires most { setup.now.size ≤ 1048576 }
@@ -76,7 +79,7 @@ impl Pool {
         }
     }
 
-    /// Notes an event of a thread: in its hand, where there is room, and else in the next one.
+    /// Notes an event of a thread: in its hand if there is room, and otherwise in the next buffer.
     fn note(&mut self, thread: u32, event: &Event)
         requires can { CanNote self.old thread }
         requires id { event.now.func < 2 ^ 28 }
@@ -135,8 +138,8 @@ impl Pool {
         }
     }
 
-    /// Notes an event of a thread whose hand has no room for it: the hand goes to the back of the
-    /// queue, and the event begins a segment in the front buffer.
+    /// Notes an event of a thread whose hand has no room for it. The hand goes to the end of the
+    /// queue, and the event begins a segment in the first buffer of the queue.
     fn turn(&mut self, thread: u32, event: &Event)
         requires can { CanNote self.old thread }
         requires full { IsFull self.old thread event.now }
@@ -155,7 +158,7 @@ impl Pool {
     }
 }
 
-/// Room for so many items, and none of them.
+/// Room for this many items, with no items in it.
 pub(crate) fn room_for<T>(alloc: Global, count: u32) -> Result<Vec<T>, NoMemory>
     ensures empty { IfOk result (λ items. items.items ≡ []) }
     ensures room { IfOk result (λ items. vec_capacity items ≡ count) }
@@ -163,7 +166,7 @@ pub(crate) fn room_for<T>(alloc: Global, count: u32) -> Result<Vec<T>, NoMemory>
     Ok(Vec::with_capacity(alloc, count as usize)?)
 }
 
-/// So many buffers of a size, all fresh.
+/// This many buffers of a size, none of them begun.
 fn fresh_buffers(alloc: Global, count: u32, size: u32) -> Result<Vec<Buffer>, NoMemory>
     requires least { 72 ≤ size }
     requires most { size ≤ 1048576 }
@@ -176,7 +179,8 @@ fn fresh_buffers(alloc: Global, count: u32, size: u32) -> Result<Vec<Buffer>, No
     Ok(buffers)
 }
 
-/// Counts the segments of each thread: those that it has put in the queue, and the one in its hand.
+/// Counts the segments of each thread: those that it has put into the queue, and the one in its
+/// hand.
 fn count_segments(hands: &[Buffer], sealed: &[u32], segments: &mut Vec<u32>)
     requires empty { segments.old.items ≡ [] }
     requires room { length hands.now ≤ vec_capacity segments.old }
@@ -192,7 +196,8 @@ fn count_segments(hands: &[Buffer], sealed: &[u32], segments: &mut Vec<u32>)
     }
 }
 
-/// Moves the buffers of a thread's segments behind others, in their order. There are few buffers.
+/// Moves the buffers of a thread's segments after those in `kept`, in order. There are few buffers,
+/// so the list is searched each time.
 fn take_of(rest: &mut Vec<Buffer>, thread: u32, kept: &mut Vec<Buffer>)
     requires room { vec_len kept.old + vec_len rest.old ≤ vec_capacity kept.old }
     ensures kept { kept.new.items ≡ kept.old.items ++ filter (is_of thread) rest.old.items }
@@ -212,15 +217,15 @@ fn take_of(rest: &mut Vec<Buffer>, thread: u32, kept: &mut Vec<Buffer>)
     }
 }
 
-/// Counts the segment that a buffer held when it was taken away, if it held one, by how many buffers
-/// each thread has put in the queue.
+/// Counts a lost segment, if the buffer that was taken away held one. The counts of buffers in the
+/// queue say whose it was.
 fn count_lost(first: &mut Vec<u32>, sealed: &[u32], taken: &Buffer)
     requires { taken.now.begun ≡ true → CanLose first.old.items sealed.now taken.now.thread }
     ensures { first.new.items ≡ lost_behind taken.now first.old.items }
 {
     if taken.begun() {
         let owner = taken.thread() as usize - 1;
-        // It has lost no more than it has put there.
+        // The thread has lost no more segments than it has put into the queue.
         prove!(first[owner] < sealed[owner]);
         first[owner] += 1;
     }

@@ -1,4 +1,4 @@
-//! The words in which a line on err says why a text is no schedule, or why a script isn't
+//! The words that a line on err gives for a text that isn't a schedule, or for a script that isn't
 //! replayed.
 
 use crate::fault::ScheduleFault;

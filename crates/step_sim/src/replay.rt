@@ -19,20 +19,22 @@ use machine_step::Cpu;
 /// What a replay leaves.
 #[derive(Drop)]
 pub struct SimEnd<'a> {
-    /// The threads, thread 1 first: each has ended.
+    /// The threads, in order. Each has ended.
     pub cpus: Vec<Cpu<'a>>,
-    /// How many buffers each thread has put at the back of the queue, thread 1 first.
+    /// How many buffers each thread has put into the queue, in the order of the threads.
     pub sealed: Vec<u32>,
-    /// Into how many segments the events of each thread were cut: all that it has put there, and the
-    /// one that it holds. A thread without events has none.
+    /// How many segments the events of each thread were cut into: those that it has put into the
+    /// queue, and the one that it holds. A thread without events has none.
     pub segments: Vec<u32>,
-    /// How many of those were taken away again: the number of a thread's first segment that is left.
+    /// How many of those were taken away again. This is the number of the first segment of the
+    /// thread that is left.
     pub first: Vec<u32>,
-    /// The buffers that hold an event: by thread, and then by segment.
+    /// The buffers that hold an event, thread by thread. Those of a thread are in the order of its
+    /// segments.
     pub buffers: Vec<Buffer>,
 }
 
-/// The lines of a schedule, and behind them each thread up to its end.
+/// Takes the lines of a schedule, and after them runs each thread to its end.
 pub(crate) fn play(cpus: &mut Vec<Cpu>, patcher: &mut Patcher, pool: &mut Pool, lines: &[Turns])
     requires play { AllPlay patcher.old cpus.old.items }
     requires records { AllRecord patcher.old cpus.old.items pool.old }
@@ -55,7 +57,7 @@ pub(crate) fn play(cpus: &mut Vec<Cpu>, patcher: &mut Patcher, pool: &mut Pool, 
     run_all_out(cpus, patcher, pool);
 }
 
-/// The turns of a line.
+/// Takes the turns of a line.
 fn take_turns(cpus: &mut Vec<Cpu>, patcher: &mut Patcher, pool: &mut Pool, turns: Turns)
     requires play { AllPlay patcher.old cpus.old.items }
     requires records { AllRecord patcher.old cpus.old.items pool.old }
@@ -78,7 +80,7 @@ fn take_turns(cpus: &mut Vec<Cpu>, patcher: &mut Patcher, pool: &mut Pool, turns
     }
 }
 
-/// Each thread up to its end, thread 1 first.
+/// Runs each thread to its end, thread 1 first.
 fn run_all_out(cpus: &mut Vec<Cpu>, patcher: &Patcher, pool: &mut Pool)
     requires play { AllPlay patcher.now cpus.old.items }
     requires records { AllRecord patcher.now cpus.old.items pool.old }

@@ -11,10 +11,10 @@ use std::alloc::Global;
 use std::marker::Model;
 use text_lines::{Lines, count_lines};
 
-/// How many lines the text of a schedule has at the most.
+/// The most lines that the text of a schedule may have.
 const LINES_LIMIT: usize = 1_048_576;
 
-/// A stated order of loads and stores: whose turns come when. Contracts see it as the list of the
+/// A stated order of loads and stores: whose turns come when. In contracts it is the list of the
 /// turns, in order.
 #[derive(Debug, Drop)]
 pub struct Schedule {
@@ -31,7 +31,7 @@ impl Model for Schedule {
 }
 
 impl Schedule {
-    /// The turns, first to last: those of each line of the text that has words.
+    /// The turns, in order: one item for each line of the text that has words.
     pub fn lines(&self) -> &[Turns]
         ensures { result.now ≡ self.now }
     {
@@ -39,16 +39,16 @@ impl Schedule {
     }
 }
 
-/// The schedule that a text gives to so many threads, which are numbered from 1. A line `t T K` is K
-/// turns of thread T, each a load, and a line `p K` is K turns of the patcher, each a micro step. K is
-/// at least 1 and fits 32 bits. A line without words is skipped.
+/// The schedule that a text gives to `threads` threads, numbered from 1. A line `t T K` is K turns
+/// of thread T, each of which is a load. A line `p K` is K turns of the patcher, each of which is a
+/// micro step. K is at least 1 and fits 32 bits. A line without words is skipped.
 ///
-/// A text that is no schedule is refused by its first fault, as `ScheduleFault` tells; `NoMemory` may
-/// come in place of any answer. Memory is taken once: 12 bytes for each line of the text.
+/// A text that isn't a schedule is refused by its first fault; see `ScheduleFault`. `NoMemory` may
+/// come in place of any answer.
 pub fn read_schedule(alloc: Global, text: &[u8], threads: u32) -> Result<Schedule, ScheduleFault>
     requires { (1 ≤ threads) × (threads ≤ 16) }
     ensures reads { (result ≡ Err NoMemory) ⊎ (result ≡ schedule_of threads text.now) }
-    // What a replay on so many threads asks of its schedule.
+    // What a replay with this many threads asks of its schedule.
     ensures within { IfOk result (All (AreTurnsOf threads)) }
 {
     let count = count_lines(text);

@@ -8,11 +8,11 @@ use thiserror::Error;
 /// Why `SimStart::new` gives no replay.
 #[derive(Clone, Copy, Debug, PartialEq, Eq, Error)]
 pub enum SimFault {
-    /// At the command on this line of the script, counted from 1, a thread or the patcher may wait: it
-    /// is a `hold`, a `release` or an `await`. In a stated order nobody waits.
+    /// At the command on this line of the script, counted from 1, a thread or the patcher may wait:
+    /// it is a `hold`, a `release` or an `await`. In a stated order nothing waits.
     #[error("line {0} may wait")]
     Waits(u32),
-    /// There is no memory for the words or for a thread.
+    /// Memory for the words or for a thread was refused.
     #[error("out of memory")]
     NoMemory,
 }

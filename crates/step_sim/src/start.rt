@@ -1,4 +1,4 @@
-//! A replay before its first turn: all of its memory is taken here.
+//! A replay before its first turn. All its memory is asked for here.
 
 ghost use Rattle.std.specs.Prelude.{◌≡◌, ◌≤◌, ◌↔◌, ℕ, All, Err, Some, IfOk, length};
 ghost use Rattle.patch_script.specs.Plans.{waiting_line};
@@ -25,7 +25,7 @@ use xray_io::NoMemory;
 
 /// A replay before its first turn, with all that it needs: the words as they are when the threads
 /// start, the threads before their first loads, the buffers, and room for what is left at the end.
-/// `new` takes all memory, and `play` none.
+/// `new` may fail for want of memory, and `play` can't.
 #[derive(Drop)]
 pub struct SimStart<'a, 's> {
     patcher: Patcher<'s>,
@@ -51,9 +51,9 @@ impl<'a, 's> Model for SimStart<'a, 's> {
 }
 
 impl<'a, 's> SimStart<'a, 's> {
-    /// Takes all memory of a replay of this script over the image of these steps. `Waits` comes exactly
-    /// when the script has a line at which somebody may wait, with the number of the first; `NoMemory`
-    /// if memory was refused.
+    /// Prepares a replay of this script over the image of these steps. `Waits` comes exactly when
+    /// the script has a line at which a thread or the patcher may wait. It has the number of the
+    /// first such line. `NoMemory` means that an allocation was refused.
     pub fn new(
         alloc: Global,
         steps: &'a Steps<'a>,
@@ -89,12 +89,12 @@ impl<'a, 's> SimStart<'a, 's> {
         })
     }
 
-    /// Replays a schedule: the lines in order, whose turns are loads of the threads and micro steps of
-    /// the patcher; then thread 1 runs to its end, then thread 2, up to the last. The threads start
-    /// after the micro steps before the script's `go`. What is left of a line whose thread has ended,
-    /// or of one of the patcher after the script's last step, does nothing and takes no time. The
-    /// micro steps that are left when all threads have ended aren't made, since nobody loads after
-    /// them. Takes no memory, and always comes to an end.
+    /// Replays a schedule. Its lines are taken in order; their turns are loads of the threads and
+    /// micro steps of the patcher. After them thread 1 runs to its end, then thread 2, up to the
+    /// last. The threads start after the micro steps before the script's `go`. The turns of a
+    /// thread that has ended do nothing, and neither do those of the patcher after the script's
+    /// last step. Micro steps that are left when all threads have ended aren't made, since no load
+    /// would see them. A replay always comes to an end.
     pub fn play(self, schedule: &Schedule) -> SimEnd<'a>
         requires { All (AreTurnsOf self.setup.threads) schedule.now }
         ensures { IsSimulated self.entry.program self.entry.script schedule.now self.entry.setup
@@ -129,7 +129,7 @@ impl<'a, 's> SimStart<'a, 's> {
     }
 }
 
-/// All threads before their first loads, thread 1 first.
+/// All threads before their first loads, in order.
 fn new_threads<'a>(
     alloc: Global,
     steps: &'a Steps<'a>,

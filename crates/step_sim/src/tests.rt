@@ -1,4 +1,4 @@
-//! Schedules of texts, and why others are none.
+//! Schedules of texts, and why other texts aren't schedules.
 
 use super::*;
 use std::alloc::{AllocError, Global};
@@ -6,6 +6,7 @@ use std::test::Fail;
 
 mod buffers;
 mod replays;
+mod sizes;
 
 #[test]
 fn a_schedule_has_the_turns_of_its_lines(rt: HostRuntime) -> Result<(), Fail> {
@@ -49,7 +50,7 @@ fn a_text_is_refused_by_its_first_fault(rt: HostRuntime) {
     }
 }
 
-/// A text with these bytes in its first line, and so many lines.
+/// A text of `lines` lines, with these bytes in its first line.
 fn lines_of(alloc: Global, first: &[u8], lines: usize) -> Result<Vec<u8>, AllocError> {
     let mut text = Vec::from_slice(alloc, first)?;
     text.extend_from_slice(&vec![in alloc; b'\n'; lines]?)?;

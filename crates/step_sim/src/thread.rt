@@ -35,14 +35,14 @@ pub(crate) fn new_thread<'a>(
     ensures { IfOk result
         (HasBegun steps.now (commands_of script.now.lines) setup.now.threads setup.now.limits number) }
 {
-    // Says that some accepted file holds the image.
+    // Called for its contract: some accepted file holds the image.
     steps.image();
     some_end();
     let hold = script.hold_of(number);
     Cpu::new(alloc, steps, number, setup.threads, hold, setup.limits)
 }
 
-/// Lets a thread into its next passing, where it stands before one.
+/// Lets a thread into its next passing, if it is before one.
 fn let_in(cpu: &mut Cpu)
     ensures thread { IsSameThread cpu.old cpu.new }
     ensures loads { (passed : List Passing) (loads : List Load)
@@ -55,7 +55,8 @@ fn let_in(cpu: &mut Cpu)
     }
 }
 
-/// The word that a thread loads next, for which it is let into its passing. `None` where it has ended.
+/// The word that a thread loads next. The thread is let into its passing for that. `None` if it has
+/// ended.
 fn next_word(cpu: &mut Cpu) -> Option<u32>
     ensures thread { IsSameThread cpu.old cpu.new }
     ensures loads { (passed : List Passing) (loads : List Load)
@@ -65,7 +66,7 @@ fn next_word(cpu: &mut Cpu) -> Option<u32>
     ensures nearer { loads_left cpu.new ≤ loads_left cpu.old }
 {
     let_in(cpu);
-    // Says that the passings, and so the events, fit 32 bits.
+    // Called for its contract: the passings, and so the events, fit 32 bits.
     cpu.passings();
     match cpu.want() {
         Want::Load(word) => Some(word),
@@ -73,7 +74,8 @@ fn next_word(cpu: &mut Cpu) -> Option<u32>
     }
 }
 
-/// A turn of a thread: its next load. Tells whether there was one: a thread that has ended makes none.
+/// A turn of a thread: its next load. Answers whether there was one. A thread that has ended makes
+/// none.
 fn make_load(cpu: &mut Cpu, patcher: &Patcher, pool: &mut Pool) -> bool
     requires play { Play patcher.now cpu.old }
     requires records { Records patcher.now cpu.old pool.old }
@@ -88,7 +90,7 @@ fn make_load(cpu: &mut Cpu, patcher: &Patcher, pool: &mut Pool) -> bool
     a_replay_reads_along();
     match next_word(cpu) {
         Some(word) => {
-            // Says that the passings, and so the events, fit 32 bits.
+            // Called for its contract: the passings, and so the events, fit 32 bits.
             cpu.passings();
             let thread = cpu.thread();
             let event = cpu.give(patcher.load(word));
@@ -99,7 +101,7 @@ fn make_load(cpu: &mut Cpu, patcher: &Patcher, pool: &mut Pool) -> bool
     }
 }
 
-/// So many turns of a thread, or those up to its end where they are fewer.
+/// Makes this many turns of a thread, or all turns up to its end if there are fewer.
 pub(crate) fn make_loads(cpu: &mut Cpu, patcher: &Patcher, pool: &mut Pool, count: u32)
     requires play { Play patcher.now cpu.old }
     requires records { Records patcher.now cpu.old pool.old }
@@ -116,7 +118,7 @@ pub(crate) fn make_loads(cpu: &mut Cpu, patcher: &Patcher, pool: &mut Pool, coun
     }
 }
 
-/// All turns of a thread up to its end.
+/// Makes all turns of a thread up to its end.
 pub(crate) fn run_out(cpu: &mut Cpu, patcher: &Patcher, pool: &mut Pool)
     requires play { Play patcher.now cpu.old }
     requires records { Records patcher.now cpu.old pool.old }

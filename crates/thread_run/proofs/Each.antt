@@ -1,4 +1,4 @@
--- Items of a list, each by itself.
+-- Items of a list, each on its own.
 use Rattle.std.proofs.Common.{◌≡◌, ℕ, ◌<◌, ◌≤◌, List, Some, sym, subst, ◌∙◌, length, get_or}
 use Rattle.std.specs.Prelude.{All, slice_get}
 use Rattle.std.proofs.lemmas.Option.{get_or_from_slice_get, slice_get_within}
@@ -6,7 +6,7 @@ use Rattle.std.proofs.lemmas.Option.{get_or_from_slice_get, slice_get_within}
 pub ready_at : {X : Type 0} (P : X → Type 0) (xs : List X) → All P xs → (i : ℕ) (x : X) → i < length xs → x ≡ get_or xs i x → P x
 ready_at P xs all i x within is = subst P (sym is) (all i x within)
 
--- what holds of what stood at a place and what stands there
+-- what holds of an item that was at a place and the one that is there after the change
 pub changed : {X : Type 0} (P : X → X → Type 0) (xs ys : List X) (i : ℕ) (old new a b : X) → slice_get xs i ≡ Some old
     → slice_get ys i ≡ Some new → a ≡ get_or xs i old → b ≡ get_or ys i old → P a b → P old new
 changed P xs ys i old new a b here there is_a is_b holds =

@@ -1,4 +1,5 @@
--- The events that a thread records: their functions' ids fit their records, and there are no more of them than marks.
+-- The events that a thread records. The ids of their functions fit their records, and there are at most as many events
+-- as marks.
 use Rattle.std.proofs.Common.{◌≡◌, ℕ, suc, ◌-◌, ◌<◌, ◌≤◌, ◌^◌, List, [], ◌∷◌, ◌++◌, Bool, true, false, subst, refl, arith, length, length-append, map, get_or}
 use Rattle.std.specs.Prelude.{All, IfSome, Option, Some, None, filter, if◌then◌else◌}
 use Rattle.std.specs.List.{zip}

@@ -13,7 +13,7 @@ use Rattle.thread_run.specs.Buffers.{is_begun, last_buffers}
 
 -- ---- lists
 
--- one more item behind others, of which some are left out
+-- one more item after others, of which some are left out
 one_out : {X : Type 0} (k : ℕ) (xs : List X) (x : X) → k < length xs → drop (suc k) (xs ++ x ∷ []) ≡ drop 1 (drop k xs) ++ x ∷ []
 one_out k [] x within = absurd (omega (arith, within))
 one_out zero (y ∷ xs) x within = refl
@@ -89,7 +89,7 @@ module _ (stamp : Stamp) (thread n : ℕ) where
       ∙ ap (drop (suc (length segs))) (sym (append_assoc Fresh (Of segs) (b ∷ [])))
       ∙ one_out (length segs) (Fresh ++ Of segs) b within
 
-  -- all have the size
+  -- all have the same size
   head_size : (k m : ℕ) (pairs : List (ℕ × List Event)) (b : Filled) (rest : List Filled)
       → drop k (replicate m (empty_buffer stamp.size) ++ map (buffer_of stamp thread) pairs) ≡ b ∷ rest → b.size ≡ stamp.size
   head_size k zero [] b rest e = absurd (no k e)
@@ -147,7 +147,7 @@ module _ (stamp : Stamp) (thread n : ℕ) where
 
 -- ---- segments
 
--- no segment, no event
+-- if there are no segments, there are no events
 no_event : (size : ℕ) (events : List Event) → length (segments size events) ≡ 0 → events ≡ []
 no_event size events none = by_segs (segments size events) none (hold_all size events)
   where
@@ -162,7 +162,7 @@ begins_first size events event none =
     let empty = no_event size events none in
     rw empty refl
 
--- an event without room begins one
+-- an event that has no room begins a segment
 pub begins_next : (size : ℕ) (events opened : List Event) (whole : List (List Event)) (event : Event) → segments size events ≡ whole ++ opened ∷ []
     → has_room size (opened ++ event ∷ []) ≡ false → segments size (events ++ event ∷ []) ≡ segments size events ++ (event ∷ []) ∷ []
 begins_next size events opened whole event is full =
@@ -170,7 +170,7 @@ begins_next size events opened whole event is full =
     ∙ sym (append_assoc whole (opened ∷ []) ((event ∷ []) ∷ []))
     ∙ ap (λ (ss : List (List Event)). ss ++ (event ∷ []) ∷ []) (sym is)
 
--- there are no more segments than events
+-- there are at most as many segments as events
 many : (segs : List (List Event)) → AllByRecursion (λ s. s ≢ []) segs → length segs ≤ length (flat_map (λ s. s) segs)
 many [] some = omega arith
 many ([] ∷ segs) (some, rest) = absurd (some refl)
@@ -182,7 +182,7 @@ pub few_segments : (size : ℕ) (events : List Event) → length (segments size 
 few_segments size events =
     subst (λ (es : List Event). length (segments size events) ≤ length es) (hold_all size events) (many (segments size events) (hold_some size events))
 
--- ---- one buffer more
+-- ---- one more buffer
 
 pub filter_more : (xs : List Filled) (x : Filled) → x.begun ≡ true → filter is_begun (xs ++ x ∷ []) ≡ filter is_begun xs ++ x ∷ []
 filter_more [] x begun = rw begun refl

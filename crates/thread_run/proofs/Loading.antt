@@ -74,7 +74,7 @@ is_found plan t v new word value script thread count fetched = record {
   here = sym (code_is plan fetched.place word) ∙ ap (λ (p : Plan). code_in p fetched.place word) (sym script) ∙ fetched.here;
 }
 
--- no place that is found is behind the script's end
+-- no place that is found is after the script's end
 pub found_within : (plan : Plan) (t : Traced) (seen word value place : ℕ) → IsFound plan t seen word value place
     → place ≤ total_of plan.program (commands_of plan.lines)
 found_within plan t seen word value place found =
@@ -126,7 +126,7 @@ module _ (plan : Plan) where
       subst (λ (q : Program). IsAllowed q t.thread word value) (sym is.program)
       (subst (λ (v : ℕ). IsAllowed plan.program t.thread word v) found.here here)
 
-  -- loads with the one that was made
+  -- the loads, with the one that was made
   more : (t t' : Traced) (passed : List Passing) (seen place : ℕ) (loads : List Load) (word value : ℕ) → IsThreadIn plan t
       → Along t passed seen loads → t.want ≡ Loads word → IsFound plan t seen word value place → t'.thread ≡ t.thread
       → HasLoaded t' passed (loads ++ record { word = word; value = value } ∷ [])
@@ -141,7 +141,7 @@ module _ (plan : Plan) where
       loaded loads place word (up_to t passed seen place loads found.from along) (next_in t passed loads word is along.loaded wants) within in
       record { loaded = has; follow = subst (λ (n : ℕ). Follow n value) (sym same) (subst (Follow t.thread) found.here one) }
 
-  -- loads of before, at a later place
+  -- the same loads, at a later place
   still : (t t' : Traced) (passed : List Passing) (seen place : ℕ) (loads : List Load) → Along t passed seen loads → seen ≤ place
       → t'.thread ≡ t.thread → HasLoaded t' passed loads → Along t' passed place loads
   still t t' passed seen place loads along le same has = record {
@@ -274,7 +274,7 @@ same_in plan t t' is same = record {
   accepted = is.accepted;
 }
 
--- the same loads of a thread that has gone through a gate
+-- the same loads, of a thread that has passed a gate
 pub along_same : (plan : Plan) (t t' : Traced) (v : WorkView) (passed : List Passing) → t'.thread ≡ t.thread
     → ((loads : List Load) → HasLoaded t passed loads → HasLoaded t' passed loads) → IsAlong plan t v passed → IsAlong plan t' v passed
 along_same plan t t' v passed same keeps along = record {
@@ -339,7 +339,7 @@ fresh_in plan t p v script fresh next view = record {
   loads = ap (λ (x : WorkView). x.loads) view;
 }
 
--- a thread that was made has no load yet
+-- a new thread has no load yet
 pub new_thread : (plan : Plan) (program : Program) (threads : ℕ) (hold : Option ℕ) (limits : Limits) (number : ℕ) (made : Result Traced NoMemory)
     → plan.program ≡ program → plan.threads ≡ threads → hold ≡ hold_of number (commands_of plan.lines)
     → (bytes : List ℕ) × IsAccepted bytes program → 0 < number

@@ -1,4 +1,4 @@
--- One event more in a ring.
+-- One more event in a ring.
 use Rattle.std.proofs.Common.{◌≡◌, ℕ, suc, ◌+◌, ◌-◌, ◌<◌, ◌≤◌, List, [], ◌∷◌, ◌++◌, Bool, true, false, refl, sym, subst, ap, ◌∙◌, arith, length, length-append, append_assoc, map, take, drop}
 use Rattle.std.specs.Prelude.{filter}
 use Rattle.xray_io.specs.declared.faults.Wall.{Wall}
@@ -24,7 +24,7 @@ pub record HandIs (ring : RingRecorder) (events : List Event) : Type 0 where
 some_buffer : (ring : RingRecorder) → 0 < length (buffers_in ring)
 some_buffer ring = omega (arith, length-append ring.sealed (ring.hand ∷ []))
 
--- with a segment, the hand holds the last one
+-- if there is a segment, the hand holds the last one
 pub hand_is : (ring : RingRecorder) (events : List Event) → StandsFor ring events → 0 < ring.segments → HandIs ring events
 hand_is ring events at some =
     let S : Stamp = stamp_in ring in
@@ -177,7 +177,7 @@ pub collected : (ring : RingRecorder) (events : List Event) → StandsFor ring e
 collected ring events at =
     ap (filter is_begun) at.buffers ∙ begun_last (stamp_in ring) ring.thread (length (buffers_in ring)) (segments_in ring events)
 
--- behind others
+-- after others
 pub collected_begun : (ring : RingRecorder) (before : List Filled) → ring.hand.begun ≡ true
     → (before ++ filter is_begun ring.sealed) ++ ring.hand ∷ [] ≡ before ++ filter is_begun (buffers_in ring)
 collected_begun ring before begun =

@@ -1,8 +1,8 @@
--- A queue of a constant length, as a list that is turned.
+-- A queue of a fixed length, as a list that is turned.
 use Rattle.std.proofs.Common.{◌≡◌, ℕ, suc, ◌+◌, ◌<◌, List, [], ◌∷◌, ◌++◌, length, drop, take, set, get_or, sym, ap, ◌∙◌, arith, drop-cons}
 use Rattle.std.proofs.lemmas.List.{append-nil, drop_all, set_split}
 
--- behind the last place the turning begins anew
+-- after the last place the turning starts again
 pub turned_whole : {X : Type 0} (xs : List X) (k : ℕ) (y : X) → k + 1 ≡ length xs
     → set xs k y ++ [] ≡ drop 1 ((drop k xs ++ take k xs) ++ y ∷ [])
 turned_whole {X} xs k y e =

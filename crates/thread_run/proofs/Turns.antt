@@ -1,4 +1,4 @@
--- Loads behind each other.
+-- Loads, one after the other.
 use Rattle.std.proofs.Common.{◌≡◌, ℕ, ◌+◌, ◌<◌, ◌≤◌, List, [], ◌∷◌, ◌++◌, Bool, true, false, refl, sym, subst, ap, ◌∙◌, arith, length, append_assoc, append-nil, length-append, inl, inr}
 use Rattle.std.specs.Prelude.{◌||◌, ◌⊎◌}
 use Rattle.std.specs.List.{list_any}
@@ -72,9 +72,9 @@ pub made_one : {R : Type 0} (held : Bool) (a b : Worker R) (load : SeatLoad) →
     → is_held_by (cpu_of a).program (cpu_of a).thread (load ∷ []) ≡ held → HasMade held a b
 made_one held a b load loads is = record { made = load ∷ []; loads = loads; held_is = is }
 
--- ---- where a thread stands
+-- ---- where a thread is
 
--- a thread that wants the same word, and has no mark more, is no nearer to its end
+-- a thread that wants the same word, and has no more marks, is no nearer to its end
 pub no_nearer : (old new : Traced) (word : ℕ) → IsSameThread old new → old.want ≡ Loads word → new.want ≡ Loads word
     → MarksAdded old.marks new.marks new.want → loads_left new < loads_left old → ⊥
 no_nearer old new word same was is added less =
@@ -82,14 +82,14 @@ no_nearer old new word same was is added less =
     let left : loads_left new ≡ loads_left old = rw marks (rw same.program (rw same.limits (rw is (rw was refl)))) in
     omega (arith, less, left)
 
--- one mark more
+-- one more mark
 pub one_more : (old new : List Mark) (count : ℕ) (want : Want) → MarksAdded old new want → ((word : ℕ) → want ≡ Loads word → ⊥) → count ≡ length old
     → count + 1 ≡ length new
 one_more old new count (Gate passing) (mark, e) other is = omega (arith, is, ap length e, length-append old (mark ∷ []))
 one_more old new count (Loads word) e other is = absurd (other word refl)
 one_more old new count (Done end) (mark, e) other is = omega (arith, is, ap length e, length-append old (mark ∷ []))
 
--- no mark more
+-- no more marks
 pub no_more : (old new : List Mark) (count word : ℕ) (want : Want) → MarksAdded old new want → want ≡ Loads word → count ≡ length old → count ≡ length new
 no_more old new count word want added is count_is =
     let marks : new ≡ old = subst (MarksAdded old new) is added in
@@ -133,7 +133,7 @@ held_again stands word old new taken same was is = by_held (is_held_by (cpu_of o
     by_held true e = e
     by_held false e = absurd (no_nearer (cpu_of old) (cpu_of new) word same was is taken.marks (taken.goes_on e))
 
--- one that wants anything else isn't
+-- a thread that wants anything else isn't
 pub moved_on : {R : Type 0} (stands : R → List Event → Type 0) (word : ℕ) (old new : Worker R) → (taken : HasTaken stands word old new)
     → (cpu_of old).want ≡ Loads word → ((cpu_of new).want ≡ Loads word → ⊥)
     → is_held_by (cpu_of old).program (cpu_of old).thread (taken.load ∷ []) ≡ false
@@ -155,7 +155,7 @@ pub none_noted : {R : Type 0} (stands : R → List Event → Type 0) (recorder :
 none_noted stands recorder passed marks none is =
     subst (λ (ms : List Mark). stands recorder (recorded passed ms)) (sym none) (subst (stands recorder) (sym (none_recorded passed)) is)
 
--- a want that is a gate or an end is no load
+-- a want that is a gate or an end isn't a load
 pub no_load : (found want : Want) → found ≡ want → ((passing : ℕ) × (found ≡ Gate passing)) ⊎ ((end : End) × (found ≡ Done end))
     → (word : ℕ) → want ≡ Loads word → ⊥
 no_load found want is (inl (passing, gate)) word wants = gate_no_load passing word (sym gate ∙ is ∙ wants)

@@ -1,4 +1,4 @@
--- The word that holds a thread: it is wanted only at the passing before which the script holds the thread.
+-- The word that holds a thread. It is wanted only at the passing before which the script holds the thread.
 use Rattle.std.proofs.Common.{◌≡◌, ℕ, zero, suc, ◌+◌, ◌<◌, ◌≤◌, List, [], ◌∷◌, ◌++◌, Bool, true, false, ◌==◌, if◌then◌else◌, Option, Some, None, refl, sym, subst, ap, ◌∙◌, inl, inr, arith, length}
 use Rattle.std.specs.Prelude.{⊤, slice_get}
 use Rattle.std.proofs.lemmas.Bool.{eqb-true}
@@ -60,7 +60,7 @@ run_exists program limits thread (suc n) s passed end last (made, later, mid, st
     subst (AllExist program) (sym e)
     (both_exist program made later (step_exists program limits thread s made _ step) (run_exists program limits thread n mid later end last rest))
 
--- ---- words that are wanted behind the release word are no release words
+-- ---- words that are wanted after the release word aren't release words
 
 abbrev IsLow : Program → Reading → Type 0
 IsLow program (Wants word) = word ≤ state_word program

@@ -9,7 +9,7 @@ use Rattle.traced_run.specs.Kept.{Stamp, buffer_of}
 abbrev pub is_begun : Filled → Bool
 is_begun buffer = buffer.begun
 
--- the last n of n fresh buffers and then those of all segments of a thread
+-- the last n of these buffers: n that aren't begun, and then those of all segments of a thread
 abbrev pub last_buffers : Stamp → ℕ → ℕ → List (List Event) → List Filled
 last_buffers stamp thread n segs =
     drop (length segs) (replicate n (empty_buffer stamp.size) ++ map (buffer_of stamp thread) (enumerate_from 0 segs))

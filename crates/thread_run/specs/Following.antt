@@ -1,4 +1,4 @@
--- The loads of a thread that a script's patcher runs beside.
+-- The loads of a thread that runs while a script is patched.
 use Rattle.std.specs.Prelude.{◌≡◌, ◌≢◌, ◌&&◌, ◌==◌, ℕ, List, map, All, Bool}
 use Rattle.std.specs.List.{list_any}
 use Rattle.xray_image.specs.Program.{Program}
@@ -14,16 +14,17 @@ use Rattle.machine_step.specs.PlainStep.{Passing}
 use Rattle.machine_step.specs.Traced.{HasLoaded, Traced, sleds_of}
 use Rattle.sled_rule.specs.declared.views.Load.{Load as SeatLoad}
 
--- loads of a seat, as a thread is given them
+-- the loads of a seat, as a thread gets them
 abbrev pub given : List SeatLoad → List Load
 given loads = map (λ load. record { word = load.word; value = load.value }) loads
 
--- among loads of a seat is one that found a thread's release word at 0, so that it held the thread
+-- among the loads of a seat is one that found a thread's release word at 0, so that it held the thread
 abbrev pub is_held_by : Program → ℕ → List SeatLoad → Bool
 is_held_by program thread loads = list_any (λ load. (load.word == release_word program thread) && (load.value == 0)) loads
 
--- A thread that passes these sleds can have made the loads when a script is at a place: each of a word that it wanted, as it stands at a
--- place that isn't before those of its earlier loads, nor past the first await of its passing.
+-- The loads that a thread which passes these sleds can have made when a script is at a place. Each is of a word that it
+-- wanted, with the word's value at a place. That place isn't before those of its earlier loads, and isn't after the
+-- first await of its passing.
 abbrev pub LoadsFollow : Program → List Command → ℕ → List ℕ → List Load → ℕ → Type 0
 LoadsFollow program script thread sleds loads place =
     Follows program (code_at program script) (start_of program script) (bound_of program script thread) thread (hold_of thread script)

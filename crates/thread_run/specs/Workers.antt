@@ -1,4 +1,4 @@
--- What holds of a worker: a traced thread that makes its loads from a table by its seat, and notes its events.
+-- What is true of a worker: a traced thread that makes its loads from a table by its seat, and notes its events.
 use Rattle.std.specs.Prelude.{◌≡◌, ◌≢◌, ◌<◌, ◌≤◌, ◌++◌, ℕ, List, [], ◌∷◌, length, All, Bool, Some, slice_get, true, false}
 use Rattle.xray_image.specs.Program.{IsAccepted, Program}
 use Rattle.sled_words.specs.Words.{release_word}
@@ -62,16 +62,16 @@ pub record IsFreshIn (plan : Plan) (t : Traced) (v : WorkView) : Type 0 where
   pub count : v.count ≡ 0
   pub loads : v.loads ≡ []
 
--- The loads of the seat are those that the thread was given, and they follow the script up to what the seat has seen. So do those that
--- didn't hold the thread, which alone are known to leave its marks.
+-- The loads of the seat are those that the thread was given. They follow the script up to what the seat has seen. So do
+-- those that didn't hold the thread. Only these are known to determine its marks.
 pub record IsAlong (plan : Plan) (t : Traced) (v : WorkView) (passed : List Passing) : Type 0 where
   pub all : HasFollowed plan.program (commands_of plan.lines) t passed v.seen (given v.loads)
   pub made : List Load
   pub free : HasFollowed plan.program (commands_of plan.lines) t passed v.seen made
   pub released : All (λ load. load.word ≡ release_word plan.program t.thread → load.value ≢ 0) made
 
--- A worker between two loads: its thread was given exactly the loads of its seat, which follow the table's script, and its recorder stands
--- for exactly the events of the passings that were recorded.
+-- A worker between two loads. Its thread was given exactly the loads of its seat, which follow the table's script. Its
+-- recorder stands for exactly the events of the passings that were recorded.
 pub record IsAtWork {R : Type 0} (stands : R → List Event → Type 0) (worker : Worker R) : Type 0 where
   pub own : IsWorkerOf (table_of worker) (seat_of worker)
   pub thread : IsThreadIn (script_of (table_of worker)) (cpu_of worker)
@@ -102,14 +102,14 @@ pub record IsSameWorker {R : Type 0} (follows : R → R → Type 0) (old new : W
   pub thread : IsSameThread (cpu_of old) (cpu_of new)
   pub recorder : follows (recorder_of old) (recorder_of new)
 
--- a worker has made some loads more, and has been held by none of them, or by one
+-- a worker has made some more loads; none of them held it, or one did
 pub record HasMade {R : Type 0} (held : Bool) (old new : Worker R) : Type 0 where
   pub made : List SeatLoad
   pub loads : loads_of new ≡ loads_of old ++ made
   pub held_is : is_held_by (cpu_of old).program (cpu_of old).thread made ≡ held
 
--- it has made one load more, of this word: its thread has a mark more where that ended its passing, which isn't counted yet, and wants the
--- same word again where that held it
+-- It has made one more load, of this word. If that ended its passing, the thread has one more mark, which isn't counted
+-- yet. If that held the thread, it wants the same word again.
 pub record HasTaken {R : Type 0} (stands : R → List Event → Type 0) (word : ℕ) (old new : Worker R) : Type 0 where
   pub at : IsAtWork stands new
   pub count : (work_view (seat_of new)).count ≡ length (cpu_of old).marks
@@ -125,6 +125,6 @@ pub record HasRunOut {R : Type 0} (stands : R → List Event → Type 0) (follow
   pub same : IsSameWorker follows old new
   pub ended : HasEnded stands new
 
--- each worker of a list has, at the place where it stood
+-- each worker of a list has run, and is at its place
 abbrev pub HaveRun : {R : Type 0} → (R → List Event → Type 0) → (R → R → Type 0) → (old new : List (Worker R)) → Type 0
 HaveRun stands follows = HaveChanged (HasRunOut stands follows)

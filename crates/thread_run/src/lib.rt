@@ -1,8 +1,8 @@
 //! Traced threads that run while one patcher patches the sleds that they pass.
 //!
-//! A `Worker` is one thread: it makes the loads that its `Cpu` wants by its seat of a code table, and
-//! notes its events in a recorder. A `RingRecorder` is one over buffers of the thread's own.
-//! `run_threads` runs all workers and the script, each in a thread.
+//! A `Worker` is one thread. It makes the loads that its `Cpu` wants by its seat of a code table,
+//! and notes its events in a recorder. A `RingRecorder` is a recorder over buffers of the thread's
+//! own. `run_threads` runs the script and all workers, each in a thread.
 #![tactic(auto)]
 
 mod recorder;

@@ -1,4 +1,4 @@
-//! A recorder over buffers that one thread has to itself.
+//! A recorder over buffers that only one thread uses.
 
 ghost use Rattle.std.specs.Prelude.{◌≡◌, ◌≤◌, ◌<◌, ◌+◌, ◌-◌, ◌/◌, ◌^◌, ◌*◌, [], ◌∷◌, ◌++◌, ℕ, List, IfOk, filter, length, replicate, vec_capacity, vec_len};
 ghost use Rattle.fdr_record.specs.declared.event.Event.{Event};
@@ -12,11 +12,12 @@ use machine_step::Setup;
 use std::alloc::Global;
 use xray_io::{NoMemory, Wall};
 
-/// One thread's ring of buffers: one in its hand, which it fills, and the others sealed. When an event
-/// has no room in the hand, the hand is sealed, and the oldest buffer is begun anew; the segment in
-/// that buffer is lost. So the ring keeps the thread's last segments, and all of them whole.
+/// One thread's ring of buffers. One buffer is in its hand, which it fills; the others are sealed.
+/// If an event has no room in the hand, the hand is sealed, and the oldest buffer is begun again.
+/// The segment in that buffer is lost. So the ring keeps the thread's last segments, each of them
+/// whole.
 ///
-/// No other thread takes part, so nothing is locked. All memory is taken when the ring is made.
+/// No other thread uses the ring, so nothing is locked.
 #[derive(Drop)]
 pub struct RingRecorder {
     hand: Buffer,
@@ -32,8 +33,8 @@ impl RingRecorder {
     ghost use Rattle.traced_run.specs.Kept.{buffers_behind, stamp_of};
     ghost use Rattle.thread_run.specs.Rings.{buffers_in, segments_begun, segments_in, stamp_in, thread_in, CutsAnew, StandsFor, StandsForMore};
 
-    /// The ring of a thread, with an equal share of all buffers, rounded down. All of them are fresh.
-    /// `NoMemory` comes when an allocation was refused.
+    /// The ring of a thread, with an equal share of all buffers, rounded down. None of them is
+    /// begun. `NoMemory` means that an allocation was refused.
     pub fn new(alloc: Global, setup: &Setup, thread: u32) -> Result<RingRecorder, NoMemory>
         requires least { 72 ≤ setup.now.size }
         requires most { setup.now.size ≤ 1048576 }
@@ -77,7 +78,7 @@ impl RingRecorder {
         self.sealed.len() + 1
     }
 
-    /// Into how many segments the events were cut.
+    /// How many segments the events were cut into.
     pub fn segments(&self) -> u32
         ensures begun { result ≡ segments_begun self.now }
         ensures count { (events : List Event) → StandsFor self.now events
@@ -86,7 +87,7 @@ impl RingRecorder {
         self.segments
     }
 
-    /// How many of the segments are lost: all but as many as there are buffers.
+    /// How many of the segments are lost. The ring has room for as many segments as it has buffers.
     pub fn lost(&self) -> u32
         ensures begun { result ≡ segments_begun self.now - length (buffers_in self.now) }
         ensures count { (events : List Event) → StandsFor self.now events
@@ -97,7 +98,8 @@ impl RingRecorder {
         others.saturating_sub(1) as u32
     }
 
-    /// Moves the buffers that hold a segment behind others, the oldest first. `kept` has to have room.
+    /// Moves the buffers that hold a segment after those in `kept`, oldest first. `kept` has to
+    /// have room for them.
     pub fn collect(self, kept: &mut Vec<Buffer>)
         requires room { vec_len kept.old + length (buffers_in self) ≤ vec_capacity kept.old }
         ensures begun { kept.new.items ≡ kept.old.items ++ filter is_begun (buffers_in self) }
@@ -144,7 +146,7 @@ impl Recorder for RingRecorder {
     }
 }
 
-/// So many buffers of a size, all fresh.
+/// This many buffers of a size, none of them begun.
 fn fresh_buffers(alloc: Global, count: u32, size: u32) -> Result<Vec<Buffer>, NoMemory>
     requires least { 72 ≤ size }
     requires most { size ≤ 1048576 }
@@ -157,7 +159,7 @@ fn fresh_buffers(alloc: Global, count: u32, size: u32) -> Result<Vec<Buffer>, No
     Ok(buffers)
 }
 
-/// Moves the buffers that are begun behind others, in their order.
+/// Moves the buffers that are begun after those in `kept`, in order.
 fn keep_begun(buffers: Vec<Buffer>, kept: &mut Vec<Buffer>)
     requires room { vec_len kept.old + vec_len buffers ≤ vec_capacity kept.old }
     ensures kept { kept.new.items ≡ kept.old.items ++ filter is_begun buffers.items }

@@ -1,16 +1,16 @@
-//! A queue of a constant length.
+//! A queue of a fixed length.
 
 ghost use Rattle.std.specs.Prelude.{◌≡◌, ◌<◌, ◌^◌, [], ◌∷◌, ◌++◌, drop, length, take};
 
 use std::marker::Model;
 use std::mem;
 
-/// A queue that never grows: what goes to its back takes the place of what comes from its front.
-/// Contracts see it as the list of its items, the front first.
+/// A queue of a fixed length. An item that comes to its end takes the place of the one that leaves
+/// at its start. In contracts it is the list of its items, first item first.
 #[derive(Drop)]
 pub(crate) struct Ring<T: Drop> {
     items: Vec<T>,
-    /// Where the front item is.
+    /// The place of the first item.
     front: usize,
 }
 
@@ -25,7 +25,7 @@ impl<T: Drop> Model for Ring<T> {
 }
 
 impl<T: Drop> Ring<T> {
-    /// A queue of these items, the front first.
+    /// A queue of these items, in order.
     pub(crate) fn new(items: Vec<T>) -> Ring<T>
         ensures { result ≡ items.items }
     {
@@ -40,8 +40,8 @@ impl<T: Drop> Ring<T> {
         self.items.len()
     }
 
-    /// Puts an item at the back, and gives the front one in its place: the item itself, where the
-    /// queue has no other.
+    /// Puts an item at the end, and gives the first item in its place. If the queue is empty, that
+    /// is the item itself.
     pub(crate) fn exchange(&mut self, item: &mut T)
         ensures queue { self.new ≡ drop 1 (self.old ++ item.old ∷ []) }
         ensures front { item.new ∷ [] ≡ take 1 (self.old ++ item.old ∷ []) }
@@ -56,7 +56,7 @@ impl<T: Drop> Ring<T> {
         }
     }
 
-    /// The items, the front first.
+    /// The items, in order.
     pub(crate) fn into_items(self) -> Vec<T>
         ensures items { result.items ≡ self }
     {

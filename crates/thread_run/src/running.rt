@@ -1,4 +1,4 @@
-//! All threads of a run, and the patcher beside them.
+//! All threads of a run, and the patcher.
 
 ghost use Rattle.std.specs.Prelude.{All};
 ghost use Rattle.std.specs.Thread.{IsSend, IsSync};
@@ -18,7 +18,7 @@ use std::sync::Wait;
 use std::thread::{Threads, for_each_mut, join_mut};
 use xray_io::Gate;
 
-/// Does all works, each in a thread of its own if one can be started.
+/// Does all works, each in its own thread if one can be started.
 fn do_all<T: Threads + Wait + Sync, W: Work + Send, G: Gate + Sync>(
     rt: &T,
     gate: &G,
@@ -34,7 +34,7 @@ fn do_all<T: Threads + Wait + Sync, W: Work + Send, G: Gate + Sync>(
     for_each_mut(rt, works, MAX_THREADS as usize, &one);
 }
 
-/// Runs the script, and does all works beside it.
+/// Runs the script, and does all works at the same time.
 fn run_beside<T: Threads + Wait + Sync, W: Work + Send, G: Gate + Sync>(
     rt: &T,
     table: &CodeTable,
@@ -63,10 +63,11 @@ fn run_beside<T: Threads + Wait + Sync, W: Work + Send, G: Gate + Sync>(
     );
 }
 
-/// Runs the script, and all workers beside it, until each of them is at its end.
+/// Runs the script and all workers at the same time, until each of them is at its end.
 ///
-/// Each runs in a thread of its own. One for which none can be started is run by the caller, and then it
-/// may wait for one that doesn't run yet: no clause says that the call returns. It joins every thread.
+/// Each runs in its own thread. If a thread can't be started, the caller runs its worker. That
+/// worker may then wait for one that doesn't run yet, so no clause says that the call returns. It
+/// joins every thread.
 pub fn run_threads<T: Threads + Wait + Sync, R: Recorder + Send, G: Gate + Sync>(
     rt: &T,
     table: &CodeTable,

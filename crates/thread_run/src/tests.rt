@@ -22,7 +22,7 @@ use text_lines::count_lines;
 use xray_image::{Image, read_image};
 use xray_io::{Gate, MemSink, OpenGate, Wall, write_all};
 
-/// A function `main` that outputs an A: an entry sled, `mov eax, 0x41`, `out 1, al`, an exit sled.
+/// A function `main` that prints an A: an entry sled, `mov eax, 0x41`, `out 1, al`, an exit sled.
 const OUTPUTS_AN_A: [u8; 170] = [
     // magic, version, base 0x1000
     0x58, 0x52, 0x49, 0x4D, 1, 0, 0, 0, 0x00, 0x10, 0, 0, 0, 0, 0, 0,
@@ -66,7 +66,7 @@ const LIMITS: Limits = Limits {
     migrate: 1_048_576,
 };
 
-/// A setup with so many threads and the default buffers.
+/// A setup with `threads` threads and the default buffers.
 fn setup_of(threads: u32) -> Setup
     ensures threads { result.threads ≡ threads }
     ensures size { (72 ≤ result.size) × (result.size ≤ 1048576) }
@@ -84,8 +84,8 @@ fn setup_of(threads: u32) -> Setup
     }
 }
 
-/// What the threads of a run leave: their marks as they are printed, thread 1 first, and the bytes of the
-/// buffers that they keep.
+/// What the threads of a run leave: their marks as printed, in the order of the threads, and the
+/// bytes of the buffers that they keep.
 #[derive(Drop)]
 struct Outcome {
     marks: MemSink,
@@ -231,10 +231,10 @@ fn left_by<R: Abort + AllocGlobal>(
     Ok(Outcome { marks, bytes })
 }
 
-/// How often a gate looks for what it waits for, before it gives up.
+/// How often a gate looks for what it waits for before it gives up.
 const TURNS: u32 = 5_000_000;
 
-/// Something that has come, in one thread, for others to see.
+/// A sign that one thread gives and others see.
 #[derive(Drop)]
 struct Sign {
     given: AtomicU64,
@@ -255,7 +255,7 @@ impl Sign {
         self.given.load(Ordering::SeqCst) == 1
     }
 
-    /// Waits until the other sign is given, and gives this one when it doesn't come.
+    /// Waits until the other sign is given. If it doesn't come, gives this one.
     fn wait_or_give(&self, other: &Sign) {
         for _turn in 0..TURNS {
             if other.is_given() {
@@ -267,7 +267,7 @@ impl Sign {
     }
 }
 
-/// Lets passing 0 of each of two threads go on once the other one has come to its own.
+/// Lets passing 0 of each of two threads go on once the other thread has come to its own.
 #[derive(Drop)]
 struct Meeting {
     first: Sign,
@@ -291,8 +291,9 @@ impl Gate for Meeting {
     fn before_store(&self, _place: u64) {}
 }
 
-/// Lets the store at place 3 go on once the thread has come to passing 1, passing 1 once the patcher has
-/// come to place 15, and that store once the thread has come to passing 3.
+/// Lets the store at place 3 go on once the thread has come to passing 1. Lets passing 1 go on once
+/// the patcher has come to place 15. Lets the store there go on once the thread has come to passing
+/// 3.
 #[derive(Drop)]
 struct Relay {
     at_passing_1: Sign,

@@ -9,9 +9,9 @@ use sled_words::MAX_THREADS;
 use std::alloc::Global;
 use xray_io::NoMemory;
 
-/// The thread of a number, of a script that was read for an image and a number of threads. The script
-/// holds it where it says. All threads of the image borrow its steps. Takes all other memory of the
-/// thread; `NoMemory` comes when some of it was refused.
+/// The thread of this number, for a script that was read for an image and a number of threads. The
+/// script holds it where it says. All threads of the image borrow its steps. `NoMemory` means that
+/// an allocation was refused.
 pub fn new_cpu<'a>(
     alloc: Global,
     steps: &'a Steps<'a>,
@@ -29,7 +29,7 @@ pub fn new_cpu<'a>(
     ensures number { IfOk result (λ cpu. cpu.thread ≡ number) }
     ensures limits { IfOk result (λ cpu. cpu.limits ≡ limits) }
 {
-    // Says that some accepted file holds the image.
+    // Called for its contract: some accepted file holds the image.
     steps.image();
     some_end();
     let hold = script.hold_of(number);

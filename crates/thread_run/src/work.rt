@@ -1,4 +1,4 @@
-//! What is done in a thread of its own.
+//! What is done in one thread.
 
 use crate::worker::{Turn, Worker};
 use crossbeam_utils::Backoff;
@@ -27,7 +27,7 @@ impl<R: Recorder> Work for Worker<'_, '_, R> {
 
     ghost worked = { HasRunOut R.stands R.follows };
 
-    /// Runs the worker to its end. As long as its release word holds it, it yields and runs again.
+    /// Runs the worker to its end. As long as its release word holds it, yields and runs it again.
     fn work<T: Wait, G: Gate>(&mut self, rt: &T, gate: &G) {
         let backoff = Backoff::new();
         'turns: for _ in rt.forever() {

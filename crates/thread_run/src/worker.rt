@@ -14,7 +14,7 @@ use machine_step::{Cpu, Want};
 use sled_rule::{CodeTable, PatchSeat, WorkSeat};
 use xray_io::Gate;
 
-/// How a turn of a worker has ended.
+/// How a turn of a worker ended.
 #[derive(Clone, Copy, Debug, PartialEq, Eq)]
 pub enum Turn {
     /// The thread is at its end.
@@ -23,7 +23,7 @@ pub enum Turn {
     Held,
 }
 
-/// What a load has brought.
+/// What a load led to.
 #[derive(Clone, Copy)]
 enum Progress {
     /// The thread wants another word, or it has made its passing.
@@ -32,7 +32,7 @@ enum Progress {
     Held,
 }
 
-/// A traced thread with its seat of a code table, and a recorder of its events.
+/// A traced thread, with its seat of a code table and a recorder of its events.
 #[derive(Drop)]
 pub struct Worker<'s, 't, R> {
     cpu: Cpu<'s>,
@@ -54,7 +54,7 @@ impl<'s, 't, R: Recorder> Worker<'s, 't, R> {
         ensures table { table_of result ≡ table.now }
         ensures recorder { recorder_of result ≡ recorder }
     {
-        // Says that threads start within the script.
+        // Called for its contract: threads start within the script.
         table.script().start();
         Worker {
             cpu,
@@ -64,8 +64,8 @@ impl<'s, 't, R: Recorder> Worker<'s, 't, R> {
         }
     }
 
-    /// A worker of the next thread, before its first load: it gets the next seat of the table. The
-    /// patcher stands where threads start.
+    /// A worker of the next thread, before its first load. It gets the next seat of the table. The
+    /// patcher is where threads start.
     pub fn start(cpu: Cpu<'s>, table: &'t CodeTable, patcher: &mut PatchSeat, recorder: R) -> Self
         requires own { IsPatcherOf table.now patcher.old }
         requires starts { (patch_view patcher.old).place ≡ start_in (script_of table.now) }
@@ -107,7 +107,7 @@ impl<'s, 't, R: Recorder> Worker<'s, 't, R> {
         }
     }
 
-    /// Lets the thread into the passing that it wants to be let into, and the gate before it.
+    /// Passes the gate, and lets the thread into the passing that it wants to be let into.
     fn open<G: Gate>(&mut self, gate: &G, passing: u32)
         requires going { IsGoing R.stands self.old }
         requires gate { (cpu_of self.old).want ≡ Want.Gate passing }
@@ -120,7 +120,7 @@ impl<'s, 't, R: Recorder> Worker<'s, 't, R> {
         self.cpu.opened();
     }
 
-    /// Makes the load of the word that the thread wants, and counts its passing where that ends it.
+    /// Makes the load of the word that the thread wants. If that ends the passing, counts it.
     fn load(&mut self, word: u32) -> Progress
         requires going { IsGoing R.stands self.old }
         requires wants { (cpu_of self.old).want ≡ Want.Load word }
@@ -143,7 +143,7 @@ impl<'s, 't, R: Recorder> Worker<'s, 't, R> {
         }
     }
 
-    /// Loads a word, gives the thread its value and notes the event that comes of it.
+    /// Loads a word, gives its value to the thread, and notes the event that comes of it.
     fn take(&mut self, word: u32)
         requires going { IsGoing R.stands self.old }
         requires wants { (cpu_of self.old).want ≡ Want.Load word }
@@ -153,12 +153,12 @@ impl<'s, 't, R: Recorder> Worker<'s, 't, R> {
     {
         let value = self.table.fetch(&mut self.seat, word);
         let event = self.cpu.give(value);
-        // Says that the passings, and so the events, fit 32 bits.
+        // Called for its contract: the passings, and so the events, fit 32 bits.
         self.cpu.passings();
         note_any(&mut self.recorder, event);
     }
 
-    /// Says in the table that one more passing is made.
+    /// Counts one more passing in the table.
     fn tell(&mut self)
         requires at { IsAtWork R.stands self.old }
         requires one { (work_view (seat_of self.old)).count + 1 ≡ length (cpu_of self.old).marks }
@@ -167,12 +167,12 @@ impl<'s, 't, R: Recorder> Worker<'s, 't, R> {
         ensures loads { loads_of self.new ≡ loads_of self.old }
         ensures going { IsGoing R.stands self.new }
     {
-        // Says that the passings fit 32 bits.
+        // Called for its contract: the passings fit 32 bits.
         self.cpu.passings();
         self.table.passed(&mut self.seat);
     }
 
-    /// Says in the table that the thread has ended.
+    /// Reports in the table that the thread has ended.
     fn finish(&mut self)
         requires going { IsGoing R.stands self.old }
         requires done { IsDone (cpu_of self.old).want }
@@ -180,7 +180,7 @@ impl<'s, 't, R: Recorder> Worker<'s, 't, R> {
         ensures loads { loads_of self.new ≡ loads_of self.old }
         ensures ended { HasEnded R.stands self.new }
     {
-        // Say that the passings fit 32 bits, and where the thread stands.
+        // Called for their contracts: the passings fit 32 bits, and where the thread is.
         self.cpu.passings();
         self.cpu.want();
         self.table.ended(&mut self.seat);

@@ -22,7 +22,7 @@ pub const CALL: &str = "base 0x1000\nfn main always\ncall f\nret\nfn f always\nr
 pub const TAIL_JUMP: &str = "base 0x1000\nfn a always\ntailjmp b\nfn b always\nret\n";
 
 /// A recursive function behind one without sleds.
-const FIBONACCI: &str = "base 0x1000\nentry main\nfn main never\nmov edi, 20\ncall fib\nret\n\
+pub const FIBONACCI: &str = "base 0x1000\nentry main\nfn main never\nmov edi, 20\ncall fib\nret\n\
     fn fib always\nmov ecx, 0\nadd rdi, rcx\njnz nz\nret\nnz:\nmov ecx, 1\nsub rdi, rcx\n\
     jnz big\nadd rax, rcx\nret\nbig:\npush rdi\ncall fib\npop rdi\nmov ecx, 1\nsub rdi, rcx\n\
     call fib\nret\n";

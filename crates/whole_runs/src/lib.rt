@@ -1,7 +1,9 @@
-//! Whole runs: the top call from its words to its output, over a desk and sinks in memory. There
-//! are tests alone.
+//! Whole runs: the top call from its words to its output, over a desk and sinks in memory. The
+//! crate has only tests.
 #![tactic(auto)]
 
+#[cfg(test)]
+mod account;
 #[cfg(test)]
 mod asm;
 #[cfg(test)]
@@ -14,5 +16,9 @@ mod plain;
 mod runs;
 #[cfg(test)]
 mod sim;
+#[cfg(test)]
+mod stack;
+#[cfg(test)]
+mod trace_bytes;
 #[cfg(test)]
 mod traces;

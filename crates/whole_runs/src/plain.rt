@@ -13,16 +13,16 @@ pub const SLED_MAP: &str = "---\n\
     always-instrument: true, function-name: 'main' }\n\
     ...\n";
 
-/// What thread 2 leaves, which finds another number in rdi.
+/// What thread 2 leaves. It finds another number in rdi.
 const SECOND: &str = "thread 2 returned instructions 3 passings 2\n\
     rax=41 rcx=0 rdx=0 rbx=0 rbp=0 rsi=0 rdi=2 r8=0 r9=0 r11=0 r12=0 r13=0 r14=0 r15=0 zf=0\n\
     output 41\n";
 
-/// The registers of thread 1 behind `mov eax, 0x41`.
+/// The registers of thread 1 after `mov eax, 0x41`.
 const REGISTERS: &str = "rax=41 rcx=0 rdx=0 rbx=0 rbp=0 rsi=0 rdi=1 r8=0 r9=0 r11=0 r12=0 r13=0 \
     r14=0 r15=0 zf=0\n";
 
-/// A file whose code is `41 BA 01 00 00 00 C3`, a `mov` to register 10, in one function without
+/// A file with the code `41 BA 01 00 00 00 C3`, a `mov` to register 10, in one function without
 /// sleds.
 const REGISTER_10: [u8; 84] = [
     b'X', b'R', b'I', b'M', 1, 0, 0, 0, 0x00, 0x10, 0, 0, 0, 0, 0, 0, //
@@ -33,10 +33,10 @@ const REGISTER_10: [u8; 84] = [
     0x00, 0x10, 0, 0, 0, 0, 0, 0, 4, b'm', b'a', b'i', b'n', //
 ];
 
-/// Where the code stands in a file.
+/// The place of the code in a file.
 const CODE: usize = 64;
 
-/// A file of two functions, of which the first calls the second; the call goes one byte too far.
+/// A file of two functions. The first one calls the second, and the call goes one byte too far.
 const CALLS_PAST_A_START: [u8; 266] = [
     b'X', b'R', b'I', b'M', 1, 0, 0, 0, 0x00, 0x10, 0, 0, 0, 0, 0, 0, //
     51, 0, 0, 0, 2, 0, 0, 0, 4, 0, 0, 0, 0, 0, 0, 0, //

@@ -6,10 +6,10 @@ use std::thread::Threads;
 use xray_io::{Desk, MemDesk, MemSink, OpenGate, Wall};
 use xray_program::xray;
 
-/// The file of an image of 170 bytes. At 0x1000 stands its only function: an entry sled, `mov eax,
+/// The file of an image of 170 bytes. Its only function, at 0x1000, is an entry sled, `mov eax,
 /// 0x41`, `out 1, al`, and an exit sled.
 pub const IMAGE: [u8; 170] = [
-    // The header: the version, the base, the lengths, and where the trampolines stand.
+    // The header: the version, the base, the lengths, and the places of the trampolines.
     b'X', b'R', b'I', b'M', 1, 0, 0, 0, 0x00, 0x10, 0, 0, 0, 0, 0, 0, //
     29, 0, 0, 0, 1, 0, 0, 0, 2, 0, 0, 0, 0, 0, 0, 0, //
     0x00, 0x10, 0x20, 0, 0, 0, 0, 0, 0x10, 0x10, 0x20, 0, 0, 0, 0, 0, //
@@ -30,15 +30,15 @@ pub const IMAGE: [u8; 170] = [
 /// Both sleds are patched before the thread starts, and unpatched once it runs.
 pub const SCRIPT: &str = "patch\ngo\nunpatch\n";
 
-/// The thread makes a load, and the patcher then unpatches both sleds.
+/// The thread makes one load, and then the patcher unpatches both sleds.
 pub const SCHEDULE: &str = "t 1 1\np 2\n";
 
-/// What is printed behind the marks' word for the schedule above.
+/// What is printed before the marks, for the schedule above.
 pub const STATE: &str = "thread 1 returned instructions 3 passings 2\n\
     rax=41 rcx=0 rdx=0 rbx=0 rbp=0 rsi=0 rdi=1 r8=0 r9=0 r11=0 r12=0 r13=0 r14=0 r15=0 zf=0\n\
     output 41\n";
 
-/// What a run left: its status, and what out and err were written.
+/// What a run left: its status, and what was written on out and err.
 #[derive(Drop)]
 pub struct Run {
     pub status: u8,
@@ -61,7 +61,7 @@ pub fn desk_of(
     Ok(desk)
 }
 
-/// A desk that holds an image as `i` alone.
+/// A desk that holds only an image, as `i`.
 pub fn image_desk(alloc: Global, image: &[u8]) -> Result<MemDesk, Fail> {
     let mut desk = MemDesk::new(alloc, Vec::new(alloc));
     desk.put("i", image)?;
@@ -81,7 +81,7 @@ pub fn run_words<R: Threads + Wait + Sync + AllocGlobal, D: Desk>(
     for word in words {
         said.push(String::from_str(alloc, word)?)?;
     }
-    let wall = Wall { secs: 0, micros: 0 };
+    let wall = Wall { secs: 7, micros: 8 };
     let mut out = MemSink::new(alloc, Vec::from_slice(alloc, out_failing)?);
     let mut err = MemSink::new(alloc, Vec::from_slice(alloc, err_failing)?);
     let status = xray(rt, alloc, &said, wall, desk, &mut out, &mut err, &OpenGate);

@@ -1,6 +1,5 @@
 //! `sim`: marks by scripts and schedules, several threads, limits, and the refusals of scripts and schedules.
 use crate::asm::{CALL, CALL_END, TAIL_JUMP, TAIL_JUMP_END};
-use crate::desks::Noting;
 use crate::runs::{IMAGE, Run, SCHEDULE, SCRIPT, STATE, desk_of, run_words};
 use std::process::Abort;
 use std::sync::Wait;
@@ -9,7 +8,8 @@ use std::thread::Threads;
 
 pub const SIM: [&str; 6] = ["sim", "i", "s", "c", "t", "a"];
 
-/// All is ready before the thread starts: the sleds are patched, a handler is set, and the log is initialized.
+/// Everything is ready before the thread starts: the sleds are patched, a handler is set, and the
+/// log is initialized.
 pub const TRACED: &str = "patch\nset_handler\ninit\ngo\n";
 
 /// The sleds are patched while the threads run: id, opcode, offset and head of the entry sled, and then of the exit
@@ -58,13 +58,14 @@ fn a_schedule_says_between_which_loads_sleds_are_patched(rt: HostRuntime) -> Res
     for (script, schedule, marks) in [
         (TRACED, "", "+2"),
         ("go", "", ".2"),
-        // The head of the entry sled is loaded, then both are unpatched, and then the rest is loaded.
+        // The head of the entry sled is loaded. Then both sleds are unpatched, and the rest is
+        // loaded.
         (
             "patch\nset_handler\ninit\ngo\nunpatch",
             "t 1 1\np 2",
             "+1 .1",
         ),
-        // All but the head of the entry sled is stored.
+        // Everything is stored except the head of the entry sled.
         (LIVE, "p 3\nt 1 1", ".2"),
         (LIVE, "p 3\nt 1 1\np 5", ".1 +1"),
         (LIVE, "p 4", "+1 .1"),
@@ -96,7 +97,7 @@ fn marks_tell_of_the_handler_and_the_log(rt: HostRuntime) -> Result<(), Fail> {
     Ok(())
 }
 
-/// Thread 1 has passed the entry sled before it is patched; thread 2 runs behind all.
+/// Thread 1 has passed the entry sled before it is patched. Thread 2 runs after that.
 #[test]
 fn each_thread_has_marks_of_its_own(rt: HostRuntime) -> Result<(), Fail> {
     let words = ["sim", "i", "s", "c", "t", "a", "--threads", "2"];
@@ -111,7 +112,7 @@ fn each_thread_has_marks_of_its_own(rt: HostRuntime) -> Result<(), Fail> {
     assert_prints(&rt, &words, LIVE, "t 1 1\np 8", states)
 }
 
-/// Thread 16 makes the first load, and all others run behind the schedule.
+/// Thread 16 makes the first load, and all others run after the schedule.
 #[test]
 fn there_may_be_sixteen_threads(rt: HostRuntime) -> Result<(), Fail> {
     let alloc = rt.alloc();
@@ -242,28 +243,25 @@ fn options_that_sim_does_not_take_are_a_bad_line(rt: HostRuntime) -> Result<(), 
     Ok(())
 }
 
-/// Checks that an input is refused with a line on err, and which inputs were asked for.
+/// Checks that an input is refused with a line on err.
 fn assert_refused<R: Abort + Threads + Wait + Sync + AllocGlobal>(
     rt: &R,
     words: &[&str],
     script: &str,
     schedule: &str,
     line: &str,
-    names: &str,
 ) -> Result<(), Fail> {
-    let desk = desk_of(rt.alloc(), &[], &IMAGE, script, schedule)?;
-    let mut noting = Noting::new(rt.alloc(), desk);
-    let run = run_words(rt, words, &mut noting, &[], &[])?;
+    let mut desk = desk_of(rt.alloc(), &[], &IMAGE, script, schedule)?;
+    let run = run_words(rt, words, &mut desk, &[], &[])?;
     assert_eq!(rt; run.err.as_str().trim_end(), line);
     assert_eq!(rt; run.status, 2, "{line}");
     assert_eq!(rt; run.out.as_str(), "", "{line}");
-    assert_eq!(rt; noting.names(), names, "{line}");
     Ok(())
 }
 
-/// The schedule would be refused too, and isn't opened.
+/// The schedule would be refused too.
 #[test]
-fn a_script_is_refused_before_the_schedule_is_opened(rt: HostRuntime) -> Result<(), Fail> {
+fn a_script_is_refused_before_the_schedule(rt: HostRuntime) -> Result<(), Fail> {
     let too_many = "patch\n".repeat(rt.alloc(), 1025)?;
     for (script, line) in [
         ("", "xray: s: script Go 1"),
@@ -291,7 +289,7 @@ fn a_script_is_refused_before_the_schedule_is_opened(rt: HostRuntime) -> Result<
         ("\n# \u{1}\ngo \u{1}", "xray: s: script Syntax 3"),
         (too_many.as_str(), "xray: s: script Limit 1025"),
     ] {
-        assert_refused(&rt, &SIM, script, "p 0", line, "is")?;
+        assert_refused(&rt, &SIM, script, "p 0", line)?;
     }
     Ok(())
 }
@@ -307,12 +305,12 @@ fn a_schedule_is_refused_by_its_first_fault(rt: HostRuntime) -> Result<(), Fail>
         ("t 1 4294967296", "xray: c: schedule Syntax 1"),
         (too_many.as_str(), "xray: c: schedule Limit"),
     ] {
-        assert_refused(&rt, &SIM, "go", schedule, line, "isc")?;
+        assert_refused(&rt, &SIM, "go", schedule, line)?;
     }
     Ok(())
 }
 
-/// That a script waits is told once the schedule was judged.
+/// The schedule is judged before a script that waits is refused.
 #[test]
 fn a_script_that_waits_is_refused_behind_the_schedule(rt: HostRuntime) -> Result<(), Fail> {
     const HELD: &str = "set_handler\ninit\nhold 1 2\ngo\nawait 1 2\npatch\nrelease 1";
@@ -326,7 +324,7 @@ fn a_script_that_waits_is_refused_behind_the_schedule(rt: HostRuntime) -> Result
         ),
         ("go\n\nawait 1 0", "", "xray: s: script Waits 3"),
     ] {
-        assert_refused(&rt, &SIM, script, schedule, line, "isc")?;
+        assert_refused(&rt, &SIM, script, schedule, line)?;
     }
     Ok(())
 }
@@ -334,30 +332,9 @@ fn a_script_that_waits_is_refused_behind_the_schedule(rt: HostRuntime) -> Result
 #[test]
 fn scripts_and_schedules_are_read_for_the_number_of_threads(rt: HostRuntime) -> Result<(), Fail> {
     let three = ["sim", "i", "s", "c", "t", "a", "--threads=3"];
-    assert_refused(
-        &rt,
-        &three,
-        "hold 4 0\ngo",
-        "",
-        "xray: s: script Thread 1",
-        "is",
-    )?;
-    assert_refused(
-        &rt,
-        &three,
-        "hold 3 0\ngo",
-        "",
-        "xray: s: script Hold 3",
-        "is",
-    )?;
-    assert_refused(
-        &rt,
-        &three,
-        "go",
-        "t 4 1",
-        "xray: c: schedule Thread 1",
-        "isc",
-    )?;
+    assert_refused(&rt, &three, "hold 4 0\ngo", "", "xray: s: script Thread 1")?;
+    assert_refused(&rt, &three, "hold 3 0\ngo", "", "xray: s: script Hold 3")?;
+    assert_refused(&rt, &three, "go", "t 4 1", "xray: c: schedule Thread 1")?;
     assert_eq!(rt; run_image(&rt, &three, "go", "t 3 1")?.status, 0);
     Ok(())
 }

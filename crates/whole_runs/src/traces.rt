@@ -1,4 +1,5 @@
-//! `sim`: the trace and the audit of worked rows, byte by byte, and what stands of them when a call of the desk fails.
+//! `sim`: the trace and the audit of worked rows, byte by byte, and what is left of them if a call
+//! of the desk fails.
 use crate::asm::{CALL, ODD_EXIT, STRAIGHT_LINE, TAIL_JUMP};
 use crate::desks::Trickle;
 use crate::runs::{IMAGE, desk_of, run_words};
@@ -8,7 +9,11 @@ use std::sync::Wait;
 use std::test::Fail;
 use std::thread::Threads;
 
-/// What `sim` is asked for, and what it leaves. The bytes of the traces were worked by hand, record by record.
+/// The words of a replay whose trace has a wall time of 0.
+const REPLAY: [&str; 8] = ["sim", "i", "s", "c", "t", "a", "--wall", "0"];
+
+/// What `sim` is asked for, and what it leaves. The bytes of the traces were worked by hand, record
+/// by record.
 struct Row<'r> {
     /// The assembler text of the image.
     text: &'r str,
@@ -20,11 +25,11 @@ struct Row<'r> {
     audit: &'r str,
 }
 
-const ROWS: [Row; 17] = [
+const ROWS: [Row; 18] = [
     // A call is recorded.
     Row {
         text: STRAIGHT_LINE,
-        options: &[],
+        options: &["--wall", "0"],
         script: TRACED,
         schedule: "",
         trace: &[
@@ -49,7 +54,7 @@ const ROWS: [Row; 17] = [
     // Nothing is recorded without patching.
     Row {
         text: STRAIGHT_LINE,
-        options: &[],
+        options: &["--wall", "0"],
         script: "go",
         schedule: "",
         trace: &[
@@ -64,10 +69,10 @@ const ROWS: [Row; 17] = [
             marks .2\n\
             recycled 0\n",
     },
-    // A passing that has begun is recorded, although its sled is unpatched meanwhile.
+    // A passing that has begun is recorded, even if its sled is unpatched meanwhile.
     Row {
         text: STRAIGHT_LINE,
-        options: &[],
+        options: &["--wall", "0"],
         script: "patch\nset_handler\ninit\ngo\nunpatch",
         schedule: "t 1 1\np 2",
         trace: &[
@@ -88,10 +93,10 @@ const ROWS: [Row; 17] = [
             marks +1 .1\n\
             recycled 0\n",
     },
-    // A sled of which all but the head is stored is unpatched.
+    // A sled is unpatched until its head is stored.
     Row {
         text: STRAIGHT_LINE,
-        options: &[],
+        options: &["--wall", "0"],
         script: LIVE,
         schedule: "p 3\nt 1 1",
         trace: &[
@@ -109,7 +114,7 @@ const ROWS: [Row; 17] = [
     // An exit is recorded without its entry.
     Row {
         text: STRAIGHT_LINE,
-        options: &[],
+        options: &["--wall", "0"],
         script: LIVE,
         schedule: "p 3\nt 1 1\np 5",
         trace: &[
@@ -133,7 +138,7 @@ const ROWS: [Row; 17] = [
     // Nothing is recorded without a handler.
     Row {
         text: STRAIGHT_LINE,
-        options: &[],
+        options: &["--wall", "0"],
         script: "patch\ninit\ngo",
         schedule: "",
         trace: &[
@@ -151,7 +156,7 @@ const ROWS: [Row; 17] = [
     // Nothing is recorded in a log that is finalized.
     Row {
         text: STRAIGHT_LINE,
-        options: &[],
+        options: &["--wall", "0"],
         script: "patch\nset_handler\ninit\nfinalize\ngo",
         schedule: "",
         trace: &[
@@ -169,7 +174,7 @@ const ROWS: [Row; 17] = [
     // A delta has 32 bits.
     Row {
         text: ODD_EXIT,
-        options: &["--tick", "4294967295"],
+        options: &["--wall", "0", "--tick", "4294967295"],
         script: TRACED,
         schedule: "",
         trace: &[
@@ -191,10 +196,10 @@ const ROWS: [Row; 17] = [
             marks +2\n\
             recycled 0\n",
     },
-    // A counter that is further on gets a TSCWrap record.
+    // A greater advance of the counter gets a TSCWrap record.
     Row {
         text: ODD_EXIT,
-        options: &["--tick=4294967296"],
+        options: &["--wall", "0", "--tick=4294967296"],
         script: TRACED,
         schedule: "",
         trace: &[
@@ -220,7 +225,7 @@ const ROWS: [Row; 17] = [
     // A counter that wraps gets a TSCWrap record.
     Row {
         text: ODD_EXIT,
-        options: &["--tsc", "18446744073709551615"],
+        options: &["--wall", "0", "--tsc", "18446744073709551615"],
         script: TRACED,
         schedule: "",
         trace: &[
@@ -246,7 +251,7 @@ const ROWS: [Row; 17] = [
     // A buffer of 72 bytes has room for one event.
     Row {
         text: STRAIGHT_LINE,
-        options: &["--buffer-size", "72"],
+        options: &["--wall", "0", "--buffer-size", "72"],
         script: TRACED,
         schedule: "",
         trace: &[
@@ -276,7 +281,7 @@ const ROWS: [Row; 17] = [
     // So has one of 79 bytes.
     Row {
         text: STRAIGHT_LINE,
-        options: &["--buffer-size=79"],
+        options: &["--wall", "0", "--buffer-size=79"],
         script: TRACED,
         schedule: "",
         trace: &[
@@ -306,7 +311,7 @@ const ROWS: [Row; 17] = [
     // One of 80 bytes has room for two.
     Row {
         text: STRAIGHT_LINE,
-        options: &["--buffer-size", "80"],
+        options: &["--wall", "0", "--buffer-size", "80"],
         script: TRACED,
         schedule: "",
         trace: &[
@@ -331,7 +336,16 @@ const ROWS: [Row; 17] = [
     // Threads take each other's oldest segments.
     Row {
         text: CALL,
-        options: &["--threads", "2", "--buffer-size", "72", "--buffer-max", "3"],
+        options: &[
+            "--wall",
+            "0",
+            "--threads",
+            "2",
+            "--buffer-size",
+            "72",
+            "--buffer-max",
+            "3",
+        ],
         script: TRACED,
         schedule: "",
         trace: &[
@@ -369,7 +383,7 @@ const ROWS: [Row; 17] = [
     // A thread that moves to another CPU says so.
     Row {
         text: STRAIGHT_LINE,
-        options: &["--cpus", "2", "--migrate", "1"],
+        options: &["--wall", "0", "--cpus", "2", "--migrate", "1"],
         script: TRACED,
         schedule: "",
         trace: &[
@@ -395,7 +409,7 @@ const ROWS: [Row; 17] = [
     // A tail jump is a tail exit.
     Row {
         text: TAIL_JUMP,
-        options: &[],
+        options: &["--wall", "0"],
         script: TRACED,
         schedule: "",
         trace: &[
@@ -419,7 +433,7 @@ const ROWS: [Row; 17] = [
             marks +4\n\
             recycled 0\n",
     },
-    // The numbers of the words stand in the header, in the preamble and in the audit.
+    // The numbers of the words are in the header, in the preamble and in the audit.
     Row {
         text: STRAIGHT_LINE,
         options: &[
@@ -447,6 +461,31 @@ const ROWS: [Row; 17] = [
             threads=1 buffer-size=16384 buffer-max=100 \
             fuel=10000000 passings=1048576 tick=1 tsc=0 cpus=1 migrate=1048576 \
             pid=2147483647 wall=18446744073709551615.0 frequency=18446744073709551615\n\
+            thread 1 returned passings 2 recorded 2 segments 1 first 0\n\
+            marks +2\n\
+            recycled 0\n",
+    },
+    // If the words have no wall time, the trace has the one that was passed in.
+    Row {
+        text: STRAIGHT_LINE,
+        options: &[],
+        script: TRACED,
+        schedule: "",
+        trace: &[
+            0x03, 0, 0x01, 0, 0x03, 0, 0, 0, 0, 0, 0, 0, 0, 0, 0, 0, //
+            0, 0x40, 0, 0, 0, 0, 0, 0, 0, 0, 0, 0, 0, 0, 0, 0, //
+            0x0F, 0x50, 0, 0, 0, 0, 0, 0, 0, 0, 0, 0, 0, 0, 0, 0, //
+            0x01, 0x01, 0, 0, 0, 0, 0, 0, 0, 0, 0, 0, 0, 0, 0, 0, //
+            0x09, 0x07, 0, 0, 0, 0, 0, 0, 0, 0x08, 0, 0, 0, 0, 0, 0, //
+            0x13, 0x01, 0, 0, 0, 0, 0, 0, 0, 0, 0, 0, 0, 0, 0, 0, //
+            0x05, 0, 0, 0, 0, 0, 0, 0, 0, 0, 0, 0, 0, 0, 0, 0, //
+            0x10, 0, 0, 0, 0, 0, 0, 0, //
+            0x12, 0, 0, 0, 0x02, 0, 0, 0, //
+        ],
+        audit: "xray-audit 1\n\
+            threads=1 buffer-size=16384 buffer-max=100 \
+            fuel=10000000 passings=1048576 tick=1 tsc=0 cpus=1 migrate=1048576 \
+            pid=1 wall=7.8 frequency=0\n\
             thread 1 returned passings 2 recorded 2 segments 1 first 0\n\
             marks +2\n\
             recycled 0\n",
@@ -491,7 +530,7 @@ fn a_replay_leaves_its_trace_and_its_audit(rt: HostRuntime) -> Result<(), Fail> 
     Ok(())
 }
 
-/// The ends of the ranges of buffers, and a trace of at most 67,108,864 bytes.
+/// The ends of the ranges of buffers, and of a trace of at most 67,108,864 bytes.
 #[test]
 fn buffers_have_their_ranges(rt: HostRuntime) -> Result<(), Fail> {
     for (options, status) in [
@@ -536,7 +575,7 @@ fn a_call_of_the_desk_that_fails_leaves_later_outputs_untouched(
         let mut desk = desk_of(rt.alloc(), failing, &IMAGE, TRACED, "p 1")?;
         desk.put("t", OLD)?;
         desk.put("a", OLD)?;
-        let run = run_words(&rt, &SIM, &mut desk, out_failing, &[])?;
+        let run = run_words(&rt, &REPLAY, &mut desk, out_failing, &[])?;
         assert_eq!(rt; run.err.as_str(), line);
         assert_eq!(rt; run.status, 4, "{line}");
         assert_eq!(rt; run.out.as_str(), "", "{line}");
@@ -554,11 +593,11 @@ fn a_call_of_the_desk_that_fails_leaves_later_outputs_untouched(
 /// The second append of one byte fails: the trace is a prefix, and the audit isn't begun.
 #[test]
 fn a_trace_that_fails_in_the_middle_is_a_prefix(rt: HostRuntime) -> Result<(), Fail> {
-    // A read for each byte of the three inputs, and one that finds the end of each.
+    // A read for each byte of the three inputs, and one more that finds the end of each.
     let reads = (IMAGE.len() + 1 + TRACED.len() + 1 + 1) as u64;
     let desk = desk_of(rt.alloc(), &[reads + 2], &IMAGE, TRACED, "")?;
     let mut trickle = Trickle::new(desk);
-    let run = run_words(&rt, &SIM, &mut trickle, &[], &[])?;
+    let run = run_words(&rt, &REPLAY, &mut trickle, &[], &[])?;
     assert_eq!(rt; run.err.as_str(), "xray: t: write fault\n");
     assert_eq!(rt; run.status, 4);
     assert_eq!(rt; trickle.get("t").ok_or("no trace")?, &ROWS[0].trace[..1]);

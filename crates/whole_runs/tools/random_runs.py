@@ -1,10 +1,11 @@
 #!/usr/bin/env python3
 """Compares `xray` with a model of it on random inputs and command lines, and says where they differ.
 
-usage: crates/whole_runs/tools/random_runs.py [PROGRAM] [--with COMMANDS] [--runs N] [--seed N] [--jobs N]
+usage: crates/whole_runs/tools/random_runs.py [PROGRAM] [--with COMMANDS] [--lines] [--runs N] [--seed N] [--jobs N]
     PROGRAM: the built program, crates/xray/out/xray if left out
     --with: which of sim, account, stack and convert PROGRAM has, joined by commas, none if left out; without sim a replay has
         three files and writes no trace
+    --lines: random command lines over sound files alone (random_lines.py)
     --runs: how many runs, 1000 if left out
     --seed: what all is drawn by, 1 if left out
     --jobs: how many runs at a time, 2 if left out
@@ -39,6 +40,7 @@ from image_model import Refused  # noqa: E402
 from limit_cases import limit_cases  # noqa: E402
 from random_cases import STDIN, random_case  # noqa: E402
 from random_images import ROOT, texts  # noqa: E402
+from random_lines import line_case  # noqa: E402
 
 # One run in this many is at a limit or one past it, by turns.
 LIMIT_EVERY = 40
@@ -57,6 +59,17 @@ class Cases:
         if rest == 0:
             return self.limits[turn % len(self.limits)]()
         return random_case(random.Random(f"{self.seed} {number}"), self.forms)
+
+
+class Lines:
+    """Command lines for a program with these commands, by their numbers."""
+
+    def __init__(self, forms, seed):
+        self.forms = forms
+        self.seed = seed
+
+    def get(self, number):
+        return line_case(random.Random(f"{self.seed} {number}"), self.forms)
 
 
 # ---- What is expected, and what comes
@@ -187,6 +200,7 @@ def arguments():
     parser = argparse.ArgumentParser(description="Compares the program with a model of it on random inputs.")
     parser.add_argument("program", nargs="?", type=pathlib.Path, default=ROOT / "crates/xray/out/xray", metavar="PROGRAM")
     parser.add_argument("--with", dest="commands", default="", metavar="COMMANDS")
+    parser.add_argument("--lines", action="store_true")
     parser.add_argument("--runs", type=int, default=1000, metavar="N")
     parser.add_argument("--seed", type=int, default=1, metavar="N")
     parser.add_argument("--jobs", type=int, default=2, metavar="N")
@@ -202,7 +216,7 @@ def arguments():
 def main():
     given = arguments()
     program = given.program.resolve()
-    cases = Cases(model.forms_with(given.commands.split(",")), given.seed)
+    cases = (Lines if given.lines else Cases)(model.forms_with(given.commands.split(",")), given.seed)
     folder = pathlib.Path(tempfile.mkdtemp(prefix="random_runs."))
     answers, ends, marks, differ, reports, recycled = *(collections.Counter() for _ in range(3)), 0, 0, 0
     with concurrent.futures.ThreadPoolExecutor(given.jobs) as pool:

@@ -7,10 +7,11 @@ use std::{env, io};
 use xray_io::{ErrSink, FileDesk, OpenGate, OutSink, Wall, write_all};
 use xray_program::xray;
 
-/// Does what the words of the command line say, over files and the standard streams, and ends with the status.
+/// Does what the words of the command line say, over files and the standard streams, and ends with
+/// the status.
 ///
-/// Words that aren't UTF-8 say no command. Where there is no memory for the words, that is told as
-/// `xray` tells want of memory.
+/// Words that aren't UTF-8 say no command. If memory for the words is refused, the report is that
+/// of `xray` for want of memory.
 fn main(rt: HostRuntime) -> ExitCode {
     let words = match words_behind_name(&rt) {
         Ok(words) => words,
@@ -35,16 +36,16 @@ fn words_behind_name(rt: &HostRuntime) -> io::Result<Vec<String>> {
     Ok(words)
 }
 
-/// Tells that memory ran out. Nobody hears of it where err fails.
+/// Reports that memory ran out. If err fails, nothing is reported.
 fn out_of_memory(rt: &HostRuntime) -> ExitCode {
     let _ = write_all(&mut ErrSink::new(rt.stderr()), b"xray: out of memory\n");
     ExitCode::from(OUT_OF_MEMORY)
 }
 
-/// The status where memory runs out.
+/// The status if memory runs out.
 const OUT_OF_MEMORY: u8 = 5;
 
-/// The time of the clock; the epoch where there is no clock, or where it stands before the epoch.
+/// The time of the clock, or the epoch if there is no clock or if it is set before the epoch.
 fn wall_time(rt: &HostRuntime) -> Wall {
     match SystemTime::now(rt) {
         Ok(now) => since_epoch(now),

@@ -34,7 +34,7 @@ use Rattle.command_words.specs.Words.{Command}
 use Rattle.xray_program.specs.Works.{SaidFits}
 use Rattle.xray_io.specs.World.{World}
 
--- where all is done, an input that is held reads as a value, and the rest is done with it
+-- if all is done, an input that is held reads as a value, and the rest is done with it
 record Read {X : Type 0} (Reads : List ℕ → X → Type 0) (bytes : List ℕ) (Next : X → Type 0) : Type 0 where
   value : X
   reads : Reads bytes value
@@ -50,7 +50,7 @@ read_on form held name next outputs text content holds (inr (bytes, may, inr (wi
     let same : bytes ≡ content = rw holds at may in
     record { value = value; reads = subst (λ b. form.Reads b value) same reads; next = comes }
 
--- where all is done, no reason to refuse was found
+-- if all is done, there was no reason to refuse
 unrefused : (line : Option ℕ) (name kind : List ℕ) (next : Outcome → Type 0) (outputs : List (List ℕ × List ℕ)) (text : List ℕ)
     → RefuseIf (option_map waits_words line) name kind next (Done outputs text) → (line ≡ None) × next (Done outputs text)
 unrefused None name kind next outputs text comes = (refl, comes)
@@ -73,7 +73,7 @@ abbrev pub TracesRuns : Type 0
 TracesRuns = (bytes : List ℕ) (program : Program) (setup : Setup) (runs : List ThreadRun) → IsAccepted bytes program → SetupFits setup
     → IsRun program setup runs → IsTraceOf setup runs (trace_bytes setup runs)
 
--- a replay loses few segments
+-- as many segments are lost as the queue has no buffers for
 abbrev pub LosesAsQueued : Type 0
 LosesAsQueued = (program : Program) (script : List PatchCommand) (text : List ℕ) (schedule : List Turns) (setup : Setup) (runs : List ThreadRun)
     → schedule_of setup.threads text ≡ Ok schedule → IsReplayOf program script schedule setup runs → AreLost setup.size (spare_of setup) runs

@@ -6,7 +6,7 @@ use Rattle.xray_image.specs.Table.{Verdict, ReadsAs}
 use Rattle.xray_program.specs.Inputs.{image_form, refused_for}
 use Rattle.xray_program.proofs.Meanings.{AreBytes, IsDecided, IsJudged}
 
--- what the reader of images says: each file has one verdict, and is accepted exactly where that is a program
+-- what the reader of images says: each file has only one verdict, and is accepted exactly when that is a program
 abbrev pub OneVerdict : Type 0
 OneVerdict = (bytes : List ℕ) (v w : Verdict) → ReadsAs bytes v → ReadsAs bytes w → v ≡ w
 

@@ -12,7 +12,7 @@ use Rattle.xray_image.specs.declared.fault.ImageFault.{ImageFault}
 use Rattle.xray_image.specs.declared.fault.ImageFault.TheVariants as faults
 use Rattle.xray_program.specs.Inputs.{image_form, refused_for}
 
--- a text has at most one line more than bytes
+-- a text has at most one more line than bytes
 lines_of_few : (parts : List (List ℕ)) → length (lines_of_parts parts) ≤ length parts
 lines_of_few [] = omega arith
 lines_of_few ([] ∷ []) = omega arith
@@ -28,7 +28,7 @@ few_lines text within =
     let ends = count_by-le-length (λ b. b == 10) text in
     omega arith
 
--- a file that is no image is refused for its fault
+-- a file that isn't an image is refused for its fault
 pub image_refuses : (bytes : List ℕ) (result : Verdict) → (result ≡ Err faults.NoMemory) ⊎ ReadsAs bytes result
     → IfErr result (λ fault. (refusal : List ℕ) → image_words fault ≡ Some refusal → image_form.Refuses bytes refusal)
 image_refuses bytes (Ok program) reads = tt

@@ -1,6 +1,8 @@
+pub mod AccountLaws
 pub mod Answering
 pub mod AsmLaws
 pub mod CommandLaws
+pub mod ConvertLaws
 pub mod Endings
 pub mod ExtractLaws
 pub mod Headline
@@ -11,10 +13,12 @@ pub mod Ordering
 pub mod Outputting
 pub mod PlainLaws
 pub mod PlainThreads
+pub mod Reports
 pub mod Rows
 pub mod RunWritten
 pub mod Saying
 pub mod SimLaws
 pub mod SimTurns
+pub mod StackLaws
 pub mod TextLists
 pub mod Turns

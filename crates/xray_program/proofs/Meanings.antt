@@ -1,4 +1,4 @@
--- What comes of inputs in their turn: one thing alone, a refusal alone, and something in any case.
+-- What comes of inputs in their turn: only one thing, a refusal and nothing else, and something in any case.
 use Rattle.std.proofs.Common.{◌≡◌, ◌≢◌, ◌⊎◌, ◌<◌, ◌≤◌, ◌∙◌, ℕ, List, length, Option, Some, None, Result, Ok, Err, inl, inr, refl, sym, ap, arith, subst}
 use Rattle.std.specs.Prelude.{All}
 use Rattle.std.proofs.lemmas.Bool.{cases_lt}
@@ -7,9 +7,9 @@ use Rattle.xray_program.specs.Inputs.{form_by, refused_for}
 use Rattle.xray_program.specs.Outcomes.{Outcome, Unread, TooLong, Refused, Done, written_by}
 use Rattle.xray_program.specs.Taking.{Form, Sound, MayHold, Take, TakeMaybe, RefuseIf, Leaves, any_bytes}
 
--- ---- what makes a law of a kind of input
+-- ---- what a law asks of a kind of input
 
--- bytes read one way at the most, are refused for one reason, and never both
+-- bytes read in at most one way, are refused for at most one reason, and never both
 pub record IsDecided {X : Type 0} (form : Form X) : Type 0 where
   pub one : (bytes : List ℕ) (a b : X) → form.Reads bytes a → form.Reads bytes b → a ≡ b
   pub why : (bytes r s : List ℕ) → form.Refuses bytes r → form.Refuses bytes s → r ≡ s
@@ -24,9 +24,9 @@ abbrev pub IsJudged : {X : Type 0} → Form X → Type 0
 IsJudged {X} form = (bytes : List ℕ) → AreBytes bytes
     → ((value : X) × form.Reads bytes value) ⊎ ((refusal : List ℕ) × form.Refuses bytes refusal)
 
--- ---- one thing alone
+-- ---- only one thing
 
--- an outcome of this sort that comes is all that comes
+-- if an outcome of this sort comes, nothing else does
 abbrev pub IsAlone : (Sort comes : Outcome → Type 0) → Type 0
 IsAlone Sort comes = (one other : Outcome) → Sort one → comes one → comes other → other ≡ one
 
@@ -37,7 +37,7 @@ AnyOutcome outcome = Unit {0}
 abbrev pub IsRefusal : Outcome → Type 0
 IsRefusal outcome = written_by outcome ≡ None
 
--- what a name may hold that is told is one thing
+-- what a name may hold is only one thing, if the desk reports it
 alike : (entry : Entry) (one other : List ℕ) → entry ≢ Untold → MayHold entry one → MayHold entry other → other ≡ one
 alike Untold one other told may might = absurd (told refl)
 alike Absent one other told may might = absurd may
@@ -81,27 +81,27 @@ pub maybe_alone : {X : Type 0} (form : Form X) → IsDecided form → (Sort : Ou
 maybe_alone form is Sort held None next told none later = none
 maybe_alone form is Sort held (Some name) next told none later = take_alone form is Sort held name (λ value. next (Some value)) (told name) later
 
--- a reason to refuse, behind all inputs
+-- a reason to refuse, after all inputs
 pub refuse_alone : (Sort : Outcome → Type 0) (reason : Option (List ℕ)) (name kind : List ℕ) (next : Outcome → Type 0) → IsAlone Sort next
     → IsAlone Sort (RefuseIf reason name kind next)
 refuse_alone Sort None name kind next later a b sort x y = later a b sort x y
 refuse_alone Sort (Some refusal) name kind next later a b sort x y = y ∙ sym x
 
--- outputs and a text, where these are one thing
+-- outputs and a text, if these are only one thing
 pub leaves_alone : (Are : List (List ℕ × List ℕ) → List ℕ → Type 0)
     → ((o p : List (List ℕ × List ℕ)) (t u : List ℕ) → Are o t → Are p u → (p ≡ o) × (u ≡ t)) → IsAlone AnyOutcome (Leaves Are)
 leaves_alone Are one a b sort (o, t, x, is) (p, u, y, so) =
     let same = one o p t u x y in
     so ∙ rw (same.0, same.1) refl ∙ sym is
 
--- outputs and a text are no refusal
+-- outputs and a text aren't a refusal
 pub leaves_no_refusal : (Are : List (List ℕ × List ℕ) → List ℕ → Type 0) → IsAlone IsRefusal (Leaves Are)
 leaves_no_refusal Are a b sort (o, t, x, is) y = absurd (none (rw is at sort))
   where
     none : written_by (Done o t) ≡ None → ⊥
     none e = cc
 
--- where all that comes is one thing, so is a refusal
+-- if all that comes is one thing, so is a refusal
 pub refusal_alone : (comes : Outcome → Type 0) → IsAlone AnyOutcome comes → IsAlone IsRefusal comes
 refusal_alone comes alone a b sort x y = alone a b tt x y
 
@@ -151,7 +151,7 @@ pub some_maybe : {X : Type 0} (form : Form X) → IsJudged form → (held : List
 some_maybe form is held None next told holds none later = none
 some_maybe form is held (Some name) next told holds none later = some_take form is held name (λ value. next (Some value)) (told name) holds later
 
--- a reason to refuse, behind all inputs
+-- a reason to refuse, after all inputs
 pub some_refuse : (reason : Option (List ℕ)) (name kind : List ℕ) (next : Outcome → Type 0) → (reason ≡ None → SomeOutcome next)
     → SomeOutcome (RefuseIf reason name kind next)
 some_refuse None name kind next some = some refl

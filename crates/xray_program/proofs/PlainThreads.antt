@@ -23,12 +23,12 @@ same_text program bounds thread e is = record {
   prints = rw (is.thread, is.registers, is.zero_flag, is.output, is.instructions, is.passings) refl;
 }
 
--- no element stands in an empty list
+-- an empty list has no items
 none_at : {X : Type 0} (k : ℕ) (x : X) → slice_get [] k ≡ Some x → ⊥
 none_at zero x is = cc
 none_at (suc k) x is = cc
 
--- the element at a place of a list with one more behind it
+-- the item at a place of a list with one more at its end
 at_push : {X : Type 0} (xs : List X) (y : X) (k : ℕ) (x : X) → slice_get (xs ++ y ∷ []) k ≡ Some x
     → (slice_get xs k ≡ Some x) ⊎ ((k ≡ length xs) × (x ≡ y))
 at_push [] y zero x is = inr (refl, cc)
@@ -43,7 +43,7 @@ at_push (z ∷ xs) y (suc k) x is = elim (at_push xs y k x is) [
 pub no_ends : (program : Program) (bounds : Bounds) → AreEnds program bounds 0 []
 no_ends program bounds = record { count = refl; each = λ k e is. absurd (none_at k e is); registers = All-nil HasRegisters }
 
--- a thread more
+-- one more thread
 pub one_end_more : (program : Program) (bounds : Bounds) (threads : ℕ) (ends : List PlainEnd) (e : PlainEnd)
     → AreEnds program bounds threads ends → IsPlainEnd program (plain_limits bounds) (threads + 1) e → HasRegisters e
     → AreEnds program bounds (threads + 1) (ends ++ e ∷ [])

@@ -8,7 +8,7 @@ use Rattle.xray_io.specs.Calls.{Composes, Write}
 use Rattle.xray_io.specs.Writes.{Answer, WritesText, sends_on, sends_stop}
 use Rattle.xray_io.specs.declared.faults.WriteFault.{WriteFault}
 
--- one item more
+-- one more item
 texts_more : {X : Type 0} (f : X → List ℕ) (xs : List X) (i : ℕ) (d : X) → i < length xs
     → flat_map f (take (i + 1) xs) ≡ flat_map f (take i xs) ++ f (get_or xs i d)
 texts_more f [] i d within = absurd (omega arith)
@@ -33,7 +33,7 @@ row_more {written = written} {faults = faults} {along = along} both {first = fir
     ap (λ y. flat_map f (take i xs) ++ f y) is ∙ sym (texts_more f xs i d within) in
     subst P more (sends_on both (f x) before row)
 
--- the error that a `?` hands on
+-- the error that a `?` passes on
 handed_on : (P : Answer → Type 0) (fault : WriteFault) (result : Answer) → IsErrAnd result (λ e. e ≡ fault) → P (Err fault) → P result
 handed_on P fault (Ok done) is holds = absurd is
 handed_on P fault (Err e) is holds = subst (λ f. P (Err f)) (sym is) holds

@@ -24,7 +24,7 @@ thread_printed : (number : ℕ) (run : ThreadRun) (t : Traced) → HasRun number
 thread_printed number run t has =
     rw (has.done, has.thread, sym has.registers, sym has.zero_flag, sym has.output, sym has.instructions, sym has.passings, sym has.marks) refl
 
--- the threads, numbered from one of a number on, have run so
+-- the threads, numbered from a number on, have run in this way
 abbrev HaveRun : ℕ → List ThreadRun → List Traced → Type 0
 HaveRun number runs ts = (i : ℕ) (run : ThreadRun) (t : Traced) → slice_get runs i ≡ Some run → slice_get ts i ≡ Some t → HasRun (number + i) run t
 
@@ -99,7 +99,7 @@ abbrev pub AuditsRuns : Type 0
 AuditsRuns = (setup : Setup) (runs : List ThreadRun) (cpus : List Traced) (segments first : List ℕ) (buffers : List Filled)
     → Leaves setup runs cpus segments first buffers → accounts (lines_of cpus segments first) cpus ≡ accounts_of setup runs
 
--- lines that are added to none are all
+-- if lines are added to an empty list, they are all its lines
 pub only_lines : (lines old : List AuditLine) (ts us : List Traced) (segments ns first ms : List ℕ) → lines ≡ old ++ lines_of us ns ms → old ≡ []
     → us ≡ ts → ns ≡ segments → ms ≡ first → lines ≡ lines_of ts segments first
 only_lines lines old ts us segments ns first ms is none same_threads same_segments same_first =

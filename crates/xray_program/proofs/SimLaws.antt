@@ -20,7 +20,7 @@ use Rattle.xray_program.specs.Taking.{Leaves, Sound, Take}
 use Rattle.xray_program.specs.Traced.{Traces, state_texts, written_of}
 use Rattle.xray_program.proofs.Meanings.{AnyOutcome, HoldsBytes, IsAlone, IsDecided, IsJudged, SomeOutcome, decided_by, judged_by, leaves_alone, refuse_alone, some_leaves, some_refuse, some_take, take_alone}
 
--- what replays say: a schedule leaves one list of runs; and it leaves runs where nobody waits
+-- what replays say: a schedule leaves only one list of runs, and it leaves runs if nothing waits
 abbrev pub OneRun : Type 0
 OneRun = (bytes : List ℕ) (program : Program) (script : List Command) (schedule : List Turns) (setup : Setup) (runs others : List ThreadRun)
     → IsAccepted bytes program → IsReplayOf program script schedule setup runs → IsReplayOf program script schedule setup others → runs ≡ others
@@ -66,7 +66,7 @@ sim_alone is one held i s c t a setup told =
 
 -- ---- something in any case
 
--- where no reason was found, nobody waits
+-- if there was no reason, nothing waits
 nobody : (line : Option ℕ) → option_map waits_words line ≡ None → line ≡ None
 nobody None e = refl
 nobody (Some line) e = absurd (none e)

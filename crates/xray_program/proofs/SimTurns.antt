@@ -55,7 +55,7 @@ pub given_before : {X : Type 0} (form : Form X) (held mid : List ℕ → Entry) 
     → Gives form (mid name) value → Gives form (held name) value
 given_before form held mid name value same = subst (λ (h : List ℕ → Entry). Gives form (h name) value) same
 
--- a script that waits is refused, and for want of memory nothing is written
+-- a script that waits is refused, and if memory runs out nothing is written
 pub sim_refuses : (s t a : List ℕ) (setup : Setup) (program : Program) (plan : Plan) (turns : List Turns) (desk : DeskView) (out : SinkView)
     (Way : List Call → Type 0) → Went Way IsNoCall → (fault : SimFault) (stop : Stop) → ((line : ℕ) → fault ≡ replaying.Waits line → waiting_line plan.lines ≡ Some line)
     → IsFaultStop s (codes "script") (sim_words fault) stop → Finishes (Replays s t a setup program plan turns) desk desk out out Way (Err stop)
@@ -78,7 +78,7 @@ sim_refuses s t a setup program plan turns desk out Way none fault (stops.Fell w
 sim_refuses s t a setup program plan turns desk out Way none fault (stops.Unwritten n) waits is = absurd is
 sim_refuses s t a setup program plan turns desk out Way none fault stops.NoMemory waits is = ((refl, refl), none)
 
--- where nobody waits, what is left comes
+-- if nothing waits, what is left comes
 pub sim_leaves : (s : List ℕ) (line : Option ℕ) (next : Outcome → Type 0) (outcome : Outcome)
     → ((n : ℕ) → line ≡ Some n → ⊥) → next outcome → RefuseIf (option_map waits_words line) s (codes "script") next outcome
 sim_leaves s None next outcome still is = is

@@ -1,4 +1,4 @@
--- Texts of items, one behind the other, and the items of a list by their places.
+-- Texts of items, one after the other, and the items of a list by their places.
 use Rattle.std.proofs.Common.{◌≡◌, ◌+◌, ◌++◌, ◌∙◌, ℕ, zero, suc, List, [], ◌∷◌, length, map, Option, option_map, Some, None, refl, sym, ap, arith}
 use Rattle.std.specs.List.{flat_map, slice_get}
 use Rattle.std.proofs.lemmas.Option.{same_Some, slice_get-map}
@@ -8,7 +8,7 @@ pub joined_texts : {X : Type 0} (f : X → List ℕ) (xs : List X) → flat_map 
 joined_texts f [] = refl
 joined_texts f (x ∷ xs) = ap (λ (texts : List ℕ). f x ++ texts) (joined_texts f xs)
 
--- an item of a list of values stands for one of the items that they are of
+-- an item of a list of values stands for one of the items that they belong to
 pub record HasItem {X Y : Type 0} (f : X → Y) (xs : List X) (k : ℕ) (y : Y) : Type 0 where
   pub item : X
   pub found : slice_get xs k ≡ Some item
@@ -21,7 +21,7 @@ item_behind {X} {Y} f xs k y at = found_at (slice_get xs k) refl (sym (slice_get
     found_at None is gives = absurd cc
     found_at (Some x) is gives = record { item = x; found = is; value = cc }
 
--- lists of the same length whose items are decided by their places are the same
+-- two lists of the same length are the same if their items are decided by their places
 pub same_list : {X : Type 0} (P : ℕ → X → Type 0) → ((i : ℕ) (t u : X) → P i t → P i u → t ≡ u) → (xs ys : List X)
     → ((i : ℕ) (t : X) → slice_get xs i ≡ Some t → P i t) → ((i : ℕ) (t : X) → slice_get ys i ≡ Some t → P i t)
     → length xs ≡ length ys → xs ≡ ys
@@ -34,17 +34,17 @@ same_list P one (x ∷ xs) (y ∷ ys) at at' e =
 
 -- ---- lists by their places
 
--- the items of so many places, from one on
+-- the items of n places, from a place on
 abbrev pub made : {X : Type 0} → (ℕ → X) → ℕ → ℕ → List X
 made item from zero = []
 made item from (suc n) = item from ∷ made item (from + 1) n
 
--- they are as many as the places
+-- there are as many as places
 pub made_length : {X : Type 0} (item : ℕ → X) (from n : ℕ) → length (made item from n) ≡ n
 made_length item from zero = refl
 made_length item from (suc n) = ap suc (made_length item (from + 1) n)
 
--- each stands at its place
+-- each is at its place
 pub made_at : {X : Type 0} (item : ℕ → X) (from n k : ℕ) (x : X) → slice_get (made item from n) k ≡ Some x → item (from + k) ≡ x
 made_at item from zero k x e = cc
 made_at item from (suc n) zero x e =
@@ -54,7 +54,7 @@ made_at item from (suc n) (suc k) x e =
     let there : from + suc k ≡ from + 1 + k = omega arith in
     ap item there ∙ made_at item (from + 1) n k x e
 
--- from place 0 on each stands at its own
+-- from place 0 on, each is at its own place
 pub made_first : {X : Type 0} (item : ℕ → X) (n k : ℕ) (x : X) → slice_get (made item 0 n) k ≡ Some x → item k ≡ x
 made_first item n k x e =
     let here : k ≡ 0 + k = omega arith in

@@ -37,8 +37,8 @@ pub record Reports (said : Option Command) (before : World) (ending : Ending) : 
   pub is : ending ≡ With outcome
   pub meant : Means said before.desk.held outcome
 
--- it ended at an input whose turn had come, and which couldn't be read: reads failed, or the desk doesn't hold the name, and then that
--- is what is meant
+-- it ended at an input whose turn had come, and which couldn't be read: reads failed, or the desk doesn't hold the
+-- name, which is then meant
 pub record CouldNotRead (said : Option Command) (before after : World) (ending : Ending) : Type 0 where
   pub name : List ℕ
   pub is : ending ≡ With (Unread name)
@@ -49,11 +49,11 @@ pub record CouldNotRead (said : Option Command) (before after : World) (ending :
 -- it ended at an output, or at out, of an outcome that is meant and writes
 pub record CouldNotWrite (said : Option Command) (before after : World) (ending : Ending) : Type 0 where
   pub name : List ℕ
-  pub is : ending ≡ Unwritten name
   pub outcome : Outcome
   pub meant : Means said before.desk.held outcome
   pub outputs : List (List ℕ × List ℕ)
   pub text : List ℕ
+  pub is : ending ≡ Unwritten name outputs
   pub writes : written_by outcome ≡ Some (outputs, text)
   pub failed : FailsWriting outputs text before.desk after.desk before.out after.out name
 
@@ -69,7 +69,7 @@ IsAnswer said before after status =
     ⊎ ((status ≡ 3) × Rose before.desk.read_faults after.desk.read_faults)
     ⊎ ((status ≡ 4) × (Rose before.desk.write_faults after.desk.write_faults ⊎ Rose before.out.faults after.out.faults))
 
--- `sim` was said, of inputs that the desk holds: what all of the schedule's order leaves is written
+-- `sim` was said, with inputs that the desk holds, and all that the schedule leaves was written
 abbrev pub IsSimulated : Option Command → (before after : World) → Type 0
 IsSimulated said before after =
     (i s c t a image script schedule : List ℕ) (options : RunOptions) → said ≡ Some (Sim i s c t a options)
@@ -84,14 +84,15 @@ pub record Answered (said : Option Command) (before after : World) (Way : List C
   -- 0 and 7: all outputs are whole, and out has exactly the text. On 0 err has nothing.
   pub done : (answer ≡ 0) ⊎ (answer ≡ 7) → LeavesAll said before after ending
   pub silent : answer ≡ 0 → after.err.written ≡ before.err.written
-  -- unless memory runs out, 1 comes exactly when the words say no command; 1, 2 and 6 are what is meant
+  -- Unless memory runs out, 1 comes exactly when the words say no command. 1, 2 and 6 are what is meant.
   pub bad_line : answer ≢ 5 → (answer ≡ 1) ↔ (said ≡ None)
   pub refused : (answer ≡ 1) ⊎ (answer ≡ 2) ⊎ (answer ≡ 6) → Reports said before ending
   -- 3 names an input whose turn had come, 4 the output that failed; 5 is want of memory
   pub unread : answer ≡ 3 → CouldNotRead said before after ending
   pub unwritten : answer ≡ 4 → CouldNotWrite said before after ending
   pub memory : answer ≡ 5 → ending ≡ NoMemory
-  -- what stays the same: the desk and out where nothing is written, and always each name that is no output of the command
+  -- what stays the same: the desk and out if nothing is written, and always each name that isn't an output of the
+  -- command
   pub untouched : IsUnwriting answer → WritesNothing before.desk after.desk before.out after.out
   pub names : (name : List ℕ) → (Contains (outputs_named said) name → ⊥) → after.desk.held name ≡ before.desk.held name
   -- the calls of the desk are in their order, up to the one that the ending names

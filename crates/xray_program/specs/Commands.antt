@@ -2,16 +2,19 @@
 use Rattle.std.specs.Prelude.{◌≡◌, ◌≢◌, ℕ, List, [], Bool, true, MatchOption, Option}
 use Rattle.std.specs.Option.{option_map_or}
 use Rattle.xray_io.specs.Desk.{Entry, Untold}
+use Rattle.xray_program.specs.Account.{AccountComes}
 use Rattle.xray_program.specs.Asm.{AsmComes}
+use Rattle.xray_program.specs.Convert.{ConvertComes}
 use Rattle.xray_program.specs.Extract.{ExtractComes}
 use Rattle.xray_program.specs.Outcomes.{Outcome, BadLine, Unread}
 use Rattle.xray_program.specs.Plain.{PlainComes}
 use Rattle.xray_program.specs.Setups.{setup_of}
 use Rattle.xray_program.specs.Sim.{SimComes}
+use Rattle.xray_program.specs.Stack.{StackComes}
 use Rattle.xray_program.specs.Taking.{DeskReads, Sound, Faulty}
-use Rattle.command_words.specs.Words.{Command, Sim, Plain, Extract, Asm, outputs_of}
+use Rattle.command_words.specs.Words.{Command, Sim, Plain, Extract, Asm, Account, Stack, Convert, outputs_of}
 
--- ---- a line a command
+-- ---- a line for each command
 
 -- what comes of it
 abbrev pub Comes : DeskReads → (List ℕ → Entry) → Command → Outcome → Type 0
@@ -19,13 +22,19 @@ Comes reads held (Sim image script schedule trace audit options) = SimComes read
 Comes reads held (Plain image bounds) = PlainComes reads held image bounds
 Comes reads held (Extract image) = ExtractComes reads held image
 Comes reads held (Asm text image threshold) = AsmComes reads held text image threshold
+Comes reads held (Account trace image options) = AccountComes reads held trace image options
+Comes reads held (Stack trace image format) = StackComes reads held trace image format
+Comes reads held (Convert trace image) = ConvertComes reads held trace image
 
--- whether one thing alone comes of it, over what a desk holds: not so where threads run in an order of their own
+-- whether only one outcome comes of it, over what a desk holds; that isn't so if threads run in an order of their own
 abbrev pub is_decided : Command → Bool
 is_decided (Sim image script schedule trace audit options) = true
 is_decided (Plain image bounds) = true
 is_decided (Extract image) = true
 is_decided (Asm text image threshold) = true
+is_decided (Account trace image options) = true
+is_decided (Stack trace image format) = true
+is_decided (Convert trace image) = true
 
 -- whether it waits for nobody, and starts no thread
 abbrev pub is_still : Command → Bool
@@ -33,6 +42,9 @@ is_still (Sim image script schedule trace audit options) = true
 is_still (Plain image bounds) = true
 is_still (Extract image) = true
 is_still (Asm text image threshold) = true
+is_still (Account trace image options) = true
+is_still (Stack trace image format) = true
+is_still (Convert trace image) = true
 
 -- ---- what was said: a command, or none
 
@@ -40,11 +52,11 @@ is_still (Asm text image threshold) = true
 abbrev pub ComesOf : DeskReads → Option Command → (List ℕ → Entry) → Outcome → Type 0
 ComesOf reads said held outcome = MatchOption said (outcome ≡ BadLine) (λ command. Comes reads held command outcome)
 
--- what it means over what a desk holds: what comes of it where no read fails
+-- what it means over what a desk holds: what comes of it if no read fails
 abbrev pub Means : Option Command → (List ℕ → Entry) → Outcome → Type 0
 Means said held outcome = ComesOf Sound said held outcome
 
--- the turn of this name had come: it is what can't be read, where reads fail
+-- the turn of this name had come: it is what can't be read, if reads fail
 abbrev pub HadItsTurn : Option Command → (List ℕ → Entry) → List ℕ → Type 0
 HadItsTurn said held name = ComesOf Faulty said held (Unread name)
 
@@ -52,13 +64,13 @@ HadItsTurn said held name = ComesOf Faulty said held (Unread name)
 abbrev pub outputs_named : Option Command → List (List ℕ)
 outputs_named said = option_map_or outputs_of said []
 
--- one thing alone is meant; nobody is waited for
+-- only one outcome is meant; nobody is waited for
 abbrev pub IsDecided : Option Command → Type 0
 IsDecided said = option_map_or is_decided said true ≡ true
 
 abbrev pub IsStill : Option Command → Type 0
 IsStill said = option_map_or is_still said true ≡ true
 
--- the desk says of every name what it holds
+-- the desk reports of every name what it holds
 abbrev pub TellsAll : (List ℕ → Entry) → Type 0
 TellsAll held = (name : List ℕ) → held name ≢ Untold

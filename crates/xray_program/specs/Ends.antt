@@ -22,7 +22,7 @@ thread_text t = ended_text t.thread t t.want
 abbrev pub HasRegisters : PlainEnd → Type 0
 HasRegisters e = length e.regs.items ≡ 16
 
--- the ends of so many threads of a program, in the order of their numbers, from 1 on
+-- the ends of this many threads of a program, in the order of their numbers, from 1 on
 pub record AreEnds (program : Program) (bounds : Bounds) (threads : ℕ) (ends : List PlainEnd) : Type 0 where
   pub count : length ends ≡ threads
   pub each : (k : ℕ) (e : PlainEnd) → slice_get ends k ≡ Some e

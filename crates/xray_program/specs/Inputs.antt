@@ -11,13 +11,16 @@ use Rattle.patch_script.specs.FaultWords.{script_words}
 use Rattle.step_sim.specs.declared.turns.Turns.{Turns}
 use Rattle.step_sim.specs.FaultWords.{schedule_words}
 use Rattle.step_sim.specs.Schedules.{schedule_of}
+use Rattle.fdr_file.specs.declared.trace.Trace.{Trace}
+use Rattle.fdr_file.specs.Traces.{trace_of}
+use Rattle.trace_words.specs.TraceWords.{trace_words}
 use Rattle.xray_program.specs.Taking.{Form}
 
--- the words of a refusal, where a fault has them
+-- the words of a refusal, if a fault has them
 abbrev pub refused_for : Option (List ℕ) → List ℕ
 refused_for words = unwrap_or words []
 
--- an image file, which is refused for the first fault that it has
+-- an image file, which is refused for its first fault
 abbrev pub image_form : Form Program
 image_form = record {
   kind = codes "image";
@@ -26,8 +29,8 @@ image_form = record {
   Refuses = λ bytes refusal. (fault : ImageFault) × ReadsAs bytes (Err fault) × (refusal ≡ refused_for (image_words fault));
 }
 
--- a kind of input that a function judges: its bytes read as the value that it gives, and are refused for the fault that it gives, in the
--- words of that
+-- A kind of input that a function judges. Its bytes read as the value that the function gives. They are refused for the
+-- fault that it gives, in the words of that fault.
 abbrev pub form_by : {X F : Type 0} → (kind : List ℕ) → (limit : ℕ) → (judge : List ℕ → Result X F) → (words : F → Option (List ℕ)) → Form X
 form_by {X} {F} kind limit judge words = record {
   kind = kind;
@@ -40,10 +43,14 @@ form_by {X} {F} kind limit judge words = record {
 abbrev pub text_form : ℕ → Form (List ℕ)
 text_form threshold = form_by (codes "text") 4194304 (λ bytes. assembled bytes threshold) asm_words
 
--- the script of a run, for a program and so many threads
+-- the script of a run, for a program and a number of threads
 abbrev pub script_form : Program → ℕ → Form Plan
 script_form program threads = form_by (codes "script") 1048576 (plan_of program threads) script_words
 
--- the schedule of a replay, for so many threads
+-- the schedule of a replay, for a number of threads
 abbrev pub schedule_form : ℕ → Form (List Turns)
 schedule_form threads = form_by (codes "schedule") 16777216 (schedule_of threads) schedule_words
+
+-- a trace
+abbrev pub trace_form : Form Trace
+trace_form = form_by (codes "trace") 67108864 trace_of trace_words

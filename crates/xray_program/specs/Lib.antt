@@ -8,11 +8,16 @@ pub mod Asm
 pub mod Extract
 pub mod Plain
 pub mod Sim
+pub mod Reports
+pub mod Account
+pub mod Stack
+pub mod Convert
 pub mod Commands
 pub mod Answers
 pub mod Order
 pub mod Stops
 pub mod Takes
+pub mod ReportTakes
 pub mod Works
 pub mod Ends
 pub mod SimInputs

@@ -1,4 +1,4 @@
--- In which order a call asks its desk.
+-- The order in which a call asks its desk.
 use Rattle.std.specs.Prelude.{◌≡◌, ◌⊎◌, ℕ, ◌+◌, List, [], ◌∷◌, ◌++◌, length, codes, Option, Ok, Err}
 use Rattle.std.specs.Option.{option_map_or}
 use Rattle.xray_io.specs.Calls.{Call}
@@ -6,21 +6,29 @@ use Rattle.xray_io.specs.Outputs.{IsMaking, Makes}
 use Rattle.xray_io.specs.Reads.{Reads, ReadsSome, ReadsUpTo, ReadsUpToFault}
 use Rattle.xray_io.specs.World.{DeskView}
 use Rattle.xray_io.specs.declared.faults.WriteFault.{WriteFault}
+use Rattle.xray_program.specs.Reports.{report_inputs}
+use Rattle.xray_program.specs.Commands.{ComesOf, HadItsTurn}
+use Rattle.xray_program.specs.Taking.{AllAccepted}
 use Rattle.xray_program.specs.Outcomes.{BadLine, Unread, TooLong, Refused, Done, Fell, Ending, With, Unwritten, NoMemory}
-use Rattle.command_words.specs.Words.{Command, Sim, Plain, Extract, Asm}
+use Rattle.command_words.specs.Words.{Command, Sim, Plain, Extract, Asm, Account, Stack, Convert}
 
--- ---- a line a command
+-- ---- a line for each command
 
--- its inputs in the order of the words, each a name and how many bytes it has at the most; one that the words leave out isn't there
+-- its inputs in the order of the words, each with its name and the most bytes that it may have; one that the words
+-- leave out isn't listed
 abbrev pub inputs_of : Command → List (List ℕ × ℕ)
 inputs_of (Sim image script schedule trace audit options) = (image, 4194304) ∷ (script, 1048576) ∷ (schedule, 16777216) ∷ []
 inputs_of (Plain image bounds) = (image, 4194304) ∷ []
 inputs_of (Extract image) = (image, 4194304) ∷ []
 inputs_of (Asm text image threshold) = (text, 4194304) ∷ []
+inputs_of (Account trace image options) = report_inputs trace image
+inputs_of (Stack trace image format) = report_inputs trace image
+inputs_of (Convert trace image) = report_inputs trace image
 
 -- ---- inputs
 
--- an input was read whole: each byte asked for once, from the first to the end, and at most one past its limit
+-- an input was read whole: each read began where the one before it ended, and none asked for a byte past the first
+-- after its limit
 abbrev pub ReadsWhole : List ℕ → (limit : ℕ) → List Call → Type 0
 ReadsWhole name limit calls = (to : ℕ) × ReadsUpTo name (limit + 1) to (Ok 0) calls
 
@@ -30,7 +38,7 @@ ReadsAll [] calls = calls ≡ []
 ReadsAll (input ∷ inputs) calls =
     (mine : List Call) × (later : List Call) × (calls ≡ mine ++ later) × ReadsWhole input.0 input.1 mine × ReadsAll inputs later
 
--- the inputs before this one were read whole; this is said of its calls, and no other was asked for
+-- the inputs before this one were read whole; this is said of its calls, and no other input was asked for
 pub record StopsAt (inputs : List (List ℕ × ℕ)) (name : List ℕ) (Last : (limit : ℕ) → List Call → Type 0) (calls : List Call) : Type 0 where
   pub earlier : List (List ℕ × ℕ)
   pub limit : ℕ
@@ -44,7 +52,7 @@ pub record StopsAt (inputs : List (List ℕ × ℕ)) (name : List ℕ) (Last : (
 
 -- ---- outputs
 
--- each output was made, one after another: its name created once, and then its bytes appended
+-- each output was made, one after another: its name was created once, and then its bytes were appended
 abbrev pub MakesAll : List (List ℕ × List ℕ) → List Call → Type 0
 MakesAll [] calls = calls ≡ []
 MakesAll (output ∷ outputs) calls =
@@ -82,7 +90,9 @@ pub record ReadsThen (inputs : List (List ℕ × ℕ)) (Then : List Call → Typ
   pub reads : ReadsAll inputs before
   pub goes_on : Then last
 
--- The calls of a call that ended so. None is made where the words say no command. A refusal comes of the last input that was read.
+-- The calls of a call that ended in this way. If the words say no command, there are none. A refusal comes of the last
+-- input that was read, or it comes late, though each input was accepted. Memory runs out before any call, or at an
+-- input whose turn had come, or later.
 abbrev pub InOrder : Option Command → (desk desk_now : DeskView) → Ending → List Call → Type 0
 InOrder said desk desk_now (With BadLine) calls = calls ≡ []
 InOrder said desk desk_now (With (Unread name)) calls =
@@ -90,13 +100,14 @@ InOrder said desk desk_now (With (Unread name)) calls =
 InOrder said desk desk_now (With (TooLong name)) calls =
     StopsAt (option_map_or inputs_of said []) name (λ limit. Reads name (limit + 1) 0 (limit + 1)) calls
 InOrder said desk desk_now (With (Refused name kind refusal)) calls =
-    StopsAt (option_map_or inputs_of said []) name (λ limit. ReadsWhole name limit) calls ⊎ ReadsAll (option_map_or inputs_of said []) calls
+    StopsAt (option_map_or inputs_of said []) name (λ limit. ReadsWhole name limit) calls
+    ⊎ (ComesOf AllAccepted said desk.held (Refused name kind refusal) × ReadsAll (option_map_or inputs_of said []) calls)
 InOrder said desk desk_now (With (Done outputs text)) calls = ReadsThen (option_map_or inputs_of said []) (MakesAll outputs) calls
 InOrder said desk desk_now (With (Fell outputs text trouble)) calls = ReadsThen (option_map_or inputs_of said []) (MakesAll outputs) calls
-InOrder said desk desk_now (Unwritten name) calls =
-    (outputs : List (List ℕ × List ℕ)) × ReadsThen (option_map_or inputs_of said [])
-    (IsUnmade outputs desk desk_now name) calls
+InOrder said desk desk_now (Unwritten name outputs) calls =
+    ReadsThen (option_map_or inputs_of said []) (IsUnmade outputs desk desk_now name) calls
 InOrder said desk desk_now NoMemory calls =
-    ((name : List ℕ) × StopsAt (option_map_or inputs_of said []) name
+    (calls ≡ [])
+    ⊎ ((name : List ℕ) × HadItsTurn said desk.held name × StopsAt (option_map_or inputs_of said []) name
     (λ limit last. ReadsSome name (limit + 1) last ⊎ ReadsWhole name limit last) calls)
     ⊎ ReadsAll (option_map_or inputs_of said []) calls

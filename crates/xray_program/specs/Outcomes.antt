@@ -1,9 +1,9 @@
 -- What comes of a command line, and how a call ends: its status, and its line on err.
 use Rattle.std.specs.Prelude.{ℕ, List, [], ◌∷◌, ◌++◌, Option, Some, None, codes}
 
--- What comes of a command line. Four outcomes write nothing: the words say no command; an input can't be read; it has too many bytes; or
--- it is refused, by its kind and for a reason. Two leave outputs, each a name and its bytes, and a text on out: all is well, or something
--- is wrong all the same.
+-- What comes of a command line. Four outcomes write nothing: the words say no command; an input can't be read; it has
+-- too many bytes; or it is refused, by its kind and for a reason. Two outcomes leave outputs, each with a name and its
+-- bytes, and a text on out: all is well, or something is wrong all the same.
 pub data Outcome : Type 0 where
   BadLine : Outcome
   Unread : (name : List ℕ) → Outcome
@@ -12,7 +12,7 @@ pub data Outcome : Type 0 where
   Done : (outputs : List (List ℕ × List ℕ)) → (text : List ℕ) → Outcome
   Fell : (outputs : List (List ℕ × List ℕ)) → (text trouble : List ℕ) → Outcome
 
--- what an outcome writes: its outputs and its text; or nothing
+-- what an outcome writes: its outputs and its text, or nothing
 abbrev pub written_by : Outcome → Option (List (List ℕ × List ℕ) × List ℕ)
 written_by BadLine = None
 written_by (Unread name) = None
@@ -30,11 +30,11 @@ status_of (Unread name) = 3
 status_of (TooLong name) = 6
 status_of (Fell outputs text trouble) = 7
 
--- a line on err: what is wrong, behind the program's name
+-- a line on err: what is wrong, after the program's name
 abbrev pub err_line : List ℕ → List ℕ
 err_line text = codes "xray: " ++ text ++ 10 ∷ []
 
--- the line on err; none where all is done
+-- the line on err, which is empty if all is done
 abbrev pub line_of : Outcome → List ℕ
 line_of (Done outputs text) = []
 line_of BadLine = err_line (codes "bad command line")
@@ -43,20 +43,21 @@ line_of (Unread name) = err_line (name ++ codes ": read fault")
 line_of (TooLong name) = err_line (name ++ codes ": too long")
 line_of (Fell outputs text trouble) = err_line trouble
 
--- how a call ends: with an outcome; at an output that can't be written, or at out, which is named `output`; or for want of memory
+-- How a call ends: with an outcome; at an output of this name, one of these outputs, that can't be written; at out,
+-- which is named `output`; or for want of memory.
 pub data Ending : Type 0 where
   With : Outcome → Ending
-  Unwritten : (name : List ℕ) → Ending
+  Unwritten : (name : List ℕ) → (outputs : List (List ℕ × List ℕ)) → Ending
   NoMemory : Ending
 
 -- its status
 abbrev pub status_at : Ending → ℕ
 status_at (With outcome) = status_of outcome
-status_at (Unwritten name) = 4
+status_at (Unwritten name outputs) = 4
 status_at NoMemory = 5
 
 -- its line on err
 abbrev pub line_at : Ending → List ℕ
 line_at (With outcome) = line_of outcome
-line_at (Unwritten name) = err_line (name ++ codes ": write fault")
+line_at (Unwritten name outputs) = err_line (name ++ codes ": write fault")
 line_at NoMemory = err_line (codes "out of memory")

@@ -1,4 +1,4 @@
--- What stands of outputs, each a name and its bytes, and of the text behind them.
+-- What is left of outputs, each a name and its bytes, and of the text after them.
 use Rattle.std.specs.Prelude.{◌≡◌, ◌⊎◌, ℕ, List, ◌∷◌, ◌++◌, All, codes}
 use Rattle.xray_io.specs.Desk.{Entry, made_to_hold}
 use Rattle.xray_io.specs.Faults.{Rose}
@@ -22,8 +22,8 @@ abbrev pub HoldsPrefix : (old new : Entry) → List ℕ → Type 0
 HoldsPrefix old new bytes =
     (new ≡ old) ⊎ ((sent : List ℕ) × (rest : List ℕ) × (bytes ≡ sent ++ rest) × (new ≡ made_to_hold old sent))
 
--- The output of this name failed, and the desk's write faults rose: earlier outputs are whole, it holds what it held or a prefix of its
--- bytes, and later outputs are untouched.
+-- The output of this name failed, and the desk's write faults rose. Earlier outputs are whole. The failed output holds
+-- what it held before, or a prefix of its bytes. Later outputs are untouched.
 pub record FailsAt (outputs : List (List ℕ × List ℕ)) (desk desk_now : DeskView) (name : List ℕ) : Type 0 where
   pub earlier : List (List ℕ × List ℕ)
   pub bytes : List ℕ
@@ -41,7 +41,7 @@ pub record FailsAtOut (outputs : List (List ℕ × List ℕ)) (text : List ℕ) 
   pub whole : AreWhole outputs desk.held desk_now.held
   pub prefix : AddsPrefix out.written out_now.written text
 
--- what failed of outputs and of the text behind them: an output, with nothing on out; or out
+-- what failed of outputs and of the text after them: an output, with nothing on out; or out
 abbrev pub FailsWriting : List (List ℕ × List ℕ) → (text : List ℕ) → (desk desk_now : DeskView) → (out out_now : SinkView) → List ℕ → Type 0
 FailsWriting outputs text desk desk_now out out_now name =
     (FailsAt outputs desk desk_now name × (out_now.written ≡ out.written))

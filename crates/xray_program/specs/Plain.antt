@@ -21,7 +21,7 @@ pub record IsPlainText (program : Program) (limits : Limits) (thread : ℕ) (tex
   pub run : PlainRun program limits thread passed end last
   pub prints : text ≡ plain_text thread end last
 
--- the texts of all threads, one behind the other in the order of their numbers, from 1 on
+-- the texts of all threads, one after another, in the order of their numbers, from 1 on
 pub record PlainPrints (program : Program) (bounds : Bounds) (text : List ℕ) : Type 0 where
   pub texts : List (List ℕ)
   pub count : length texts ≡ bounds.threads

@@ -5,7 +5,7 @@ use Rattle.command_words.specs.declared.run_options.Stamps.{Stamps}
 use Rattle.machine_step.specs.declared.limits.Limits.{Limits}
 use Rattle.machine_step.specs.declared.setup.Setup.{Setup}
 
--- what bounds each thread, and how its passings are stamped
+-- the limits of each thread, and how its passings are stamped
 abbrev pub limits_of : Bounds → Stamps → Limits
 limits_of bounds stamps = record {
   fuel = bounds.fuel;
@@ -16,8 +16,8 @@ limits_of bounds stamps = record {
   migrate = stamps.migrate;
 }
 
--- What a plain run is bounded by. No event of it is seen, so no words say how its passings are stamped: the counter
--- stands still.
+-- The limits of a plain run. No event of it is seen, so no words say how its passings are stamped: the counter stands
+-- still.
 abbrev pub plain_limits : Bounds → Limits
 plain_limits bounds = limits_of bounds (record { tick = 0; tsc = 0; frequency = 0; cpus = 1; migrate = 1 })
 

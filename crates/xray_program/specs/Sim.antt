@@ -22,8 +22,8 @@ use Rattle.xray_program.specs.Traced.{Traces}
 abbrev pub Replayed : Program → Plan → List Turns → Setup → List ThreadRun → Type 0
 Replayed program plan turns setup = IsReplayOf program (commands_of plan.lines) turns setup
 
--- What comes of the judged inputs: a script at which a thread or the patcher may wait is refused for the first such line; else the turns
--- are replayed, and the trace and the audit are written.
+-- What comes of the judged inputs. If a thread or the patcher may wait in the script, it is refused for the first such
+-- line. Otherwise the turns are replayed, and the trace and the audit are written.
 abbrev pub Replays : (script trace audit : List ℕ) → Setup → Program → Plan → List Turns → Outcome → Type 0
 Replays script trace audit setup program plan turns =
     RefuseIf (option_map waits_words (waiting_line plan.lines)) script (codes "script")
@@ -37,14 +37,15 @@ SimComes reads held image script schedule trace audit setup =
     Take (schedule_form setup.threads) reads held schedule (λ turns.
     Replays script trace audit setup program plan turns)))
 
--- no thread decodes a torn sled: after the turns, when all threads have run out, each of their passings has decoded its sled whole
+-- No thread decodes a torn sled. After the turns, when all threads have run out, each of their passings has decoded its
+-- sled whole.
 abbrev pub DecodesWhole : Cast → List Turns → Type 0
 DecodesWhole cast turns =
     (last : Moment) → AllRunOut cast (length cast.passings) 1 (scheduled cast turns) last → TearsNoSled cast last
 
--- The headline's law for `sim`: the schedule is read for the number of threads, nobody waits in the script, the runs are those that the
--- schedule leaves, with their marks and the numbers of their lost segments, as many are lost as the queue had no buffers for, and no thread
--- decodes a torn sled.
+-- The headline's law for `sim`. The schedule is read for the number of threads, and nothing waits in the script. The
+-- runs are those that the schedule leaves, with their marks and the numbers of their lost segments. As many segments
+-- are lost as the queue had no buffers for. No thread decodes a torn sled.
 pub record FollowsSchedule (schedule : List ℕ) (setup : Setup) (program : Program) (plan : Plan) (runs : List ThreadRun) : Type 0 where
   pub turns : List Turns
   pub schedule_reads : schedule_of setup.threads schedule ≡ Ok turns

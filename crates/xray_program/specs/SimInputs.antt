@@ -3,7 +3,7 @@ use Rattle.std.specs.Prelude.{◌≡◌, ℕ, All}
 use Rattle.step_sim.specs.Schedules.{AreTurnsOf}
 use Rattle.xray_program.specs.declared.sim_inputs.SimInputs.{SimInputs}
 
--- the script and the schedule were read for this image and so many threads
+-- the script and the schedule were read for this image and this many threads
 pub record AreReadFor (threads : ℕ) (inputs : SimInputs) : Type 0 where
   pub program_is : inputs.script.program ≡ inputs.image
   pub threads_are : inputs.script.threads ≡ threads

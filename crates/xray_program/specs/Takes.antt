@@ -21,7 +21,7 @@ pub record Gives {X : Type 0} (form : Form X) (entry : Entry) (value : X) : Type
   pub within : length bytes ≤ form.limit
   pub reads : form.Reads bytes value
 
--- bytes that the name may hold are refused so
+-- bytes that the name may hold are refused in this way
 pub record Rejects {X : Type 0} (form : Form X) (entry : Entry) (refusal : List ℕ) : Type 0 where
   pub bytes : List ℕ
   pub held : MayHold entry bytes
@@ -38,7 +38,7 @@ pub record IsTooLong (limit : ℕ) (entry : Entry) : Type 0 where
 abbrev pub IsLost : (before after : DeskView) → List ℕ → Type 0
 IsLost before after name = Rose before.read_faults after.read_faults ⊎ (before.held name ≡ Absent)
 
--- the turn of the input of this name ends with a value; or with a stop, which names it unless memory ran out
+-- the turn of the input of this name ends with a value, or with a stop, which names the input unless memory ran out
 abbrev pub IsTaken : {X : Type 0} → Form X → List ℕ → (before after : DeskView) → Result X Stop → Type 0
 IsTaken form name before after (Ok value) = Gives form (before.held name) value
 IsTaken form name before after (Err (stops.Unread n)) = (n.now ≡ name) × IsLost before after name
@@ -55,7 +55,8 @@ IsMaybeTaken form (Some name) before after (Ok None) = ⊥
 IsMaybeTaken form (Some name) before after (Ok (Some value)) = IsTaken form name before after (Ok value)
 IsMaybeTaken form (Some name) before after (Err stop) = IsTaken form name before after (Err stop)
 
--- a stop at one of the inputs of which this comes: an outcome that comes; and where it can't be read, reads failed or that is meant too
+-- A stop at one of the inputs of which this comes: an outcome that comes. If the input can't be read, reads failed or
+-- that is meant too.
 abbrev pub IsStopAtInput : (DeskReads → Outcome → Type 0) → (before after : DeskView) → Stop → Type 0
 IsStopAtInput comes before after (stops.Unread n) =
     comes Faulty (Unread n.now)
@@ -65,10 +66,11 @@ IsStopAtInput comes before after (stops.Refused n kind words) = comes Sound (Ref
 IsStopAtInput comes before after stops.NoMemory = ⊤
 IsStopAtInput comes before after stop = ⊥
 
--- the inputs of which this comes were taken one after another, and what comes of their values comes of them; or one of them was a stop
+-- The inputs of which this comes were taken one after another, and each was accepted, so that what comes of their
+-- values comes of them. Or one of them was a stop.
 abbrev pub AreTaken : {X : Type 0} → (comes : DeskReads → Outcome → Type 0) → (yields : X → Outcome → Type 0) → (before after : DeskView)
     → Result X Stop → Type 0
-AreTaken comes yields before after (Ok inputs) = (outcome : Outcome) → yields inputs outcome → comes Sound outcome
+AreTaken comes yields before after (Ok inputs) = (reads : DeskReads) (outcome : Outcome) → yields inputs outcome → comes reads outcome
 AreTaken comes yields before after (Err stop) = IsStopAtInput comes before after stop
 
 -- what an error of reading comes to: an input that can't be read or is too long, or want of memory
@@ -78,7 +80,7 @@ IsReadStop name error (stops.TooLong n) = (n.now ≡ name) × (error ≡ errors.
 IsReadStop name error stops.NoMemory = error ≡ errors.NoMemory
 IsReadStop name error stop = ⊥
 
--- what a reader's fault comes to, by the words of its refusal: a refusal in these words; or want of memory, where there are none
+-- what a reader's fault comes to: a refusal in its words, or want of memory if there are none
 abbrev pub IsFaultStop : (name kind : List ℕ) → Option (List ℕ) → Stop → Type 0
 IsFaultStop name kind told (stops.Refused n k words) = (n.now ≡ name) × (k.now ≡ kind) × (told ≡ Some (words_text words))
 IsFaultStop name kind told stops.NoMemory = told ≡ None
@@ -99,7 +101,7 @@ abbrev pub IsTaking : {X : Type 0} → List ℕ → (limit : ℕ) → Result X S
 IsTaking name limit (Ok value) calls = ReadsWhole name limit calls
 IsTaking name limit (Err stop) calls = StopsTaking name limit stop calls
 
--- the calls of the turn of an input that the words may leave out: none, where they do
+-- the calls of the turn of an input that the words may leave out; there are none if they do
 abbrev pub IsMaybeTaking : {X : Type 0} → Option (List ℕ) → (limit : ℕ) → Result X Stop → List Call → Type 0
 IsMaybeTaking None limit result calls = calls ≡ []
 IsMaybeTaking (Some name) limit result calls = IsTaking name limit result calls
@@ -111,12 +113,13 @@ IsNamed name (stops.TooLong n) = n.now ≡ name
 IsNamed name (stops.Refused n kind words) = n.now ≡ name
 IsNamed name stop = ⊤
 
--- the calls of the turns of inputs of which one was a stop: no other was asked for after it
-abbrev pub StopsTakings : List (List ℕ × ℕ) → Stop → List Call → Type 0
-StopsTakings inputs stop calls =
-    (name : List ℕ) × IsNamed name stop × StopsAt inputs name (λ limit. StopsTaking name limit stop) calls
+-- The calls of the turns of inputs, of which this comes, and the last of which was a stop. Its turn had come, and no
+-- other input was asked for after it.
+abbrev pub StopsTakings : (DeskReads → Outcome → Type 0) → List (List ℕ × ℕ) → Stop → List Call → Type 0
+StopsTakings comes inputs stop calls =
+    (name : List ℕ) × IsNamed name stop × comes Faulty (Unread name) × StopsAt inputs name (λ limit. StopsTaking name limit stop) calls
 
--- the calls of the turns of inputs
-abbrev pub AreTakings : {X : Type 0} → List (List ℕ × ℕ) → Result X Stop → List Call → Type 0
-AreTakings inputs (Ok value) calls = ReadsAll inputs calls
-AreTakings inputs (Err stop) calls = StopsTakings inputs stop calls
+-- the calls of the turns of inputs of which this comes
+abbrev pub AreTakings : {X : Type 0} → (DeskReads → Outcome → Type 0) → List (List ℕ × ℕ) → Result X Stop → List Call → Type 0
+AreTakings comes inputs (Ok value) calls = ReadsAll inputs calls
+AreTakings comes inputs (Err stop) calls = StopsTakings comes inputs stop calls

@@ -1,46 +1,57 @@
--- Inputs in their turn: what comes of them, one inside the other in the order in which they are taken.
+-- Inputs in their turn: what comes of them, one inside the other, in the order in which they are taken.
 use Rattle.std.specs.Prelude.{◌≡◌, ◌⊎◌, ◌<◌, ◌≤◌, ℕ, List, [], length, Option, Some, None, ⊤}
 use Rattle.xray_io.specs.Desk.{Entry, Untold, Absent, Holds}
 use Rattle.xray_program.specs.Outcomes.{Outcome, Unread, TooLong, Refused, Done, Fell}
 
--- A kind of input: how a line on err names it, how many bytes it has at the most, what its bytes read as, and why they are refused, in the
--- words of the line.
+-- A kind of input: its name in a line on err, the most bytes that it may have, what its bytes read as, and why they are
+-- refused, in the words of the line.
 pub record Form (X : Type 0) : Type 1 where
   pub kind : List ℕ
   pub limit : ℕ
   pub Reads : List ℕ → X → Type 0
   pub Refuses : List ℕ → List ℕ → Type 0
 
--- whether reads of the desk fail where the desk holds the name: none does, or any may
+-- How inputs are taken: no read of a name that the desk holds fails; or any read may fail; or each input is accepted,
+-- so that no turn fails.
 pub data DeskReads : Type 0 where
   Sound : DeskReads
   Faulty : DeskReads
+  AllAccepted : DeskReads
 
--- a name of which the desk says this can't be read
+-- a name of which the desk reports this can't be read
 abbrev pub IsUnreadable : DeskReads → Entry → Type 0
 IsUnreadable Sound entry = entry ≡ Absent
 IsUnreadable Faulty entry = ⊤
+IsUnreadable AllAccepted entry = ⊥
 
--- the bytes that a name may hold, by what the desk says of it
+-- bytes aren't an input, for this reason; that isn't so if each input is accepted
+abbrev pub IsNoInput : DeskReads → Type 0 → Type 0
+IsNoInput Sound Reason = Reason
+IsNoInput Faulty Reason = Reason
+IsNoInput AllAccepted Reason = ⊥
+
+-- the bytes that a name may hold, by what the desk reports of it
 abbrev pub MayHold : Entry → List ℕ → Type 0
 MayHold Untold bytes = ⊤
 MayHold Absent bytes = ⊥
 MayHold (Holds content) bytes = bytes ≡ content
 
--- bytes are judged: they are too many; or they are refused; or they read as a value, and what follows is that value's
-abbrev pub Judge : {X : Type 0} → Form X → (name bytes : List ℕ) → (X → Outcome → Type 0) → Outcome → Type 0
-Judge {X} form name bytes next outcome =
-    ((form.limit < length bytes) × (outcome ≡ TooLong name))
-    ⊎ ((length bytes ≤ form.limit) × (((refusal : List ℕ) × form.Refuses bytes refusal × (outcome ≡ Refused name form.kind refusal))
+-- Bytes are judged: they are too many, or they are refused, or they read as a value, and what follows is that value's.
+abbrev pub Judge : {X : Type 0} → Form X → DeskReads → (name bytes : List ℕ) → (X → Outcome → Type 0) → Outcome → Type 0
+Judge {X} form reads name bytes next outcome =
+    IsNoInput reads ((form.limit < length bytes) × (outcome ≡ TooLong name))
+    ⊎ ((length bytes ≤ form.limit)
+    × (IsNoInput reads ((refusal : List ℕ) × form.Refuses bytes refusal × (outcome ≡ Refused name form.kind refusal))
     ⊎ ((value : X) × form.Reads bytes value × next value outcome)))
 
--- an input is taken in its turn: it can't be read; or the bytes that it holds are judged, and the turn of what follows comes
+-- An input is taken in its turn. It can't be read, or the bytes that it holds are judged, and then it is the turn of
+-- what follows.
 abbrev pub Take : {X : Type 0} → Form X → DeskReads → (List ℕ → Entry) → List ℕ → (X → Outcome → Type 0) → Outcome → Type 0
 Take form reads held name next outcome =
     (IsUnreadable reads (held name) × (outcome ≡ Unread name))
-    ⊎ ((bytes : List ℕ) × MayHold (held name) bytes × Judge form name bytes next outcome)
+    ⊎ ((bytes : List ℕ) × MayHold (held name) bytes × Judge form reads name bytes next outcome)
 
--- an input that the words may leave out: where they name none, none is taken
+-- an input that the words may leave out; if they name none, none is taken
 abbrev pub TakeMaybe : {X : Type 0} → Form X → DeskReads → (List ℕ → Entry) → Option (List ℕ) → (Option X → Outcome → Type 0) → Outcome → Type 0
 TakeMaybe form reads held None next outcome = next None outcome
 TakeMaybe form reads held (Some name) next outcome = Take form reads held name (λ value. next (Some value)) outcome
@@ -49,7 +60,7 @@ TakeMaybe form reads held (Some name) next outcome = Take form reads held name (
 abbrev pub any_bytes : (kind : List ℕ) → (limit : ℕ) → Form (List ℕ)
 any_bytes kind limit = record { kind = kind; limit = limit; Reads = λ bytes value. value ≡ bytes; Refuses = λ _ _. ⊥ }
 
--- behind all inputs: the one of this name is refused where a reason is found; else the work goes on
+-- after all inputs: the one of this name is refused if there is a reason; otherwise the work goes on
 abbrev pub RefuseIf : Option (List ℕ) → (name kind : List ℕ) → (Outcome → Type 0) → Outcome → Type 0
 RefuseIf None name kind next outcome = next outcome
 RefuseIf (Some refusal) name kind next outcome = outcome ≡ Refused name kind refusal

@@ -13,7 +13,7 @@ use Rattle.trace_flush.specs.Audit.{audit_text}
 use Rattle.trace_flush.specs.Flush.{IsTraceOf, trace_bytes}
 use Rattle.trace_flush.specs.Lines.{accounts_of}
 
--- the state texts of threads, which are numbered from one of a number on, one after another
+-- the state texts of threads, one after another, numbered from a number on
 abbrev pub state_texts : ℕ → List ThreadRun → List ℕ
 state_texts number [] = []
 state_texts number (run ∷ runs) = state_text number run.end run.last run.marks ++ state_texts (number + 1) runs
@@ -22,7 +22,8 @@ state_texts number (run ∷ runs) = state_text number run.end run.last run.marks
 abbrev pub written_of : (trace audit : List ℕ) → Setup → List ThreadRun → List (List ℕ × List ℕ)
 written_of trace audit setup runs = (trace, trace_bytes setup runs) ∷ (audit, audit_text setup (accounts_of setup runs)) ∷ []
 
--- Of lawful runs of the threads all is written that there is: the trace and the audit; and as text the state texts, thread 1 first.
+-- All that there is of lawful runs of the threads is written: the trace, the audit, and as text the state texts, thread
+-- 1 first.
 pub record Traces (Lawful : List ThreadRun → Type 0) (program : Program) (setup : Setup) (trace audit : List ℕ)
     (outputs : List (List ℕ × List ℕ)) (text : List ℕ) : Type 0 where
   pub runs : List ThreadRun
@@ -31,12 +32,13 @@ pub record Traces (Lawful : List ThreadRun → Type 0) (program : Program) (setu
   pub outputs_are : outputs ≡ written_of trace audit setup runs
   pub text_is : text ≡ state_texts 1 runs
 
--- The headline, for any law of runs. The image file is accepted, and the script is read for it and for the number of threads. There are
--- lawful runs, in which each thread goes as its plain run does and of each that has segments of events the last one is left, such that:
--- - the trace holds the trace of these runs: a header with the setup's numbers, and for each thread the last whole segments of exactly the
---   entries and exits that its marks record, and all of them if no segment was lost;
+-- The headline, for any law of runs. The image file is accepted, and the script is read for it and for the number of
+-- threads. There are lawful runs such that:
+-- - each thread goes as its plain run does, and of each thread that has segments of events the last one is left;
+-- - the trace holds the trace of these runs: a header with the setup's numbers, and for each thread the last whole
+--   segments of exactly the entries and exits that its marks record, and all of them if no segment was lost;
 -- - the audit holds what these runs come to: each thread's end, segments, lost segments and marks;
--- - out was given the state texts of these runs, thread 1 first.
+-- - the state texts of these runs were written on out, thread 1 first.
 pub record IsTraced (Lawful : Program → Plan → List ThreadRun → Type 0) (image script trace audit : List ℕ) (setup : Setup)
     (before after : World) : Type 0 where
   pub program : Program

@@ -1,4 +1,4 @@
--- How the work of a command ends, once its inputs were taken; and how all of a call ends, before err is told.
+-- How the work of a command ends, once its inputs were taken, and how a whole call ends, before the line on err.
 use Rattle.std.specs.Prelude.{◌≡◌, ◌⊎◌, ℕ, List, Contains, Option, Some, None, Result, Ok, Err, map}
 use Rattle.xray_io.specs.Calls.{Call, Went}
 use Rattle.xray_io.specs.Desk.{Absent}
@@ -9,7 +9,7 @@ use Rattle.xray_program.specs.Commands.{Means, HadItsTurn, outputs_named}
 use Rattle.xray_program.specs.Order.{FailsAtOutput, InOrder, IsNoCall, IsUnmade, MakesAll}
 use Rattle.xray_program.specs.Outcomes.{Outcome, BadLine, Unread, Refused, Done, Fell, Ending, With, Unwritten, NoMemory, status_at, line_at, written_by}
 use Rattle.xray_program.specs.Outputs.{AreWhole, FailsAt, FailsWriting, WritesNothing}
-use Rattle.command_words.specs.Words.{Command, Sim, Plain, Extract, Asm}
+use Rattle.command_words.specs.Words.{Command, Sim, Plain, Extract, Asm, Account, Stack, Convert}
 use Rattle.traced_run.specs.Fits.{SetupFits}
 use Rattle.xray_program.specs.Setups.{setup_of}
 use Rattle.xray_io.specs.World.{DeskView, SinkView}
@@ -64,7 +64,7 @@ pub record IsLeft (Comes : Outcome → Type 0) (desk desk_now : DeskView) (out o
   pub writes : Writes outputs text desk desk_now out out_now
   pub then_so : Then outputs
 
--- one couldn't be written, at the output of this name or at out
+-- one couldn't be written: the output of this name failed, or out did
 pub record FailsToLeave (Comes : Outcome → Type 0) (desk desk_now : DeskView) (out out_now : SinkView) (name : List ℕ)
     (Then : List (List ℕ × List ℕ) → Type 0) : Type 0 where
   pub outcome : Outcome
@@ -75,8 +75,8 @@ pub record FailsToLeave (Comes : Outcome → Type 0) (desk desk_now : DeskView) 
   pub failed : FailsWriting outputs text desk desk_now out out_now name
   pub then_so : Then outputs
 
--- The work is done over inputs of which this comes: it was written; or it couldn't be; or it is that the inputs are refused, or memory ran
--- out, and nothing was written.
+-- The work is done over inputs of which this comes. What comes was written, or it couldn't be. Or the inputs are
+-- refused, or memory ran out, and nothing was written.
 abbrev pub Finishes : (comes : Outcome → Type 0) → (desk desk_now : DeskView) → (out out_now : SinkView) → (Way : List Call → Type 0)
     → Result (Unit {0}) Stop → Type 0
 Finishes comes desk desk_now out out_now Way (Ok done) =
@@ -92,7 +92,8 @@ Finishes comes desk desk_now out out_now Way (Err stop) = ⊥
 
 -- ---- all of a call
 
--- an outcome comes of what was said: it is meant; and where an input can't be read, that may be since reads failed in its turn
+-- An outcome comes of what was said: it is meant. If an input can't be read, that may also be because reads failed in
+-- its turn.
 abbrev pub IsCaused : Option Command → (desk desk_now : DeskView) → Outcome → Type 0
 IsCaused said desk desk_now BadLine = said ≡ None
 IsCaused said desk desk_now (Unread name) =
@@ -105,12 +106,12 @@ abbrev pub IsWritten : Option (List (List ℕ × List ℕ) × List ℕ) → (des
 IsWritten None desk desk_now out out_now = WritesNothing desk desk_now out out_now
 IsWritten (Some (outputs, text)) desk desk_now out out_now = Writes outputs text desk desk_now out out_now
 
--- what stands behind an ending of a call
+-- what an ending of a call comes of
 abbrev pub StandsBehind : Option Command → (desk desk_now : DeskView) → (out out_now : SinkView) → Ending → Type 0
 StandsBehind said desk desk_now out out_now (With outcome) =
     IsCaused said desk desk_now outcome × IsWritten (written_by outcome) desk desk_now out out_now
-StandsBehind said desk desk_now out out_now (Unwritten name) =
-    FailsToLeave (Means said desk.held) desk desk_now out out_now name (λ _. Unit {0})
+StandsBehind said desk desk_now out out_now (Unwritten name outputs) =
+    FailsToLeave (Means said desk.held) desk desk_now out out_now name (λ left. left ≡ outputs)
 StandsBehind said desk desk_now out out_now NoMemory = WritesNothing desk desk_now out out_now
 
 -- the numbers of a command that runs traced threads fit the records of a trace
@@ -119,12 +120,15 @@ FitsTraces (Sim image script schedule trace audit options) = SetupFits (setup_of
 FitsTraces (Plain image bounds) = Unit {0}
 FitsTraces (Extract image) = Unit {0}
 FitsTraces (Asm text image threshold) = Unit {0}
+FitsTraces (Account trace image options) = Unit {0}
+FitsTraces (Stack trace image format) = Unit {0}
+FitsTraces (Convert trace image) = Unit {0}
 
 abbrev pub SaidFits : Option Command → Type 0
 SaidFits None = Unit {0}
 SaidFits (Some command) = FitsTraces command
 
--- how a call ends, before err is told: with this status and this line
+-- how a call ends, before the line on err: with this status and this line
 pub record Ends (said : Option Command) (desk desk_now : DeskView) (out out_now : SinkView) (Way : List Call → Type 0) (answer : ℕ)
     (line : List ℕ) : Type 0 where
   pub ending : Ending

@@ -18,7 +18,7 @@ pub(crate) struct Asm<'a> {
     pub(crate) text: &'a str,
     /// The name of the image file, which is the output.
     pub(crate) image: &'a str,
-    /// How many instruction lines a function has at the least that gets sleds.
+    /// The least number of instruction lines with which a function gets sleds.
     pub(crate) threshold: u32,
 }
 

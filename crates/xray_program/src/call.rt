@@ -10,10 +10,13 @@ ghost use Rattle.xray_program.specs.Commands.{IsStill};
 ghost use Rattle.xray_program.specs.Stops.{answer_of, told_of};
 ghost use Rattle.xray_program.specs.Works.{Ends, FitsTraces, SaidFits};
 
+use crate::account::Account;
 use crate::asm::Asm;
+use crate::convert::Convert;
 use crate::extract::Extract;
 use crate::plain::Plain;
 use crate::sim::Sim;
+use crate::stack::Stack;
 use crate::stop::Stop;
 use crate::traced::TraceFiles;
 use crate::work::perform;
@@ -25,13 +28,16 @@ use step_sim::{a_replay_loses_few, no_replay_tears_a_sled};
 use trace_flush::a_run_is_traced;
 use xray_io::{Desk, Gate, Sink, Wall};
 
-/// Does what `words` say, which don't hold the program's own name, with the files of `desk`, and
-/// answers the program's status: 0 where all is done; 1 where the words say no command; 2 where an
-/// input isn't of its form; 3 where an input can't be read; 4 where an output of the command or `out`
-/// fails; 5 where memory runs out; 6 where an input has more bytes than its limit; 7 where all was
-/// written and something is wrong all the same. On 1 to 7 a line on `err` says so. Outputs and `out`
-/// are written on 0, 4 and 7 alone; on 4 all that comes before what failed is whole, and nothing
-/// after it is touched. No other name of the desk changes. It waits for nobody.
+/// Does what `words` say, with the files of `desk`. `words` don't hold the program's own name.
+/// Answers the program's status.
+///
+/// Status 0: all is done. 1: the words say no command. 2: an input isn't of its form. 3: an input
+/// can't be read. 4: an output of the command, or `out`, failed. 5: memory ran out. 6: an input has
+/// more bytes than its limit. 7: all was written, and something is wrong all the same.
+///
+/// On 1 to 7 a line on `err` says so. Outputs and `out` are written only on 0, 4 and 7. On 4 all
+/// that comes before what failed is whole, and nothing after it is touched. No other name of the
+/// desk changes. The call waits for nobody.
 pub fn xray_still<D: Desk, O: Sink, E: Sink>(
     alloc: Global,
     words: &[String],
@@ -49,8 +55,8 @@ pub fn xray_still<D: Desk, O: Sink, E: Sink>(
         (record { desk = seen desk.new; out = got out.new; err = heard err.new })
         (D.along desk.old desk.new) result }
 {
-    // Says that no thread of a replay decodes a torn sled, how many segments a replay loses, and that the
-    // trace of a run reads back.
+    // Called for its contract: no thread of a replay decodes a torn sled, how many segments a
+    // replay loses, and the trace of a run reads back.
     no_replay_tears_a_sled();
     a_replay_loses_few();
     a_run_is_traced();
@@ -63,10 +69,10 @@ pub fn xray_still<D: Desk, O: Sink, E: Sink>(
     }
 }
 
-/// Does what `words` say, which don't hold the program's own name, with the files of `desk`, and
-/// answers the program's status as `xray_still` does. Commands that start threads start them through
-/// `rt`, and their threads and patcher pass `gate`; all others, and so each that is here, are
-/// `xray_still`.
+/// Does what `words` say, with the files of `desk`. `words` don't hold the program's own name.
+/// Answers the program's status, as `xray_still` does. Commands that start threads start them
+/// through `rt`, and their threads and patcher pass `gate`. All other commands, and so all that
+/// there are here, are `xray_still`.
 pub fn xray<T: Threads + Wait + Sync, D: Desk, O: Sink, E: Sink, G: Gate + Sync>(
     _rt: &T,
     alloc: Global,
@@ -88,7 +94,7 @@ pub fn xray<T: Threads + Wait + Sync, D: Desk, O: Sink, E: Sink, G: Gate + Sync>
     xray_still(alloc, words, wall, desk, out, err)
 }
 
-/// Does what the words say, and leaves err alone.
+/// Does what the words say, and leaves err as it is.
 fn perform_words<'a, D: Desk, O: Sink>(
     alloc: Global,
     words: &'a [String],
@@ -111,7 +117,7 @@ fn perform_words<'a, D: Desk, O: Sink>(
     }
 }
 
-/// Does what a command says: a line a command.
+/// Does what a command says. Each command has a line.
 fn perform_command<'a, D: Desk, O: Sink>(
     alloc: Global,
     command: Command<'a>,
@@ -164,6 +170,41 @@ fn perform_command<'a, D: Desk, O: Sink>(
                 desk,
                 out,
             )
+        }
+        Command::Account {
+            trace,
+            image,
+            options,
+        } => {
+            perform(
+                alloc,
+                &Account {
+                    trace,
+                    image,
+                    options,
+                },
+                desk,
+                out,
+            )
+        }
+        Command::Stack {
+            trace,
+            image,
+            format,
+        } => {
+            perform(
+                alloc,
+                &Stack {
+                    trace,
+                    image,
+                    format,
+                },
+                desk,
+                out,
+            )
+        }
+        Command::Convert { trace, image } => {
+            perform(alloc, &Convert { trace, image }, desk, out)
         }
     }
 }

@@ -12,18 +12,18 @@ use crate::text::Printed;
 use fault_words::Words;
 use xray_io::{Desk, DeskFile, Sink, WriteFault};
 
-/// How err names the standard output.
+/// The name of the standard output in a line on err.
 const OUT: &str = "output";
 
 /// The outputs of a command.
 pub(crate) trait Outputs<'a> {
-    /// Each with its name and its bytes, in the order in which they are written.
+    /// The name and the bytes of each output, in the order in which they are written.
     ghost all: { Self → List (List ℕ × List ℕ) };
 
-    /// They are there to be written, and no two have the same name.
+    /// They can be written, and no two have the same name.
     ghost ready: { Self → Type 0 };
 
-    /// Creates and writes each in its turn. Nothing is done after one that failed.
+    /// Creates and writes each output in its turn. After one that failed, nothing more is done.
     fn write<D: Desk>(&self, desk: &mut D) -> Result<(), Stop<'a>>
         requires { ready self.now }
         ensures whole { OnOk result (AreWhole (all self.now) (D.held desk.old) (D.held desk.new)) }
@@ -52,7 +52,7 @@ impl<'a> Outputs<'a> for NoOutputs {
     }
 }
 
-/// An output of a command: the name, and what is written to it, a part at a time.
+/// An output of a command: its name, and what is written to it, part by part.
 #[derive(Drop)]
 pub(crate) struct Output<'a, 't, P> {
     /// Its name.
@@ -81,7 +81,7 @@ impl<'a, P: Printed> Outputs<'a> for Output<'a, '_, P> {
 pub(crate) struct TwoOutputs<'a, 't, P, Q> {
     /// The one that is written first.
     pub(crate) first: Output<'a, 't, P>,
-    /// The one that is written when the first is whole.
+    /// The one that is written once the first is whole.
     pub(crate) second: Output<'a, 't, Q>,
 }
 
@@ -127,8 +127,9 @@ fn append<P: Printed, D: Desk>(desk: &mut D, name: &str, text: &P) -> Result<(),
     text.print(&mut file)
 }
 
-/// Creates and writes the outputs, each in its turn, and then writes the text on out. Nothing is done
-/// after what failed. Where all was written and there is a trouble, that is told all the same.
+/// Creates and writes the outputs, each in its turn, and then writes the text on out. After a
+/// failure nothing more is done. If all was written and there is a trouble, the trouble is
+/// reported.
 pub(crate) fn deliver<'a, W: Outputs<'a>, P: Printed, D: Desk, O: Sink>(
     desk: &mut D,
     out: &mut O,

@@ -1,7 +1,7 @@
 //! The bytes of an image file.
 use std::marker::Model;
 
-/// The bytes of an image file, which contracts see as their list.
+/// The bytes of an image file. In contracts they are a list.
 #[derive(Drop)]
 pub(crate) struct ImageFile {
     pub(crate) bytes: Vec<u8>,

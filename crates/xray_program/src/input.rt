@@ -1,4 +1,4 @@
-//! An input in its turn: it is read, measured and judged before the next is opened.
+//! An input in its turn: it is read, measured and judged before the next one is opened.
 ghost use Rattle.std.specs.Prelude.{◌≡◌, ◌≤◌, ℕ, List, Some, length, option_map, IfOk, IfErr};
 ghost use Rattle.xray_io.specs.Calls.{Went};
 ghost use Rattle.xray_io.specs.World.{desk_view};
@@ -10,29 +10,30 @@ use fault_words::Fault;
 use std::alloc::Global;
 use xray_io::{Desk, ReadError, read_whole};
 
-/// A kind of input: what its bytes are judged by.
+/// A kind of input: what its bytes have to be.
 pub(crate) trait Kind {
     /// What an input of this kind reads as.
     type Value: Drop;
 
-    /// Why it reads as nothing.
+    /// Why bytes aren't an input of this kind.
     type Refusal: Fault;
 
-    /// How many bytes it has at the most, what it reads as, and why it is refused.
+    /// The most bytes of such an input, what bytes read as, and why they are refused.
     ghost form: { Self → Form Self.Value };
 
-    /// What a value has of the inputs that were taken before it.
+    /// What a value has to do with the inputs that were taken before it.
     ghost fits: { Self → Self.Value → Type 0 };
 
     /// The word for it in a line on err.
     fn word(&self) -> &'static str
         ensures { result.now ≡ (form self.now).kind };
 
-    /// How many bytes it has at the most.
+    /// The most bytes of such an input.
     fn limit(&self) -> u64
         ensures { result ≡ (form self.now).limit };
 
-    /// The value that bytes read as. An error comes where they are refused, or where memory runs out.
+    /// The value that bytes read as. The answer is an error if they are refused, or if memory runs
+    /// out.
     fn judge(&self, alloc: Global, bytes: &[u8]) -> Result<Self::Value, Self::Refusal>
         requires { length bytes.now ≤ (form self.now).limit }
         ensures reads { IfOk result ((form self.now).Reads bytes.now) }
@@ -89,7 +90,7 @@ pub(crate) fn take_maybe<'a, K: Kind, D: Desk>(
     }
 }
 
-/// What an input's fault comes to: want of memory, or a refusal with its words.
+/// The stop for an input's fault: want of memory, or a refusal with its words.
 pub(crate) fn fault_stop<'a, F: Fault>(name: &'a str, kind: &'a str, fault: &F) -> Stop<'a>
     ensures { IsFaultStop name.now kind.now (F.told fault.now) result }
 {
@@ -99,7 +100,7 @@ pub(crate) fn fault_stop<'a, F: Fault>(name: &'a str, kind: &'a str, fault: &F) 
     }
 }
 
-/// What an error of reading comes to.
+/// The stop for an error of reading.
 fn read_stop(name: &str, error: ReadError) -> Stop<'_>
     ensures { IsReadStop name.now error result }
 {

@@ -4,22 +4,27 @@ ghost use Rattle.command_words.specs.Ranges.{IsThreadCount};
 use crate::image_file::ImageFile;
 use crate::input::Kind;
 use asm_text::{AsmFault, assemble};
+use fdr_file::{Trace, read_trace};
 use patch_script::{Script, ScriptFault, read_script};
 use std::alloc::Global;
 use step_sim::{Schedule, ScheduleFault, read_schedule};
+use trace_words::TraceRefusal;
 use xray_image::{Image, ImageFault, read_image};
 
-/// How many bytes an image file has at most.
+/// The most bytes of an image file.
 const IMAGE_LIMIT: u64 = 4_194_304;
 
-/// How many bytes an assembler text has at most.
+/// The most bytes of an assembler text.
 const TEXT_LIMIT: u64 = 4_194_304;
 
-/// How many bytes a script has at most.
+/// The most bytes of a script.
 const SCRIPT_LIMIT: u64 = 1_048_576;
 
-/// How many bytes a schedule has at most.
+/// The most bytes of a schedule.
 const SCHEDULE_LIMIT: u64 = 16_777_216;
+
+/// The most bytes of a trace.
+const TRACE_LIMIT: u64 = 67_108_864;
 
 /// An image file.
 #[derive(Drop)]
@@ -50,10 +55,10 @@ impl Kind for ImageKind {
     }
 }
 
-/// An assembler text, whose value is the image file that it is assembled to.
+/// An assembler text. Its value is the image file that it is assembled to.
 #[derive(Drop)]
 pub(crate) struct TextKind {
-    /// How many instruction lines a function has at the least that gets sleds.
+    /// The least number of instruction lines with which a function gets sleds.
     pub(crate) threshold: u32,
 }
 
@@ -85,7 +90,7 @@ impl Kind for TextKind {
     }
 }
 
-/// A script, for an image and so many threads.
+/// A script, for an image and a number of threads.
 #[derive(Drop)]
 pub(crate) struct ScriptKind<'i> {
     /// The image.
@@ -120,7 +125,7 @@ impl Kind for ScriptKind<'_> {
     }
 }
 
-/// A schedule, for so many threads.
+/// A schedule, for a number of threads.
 #[derive(Drop)]
 pub(crate) struct ScheduleKind {
     /// How many threads there are, from 1 to 16.
@@ -151,5 +156,37 @@ impl Kind for ScheduleKind {
 
     fn judge(&self, alloc: Global, bytes: &[u8]) -> Result<Schedule, ScheduleFault> {
         read_schedule(alloc, bytes, self.threads)
+    }
+}
+
+/// A trace.
+#[derive(Drop)]
+pub(crate) struct TraceKind;
+
+impl Kind for TraceKind {
+    ghost use Rattle.std.specs.Prelude.{⊤};
+    ghost use Rattle.xray_program.specs.Inputs.{trace_form};
+
+    type Value = Trace;
+
+    type Refusal = TraceRefusal;
+
+    ghost form = { λ _. trace_form };
+
+    ghost fits = { λ _ _. ⊤ };
+
+    fn word(&self) -> &'static str {
+        "trace"
+    }
+
+    fn limit(&self) -> u64 {
+        TRACE_LIMIT
+    }
+
+    fn judge(&self, alloc: Global, bytes: &[u8]) -> Result<Trace, TraceRefusal> {
+        match read_trace(alloc, bytes) {
+            Ok(trace) => Ok(trace),
+            Err(fault) => Err(TraceRefusal { fault }),
+        }
     }
 }

@@ -1,4 +1,4 @@
-//! Laws of what the program means, each the contract of a function that does nothing.
+//! Laws of what the program means. Each law is the contract of a function that does nothing.
 ghost use Rattle.std.specs.Prelude.{◌≡◌, ◌<◌, ℕ, List, Option, None, All};
 ghost use Rattle.xray_io.specs.Desk.{Entry, Holds};
 ghost use Rattle.xray_program.specs.Commands.{IsDecided, Means, TellsAll};
@@ -9,8 +9,8 @@ use machine_step::{one_end, some_end};
 use step_sim::{one_run, some_run};
 use xray_image::{one_verdict, some_verdict};
 
-/// Words of a command that decides its outcome mean one thing over a desk that tells of every name: one
-/// status, one line on err, or the same outputs and the same text.
+/// If a command decides its outcome, its words mean only one thing over a desk that reports every
+/// name: one status and one line on err, or the same outputs and the same text.
 pub fn one_meaning()
     ensures { (said : Option Command) (held : List ℕ → Entry) (one other : Outcome)
         → TellsAll held → IsDecided said → Means said held one → Means said held other → one ≡ other }
@@ -20,8 +20,8 @@ pub fn one_meaning()
     one_run();
 }
 
-/// An outcome that writes nothing is all that words mean, whatever the command, over a desk that tells of
-/// every name.
+/// If words mean an outcome that writes nothing, they mean nothing else, over a desk that reports
+/// every name. This holds for every command.
 pub fn refusal_is_the_only_meaning()
     ensures { (said : Option Command) (held : List ℕ → Entry) (refusal other : Outcome)
         → TellsAll held → written_by refusal ≡ None → Means said held refusal → Means said held other
@@ -32,8 +32,8 @@ pub fn refusal_is_the_only_meaning()
     one_run();
 }
 
-/// Words mean something over a desk that tells of every name, whatever the words are and whatever bytes
-/// its names hold.
+/// Words mean something over a desk that reports every name, whatever the words are and whatever
+/// bytes the names hold.
 pub fn some_meaning()
     ensures { (said : Option Command) (held : List ℕ → Entry) → TellsAll held
         → ((name bytes : List ℕ) → held name ≡ Holds bytes → All (λ b. b < 256) bytes)

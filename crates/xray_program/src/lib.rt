@@ -1,19 +1,23 @@
 //! The top call: all that the program does, from the words of its command line to what it writes.
 //!
-//! The words are read first, together with the wall time (`command_words`). A command is one module (`sim`,
-//! `plain`, `extract`, `asm`), which implements `Work`: it takes its inputs in the order of the words
-//! (`input`), each of which is read, measured and judged before the next is opened, so the first that
-//! fails decides; then it does its work, and writes its outputs and its text (`delivery`); what is written
-//! of traced threads is in `traced`. Last a line on err says what stopped the call, if something did
-//! (`stop`).
+//! The words are read first, together with the wall time (`command_words`). A command is one module
+//! (`sim`, `plain`, `extract`, `asm`, `account`, `stack`, `convert`), which implements `Work`. It
+//! takes its inputs in the order of the words (`input`). Each is read, measured and judged before
+//! the next is opened, so the first that fails decides. Then it does its work, and writes its
+//! outputs and its text (`delivery`). What is written of traced threads is in `traced`. Last, if
+//! something stopped the call, a line on err says what (`stop`).
 //!
-//! What a command means is one relation, `Comes` of `specs/Commands.antt`. The contract of the call is
-//! one record, `Answered` of `specs/Answers.antt`, over what was said, the world before the call and the
-//! world after it. A further command adds a case to `Comes`, and nothing to the contract.
+//! The meaning of a command is one relation: `Comes` of `specs/Commands.antt`. The contract of the
+//! call is one record: `Answered` of `specs/Answers.antt`, over what was said, the world before the
+//! call and the world after it. For another command, add a case to `Comes`. The contract doesn't
+//! change.
 #![tactic(auto)]
 
+mod account;
+mod account_options;
 mod asm;
 mod call;
+mod convert;
 mod delivery;
 mod extract;
 mod image_file;
@@ -21,9 +25,11 @@ mod input;
 mod inputs;
 mod laws;
 mod plain;
+mod report_inputs;
 mod setups;
 mod sim;
 mod sim_inputs;
+mod stack;
 mod stop;
 mod text;
 mod traced;

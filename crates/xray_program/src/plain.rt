@@ -22,7 +22,7 @@ use xray_io::{Desk, NoMemory, Sink, WriteFault};
 pub(crate) struct Plain<'a> {
     /// The image file's name.
     pub(crate) image: &'a str,
-    /// What bounds the threads.
+    /// The limits of the threads.
     pub(crate) bounds: Bounds,
 }
 

@@ -5,7 +5,7 @@ ghost use Rattle.xray_program.specs.Setups.{limits_of, plain_limits, setup_of};
 use command_words::{Bounds, RunOptions, Stamps};
 use machine_step::{Limits, Setup};
 
-/// The stamps of a plain run, of which no event is seen: the counter stands still, on one CPU.
+/// The stamps of a plain run. No event of it is seen: the counter stands still, on one CPU.
 const UNSTAMPED: Stamps = Stamps {
     tick: 0,
     tsc: 0,
@@ -14,7 +14,7 @@ const UNSTAMPED: Stamps = Stamps {
     migrate: 1,
 };
 
-/// What bounds each thread, and how its passings are stamped.
+/// The limits of each thread, and how its passings are stamped.
 fn limits_of(bounds: Bounds, stamps: Stamps) -> Limits
     ensures { result ≡ limits_of bounds stamps }
 {
@@ -28,7 +28,7 @@ fn limits_of(bounds: Bounds, stamps: Stamps) -> Limits
     }
 }
 
-/// What a plain run is bounded by.
+/// The limits of a plain run.
 pub(crate) fn plain_limits(bounds: Bounds) -> Limits
     ensures { result ≡ plain_limits bounds }
 {

@@ -86,7 +86,7 @@ impl<'a> Work<'a> for Sim<'a> {
     }
 }
 
-/// What a replay leaves, as what is written of it.
+/// What a replay leaves, for what is written of it.
 fn left_of(end: SimEnd) -> RunLeft
     ensures cpus { result.cpus.items ≡ end.entry.cpus.items }
     ensures segments { result.segments.items ≡ end.entry.segments.items }

@@ -9,7 +9,7 @@ use xray_image::Image;
 pub(crate) struct SimInputs {
     /// The image.
     pub(crate) image: Image,
-    /// The script of the patcher, for this image and so many threads.
+    /// The script of the patcher, for this image and a number of threads.
     pub(crate) script: Script,
     /// The turns of the threads and the patcher.
     pub(crate) schedule: Schedule,

@@ -10,13 +10,13 @@ ghost use Rattle.xray_program.specs.Stops.{stop_line, stop_status};
 use fault_words::Words;
 use xray_io::{NoMemory, Piece, Sink, write_pieces};
 
-/// What stands in front of each line on err.
+/// The start of each line on err.
 const PROGRAM: Piece = Piece::Bytes(b"xray: ");
 
-/// What ends a line.
+/// The end of a line.
 const LINE_FEED: Piece = Piece::Bytes(b"\n");
 
-/// What ends a call before all is done, with the name of the input or output that it lies in.
+/// What ends a call before all is done. It has the name of the input or output that is to blame.
 #[derive(Clone, Copy, Debug)]
 pub(crate) enum Stop<'a> {
     /// The words say no command.
@@ -25,7 +25,7 @@ pub(crate) enum Stop<'a> {
     Unread(&'a str),
     /// An input has more bytes than its limit.
     TooLong(&'a str),
-    /// An input isn't in its definition.
+    /// An input isn't accepted.
     Refused {
         /// The input's name.
         name: &'a str,
@@ -34,7 +34,7 @@ pub(crate) enum Stop<'a> {
         /// The words for what is wrong with it.
         words: Words<'a>,
     },
-    /// All was written, and something is wrong all the same, which these words say.
+    /// All was written, and something is wrong all the same. These words say what.
     Fell(Words<'a>),
     /// An output can't be written. The standard output is named `output`.
     Unwritten(&'a str),
@@ -68,7 +68,7 @@ impl Stop<'_> {
         }
     }
 
-    /// Writes its line on err. Where err fails, nobody hears of that.
+    /// Writes its line on err. If err fails, nothing reports that.
     pub(crate) fn report<E: Sink>(&self, err: &mut E)
         ensures { let heard = sink_view E.written E.faults in
             Says (heard err.old) (heard err.new) (stop_line self.now) }
@@ -120,7 +120,7 @@ fn fallen_line<'x>(trouble: &Words<'x>) -> [Piece<'x>; 6]
     ]
 }
 
-/// Writes a line on err of what happened to a file of this name.
+/// Writes a line on err about what happened to a file of this name.
 fn say_of<'x, E: Sink>(err: &mut E, name: &'x str, what: &'x [u8])
     ensures { let heard = sink_view E.written E.faults in
         Says (heard err.old) (heard err.new) (err_line (name.now ++ what.now)) }
@@ -136,7 +136,7 @@ fn say_of<'x, E: Sink>(err: &mut E, name: &'x str, what: &'x [u8])
     )
 }
 
-/// Writes a line on err. Where err fails, a prefix of it is there.
+/// Writes a line on err. If err fails, a prefix of the line was written.
 fn say<E: Sink>(err: &mut E, line: &[Piece])
     ensures { let heard = sink_view E.written E.faults in
         Says (heard err.old) (heard err.new) (text_of line.now) }

@@ -4,15 +4,15 @@ ghost use Rattle.xray_io.specs.Writes.{WritesText};
 
 use xray_io::{Sink, WriteFault, write_all};
 
-/// What can be written, a part at a time and without taking memory.
+/// Something that can be written, part by part.
 pub(crate) trait Printed {
     /// Its text.
     ghost text: { Self → List ℕ };
 
-    /// It is there to be written.
+    /// It can be written.
     ghost ready: { Self → Type 0 };
 
-    /// Writes its text. If the sink fails, a prefix of it is there.
+    /// Writes its text. If the sink fails, a prefix of the text was written.
     fn print<S: Sink>(&self, sink: &mut S) -> Result<(), WriteFault>
         requires { ready self.now }
         ensures { WritesText S.written S.faults S.along sink.old sink.new (text self.now) result };
@@ -34,7 +34,7 @@ impl Printed for NoText {
     }
 }
 
-/// Bytes that are there.
+/// Bytes that are there already.
 #[derive(Drop)]
 pub(crate) struct Bytes<'t> {
     /// These bytes.

@@ -1,5 +1,5 @@
-//! What is written of traced threads that have ended, whatever ran them: the trace, the audit, and the
-//! state texts.
+//! What is written of traced threads that have ended, whatever ran them: the trace, the audit, and
+//! the state texts.
 ghost use Rattle.std.specs.Prelude.{◌≡◌, ◌≢◌, ◌≤◌, [], ◌∷◌, IfOk, IsTrue, List, None, length, vec_capacity};
 ghost use Rattle.std.specs.List.{All, flat_map};
 ghost use Rattle.fdr_file.specs.Files.{file_bytes};
@@ -36,20 +36,20 @@ pub(crate) struct TraceFiles<'a> {
     ghost apart: { trace.now ≢ audit.now },
 }
 
-/// What traced threads leave that have ended.
+/// What traced threads leave when they have ended.
 #[derive(Drop)]
 pub(crate) struct RunLeft<'i> {
-    /// The threads, thread 1 first.
+    /// The threads, in order.
     pub(crate) cpus: Vec<Cpu<'i>>,
-    /// Into how many segments the events of each thread were cut.
+    /// How many segments the events of each thread were cut into.
     pub(crate) segments: Vec<u32>,
-    /// How many of these are lost.
+    /// How many of these segments are lost.
     pub(crate) first: Vec<u32>,
-    /// The buffers of those that are left.
+    /// The buffers of the segments that are left.
     pub(crate) buffers: Vec<Buffer>,
 }
 
-/// Room for so many lines of an audit, before the threads start.
+/// Room for the audit's lines of `threads` threads. It is asked for before the threads start.
 pub(crate) fn room_for(alloc: Global, threads: u32) -> Result<Vec<AuditLine>, NoMemory>
     ensures none { IfOk result (λ lines. lines.items ≡ []) }
     ensures room { IfOk result (λ lines. vec_capacity lines ≡ threads) }
@@ -58,8 +58,8 @@ pub(crate) fn room_for(alloc: Global, threads: u32) -> Result<Vec<AuditLine>, No
     Ok(lines)
 }
 
-/// Writes what is left of a run: the trace, then the audit, and then the state texts on out. Takes no
-/// memory: `lines` is empty, with room for one line per thread.
+/// Writes what is left of a run: the trace, then the audit, and then the state texts on out.
+/// `lines` is empty, with room for one line per thread.
 pub(crate) fn deliver_run<'a, D: Desk, O: Sink>(
     desk: &mut D,
     out: &mut O,
@@ -87,7 +87,7 @@ pub(crate) fn deliver_run<'a, D: Desk, O: Sink>(
         first,
         mut buffers,
     } = left;
-    // Says that the audit of these lines is that of the run.
+    // Called for its contract: the audit of these lines is that of the run.
     a_run_is_audited();
     arrange(&mut buffers);
     add_audit_lines(&cpus, &segments, &first, &mut lines);

@@ -16,8 +16,9 @@ use xray_io::{Desk, Sink};
 
 /// A command that waits for nobody, with the names and the options that its words say.
 ///
-/// `take` takes its inputs, each in its turn, and does nothing else. `finish` does the work over them,
-/// with all the memory that it wants, and then writes the outputs and the text by `deliver`.
+/// `take` takes its inputs, each in its turn, and does nothing else. `finish` does the work over
+/// them. It asks for all the memory that it needs, and then writes the outputs and the text by
+/// `deliver`.
 pub(crate) trait Work<'a> {
     /// The inputs, once all of them were judged.
     type Inputs: Drop;
@@ -28,7 +29,7 @@ pub(crate) trait Work<'a> {
     /// What comes of the inputs.
     ghost yields: { Self → Self.Inputs → Outcome → Type 0 };
 
-    /// What the inputs have of each other.
+    /// What has to be true between the inputs.
     ghost fits: { Self → Self.Inputs → Type 0 };
 
     /// Takes the inputs in the order of the words. The first that fails decides.
@@ -40,7 +41,8 @@ pub(crate) trait Work<'a> {
         ensures held { D.held desk.new ≡ D.held desk.old }
         ensures later { D.read_faults desk.old ≤ D.read_faults desk.new }
         ensures writes { D.write_faults desk.new ≡ D.write_faults desk.old }
-        ensures calls { Went (D.along desk.old desk.new) (AreTakings (inputs_of (says self.now)) result) };
+        ensures calls { Went (D.along desk.old desk.new)
+            (AreTakings (λ reads. Comes reads (D.held desk.old) (says self.now)) (inputs_of (says self.now)) result) };
 
     /// Does the work over the inputs, and writes what comes of them.
     fn finish<D: Desk, O: Sink>(
@@ -59,7 +61,7 @@ pub(crate) trait Work<'a> {
             KeepsOthers (outputs_of (says self.now)) (seen desk.old) (seen desk.new) };
 }
 
-/// Does all of a command, and leaves err alone.
+/// Does all of a command, and leaves err as it is.
 pub(crate) fn perform<'a, W: Work<'a>, D: Desk, O: Sink>(
     alloc: Global,
     work: &W,

@@ -1,13 +1,11 @@
-//! An image for each end, and one that calls itself twice.
-
-ghost use Rattle.std.specs.Prelude.{◌<◌, length};
+//! An image for each end, and one with a function that calls itself twice.
 
 use super::DEFAULT_LIMITS;
 use crate::{End, Limits, Steps, plain_run};
 use std::test::Fail;
-use xray_image::read_image;
+use xray_image::{Image, read_image};
 
-/// The header of an image of one function and no sled: base 0x1000, and the code's length at 16.
+/// The header of an image with one function and no sled: base 0x1000, and the code's length at 16.
 const HEADER: [u8; 64] = [
     0x58, 0x52, 0x49, 0x4D, 1, 0, 0, 0, 0x00, 0x10, 0, 0, 0, 0, 0, 0, 0, 0, 0, 0, 1, 0, 0, 0, 0, 0,
     0, 0, 0, 0, 0, 0, 0x00, 0x10, 0x20, 0, 0, 0, 0, 0, 0x10, 0x10, 0x20, 0, 0, 0, 0, 0, 0x20, 0x10,
@@ -17,22 +15,32 @@ const HEADER: [u8; 64] = [
 /// The function `f` at 0x1000.
 const FUNCTION: [u8; 10] = [0x00, 0x10, 0, 0, 0, 0, 0, 0, 1, 0x66];
 
-/// Whether thread 1 of an image of this code alone ends so.
+/// The image with only this code.
+pub(super) fn image_of(rt: &HostRuntime, code: &[u8]) -> Result<Image, Fail> {
+    let Ok(length) = u32::try_from(code.len()) else {
+        return Err("too much code")?;
+    };
+    let [low, second, third, high] = length.to_le_bytes();
+    let mut header = HEADER;
+    header[16] = low;
+    header[17] = second;
+    header[18] = third;
+    header[19] = high;
+    let mut bytes = header.to_vec(rt.alloc())?;
+    bytes.extend_from_slice(code)?;
+    bytes.extend_from_slice(&FUNCTION)?;
+    Ok(read_image(rt.alloc(), &bytes)?)
+}
+
+/// Whether thread 1 ends in this way, in an image with only this code.
 fn ends_so(
     rt: &HostRuntime,
     code: &[u8],
     fuel: u64,
     end: End,
     instructions: u64,
-) -> Result<bool, Fail>
-    requires { length code.now < 256 }
-{
-    let mut header = HEADER;
-    header[16] = code.len() as u8;
-    let mut bytes = header.to_vec(rt.alloc())?;
-    bytes.extend_from_slice(code)?;
-    bytes.extend_from_slice(&FUNCTION)?;
-    let image = read_image(rt.alloc(), &bytes)?;
+) -> Result<bool, Fail> {
+    let image = image_of(rt, code)?;
     let steps = Steps::new(rt.alloc(), &image)?;
     let limits = Limits {
         fuel,
@@ -64,8 +72,8 @@ fn each_end_comes_where_its_rule_says(rt: HostRuntime) -> Result<(), Fail> {
     Ok(())
 }
 
-/// `main` calls `fib` with 20, which calls itself for 19 and 18; a sled at its entry and at each of
-/// its three exits.
+/// `main` calls `fib` with 20, which calls itself with 19 and 18. There is a sled at its entry, and
+/// one at each of its three exits.
 const FIBONACCI: [u8; 326] = [
     // base 0x1000, 109 bytes of code, 2 functions, 4 map entries
     0x58, 0x52, 0x49, 0x4D, 1, 0, 0, 0, 0, 0x10, 0, 0, 0, 0, 0, 0, 0x6D, 0, 0, 0, 2, 0, 0, 0, 4, 0,

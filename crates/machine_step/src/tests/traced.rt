@@ -8,8 +8,8 @@ use std::test::Fail;
 use xray_image::read_image;
 use xray_io::MemSink;
 
-/// Lets a thread into its next passing, and gives it values of the words of these numbers, which it
-/// has to want in this order. Answers the last event that came.
+/// Lets a thread into its next passing, and gives it the values of the words with these numbers.
+/// The thread has to want them in this order. Answers the last event that came.
 fn pass(cpu: &mut Cpu, loads: &[(u32, u64)]) -> Result<Option<Event>, Fail> {
     if let Want::Gate(_) = cpu.want() {
         cpu.opened();
@@ -75,11 +75,11 @@ fn a_held_thread_loads_its_release_word_until_it_is_1(rt: HostRuntime) -> Result
         passings: 1,
         ..DEFAULT_LIMITS
     };
-    // Two sleds have eight words, the handler the next one, the state the one behind it, and thread
-    // 2 its release word behind that of thread 1.
+    // Two sleds have eight words. The handler's word follows them, then the state's, and then the
+    // release words of thread 1 and thread 2.
     let mut cpu = Cpu::new(rt.alloc(), &steps, 2, 3, Some(0), limits)?;
     assert_eq!(rt; pass(&mut cpu, &[(11, 0), (11, 0), (11, 1)])?, None);
-    // The head of an exit sled may not stand in that of an entry sled.
+    // The head of an exit sled isn't allowed in an entry sled.
     if let Want::Load(_) = cpu.want() {
         assert!(rt; !cpu.allowed(0x2EC3));
     }

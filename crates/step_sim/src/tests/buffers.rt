@@ -8,7 +8,7 @@ use std::process::Abort;
 use xray_image::read_image;
 use xray_io::Wall;
 
-/// A function `main` that outputs a 0: an entry sled, `out 0, al`, an exit sled.
+/// A function `main` that prints a 0: an entry sled, `out 0, al`, an exit sled.
 const OUTPUTS_A_0: [u8; 166] = [
     88, 82, 73, 77, 1, 0, 0, 0, 0, 16, 0, 0, 0, 0, 0, 0, 25, 0, 0, 0, 1, 0, 0, 0, 2, 0, 0, 0, 0, 0,
     0, 0, 0, 16, 32, 0, 0, 0, 0, 0, 16, 16, 32, 0, 0, 0, 0, 0, 32, 16, 32, 0, 0, 0, 0, 0, 48, 16,
@@ -32,8 +32,8 @@ const CALLS: [u8; 266] = [
     0, 0, 0, 0, 0, 0, 0, 0, 0, 0,
 ];
 
-/// A function `a` that ends in a jump to a function `b`: with an entry sled and a tail sled, and with an
-/// entry sled and an exit sled.
+/// A function `a` that ends in a jump to a function `b`. `a` has an entry sled and a tail sled, and
+/// `b` an entry sled and an exit sled.
 const TAIL_CALLS: [u8; 263] = [
     88, 82, 73, 77, 1, 0, 0, 0, 0, 16, 0, 0, 0, 0, 0, 0, 51, 0, 0, 0, 2, 0, 0, 0, 4, 0, 0, 0, 0, 0,
     0, 0, 0, 16, 32, 0, 0, 0, 0, 0, 16, 16, 32, 0, 0, 0, 0, 0, 32, 16, 32, 0, 0, 0, 0, 0, 48, 16,
@@ -47,8 +47,8 @@ const TAIL_CALLS: [u8; 263] = [
     0, 0, 0, 0,
 ];
 
-/// The script that traces all, from before the start.
-const TRACED: &[u8] = b"patch\nset_handler\ninit\ngo";
+/// The script that traces everything from before the start.
+pub(super) const TRACED: &[u8] = b"patch\nset_handler\ninit\ngo";
 
 /// A replay of an image.
 #[derive(Clone, Copy)]
@@ -71,11 +71,11 @@ fn one_thread(image: &[u8]) -> Row<'_> {
     }
 }
 
-/// What a buffer holds: of which thread it is, which of its segments, and the records.
+/// What a buffer holds: its thread, the number of the segment, and the records.
 #[derive(Clone, Copy)]
 struct Held<'a>(u32, u32, &'a [u8]);
 
-/// The bytes that a buffer of thread 1 begins with, and those of one of thread 2.
+/// The first bytes of a buffer of thread 1, and those of one of thread 2.
 const PREAMBLES: [[u8; 48]; 2] = [
     [
         1, 1, 0, 0, 0, 0, 0, 0, 0, 0, 0, 0, 0, 0, 0, 0, 9, 0, 0, 0, 0, 0, 0, 0, 0, 0, 0, 0, 0, 0,
@@ -87,7 +87,7 @@ const PREAMBLES: [[u8; 48]; 2] = [
     ],
 ];
 
-/// The bytes of a buffer of a thread, with these records.
+/// The bytes of a thread's buffer with these records.
 fn body(alloc: Global, thread: u32, records: &[u8]) -> Result<Vec<u8>, AllocError> {
     let preamble = if thread == 2 {
         &PREAMBLES[1]
@@ -99,7 +99,7 @@ fn body(alloc: Global, thread: u32, records: &[u8]) -> Result<Vec<u8>, AllocErro
     Ok(bytes)
 }
 
-/// Replays an image without a schedule, and looks at what is left.
+/// Replays an image without a schedule, and checks what is left.
 fn leaves(
     rt: &impl Abort,
     alloc: Global,
@@ -151,17 +151,17 @@ const A_CALL: &[u8] = &[
     0x12, 0, 0, 0, 2, 0, 0, 0, // exit
 ];
 
-/// The entry of function 1 at counter 0, in a segment of its own.
+/// The entry of function 1 at counter 0, in its own segment.
 const ENTERED: &[u8] = &[
     5, 0, 0, 0, 0, 0, 0, 0, 0, 0, 0, 0, 0, 0, 0, 0, 0x10, 0, 0, 0, 0, 0, 0, 0,
 ];
 
-/// The exit of function 1 at counter 2, in a segment of its own.
+/// The exit of function 1 at counter 2, in its own segment.
 const LEFT: &[u8] = &[
     5, 0, 0, 2, 0, 0, 0, 0, 0, 0, 0, 0, 0, 0, 0, 0, 0x12, 0, 0, 0, 0, 0, 0, 0,
 ];
 
-/// The exit of function 2 at counter 1, in a segment of its own.
+/// The exit of function 2 at counter 1, in its own segment.
 const LEFT_F: &[u8] = &[
     5, 0, 0, 1, 0, 0, 0, 0, 0, 0, 0, 0, 0, 0, 0, 0, 0x22, 0, 0, 0, 0, 0, 0, 0,
 ];
@@ -175,13 +175,13 @@ const A_TAIL_CALL: &[u8] = &[
     0x22, 0, 0, 0, 0, 0, 0, 0, // exit of b
 ];
 
-/// A call whose exit is as far behind its entry as a function record can tell.
+/// A call whose exit is as far after its entry as a function record can say.
 const NEAR: &[u8] = &[
     5, 0, 0, 0, 0, 0, 0, 0, 0, 0, 0, 0, 0, 0, 0, 0, 0x10, 0, 0, 0, 0, 0, 0, 0, //
     0x12, 0, 0, 0, 0xFF, 0xFF, 0xFF, 0xFF,
 ];
 
-/// A call whose exit is farther, and has its counter written whole.
+/// A call whose exit is further away, and has its whole counter written.
 const FAR: &[u8] = &[
     5, 0, 0, 0, 0, 0, 0, 0, 0, 0, 0, 0, 0, 0, 0, 0, 0x10, 0, 0, 0, 0, 0, 0, 0, //
     7, 0, 0, 0, 0, 1, 0, 0, 0, 0, 0, 0, 0, 0, 0, 0, 0x12, 0, 0, 0, 0, 0, 0, 0,
@@ -265,7 +265,7 @@ fn the_oldest_segments_are_lost(rt: HostRuntime) -> Result<(), Fail> {
     row.max = 3;
     let held = [Held(1, 3, LEFT), Held(2, 2, LEFT_F), Held(2, 3, LEFT)];
     leaves(&rt, alloc, row, &[3, 3], &[3, 2], &held)?;
-    // With no queued buffer each thread gets its own back.
+    // If no buffer is queued, each thread gets its own back.
     row.max = 2;
     let held = [Held(1, 3, LEFT), Held(2, 3, LEFT)];
     leaves(&rt, alloc, row, &[3, 3], &[3, 3], &held)

@@ -1,4 +1,4 @@
-//! Schedules replayed: what they leave of the threads.
+//! Replays of schedules: what they leave of the threads.
 
 use super::*;
 use handler_word::write_runs;
@@ -9,7 +9,7 @@ use text_lines::count_lines;
 use xray_image::read_image;
 use xray_io::{MemSink, Wall};
 
-/// A function `main` that outputs an A: an entry sled, `mov eax, 0x41`, `out 1, al`, an exit sled.
+/// A function `main` that prints an A: an entry sled, `mov eax, 0x41`, `out 1, al`, an exit sled.
 pub(super) const OUTPUTS_AN_A: [u8; 170] = [
     // magic, version, base 0x1000
     0x58, 0x52, 0x49, 0x4D, 1, 0, 0, 0, 0x00, 0x10, 0, 0, 0, 0, 0, 0,
@@ -39,7 +39,7 @@ pub(super) const LIMITS: Limits = Limits {
     migrate: 1_048_576,
 };
 
-/// The replay of the texts of a script and a schedule, on one thread or two.
+/// The replay of the texts of a script and a schedule, with one thread or two.
 fn replay_of<'a>(
     rt: &impl Abort,
     alloc: Global,
@@ -67,7 +67,7 @@ fn replay_of<'a>(
     })
 }
 
-/// The marks of a thread as they are printed.
+/// The marks of a thread, as printed.
 fn marks_of(alloc: Global, cpu: &Cpu) -> Result<MemSink, Fail> {
     let mut sink = MemSink::new(alloc, Vec::new(alloc));
     write_runs(cpu.marks(), &mut sink)?;
@@ -82,7 +82,7 @@ fn a_schedule_decides_what_a_thread_finds(rt: HostRuntime) -> Result<(), Fail> {
     let rows: [(&[u8], &[u8], &[u8]); 8] = [
         (b"go", b"", b".2"),
         (b"patch\nset_handler\ninit\ngo", b"", b"+2"),
-        // The head is read before it is unpatched, and all else behind.
+        // The head is loaded before it is unpatched, and everything else after that.
         (
             b"patch\nset_handler\ninit\ngo\nunpatch",
             b"t 1 1\np 2",
@@ -96,7 +96,7 @@ fn a_schedule_decides_what_a_thread_finds(rt: HostRuntime) -> Result<(), Fail> {
         ),
         (b"patch\ninit\ngo", b"", b"n2"),
         (b"patch\nset_handler\ninit\nfinalize\ngo", b"", b"f2"),
-        // What is left of a line takes no time.
+        // The turns of a line that nothing is left for do nothing.
         (
             b"set_handler\ninit\ngo\npatch",
             b"p 4294967295\nt 1 4294967295",

@@ -14,7 +14,7 @@ use Rattle.command_words.proofs.Cuts.{answered, cut_is, refused}
 use Rattle.command_words.proofs.Gathering.{words_are_text}
 use Rattle.command_words.proofs.cutting.cut_line.Goals as goal
 
--- what is found is the line of the definition, but for the names of outputs
+-- what is found is the line of the definition, except for the names of outputs
 found_is : (row : CommandRow) → is_row row ≡ true → (words : List (String Global)) (app : App) → app ≡ app_by row → (found now : Option ArgMatches)
     → option_map rows_in found ≡ clap_rows app (texts words) → found ≡ now
     → option_map (line_in row) (option_map rows_in now) ≡ (if is_cut row (items_of (texts words)) then Some (line_by row (items_of (texts words))) else None)

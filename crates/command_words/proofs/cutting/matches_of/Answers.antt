@@ -1,4 +1,4 @@
--- clap takes the words exactly where it finds no fault; its one other answer is want of memory.
+-- clap takes the words exactly when it finds no fault. Its only other answer is want of memory.
 use Rattle.std.proofs.Common.{ap, refl, ◌≡◌, ◌∙◌, List, [], ◌∷◌, Some, None, inl, inr}
 use Rattle.clap.specs.Values.{kind_of}
 use Rattle.clap.specs.declared.error.Error.{Error}

@@ -5,7 +5,7 @@ use Rattle.command_words.proofs.Gathering.{pass_from, pass_end, pass_fails, pass
 use Rattle.command_words.proofs.cutting.outputs_differ.Goals as goal
 use Rattle.command_words.proofs.cutting.outputs_differ.Goals.{else-is_written-via-then-is_written+else-count_of-ne1, else-is_written-via-else-is_written}
 
--- a name comes once among names
+-- a name comes only once among names
 abbrev comes_once : List (Bor (List ℕ)) → List ℕ → Bool
 comes_once names name = count_by (bytes_eq name) (map (λ other. other.now) names) == 1
 

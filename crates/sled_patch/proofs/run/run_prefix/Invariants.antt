@@ -1,4 +1,4 @@
--- so many micro steps were made
+-- this many micro steps were made
 use Rattle.std.proofs.Common.{◌≡◌}
 use Rattle.sled_rule.specs.Seats.{patch_view, IsPatcherOf}
 use Rattle.sled_patch.specs.Runs.{at_place}

@@ -1,4 +1,4 @@
--- nothing else has changed than the place, and what is known of threads
+-- only the place has changed, and what is known of threads
 use Rattle.sled_rule.specs.Seats.{patch_view, IsPatcherOf}
 use Rattle.sled_patch.specs.Runs.{HasRun}
 use Rattle.sled_patch.proofs.run.run_script.Given as goal

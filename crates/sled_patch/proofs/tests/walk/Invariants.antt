@@ -1,4 +1,4 @@
--- as many passings as rounds
+-- there were as many passings as rounds
 use Rattle.std.proofs.Common.{◌≡◌}
 use Rattle.sled_rule.specs.Seats.{work_view, IsWorkerOf}
 use Rattle.sled_patch.proofs.tests.walk.Given as goal

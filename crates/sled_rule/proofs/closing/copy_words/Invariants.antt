@@ -1,4 +1,4 @@
--- the words so far stand at their numbers
+-- the words so far are at their numbers
 use Rattle.std.proofs.Common.{◌≡◌, ℕ, ◌+◌, ◌-◌, ◌*◌, ◌<◌, ◌≤◌, get_or}
 use Rattle.std.specs.Slots.{slots_items}
 use mathlib.Core.Option.{some}

@@ -1,4 +1,4 @@
--- nobody is given a seat
+-- no thread is given a seat
 use Rattle.std.proofs.Common.{◌≡◌}
 use Rattle.sled_rule.specs.Seats.{patch_view, IsPatcherOf}
 use Rattle.sled_rule.proofs.tests.store.Given as goal

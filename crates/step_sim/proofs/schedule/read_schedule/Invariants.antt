@@ -3,7 +3,7 @@ use Rattle.step_sim.specs.Schedules.{schedule_of, AreTurnsOf}
 use Rattle.step_sim.specs.Readings.{read_on}
 use Rattle.step_sim.proofs.schedule.read_schedule.Given as goal
 
--- what is left to read, behind the turns so far, comes to what the text comes to
+-- reading the rest of the text after the turns so far gives what reading the whole text gives
 abbrev pub invariant-loop-line : goal.invariant-loop-line
 invariant-loop-line l = record {
   left : schedule_of l.threads l.text ≡ read_on l.threads l.lines.items l.line-iterator;

@@ -6,7 +6,7 @@ use Rattle.machine_step.specs.Standing.{RunsBy}
 use Rattle.machine_step.proofs.Beginning.{Begun, fresh_begun, loads_begun, sound_begun}
 use Rattle.machine_step.proofs.cpu.Cpu.new.Goals as goal
 
--- the fields of the thread that is made
+-- the fields of the new thread
 abbrev made : goal.After-run_to_sled-stand → Inside
 made c = record {
   steps = c.args.steps;

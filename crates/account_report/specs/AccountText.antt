@@ -1,0 +1,65 @@
+-- The text of an account.
+use Rattle.std.specs.Prelude.{◌-◌, ◌==◌, ◌++◌, Bool, not, ℕ, List, [], ◌∷◌, length, replicate, codes, count_by, decimal, Option, if◌then◌else◌}
+use Rattle.std.specs.List.{flat_map}
+use Rattle.xray_image.specs.Program.{Program}
+use Rattle.function_names.specs.Name.{name_text}
+use Rattle.account_report.specs.declared.row.AccountRow.{AccountRow}
+use Rattle.account_report.specs.declared.text.AccountFormat.{AccountFormat}
+use Rattle.account_report.specs.declared.text.AccountFormat.TheVariants.{Text, Csv}
+
+-- whether a function has a pair, and so durations
+abbrev pub has_latencies : AccountRow → Bool
+has_latencies row = not (row.count == 0)
+
+-- how many functions of an account have a pair
+abbrev pub latencies_of : List AccountRow → ℕ
+latencies_of rows = count_by has_latencies rows
+
+-- a number of a row that comes from its durations; if there are none, a dash
+abbrev pub duration_word : AccountRow → ℕ → List ℕ
+duration_word row n = if row.count == 0 then codes "-" else decimal n
+
+-- the ten words of a row
+abbrev pub words_of : AccountRow → List (List ℕ)
+words_of row =
+    decimal row.func ∷ decimal row.count
+    ∷ duration_word row row.min ∷ duration_word row row.med ∷ duration_word row row.p90 ∷ duration_word row row.p99
+    ∷ duration_word row row.max ∷ duration_word row row.sum
+    ∷ decimal row.entries ∷ decimal row.exits ∷ []
+
+-- the ten words of the head line
+abbrev pub head_words : List (List ℕ)
+head_words =
+    codes "funcid" ∷ codes "count" ∷ codes "min" ∷ codes "med" ∷ codes "90p" ∷ codes "99p" ∷ codes "max" ∷ codes "sum"
+    ∷ codes "entries" ∷ codes "exits" ∷ []
+
+-- a word in its column: at the right end of ten places, or whole if it is longer; csv has no columns
+abbrev pub placed : AccountFormat → List ℕ → List ℕ
+placed Text word = replicate (10 - length word) 32 ++ word
+placed Csv word = word
+
+-- the text between columns
+abbrev pub separator_text : AccountFormat → List ℕ
+separator_text Text = codes " "
+separator_text Csv = codes ","
+
+abbrev pub column_text : AccountFormat → List ℕ → List ℕ
+column_text format word = placed format word ++ separator_text format
+
+-- a line of ten words and a name
+abbrev pub line_text : AccountFormat → List (List ℕ) → List ℕ → List ℕ
+line_text format words name = flat_map (column_text format) words ++ name ++ codes "\n"
+
+-- the line of a row, with the name of its function in a program
+abbrev pub row_text : AccountFormat → Option Program → AccountRow → List ℕ
+row_text format program row = line_text format (words_of row) (name_text program row.func)
+
+-- the first line, which csv doesn't have
+abbrev pub first_line : AccountFormat → ℕ → List ℕ
+first_line Text latencies = codes "Functions with latencies: " ++ decimal latencies ++ codes "\n"
+first_line Csv latencies = []
+
+-- the first line, the head line, and a line for each row
+abbrev pub account_text : AccountFormat → ℕ → Option Program → List AccountRow → List ℕ
+account_text format latencies program rows =
+    first_line format latencies ++ line_text format head_words (codes "function") ++ flat_map (row_text format program) rows

@@ -1,0 +1,197 @@
+//! The text of an account.
+
+ghost use Rattle.std.specs.Prelude.{◌≡◌, ◌++◌, ◌==◌, codes, decimal, if◌then◌else◌};
+ghost use Rattle.std.specs.List.{flat_map};
+ghost use Rattle.std.specs.Option.{option_map};
+ghost use Rattle.xray_io.specs.Piece.{piece_text};
+ghost use Rattle.xray_io.specs.Text.{AddsText};
+ghost use Rattle.xray_io.specs.Writes.{WritesText};
+ghost use Rattle.account_report.specs.AccountText.{account_text, column_text, duration_word, first_line, head_words, line_text, placed, row_text, separator_text, words_of};
+
+use crate::row::AccountRow;
+use function_names::add_name;
+use xray_image::Image;
+use xray_io::{Piece, Sink, Text, WriteFault};
+
+/// The width of an aligned column. A longer number is printed whole.
+const WIDTH: usize = 10;
+
+/// The form of a printed account.
+#[derive(Clone, Copy, Debug, PartialEq, Eq)]
+pub enum AccountFormat {
+    /// Columns that end at the same place of each line, for readers. The first line says how many
+    /// functions have a pair.
+    Text,
+    /// Values with commas between them, for other programs.
+    Csv,
+}
+
+/// Writes an account: a head line, and a line for each row, in the order of the rows.
+///
+/// `latencies` is the number in the first line: how many functions have a pair, whether or not they
+/// have a row. A row has the name of its function in `image`, or `#` and the id if there is no
+/// name. The columns are those of `llvm-xray account`, in cycles, and two more.
+///
+/// On `WriteFault` a prefix of the text was written, and the sink counted a fault.
+pub fn write_account<S: Sink>(
+    rows: &[AccountRow],
+    latencies: u64,
+    image: Option<&Image>,
+    format: AccountFormat,
+    sink: &mut S,
+) -> Result<(), WriteFault>
+    ensures { WritesText S.written S.faults S.along sink.old sink.new
+        (account_text format latencies (option_map (λ image. image.now) image.entry) rows.now) result }
+{
+    let mut text = Text::new(sink);
+    add_account(&mut text, rows, latencies, image, format)?;
+    text.done()
+}
+
+/// Adds the whole text.
+fn add_account<S: Sink>(
+    text: &mut Text<S>,
+    rows: &[AccountRow],
+    latencies: u64,
+    image: Option<&Image>,
+    format: AccountFormat,
+) -> Result<(), WriteFault>
+    ensures { AddsText S.written S.faults S.along text.old text.new
+        (account_text format latencies (option_map (λ image. image.now) image.entry) rows.now) result }
+{
+    add_first_line(text, latencies, format)?;
+    text.bytes(head_line(format))?;
+    add_rows(text, rows, image, format)
+}
+
+/// Adds the number of functions that have a pair.
+fn add_first_line<S: Sink>(
+    text: &mut Text<S>,
+    latencies: u64,
+    format: AccountFormat,
+) -> Result<(), WriteFault>
+    ensures { AddsText S.written S.faults S.along text.old text.new
+        (first_line format latencies) result }
+{
+    match format {
+        AccountFormat::Text => text.pieces(&[
+            Piece::Bytes(b"Functions with latencies: "),
+            Piece::Number(u128::from(latencies)),
+            Piece::Bytes(b"\n"),
+        ]),
+        AccountFormat::Csv => text.bytes(b""),
+    }
+}
+
+/// The line with the names of the columns.
+fn head_line(format: AccountFormat) -> &'static [u8]
+    ensures { result.now ≡ line_text format head_words (codes "function") }
+{
+    match format {
+        AccountFormat::Text => {
+            b"    funcid      count        min        med        90p        99p        max        sum    entries      exits function\n"
+        }
+        AccountFormat::Csv => b"funcid,count,min,med,90p,99p,max,sum,entries,exits,function\n",
+    }
+}
+
+/// Adds a line for each row.
+fn add_rows<S: Sink>(
+    text: &mut Text<S>,
+    rows: &[AccountRow],
+    image: Option<&Image>,
+    format: AccountFormat,
+) -> Result<(), WriteFault>
+    ensures { AddsText S.written S.faults S.along text.old text.new
+        (flat_map (row_text format (option_map (λ image. image.now) image.entry)) rows.now) result }
+{
+    'rows: for row in rows {
+        add_row(text, row, image, format)?;
+    }
+    Ok(())
+}
+
+/// Adds the line of a row.
+fn add_row<S: Sink>(
+    text: &mut Text<S>,
+    row: &AccountRow,
+    image: Option<&Image>,
+    format: AccountFormat,
+) -> Result<(), WriteFault>
+    ensures { AddsText S.written S.faults S.along text.old text.new
+        (row_text format (option_map (λ image. image.now) image.entry) row.now) result }
+{
+    add_columns(text, row, format)?;
+    add_name(text, image, row.func)?;
+    text.bytes(b"\n")
+}
+
+/// Adds the columns of a row, each with what follows it.
+fn add_columns<S: Sink>(
+    text: &mut Text<S>,
+    row: &AccountRow,
+    format: AccountFormat,
+) -> Result<(), WriteFault>
+    ensures { AddsText S.written S.faults S.along text.old text.new
+        (flat_map (column_text format) (words_of row.now)) result }
+{
+    let gap = Piece::Bytes(separator(format));
+    text.pieces(&[
+        number(u128::from(row.func), format),
+        gap,
+        number(u128::from(row.count), format),
+        gap,
+        duration(row, u128::from(row.min), format),
+        gap,
+        duration(row, u128::from(row.med), format),
+        gap,
+        duration(row, u128::from(row.p90), format),
+        gap,
+        duration(row, u128::from(row.p99), format),
+        gap,
+        duration(row, u128::from(row.max), format),
+        gap,
+        duration(row, row.sum, format),
+        gap,
+        number(u128::from(row.entries), format),
+        gap,
+        number(u128::from(row.exits), format),
+        gap,
+    ])
+}
+
+/// The text between two columns.
+fn separator(format: AccountFormat) -> &'static [u8]
+    ensures { result.now ≡ separator_text format }
+{
+    match format {
+        AccountFormat::Text => b" ",
+        AccountFormat::Csv => b",",
+    }
+}
+
+/// A number, in its column.
+fn number(n: u128, format: AccountFormat) -> Piece<'static>
+    ensures { piece_text result ≡ placed format (decimal n) }
+{
+    match format {
+        AccountFormat::Text => Piece::Right {
+            number: n,
+            width: WIDTH,
+        },
+        AccountFormat::Csv => Piece::Number(n),
+    }
+}
+
+/// A number of a row that comes from durations, in its column. If there is no pair, it is a dash.
+fn duration(row: &AccountRow, n: u128, format: AccountFormat) -> Piece<'static>
+    ensures { piece_text result ≡ placed format (duration_word row.now n) }
+{
+    if row.count > 0 {
+        return number(n, format);
+    }
+    match format {
+        AccountFormat::Text => Piece::Bytes(b"         -"),
+        AccountFormat::Csv => Piece::Bytes(b"-"),
+    }
+}

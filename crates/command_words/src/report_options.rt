@@ -1,0 +1,171 @@
+//! The files and options of the commands that report on a trace.
+ghost use Rattle.std.specs.Prelude.{◌≡◌, ◌≤◌, IfSome, option_map};
+ghost use Rattle.command_words.specs.Reports.{account_formats, choice_in, columns, orders, stack_formats};
+ghost use Rattle.command_words.specs.Reports.{account_options_in, report_files_in, top_in};
+ghost use Rattle.command_words.specs.Tables.{account_format_option, sort_option, sort_order_option};
+ghost use Rattle.command_words.specs.Tables.{stack_format_option};
+ghost use Rattle.command_words.specs.Views.{files_view, line_view};
+
+use crate::line::Line;
+use crate::tables::{ACCOUNT_FORMAT, SORT, SORT_ORDER, STACK_FORMAT, TOP};
+
+/// The files of a report.
+#[derive(Clone, Copy, Debug)]
+pub(crate) struct ReportFiles<'a> {
+    /// The trace.
+    pub(crate) trace: &'a str,
+    /// The image that names the functions, if the words name one.
+    pub(crate) image: Option<&'a str>,
+}
+
+/// The column by which the rows of an account are sorted.
+#[derive(Clone, Copy, Debug, PartialEq, Eq)]
+pub enum SortColumn {
+    /// The id of the function.
+    FuncId,
+    /// How many pairs there are.
+    Count,
+    /// The least duration.
+    Min,
+    /// The median.
+    Med,
+    /// The 90th percentile.
+    P90,
+    /// The 99th percentile.
+    P99,
+    /// The greatest duration.
+    Max,
+    /// The sum of the durations.
+    Sum,
+}
+
+/// The order in which the rows of an account are sorted.
+#[derive(Clone, Copy, Debug, PartialEq, Eq)]
+pub enum SortOrder {
+    /// The least value comes first.
+    Ascending,
+    /// The greatest value comes first.
+    Descending,
+}
+
+/// The form in which an account is printed.
+#[derive(Clone, Copy, Debug, PartialEq, Eq)]
+pub enum AccountFormat {
+    /// Columns, for readers.
+    Text,
+    /// Values with commas between them, for other programs.
+    Csv,
+}
+
+/// The form in which stacks are printed.
+#[derive(Clone, Copy, Debug, PartialEq, Eq)]
+pub enum StackFormat {
+    /// Columns, for readers.
+    Human,
+    /// A line per stack, for tools that draw flame graphs.
+    Flame,
+}
+
+/// The options of an account.
+#[derive(Clone, Copy, Debug, PartialEq, Eq)]
+pub struct AccountOptions {
+    /// The column by which the rows are sorted.
+    pub sort: SortColumn,
+    /// The order in which they are sorted.
+    pub order: SortOrder,
+    /// The most rows that are printed. `None` means all rows.
+    pub top: Option<u32>,
+    /// The form in which the account is printed.
+    pub format: AccountFormat,
+}
+
+/// The files of a report. `None` unless there are one or two.
+pub(crate) fn report_files_in<'a>(line: &Line<'a>) -> Option<ReportFiles<'a>>
+    ensures { option_map files_view result ≡ report_files_in (line_view line.now).files }
+{
+    match line.files.as_slice() {
+        [trace] => Some(ReportFiles { trace, image: None }),
+        [trace, image] => Some(ReportFiles {
+            trace,
+            image: Some(image),
+        }),
+        _ => None,
+    }
+}
+
+/// The column that a line names. `None` if its word isn't a column.
+fn column_in(line: &Line<'_>) -> Option<SortColumn>
+    ensures { result ≡ choice_in sort_option columns (line_view line.now) }
+{
+    match SORT.number_in(line)? {
+        0 => Some(SortColumn::FuncId),
+        1 => Some(SortColumn::Count),
+        2 => Some(SortColumn::Min),
+        3 => Some(SortColumn::Med),
+        4 => Some(SortColumn::P90),
+        5 => Some(SortColumn::P99),
+        6 => Some(SortColumn::Max),
+        _ => Some(SortColumn::Sum),
+    }
+}
+
+/// The order that a line names. `None` if its word isn't an order.
+fn order_in(line: &Line<'_>) -> Option<SortOrder>
+    ensures { result ≡ choice_in sort_order_option orders (line_view line.now) }
+{
+    match SORT_ORDER.number_in(line)? {
+        0 => Some(SortOrder::Ascending),
+        _ => Some(SortOrder::Descending),
+    }
+}
+
+/// The format that a line names. `None` if its word isn't a format.
+fn account_format_in(line: &Line<'_>) -> Option<AccountFormat>
+    ensures { result ≡ choice_in account_format_option account_formats (line_view line.now) }
+{
+    match ACCOUNT_FORMAT.number_in(line)? {
+        0 => Some(AccountFormat::Text),
+        _ => Some(AccountFormat::Csv),
+    }
+}
+
+/// The format of stacks that a line names. `None` if its word isn't a format.
+pub(crate) fn stack_format_in(line: &Line<'_>) -> Option<StackFormat>
+    ensures { result ≡ choice_in stack_format_option stack_formats (line_view line.now) }
+{
+    match STACK_FORMAT.number_in(line)? {
+        0 => Some(StackFormat::Human),
+        _ => Some(StackFormat::Flame),
+    }
+}
+
+/// The most rows that are printed: the number that is given, or none for all rows. `None` if the
+/// value isn't such a number.
+fn top_in(line: &Line<'_>) -> Option<Option<u32>>
+    ensures reads { result ≡ top_in (line_view line.now) }
+{
+    match line.value(TOP.name) {
+        Some(value) => {
+            let top = TOP.values.number_of(value)?;
+            Some(Some(top as u32))
+        }
+        None => Some(None),
+    }
+}
+
+/// The options of an account. `None` if a value isn't allowed.
+pub(crate) fn account_options_in(line: &Line<'_>) -> Option<AccountOptions>
+    ensures reads { result ≡ account_options_in (line_view line.now) }
+    ensures ranges { IfSome result (λ options. IfSome options.top (λ top. top ≤ 4294967295)) }
+{
+    let sort = column_in(line)?;
+    let order = order_in(line)?;
+    let top = top_in(line)?;
+    let format = account_format_in(line)?;
+    Some(AccountOptions {
+        sort,
+        order,
+        top,
+        format,
+    })
+}

@@ -1,0 +1,6 @@
+//! The names of functions in texts about a trace.
+#![tactic(auto)]
+
+mod name;
+
+pub use name::add_name;

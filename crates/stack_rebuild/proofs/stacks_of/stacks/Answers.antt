@@ -1,0 +1,17 @@
+use Rattle.std.proofs.Common.{◌≡◌, ◌∙◌, List, map, ap, subst, rules}
+use Rattle.std.proofs.lemmas.Fn.{always_returns_same}
+use Rattle.std.proofs.lemmas.List.MinMax.{ranks_by}
+use Rattle.fdr_file.specs.declared.trace.Block.{Block}
+use Rattle.stack_rebuild.specs.Rows.{row_before}
+use Rattle.stack_rebuild.specs.Scanning.{AreSums}
+use Rattle.stack_rebuild.specs.Stacks.{all_timed}
+use Rattle.stack_rebuild.proofs.RowsOf.{row_order, rows_sorted}
+use Rattle.stack_rebuild.proofs.stacks_of.stacks.Goals as goal
+
+pub returns-clause-rows : goal.returns-clause-rows
+returns-clause-rows c =
+    let sums = c.in_ok-sums.sums in
+    let up = c.sort_unstable_by.ensures.sorted row_before row_order (always_returns_same _ _ _ (λ a r f' k. search rules)) in
+    rows_sorted sums.paths sums.tallies.items (all_timed c.args.trace.now.blocks) c.in_ok-rows.rows.items c.sort_unstable_by.new.self.items
+    (subst (λ (blocks : List Block). AreSums sums.paths sums.tallies.items (all_timed blocks)) c.as_slice.ensures c.in_ok-sums.ensures.sums)
+    c.in_ok-rows.ensures c.sort_unstable_by.ensures.permutation up

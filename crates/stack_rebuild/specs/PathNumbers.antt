@@ -1,0 +1,60 @@
+-- Numbers for paths, for the contracts of private functions.
+use Rattle.std.specs.Prelude.{◌≡◌, ◌<◌, ◌≤◌, ◌+◌, ◌-◌, ◌++◌, ◌⊎◌, ◌==◌, ◌&&◌, Bool, ℕ, List, [], ◌∷◌, length, reverse, Option, Some, slice_index_or}
+use Rattle.std.specs.HashMap.{get, HashMap}
+use Rattle.std.specs.declared.hash.FoldHasher.{FoldHasher}
+use Rattle.std.specs.declared.hash.BuildHasherDefault.{BuildHasherDefault}
+use Rattle.stack_rebuild.specs.declared.path_numbers.Step.{Step}
+
+-- the path with this number
+abbrev pub path_at : List (List ℕ) → ℕ → List ℕ
+path_at paths n = slice_index_or paths n []
+
+-- the path of a step: that of its parent, and then its function
+abbrev pub path_by : List (List ℕ) → Step → List ℕ
+path_by paths step = path_at paths step.parent ++ step.func ∷ []
+
+-- The paths that steps make, if the steps are listed from the last one to the first. Number 0 is the empty path.
+abbrev pub paths_after : List Step → List (List ℕ)
+paths_after [] = [] ∷ []
+paths_after (step ∷ before) = paths_after before ++ path_by (paths_after before) step ∷ []
+
+-- no two numbers have the same path
+pub record AreApart (paths : List (List ℕ)) : Type 0 where
+  pub apart : (n m : ℕ) → n < length paths → m < length paths → path_at paths n ≡ path_at paths m → n ≡ m
+
+-- a path that had no number has the next number
+pub record IsFresh (path : List ℕ) (n : ℕ) (old new : List (List ℕ)) : Type 0 where
+  pub more : new ≡ old ++ path ∷ []
+  pub last : n ≡ length old
+  pub absent : (k : ℕ) → k < length old → path_at old k ≡ path → ⊥
+
+-- A path has a number. Each path that had a number still has it.
+pub record HasNumber (path : List ℕ) (n : ℕ) (old new : List (List ℕ)) : Type 0 where
+  pub is : path_at new n ≡ path
+  pub within : n < length new
+  pub grows : (new ≡ old) ⊎ IsFresh path n old new
+
+-- numbers of steps
+abbrev pub Numbers : Type 0
+Numbers = HashMap Step ℕ (BuildHasherDefault FoldHasher)
+
+abbrev pub is_step : Step → Step → Bool
+is_step step other = (step.parent == other.parent) && (step.func == other.func)
+
+-- the number that a table has for a step
+abbrev pub number_in : Numbers → Step → Option ℕ
+number_in numbers step = get is_step numbers step
+
+-- a step goes on from the path of a lower number, and makes its own path
+pub record Climbs (paths : List (List ℕ)) (i : ℕ) (step : Step) : Type 0 where
+  pub lower : step.parent ≤ i
+  pub is : path_at paths (i + 1) ≡ path_by paths step
+
+-- a table has the numbers of the steps that make the paths
+pub record AreNumbered (paths : List (List ℕ)) (steps : List Step) (numbers : Numbers) : Type 0 where
+  pub count : length paths ≡ length steps + 1
+  pub root : path_at paths 0 ≡ []
+  pub climbs : (i : ℕ) (d : Step) → i < length steps → Climbs paths i (slice_index_or steps i d)
+  pub told : (i : ℕ) (d : Step) → i < length steps → number_in numbers (slice_index_or steps i d) ≡ Some (i + 1)
+  pub found : (step : Step) (n : ℕ) → number_in numbers step ≡ Some n → (0 < n) × (n ≤ length steps) × (slice_index_or steps (n - 1) step ≡ step)
+  pub apart : AreApart paths

@@ -1,0 +1,110 @@
+-- The stacks of a trace: on which paths its functions were called, and for how long.
+use Rattle.std.specs.Prelude.{◌≡◌, ◌-◌, ◌==◌, ◌||◌, Bool, true, false, ℕ, List, [], ◌∷◌, ◌++◌, length, map, filter, reverse, take, sum_by, count_by, nat_lt, if◌then◌else◌, Option, None, Some}
+use Rattle.std.specs.List.{flat_map}
+use Rattle.std.specs.declared.cmp.Ordering.{Ordering}
+use Rattle.std.specs.Ordering.{is_eq, nat_cmp}
+use Rattle.std.specs.Cmp.Lexicographic.{slice_cmp}
+use Rattle.fdr_record.specs.declared.event.Event.{Event}
+use Rattle.fdr_file.specs.declared.trace.Block.{Block}
+use Rattle.fdr_file.specs.declared.trace.Trace.{Trace}
+use Rattle.stack_rebuild.specs.declared.call.Call.{Call}
+use Rattle.stack_rebuild.specs.declared.call.Pair.{Pair}
+use Rattle.stack_rebuild.specs.declared.stack_row.StackRow.{StackRow}
+use Rattle.stack_rebuild.specs.declared.stack_row.StackFault.{StackFault}
+use Rattle.stack_rebuild.specs.declared.stack_row.StackFault.TheVariants.{Deep, NoMemory}
+use Rattle.stack_rebuild.specs.Calls.{open_calls, pairs_of}
+use Rattle.stack_rebuild.specs.Histories.{events_of}
+use Rattle.stack_rebuild.specs.Ascending.{each_once}
+
+-- the calls that are open just before the event at a position, from the innermost to the outermost
+abbrev pub open_before : List Event → ℕ → List Call
+open_before events at = open_calls (reverse (take at events))
+
+-- the functions of calls, from the outermost to the innermost
+abbrev pub path_of : List Call → List ℕ
+path_of calls = reverse (map (λ call. call.func) calls)
+
+-- the path of a pair: the functions of the calls that are open just before its entry, and then its own
+abbrev pub pair_path : List Event → Pair → List ℕ
+pair_path events pair = path_of (open_before events pair.entry) ++ pair.func ∷ []
+
+-- whether the innermost of some calls is the one with its entry at a position
+abbrev pub is_innermost : ℕ → List Call → Bool
+is_innermost at [] = false
+is_innermost at (call ∷ outer) = call.entry == at
+
+-- the durations of the pairs that were made directly in the call with its entry at a position
+abbrev pub spent_in : List Event → ℕ → ℕ
+spent_in events at = sum_by (λ pair. if is_innermost at (open_before events pair.entry) then pair.duration else 0) (pairs_of events)
+
+-- a pair with its path: its duration, and what is left of it without its direct children, at least 0
+pub record Timed : Type 0 where
+  pub path : List ℕ
+  pub duration : ℕ
+  pub own : ℕ
+
+abbrev pub timed : List Event → Pair → Timed
+timed events pair = record { path = pair_path events pair; duration = pair.duration; own = pair.duration - spent_in events pair.entry }
+
+-- the pairs of a thread
+abbrev pub timed_in : List Event → List Timed
+timed_in events = map (timed events) (pairs_of events)
+
+-- the threads of blocks, in ascending order
+abbrev pub threads_of : List Block → List ℕ
+threads_of blocks = each_once nat_cmp (map (λ block. block.thread) blocks)
+
+-- the pairs of all threads
+abbrev pub all_timed : List Block → List Timed
+all_timed blocks = flat_map (λ thread. timed_in (events_of thread blocks)) (threads_of blocks)
+
+-- the order of paths as lists of numbers
+abbrev pub path_cmp : List ℕ → List ℕ → Ordering
+path_cmp = slice_cmp nat_cmp
+
+-- the numbers of a path: how many pairs it has, and the sums of their durations and of what is left of them
+pub record PathRow : Type 0 where
+  pub path : List ℕ
+  pub count : ℕ
+  pub sum : ℕ
+  pub own : ℕ
+
+-- whether a pair has a path
+abbrev pub has_path : List ℕ → Timed → Bool
+has_path path pair = is_eq (path_cmp pair.path path)
+
+-- the row of a path
+abbrev pub row_of : List Timed → List ℕ → PathRow
+row_of pairs path = record {
+  path = path;
+  count = count_by (has_path path) pairs;
+  sum = sum_by (λ pair. if has_path path pair then pair.duration else 0) pairs;
+  own = sum_by (λ pair. if has_path path pair then pair.own else 0) pairs;
+}
+
+-- a row for each path that has a pair, in ascending order
+abbrev pub stack_of : Trace → List PathRow
+stack_of trace = let pairs = all_timed trace.blocks in map (row_of pairs) (each_once path_cmp (map (λ pair. pair.path) pairs))
+
+-- what a row says
+abbrev pub told : StackRow → PathRow
+told row = record { path = row.path.items; count = row.count; sum = row.sum; own = row.own }
+
+-- whether after some event of a history more calls are open than a limit
+abbrev pub gets_deep : ℕ → List Event → Bool
+gets_deep limit [] = false
+gets_deep limit (e ∷ before) = nat_lt limit (length (open_calls (e ∷ before))) || gets_deep limit before
+
+-- the first item of a list
+abbrev pub first_of : List ℕ → Option ℕ
+first_of [] = None
+first_of (n ∷ ns) = Some n
+
+-- the least thread that has more calls open than a limit, after some event
+abbrev pub deep_in : ℕ → List Block → Option ℕ
+deep_in limit blocks = first_of (filter (λ thread. gets_deep limit (reverse (events_of thread blocks))) (threads_of blocks))
+
+-- a fault is want of memory, or it names this thread
+abbrev pub IsDeepFault : StackFault → Option ℕ → Type 0
+IsDeepFault NoMemory deep = Unit {0}
+IsDeepFault (Deep thread) deep = deep ≡ Some thread

@@ -1,0 +1,204 @@
+//! The text of a stack report.
+
+ghost use Rattle.std.specs.Prelude.{◌≡◌, ◌++◌, codes, map};
+ghost use Rattle.std.specs.List.{flat_map};
+ghost use Rattle.std.specs.Option.{option_map};
+ghost use Rattle.function_names.specs.Name.{name_text};
+ghost use Rattle.xray_io.specs.Piece.{piece_text, right_aligned};
+ghost use Rattle.xray_io.specs.Text.{AddsText};
+ghost use Rattle.xray_io.specs.Writes.{WritesText};
+ghost use Rattle.stack_rebuild.specs.Stacks.{told};
+ghost use Rattle.stack_rebuild.specs.StackText.{columns_text, head_text, path_text, row_text, stack_text, weight_text};
+
+use crate::stack_row::StackRow;
+use function_names::add_name;
+use xray_image::Image;
+use xray_io::{Piece, Sink, Text, WriteFault};
+
+/// The width of a column. A longer number is printed whole.
+const WIDTH: usize = 10;
+
+/// The form of printed stacks.
+#[derive(Clone, Copy, Debug, PartialEq, Eq)]
+pub enum StackForm {
+    /// For readers: a head line, and for each path the number of its pairs, the sum of their
+    /// durations, and that sum without the time in other functions.
+    Human,
+    /// For flame graphs: for each path its names, and the time in its calls without other
+    /// functions. Brendan Gregg's FlameGraph reads this.
+    Flame,
+}
+
+/// Writes stacks: a line for each row, in the order of the rows.
+///
+/// A path is the names of its functions, outermost first, joined by `;`. A function has its name in
+/// `image`, or `#` and its id if there is no name. Numbers are in cycles.
+///
+/// On `WriteFault` a prefix of the text was written, and the sink counted a fault.
+pub fn write_stack<S: Sink>(
+    rows: &[StackRow],
+    image: Option<&Image>,
+    form: StackForm,
+    sink: &mut S,
+) -> Result<(), WriteFault>
+    ensures { WritesText S.written S.faults S.along sink.old sink.new
+        (stack_text form (option_map (λ image. image.now) image.entry) (map told rows.now)) result }
+{
+    let mut text = Text::new(sink);
+    add_stack(&mut text, rows, image, form)?;
+    text.done()
+}
+
+/// Adds the whole text.
+fn add_stack<S: Sink>(
+    text: &mut Text<S>,
+    rows: &[StackRow],
+    image: Option<&Image>,
+    form: StackForm,
+) -> Result<(), WriteFault>
+    ensures { AddsText S.written S.faults S.along text.old text.new
+        (stack_text form (option_map (λ image. image.now) image.entry) (map told rows.now)) result }
+{
+    text.bytes(head_line(form))?;
+    add_rows(text, rows, image, form)
+}
+
+/// The head line.
+fn head_line(form: StackForm) -> &'static [u8]
+    ensures { result.now ≡ head_text form }
+{
+    match form {
+        StackForm::Human => b"     count        sum       self stack\n",
+        StackForm::Flame => b"",
+    }
+}
+
+/// Adds a line for each row.
+fn add_rows<S: Sink>(
+    text: &mut Text<S>,
+    rows: &[StackRow],
+    image: Option<&Image>,
+    form: StackForm,
+) -> Result<(), WriteFault>
+    ensures { AddsText S.written S.faults S.along text.old text.new
+        (flat_map (λ row. row_text form (option_map (λ image. image.now) image.entry) (told row))
+        rows.now) result }
+{
+    'rows: for row in rows {
+        add_row(text, row, image, form)?;
+    }
+    Ok(())
+}
+
+/// Adds the line of a row.
+fn add_row<S: Sink>(
+    text: &mut Text<S>,
+    row: &StackRow,
+    image: Option<&Image>,
+    form: StackForm,
+) -> Result<(), WriteFault>
+    ensures { AddsText S.written S.faults S.along text.old text.new
+        (row_text form (option_map (λ image. image.now) image.entry) (told row.now)) result }
+{
+    add_columns(text, row, form)?;
+    add_path(text, row.path.as_slice(), image)?;
+    add_weight(text, row, form)
+}
+
+/// Adds the columns before a path.
+fn add_columns<S: Sink>(
+    text: &mut Text<S>,
+    row: &StackRow,
+    form: StackForm,
+) -> Result<(), WriteFault>
+    ensures { AddsText S.written S.faults S.along text.old text.new
+        (columns_text form (told row.now)) result }
+{
+    match form {
+        StackForm::Human => text.pieces(&[
+            column(u128::from(row.count)),
+            Piece::Bytes(b" "),
+            column(row.sum),
+            Piece::Bytes(b" "),
+            column(row.own),
+            Piece::Bytes(b" "),
+        ]),
+        StackForm::Flame => text.bytes(b""),
+    }
+}
+
+/// A number, in its column.
+fn column(number: u128) -> Piece<'static>
+    ensures { piece_text result ≡ right_aligned number 10 }
+{
+    Piece::Right {
+        number,
+        width: WIDTH,
+    }
+}
+
+/// Adds what follows a path.
+fn add_weight<S: Sink>(
+    text: &mut Text<S>,
+    row: &StackRow,
+    form: StackForm,
+) -> Result<(), WriteFault>
+    ensures { AddsText S.written S.faults S.along text.old text.new
+        (weight_text form (told row.now)) result }
+{
+    match form {
+        StackForm::Human => text.bytes(b"\n"),
+        StackForm::Flame => text.pieces(&[
+            Piece::Bytes(b" "),
+            Piece::Number(row.own),
+            Piece::Bytes(b"\n"),
+        ]),
+    }
+}
+
+/// Adds the names of a path.
+fn add_path<S: Sink>(
+    text: &mut Text<S>,
+    path: &[u32],
+    image: Option<&Image>,
+) -> Result<(), WriteFault>
+    ensures { AddsText S.written S.faults S.along text.old text.new
+        (path_text (option_map (λ image. image.now) image.entry) path.now) result }
+{
+    match path {
+        [] => text.bytes(b""),
+        [outermost, inner @ ..] => {
+            add_name(text, image, *outermost)?;
+            add_inner(text, inner, image)
+        }
+    }
+}
+
+/// Adds the names of a path's functions after the first one.
+fn add_inner<S: Sink>(
+    text: &mut Text<S>,
+    inner: &[u32],
+    image: Option<&Image>,
+) -> Result<(), WriteFault>
+    ensures { AddsText S.written S.faults S.along text.old text.new
+        (flat_map (λ f. codes ";" ++ name_text (option_map (λ image. image.now) image.entry) f)
+        inner.now) result }
+{
+    'inner: for func in inner {
+        add_behind(text, *func, image)?;
+    }
+    Ok(())
+}
+
+/// Adds a name after others.
+fn add_behind<S: Sink>(
+    text: &mut Text<S>,
+    func: u32,
+    image: Option<&Image>,
+) -> Result<(), WriteFault>
+    ensures { AddsText S.written S.faults S.along text.old text.new
+        (codes ";" ++ name_text (option_map (λ image. image.now) image.entry) func) result }
+{
+    text.bytes(b";")?;
+    add_name(text, image, func)
+}

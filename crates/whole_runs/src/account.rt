@@ -1,0 +1,224 @@
+//! `account`: its options, the names of functions, and each refusal.
+use crate::asm::FIBONACCI;
+use crate::runs::{IMAGE, Run, run_words};
+use crate::sim::TRACED;
+use crate::trace_bytes::{
+    CPU, ENTRY, EXIT, EXTENTS_72, EXTENTS_80, HEADER, ONE_CALL, ONE_EXIT, PREAMBLE, RECURSION,
+    TWO_FUNCTIONS, file,
+};
+use std::alloc::Global;
+use std::process::Abort;
+use std::test::Fail;
+use xray_io::MemDesk;
+
+/// A desk that holds a trace as `t` and an image as `i`.
+fn trace_desk(alloc: Global, trace: &[u8], image: &[u8]) -> Result<MemDesk, Fail> {
+    let mut desk = MemDesk::new(alloc, Vec::new(alloc));
+    desk.put("t", trace)?;
+    desk.put("i", image)?;
+    Ok(desk)
+}
+
+/// Checks that a run stopped with a status and a line on err, and printed nothing.
+fn assert_stopped<R: Abort>(rt: &R, run: &Run, status: u8, line: &str) {
+    assert_eq!(rt; run.err.as_str(), line);
+    assert_eq!(rt; run.status, status, "{line}");
+    assert_eq!(rt; run.out.as_str(), "", "{line}");
+}
+
+const TEXT_OF_NONE: &str =
+    "Functions with latencies: 0\n    funcid      count        min        med        \
+    90p        99p        max        sum    entries      exits function\n";
+
+const TEXT_OF_ONE_CALL: &str =
+    "Functions with latencies: 1\n    funcid      count        min        med        \
+    90p        99p        max        sum    entries      exits function\n         1          1          \
+    2          2          2          2          2          2          0          0 main\n";
+
+const TEXT_OF_NO_ROWS: &str =
+    "Functions with latencies: 2\n    funcid      count        min        med        \
+    90p        99p        max        sum    entries      exits function\n";
+
+const CSV_OF_ONE_EXIT: &str = "funcid,count,min,med,90p,99p,max,sum,entries,exits,function\n\
+    1,0,-,-,-,-,-,-,0,1,main\n";
+
+const CSV_OF_RECURSION: &str = "funcid,count,min,med,90p,99p,max,sum,entries,exits,function\n\
+    1,2,10,35,35,35,35,45,1,0,#1\n";
+
+const CSV_OF_ONE_NAME: &str = "funcid,count,min,med,90p,99p,max,sum,entries,exits,function\n\
+    1,1,5,5,5,5,5,5,0,0,main\n2,1,1,1,1,1,1,1,0,0,#2\n";
+
+const CSV_OF_THE_SLOWEST: &str = "funcid,count,min,med,90p,99p,max,sum,entries,exits,function\n\
+    1,1,5,5,5,5,5,5,0,0,#1\n";
+
+#[test]
+fn an_account_is_printed_as_its_words_ask(rt: HostRuntime) -> Result<(), Fail> {
+    for (parts, words, text) in [
+        (&[HEADER][..], &["account", "t"][..], TEXT_OF_NONE),
+        (&ONE_CALL, &["account", "t", "i"], TEXT_OF_ONE_CALL),
+        (
+            &ONE_EXIT,
+            &["account", "t", "i", "--format", "csv"],
+            CSV_OF_ONE_EXIT,
+        ),
+        (
+            &RECURSION,
+            &["account", "--format=csv", "t"],
+            CSV_OF_RECURSION,
+        ),
+        (
+            &TWO_FUNCTIONS,
+            &["account", "t", "i", "--format", "csv", "--sort", "funcid"],
+            CSV_OF_ONE_NAME,
+        ),
+        (
+            &TWO_FUNCTIONS,
+            &[
+                "account",
+                "t",
+                "--top",
+                "1",
+                "--sort=99p",
+                "--sortorder=desc",
+                "--format=csv",
+            ],
+            CSV_OF_THE_SLOWEST,
+        ),
+        (
+            &TWO_FUNCTIONS,
+            &["account", "t", "i", "--top", "0"],
+            TEXT_OF_NO_ROWS,
+        ),
+    ] {
+        let trace = file(rt.alloc(), parts)?;
+        let mut desk = trace_desk(rt.alloc(), &trace, &IMAGE)?;
+        let run = run_words(&rt, words, &mut desk, &[], &[])?;
+        assert_eq!(rt; run.err.as_str(), "");
+        assert_eq!(rt; run.status, 0);
+        assert_eq!(rt; run.out.as_str(), text);
+    }
+    Ok(())
+}
+
+const CSV_OF_FIBONACCI: &str = "funcid,count,min,med,90p,99p,max,sum,entries,exits,function\n\
+    1,87564,3,7,142,1719,213128,11532192,0,0,fib\n";
+
+/// Four threads make 43,782 passings each. With buffers for all of their events each call is a pair.
+#[test]
+fn four_threads_of_a_recursive_function_are_accounted(rt: HostRuntime) -> Result<(), Fail> {
+    let mut desk = trace_desk(rt.alloc(), b"", b"")?;
+    desk.put("x", FIBONACCI.as_bytes())?;
+    desk.put("s", TRACED.as_bytes())?;
+    desk.put("c", b"")?;
+    for words in [
+        &["asm", "x", "i"][..],
+        &["sim", "i", "s", "c", "t", "a", "--threads", "4"],
+        &[
+            "sim",
+            "i",
+            "s",
+            "c",
+            "u",
+            "b",
+            "--threads=4",
+            "--buffer-max=64",
+        ],
+    ] {
+        let run = run_words(&rt, words, &mut desk, &[], &[])?;
+        assert_eq!(rt; run.status, 0);
+    }
+    assert_eq!(rt; desk.get("t").ok_or("no trace")?.len(), 1_408_096);
+    assert_eq!(rt; desk.get("u").ok_or("no trace")?.len(), 1_014_496);
+    let words = ["account", "t", "i", "--format", "csv"];
+    let run = run_words(&rt, &words, &mut desk, &[], &[])?;
+    assert_eq!(rt; run.status, 0);
+    assert_eq!(rt; run.out.as_str(), CSV_OF_FIBONACCI);
+    Ok(())
+}
+
+/// How many bytes the longest name has.
+const LONGEST_NAME: usize = 255;
+
+#[test]
+fn the_longest_name_is_printed_whole(rt: HostRuntime) -> Result<(), Fail> {
+    let alloc = rt.alloc();
+    let mut name = Vec::new(alloc);
+    name.resize(LONGEST_NAME, b'n')?;
+    let text = file(alloc, &[b"fn ", &name, b" always\nret\n"])?;
+    let mut desk = trace_desk(alloc, &file(alloc, &ONE_CALL)?, b"")?;
+    desk.put("a", &text)?;
+    assert_eq!(rt;
+        run_words(&rt, &["asm", "a", "i"], &mut desk, &[], &[])?.status,
+        0
+    );
+    let words = ["account", "t", "i", "--format", "csv"];
+    let run = run_words(&rt, &words, &mut desk, &[], &[])?;
+    assert_eq!(rt; run.status, 0);
+    let head = b"funcid,count,min,med,90p,99p,max,sum,entries,exits,function\n";
+    let line = file(alloc, &[head, b"1,1,2,2,2,2,2,2,0,0,", &name, b"\n"])?;
+    assert_eq!(rt; run.out.as_str().as_bytes(), line.as_slice());
+    Ok(())
+}
+
+#[test]
+fn what_is_no_trace_leaves_nothing_on_out(rt: HostRuntime) -> Result<(), Fail> {
+    for (parts, line) in [
+        (&[&HEADER[..31]][..], "xray: t: trace Short 0\n"),
+        (&[b"\x02\0", &HEADER[2..]], "xray: t: trace Version 2\n"),
+        (&[b"\x03\0\0\0", &HEADER[4..]], "xray: t: trace Form 0\n"),
+        (&[HEADER, &EXTENTS_80[..8]], "xray: t: trace Short 32\n"),
+        (&[HEADER, EXTENTS_80, PREAMBLE], "xray: t: trace Short 32\n"),
+        (&[HEADER, PREAMBLE], "xray: t: trace Order 32\n"),
+        (
+            &[HEADER, EXTENTS_80, CPU, CPU, CPU, CPU, CPU],
+            "xray: t: trace Order 48\n",
+        ),
+        (
+            &[HEADER, b"\x0F\x2F\0\0\0\0\0\0\0\0\0\0\0\0\0\0"],
+            "xray: t: trace Extents 32\n",
+        ),
+        (
+            &[HEADER, b"\x06\0\0\0\0\0\0\0", EXIT],
+            "xray: t: trace Bad 32 Action 3\n",
+        ),
+        (
+            &[HEADER, EXTENTS_72, PREAMBLE, b"\x11\0\0\0\0\0\0\0", CPU],
+            "xray: t: trace Bad 96 Kind 8\n",
+        ),
+        (
+            &[HEADER, EXTENTS_72, PREAMBLE, ENTRY, CPU],
+            "xray: t: trace NoBase 96\n",
+        ),
+    ] {
+        let trace = file(rt.alloc(), parts)?;
+        let mut desk = trace_desk(rt.alloc(), &trace, &IMAGE)?;
+        let run = run_words(&rt, &["account", "t", "i"], &mut desk, &[], &[])?;
+        assert_stopped(&rt, &run, 2, line);
+    }
+    Ok(())
+}
+
+#[test]
+fn an_image_is_refused_after_the_trace_and_a_bad_line_before_it(
+    rt: HostRuntime,
+) -> Result<(), Fail> {
+    let trace = file(rt.alloc(), &ONE_CALL)?;
+    for (words, status, line) in [
+        (&["account", "t", "i"][..], 2, "xray: i: image Short\n"),
+        (&["account", "i", "i"], 2, "xray: i: trace Version 21080\n"),
+        (&["account", "t", "m"], 3, "xray: m: read fault\n"),
+        (&["account", "m", "i"], 3, "xray: m: read fault\n"),
+        (&["account", "t", "i", "t"], 1, "xray: bad command line\n"),
+        (&["account"], 1, "xray: bad command line\n"),
+        (
+            &["account", "t", "--sort", "name"],
+            1,
+            "xray: bad command line\n",
+        ),
+    ] {
+        let mut desk = trace_desk(rt.alloc(), &trace, &IMAGE[..63])?;
+        let run = run_words(&rt, words, &mut desk, &[], &[])?;
+        assert_stopped(&rt, &run, status, line);
+    }
+    Ok(())
+}

@@ -1,0 +1,100 @@
+//! `stack` and `convert`: their texts, their options, and a trace whose calls go too deep.
+use crate::runs::{IMAGE, run_words};
+use crate::trace_bytes::{CPU, ENTRY, HEADER, ONE_CALL, PREAMBLE, RECURSION, file};
+use std::alloc::Global;
+use std::test::Fail;
+use xray_io::MemDesk;
+
+/// A desk that holds a trace as `t` and an image as `i`.
+fn trace_desk(alloc: Global, trace: &[u8]) -> Result<MemDesk, Fail> {
+    let mut desk = MemDesk::new(alloc, Vec::new(alloc));
+    desk.put("t", trace)?;
+    desk.put("i", &IMAGE)?;
+    Ok(desk)
+}
+
+const TEXT_OF_ONE_CALL: &str =
+    "     count        sum       self stack\n         1          2          2 main\n";
+
+const YAML_OF_NONE: &str = "---\nheader:\n  version: 3\n  type: 1\n  constant-tsc: true\n  \
+    nonstop-tsc: true\n  cycle-frequency: 0\nrecords: []\n...\n";
+
+const YAML_OF_ONE_CALL: &str = "---\nheader:\n  version: 3\n  type: 1\n  constant-tsc: true\n  \
+    nonstop-tsc: true\n  cycle-frequency: 0\nrecords:\n  \
+    - { type: 0, func-id: 1, function: 'main', cpu: 0, thread: 1, process: 1, kind: function-enter, tsc: 0 }\n  \
+    - { type: 0, func-id: 1, function: 'main', cpu: 0, thread: 1, process: 1, kind: function-exit, tsc: 2 }\n...\n";
+
+const BAD_LINE: &str = "xray: bad command line\n";
+
+#[test]
+fn a_trace_is_printed_as_its_words_ask(rt: HostRuntime) -> Result<(), Fail> {
+    let alloc = rt.alloc();
+    for (parts, words, text) in [
+        (&ONE_CALL[..], &["stack", "t", "i"][..], TEXT_OF_ONE_CALL),
+        (
+            &RECURSION,
+            &["stack", "t", "--format=flame"],
+            "#1;#1 25\n#1;#1;#1 10\n",
+        ),
+        (&[HEADER], &["stack", "--format", "flame", "t"], ""),
+        (&ONE_CALL, &["convert", "t", "i"], YAML_OF_ONE_CALL),
+        (
+            &[HEADER],
+            &["convert", "t", "--format", "yaml"],
+            YAML_OF_NONE,
+        ),
+    ] {
+        let mut desk = trace_desk(alloc, &file(alloc, parts)?)?;
+        let run = run_words(&rt, words, &mut desk, &[], &[])?;
+        assert_eq!(rt; run.err.as_str(), "");
+        assert_eq!(rt; run.status, 0);
+        assert_eq!(rt; run.out.as_str(), text);
+    }
+    Ok(())
+}
+
+#[test]
+fn options_come_once_and_have_known_words(rt: HostRuntime) -> Result<(), Fail> {
+    let alloc = rt.alloc();
+    for words in [
+        &["stack", "t", "--format", "yaml"][..],
+        &["stack", "t", "--format=flame", "--format=flame"],
+        &["stack", "t", "i", "i"],
+        &["convert", "t", "--format", "flame"],
+        &["convert", "t", "--format=yaml", "--format", "yaml"],
+        &["convert"],
+    ] {
+        let mut desk = trace_desk(alloc, &file(alloc, &ONE_CALL)?)?;
+        let run = run_words(&rt, words, &mut desk, &[], &[])?;
+        assert_eq!(rt; run.err.as_str(), BAD_LINE);
+        assert_eq!(rt; run.status, 1);
+        assert_eq!(rt; run.out.as_str(), "");
+    }
+    Ok(())
+}
+
+#[test]
+fn more_open_calls_than_are_followed_are_refused(rt: HostRuntime) -> Result<(), Fail> {
+    let alloc = rt.alloc();
+    for (extents, count, status, line) in [
+        (b"\x0F\x40\x80\0\0\0\0\0\0\0\0\0\0\0\0\0", 4096, 0, ""),
+        (
+            b"\x0F\x48\x80\0\0\0\0\0\0\0\0\0\0\0\0\0",
+            4097,
+            2,
+            "xray: t: trace Deep 1\n",
+        ),
+    ] {
+        let mut trace = file(alloc, &[HEADER, &extents[..], PREAMBLE, CPU])?;
+        for _ in 0..count {
+            trace.extend_from_slice(ENTRY)?;
+        }
+        let mut desk = trace_desk(alloc, &trace)?;
+        let words = ["stack", "t", "--format", "flame"];
+        let run = run_words(&rt, &words, &mut desk, &[], &[])?;
+        assert_eq!(rt; run.err.as_str(), line);
+        assert_eq!(rt; run.status, status);
+        assert_eq!(rt; run.out.as_str(), "");
+    }
+    Ok(())
+}

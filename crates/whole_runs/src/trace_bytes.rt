@@ -1,0 +1,72 @@
+//! Traces, put together from their parts.
+use std::alloc::Global;
+use std::test::Fail;
+
+/// A header with a constant and nonstop counter, and with buffers of 16,384 bytes.
+pub const HEADER: &[u8] =
+    b"\x03\0\x01\0\x03\0\0\0\0\0\0\0\0\0\0\0\0\x40\0\0\0\0\0\0\0\0\0\0\0\0\0\0";
+
+/// Extents of 72, 80, 104 and 120 bytes.
+pub const EXTENTS_72: &[u8] = b"\x0F\x48\0\0\0\0\0\0\0\0\0\0\0\0\0\0";
+
+pub const EXTENTS_80: &[u8] = b"\x0F\x50\0\0\0\0\0\0\0\0\0\0\0\0\0\0";
+
+pub const EXTENTS_104: &[u8] = b"\x0F\x68\0\0\0\0\0\0\0\0\0\0\0\0\0\0";
+
+/// Thread 1, the wall time 0, and process 1.
+pub const PREAMBLE: &[u8] = b"\x01\x01\0\0\0\0\0\0\0\0\0\0\0\0\0\0\
+    \x09\0\0\0\0\0\0\0\0\0\0\0\0\0\0\0\
+    \x13\x01\0\0\0\0\0\0\0\0\0\0\0\0\0\0";
+
+/// CPU 0 at counters 0 and 2.
+pub const CPU: &[u8] = b"\x05\0\0\0\0\0\0\0\0\0\0\0\0\0\0\0";
+
+pub const CPU_AT_2: &[u8] = b"\x05\0\0\x02\0\0\0\0\0\0\0\0\0\0\0\0";
+
+/// An entry of function 1, and exits of it 0 and 2 cycles on.
+pub const ENTRY: &[u8] = b"\x10\0\0\0\0\0\0\0";
+
+pub const EXIT: &[u8] = b"\x12\0\0\0\0\0\0\0";
+
+pub const EXIT_AFTER_2: &[u8] = b"\x12\0\0\0\x02\0\0\0";
+
+/// A file of one block. Function 1 is called once, for 2 cycles.
+pub const ONE_CALL: [&[u8]; 6] = [HEADER, EXTENTS_80, PREAMBLE, CPU, ENTRY, EXIT_AFTER_2];
+
+/// A file of one block, with only an exit of function 1.
+pub const ONE_EXIT: [&[u8]; 5] = [HEADER, EXTENTS_72, PREAMBLE, CPU_AT_2, EXIT];
+
+/// A file of one block. Function 1 calls itself twice, and the outermost call doesn't end. Its
+/// durations are 10 and 35.
+pub const RECURSION: [&[u8]; 9] = [
+    HEADER,
+    EXTENTS_104,
+    PREAMBLE,
+    CPU,
+    ENTRY,
+    b"\x10\0\0\0\x0A\0\0\0",
+    b"\x10\0\0\0\x0A\0\0\0",
+    b"\x12\0\0\0\x0A\0\0\0",
+    b"\x12\0\0\0\x0F\0\0\0",
+];
+
+/// A file of one block. Function 2 is called for 1 cycle, and function 1 for 5.
+pub const TWO_FUNCTIONS: [&[u8]; 8] = [
+    HEADER,
+    b"\x0F\x60\0\0\0\0\0\0\0\0\0\0\0\0\0\0",
+    PREAMBLE,
+    CPU,
+    b"\x20\0\0\0\0\0\0\0",
+    b"\x22\0\0\0\x01\0\0\0",
+    ENTRY,
+    b"\x12\0\0\0\x05\0\0\0",
+];
+
+/// The bytes of parts, one after the other.
+pub fn file(alloc: Global, parts: &[&[u8]]) -> Result<Vec<u8>, Fail> {
+    let mut bytes = Vec::new(alloc);
+    for part in parts {
+        bytes.extend_from_slice(part)?;
+    }
+    Ok(bytes)
+}

@@ -1,0 +1,154 @@
+-- The inputs of a report: their turns, the calls that these make, and what comes of them.
+use Rattle.std.specs.Prelude.{IsErrAnd}
+use Rattle.std.proofs.Common.{◌≡◌, ◌++◌, ◌∙◌, ◌≤◌, ℕ, List, [], ◌∷◌, Option, Some, None, Result, Ok, Err, inl, inr, refl, sym, ap, subst, le_refl}
+use Rattle.std.specs.Prelude.{codes}
+use Rattle.std.proofs.lemmas.List.{append-nil}
+use Rattle.fdr_file.specs.declared.trace.Trace.{Trace}
+use Rattle.fdr_file.specs.Traces.{trace_of}
+use Rattle.trace_words.specs.TraceWords.{trace_words}
+use Rattle.xray_image.specs.Program.{Program}
+use Rattle.xray_io.specs.Calls.{Call, Composes, Went, went_on}
+use Rattle.xray_io.specs.Desk.{Entry}
+use Rattle.xray_io.specs.World.{DeskView}
+use Rattle.xray_program.specs.Commands.{TellsAll}
+use Rattle.xray_program.specs.Inputs.{image_form, trace_form}
+use Rattle.xray_program.specs.Order.{ReadsAll}
+use Rattle.xray_program.specs.Outcomes.{Outcome, Unread}
+use Rattle.xray_program.specs.Reports.{TakeReport, report_inputs}
+use Rattle.xray_program.specs.ReportTakes.{ImageTurn, IsReportTaken, StopsReport}
+use Rattle.xray_program.specs.Takes.{AreTaken, AreTakings, Gives, IsMaybeTaken, IsMaybeTaking, IsTaken}
+use Rattle.xray_program.specs.Taking.{DeskReads, Faulty, Form, Sound, Take, TakeMaybe}
+use Rattle.xray_program.specs.declared.report_inputs.ReportInputs.{ReportInputs}
+use Rattle.xray_program.specs.declared.stop.Stop.{Stop}
+use Rattle.xray_program.proofs.Meanings.{HoldsBytes, IsAlone, IsDecided, IsJudged, SomeOutcome, decided_by, judged_by, maybe_alone, some_maybe, some_take, take_alone}
+use Rattle.xray_program.proofs.Ordering.{read_on, stop_handed}
+use Rattle.xray_program.proofs.Turns.{Leads, leads, leads_on, maybe_leads_on, maybe_stops_at, stops_at, turn_came}
+
+-- ---- the turns
+
+-- what comes of the trace, and what follows, comes of the report
+to_image : (held : List ℕ → Entry) (trace : List ℕ) (image : Option (List ℕ)) (next : Trace → Option Program → Outcome → Type 0) (t : Trace)
+    → Gives trace_form (held trace) t
+    → Leads (λ reads. TakeReport reads held trace image next) (λ reads. TakeMaybe image_form reads held image (λ program. next t program))
+to_image held trace image next t given =
+    leads_on trace_form (λ reads. TakeReport reads held trace image next) held trace
+    (λ reads t. TakeMaybe image_form reads held image (λ program. next t program)) t (leads (λ reads. TakeReport reads held trace image next)) given
+
+-- whatever follows the inputs comes of them
+pub report_taken : (trace : List ℕ) (image : Option (List ℕ)) (next : Trace → Option Program → Outcome → Type 0) (before after : DeskView)
+    (result : Result ReportInputs Stop) → IsReportTaken trace image before after result
+    → AreTaken (λ reads. TakeReport reads before.held trace image next) (λ inputs. next inputs.trace inputs.image) before after result
+report_taken trace image next before after (Ok inputs) (given, turn) = λ reads outcome is.
+    maybe_leads_on image_form (λ reads. TakeReport reads before.held trace image next) before turn.mid after image (λ reads program. next inputs.trace program)
+    inputs.image (to_image before.held trace image next inputs.trace given) turn.same turn.taken reads outcome is
+report_taken trace image next before after (Err stop) (inl taken) =
+    stops_at trace_form (λ reads. TakeReport reads before.held trace image next) before before after trace
+    (λ reads t. TakeMaybe image_form reads before.held image (λ program. next t program)) stop
+    (leads (λ reads. TakeReport reads before.held trace image next)) refl (le_refl _) taken
+report_taken trace image next before after (Err stop) (inr (t, given, turn)) =
+    maybe_stops_at image_form (λ reads. TakeReport reads before.held trace image next) before turn.mid after image (λ reads program. next t program) stop
+    (to_image before.held trace image next t given) turn.same turn.later turn.taken
+
+-- the stop that a `?` passes on
+pub stop_of_trace : (trace : List ℕ) (image : Option (List ℕ)) (before after : DeskView) (result : Result ReportInputs Stop) (stop : Stop)
+    → IsErrAnd result (λ s. s ≡ stop) → IsTaken trace_form trace before after (Err stop) → IsReportTaken trace image before after result
+stop_of_trace trace image before after (Ok inputs) stop is taken = absurd is
+stop_of_trace trace image before after (Err s) stop is taken = inl (rw is taken)
+
+pub stop_of_image : (trace : List ℕ) (image : Option (List ℕ)) (before mid after : DeskView) (t : Trace) (result : Result ReportInputs Stop) (stop : Stop)
+    → IsErrAnd result (λ s. s ≡ stop) → mid.held ≡ before.held → before.read_faults ≤ mid.read_faults → Gives trace_form (before.held trace) t
+    → IsMaybeTaken image_form image mid after (Err stop) → IsReportTaken trace image before after result
+stop_of_image trace image before mid after t (Ok inputs) stop is same later given taken = absurd is
+stop_of_image trace image before mid after t (Err s) stop is same later given taken =
+    inr (t, given, record { mid = mid; same = same; later = later; taken = rw is taken })
+
+-- ---- the calls
+
+-- the image was read whole, or there is none
+pub image_read : {S X : Type 0} (along : S → S → List Call → Type 0) → Composes along → (first second third : S) (trace : List ℕ) (image : Option (List ℕ))
+    (value : X) → Went (along first second) (ReadsAll ((trace, 67108864) ∷ []))
+    → (let result : Result X Stop = Ok value in Went (along second third) (IsMaybeTaking image 4194304 result))
+    → Went (along first third) (ReadsAll (report_inputs trace image))
+image_read along both first second third trace None value went then =
+    went_on along both first second third (ReadsAll ((trace, 67108864) ∷ [])) (λ calls. calls ≡ []) (ReadsAll (report_inputs trace None)) went then
+    (λ calls later p none. subst (ReadsAll (report_inputs trace None)) (sym (ap (λ (l : List Call). calls ++ l) none ∙ append-nil calls)) p)
+image_read along both first second third trace (Some image) value went then =
+    read_on along both first second third ((trace, 67108864) ∷ []) image 4194304 went then
+
+-- the turn of the trace had come; and that of the image
+pub trace_came : (held : List ℕ → Entry) (trace : List ℕ) (image : Option (List ℕ)) → StopsReport Faulty held trace image (Unread trace)
+trace_came held trace image =
+    turn_came trace_form (λ reads. StopsReport reads held trace image) held trace
+    (λ reads t. TakeMaybe image_form reads held image (λ program outcome. ⊥)) (leads (λ reads. StopsReport reads held trace image))
+
+image_came : (held : List ℕ → Entry) (trace image : List ℕ) (t : Trace) → Gives trace_form (held trace) t
+    → StopsReport Faulty held trace (Some image) (Unread image)
+image_came held trace image t given =
+    turn_came image_form (λ reads. StopsReport reads held trace (Some image)) held image (λ reads program outcome. ⊥)
+    (to_image held trace (Some image) (λ t program outcome. ⊥) t given)
+
+-- the image was a stop
+pub image_stopped : {S Y : Type 0} (along : S → S → List Call → Type 0) → Composes along → (first second third : S) (before after : DeskView)
+    (held : List ℕ → Entry) (trace : List ℕ) (image : Option (List ℕ)) (t : Trace) → Gives trace_form (held trace) t
+    → (result : Result Y Stop) (stop : Stop) → IsErrAnd result (λ s. s ≡ stop)
+    → IsMaybeTaken image_form image before after (Err stop) → Went (along first second) (ReadsAll ((trace, 67108864) ∷ []))
+    → (let taken : Result (Option Program) Stop = Err stop in Went (along second third) (IsMaybeTaking image 4194304 taken))
+    → Went (along first third) (AreTakings (λ reads. StopsReport reads held trace image) (report_inputs trace image) result)
+image_stopped along both first second third before after held trace None t given result stop is taken went then = absurd (never taken)
+  where
+    never : (let one : Result (Option Program) Stop = Err stop in let other : Result (Option Program) Stop = Ok None in one ≡ other) → ⊥
+    never e = cc
+image_stopped along both first second third before after held trace (Some image) t given result stop is taken went then =
+    stop_handed along both first second third image_form before after (report_inputs trace (Some image)) ((trace, 67108864) ∷ []) [] image result stop
+    (λ reads. StopsReport reads held trace (Some image)) (image_came held trace image t given) is refl taken went then
+
+-- what comes if a turn fails comes whatever follows the inputs
+take_more : {X : Type 0} (form : Form X) (reads : DeskReads) (held : List ℕ → Entry) (name : List ℕ) (less more : X → Outcome → Type 0)
+    → ((value : X) (outcome : Outcome) → less value outcome → more value outcome) → (outcome : Outcome)
+    → Take form reads held name less outcome → Take form reads held name more outcome
+take_more form reads held name less more goes outcome (inl gone) = inl gone
+take_more form reads held name less more goes outcome (inr (bytes, may, inl long)) = inr (bytes, may, inl long)
+take_more form reads held name less more goes outcome (inr (bytes, may, inr (within, inl refused))) = inr (bytes, may, inr (within, inl refused))
+take_more form reads held name less more goes outcome (inr (bytes, may, inr (within, inr (value, read, is)))) =
+    inr (bytes, may, inr (within, inr (value, read, goes value outcome is)))
+
+maybe_more : (reads : DeskReads) (held : List ℕ → Entry) (image : Option (List ℕ)) (more : Option Program → Outcome → Type 0) (outcome : Outcome)
+    → TakeMaybe image_form reads held image (λ program outcome. ⊥) outcome → TakeMaybe image_form reads held image more outcome
+maybe_more reads held None more outcome is = absurd is
+maybe_more reads held (Some image) more outcome is =
+    take_more image_form reads held image (λ program outcome. ⊥) (λ program. more (Some program)) (λ program other never. absurd never) outcome is
+
+stops_too : (reads : DeskReads) (held : List ℕ → Entry) (trace : List ℕ) (image : Option (List ℕ)) (next : Trace → Option Program → Outcome → Type 0)
+    (outcome : Outcome) → StopsReport reads held trace image outcome → TakeReport reads held trace image next outcome
+stops_too reads held trace image next outcome is =
+    take_more trace_form reads held trace (λ t. TakeMaybe image_form reads held image (λ program other. ⊥))
+    (λ t. TakeMaybe image_form reads held image (λ program. next t program)) (λ t other. maybe_more reads held image (next t) other) outcome is
+
+pub report_takings : (held : List ℕ → Entry) (trace : List ℕ) (image : Option (List ℕ)) (next : Trace → Option Program → Outcome → Type 0)
+    (Way : List Call → Type 0) (result : Result ReportInputs Stop)
+    → Went Way (AreTakings (λ reads. StopsReport reads held trace image) (report_inputs trace image) result)
+    → Went Way (AreTakings (λ reads. TakeReport reads held trace image next) (report_inputs trace image) result)
+report_takings held trace image next Way (Ok inputs) went = went
+report_takings held trace image next Way (Err stop) went = record {
+  calls = went.calls;
+  way = went.way;
+  are = (went.are.0, went.are.1, stops_too Faulty held trace image next (Unread went.are.0) went.are.2, went.are.3);
+}
+
+-- ---- what comes of a report
+
+pub report_alone : IsDecided image_form → (Sort : Outcome → Type 0) (held : List ℕ → Entry) (trace : List ℕ) (image : Option (List ℕ))
+    (next : Trace → Option Program → Outcome → Type 0) → TellsAll held → ((t : Trace) (program : Option Program) → IsAlone Sort (next t program))
+    → IsAlone Sort (TakeReport Sound held trace image next)
+report_alone is Sort held trace image next told one =
+    take_alone trace_form (decided_by (codes "trace") 67108864 trace_of trace_words) Sort held trace
+    (λ t. TakeMaybe image_form Sound held image (λ program. next t program)) (told trace) (λ _ t _.
+    maybe_alone image_form is Sort held image (λ program. next t program) told (one t None) (λ _ program _. one t (Some program)))
+
+pub report_some : IsJudged image_form → (held : List ℕ → Entry) (trace : List ℕ) (image : Option (List ℕ))
+    (next : Trace → Option Program → Outcome → Type 0) → TellsAll held → HoldsBytes held
+    → ((t : Trace) (program : Option Program) → SomeOutcome (next t program)) → SomeOutcome (TakeReport Sound held trace image next)
+report_some is held trace image next told holds some =
+    some_take trace_form (judged_by (codes "trace") 67108864 trace_of trace_words) held trace
+    (λ t. TakeMaybe image_form Sound held image (λ program. next t program)) (told trace) holds (λ _ t _.
+    some_maybe image_form is held image (λ program. next t program) told holds (some t None) (λ _ program _. some t (Some program)))

@@ -1,0 +1,40 @@
+-- `stack`: one thing comes of it, and something in any case.
+use Rattle.std.proofs.Common.{◌≡◌, ◌∙◌, ℕ, List, [], Option, None, option_map, refl, sym, codes}
+use Rattle.command_words.specs.declared.report_options.StackFormat.{StackFormat}
+use Rattle.fdr_file.specs.declared.trace.Trace.{Trace}
+use Rattle.stack_rebuild.specs.FaultWords.{deep_words}
+use Rattle.stack_rebuild.specs.Stacks.{deep_in, stack_of}
+use Rattle.stack_rebuild.specs.StackText.{stack_text}
+use Rattle.stack_rebuild.specs.declared.scan.TheConstants.{MOST_OPEN}
+use Rattle.xray_image.specs.Program.{Program}
+use Rattle.xray_io.specs.Desk.{Entry}
+use Rattle.xray_program.specs.Commands.{TellsAll}
+use Rattle.xray_program.specs.Inputs.{image_form}
+use Rattle.xray_program.specs.Outcomes.{Outcome, Done}
+use Rattle.xray_program.specs.Stack.{StackComes, StacksCome, form_of}
+use Rattle.xray_program.specs.Taking.{Sound}
+use Rattle.xray_program.proofs.Meanings.{AnyOutcome, HoldsBytes, IsAlone, IsDecided, IsJudged, SomeOutcome, refuse_alone, some_refuse}
+use Rattle.xray_program.proofs.Reports.{report_alone, report_some}
+
+abbrev reason : Trace → Option (List ℕ)
+reason t = option_map deep_words (deep_in MOST_OPEN t.blocks)
+
+abbrev printed : StackFormat → Trace → Option Program → Outcome → Type 0
+printed format t program outcome = outcome ≡ Done [] (stack_text (form_of format) program (stack_of t))
+
+pub stack_alone : IsDecided image_form → (held : List ℕ → Entry) (trace : List ℕ) (image : Option (List ℕ)) (format : StackFormat)
+    → TellsAll held → IsAlone AnyOutcome (StackComes Sound held trace image format)
+stack_alone is held trace image format told =
+    report_alone is AnyOutcome held trace image (λ t program. StacksCome trace format t program) told
+    (λ t program. refuse_alone AnyOutcome (reason t) trace (codes "trace") (printed format t program) (λ a b sort x y. y ∙ sym x))
+
+pub stack_some : IsJudged image_form → (held : List ℕ → Entry) (trace : List ℕ) (image : Option (List ℕ)) (format : StackFormat)
+    → TellsAll held → HoldsBytes held → SomeOutcome (StackComes Sound held trace image format)
+stack_some is held trace image format told holds =
+    report_some is held trace image (λ t program. StacksCome trace format t program) told holds
+    (λ t program. some_refuse (reason t) trace (codes "trace") (printed format t program) (λ none. (Done [] (stack_text (form_of format) program (stack_of t)), refl)))
+
+-- if no thread has too many calls open, its stacks come
+pub stack_prints : (trace : List ℕ) (format : StackFormat) (t : Trace) (program : Option Program) (outcome : Outcome)
+    → deep_in MOST_OPEN t.blocks ≡ None → printed format t program outcome → StacksCome trace format t program outcome
+stack_prints trace format t program outcome shallow is = rw shallow is

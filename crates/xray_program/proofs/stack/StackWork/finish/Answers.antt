@@ -1,0 +1,29 @@
+use Rattle.std.proofs.Common.{◌≡◌, ◌∙◌, ℕ, List, [], None, Option, map, option_map, ap}
+use Rattle.stack_rebuild.specs.declared.stack_row.StackRow.{StackRow}
+use Rattle.stack_rebuild.specs.declared.stack_text.StackForm.{StackForm}
+use Rattle.stack_rebuild.specs.Stacks.{PathRow, stack_of, told}
+use Rattle.stack_rebuild.specs.StackText.{stack_text}
+use Rattle.xray_image.specs.Program.{Program}
+use Rattle.xray_io.specs.World.{desk_view, sink_view}
+use Rattle.xray_program.specs.Outcomes.{Done}
+use Rattle.xray_program.specs.Stack.{StacksCome, form_of}
+use Rattle.xray_program.proofs.Endings.{finishes}
+use Rattle.xray_program.proofs.StackLaws.{stack_prints}
+use Rattle.xray_program.proofs.stack.StackWork.finish.Goals as goal
+
+pub returns-in-Ok-clause-finishes : goal.returns-in-Ok-clause-finishes
+returns-in-Ok-clause-finishes g c =
+    let seen = desk_view g.D.Desk.held g.D.Desk.read_faults g.D.Desk.write_faults in
+    let got = sink_view g.O.Sink.written g.O.Sink.faults in
+    let s = c.args.self.now in
+    let inputs = c.args.inputs.now in
+    let shown = option_map (λ image. image.now) c.as_ref.result in
+    let rows = c.deref.result.now in
+    let same : stack_text c.form_of.result shown (map told rows) ≡ stack_text (form_of s.format) inputs.image (stack_of inputs.trace) =
+    ap (λ (form : StackForm). stack_text form shown (map told rows)) c.form_of.ensures
+    ∙ (ap (λ (program : Option Program). stack_text (form_of s.format) program (map told rows)) c.as_ref.ensures.value
+    ∙ (ap (λ (rs : List StackRow). stack_text (form_of s.format) inputs.image (map told rs)) c.deref.ensures.value
+    ∙ ap (stack_text (form_of s.format) inputs.image) c.in-Ok.ensures.rows)) in
+    finishes (StacksCome s.trace.now s.format inputs.trace inputs.image) [] (stack_text c.form_of.result shown (map told rows)) None (seen c.args.desk.now)
+    (seen c.deliver.new.desk) (got c.args.out.now) (got c.deliver.new.out) (g.D.Desk.along c.args.desk.now c.deliver.new.desk) c.deliver.result
+    (stack_prints s.trace.now s.format inputs.trace inputs.image _ c.in-Ok.ensures.shallow (ap (Done []) same)) c.deliver.ensures.delivers

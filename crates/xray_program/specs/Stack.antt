@@ -1,0 +1,32 @@
+-- `stack`: on which paths the functions of a trace were called, and for how long.
+use Rattle.std.specs.Prelude.{◌≡◌, ℕ, List, [], Option, option_map, codes}
+use Rattle.command_words.specs.declared.report_options.StackFormat.{StackFormat}
+use Rattle.command_words.specs.declared.report_options.StackFormat.TheVariants.{Human, Flame}
+use Rattle.fdr_file.specs.declared.trace.Trace.{Trace}
+use Rattle.stack_rebuild.specs.FaultWords.{deep_words}
+use Rattle.stack_rebuild.specs.Stacks.{deep_in, stack_of}
+use Rattle.stack_rebuild.specs.StackText.{stack_text}
+use Rattle.stack_rebuild.specs.declared.scan.TheConstants.{MOST_OPEN}
+use Rattle.stack_rebuild.specs.declared.stack_text.StackForm.{StackForm}
+use Rattle.stack_rebuild.specs.declared.stack_text.StackForm.TheVariants as forms
+use Rattle.xray_image.specs.Program.{Program}
+use Rattle.xray_io.specs.Desk.{Entry}
+use Rattle.xray_program.specs.Outcomes.{Outcome, Done}
+use Rattle.xray_program.specs.Reports.{TakeReport}
+use Rattle.xray_program.specs.Taking.{DeskReads, RefuseIf}
+
+-- what the words ask for, as the report has it
+abbrev pub form_of : StackFormat → StackForm
+form_of Human = forms.Human
+form_of Flame = forms.Flame
+
+-- What comes of the judged inputs. If a thread of the trace has too many calls open at once, the trace is refused for
+-- the least such thread. Otherwise its stacks are printed. A program names the functions, if there is one.
+abbrev pub StacksCome : (trace : List ℕ) → StackFormat → Trace → Option Program → Outcome → Type 0
+StacksCome trace format t program =
+    RefuseIf (option_map deep_words (deep_in MOST_OPEN t.blocks)) trace (codes "trace")
+    (λ outcome. outcome ≡ Done [] (stack_text (form_of format) program (stack_of t)))
+
+-- what comes of the command
+abbrev pub StackComes : DeskReads → (List ℕ → Entry) → (trace : List ℕ) → (image : Option (List ℕ)) → StackFormat → Outcome → Type 0
+StackComes reads held trace image format = TakeReport reads held trace image (λ t program. StacksCome trace format t program)

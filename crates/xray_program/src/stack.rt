@@ -1,0 +1,99 @@
+//! `stack`: on which paths the functions of a trace were called, and for how long.
+ghost use Rattle.std.specs.Prelude.{◌≡◌, option_map};
+ghost use Rattle.xray_program.specs.Stack.{form_of};
+
+use crate::delivery::{NoOutputs, deliver};
+use crate::input::fault_stop;
+use crate::report_inputs::{ReportInputs, take_report};
+use crate::stop::Stop;
+use crate::text::Printed;
+use crate::work::Work;
+use command_words::StackFormat;
+use stack_rebuild::{StackForm, StackRow, stacks, write_stack};
+use std::alloc::Global;
+use xray_image::Image;
+use xray_io::{Desk, Sink, WriteFault};
+
+/// The word for a trace in a line on err.
+const TRACE: &str = "trace";
+
+/// `stack TRACE [IMAGE]`.
+#[derive(Drop)]
+pub(crate) struct Stack<'a> {
+    /// The trace's name.
+    pub(crate) trace: &'a str,
+    /// The name of the image that names the functions, if the words name one.
+    pub(crate) image: Option<&'a str>,
+    /// How the stacks are printed.
+    pub(crate) format: StackFormat,
+}
+
+impl<'a> Work<'a> for Stack<'a> {
+    ghost use Rattle.std.specs.Prelude.{⊤};
+    ghost use Rattle.command_words.specs.Words as words;
+    ghost use Rattle.xray_program.specs.Stack.{StacksCome};
+
+    type Inputs = ReportInputs;
+
+    ghost says = { λ s. words.Stack s.trace.now (option_map (λ n. n.now) s.image) s.format };
+
+    ghost yields = { λ s inputs. StacksCome s.trace.now s.format inputs.trace inputs.image };
+
+    ghost fits = { λ _ _. ⊤ };
+
+    fn take<D: Desk>(&self, alloc: Global, desk: &mut D) -> Result<ReportInputs, Stop<'a>> {
+        take_report(alloc, desk, self.trace, self.image)
+    }
+
+    fn finish<D: Desk, O: Sink>(
+        &self,
+        alloc: Global,
+        inputs: &ReportInputs,
+        desk: &mut D,
+        out: &mut O,
+    ) -> Result<(), Stop<'a>> {
+        match stacks(alloc, &inputs.trace) {
+            Ok(rows) => {
+                let text = Stacks {
+                    rows: &rows,
+                    image: inputs.image.as_ref(),
+                    form: form_of(self.format),
+                };
+                deliver(desk, out, &NoOutputs, &text, None)
+            }
+            Err(fault) => Err(fault_stop(self.trace, TRACE, &fault)),
+        }
+    }
+}
+
+/// The form of stacks, as the report has it.
+fn form_of(format: StackFormat) -> StackForm
+    ensures { result ≡ form_of format }
+{
+    match format {
+        StackFormat::Human => StackForm::Human,
+        StackFormat::Flame => StackForm::Flame,
+    }
+}
+
+/// Stacks, as they are printed.
+#[derive(Drop)]
+struct Stacks<'t> {
+    rows: &'t [StackRow],
+    image: Option<&'t Image>,
+    form: StackForm,
+}
+
+impl Printed for Stacks<'_> {
+    ghost use Rattle.std.specs.Prelude.{⊤, map};
+    ghost use Rattle.stack_rebuild.specs.Stacks.{told};
+    ghost use Rattle.stack_rebuild.specs.StackText.{stack_text};
+
+    ghost text = { λ s. stack_text s.form (option_map (λ image. image.now) s.image) (map told s.rows.now) };
+
+    ghost ready = { λ _. ⊤ };
+
+    fn print<S: Sink>(&self, sink: &mut S) -> Result<(), WriteFault> {
+        write_stack(self.rows, self.image, self.form, sink)
+    }
+}

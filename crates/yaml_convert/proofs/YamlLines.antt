@@ -1,0 +1,96 @@
+-- The lines of a YAML document, as they are put together.
+use Rattle.std.proofs.Common.{◌≡◌, ◌<◌, ◌≤◌, ◌+◌, ◌++◌, ◌∙◌, ◌||◌, ℕ, zero, suc, Bool, true, false, cond, arith, Option, List, [], ◌∷◌, length, take, drop, get_or, refl, sym, ap, append_assoc}
+use Rattle.std.specs.Prelude.{codes, decimal}
+use Rattle.std.specs.List.{flat_map, list_any}
+use Rattle.std.proofs.lemmas.List.{append-nil, take-append-drop, take_all, take_more}
+use Rattle.std.proofs.lemmas.List.Folds.{list_any-append}
+use Rattle.std.proofs.lemmas.Grind.{flat_map-append}
+use Rattle.fdr_record.specs.declared.event.Event.{Event}
+use Rattle.fdr_record.specs.declared.event.Kind.TheVariants.{Entry}
+use Rattle.fdr_file.specs.declared.header.Header.{Header}
+use Rattle.fdr_file.specs.declared.trace.Block.{Block}
+use Rattle.fdr_file.specs.declared.trace.Trace.{Trace}
+use Rattle.xray_image.specs.Program.{Program}
+use Rattle.yaml_convert.specs.Yaml.{event_end, event_start, has_events, header_text, kind_text, records_start, truth_text, block_lines, yaml_text}
+
+-- the lines so far, and one more
+pub lines_more : {X : Type 0} (line : X → List ℕ) (xs : List X) (i : ℕ) (x : X) → x ≡ get_or xs i x → i < length xs
+    → flat_map line (take i xs) ++ line x ≡ flat_map line (take (i + 1) xs)
+lines_more line xs i x is within =
+    ap (λ (text : List ℕ). flat_map line (take i xs) ++ text) (ap line is ∙ sym (append-nil (line (get_or xs i x))))
+    ∙ (sym (flat_map-append line (take i xs) (get_or xs i x ∷ [])) ∙ ap (flat_map line) (sym (take_more xs i x within)))
+
+pub lines_at : {X : Type 0} (line : X → List ℕ) (xs : List X) (i : ℕ) (d : X) → i < length xs
+    → flat_map line (take i xs) ++ line (get_or xs i d) ≡ flat_map line (take (i + 1) xs)
+lines_at line xs i d within =
+    ap (λ (text : List ℕ). flat_map line (take i xs) ++ text) (sym (append-nil (line (get_or xs i d))))
+    ∙ (sym (flat_map-append line (take i xs) (get_or xs i d ∷ [])) ∙ ap (flat_map line) (sym (take_more xs i d within)))
+
+-- the lines of the first items, and those of the others
+pub lines_split : {X : Type 0} (line : X → List ℕ) (xs : List X) (i : ℕ) → flat_map line (take i xs) ++ flat_map line (drop i xs) ≡ flat_map line xs
+lines_split line xs i = sym (flat_map-append line (take i xs) (drop i xs)) ∙ ap (flat_map line) (take-append-drop i xs)
+
+-- ---- pieces
+
+pub header_pieces : (header : Header) (version frequency : ℕ) (constant nonstop : List ℕ) → version ≡ header.version → constant ≡ truth_text header.constant
+    → nonstop ≡ truth_text header.nonstop → frequency ≡ header.frequency
+    → codes "---\nheader:\n  version: " ++ (decimal version ++ (codes "\n  type: 1\n  constant-tsc: " ++ (constant ++ (codes "\n  nonstop-tsc: " ++ (nonstop
+    ++ (codes "\n  cycle-frequency: " ++ (decimal frequency ++ (codes "\n" ++ []))))))))
+    ≡ header_text header
+header_pieces header version frequency constant nonstop same_version same_constant same_nonstop same_frequency =
+    rw (same_version, same_constant, same_nonstop, same_frequency) (simp append_assoc)
+
+pub start_pieces : (event : Event) (func : ℕ) → func ≡ event.func
+    → codes "  - { type: 0, func-id: " ++ (decimal func ++ (codes ", function: '" ++ [])) ≡ event_start event
+start_pieces event func same = rw same (simp append_assoc)
+
+pub end_pieces : (block : Block) (event : Event) (cpu thread pid tsc : ℕ) (kind : List ℕ) → cpu ≡ event.cpu → thread ≡ block.thread → pid ≡ block.pid
+    → kind ≡ kind_text event.kind → tsc ≡ event.tsc
+    → codes "', cpu: " ++ (decimal cpu ++ (codes ", thread: " ++ (decimal thread ++ (codes ", process: " ++ (decimal pid ++ (codes ", kind: " ++ (kind
+    ++ (codes ", tsc: " ++ (decimal tsc ++ (codes " }\n" ++ []))))))))))
+    ≡ event_end block event
+end_pieces block event cpu thread pid tsc kind same_cpu same_thread same_pid same_kind same_tsc =
+    rw (same_cpu, same_thread, same_pid, same_kind, same_tsc) (simp append_assoc)
+
+-- what stands for an event that a slice doesn't have
+abbrev pub no_event : Event
+no_event = record { cpu = 0; func = 0; kind = Entry; tsc = 0 }
+
+-- ---- whether there is an event
+
+pub none_more : {X : Type 0} (p : X → Bool) (xs : List X) (i : ℕ) (x : X) → x ≡ get_or xs i x → i < length xs → list_any p (take i xs) ≡ false → p x ≡ false
+    → list_any p (take (i + 1) xs) ≡ false
+none_more p xs i x is within before here =
+    ap (list_any p) (take_more xs i x within)
+    ∙ (list_any-append p (take i xs) (get_or xs i x ∷ [])
+    ∙ (ap (λ (b : Bool). b || (p (get_or xs i x) || false)) before ∙ ap (λ (b : Bool). b || false) (ap p (sym is) ∙ here)))
+
+pub some_at : {X : Type 0} (p : X → Bool) (xs : List X) (i : ℕ) (x : X) → x ≡ get_or xs i x → i < length xs → p x ≡ true → list_any p xs ≡ true
+some_at p [] i x is within here = absurd (omega (arith, within))
+some_at p (y ∷ ys) zero x is within here = ap (λ (b : Bool). b || list_any p ys) (ap p (sym is) ∙ here)
+some_at p (y ∷ ys) (suc i) x is within here = ap (λ (b : Bool). p y || b) (some_at p ys i x is (omega (arith, within)) here) ∙ or_true (p y)
+  where
+    or_true : (b : Bool) → (b || true) ≡ true
+    or_true true = refl
+    or_true false = refl
+
+pub none_at_all : {X : Type 0} (p : X → Bool) (xs : List X) (i : ℕ) → length xs ≤ i → list_any p (take i xs) ≡ false → list_any p xs ≡ false
+none_at_all p xs i done none = sym (ap (list_any p) (take_all i xs done)) ∙ none
+
+pub starts_records : (blocks : List Block) → list_any has_events blocks ≡ true → records_start blocks ≡ codes "records:\n"
+starts_records blocks some = ap (λ (b : Bool). cond b (codes "records:\n") (codes "records: []\n")) some
+
+pub starts_empty : (blocks : List Block) → list_any has_events blocks ≡ false → records_start blocks ≡ codes "records: []\n"
+starts_empty blocks none = ap (λ (b : Bool). cond b (codes "records:\n") (codes "records: []\n")) none
+
+-- ---- the whole document
+
+pub whole_yaml_left : (program : Option Program) (trace : Trace)
+    → (header_text trace.header ++ (records_start trace.blocks ++ flat_map (block_lines program) trace.blocks)) ++ codes "...\n" ≡ yaml_text program trace
+whole_yaml_left program trace =
+    ap (λ (t : List ℕ). t ++ codes "...\n") (sym (append_assoc (header_text trace.header) (records_start trace.blocks) (flat_map (block_lines program) trace.blocks)))
+
+pub whole_yaml : (program : Option Program) (trace : Trace)
+    → header_text trace.header ++ ((records_start trace.blocks ++ flat_map (block_lines program) trace.blocks) ++ codes "...\n") ≡ yaml_text program trace
+whole_yaml program trace =
+    sym (append_assoc (header_text trace.header) (records_start trace.blocks ++ flat_map (block_lines program) trace.blocks) (codes "...\n")) ∙ whole_yaml_left program trace

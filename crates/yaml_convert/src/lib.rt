@@ -1,0 +1,6 @@
+//! Traces as YAML.
+#![tactic(auto)]
+
+mod yaml;
+
+pub use yaml::write_yaml;

@@ -1,0 +1,209 @@
+//! The YAML text of a trace.
+
+ghost use Rattle.std.specs.Prelude.{◌≡◌, ◌++◌};
+ghost use Rattle.std.specs.List.{flat_map};
+ghost use Rattle.std.specs.Option.{option_map};
+ghost use Rattle.xray_io.specs.Text.{AddsText};
+ghost use Rattle.xray_io.specs.Writes.{WritesText};
+ghost use Rattle.yaml_convert.specs.Yaml.{block_lines, event_end, event_line, event_start, has_events, header_text, kind_text, records_start, truth_text, yaml_text};
+
+use fdr_file::{Block, Header, Trace};
+use fdr_record::{Event, Kind};
+use function_names::add_name;
+use xray_image::Image;
+use xray_io::{Piece, Sink, Text, WriteFault};
+
+/// Writes a trace as `llvm-xray convert -f=yaml` does, as a YAML document: its header, and a line
+/// for each event, block by block in the order of the file.
+///
+/// A function has its name in `image`, or `#` and its id if there is no name. The type of the
+/// header is always 1, that of the Flight Data Recorder mode. The type of a record is always 0.
+/// `process` is the process of the event's block, and `tsc` its counter in cycles.
+///
+/// On `WriteFault` a prefix of the text was written, and the sink counted a fault.
+pub fn write_yaml<S: Sink>(
+    trace: &Trace,
+    image: Option<&Image>,
+    sink: &mut S,
+) -> Result<(), WriteFault>
+    ensures { WritesText S.written S.faults S.along sink.old sink.new
+        (yaml_text (option_map (λ image. image.now) image.entry) trace.now) result }
+{
+    let mut text = Text::new(sink);
+    add_yaml(&mut text, trace, image)?;
+    text.done()
+}
+
+/// Adds the whole document.
+fn add_yaml<S: Sink>(
+    text: &mut Text<S>,
+    trace: &Trace,
+    image: Option<&Image>,
+) -> Result<(), WriteFault>
+    ensures { AddsText S.written S.faults S.along text.old text.new
+        (yaml_text (option_map (λ image. image.now) image.entry) trace.now) result }
+{
+    add_header(text, &trace.header)?;
+    add_records(text, trace.blocks.as_slice(), image)?;
+    text.bytes(b"...\n")
+}
+
+/// Adds the header.
+fn add_header<S: Sink>(text: &mut Text<S>, header: &Header) -> Result<(), WriteFault>
+    ensures { AddsText S.written S.faults S.along text.old text.new
+        (header_text header.now) result }
+{
+    text.pieces(&[
+        Piece::Bytes(b"---\nheader:\n  version: "),
+        Piece::Number(u128::from(header.version)),
+        Piece::Bytes(b"\n  type: 1\n  constant-tsc: "),
+        Piece::Bytes(truth_bytes(header.constant)),
+        Piece::Bytes(b"\n  nonstop-tsc: "),
+        Piece::Bytes(truth_bytes(header.nonstop)),
+        Piece::Bytes(b"\n  cycle-frequency: "),
+        Piece::Number(u128::from(header.frequency)),
+        Piece::Bytes(b"\n"),
+    ])
+}
+
+/// Adds the records.
+fn add_records<S: Sink>(
+    text: &mut Text<S>,
+    blocks: &[Block],
+    image: Option<&Image>,
+) -> Result<(), WriteFault>
+    ensures { AddsText S.written S.faults S.along text.old text.new
+        (records_start blocks.now
+        ++ flat_map (block_lines (option_map (λ image. image.now) image.entry)) blocks.now) result }
+{
+    text.bytes(records_line(blocks))?;
+    add_blocks(text, blocks, image)
+}
+
+/// The text that the records begin with.
+fn records_line(blocks: &[Block]) -> &'static [u8]
+    ensures { result.now ≡ records_start blocks.now }
+{
+    'looking: for block in blocks {
+        if has_event(block) {
+            return b"records:\n";
+        }
+    }
+    b"records: []\n"
+}
+
+/// Whether a block has an event.
+fn has_event(block: &Block) -> bool
+    ensures { result ≡ has_events block.now }
+{
+    block.events.as_slice().len() > 0
+}
+
+/// Adds the lines of blocks.
+fn add_blocks<S: Sink>(
+    text: &mut Text<S>,
+    blocks: &[Block],
+    image: Option<&Image>,
+) -> Result<(), WriteFault>
+    ensures { AddsText S.written S.faults S.along text.old text.new
+        (flat_map (block_lines (option_map (λ image. image.now) image.entry)) blocks.now) result }
+{
+    'lines: for block in blocks {
+        add_block(text, block, image)?;
+    }
+    Ok(())
+}
+
+/// Adds a line for each event of a block.
+fn add_block<S: Sink>(
+    text: &mut Text<S>,
+    block: &Block,
+    image: Option<&Image>,
+) -> Result<(), WriteFault>
+    ensures { AddsText S.written S.faults S.along text.old text.new
+        (block_lines (option_map (λ image. image.now) image.entry) block.now) result }
+{
+    add_events(text, block, block.events.as_slice(), image)
+}
+
+/// Adds the lines of events of a block.
+fn add_events<S: Sink>(
+    text: &mut Text<S>,
+    block: &Block,
+    events: &[Event],
+    image: Option<&Image>,
+) -> Result<(), WriteFault>
+    ensures { AddsText S.written S.faults S.along text.old text.new
+        (flat_map (event_line (option_map (λ image. image.now) image.entry) block.now)
+        events.now) result }
+{
+    'lines: for event in events {
+        add_event(text, block, event, image)?;
+    }
+    Ok(())
+}
+
+/// Adds the line of an event.
+fn add_event<S: Sink>(
+    text: &mut Text<S>,
+    block: &Block,
+    event: &Event,
+    image: Option<&Image>,
+) -> Result<(), WriteFault>
+    ensures { AddsText S.written S.faults S.along text.old text.new
+        (event_line (option_map (λ image. image.now) image.entry) block.now event.now) result }
+{
+    add_start(text, event)?;
+    add_name(text, image, event.func)?;
+    add_end(text, block, event)
+}
+
+/// Adds the text before the name of an event's function.
+fn add_start<S: Sink>(text: &mut Text<S>, event: &Event) -> Result<(), WriteFault>
+    ensures { AddsText S.written S.faults S.along text.old text.new
+        (event_start event.now) result }
+{
+    text.pieces(&[
+        Piece::Bytes(b"  - { type: 0, func-id: "),
+        Piece::Number(u128::from(event.func)),
+        Piece::Bytes(b", function: '"),
+    ])
+}
+
+/// Adds the text after it.
+fn add_end<S: Sink>(text: &mut Text<S>, block: &Block, event: &Event) -> Result<(), WriteFault>
+    ensures { AddsText S.written S.faults S.along text.old text.new
+        (event_end block.now event.now) result }
+{
+    text.pieces(&[
+        Piece::Bytes(b"', cpu: "),
+        Piece::Number(u128::from(event.cpu)),
+        Piece::Bytes(b", thread: "),
+        Piece::Number(u128::from(block.thread)),
+        Piece::Bytes(b", process: "),
+        Piece::Number(u128::from(block.pid)),
+        Piece::Bytes(b", kind: "),
+        Piece::Bytes(kind_bytes(event.kind)),
+        Piece::Bytes(b", tsc: "),
+        Piece::Number(u128::from(event.tsc)),
+        Piece::Bytes(b" }\n"),
+    ])
+}
+
+/// The word for a kind of events.
+fn kind_bytes(kind: Kind) -> &'static [u8]
+    ensures { result.now ≡ kind_text kind }
+{
+    match kind {
+        Kind::Entry => b"function-enter",
+        Kind::Exit => b"function-exit",
+        Kind::TailExit => b"function-tail-exit",
+    }
+}
+
+/// The word for a yes or no.
+fn truth_bytes(holds: bool) -> &'static [u8]
+    ensures { result.now ≡ truth_text holds }
+{
+    if holds { b"true" } else { b"false" }
+}
