@@ -3,6 +3,7 @@ pub mod Items
 pub mod Lines
 pub mod Numbers
 pub mod Ranges
+pub mod Reports
 pub mod Rows
 pub mod Tables
 pub mod Views

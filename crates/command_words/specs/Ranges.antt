@@ -1,10 +1,10 @@
 -- The ranges of what a command holds: what the machine that replays a schedule asks of its setup, and of what bounds its threads.
-use Rattle.std.specs.Prelude.{◌≢◌, ◌+◌, ◌*◌, ◌≤◌, ℕ}
+use Rattle.std.specs.Prelude.{◌≢◌, ◌+◌, ◌*◌, ◌≤◌, ℕ, IfSome}
 use Rattle.command_words.specs.declared.run_options.Bounds.{Bounds}
 use Rattle.command_words.specs.declared.run_options.Buffers.{Buffers}
 use Rattle.command_words.specs.declared.run_options.RunOptions.{RunOptions}
 use Rattle.command_words.specs.declared.run_options.Stamps.{Stamps}
-use Rattle.command_words.specs.Words.{Command, Sim, Plain, Extract, Asm}
+use Rattle.command_words.specs.Words.{Command, Sim, Plain, Extract, Asm, Account}
 
 -- there may be so many threads: at least one, and at most 16
 abbrev pub IsThreadCount : ℕ → Type 0
@@ -41,3 +41,4 @@ HasRanges (Sim image script schedule trace audit options) = AreRunOptions option
 HasRanges (Plain image bounds) = AreBounds bounds
 HasRanges (Extract image) = Unit {0}
 HasRanges (Asm text image threshold) = threshold ≤ 4294967295
+HasRanges (Account trace image options) = IfSome options.top (λ top. top ≤ 4294967295)

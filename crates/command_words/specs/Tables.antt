@@ -1,5 +1,5 @@
 -- The one table of options and the one of commands.
-use Rattle.std.specs.Prelude.{List, [], ◌∷◌, Some, None, codes}
+use Rattle.std.specs.Prelude.{ℕ, List, [], ◌∷◌, Some, None, codes}
 use Rattle.command_words.specs.Numbers.{Number, Listed}
 use Rattle.command_words.specs.Rows.{CommandRow, FileRow, OptionRow}
 use Rattle.command_words.specs.declared.rows.Role.TheVariants.{Input, OptionalInput, Output}
@@ -58,6 +58,28 @@ wall_option = record { name = codes "wall"; values = Number 0 184467440737095516
 abbrev pub threshold_option : OptionRow
 threshold_option = record { name = codes "threshold"; values = Number 0 4294967295; default = Some 1 }
 
+-- the column by which the rows of an account are sorted
+abbrev pub sort_option : OptionRow
+sort_option = record { name = codes "sort"; values = Listed columns; default = Some 0 }
+  where
+    columns : List (List ℕ)
+    columns = codes "funcid" ∷ codes "count" ∷ codes "min" ∷ codes "med" ∷ codes "90p" ∷ codes "99p" ∷ codes "max"
+        ∷ codes "sum" ∷ []
+
+-- the order in which they are sorted
+abbrev pub sort_order_option : OptionRow
+sort_order_option =
+    record { name = codes "sortorder"; values = Listed (codes "asc" ∷ codes "desc" ∷ []); default = Some 0 }
+
+-- how many of them are printed at the most; all are where it isn't given
+abbrev pub top_option : OptionRow
+top_option = record { name = codes "top"; values = Number 0 4294967295; default = None }
+
+-- as what an account is printed
+abbrev pub account_format_option : OptionRow
+account_format_option =
+    record { name = codes "format"; values = Listed (codes "text" ∷ codes "csv" ∷ []); default = Some 0 }
+
 -- ---- the commands
 
 -- the options of a plain run
@@ -97,4 +119,16 @@ sim_row = record {
       ∷ record { label = codes "schedule"; role = Input } ∷ record { label = codes "trace"; role = Output }
       ∷ record { label = codes "audit"; role = Output } ∷ [];
   options = run_options;
+}
+
+-- the files of the commands that report on a trace
+abbrev pub report_files : List FileRow
+report_files =
+    record { label = codes "trace"; role = Input } ∷ record { label = codes "image"; role = OptionalInput } ∷ []
+
+abbrev pub account_row : CommandRow
+account_row = record {
+  word = codes "account";
+  files = report_files;
+  options = sort_option ∷ sort_order_option ∷ top_option ∷ account_format_option ∷ [];
 }

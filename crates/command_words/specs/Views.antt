@@ -1,6 +1,7 @@
 -- The tables, the lines and the commands of the code, as those of the definitions: texts are their bytes.
-use Rattle.std.specs.Prelude.{map}
+use Rattle.std.specs.Prelude.{ℕ, List, Option, map, option_map}
 use Rattle.command_words.specs.declared.line.Line as line
+use Rattle.command_words.specs.declared.report_options.ReportFiles as report_files
 use Rattle.command_words.specs.declared.rows.CommandRow as command_row
 use Rattle.command_words.specs.declared.rows.FileRow as file_row
 use Rattle.command_words.specs.declared.rows.OptionRow as option_row
@@ -11,7 +12,7 @@ use Rattle.command_words.specs.declared.words.Command.TheVariants as command_of
 use Rattle.command_words.specs.Lines.{Line}
 use Rattle.command_words.specs.Numbers.{Values, Number, Listed}
 use Rattle.command_words.specs.Rows.{CommandRow, FileRow, OptionRow}
-use Rattle.command_words.specs.Words.{Command, Sim, Plain, Extract, Asm}
+use Rattle.command_words.specs.Words.{Command, Sim, Plain, Extract, Asm, Account}
 
 abbrev pub values_view : values.Values → Values
 values_view (values_of.Number least most) = Number least most
@@ -29,9 +30,13 @@ row_view row = record { word = row.word.now; files = map file_view row.files.now
 abbrev pub line_view : line.Line → Line
 line_view line = record { files = map (λ name. name.now) line.files.items; given = map (λ given. (given.0.now, given.1.now)) line.given.items }
 
+abbrev pub files_view : report_files.ReportFiles → List ℕ × Option (List ℕ)
+files_view files = (files.trace.now, option_map (λ image. image.now) files.image)
+
 abbrev pub command_view : command.Command → Command
 command_view (command_of.Sim image script schedule trace audit options) =
     Sim image.now script.now schedule.now trace.now audit.now options
 command_view (command_of.Plain image bounds) = Plain image.now bounds
 command_view (command_of.Extract image) = Extract image.now
 command_view (command_of.Asm text image threshold) = Asm text.now image.now threshold
+command_view (command_of.Account trace image options) = Account trace.now (option_map (λ i. i.now) image) options

@@ -6,9 +6,11 @@ use Rattle.xray_io.specs.declared.faults.Wall.{Wall}
 use Rattle.command_words.specs.Items.{items_of}
 use Rattle.command_words.specs.Lines.{Line, line_of, number_in, value_in}
 use Rattle.command_words.specs.Numbers.{number_of}
-use Rattle.command_words.specs.Tables.{asm_row, extract_row, plain_row, sim_row}
+use Rattle.command_words.specs.Reports.{account_options_in, report_files_in}
+use Rattle.command_words.specs.Tables.{account_row, asm_row, extract_row, plain_row, sim_row}
 use Rattle.command_words.specs.Tables.{threads_option, fuel_option, passings_option, buffer_size_option, buffer_max_option, threshold_option}
 use Rattle.command_words.specs.Tables.{tick_option, tsc_option, frequency_option, cpus_option, migrate_option, pid_option, wall_option}
+use Rattle.command_words.specs.declared.report_options.AccountOptions.{AccountOptions}
 use Rattle.command_words.specs.declared.run_options.Bounds.{Bounds}
 use Rattle.command_words.specs.declared.run_options.Buffers.{Buffers}
 use Rattle.command_words.specs.declared.run_options.RunOptions.{RunOptions}
@@ -19,6 +21,7 @@ pub data Command : Type 0 where
   Plain : (image : List ℕ) → (bounds : Bounds) → Command
   Extract : (image : List ℕ) → Command
   Asm : (text image : List ℕ) → (threshold : ℕ) → Command
+  Account : (trace : List ℕ) → (image : Option (List ℕ)) → (options : AccountOptions) → Command
 
 -- ---- the options of the commands that run threads
 
@@ -103,6 +106,13 @@ asm_in line = of_parts line.files (number_in threshold_option line)
     of_parts (text ∷ image ∷ []) (Some threshold) = Some (Asm text image threshold)
     of_parts _ _ = None
 
+abbrev pub account_in : Line → Option Command
+account_in line = of_parts (report_files_in line.files) (account_options_in line)
+  where
+    of_parts : Option (List ℕ × Option (List ℕ)) → Option AccountOptions → Option Command
+    of_parts (Some files) (Some options) = Some (Account files.0 files.1 options)
+    of_parts _ _ = None
+
 -- the command that words say at this wall time, if they say one
 abbrev pub reading : Wall → List (List ℕ) → Option Command
 reading wall [] = None
@@ -112,6 +122,7 @@ reading wall (word ∷ words) =
     else if bytes_eq word extract_row.word then option_and_then extract_in (line_of extract_row items)
     else if bytes_eq word sim_row.word then option_and_then (sim_in wall) (line_of sim_row items)
     else if bytes_eq word asm_row.word then option_and_then asm_in (line_of asm_row items)
+    else if bytes_eq word account_row.word then option_and_then account_in (line_of account_row items)
     else None
 
 -- ---- the outputs
@@ -122,6 +133,7 @@ outputs_of (Sim image script schedule trace audit options) = trace ∷ audit ∷
 outputs_of (Plain image bounds) = []
 outputs_of (Extract image) = []
 outputs_of (Asm text image threshold) = image ∷ []
+outputs_of (Account trace image options) = []
 
 -- the names of the outputs that words ask for; the wall time has no part in them
 abbrev pub outputs_named : Wall → List (List ℕ) → List (List ℕ)

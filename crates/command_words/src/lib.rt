@@ -13,6 +13,7 @@
 
 mod cutting;
 mod line;
+mod report_options;
 mod rows;
 mod run_options;
 mod tables;
@@ -20,5 +21,6 @@ mod tables;
 mod tests;
 mod words;
 
+pub use report_options::{AccountFormat, AccountOptions, SortColumn, SortOrder};
 pub use run_options::{Bounds, Buffers, RunOptions, Stamps};
 pub use words::{Command, read_words};

@@ -129,6 +129,37 @@ pub(crate) const THRESHOLD: OptionRow = OptionRow {
     default: Some(1),
 };
 
+/// The column by which the rows of an account are sorted.
+pub(crate) const SORT: OptionRow = OptionRow {
+    name: "sort",
+    values: Values::Listed(&["funcid", "count", "min", "med", "90p", "99p", "max", "sum"]),
+    default: Some(0),
+};
+
+/// The order in which the rows of an account are sorted.
+pub(crate) const SORT_ORDER: OptionRow = OptionRow {
+    name: "sortorder",
+    values: Values::Listed(&["asc", "desc"]),
+    default: Some(0),
+};
+
+/// How many rows of an account are printed at the most. All are where it isn't given.
+pub(crate) const TOP: OptionRow = OptionRow {
+    name: "top",
+    values: Values::Number {
+        least: 0,
+        most: 4_294_967_295,
+    },
+    default: None,
+};
+
+/// As what an account is printed.
+pub(crate) const ACCOUNT_FORMAT: OptionRow = OptionRow {
+    name: "format",
+    values: Values::Listed(&["text", "csv"]),
+    default: Some(0),
+};
+
 /// An image that is read.
 const IMAGE: FileRow = FileRow {
     label: "image",
@@ -169,6 +200,25 @@ const MADE_TRACE: FileRow = FileRow {
 const AUDIT: FileRow = FileRow {
     label: "audit",
     role: Role::Output,
+};
+
+/// A trace that is read.
+const TRACE: FileRow = FileRow {
+    label: "trace",
+    role: Role::Input,
+};
+
+/// An image that names the functions of a trace.
+const NAMING_IMAGE: FileRow = FileRow {
+    label: "image",
+    role: Role::OptionalInput,
+};
+
+/// `account TRACE [IMAGE]`: says what the functions of a trace took.
+pub(crate) const ACCOUNT: CommandRow = CommandRow {
+    word: "account",
+    files: &[TRACE, NAMING_IMAGE],
+    options: &[SORT, SORT_ORDER, TOP, ACCOUNT_FORMAT],
 };
 
 /// `asm TEXT IMAGE`: assembles an image.

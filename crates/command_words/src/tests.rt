@@ -1,6 +1,4 @@
 use super::*;
-use crate::cutting::cut_line;
-use crate::rows::{CommandRow, FileRow, OptionRow, Role, Values};
 use std::alloc::{AllocError, Global};
 use std::process::Abort;
 use std::test::Fail;
@@ -42,6 +40,13 @@ fn shown(alloc: Global, words: &[&str]) -> Result<String, AllocError> {
                 threshold,
             },
         ) => format!(in alloc; "asm [{text}] [{image}] {threshold}"),
+        Some(
+            Command::Account {
+                trace,
+                image,
+                options,
+            },
+        ) => format!(in alloc; "account [{trace}] {image:?} {options:?}"),
         Some(
             Command::Sim {
                 image,
@@ -254,53 +259,58 @@ fn a_long_word_is_a_name_or_refused(rt: HostRuntime) -> Result<(), Fail> {
     Ok(())
 }
 
-/// A command with a file that may be absent, an output, and options with listed words.
-const LISTED: CommandRow = CommandRow {
-    word: "account",
-    files: &[
-        FileRow {
-            label: "out",
-            role: Role::Output,
-        },
-        FileRow {
-            label: "image",
-            role: Role::OptionalInput,
-        },
-    ],
-    options: &[SORT],
-};
-
-/// An option with listed words.
-const SORT: OptionRow = OptionRow {
-    name: "sort",
-    values: Values::Listed(&["funcid", "count", "sum"]),
-    default: Some(0),
-};
-
-/// How many names words have for a command, and which word they list; `None` where they are no line.
-fn listed(alloc: Global, words: &[&str]) -> Result<Option<(usize, Option<u64>)>, AllocError> {
-    let words = owned(alloc, words)?;
-    match cut_line(alloc, &LISTED, words.as_slice())? {
-        Some(line) => Ok(Some((line.files.len(), SORT.number_in(&line)))),
-        None => Ok(None),
-    }
-}
+/// What an account says of its options, if the words say none.
+const ACCOUNT_DEFAULTS: &str = "AccountOptions { sort: FuncId, order: Ascending, top: None, format: Text }";
 
 #[test]
-fn a_file_may_be_absent_and_words_may_be_listed(rt: HostRuntime) -> Result<(), Fail> {
-    let rows: [(&[&str], Option<(usize, Option<u64>)>); 9] = [
-        (&["o"], Some((1, Some(0)))),
-        (&["o", "i", "--sort", "count"], Some((2, Some(1)))),
-        (&["--sort=sum", "o"], Some((1, Some(2)))),
-        (&["o", "--sort=su"], Some((1, None))),
-        (&["o", "--sort="], Some((1, None))),
-        (&["o", "o"], None),
-        (&[], None),
-        (&["o", "i", "j"], None),
-        (&["o", "--sort=sum", "--sort=sum"], None),
+fn an_image_may_be_left_out_and_words_are_listed(rt: HostRuntime) -> Result<(), Fail> {
+    let alloc = rt.alloc();
+    let rows: [(&[&str], &str, &str); 13] = [
+        (&["t"], "account [t] None", ACCOUNT_DEFAULTS),
+        (&["t", "i"], "account [t] Some(\"i\")", ACCOUNT_DEFAULTS),
+        (
+            &["t", "t", "--sort", "funcid"],
+            "account [t] Some(\"t\")",
+            ACCOUNT_DEFAULTS,
+        ),
+        (
+            &[
+                "--sort=sum",
+                "t",
+                "--sortorder=desc",
+                "--top=0",
+                "--format",
+                "csv",
+            ],
+            "account [t] None",
+            "AccountOptions { sort: Sum, order: Descending, top: Some(0), format: Csv }",
+        ),
+        (
+            &["t", "--sort", "99p", "--top", "4294967295"],
+            "account [t] None",
+            "AccountOptions { sort: P99, order: Ascending, top: Some(4294967295), format: Text }",
+        ),
+        (&["t", "--sort=su"], "none", ""),
+        (&["t", "--sort="], "none", ""),
+        (&["t", "--sort=0"], "none", ""),
+        (&["t", "--format=yaml"], "none", ""),
+        (&["t", "--top=4294967296"], "none", ""),
+        (&["t", "i", "j"], "none", ""),
+        (&[], "none", ""),
+        (&["t", "--sort=sum", "--sort=sum"], "none", ""),
     ];
-    for (words, expected) in rows {
-        assert_eq!(rt; listed(rt.alloc(), words)?, expected);
+    for (rest, files, options) in rows {
+        let mut words = vec![in alloc; "account"]?;
+        for word in rest {
+            words.push(*word)?;
+        }
+        let said = shown(alloc, words.as_slice())?;
+        let expected = if options.is_empty() {
+            String::from_str(alloc, files)?
+        } else {
+            format!(in alloc; "{files} {options}")?
+        };
+        assert_eq!(rt; said, expected);
     }
     Ok(())
 }

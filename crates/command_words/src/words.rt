@@ -3,14 +3,15 @@ ghost use Rattle.std.specs.Prelude.{◌≡◌, IfOk, IfSome, option_and_then, op
 ghost use Rattle.command_words.specs.Items.{items_of, texts};
 ghost use Rattle.command_words.specs.Lines.{line_of, outputs_differ};
 ghost use Rattle.command_words.specs.Ranges.{HasRanges};
-ghost use Rattle.command_words.specs.Tables.{asm_row, extract_row, plain_row, sim_row};
+ghost use Rattle.command_words.specs.Tables.{account_row, asm_row, extract_row, plain_row, sim_row};
 ghost use Rattle.command_words.specs.Views.{command_view, line_view};
-ghost use Rattle.command_words.specs.Words.{asm_in, extract_in, plain_in, reading, sim_in};
+ghost use Rattle.command_words.specs.Words.{account_in, asm_in, extract_in, plain_in, reading, sim_in};
 
 use crate::cutting::cut_line;
 use crate::line::Line;
+use crate::report_options::{AccountOptions, ReportFiles, account_options_in, report_files_in};
 use crate::run_options::{Bounds, RunOptions, bounds_in, run_options_in};
-use crate::tables::{ASM, EXTRACT, PLAIN, SIM, THRESHOLD};
+use crate::tables::{ACCOUNT, ASM, EXTRACT, PLAIN, SIM, THRESHOLD};
 use std::alloc::{AllocError, Global};
 use xray_io::Wall;
 
@@ -53,6 +54,15 @@ pub enum Command<'a> {
         /// How many instruction lines a function has at the least that gets sleds.
         threshold: u32,
     },
+    /// Prints what the functions of a trace took.
+    Account {
+        /// The trace.
+        trace: &'a str,
+        /// The image that names the functions, if there is one.
+        image: Option<&'a str>,
+        /// How the account is printed.
+        options: AccountOptions,
+    },
 }
 
 /// The command that words say at a wall time; None where they say none. The words are those after
@@ -80,6 +90,8 @@ pub fn read_words<'a>(
         read_sim(alloc, wall, rest)
     } else if word == ASM.word {
         read_asm(alloc, rest)
+    } else if word == ACCOUNT.word {
+        read_account(alloc, rest)
     } else {
         Ok(None)
     }
@@ -133,6 +145,18 @@ fn read_asm<'a>(alloc: Global, words: &'a [String]) -> Result<Option<Command<'a>
 {
     match cut_line(alloc, &ASM, words)? {
         Some(line) => Ok(asm_in(&line)),
+        None => Ok(None),
+    }
+}
+
+/// `account TRACE [IMAGE]`.
+fn read_account<'a>(alloc: Global, words: &'a [String]) -> Result<Option<Command<'a>>, AllocError>
+    ensures reads { IfOk result (λ said. option_map command_view said
+        ≡ option_and_then account_in (line_of account_row (items_of (texts words.entry.now)))) }
+    ensures ranges { IfOk result (λ said. IfSome (option_map command_view said) HasRanges) }
+{
+    match cut_line(alloc, &ACCOUNT, words)? {
+        Some(line) => Ok(account_in(&line)),
         None => Ok(None),
     }
 }
@@ -193,5 +217,19 @@ fn asm_in<'a>(line: &Line<'a>) -> Option<Command<'a>>
         text,
         image,
         threshold: threshold as u32,
+    })
+}
+
+/// The account that a line of `account` says.
+fn account_in<'a>(line: &Line<'a>) -> Option<Command<'a>>
+    ensures reads { option_map command_view result ≡ account_in (line_view line.now) }
+    ensures ranges { IfSome (option_map command_view result) HasRanges }
+{
+    let ReportFiles { trace, image } = report_files_in(line)?;
+    let options = account_options_in(line)?;
+    Some(Command::Account {
+        trace,
+        image,
+        options,
     })
 }

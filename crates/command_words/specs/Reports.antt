@@ -1,0 +1,50 @@
+-- The files and options of the commands that report on a trace.
+use Rattle.std.specs.Prelude.{ℕ, List, [], ◌∷◌, Option, Some, None, option_and_then, option_map, slice_get}
+use Rattle.std.specs.Option.{option_map_or}
+use Rattle.command_words.specs.Lines.{Line, number_in, value_in}
+use Rattle.command_words.specs.Numbers.{number_of}
+use Rattle.command_words.specs.Rows.{OptionRow}
+use Rattle.command_words.specs.Tables.{account_format_option, sort_option, sort_order_option, top_option}
+use Rattle.command_words.specs.declared.report_options.AccountFormat.{AccountFormat}
+use Rattle.command_words.specs.declared.report_options.AccountFormat.TheVariants.{Text, Csv}
+use Rattle.command_words.specs.declared.report_options.AccountOptions.{AccountOptions}
+use Rattle.command_words.specs.declared.report_options.SortColumn.{SortColumn}
+use Rattle.command_words.specs.declared.report_options.SortColumn.TheVariants.{FuncId, Count, Min, Med}
+use Rattle.command_words.specs.declared.report_options.SortColumn.TheVariants.{P90, P99, Max, Sum}
+use Rattle.command_words.specs.declared.report_options.SortOrder.{SortOrder}
+use Rattle.command_words.specs.declared.report_options.SortOrder.TheVariants.{Ascending, Descending}
+
+-- a trace, and an image if one is named
+abbrev pub report_files_in : List (List ℕ) → Option (List ℕ × Option (List ℕ))
+report_files_in (trace ∷ []) = Some (trace, None)
+report_files_in (trace ∷ image ∷ []) = Some (trace, Some image)
+report_files_in files = None
+
+-- one of these choices: the one in the place of the word that is given, or of the default
+abbrev pub choice_in : {X : Type 0} → OptionRow → (choices : List X) → Line → Option X
+choice_in option choices line = option_and_then (slice_get choices) (number_in option line)
+
+-- the columns of an account, in the order of their words; the orders; and the formats
+abbrev pub columns : List SortColumn
+columns = FuncId ∷ Count ∷ Min ∷ Med ∷ P90 ∷ P99 ∷ Max ∷ Sum ∷ []
+
+abbrev pub orders : List SortOrder
+orders = Ascending ∷ Descending ∷ []
+
+abbrev pub account_formats : List AccountFormat
+account_formats = Text ∷ Csv ∷ []
+
+-- how many rows are printed at the most: the number that is given, or none for all of them
+abbrev pub top_in : Line → Option (Option ℕ)
+top_in line = option_map_or (λ value. option_map (λ top. Some top) (number_of top_option.values value))
+    (value_in top_option.name line) (Some None)
+
+-- all options of an account
+abbrev pub account_options_in : Line → Option AccountOptions
+account_options_in line = of_parts (choice_in sort_option columns line) (choice_in sort_order_option orders line)
+    (top_in line) (choice_in account_format_option account_formats line)
+  where
+    of_parts : Option SortColumn → Option SortOrder → Option (Option ℕ) → Option AccountFormat → Option AccountOptions
+    of_parts (Some sort) (Some order) (Some top) (Some format) =
+        Some (record { sort = sort; order = order; top = top; format = format })
+    of_parts _ _ _ _ = None

@@ -1,0 +1,151 @@
+//! The files and options of the commands that report on a trace.
+ghost use Rattle.std.specs.Prelude.{◌≡◌, ◌≤◌, IfSome, option_map};
+ghost use Rattle.command_words.specs.Reports.{account_formats, choice_in, columns, orders};
+ghost use Rattle.command_words.specs.Reports.{account_options_in, report_files_in, top_in};
+ghost use Rattle.command_words.specs.Tables.{account_format_option, sort_option, sort_order_option};
+ghost use Rattle.command_words.specs.Views.{files_view, line_view};
+
+use crate::line::Line;
+use crate::tables::{ACCOUNT_FORMAT, SORT, SORT_ORDER, TOP};
+
+/// The files of a report.
+#[derive(Clone, Copy, Debug)]
+pub(crate) struct ReportFiles<'a> {
+    /// The trace.
+    pub(crate) trace: &'a str,
+    /// The image that names the functions, if the words name one.
+    pub(crate) image: Option<&'a str>,
+}
+
+/// The column by which the rows of an account are sorted.
+#[derive(Clone, Copy, Debug, PartialEq, Eq)]
+pub enum SortColumn {
+    /// The id of the function.
+    FuncId,
+    /// How many pairs there are.
+    Count,
+    /// The least duration.
+    Min,
+    /// The median.
+    Med,
+    /// The 90th percentile.
+    P90,
+    /// The 99th percentile.
+    P99,
+    /// The greatest duration.
+    Max,
+    /// The sum of the durations.
+    Sum,
+}
+
+/// In which order the rows of an account are sorted.
+#[derive(Clone, Copy, Debug, PartialEq, Eq)]
+pub enum SortOrder {
+    /// The least value comes first.
+    Ascending,
+    /// The greatest value comes first.
+    Descending,
+}
+
+/// As what an account is printed.
+#[derive(Clone, Copy, Debug, PartialEq, Eq)]
+pub enum AccountFormat {
+    /// Columns, for readers.
+    Text,
+    /// Values with commas between them, for other programs.
+    Csv,
+}
+
+/// The options of an account.
+#[derive(Clone, Copy, Debug, PartialEq, Eq)]
+pub struct AccountOptions {
+    /// The column by which the rows are sorted.
+    pub sort: SortColumn,
+    /// In which order they are sorted.
+    pub order: SortOrder,
+    /// How many rows are printed at the most. None for all rows.
+    pub top: Option<u32>,
+    /// As what the account is printed.
+    pub format: AccountFormat,
+}
+
+/// The files of a report. None unless there are one or two.
+pub(crate) fn report_files_in<'a>(line: &Line<'a>) -> Option<ReportFiles<'a>>
+    ensures { option_map files_view result ≡ report_files_in (line_view line.now).files }
+{
+    match line.files.as_slice() {
+        [trace] => Some(ReportFiles { trace, image: None }),
+        [trace, image] => Some(ReportFiles {
+            trace,
+            image: Some(image),
+        }),
+        _ => None,
+    }
+}
+
+/// The column that a line names. None if its word is none of the columns.
+fn column_in(line: &Line<'_>) -> Option<SortColumn>
+    ensures { result ≡ choice_in sort_option columns (line_view line.now) }
+{
+    match SORT.number_in(line)? {
+        0 => Some(SortColumn::FuncId),
+        1 => Some(SortColumn::Count),
+        2 => Some(SortColumn::Min),
+        3 => Some(SortColumn::Med),
+        4 => Some(SortColumn::P90),
+        5 => Some(SortColumn::P99),
+        6 => Some(SortColumn::Max),
+        _ => Some(SortColumn::Sum),
+    }
+}
+
+/// The order that a line names. None if its word is none of the orders.
+fn order_in(line: &Line<'_>) -> Option<SortOrder>
+    ensures { result ≡ choice_in sort_order_option orders (line_view line.now) }
+{
+    match SORT_ORDER.number_in(line)? {
+        0 => Some(SortOrder::Ascending),
+        _ => Some(SortOrder::Descending),
+    }
+}
+
+/// The format that a line names. None if its word is none of the formats.
+fn account_format_in(line: &Line<'_>) -> Option<AccountFormat>
+    ensures { result ≡ choice_in account_format_option account_formats (line_view line.now) }
+{
+    match ACCOUNT_FORMAT.number_in(line)? {
+        0 => Some(AccountFormat::Text),
+        _ => Some(AccountFormat::Csv),
+    }
+}
+
+/// How many rows are printed at the most: the number that is given, or none for all of them. None if the
+/// value is no such number.
+fn top_in(line: &Line<'_>) -> Option<Option<u32>>
+    ensures reads { result ≡ top_in (line_view line.now) }
+{
+    match line.value(TOP.name) {
+        Some(value) => {
+            let top = TOP.values.number_of(value)?;
+            Some(Some(top as u32))
+        }
+        None => Some(None),
+    }
+}
+
+/// The options of an account. None if a value is none that it may be.
+pub(crate) fn account_options_in(line: &Line<'_>) -> Option<AccountOptions>
+    ensures reads { result ≡ account_options_in (line_view line.now) }
+    ensures ranges { IfSome result (λ options. IfSome options.top (λ top. top ≤ 4294967295)) }
+{
+    let sort = column_in(line)?;
+    let order = order_in(line)?;
+    let top = top_in(line)?;
+    let format = account_format_in(line)?;
+    Some(AccountOptions {
+        sort,
+        order,
+        top,
+        format,
+    })
+}
