@@ -4,7 +4,7 @@ use Rattle.command_words.specs.declared.run_options.Bounds.{Bounds}
 use Rattle.command_words.specs.declared.run_options.Buffers.{Buffers}
 use Rattle.command_words.specs.declared.run_options.RunOptions.{RunOptions}
 use Rattle.command_words.specs.declared.run_options.Stamps.{Stamps}
-use Rattle.command_words.specs.Words.{Command, Sim, Plain, Extract, Asm}
+use Rattle.command_words.specs.Words.{Command, Sim, Plain, Extract, Asm, Stack, Convert}
 
 -- there may be so many threads: at least one, and at most 16
 abbrev pub IsThreadCount : ℕ → Type 0
@@ -41,3 +41,5 @@ HasRanges (Sim image script schedule options) = AreRunOptions options
 HasRanges (Plain image bounds) = AreBounds bounds
 HasRanges (Extract image) = Unit {0}
 HasRanges (Asm text image threshold) = threshold ≤ 4294967295
+HasRanges (Stack trace image format) = Unit {0}
+HasRanges (Convert trace image) = Unit {0}

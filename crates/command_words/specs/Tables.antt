@@ -78,6 +78,15 @@ top_option = record { name = codes "top"; values = Number 0 4294967295; default 
 abbrev pub account_format_option : OptionRow
 account_format_option = record { name = codes "format"; values = Listed (codes "text" ∷ codes "csv" ∷ []); default = Some 0 }
 
+-- as what stacks are printed
+abbrev pub stack_format_option : OptionRow
+stack_format_option =
+    record { name = codes "format"; values = Listed (codes "human" ∷ codes "flame" ∷ []); default = Some 0 }
+
+-- as what a trace is converted
+abbrev pub convert_format_option : OptionRow
+convert_format_option = record { name = codes "format"; values = Listed (codes "yaml" ∷ []); default = Some 0 }
+
 -- ---- the commands
 
 -- the options of the commands that run threads
@@ -116,3 +125,9 @@ sim_row = record {
 -- the files of the commands that report on a trace
 abbrev pub report_files : List FileRow
 report_files = record { label = codes "trace"; role = Input } ∷ record { label = codes "image"; role = OptionalInput } ∷ []
+
+abbrev pub stack_row : CommandRow
+stack_row = record { word = codes "stack"; files = report_files; options = stack_format_option ∷ [] }
+
+abbrev pub convert_row : CommandRow
+convert_row = record { word = codes "convert"; files = report_files; options = convert_format_option ∷ [] }

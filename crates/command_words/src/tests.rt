@@ -48,6 +48,16 @@ fn shown(alloc: Global, words: &[&str]) -> Result<String, AllocError> {
             },
         ) => format!(in alloc; "asm [{text}] [{image}] {threshold}"),
         Some(
+            Command::Stack {
+                trace,
+                image,
+                format,
+            },
+        ) => format!(in alloc; "stack [{trace}] {image:?} {format:?}"),
+        Some(Command::Convert { trace, image }) => {
+            format!(in alloc; "convert [{trace}] {image:?}")
+        }
+        Some(
             Command::Sim {
                 image,
                 script,
@@ -137,7 +147,19 @@ fn numbers_are_read_within_their_ranges(rt: HostRuntime) -> Result<(), Fail> {
 
 #[test]
 fn commands_have_their_files_and_options(rt: HostRuntime) -> Result<(), Fail> {
-    let rows: [(&[&str], &str); 17] = [
+    let rows: [(&[&str], &str); 26] = [
+        (&["stack", "t"], "stack [t] None Human"),
+        (&["stack", "t", "i"], "stack [t] Some(\"i\") Human"),
+        (&["stack", "--format=flame", "t"], "stack [t] None Flame"),
+        (&["stack", "t", "--format=yaml"], "none"),
+        (&["stack", "t", "i", "j"], "none"),
+        (&["convert", "t"], "convert [t] None"),
+        (
+            &["convert", "t", "t", "--format", "yaml"],
+            "convert [t] Some(\"t\")",
+        ),
+        (&["convert", "t", "--format=human"], "none"),
+        (&["convert"], "none"),
         (&["asm", "t", "i"], "asm [t] [i] 1"),
         (
             &["asm", "--threshold", "4294967295", "t", "i"],
