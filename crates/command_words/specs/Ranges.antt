@@ -4,7 +4,7 @@ use Rattle.command_words.specs.declared.run_options.Bounds.{Bounds}
 use Rattle.command_words.specs.declared.run_options.Buffers.{Buffers}
 use Rattle.command_words.specs.declared.run_options.RunOptions.{RunOptions}
 use Rattle.command_words.specs.declared.run_options.Stamps.{Stamps}
-use Rattle.command_words.specs.Words.{Command, Sim, Plain, Extract, Asm, Account}
+use Rattle.command_words.specs.Words.{Command, Sim, Plain, Extract, Asm, Account, Stack, Convert}
 
 -- there may be so many threads: at least one, and at most 16
 abbrev pub IsThreadCount : ℕ → Type 0
@@ -42,3 +42,5 @@ HasRanges (Plain image bounds) = AreBounds bounds
 HasRanges (Extract image) = Unit {0}
 HasRanges (Asm text image threshold) = threshold ≤ 4294967295
 HasRanges (Account trace image options) = IfSome options.top (λ top. top ≤ 4294967295)
+HasRanges (Stack trace image format) = Unit {0}
+HasRanges (Convert trace image) = Unit {0}

@@ -13,6 +13,8 @@ use Rattle.command_words.specs.declared.report_options.SortColumn.TheVariants.{F
 use Rattle.command_words.specs.declared.report_options.SortColumn.TheVariants.{P90, P99, Max, Sum}
 use Rattle.command_words.specs.declared.report_options.SortOrder.{SortOrder}
 use Rattle.command_words.specs.declared.report_options.SortOrder.TheVariants.{Ascending, Descending}
+use Rattle.command_words.specs.declared.report_options.StackFormat.{StackFormat}
+use Rattle.command_words.specs.declared.report_options.StackFormat.TheVariants.{Human, Flame}
 
 -- a trace, and an image if one is named
 abbrev pub report_files_in : List (List ℕ) → Option (List ℕ × Option (List ℕ))
@@ -33,6 +35,10 @@ orders = Ascending ∷ Descending ∷ []
 
 abbrev pub account_formats : List AccountFormat
 account_formats = Text ∷ Csv ∷ []
+
+-- the formats of stacks
+abbrev pub stack_formats : List StackFormat
+stack_formats = Human ∷ Flame ∷ []
 
 -- how many rows are printed at the most: the number that is given, or none for all of them
 abbrev pub top_in : Line → Option (Option ℕ)

@@ -80,6 +80,15 @@ abbrev pub account_format_option : OptionRow
 account_format_option =
     record { name = codes "format"; values = Listed (codes "text" ∷ codes "csv" ∷ []); default = Some 0 }
 
+-- as what stacks are printed
+abbrev pub stack_format_option : OptionRow
+stack_format_option =
+    record { name = codes "format"; values = Listed (codes "human" ∷ codes "flame" ∷ []); default = Some 0 }
+
+-- as what a trace is converted
+abbrev pub convert_format_option : OptionRow
+convert_format_option = record { name = codes "format"; values = Listed (codes "yaml" ∷ []); default = Some 0 }
+
 -- ---- the commands
 
 -- the options of a plain run
@@ -132,3 +141,9 @@ account_row = record {
   files = report_files;
   options = sort_option ∷ sort_order_option ∷ top_option ∷ account_format_option ∷ [];
 }
+
+abbrev pub stack_row : CommandRow
+stack_row = record { word = codes "stack"; files = report_files; options = stack_format_option ∷ [] }
+
+abbrev pub convert_row : CommandRow
+convert_row = record { word = codes "convert"; files = report_files; options = convert_format_option ∷ [] }

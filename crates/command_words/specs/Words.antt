@@ -6,11 +6,13 @@ use Rattle.xray_io.specs.declared.faults.Wall.{Wall}
 use Rattle.command_words.specs.Items.{items_of}
 use Rattle.command_words.specs.Lines.{Line, line_of, number_in, value_in}
 use Rattle.command_words.specs.Numbers.{number_of}
-use Rattle.command_words.specs.Reports.{account_options_in, report_files_in}
-use Rattle.command_words.specs.Tables.{account_row, asm_row, extract_row, plain_row, sim_row}
+use Rattle.command_words.specs.Reports.{account_options_in, choice_in, report_files_in, stack_formats}
+use Rattle.command_words.specs.Tables.{account_row, asm_row, convert_row, extract_row, plain_row, sim_row, stack_row}
+use Rattle.command_words.specs.Tables.{convert_format_option, stack_format_option}
 use Rattle.command_words.specs.Tables.{threads_option, fuel_option, passings_option, buffer_size_option, buffer_max_option, threshold_option}
 use Rattle.command_words.specs.Tables.{tick_option, tsc_option, frequency_option, cpus_option, migrate_option, pid_option, wall_option}
 use Rattle.command_words.specs.declared.report_options.AccountOptions.{AccountOptions}
+use Rattle.command_words.specs.declared.report_options.StackFormat.{StackFormat}
 use Rattle.command_words.specs.declared.run_options.Bounds.{Bounds}
 use Rattle.command_words.specs.declared.run_options.Buffers.{Buffers}
 use Rattle.command_words.specs.declared.run_options.RunOptions.{RunOptions}
@@ -22,6 +24,8 @@ pub data Command : Type 0 where
   Extract : (image : List ℕ) → Command
   Asm : (text image : List ℕ) → (threshold : ℕ) → Command
   Account : (trace : List ℕ) → (image : Option (List ℕ)) → (options : AccountOptions) → Command
+  Stack : (trace : List ℕ) → (image : Option (List ℕ)) → (format : StackFormat) → Command
+  Convert : (trace : List ℕ) → (image : Option (List ℕ)) → Command
 
 -- ---- the options of the commands that run threads
 
@@ -113,6 +117,21 @@ account_in line = of_parts (report_files_in line.files) (account_options_in line
     of_parts (Some files) (Some options) = Some (Account files.0 files.1 options)
     of_parts _ _ = None
 
+abbrev pub stack_in : Line → Option Command
+stack_in line = of_parts (report_files_in line.files) (choice_in stack_format_option stack_formats line)
+  where
+    of_parts : Option (List ℕ × Option (List ℕ)) → Option StackFormat → Option Command
+    of_parts (Some files) (Some format) = Some (Stack files.0 files.1 format)
+    of_parts _ _ = None
+
+-- a trace is converted to YAML alone
+abbrev pub convert_in : Line → Option Command
+convert_in line = of_parts (report_files_in line.files) (number_in convert_format_option line)
+  where
+    of_parts : Option (List ℕ × Option (List ℕ)) → Option ℕ → Option Command
+    of_parts (Some files) (Some yaml) = Some (Convert files.0 files.1)
+    of_parts _ _ = None
+
 -- the command that words say at this wall time, if they say one
 abbrev pub reading : Wall → List (List ℕ) → Option Command
 reading wall [] = None
@@ -123,6 +142,8 @@ reading wall (word ∷ words) =
     else if bytes_eq word sim_row.word then option_and_then (sim_in wall) (line_of sim_row items)
     else if bytes_eq word asm_row.word then option_and_then asm_in (line_of asm_row items)
     else if bytes_eq word account_row.word then option_and_then account_in (line_of account_row items)
+    else if bytes_eq word stack_row.word then option_and_then stack_in (line_of stack_row items)
+    else if bytes_eq word convert_row.word then option_and_then convert_in (line_of convert_row items)
     else None
 
 -- ---- the outputs
@@ -134,6 +155,8 @@ outputs_of (Plain image bounds) = []
 outputs_of (Extract image) = []
 outputs_of (Asm text image threshold) = image ∷ []
 outputs_of (Account trace image options) = []
+outputs_of (Stack trace image format) = []
+outputs_of (Convert trace image) = []
 
 -- the names of the outputs that words ask for; the wall time has no part in them
 abbrev pub outputs_named : Wall → List (List ℕ) → List (List ℕ)

@@ -21,6 +21,6 @@ mod tables;
 mod tests;
 mod words;
 
-pub use report_options::{AccountFormat, AccountOptions, SortColumn, SortOrder};
+pub use report_options::{AccountFormat, AccountOptions, SortColumn, SortOrder, StackFormat};
 pub use run_options::{Bounds, Buffers, RunOptions, Stamps};
 pub use words::{Command, read_words};

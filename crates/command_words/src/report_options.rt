@@ -1,12 +1,13 @@
 //! The files and options of the commands that report on a trace.
 ghost use Rattle.std.specs.Prelude.{◌≡◌, ◌≤◌, IfSome, option_map};
-ghost use Rattle.command_words.specs.Reports.{account_formats, choice_in, columns, orders};
+ghost use Rattle.command_words.specs.Reports.{account_formats, choice_in, columns, orders, stack_formats};
 ghost use Rattle.command_words.specs.Reports.{account_options_in, report_files_in, top_in};
 ghost use Rattle.command_words.specs.Tables.{account_format_option, sort_option, sort_order_option};
+ghost use Rattle.command_words.specs.Tables.{stack_format_option};
 ghost use Rattle.command_words.specs.Views.{files_view, line_view};
 
 use crate::line::Line;
-use crate::tables::{ACCOUNT_FORMAT, SORT, SORT_ORDER, TOP};
+use crate::tables::{ACCOUNT_FORMAT, SORT, SORT_ORDER, STACK_FORMAT, TOP};
 
 /// The files of a report.
 #[derive(Clone, Copy, Debug)]
@@ -54,6 +55,15 @@ pub enum AccountFormat {
     Text,
     /// Values with commas between them, for other programs.
     Csv,
+}
+
+/// As what stacks are printed.
+#[derive(Clone, Copy, Debug, PartialEq, Eq)]
+pub enum StackFormat {
+    /// Columns, for readers.
+    Human,
+    /// A line a stack, for tools that draw flame graphs.
+    Flame,
 }
 
 /// The options of an account.
@@ -116,6 +126,16 @@ fn account_format_in(line: &Line<'_>) -> Option<AccountFormat>
     match ACCOUNT_FORMAT.number_in(line)? {
         0 => Some(AccountFormat::Text),
         _ => Some(AccountFormat::Csv),
+    }
+}
+
+/// The format of stacks that a line names. None if its word is none of the formats.
+pub(crate) fn stack_format_in(line: &Line<'_>) -> Option<StackFormat>
+    ensures { result ≡ choice_in stack_format_option stack_formats (line_view line.now) }
+{
+    match STACK_FORMAT.number_in(line)? {
+        0 => Some(StackFormat::Human),
+        _ => Some(StackFormat::Flame),
     }
 }
 

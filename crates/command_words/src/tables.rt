@@ -160,6 +160,20 @@ pub(crate) const ACCOUNT_FORMAT: OptionRow = OptionRow {
     default: Some(0),
 };
 
+/// As what stacks are printed.
+pub(crate) const STACK_FORMAT: OptionRow = OptionRow {
+    name: "format",
+    values: Values::Listed(&["human", "flame"]),
+    default: Some(0),
+};
+
+/// As what a trace is converted.
+pub(crate) const CONVERT_FORMAT: OptionRow = OptionRow {
+    name: "format",
+    values: Values::Listed(&["yaml"]),
+    default: Some(0),
+};
+
 /// An image that is read.
 const IMAGE: FileRow = FileRow {
     label: "image",
@@ -219,6 +233,20 @@ pub(crate) const ACCOUNT: CommandRow = CommandRow {
     word: "account",
     files: &[TRACE, NAMING_IMAGE],
     options: &[SORT, SORT_ORDER, TOP, ACCOUNT_FORMAT],
+};
+
+/// `stack TRACE [IMAGE]`: says what the stacks of a trace took.
+pub(crate) const STACK: CommandRow = CommandRow {
+    word: "stack",
+    files: &[TRACE, NAMING_IMAGE],
+    options: &[STACK_FORMAT],
+};
+
+/// `convert TRACE [IMAGE]`: prints a trace as a text in YAML.
+pub(crate) const CONVERT: CommandRow = CommandRow {
+    word: "convert",
+    files: &[TRACE, NAMING_IMAGE],
+    options: &[CONVERT_FORMAT],
 };
 
 /// `asm TEXT IMAGE`: assembles an image.

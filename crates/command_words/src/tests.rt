@@ -48,6 +48,16 @@ fn shown(alloc: Global, words: &[&str]) -> Result<String, AllocError> {
             },
         ) => format!(in alloc; "account [{trace}] {image:?} {options:?}"),
         Some(
+            Command::Stack {
+                trace,
+                image,
+                format,
+            },
+        ) => format!(in alloc; "stack [{trace}] {image:?} {format:?}"),
+        Some(Command::Convert { trace, image }) => {
+            format!(in alloc; "convert [{trace}] {image:?}")
+        }
+        Some(
             Command::Sim {
                 image,
                 script,
@@ -161,7 +171,19 @@ fn numbers_are_read_within_their_ranges(rt: HostRuntime) -> Result<(), Fail> {
 
 #[test]
 fn commands_have_their_files_and_options(rt: HostRuntime) -> Result<(), Fail> {
-    let rows: [(&[&str], &str); 13] = [
+    let rows: [(&[&str], &str); 22] = [
+        (&["stack", "t"], "stack [t] None Human"),
+        (&["stack", "t", "i"], "stack [t] Some(\"i\") Human"),
+        (&["stack", "--format=flame", "t"], "stack [t] None Flame"),
+        (&["stack", "t", "--format=yaml"], "none"),
+        (&["stack", "t", "i", "j"], "none"),
+        (&["convert", "t"], "convert [t] None"),
+        (
+            &["convert", "t", "t", "--format", "yaml"],
+            "convert [t] Some(\"t\")",
+        ),
+        (&["convert", "t", "--format=human"], "none"),
+        (&["convert"], "none"),
         (&["asm", "t", "i"], "asm [t] [i] 1"),
         (
             &["asm", "--threshold", "4294967295", "t", "i"],
@@ -260,7 +282,8 @@ fn a_long_word_is_a_name_or_refused(rt: HostRuntime) -> Result<(), Fail> {
 }
 
 /// What an account says of its options, if the words say none.
-const ACCOUNT_DEFAULTS: &str = "AccountOptions { sort: FuncId, order: Ascending, top: None, format: Text }";
+const ACCOUNT_DEFAULTS: &str =
+    "AccountOptions { sort: FuncId, order: Ascending, top: None, format: Text }";
 
 #[test]
 fn an_image_may_be_left_out_and_words_are_listed(rt: HostRuntime) -> Result<(), Fail> {

@@ -3,15 +3,19 @@ ghost use Rattle.std.specs.Prelude.{◌≡◌, IfOk, IfSome, option_and_then, op
 ghost use Rattle.command_words.specs.Items.{items_of, texts};
 ghost use Rattle.command_words.specs.Lines.{line_of, outputs_differ};
 ghost use Rattle.command_words.specs.Ranges.{HasRanges};
-ghost use Rattle.command_words.specs.Tables.{account_row, asm_row, extract_row, plain_row, sim_row};
+ghost use Rattle.command_words.specs.Tables.{account_row, asm_row, convert_row, extract_row, plain_row};
+ghost use Rattle.command_words.specs.Tables.{sim_row, stack_row};
 ghost use Rattle.command_words.specs.Views.{command_view, line_view};
-ghost use Rattle.command_words.specs.Words.{account_in, asm_in, extract_in, plain_in, reading, sim_in};
+ghost use Rattle.command_words.specs.Words.{account_in, asm_in, convert_in, extract_in, plain_in};
+ghost use Rattle.command_words.specs.Words.{reading, sim_in, stack_in};
 
 use crate::cutting::cut_line;
 use crate::line::Line;
-use crate::report_options::{AccountOptions, ReportFiles, account_options_in, report_files_in};
+use crate::report_options::{
+    AccountOptions, ReportFiles, StackFormat, account_options_in, report_files_in, stack_format_in,
+};
 use crate::run_options::{Bounds, RunOptions, bounds_in, run_options_in};
-use crate::tables::{ACCOUNT, ASM, EXTRACT, PLAIN, SIM, THRESHOLD};
+use crate::tables::{ACCOUNT, ASM, CONVERT, CONVERT_FORMAT, EXTRACT, PLAIN, SIM, STACK, THRESHOLD};
 use std::alloc::{AllocError, Global};
 use xray_io::Wall;
 
@@ -63,6 +67,22 @@ pub enum Command<'a> {
         /// How the account is printed.
         options: AccountOptions,
     },
+    /// Prints what the stacks of a trace took.
+    Stack {
+        /// The trace.
+        trace: &'a str,
+        /// The image that names the functions, if there is one.
+        image: Option<&'a str>,
+        /// As what the stacks are printed.
+        format: StackFormat,
+    },
+    /// Prints a trace as a text in YAML.
+    Convert {
+        /// The trace.
+        trace: &'a str,
+        /// The image that names the functions, if there is one.
+        image: Option<&'a str>,
+    },
 }
 
 /// The command that words say at a wall time; None where they say none. The words are those after
@@ -92,6 +112,10 @@ pub fn read_words<'a>(
         read_asm(alloc, rest)
     } else if word == ACCOUNT.word {
         read_account(alloc, rest)
+    } else if word == STACK.word {
+        read_stack(alloc, rest)
+    } else if word == CONVERT.word {
+        read_convert(alloc, rest)
     } else {
         Ok(None)
     }
@@ -157,6 +181,30 @@ fn read_account<'a>(alloc: Global, words: &'a [String]) -> Result<Option<Command
 {
     match cut_line(alloc, &ACCOUNT, words)? {
         Some(line) => Ok(account_in(&line)),
+        None => Ok(None),
+    }
+}
+
+/// `stack TRACE [IMAGE]`.
+fn read_stack<'a>(alloc: Global, words: &'a [String]) -> Result<Option<Command<'a>>, AllocError>
+    ensures reads { IfOk result (λ said. option_map command_view said
+        ≡ option_and_then stack_in (line_of stack_row (items_of (texts words.entry.now)))) }
+    ensures ranges { IfOk result (λ said. IfSome (option_map command_view said) HasRanges) }
+{
+    match cut_line(alloc, &STACK, words)? {
+        Some(line) => Ok(stack_in(&line)),
+        None => Ok(None),
+    }
+}
+
+/// `convert TRACE [IMAGE]`.
+fn read_convert<'a>(alloc: Global, words: &'a [String]) -> Result<Option<Command<'a>>, AllocError>
+    ensures reads { IfOk result (λ said. option_map command_view said
+        ≡ option_and_then convert_in (line_of convert_row (items_of (texts words.entry.now)))) }
+    ensures ranges { IfOk result (λ said. IfSome (option_map command_view said) HasRanges) }
+{
+    match cut_line(alloc, &CONVERT, words)? {
+        Some(line) => Ok(convert_in(&line)),
         None => Ok(None),
     }
 }
@@ -232,4 +280,28 @@ fn account_in<'a>(line: &Line<'a>) -> Option<Command<'a>>
         image,
         options,
     })
+}
+
+/// The stacks that a line of `stack` asks for.
+fn stack_in<'a>(line: &Line<'a>) -> Option<Command<'a>>
+    ensures reads { option_map command_view result ≡ stack_in (line_view line.now) }
+    ensures ranges { IfSome (option_map command_view result) HasRanges }
+{
+    let ReportFiles { trace, image } = report_files_in(line)?;
+    let format = stack_format_in(line)?;
+    Some(Command::Stack {
+        trace,
+        image,
+        format,
+    })
+}
+
+/// The conversion that a line of `convert` asks for.
+fn convert_in<'a>(line: &Line<'a>) -> Option<Command<'a>>
+    ensures reads { option_map command_view result ≡ convert_in (line_view line.now) }
+    ensures ranges { IfSome (option_map command_view result) HasRanges }
+{
+    let ReportFiles { trace, image } = report_files_in(line)?;
+    let _yaml = CONVERT_FORMAT.number_in(line)?;
+    Some(Command::Convert { trace, image })
 }
