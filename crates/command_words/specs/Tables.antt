@@ -98,3 +98,11 @@ sim_row = record {
       ∷ record { label = codes "audit"; role = Output } ∷ [];
   options = run_options;
 }
+
+abbrev pub run_row : CommandRow
+run_row = record {
+  word = codes "run";
+  files = record { label = codes "image"; role = Input } ∷ record { label = codes "script"; role = Input }
+      ∷ record { label = codes "trace"; role = Output } ∷ record { label = codes "audit"; role = Output } ∷ [];
+  options = run_options;
+}

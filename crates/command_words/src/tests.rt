@@ -43,6 +43,19 @@ fn shown(alloc: Global, words: &[&str]) -> Result<String, AllocError> {
             },
         ) => format!(in alloc; "asm [{text}] [{image}] {threshold}"),
         Some(
+            Command::Run {
+                image,
+                script,
+                trace,
+                audit,
+                options,
+            },
+        ) => {
+            let options = shown_options(alloc, options)?;
+            let options = options.as_str();
+            format!(in alloc; "run [{image}] [{script}] [{trace}] [{audit}] {options}")
+        }
+        Some(
             Command::Sim {
                 image,
                 script,
@@ -156,7 +169,13 @@ fn numbers_are_read_within_their_ranges(rt: HostRuntime) -> Result<(), Fail> {
 
 #[test]
 fn commands_have_their_files_and_options(rt: HostRuntime) -> Result<(), Fail> {
-    let rows: [(&[&str], &str); 13] = [
+    let rows: [(&[&str], &str); 16] = [
+        (
+            &["run", "i", "s", "t", "a", "--wall=7", "--threads", "2"],
+            "run [i] [s] [t] [a] 2 10000000 1048576 16384 100 1 0 0 1 1048576 1 7.0",
+        ),
+        (&["run", "i", "s", "c", "t", "a"], "none"),
+        (&["run", "i", "s", "t", "t"], "none"),
         (&["asm", "t", "i"], "asm [t] [i] 1"),
         (
             &["asm", "--threshold", "4294967295", "t", "i"],

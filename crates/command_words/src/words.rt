@@ -3,14 +3,14 @@ ghost use Rattle.std.specs.Prelude.{◌≡◌, IfOk, IfSome, option_and_then, op
 ghost use Rattle.command_words.specs.Items.{items_of, texts};
 ghost use Rattle.command_words.specs.Lines.{line_of, outputs_differ};
 ghost use Rattle.command_words.specs.Ranges.{HasRanges};
-ghost use Rattle.command_words.specs.Tables.{asm_row, extract_row, plain_row, sim_row};
+ghost use Rattle.command_words.specs.Tables.{asm_row, extract_row, plain_row, run_row, sim_row};
 ghost use Rattle.command_words.specs.Views.{command_view, line_view};
-ghost use Rattle.command_words.specs.Words.{asm_in, extract_in, plain_in, reading, sim_in};
+ghost use Rattle.command_words.specs.Words.{asm_in, extract_in, plain_in, reading, run_in, sim_in};
 
 use crate::cutting::cut_line;
 use crate::line::Line;
 use crate::run_options::{Bounds, RunOptions, bounds_in, run_options_in};
-use crate::tables::{ASM, EXTRACT, PLAIN, SIM, THRESHOLD};
+use crate::tables::{ASM, EXTRACT, PLAIN, RUN, SIM, THRESHOLD};
 use std::alloc::{AllocError, Global};
 use xray_io::Wall;
 
@@ -30,6 +30,19 @@ pub enum Command<'a> {
         /// The audit of the run, which is an output of another name.
         audit: &'a str,
         /// What the replay is made with.
+        options: RunOptions,
+    },
+    /// Runs threads over an image while a script patches it.
+    Run {
+        /// The image file.
+        image: &'a str,
+        /// The script of the patcher.
+        script: &'a str,
+        /// The trace of the events, which is an output.
+        trace: &'a str,
+        /// The audit of the run, which is an output of another name.
+        audit: &'a str,
+        /// What the run is made with.
         options: RunOptions,
     },
     /// Runs an image without sleds on each thread.
@@ -78,6 +91,8 @@ pub fn read_words<'a>(
         read_extract(alloc, rest)
     } else if word == SIM.word {
         read_sim(alloc, wall, rest)
+    } else if word == RUN.word {
+        read_run(alloc, wall, rest)
     } else if word == ASM.word {
         read_asm(alloc, rest)
     } else {
@@ -125,6 +140,22 @@ fn read_sim<'a>(
     }
 }
 
+/// `run IMAGE SCRIPT TRACE AUDIT`.
+fn read_run<'a>(
+    alloc: Global,
+    wall: Wall,
+    words: &'a [String],
+) -> Result<Option<Command<'a>>, AllocError>
+    ensures reads { IfOk result (λ said. option_map command_view said
+        ≡ option_and_then (run_in wall) (line_of run_row (items_of (texts words.entry.now)))) }
+    ensures ranges { IfOk result (λ said. IfSome (option_map command_view said) HasRanges) }
+{
+    match cut_line(alloc, &RUN, words)? {
+        Some(line) => Ok(run_in(wall, &line)),
+        None => Ok(None),
+    }
+}
+
 /// `asm TEXT IMAGE`.
 fn read_asm<'a>(alloc: Global, words: &'a [String]) -> Result<Option<Command<'a>>, AllocError>
     ensures reads { IfOk result (λ said. option_map command_view said
@@ -151,6 +182,25 @@ fn sim_in<'a>(wall: Wall, line: &Line<'a>) -> Option<Command<'a>>
         image,
         script,
         schedule,
+        trace,
+        audit,
+        options,
+    })
+}
+
+/// The run that a line of `run` says.
+fn run_in<'a>(wall: Wall, line: &Line<'a>) -> Option<Command<'a>>
+    requires { outputs_differ run_row.files (line_view line.now).files ≡ true }
+    ensures reads { option_map command_view result ≡ run_in wall (line_view line.now) }
+    ensures ranges { IfSome (option_map command_view result) HasRanges }
+{
+    let [image, script, trace, audit] = line.files.as_slice() else {
+        return None;
+    };
+    let options = run_options_in(wall, line)?;
+    Some(Command::Run {
+        image,
+        script,
         trace,
         audit,
         options,
