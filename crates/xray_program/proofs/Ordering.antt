@@ -1,15 +1,9 @@
 -- The calls of a desk, in their order.
-use Rattle.std.proofs.Common.{◌≡◌, ◌⊎◌, ◌+◌, ◌++◌, ◌∙◌, ℕ, List, [], ◌∷◌, length, Option, Some, None, Result, Ok, Err, inl, inr, refl, sym, ap, subst, append_assoc}
+use Rattle.std.proofs.Common.{◌≡◌, ◌++◌, ◌∙◌, ℕ, List, [], ◌∷◌, Result, Ok, Err, refl, sym, ap, subst, append_assoc}
 use Rattle.std.proofs.lemmas.List.{append-nil}
 use Rattle.std.specs.Prelude.{IsErrAnd}
-use Rattle.std.specs.Prelude.{Vec}
-use Rattle.std.specs.declared.alloc.Global.{Global}
-use Rattle.fault_words.specs.Words.{words_text}
 use Rattle.xray_io.specs.Calls.{Call, Composes, HoldsOfNone, Went, went_on}
-use Rattle.xray_io.specs.Reads.{IsReading, Reads, ReadsSome, ReadsUpToFault}
-use Rattle.xray_io.specs.declared.faults.ReadError.{ReadError}
-use Rattle.xray_io.specs.declared.faults.ReadError.TheVariants as errors
-use Rattle.xray_program.specs.Order.{ReadsAll, ReadsWhole, StopsAt}
+use Rattle.xray_program.specs.Order.{ReadsAll, ReadsWhole}
 use Rattle.xray_io.specs.World.{DeskView}
 use Rattle.xray_program.specs.Takes.{AreTakings, IsNamed, IsTaken, IsTaking, StopsTaking, StopsTakings}
 use Rattle.xray_program.specs.Taking.{Form}

@@ -1,5 +1,5 @@
 -- Inputs in their turn, and what comes of a command by these.
-use Rattle.std.specs.Prelude.{⊤, IsErrAnd}
+use Rattle.std.specs.Prelude.{IsErrAnd}
 use Rattle.std.proofs.Common.{◌≡◌, ◌≢◌, ◌⊎◌, ◌<◌, ◌≤◌, ◌+◌, ◌∙◌, ℕ, List, length, replicate, Option, Some, None, Result, Ok, Err, inl, inr, refl, sym, ap, arith, subst}
 use Rattle.std.proofs.lemmas.List.{length-replicate}
 use Rattle.fault_words.specs.Words.{words_text}
@@ -8,7 +8,7 @@ use Rattle.xray_io.specs.Faults.{Rose}
 use Rattle.xray_io.specs.declared.faults.ReadError.{ReadError}
 use Rattle.xray_io.specs.declared.faults.ReadError.TheVariants as errors
 use Rattle.xray_program.specs.Outcomes.{Outcome, Unread, TooLong, Refused}
-use Rattle.xray_program.specs.Takes.{AreTaken, Gives, IsFaultStop, IsLost, IsMaybeTaken, IsReadStop, IsStopAtInput, IsTaken, IsTooLong, Rejects}
+use Rattle.xray_program.specs.Takes.{AreTaken, Gives, IsFaultStop, IsLost, IsMaybeTaken, IsReadStop, IsStopAtInput, IsTaken, IsTooLong}
 use Rattle.xray_program.specs.Taking.{DeskReads, Sound, Faulty, Form, MayHold, Take, TakeMaybe}
 use Rattle.xray_io.specs.World.{DeskView}
 use Rattle.xray_program.specs.declared.stop.Stop.{Stop}

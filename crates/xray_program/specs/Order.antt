@@ -13,7 +13,7 @@ use Rattle.command_words.specs.Words.{Command, Sim, Plain, Extract, Asm}
 
 -- its inputs in the order of the words, each a name and how many bytes it has at the most; one that the words leave out isn't there
 abbrev pub inputs_of : Command → List (List ℕ × ℕ)
-inputs_of (Sim image script schedule options) = (image, 4194304) ∷ (script, 1048576) ∷ (schedule, 16777216) ∷ []
+inputs_of (Sim image script schedule trace audit options) = (image, 4194304) ∷ (script, 1048576) ∷ (schedule, 16777216) ∷ []
 inputs_of (Plain image bounds) = (image, 4194304) ∷ []
 inputs_of (Extract image) = (image, 4194304) ∷ []
 inputs_of (Asm text image threshold) = (text, 4194304) ∷ []

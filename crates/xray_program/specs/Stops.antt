@@ -1,7 +1,7 @@
 -- What ends a call before all is done: its status and its line on err.
 use Rattle.std.specs.Prelude.{ℕ, List, [], Result, Ok, Err}
 use Rattle.fault_words.specs.Words.{words_text}
-use Rattle.xray_program.specs.Outcomes.{BadLine, Unread, TooLong, Refused, With, Unwritten, NoMemory, err_line, line_of, line_at}
+use Rattle.xray_program.specs.Outcomes.{BadLine, Unread, TooLong, Refused, Unwritten, NoMemory, err_line, line_of, line_at}
 use Rattle.xray_program.specs.declared.stop.Stop.{Stop}
 use Rattle.xray_program.specs.declared.stop.Stop.TheVariants as stops
 

@@ -3,7 +3,7 @@
 ghost use Rattle.std.specs.Prelude.{◌<◌, length};
 
 use super::DEFAULT_LIMITS;
-use crate::{End, Limits, plain_run};
+use crate::{End, Limits, Steps, plain_run};
 use std::test::Fail;
 use xray_image::read_image;
 
@@ -33,11 +33,12 @@ fn ends_so(
     bytes.extend_from_slice(code)?;
     bytes.extend_from_slice(&FUNCTION)?;
     let image = read_image(rt.alloc(), &bytes)?;
+    let steps = Steps::new(rt.alloc(), &image)?;
     let limits = Limits {
         fuel,
         ..DEFAULT_LIMITS
     };
-    let run = plain_run(rt.alloc(), &image, 1, limits)?;
+    let run = plain_run(rt.alloc(), &steps, 1, limits)?;
     Ok(run.end == end && run.instructions == instructions)
 }
 
@@ -111,7 +112,8 @@ const FIBONACCI: [u8; 326] = [
 #[test]
 fn a_function_that_calls_itself_returns(rt: HostRuntime) -> Result<(), Fail> {
     let image = read_image(rt.alloc(), &FIBONACCI)?;
-    let end = plain_run(rt.alloc(), &image, 1, DEFAULT_LIMITS)?;
+    let steps = Steps::new(rt.alloc(), &image)?;
+    let end = plain_run(rt.alloc(), &steps, 1, DEFAULT_LIMITS)?;
     assert_eq!(rt; end.end, End::Returned);
     assert_eq!(rt; end.instructions, 213_132);
     assert_eq!(rt; end.passings, 43_782);

@@ -1,9 +1,8 @@
-use Rattle.std.proofs.Common.{◌≡◌, ℕ, List, [], ◌∷◌, le_refl, refl}
+use Rattle.std.proofs.Common.{◌≡◌, [], ◌∷◌, le_refl, refl}
 use Rattle.xray_io.specs.World.{desk_view}
 use Rattle.xray_program.specs.Asm.{AsmComes}
 use Rattle.xray_program.specs.Inputs.{text_form}
-use Rattle.xray_program.specs.Outcomes.{Outcome, Done}
-use Rattle.xray_program.specs.Taking.{DeskReads}
+use Rattle.xray_program.specs.Outcomes.{Done}
 use Rattle.xray_program.proofs.Ordering.{one_taking}
 use Rattle.xray_program.proofs.Turns.{last_taken, leads}
 use Rattle.xray_program.proofs.asm.AsmWork.take.Goals as goal

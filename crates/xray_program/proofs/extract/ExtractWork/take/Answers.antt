@@ -1,11 +1,9 @@
-use Rattle.std.proofs.Common.{◌≡◌, ℕ, List, [], ◌∷◌, le_refl, refl}
+use Rattle.std.proofs.Common.{◌≡◌, [], le_refl, refl}
 use Rattle.xray_io.specs.World.{desk_view}
 use Rattle.xray_image.specs.Extract.{extract_text}
-use Rattle.xray_image.specs.Program.{Program}
 use Rattle.xray_program.specs.Extract.{ExtractComes}
 use Rattle.xray_program.specs.Inputs.{image_form}
-use Rattle.xray_program.specs.Outcomes.{Outcome, Done}
-use Rattle.xray_program.specs.Taking.{DeskReads}
+use Rattle.xray_program.specs.Outcomes.{Done}
 use Rattle.xray_program.proofs.Ordering.{one_taking}
 use Rattle.xray_program.proofs.Turns.{last_taken, leads}
 use Rattle.xray_program.proofs.extract.ExtractWork.take.Goals as goal

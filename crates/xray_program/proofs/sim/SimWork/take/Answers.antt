@@ -14,9 +14,9 @@ returns-in_err-image-clause-taken g c =
     let seen = desk_view g.D.Desk.held g.D.Desk.read_faults g.D.Desk.write_faults in
     let s = c.args.self.now in
     let held = g.D.Desk.held c.args.desk.now in
-    let comes = Comes held s.image.now s.script.now s.schedule.now (setup_of s.options) in
-    handed_on comes (λ inputs. Replays s.script.now (setup_of s.options) inputs.image inputs.script inputs.schedule) (seen c.args.desk.now) (seen c.take.new.desk) c.from_residual.result _ c.from_residual.ensures.1
-    (stops_at image_form comes (seen c.args.desk.now) (seen c.args.desk.now) (seen c.take.new.desk) s.image.now (AfterImage held s.script.now s.schedule.now (setup_of s.options)) _
+    let comes = Comes held s.image.now s.script.now s.schedule.now s.files.trace.now s.files.audit.now (setup_of s.options) in
+    handed_on comes (λ inputs. Replays s.script.now s.files.trace.now s.files.audit.now (setup_of s.options) inputs.image inputs.script inputs.schedule) (seen c.args.desk.now) (seen c.take.new.desk) c.from_residual.result _ c.from_residual.ensures.1
+    (stops_at image_form comes (seen c.args.desk.now) (seen c.args.desk.now) (seen c.take.new.desk) s.image.now (AfterImage held s.script.now s.schedule.now s.files.trace.now s.files.audit.now (setup_of s.options)) _
     (leads comes) refl (le_refl _) c.in_err-image.ensures.taken)
 
 pub returns-in_err-script-clause-taken : goal.returns-in_err-script-clause-taken
@@ -24,12 +24,12 @@ returns-in_err-script-clause-taken g c =
     let seen = desk_view g.D.Desk.held g.D.Desk.read_faults g.D.Desk.write_faults in
     let s = c.args.self.now in
     let held = g.D.Desk.held c.args.desk.now in
-    let comes = Comes held s.image.now s.script.now s.schedule.now (setup_of s.options) in
+    let comes = Comes held s.image.now s.script.now s.schedule.now s.files.trace.now s.files.audit.now (setup_of s.options) in
     let program = c.in_ok-image.image in
-    handed_on comes (λ inputs. Replays s.script.now (setup_of s.options) inputs.image inputs.script inputs.schedule) (seen c.args.desk.now) (seen c.take-2.new.desk) c.from_residual-in_err-script.result _ c.from_residual-in_err-script.ensures.1
+    handed_on comes (λ inputs. Replays s.script.now s.files.trace.now s.files.audit.now (setup_of s.options) inputs.image inputs.script inputs.schedule) (seen c.args.desk.now) (seen c.take-2.new.desk) c.from_residual-in_err-script.result _ c.from_residual-in_err-script.ensures.1
     (stops_at (script_form program s.options.bounds.threads) comes (seen c.args.desk.now) (seen c.take.new.desk) (seen c.take-2.new.desk) s.script.now
-    (AfterScript held s.script.now s.schedule.now (setup_of s.options) program) _
-    (to_script held s.image.now s.script.now s.schedule.now (setup_of s.options) program c.in_ok-image.ensures.taken)
+    (AfterScript held s.script.now s.schedule.now s.files.trace.now s.files.audit.now (setup_of s.options) program) _
+    (to_script held s.image.now s.script.now s.schedule.now s.files.trace.now s.files.audit.now (setup_of s.options) program c.in_ok-image.ensures.taken)
     c.take.ensures.held c.take.ensures.later c.in_err-script.ensures.taken)
 
 pub returns-in_err-schedule-clause-taken : goal.returns-in_err-schedule-clause-taken
@@ -37,28 +37,28 @@ returns-in_err-schedule-clause-taken g c =
     let seen = desk_view g.D.Desk.held g.D.Desk.read_faults g.D.Desk.write_faults in
     let s = c.args.self.now in
     let held = g.D.Desk.held c.args.desk.now in
-    let comes = Comes held s.image.now s.script.now s.schedule.now (setup_of s.options) in
+    let comes = Comes held s.image.now s.script.now s.schedule.now s.files.trace.now s.files.audit.now (setup_of s.options) in
     let program = c.in_ok-image.image in
     let plan = c.in_ok-script.script in
     let given = given_before (script_form program s.options.bounds.threads) held (g.D.Desk.held c.take.new.desk) s.script.now plan c.take.ensures.held c.in_ok-script.ensures.taken in
-    handed_on comes (λ inputs. Replays s.script.now (setup_of s.options) inputs.image inputs.script inputs.schedule) (seen c.args.desk.now) (seen c.take-3.new.desk) c.from_residual-in_err-schedule.result _ c.from_residual-in_err-schedule.ensures.1
+    handed_on comes (λ inputs. Replays s.script.now s.files.trace.now s.files.audit.now (setup_of s.options) inputs.image inputs.script inputs.schedule) (seen c.args.desk.now) (seen c.take-3.new.desk) c.from_residual-in_err-schedule.result _ c.from_residual-in_err-schedule.ensures.1
     (stops_at (schedule_form s.options.bounds.threads) comes (seen c.args.desk.now) (seen c.take-2.new.desk) (seen c.take-3.new.desk) s.schedule.now
-    (AfterSchedule s.script.now (setup_of s.options) program plan) _
-    (to_schedule held s.image.now s.script.now s.schedule.now (setup_of s.options) program plan c.in_ok-image.ensures.taken given)
+    (AfterSchedule s.script.now s.files.trace.now s.files.audit.now (setup_of s.options) program plan) _
+    (to_schedule held s.image.now s.script.now s.schedule.now s.files.trace.now s.files.audit.now (setup_of s.options) program plan c.in_ok-image.ensures.taken given)
     (c.take-2.ensures.held ∙ c.take.ensures.held) (omega (arith, c.take.ensures.later, c.take-2.ensures.later)) c.in_err-schedule.ensures.taken)
 
 pub returns-clause-taken : goal.returns-clause-taken
 returns-clause-taken g c = λ outcome yields.
     let s = c.args.self.now in
     let held = g.D.Desk.held c.args.desk.now in
-    let comes = Comes held s.image.now s.script.now s.schedule.now (setup_of s.options) in
+    let comes = Comes held s.image.now s.script.now s.schedule.now s.files.trace.now s.files.audit.now (setup_of s.options) in
     let program = c.in_ok-image.image in
     let plan = c.in_ok-script.script in
     let turns = c.in_ok-schedule.schedule in
     let given = given_before (script_form program s.options.bounds.threads) held (g.D.Desk.held c.take.new.desk) s.script.now plan c.take.ensures.held c.in_ok-script.ensures.taken in
     let read = given_before (schedule_form s.options.bounds.threads) held (g.D.Desk.held c.take-2.new.desk) s.schedule.now turns (c.take-2.ensures.held ∙ c.take.ensures.held) c.in_ok-schedule.ensures.taken in
-    leads_on (schedule_form s.options.bounds.threads) comes held s.schedule.now (AfterSchedule s.script.now (setup_of s.options) program plan) turns
-    (to_schedule held s.image.now s.script.now s.schedule.now (setup_of s.options) program plan c.in_ok-image.ensures.taken given) read Sound outcome yields
+    leads_on (schedule_form s.options.bounds.threads) comes held s.schedule.now (AfterSchedule s.script.now s.files.trace.now s.files.audit.now (setup_of s.options) program plan) turns
+    (to_schedule held s.image.now s.script.now s.schedule.now s.files.trace.now s.files.audit.now (setup_of s.options) program plan c.in_ok-image.ensures.taken given) read Sound outcome yields
 
 pub returns-in_err-image-clause-calls : goal.returns-in_err-image-clause-calls
 returns-in_err-image-clause-calls g c =

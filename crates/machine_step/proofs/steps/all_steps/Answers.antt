@@ -3,7 +3,7 @@ use Rattle.std.proofs.lemmas.Option.{slice_get_past}
 use Rattle.machine_step.specs.declared.step.Step.TheVariants.{Nowhere}
 use Rattle.machine_step.specs.Steps.{IsStepAt}
 use Rattle.machine_step.proofs.Accepted.{HoldsSteps, low_address, has_sled, one_more_step}
-use Rattle.machine_step.proofs.steps.Steps.new.Goals as goal
+use Rattle.machine_step.proofs.steps.all_steps.Goals as goal
 
 pub step_of-requires-clause-address : goal.step_of-requires-clause-address
 step_of-requires-clause-address c =
@@ -18,9 +18,9 @@ step_of-requires-clause-sled c =
 pub loop-place-preserved : goal.loop-place-preserved
 loop-place-preserved c =
     let program = c.args.image.now in
-    let so_far = c.loop-place.steps.all.items in
+    let so_far = c.loop-place.all.items in
     let here : IsStepAt program c.loop-place.place c.step_of.result = rw c.unit.ensures c.step_of.ensures in
-    let many : c.loop-place.place ≡ length so_far = omega (arith, c.loop-place.steps.all.ok) in
+    let many : c.loop-place.place ≡ length so_far = omega (arith, c.loop-place.all.ok) in
     record {
       count = omega arith;
       room = omega arith;
@@ -31,8 +31,8 @@ loop-place-preserved c =
 pub returns : goal.returns
 returns c =
     let program = c.args.image.now in
-    let so_far = c.loop-place.steps.all.items in
-    let many : length so_far ≡ length program.units = omega (arith, c.loop-place.steps.all.ok) in
+    let so_far = c.loop-place.all.items in
+    let many : length so_far ≡ length program.units = omega (arith, c.loop-place.all.ok) in
     let past = slice_get_past program.units (length so_far) (omega arith) in
     let nowhere : IsStepAt program (length so_far) Nowhere = rw past refl in
     let all = one_more_step program so_far Nowhere c.loop-place.invariant.holds nowhere in

@@ -3,7 +3,7 @@ use Rattle.machine_step.specs.EndedText.{ended_text}
 use Rattle.xray_io.specs.Writes.{WritesText, sends_nothing}
 use Rattle.xray_program.specs.Ends.{thread_text}
 use Rattle.xray_program.proofs.Rows.{row_more, row_stop}
-use Rattle.xray_program.proofs.sim.write_states.Goals as goal
+use Rattle.xray_program.proofs.traced.write_states.Goals as goal
 
 pub loop-cpu-init : goal.loop-cpu-init
 loop-cpu-init g c = sends_nothing g.met.S.Sink.along_none _ _
