@@ -6,6 +6,7 @@ use xray_image::read_image;
 use xray_io::MemSink;
 
 mod ends;
+mod sizes;
 mod traced;
 
 /// A function `main` that outputs an A: an entry sled, `mov eax, 0x41`, `out 1, al`, an exit sled.

@@ -1,6 +1,5 @@
 //! `sim`: marks by scripts and schedules, several threads, limits, and the refusals of scripts and schedules.
 use crate::asm::{CALL, CALL_END, TAIL_JUMP, TAIL_JUMP_END};
-use crate::desks::Noting;
 use crate::runs::{IMAGE, Run, SCHEDULE, SCRIPT, STATE, desk_of, run_words};
 use std::process::Abort;
 use std::sync::Wait;
@@ -242,28 +241,25 @@ fn options_that_sim_does_not_take_are_a_bad_line(rt: HostRuntime) -> Result<(), 
     Ok(())
 }
 
-/// Checks that an input is refused with a line on err, and which inputs were asked for.
+/// Checks that an input is refused with a line on err.
 fn assert_refused<R: Abort + Threads + Wait + Sync + AllocGlobal>(
     rt: &R,
     words: &[&str],
     script: &str,
     schedule: &str,
     line: &str,
-    names: &str,
 ) -> Result<(), Fail> {
-    let desk = desk_of(rt.alloc(), &[], &IMAGE, script, schedule)?;
-    let mut noting = Noting::new(rt.alloc(), desk);
-    let run = run_words(rt, words, &mut noting, &[], &[])?;
+    let mut desk = desk_of(rt.alloc(), &[], &IMAGE, script, schedule)?;
+    let run = run_words(rt, words, &mut desk, &[], &[])?;
     assert_eq!(rt; run.err.as_str().trim_end(), line);
     assert_eq!(rt; run.status, 2, "{line}");
     assert_eq!(rt; run.out.as_str(), "", "{line}");
-    assert_eq!(rt; noting.names(), names, "{line}");
     Ok(())
 }
 
-/// The schedule would be refused too, and isn't opened.
+/// The schedule would be refused too.
 #[test]
-fn a_script_is_refused_before_the_schedule_is_opened(rt: HostRuntime) -> Result<(), Fail> {
+fn a_script_is_refused_before_the_schedule(rt: HostRuntime) -> Result<(), Fail> {
     let too_many = "patch\n".repeat(rt.alloc(), 1025)?;
     for (script, line) in [
         ("", "xray: s: script Go 1"),
@@ -291,7 +287,7 @@ fn a_script_is_refused_before_the_schedule_is_opened(rt: HostRuntime) -> Result<
         ("\n# \u{1}\ngo \u{1}", "xray: s: script Syntax 3"),
         (too_many.as_str(), "xray: s: script Limit 1025"),
     ] {
-        assert_refused(&rt, &SIM, script, "p 0", line, "is")?;
+        assert_refused(&rt, &SIM, script, "p 0", line)?;
     }
     Ok(())
 }
@@ -307,7 +303,7 @@ fn a_schedule_is_refused_by_its_first_fault(rt: HostRuntime) -> Result<(), Fail>
         ("t 1 4294967296", "xray: c: schedule Syntax 1"),
         (too_many.as_str(), "xray: c: schedule Limit"),
     ] {
-        assert_refused(&rt, &SIM, "go", schedule, line, "isc")?;
+        assert_refused(&rt, &SIM, "go", schedule, line)?;
     }
     Ok(())
 }
@@ -326,7 +322,7 @@ fn a_script_that_waits_is_refused_behind_the_schedule(rt: HostRuntime) -> Result
         ),
         ("go\n\nawait 1 0", "", "xray: s: script Waits 3"),
     ] {
-        assert_refused(&rt, &SIM, script, schedule, line, "isc")?;
+        assert_refused(&rt, &SIM, script, schedule, line)?;
     }
     Ok(())
 }
@@ -334,30 +330,9 @@ fn a_script_that_waits_is_refused_behind_the_schedule(rt: HostRuntime) -> Result
 #[test]
 fn scripts_and_schedules_are_read_for_the_number_of_threads(rt: HostRuntime) -> Result<(), Fail> {
     let three = ["sim", "i", "s", "c", "t", "a", "--threads=3"];
-    assert_refused(
-        &rt,
-        &three,
-        "hold 4 0\ngo",
-        "",
-        "xray: s: script Thread 1",
-        "is",
-    )?;
-    assert_refused(
-        &rt,
-        &three,
-        "hold 3 0\ngo",
-        "",
-        "xray: s: script Hold 3",
-        "is",
-    )?;
-    assert_refused(
-        &rt,
-        &three,
-        "go",
-        "t 4 1",
-        "xray: c: schedule Thread 1",
-        "isc",
-    )?;
+    assert_refused(&rt, &three, "hold 4 0\ngo", "", "xray: s: script Thread 1")?;
+    assert_refused(&rt, &three, "hold 3 0\ngo", "", "xray: s: script Hold 3")?;
+    assert_refused(&rt, &three, "go", "t 4 1", "xray: c: schedule Thread 1")?;
     assert_eq!(rt; run_image(&rt, &three, "go", "t 3 1")?.status, 0);
     Ok(())
 }

@@ -1,5 +1,5 @@
 -- The contract of a call, from how it ends.
-use Rattle.std.proofs.Common.{◌≡◌, ◌≢◌, ◌⊎◌, ◌∙◌, ℕ, List, Option, Some, None, inl, inr, refl, sym, subst}
+use Rattle.std.proofs.Common.{◌≡◌, ◌≢◌, ◌⊎◌, ◌∙◌, ℕ, List, Option, Some, None, inl, inr, refl, sym, ap, subst}
 use Rattle.xray_io.specs.Calls.{Call, Went}
 use Rattle.xray_io.specs.Desk.{Entry, Absent}
 use Rattle.xray_io.specs.Faults.{Rose}
@@ -183,8 +183,8 @@ by_ending laws Way said before after (With (Fell outputs text trouble)) fits (me
   complete = inl (Fell outputs text trouble, meant, refl);
   headline = λ e. absurd cc;
 }
-by_ending laws Way said before after (Unwritten n) fits fails kept order told = record {
-  ending = Unwritten n;
+by_ending laws Way said before after (Unwritten n outputs) fits fails kept order told = record {
+  ending = Unwritten n outputs;
   status = refl;
   told = told;
   order = order;
@@ -195,11 +195,11 @@ by_ending laws Way said before after (Unwritten n) fits fails kept order told = 
   unread = λ e. absurd cc;
   unwritten = λ e. record {
     name = n;
-    is = refl;
     outcome = fails.outcome;
     meant = fails.comes;
     outputs = fails.outputs;
     text = fails.text;
+    is = ap (λ (o : List (List ℕ × List ℕ)). Unwritten n o) (sym fails.then_so);
     writes = fails.writes;
     failed = fails.failed;
   };

@@ -49,11 +49,11 @@ pub record CouldNotRead (said : Option Command) (before after : World) (ending :
 -- it ended at an output, or at out, of an outcome that is meant and writes
 pub record CouldNotWrite (said : Option Command) (before after : World) (ending : Ending) : Type 0 where
   pub name : List ℕ
-  pub is : ending ≡ Unwritten name
   pub outcome : Outcome
   pub meant : Means said before.desk.held outcome
   pub outputs : List (List ℕ × List ℕ)
   pub text : List ℕ
+  pub is : ending ≡ Unwritten name outputs
   pub writes : written_by outcome ≡ Some (outputs, text)
   pub failed : FailsWriting outputs text before.desk after.desk before.out after.out name
 

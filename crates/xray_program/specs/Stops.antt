@@ -20,7 +20,7 @@ abbrev pub stop_line : Stop → List ℕ
 stop_line stops.BadLine = line_of BadLine
 stop_line (stops.Refused name kind words) = line_of (Refused name.now kind.now (words_text words))
 stop_line (stops.Unread name) = line_of (Unread name.now)
-stop_line (stops.Unwritten name) = line_at (Unwritten name.now)
+stop_line (stops.Unwritten name) = line_at (Unwritten name.now [])
 stop_line stops.NoMemory = line_at NoMemory
 stop_line (stops.TooLong name) = line_of (TooLong name.now)
 stop_line (stops.Fell trouble) = err_line (words_text trouble)

@@ -109,8 +109,8 @@ IsWritten (Some (outputs, text)) desk desk_now out out_now = Writes outputs text
 abbrev pub StandsBehind : Option Command → (desk desk_now : DeskView) → (out out_now : SinkView) → Ending → Type 0
 StandsBehind said desk desk_now out out_now (With outcome) =
     IsCaused said desk desk_now outcome × IsWritten (written_by outcome) desk desk_now out out_now
-StandsBehind said desk desk_now out out_now (Unwritten name) =
-    FailsToLeave (Means said desk.held) desk desk_now out out_now name (λ _. Unit {0})
+StandsBehind said desk desk_now out out_now (Unwritten name outputs) =
+    FailsToLeave (Means said desk.held) desk desk_now out out_now name (λ left. left ≡ outputs)
 StandsBehind said desk desk_now out out_now NoMemory = WritesNothing desk desk_now out out_now
 
 -- the numbers of a command that runs traced threads fit the records of a trace

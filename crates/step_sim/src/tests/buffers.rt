@@ -48,7 +48,7 @@ const TAIL_CALLS: [u8; 263] = [
 ];
 
 /// The script that traces all, from before the start.
-const TRACED: &[u8] = b"patch\nset_handler\ninit\ngo";
+pub(super) const TRACED: &[u8] = b"patch\nset_handler\ninit\ngo";
 
 /// A replay of an image.
 #[derive(Clone, Copy)]
