@@ -1,4 +1,4 @@
--- The addresses at which units begin.
+-- The addresses where units begin.
 use Rattle.std.proofs.Common.{◌≡◌, ℕ, ◌+◌, List, [], ◌∷◌, ◌++◌, length, refl, sym, ap, subst, ◌∙◌, arith, length-append, add_assoc, add-zero}
 use Rattle.std.specs.Prelude.{Contains}
 use Rattle.std.specs.List.{flat_map}
@@ -6,7 +6,7 @@ use Rattle.std.proofs.lemmas.List.Elements.{Contains-append_left}
 use Rattle.xray_image.specs.Units.{Piece, piece_bytes, sleds_in, units_from}
 use Rattle.xray_image.specs.Program.{addresses}
 
--- where pieces begin, from an address on
+-- the addresses where pieces begin, from an address on
 abbrev pub addresses_from : ℕ → List Piece → List ℕ
 addresses_from address [] = []
 addresses_from address (piece ∷ pieces) = address ∷ addresses_from (address + length (piece_bytes piece)) pieces
@@ -16,7 +16,7 @@ addresses-units address sleds [] = refl
 addresses-units address sleds (piece ∷ pieces) =
     ap (λ ns. address ∷ ns) (addresses-units (address + length (piece_bytes piece)) (sleds + sleds_in piece) pieces)
 
--- pieces behind others
+-- pieces after others
 pub addresses-append : (address : ℕ) (xs ys : List Piece) → addresses_from address (xs ++ ys) ≡ addresses_from address xs ++ addresses_from (address + length (flat_map piece_bytes xs)) ys
 addresses-append address [] ys = ap (λ n. addresses_from n ys) (sym (add-zero address))
 addresses-append address (x ∷ xs) ys =
@@ -26,7 +26,7 @@ addresses-append address (x ∷ xs) ys =
     ∙ ap (λ m. addresses_from (address + n) xs ++ addresses_from m ys)
     (add_assoc address n (length (flat_map piece_bytes xs)) ∙ ap (λ m. address + m) (sym (length-append (piece_bytes x) (flat_map piece_bytes xs)))))
 
--- the first of pieces
+-- the first piece
 pub first_address : (address : ℕ) (piece : Piece) (pieces : List Piece) → Contains (addresses_from address (piece ∷ pieces)) address
 first_address address piece pieces = (0, omega arith, refl)
 

@@ -1,4 +1,4 @@
--- The branches of a text that was read go to units.
+-- If a text was read, its branches go to units.
 use Rattle.std.proofs.Common.{◌≡◌, ℕ, zero, suc, ◌<◌, ◌+◌, ◌%◌, ℤ, pos, Bool, true, false, cond, ◌||◌, List, [], ◌∷◌, ◌++◌, length, Option, Some, None, refl, sym, ap, subst, ◌∙◌, arith, eqb, map, length-append, add_assoc, add-zero}
 use Rattle.std.specs.Prelude.{⊤, Ok, Contains, IfSome, is_some, unwrap_or}
 use Rattle.std.specs.List.{flat_map, AllByRecursion}
@@ -35,7 +35,7 @@ earlier_has : (P : ℕ → Type 0) (a b : Option ℕ) → ((own : ℕ) → a ≡
 earlier_has P None b ha hb own e = hb own e
 earlier_has P (Some x) b ha hb own e = ha own e
 
--- what holds of each line's own place
+-- a fact of each line's own place
 abbrev pub OwnHas : (ℕ → Type 0) → Placed → Type 0
 OwnHas P p = (own : ℕ) → own_place p ≡ Some own → P own
 
@@ -53,7 +53,7 @@ name_has P [] has name place e = absurd (cc e)
 name_has P (p ∷ behind) has name place e =
     by_definition P (defines name p.statement) (next_place (p ∷ behind)) (place_of name behind) place (next_has P (p ∷ behind) has place) (name_has P behind has.1 name place) e
 
--- a line that defines a name has a place, or one behind it
+-- a line that defines a name has a place, or a later line has
 defined_here : (lines : Lines) (name : List ℕ) (p : Placed) (s : Statement) (behind : List Placed) → s ≡ p.statement → defines name s ≡ true → is_unresolved lines s (lines_of behind) ≡ false
     → is_some (next_place (p ∷ behind)) ≡ true
 defined_here lines name p (Base address) behind is here settled = absurd (cc here)
@@ -94,14 +94,14 @@ some_place P (Some place) some h = h place refl
 abbrev pub GoesTo : List ℕ → ℤ → Type 0
 GoesTo begins target = (address : ℕ) × (target ≡ pos address) × Contains begins address
 
--- a piece at an address goes to a unit where it branches
+-- if a piece branches, it goes from its address to a unit
 abbrev pub Reaches : List ℕ → ℕ → Piece → Type 0
 Reaches begins address (Instruction instr) = IfSome (branch_target (address + length (spelling instr)) instr) (GoesTo begins)
 Reaches begins address (JumpSled shift) = ⊤
 Reaches begins address (ReturnSled shift) = ⊤
 Reaches begins address Align = ⊤
 
--- each of pieces
+-- the same for each of several pieces
 abbrev pub Reach : List ℕ → ℕ → List Piece → Type 0
 Reach begins address [] = ⊤
 Reach begins address (piece ∷ pieces) = Reaches begins address piece × Reach begins (address + length (piece_bytes piece)) pieces
@@ -114,7 +114,7 @@ reach-append begins address (x ∷ xs) ys first second =
     ap (λ m. address + m) (length-append (piece_bytes x) (flat_map piece_bytes xs)) ∙ sym (add_assoc address n (length (flat_map piece_bytes xs))) in
     (first.0, reach-append begins (address + n) xs ys first.1 (subst (λ a. Reach begins a ys) same second))
 
--- a unit that branches goes to one of the addresses
+-- if a unit branches, it goes to one of the addresses
 abbrev pub UnitReaches : List ℕ → CodeUnit → Type 0
 UnitReaches begins u = (instr : Instr) → u.what ≡ whats.Plain instr → IfSome (branch_target (u.address + length (spelling instr)) instr) (GoesTo begins)
 
@@ -167,7 +167,7 @@ module _ (all : List Placed) (base : ℕ) (begins : List ℕ) where
         | false ↦ (tt, (nowhere (address + 1), tt))
       ]
 
-  -- a tail jump behind its sled
+  -- a tail jump after its sled
   tail_at : (behind address : ℕ) (r : ℕ) (name : List ℕ) → r < 2 → address + (r + 11 + 5) ≡ base + behind → Contains begins (base + target name)
       → Reach begins address (map (piece_of all behind) (at_parity r (JumpSled sled_shift) ++ Jump branches.Jmp name ∷ []))
   tail_at behind address zero name h ends there = (tt, (jump_reaches behind (address + 11) branches.Jmp name (omega (arith, ends)) there, tt))

@@ -15,7 +15,7 @@ sled_alone all behind place sled =
       | false ↦ ap (λ bytes. 0x90 ∷ bytes) (append-nil (piece_bytes sled))
     ]
 
--- and with a branch behind it
+-- and with a branch after it
 pub sled_then_branch : (all : List Placed) (behind place : ℕ) (sled : Piece) (branch : Branch) (name : List ℕ)
     → parts_bytes all behind (aligned place sled ++ Jump branch name ∷ [])
     ≡ cond (eqb (place % 2) 0) (piece_bytes sled) (0x90 ∷ piece_bytes sled) ++ piece_bytes (piece_of all behind (Jump branch name))
@@ -25,7 +25,7 @@ sled_then_branch all behind place sled branch name =
       | false ↦ ap (λ bytes. 0x90 ∷ piece_bytes sled ++ bytes) (append-nil (piece_bytes (piece_of all behind (Jump branch name))))
     ]
 
--- one addition behind another
+-- one addition after another
 pub added_behind : {X E : Type 0} (r : Result X E) (new mid old a b : List ℕ) → mid ≡ old ++ a → OnOk r (new ≡ mid ++ b) → OnOk r (new ≡ old ++ (a ++ b))
 added_behind (Ok x) new mid old a b first second = second ∙ ap (λ xs. xs ++ b) first ∙ append_assoc old a b
 added_behind (Err e) new mid old a b first second = tt

@@ -45,12 +45,12 @@ label_unresolved p behind none = ap (λ o. not (is_some o)) (next_place-cons p b
 pub missing_name : (lines : Lines) (names : NameTable) (name : List ℕ) → IsNames lines names → not (is_some (line_named names name)) ≡ not (is_defined name lines)
 missing_name lines names name is = ap (λ o. not (is_some o)) (is name) ∙ ap not (sym (is_defined-at name lines))
 
--- a test that answers the other way round
+-- a test with the opposite answer
 pub other_way : (answer some : Bool) → some ≡ not answer → answer ≡ not some
 other_way true some h = sym (ap not h)
 other_way false some h = sym (ap not h)
 
--- what an option within an option has
+-- the value of an option within an option
 abbrev pub inner : Option (Option ℕ) → Option ℕ
 inner None = None
 inner (Some o) = o
@@ -78,7 +78,7 @@ place_at_line name line d all table next are found within =
     ∙ sym (ap (λ o. inner (option_and_then (slice_get (next_places all)) o)) at)
     ∙ place_by_line name all
 
--- a line behind the last
+-- a line after the last
 pub place_past : (name : List ℕ) (line : ℕ) (all : List Placed) (table : NameTable) (next : List (Option ℕ)) → ArePlaces all table next
     → Some line ≡ line_named table name → length next ≤ line → None ≡ place_of name all
 place_past name line all table next are found past =
@@ -97,7 +97,7 @@ length-next_places : (all : List Placed) → length (next_places all) ≡ length
 length-next_places [] = refl
 length-next_places (p ∷ behind) = ap suc (length-next_places behind)
 
--- as many places as lines
+-- there are as many places as lines
 pub places_count : (laid : List Laid) (table : NameTable) (next : List (Option ℕ)) → ArePlaces (placed_in laid) table next → length next ≡ length laid
 places_count laid table next are = ap length are.targets ∙ length-next_places (placed_in laid) ∙ simp length-map
 
@@ -106,7 +106,7 @@ next_places-at [] i d within = absurd (omega arith)
 next_places-at (p ∷ behind) zero d within = refl
 next_places-at (p ∷ behind) (suc i) d within = next_places-at behind i d (omega arith)
 
--- the place of a line and those behind it
+-- the place of a line and of those after it
 pub target_at : (laid : List Laid) (i : ℕ) (d : Option ℕ) (e : Laid) (table : NameTable) (next : List (Option ℕ)) → ArePlaces (placed_in laid) table next → i < length laid
     → get_or next i d ≡ next_place (line_placed (get_or laid i e) ∷ placed_in (drop (suc i) laid))
 target_at laid i d e table next are within =
@@ -119,7 +119,7 @@ pub resolved_step : (lines : Lines) (laid : List Laid) (i : ℕ) (e : Laid) → 
     ≡ cond (is_unresolved lines (statement_said (get_or laid i e).statement) (lines_of (placed_in (drop (suc i) laid)))) (Err (Unresolved (get_or laid i e).line)) (resolved lines (lines_of (placed_in (drop (suc i) laid))))
 resolved_step lines laid i e within = ap (λ ls. resolved lines (lines_of (placed_in ls))) (drop-cons laid i e within)
 
--- what a turn finds
+-- what one turn of the search finds
 abbrev pub Finds : List Laid → NameTable → ℕ → Option ℕ → Laid → Bool → Type 0
 Finds laid table i target line answer =
     (behind : List Placed) → IsNames (lines_of (placed_in laid)) table → target ≡ next_place (line_placed line ∷ behind)

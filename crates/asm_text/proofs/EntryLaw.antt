@@ -1,4 +1,4 @@
--- A text that is refused nowhere has an entry function.
+-- A text that isn't refused has an entry function.
 use Rattle.std.proofs.Common.{◌≡◌, ℕ, ◌+◌, ◌<◌, Bool, true, false, cond, not, ◌||◌, List, [], ◌∷◌, length, suc, Option, Some, None, refl, sym, ap, subst, ◌∙◌, arith}
 use Rattle.std.specs.Prelude.{slice_get}
 use Rattle.std.specs.List.{cons_option, filter_map, list_any, position_or_len}
@@ -79,7 +79,7 @@ entry_named all [] settled name h = absurd (cc h)
 entry_named all (line ∷ behind) settled name h =
     entry_first all line.1 behind (filter_map (λ line. entry_in_line line.1) behind) name settled.0 (entry_named all behind settled.1 name) h
 
--- the number of the entry is that of a function
+-- the number of the entry is a function's
 pub entry_exists : (base : ℕ) (chosen : Choosing) (said : Lines) → AreSaid said → entry_of said (functions base (placed chosen said)) < length (functions base (placed chosen said))
 entry_exists base chosen said are = by_name (slice_get (filter_map (λ line. entry_in_line line.1) said) 0) refl
   where

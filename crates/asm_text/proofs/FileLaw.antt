@@ -69,7 +69,7 @@ program_in f pieces = record {
   trampolines = trampolines_at f.base;
 }
 
--- the parts of a file are in order
+-- the parts of a file fit together
 pub record IsInOrder (f : File) (pieces : List Piece) : Type 0 where
   pub fits : FileFits f
   pub base_aligned : f.base % 16 ≡ 0

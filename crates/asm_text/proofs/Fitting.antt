@@ -1,4 +1,4 @@
--- What every statement of a text that was read keeps to.
+-- What is true of every statement of a text that was read.
 use Rattle.std.proofs.Common.{◌≡◌, ℕ, zero, suc, ◌%◌, ◌<◌, ◌≤◌, Bool, true, false, cond, not, ◌&&◌, List, [], ◌∷◌, ◌++◌, length, get_or, Option, Some, None, refl, sym, subst, arith, eqb, ltb, leb}
 use Rattle.std.specs.Prelude.{⊤, is_some, find, Result, Ok, Err, option_map, option_and_then, slice_get, unwrap_or}
 use Rattle.std.specs.List.{list_all, filter_map, cons_option, AllByRecursion}
@@ -31,7 +31,7 @@ use Rattle.asm_text.specs.Files.{HasShortName}
 use Rattle.asm_text.specs.Fits.{Fits, OperationFits, AllFit}
 use Rattle.asm_text.specs.Refusals.{judged, spoken, with_words, with_line, read_lines, is_misplaced, names_reserved, operation_reserves, operation_exceeds, is_wide, is_out_of_range, repeats, exceeds_limits, ◌>>=◌}
 
--- no branch stands among the instructions that name no place
+-- none of the instructions that go to no name is a branch
 abbrev pub NamesNoPlace : Instr → Type 0
 NamesNoPlace (instrs.Mov dst imm) = ⊤
 NamesNoPlace (instrs.Add dst src) = ⊤

@@ -1,4 +1,4 @@
--- The functions of a text that was read are functions of an accepted image.
+-- The functions of a text that was read can be those of an accepted image.
 use Rattle.std.proofs.Common.{◌≡◌, ◌≢◌, ℕ, zero, suc, ◌+◌, ◌<◌, ◌≤◌, Bool, true, false, cond, not, ◌||◌, ◌&&◌, List, [], ◌∷◌, ◌++◌, length, get_or, take, Option, Some, None, refl, sym, ap, subst, ◌∙◌, arith, leb, add-zero}
 use Rattle.std.specs.Prelude.{⊤, Ok, All, Contains, slice_get}
 use Rattle.std.specs.List.{list_all, cons_option, last_or, AllByRecursion}
@@ -39,7 +39,7 @@ starts_at_units base begins (p ∷ behind) all = starts_first base begins p p.st
 
 -- ---- starts ascend
 
--- each function begins behind the one before it
+-- each function begins after the one before it
 abbrev pub Ascend : ℕ → Option Function → List Function → Type 0
 Ascend base o [] = ⊤
 Ascend base o (f ∷ fs) = BeginsBehind base o f.start × Ascend base (Some f) fs
@@ -49,7 +49,7 @@ ascend_at base o [] i f ascend e = absurd (cc e)
 ascend_at base o (g ∷ fs) zero f ascend e = let at : g ≡ f = cc e in subst (λ (x : Function). BeginsBehind base o x.start) at ascend.0
 ascend_at base o (g ∷ fs) (suc i) f ascend e = ascend_at base (Some g) fs i f ascend.1 e
 
--- where lines stand: no function before them and no code, or behind the start of the last function
+-- where lines come: before all functions and all code, or not before the start of the last function
 abbrev pub Stood : ℕ → ℕ → Lines → Option Function → Type 0
 Stood base place before None = (place ≡ 0) × (has_function before ≡ false)
 Stood base place before (Some f) = (f.start ≤ base + place) × (is_bare before ≡ false → f.start < base + place)
@@ -67,7 +67,7 @@ ascend_first : (base : ℕ) (o new : Option Function) (fs : List Function) → M
 ascend_first base o None fs begins rest = rest
 ascend_first base o (Some f) fs begins rest = (begins, rest)
 
--- a line that is neither a function's nor an instruction's
+-- a line that begins no function and isn't an instruction line
 stood_same : (base place : ℕ) (before : Lines) (number : ℕ) (s : Statement) (o : Option Function) → is_function s ≡ false → is_instruction s ≡ false
     → Stood base place before o → Stood base (place + 0) (before ++ (number, s) ∷ []) o
 stood_same base place before number s None f i stood =
@@ -158,7 +158,7 @@ name_of_bytes name h = All-from_recursion (λ b. is_name_byte b ≡ true) name (
 
 -- ---- no name twice
 
--- a name that is defined is none of the names that aren't
+-- a defined name isn't one of the names that aren't
 abbrev pub Knows : List ℕ → Lines → Type 0
 Knows name before = (other : List ℕ) → is_defined other before ≡ false → bytes_eq name other ≡ false
 
@@ -188,7 +188,7 @@ apart base chosen place owner before (line ∷ behind) name all knows =
     apart_first base before p line.1 (functions base (placed_from chosen next here behind)) name all.0 knows
     (apart base chosen next here (before ++ line ∷ []) behind name all.1 (knows-more name before line knows))
 
--- each name differs from those behind it
+-- each name differs from those after it
 abbrev pub OwnNames : List Function → Type 0
 OwnNames [] = ⊤
 OwnNames (f ∷ fs) = AllByRecursion (λ g. bytes_eq f.name g.name ≡ false) fs × OwnNames fs

@@ -1,4 +1,4 @@
--- One more line behind those that are laid out, where each function that doesn't say never counts as instrumented.
+-- One more line after those that are laid out. Each function that doesn't say never counts as instrumented.
 use Rattle.std.proofs.Common.{◌≡◌, ℕ, ◌+◌, Bool, false, [], ◌∷◌, ◌++◌, refl, ap, ◌∙◌, arith, append-nil}
 use Rattle.std.specs.List.{flat_map}
 use Rattle.std.proofs.lemmas.List.Sums.{sum_by-append}
@@ -8,7 +8,7 @@ use Rattle.asm_text.specs.Statements.{Statement, Base, Entry, Func, Label, Does}
 use Rattle.asm_text.specs.Layout.{Lines, Owner, Placed, unless_never, owner_of, no_owner, parts_of, parts_at, placed_from, placed, all_parts, width, widths}
 use Rattle.asm_text.specs.FirstPass.{traced_after, traced_by}
 
--- where the lines end, and the function that the last one stands in
+-- where the lines end, and the function that the last one belongs to
 abbrev pub end_of : ℕ → Owner → Lines → ℕ
 end_of place owner [] = place
 end_of place owner (line ∷ behind) =
@@ -21,7 +21,7 @@ owner_after place owner (line ∷ behind) =
     let here = owner_of unless_never place owner line.1 behind in
     owner_after (place + widths (parts_of here.traced place line.1)) here behind
 
--- what stands behind decides nothing here
+-- the lines after this one decide nothing here
 same_owner : (place : ℕ) (owner : Owner) (statement : Statement) (xs ys : Lines) → owner_of unless_never place owner statement xs ≡ owner_of unless_never place owner statement ys
 same_owner place owner (Base address) xs ys = refl
 same_owner place owner (Entry name) xs ys = refl
@@ -31,7 +31,7 @@ same_owner place owner (Func name Never) xs ys = refl
 same_owner place owner (Label name) xs ys = refl
 same_owner place owner (Does operation) xs ys = refl
 
--- a line as it is laid out behind others
+-- a line as it is laid out after others
 abbrev pub placed_last : ℕ → Owner → Lines → ℕ → Statement → Placed
 placed_last place owner lines number statement = record {
   line = number;

@@ -1,4 +1,4 @@
--- A text makes no more code and sleds than it is counted for.
+-- A text makes no more code and no more sleds than were counted for it.
 use Rattle.std.proofs.Common.{◌≡◌, ℕ, ◌+◌, ◌%◌, ◌≤◌, Bool, true, false, List, [], ◌∷◌, refl, arith}
 use Rattle.std.specs.Prelude.{sum_by}
 use Rattle.std.specs.List.{flat_map}
@@ -45,7 +45,7 @@ line_no_more false true p q (Does Return) h i =
     (omega (arith, widths_aligned q (ReturnSled sled_shift)), omega (arith, sleds_aligned q (ReturnSled sled_shift)))
 line_no_more false false p q (Does operation) h i = (omega arith, omega arith)
 
--- what is instrumented is counted as that
+-- what is instrumented is counted so
 counted_too : (threshold p q : ℕ) (o c : Owner) (s : Statement) (xs ys : Lines) → (o.traced ≡ true → c.traced ≡ true)
     → (owner_of (by_threshold threshold) p o s xs).traced ≡ true → (owner_of unless_never q c s ys).traced ≡ true
 counted_too threshold p q o c (Base address) xs ys i h = i h

@@ -1,4 +1,4 @@
--- The names of one more line.
+-- a search in a table of references is one in the table of their texts
 use Rattle.std.proofs.Common.{◌≡◌, ℕ, suc, Bool, true, false, cond, ◌||◌, List, [], ◌∷◌, ◌++◌, length, Option, Some, None, refl, sym, ap, subst, ◌∙◌}
 use Rattle.std.specs.Prelude.{is_some, option_map}
 use Rattle.std.specs.Str.{bytes_eq}
@@ -10,7 +10,7 @@ use Rattle.asm_text.specs.NameTables.{line_named}
 use Rattle.asm_text.specs.Refusals.{is_defined, repeats}
 use Rattle.asm_text.specs.FirstPass.{defined_at, name_defined, is_named, IsNames}
 
--- whether a name that may be none is defined
+-- whether a name, if there is one, is defined
 abbrev pub is_taken : Option (List ℕ) → Lines → Bool
 is_taken None lines = false
 is_taken (Some name) lines = is_defined name lines
@@ -37,7 +37,7 @@ some_map : (o : Option ℕ) → is_some (option_map suc o) ≡ is_some o
 some_map None = refl
 some_map (Some n) = refl
 
--- a name is defined where a line defines it
+-- a name is defined exactly if a line defines it
 pub is_defined-at : (q : List ℕ) (lines : Lines) → is_defined q lines ≡ is_some (defined_at q lines)
 is_defined-at q [] = refl
 is_defined-at q (line ∷ behind) =
@@ -46,7 +46,7 @@ is_defined-at q (line ∷ behind) =
       | false ↦ is_defined-at q behind ∙ sym (some_map (defined_at q behind))
     ]
 
--- the answer of the first lines, or else that of one more
+-- the answer for the first lines, or else that for one more
 abbrev pub or_last : Option ℕ → Bool → ℕ → Option ℕ
 or_last None here n = cond here (Some n) None
 or_last (Some i) here n = Some i
@@ -69,14 +69,14 @@ none_from : (o : Option ℕ) → is_some o ≡ false → o ≡ None
 none_from None h = refl
 none_from (Some n) h = cc
 
--- a name that isn't taken is defined by no line
+-- a name that isn't defined is defined by no line
 named_free : (o : Option (List ℕ)) (q : List ℕ) (lines : Lines) → is_taken o lines ≡ false → is_named o q ≡ true → defined_at q lines ≡ None
 named_free None q lines free here = cc
 named_free (Some name) q lines free here =
     let same : name ≡ q = (bytes_eq-Decides name q).0 here in
     none_from (defined_at q lines) (sym (is_defined-at q lines) ∙ subst (λ n. is_defined n lines ≡ false) same free)
 
--- the table of names with those of one more line
+-- the table with the names of one more line
 pub names_more : (lines : Lines) (number : ℕ) (statement : Statement) (old new : NameTable) → IsNames lines old → repeats lines statement ≡ false
     → ((q : List ℕ) → line_named new q ≡ cond (is_named (name_defined statement) q) (Some (length lines)) (line_named old q)) → IsNames (lines ++ (number, statement) ∷ []) new
 names_more lines number statement old new is free more q =

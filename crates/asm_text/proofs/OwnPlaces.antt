@@ -1,4 +1,4 @@
--- At the place that a line gives, that of an instruction line or a function's start, a unit begins.
+-- At the place that a line gives, a unit begins. It is the place of an instruction line or a function's start.
 use Rattle.std.proofs.Common.{◌≡◌, ℕ, zero, suc, ◌+◌, ◌%◌, ◌<◌, Bool, true, false, cond, List, [], ◌∷◌, ◌++◌, Some, refl, sym, ap, subst, ◌∙◌, arith, eqb, map, append-nil, add_assoc, add-zero}
 use Rattle.std.specs.Prelude.{Contains}
 use Rattle.std.specs.List.{flat_map, AllByRecursion}
@@ -14,7 +14,7 @@ use Rattle.asm_text.proofs.Placing.{parts_length}
 use Rattle.asm_text.proofs.SaidLines.{IsFilled, AllFilled}
 use Rattle.asm_text.proofs.Addresses.{addresses_from, addresses-append, first_address, address_within}
 
--- the place that a line gives is among the addresses
+-- the place that a line gives is one of the addresses
 abbrev pub Stands : ℕ → List ℕ → Placed → Type 0
 Stands base begins p = (own : ℕ) → own_place p ≡ Some own → Contains begins (base + own)
 
@@ -26,7 +26,7 @@ module _ (all : List Placed) (behind : ℕ) where
   abbrev made : List Part → List Piece
   made parts = map (piece_of all behind) parts
 
-  -- the byte that aligns a sled, or the sled, begins where its line does
+  -- the alignment byte of a sled, or the sled, begins where its line does
   aligned_first : (address place : ℕ) (sled : Piece) (rest : List Part) → Contains (addresses_from address (made (aligned place sled ++ rest))) address
   aligned_first address place sled rest =
       elim (eqb (place % 2) 0) as (λ t. Contains (addresses_from address (map (piece_of all behind) (cond t (Fixed sled ∷ []) (Fixed Align ∷ Fixed sled ∷ []) ++ rest))) address) [
@@ -54,7 +54,7 @@ module _ (all : List Placed) (behind : ℕ) where
   sled_at address sled (suc zero) h = (1, omega arith, refl)
   sled_at address sled (suc (suc r)) h = absurd (omega arith)
 
-  -- the sled itself begins behind any alignment byte
+  -- the sled itself begins after any alignment byte
   aligned_sled : (base place : ℕ) (sled : Piece) → Contains (addresses_from (base + place) (made (aligned place sled))) (base + (place + place % 2))
   aligned_sled base place sled =
       subst (λ a. Contains (addresses_from (base + place) (map (piece_of all behind) (aligned place sled))) a) (add_assoc base place (place % 2)) (sled_at (base + place) sled (place % 2) (omega arith))
@@ -64,7 +64,7 @@ module _ (all : List Placed) (base : ℕ) where
   abbrev begins : Choosing → ℕ → Owner → Lines → List ℕ
   begins chosen place owner lines = addresses_from (base + place) (flat_map (line_pieces all) (placed_from chosen place owner lines))
 
-  -- where an instruction line follows, a unit begins at the place of the lines
+  -- if an instruction line follows, a unit begins at the place of the lines
   next_unit : (chosen : Choosing) (place : ℕ) (owner : Owner) (lines : Lines) → 0 < instruction_lines lines → Contains (begins chosen place owner lines) (base + place)
   next_unit chosen place owner [] h = absurd (omega arith)
   next_unit chosen place owner ((number, Base address) ∷ behind) h =
@@ -80,7 +80,7 @@ module _ (all : List Placed) (base : ℕ) where
       address_within (base + place) (map (piece_of all next) xs) (flat_map (line_pieces all) (placed_from chosen next owner behind)) (base + place)
       (operation_first all next owner.traced (base + place) place operation)
 
-  -- the units of a line, and those behind it
+  -- the units of a line, and those after it
   abbrev line_begins : (here : Owner) (chosen : Choosing) (place : ℕ) (s : Statement) (behind : Lines) → List ℕ
   line_begins here chosen place s behind =
       addresses_from (base + place) (map (piece_of all (place + widths (parts_of here.traced place s))) (parts_of here.traced place s))

@@ -11,7 +11,7 @@ use Rattle.asm_text.specs.Statements.{Plain, Go, TailJump, Return, Statement, Ba
 use Rattle.asm_text.specs.Layout.{Lines, Placed, Owner, Choosing, owner_of, function_at, instruction_lines, no_owner, parts_of, parts_at, placed_from, placed, widths, sled_shift, sled_kind, functions, function_in}
 use Rattle.asm_text.proofs.WidthLemmas.{widths_aligned, widths_aligned_branch}
 
--- the last start at an address or below, or else another
+-- the last start at or below an address, or else another
 abbrev pub last_start : Option ℕ → ℕ → List Function → Option ℕ
 last_start o address fs = last_or o (map (λ f. f.start) (filter (λ f. leb f.start address) fs))
 
@@ -69,7 +69,7 @@ start_first chosen base place owner number (Func name choice) behind fs all = (o
 start_first chosen base place owner number (Label name) behind fs all = all
 start_first chosen base place owner number (Does operation) behind fs all = all
 
--- functions start where their lines begin, or behind that
+-- functions start where their lines begin, or after that
 starts_from : (chosen : Choosing) (base place : ℕ) (owner : Owner) (lines : Lines) → AllByRecursion (λ f. base + place ≤ f.start) (functions base (placed_from chosen place owner lines))
 starts_from chosen base place owner [] = tt
 starts_from chosen base place owner (line ∷ behind) =
@@ -79,7 +79,7 @@ starts_from chosen base place owner (line ∷ behind) =
     start_first chosen base place owner line.0 line.1 behind (functions base left)
     (weaker base place (place + w) (functions base left) (omega arith) (starts_from chosen base (place + w) here behind))
 
--- lines begin where those before them end, or behind that
+-- lines begin where those before them end, or after that
 places_from_next : (chosen : Choosing) (place : ℕ) (owner : Owner) (lines : Lines) (n : ℕ) → n ≤ place → AllByRecursion (λ p. n ≤ p.place) (placed_from chosen place owner lines)
 places_from_next chosen place owner [] n h = tt
 places_from_next chosen place owner (line ∷ behind) n h =
@@ -102,7 +102,7 @@ start_after base p (Func name choice) o = Some (base + p.owner.start)
 start_after base p (Label name) o = o
 start_after base p (Does operation) o = o
 
--- a function starts at a place or before
+-- a function starts at this place or before it
 abbrev pub StartsTo : Placed → ℕ → Statement → Type 0
 StartsTo p next (Base address) = ⊤
 StartsTo p next (Entry name) = ⊤
@@ -110,7 +110,7 @@ StartsTo p next (Func name choice) = p.owner.start ≤ next
 StartsTo p next (Label name) = ⊤
 StartsTo p next (Does operation) = ⊤
 
--- one line in front of those that lie among theirs
+-- one line before those that lie in their functions
 more_among : (base next : ℕ) (o : Option ℕ) (p : Placed) (s : Statement) (fs : List Function) (lines : List Placed)
     → StartsTo p next s → AllByRecursion (λ q. next ≤ q.place) lines
     → AllByRecursion (LiesAmong base (start_after base p s o) fs) lines → AllByRecursion (LiesAmong base o (cons_option (function_in base p s) fs)) lines
@@ -178,6 +178,6 @@ all_among chosen base place owner (line ∷ behind) o h =
           (all_among chosen base next here behind (start_after base p line.1 o) (keeps_start chosen base place owner line.0 line.1 behind o h)),
     )
 
--- each line with a sled lies in its function
+-- each line with a sled is in its function
 pub lines_lie : (chosen : Choosing) (base : ℕ) (said : Lines) → AllByRecursion (LiesAmong base None (functions base (placed chosen said))) (placed chosen said)
 lines_lie chosen base said = all_among chosen base 0 no_owner said None (λ h. absurd (cc h))

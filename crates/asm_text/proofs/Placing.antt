@@ -24,7 +24,7 @@ lines_of-placed chosen place owner (line ∷ behind) =
     let here = owner_of chosen place owner line.1 behind in
     ap (λ ls. line ∷ ls) (lines_of-placed chosen (place + widths (parts_of here.traced place line.1)) here behind)
 
--- a line, and the place that it gives, lie within
+-- a line, and the place that it gives, are within
 abbrev pub Lies : ℕ → Placed → Type 0
 Lies n p = (p.place ≤ n) × ((own : ℕ) → own_place p ≡ Some own → own ≤ n)
 
@@ -42,7 +42,7 @@ start_within chosen place owner (Func name choice) behind n own h e =
 start_within chosen place owner (Label name) behind n own h e = absurd (cc e)
 start_within chosen place owner (Does operation) behind n own h e = let at : place ≡ own = cc e in omega arith
 
--- each line of a list
+-- the same for each line of a list
 abbrev pub AllLie : ℕ → List Placed → Type 0
 AllLie n [] = Unit {0}
 AllLie n (p ∷ behind) = Lies n p × AllLie n behind
@@ -63,7 +63,7 @@ lies_at n [] i d lie within = absurd (omega arith)
 lies_at n (p ∷ behind) zero d lie within = lie.0.0
 lies_at n (p ∷ behind) (suc i) d lie within = lies_at n behind i d lie.1 (omega arith)
 
--- the same of the lines that were laid out
+-- the same for the lines that were laid out
 pub laid_lie : (n : ℕ) (laid : List Laid) (i : ℕ) (d : Laid) → AllLie n (placed_in laid) → i < length laid → (get_or laid i d).place ≤ n
 laid_lie n laid i d lie within =
     subst (λ (p : Placed). p.place ≤ n) (get_or-map line_placed laid i d (line_placed d) within)

@@ -1,4 +1,4 @@
--- The image of a text that is refused nowhere is accepted, with the program that the text says.
+-- If a text isn't refused, its image is accepted, with the program that the text says.
 use Rattle.std.proofs.Common.{◌≡◌, ℕ, ◌≤◌, List, [], ◌∷◌, map, refl, sym, ap, subst, ◌∙◌, arith}
 use Rattle.std.specs.Prelude.{Ok, sum_by, slice_get}
 use Rattle.std.specs.Option.{option_map_or}
@@ -27,7 +27,7 @@ use Rattle.asm_text.proofs.FileLaw.{program_in, IsInOrder, accepted_file}
 use Rattle.asm_text.proofs.FunctionsLaw.{are_functions}
 use Rattle.asm_text.proofs.BranchesLaw.{branches_reach}
 
--- a sled as the code and the map tell it is that of its line
+-- a sled, as the code and the map say it, is the sled of its line
 sleds_by_lines : (base : ℕ) (entries : List MapEntry) (lines : List (Placed × ℕ))
     → map (sled_of entries) (zip (map (place_for base) lines) (map (entry_for base) lines)) ≡ map (sled_said entries) (map (entry_for base) lines)
 sleds_by_lines base entries [] = refl
@@ -105,7 +105,7 @@ module _ (text : List ℕ) (threshold : ℕ) (said : Lines) (read : said_by text
       subst (IsAccepted (file_bytes (image_of threshold said))) (same_program threshold said)
       (accepted_file (image_of threshold said) (pieces (placed (by_threshold threshold) said)) in_order)
 
-  -- the same of a file that is the answer for the text
+  -- the same for the file that is assembled of the text
   pub holds_program : (file : List ℕ) → assembled text threshold ≡ Ok file → IsProgramOf text threshold file
   holds_program file is =
       let made : Ok (file_bytes (image_of threshold said)) ≡ Ok file = sym (ap (λ r. r >>= λ lines. Ok (file_bytes (image_of threshold lines))) read) ∙ is in

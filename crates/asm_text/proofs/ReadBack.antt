@@ -1,4 +1,4 @@
--- The parts of a file are read back as they were written.
+-- The parts of a file are read as they were written.
 use Rattle.std.proofs.Common.{◌≡◌, ℕ, zero, suc, ◌+◌, ◌^◌, ◌<◌, ◌≤◌, false, cond, List, [], ◌∷◌, ◌++◌, length, take, drop, Option, Some, None, refl, sym, ap, ◌∙◌, arith, ltb, append_assoc, append-nil, length-append}
 use Rattle.std.specs.Prelude.{option_and_then, option_map, replicate}
 use Rattle.std.specs.List.{flat_map, AllByRecursion}
@@ -9,7 +9,7 @@ use Rattle.byteorder.specs.Numbers.{little_number-reads_back}
 use Rattle.xray_image.specs.Container.{Function, MapEntry, Parts, function_at, map_entry_at, several, parts_of, code_length, function_count, entry_count, number8_at}
 use Rattle.asm_text.specs.Writing.{File, header_bytes, trampolines_of, function_bytes, entry_bytes, file_bytes}
 
--- what fits the fields of an entry of each kind
+-- what fits the fields of each kind of entry
 abbrev pub FunctionFits : Function → Type 0
 FunctionFits f = (f.start < 256 ^ 8) × (length f.name ≤ 255)
 
@@ -64,7 +64,7 @@ entries_back (e ∷ es) rest fits =
     ∙ ap (λ o. option_and_then (λ (first : MapEntry × List ℕ). option_map (λ (others : List MapEntry × List ℕ). (first.0 ∷ others.0, others.1)) (next first.1)) o) (entry_back e (flat_map entry_bytes es ++ rest) fits.0)
     ∙ ap (λ o. option_map (λ (others : List MapEntry × List ℕ). (e ∷ others.0, others.1)) o) (entries_back es rest fits.1)
 
--- the parts by the counts of the header
+-- the parts, by the counts of the header
 abbrev pub parts_with : (n m k : ℕ) → List ℕ → Option Parts
 parts_with n m k b =
     cond (ltb (length b) (64 + n)) None

@@ -1,4 +1,4 @@
--- What holds of the lines of a text that is refused nowhere.
+-- What is true of the lines of a text that isn't refused.
 use Rattle.std.proofs.Common.{◌≡◌, ℕ, ◌+◌, ◌≤◌, Bool, true, false, cond, List, [], ◌∷◌, ◌++◌, length, ◌||◌, refl, ap, subst, ◌∙◌, ltb}
 use Rattle.std.specs.Prelude.{⊤, Option, Some, None, Result, Ok, Err, sum_by, count_by}
 use Rattle.std.specs.Str.Lines.{lines}
@@ -76,13 +76,13 @@ pub not_refused : {X : Type 0} (t : Bool) (fault : AsmFault) (r : Result X AsmFa
 not_refused true fault r x e = absurd (cc e)
 not_refused false fault r x e = (refl, e)
 
--- they leave the lines as they are
+-- they leave the lines unchanged
 resolved_same : (all lines said : Lines) → resolved all lines ≡ Ok said → all ≡ said
 resolved_same all [] said e = cc e
 resolved_same all (line ∷ behind) said e =
     resolved_same all behind said (not_refused (is_unresolved all line.1 behind) (faults.Label line.0) (resolved all behind) said e).1
 
--- the lines are read, there is a function and none without an instruction, and each name has its place
+-- the lines were read, there is a function and none without an instruction, and each name has its place
 pub record IsSaid (text : List ℕ) (said : Lines) : Type 0 where
   pub read : read_lines [] (numbered_lines text) ≡ Ok said
   pub whole : ends_early said ≡ false
@@ -102,7 +102,7 @@ said_parts text said e = by_read (read_lines [] (numbered_lines text)) refl e
           named = subst (λ ls. resolved ls ls ≡ Ok said) same parts.1;
         }
 
--- what each line keeps holds of all
+-- a property that each line keeps holds of all
 pub said_keeps : (P : Lines → Type 0) → Keeps P → P [] → (text : List ℕ) (said : Lines) → said_by text ≡ Ok said → P said
 said_keeps P keeps none text said e = subst (OnLines P) (said_parts text said e).read (read_keeps P keeps [] (numbered_lines text) none)
 

@@ -14,15 +14,15 @@ use Rattle.asm_text.proofs.Fitting.{IsShort, SaysShort, line_short}
 use Rattle.asm_text.proofs.SaidLemmas.{Keeps, not_refused, said_parts, said_keeps}
 use Rattle.std.proofs.lemmas.Bool.{or_parts, not-false}
 
--- ---- each line behind those before it
+-- ---- each line after those before it
 
--- a statement that may stand behind lines
+-- a statement that may come after lines
 pub record IsAllowed (before : Lines) (s : Statement) : Type 0 where
   pub short : IsShort s
   pub in_place : is_misplaced before s ≡ false
   pub new_name : repeats before s ≡ false
 
--- each line may stand behind those before it
+-- each line may come after those before it
 abbrev pub Allowed : Lines → Lines → Type 0
 Allowed before [] = ⊤
 Allowed before (line ∷ behind) = IsAllowed before line.1 × Allowed (before ++ line ∷ []) behind
@@ -90,7 +90,7 @@ is_defined-more name before line = list_any-append (λ line. defines name line.1
 
 -- ---- instruction lines
 
--- behind a function an instruction line comes before the next one
+-- after a function an instruction line comes before the next function
 abbrev pub IsFilled : Statement → Lines → Type 0
 IsFilled (Base address) behind = ⊤
 IsFilled (Entry name) behind = ⊤

@@ -16,7 +16,7 @@ use Rattle.asm_text.proofs.Placing.{AllLie, parts_length}
 use Rattle.asm_text.specs.Programs.{trampolines_at}
 use Rattle.asm_text.proofs.Owners.{LiesAmong, lines_lie}
 
--- the sleds of pieces behind others
+-- the sleds of pieces after others
 places_behind : (address : ℕ) (xs ys : List Piece) → places_from address (xs ++ ys) ≡ places_from address xs ++ places_from (address + length (flat_map piece_bytes xs)) ys
 places_behind address [] ys = ap (λ n. places_from n ys) (sym (add_zero address))
   where
@@ -82,7 +82,7 @@ sled_at all behind at sled zero h rest = ap (λ n. places_from n (sled ∷ map (
 sled_at all behind at sled (suc zero) h rest = refl
 sled_at all behind at sled (suc (suc r)) h rest = absurd (omega arith)
 
--- a sled behind the byte that aligns it
+-- a sled after its alignment byte
 sled_behind : (all : List Placed) (behind base place : ℕ) (sled : Piece) (rest : List Part)
     → places_from (base + place) (map (piece_of all behind) (aligned place sled ++ rest)) ≡ places_from (base + (place + place % 2)) (sled ∷ map (piece_of all behind) rest)
 sled_behind all behind base place sled rest =
@@ -174,7 +174,7 @@ map_order base chosen said =
 
 -- ---- each entry and its sled
 
--- what holds of each line with a sled, among functions
+-- what is true of each line with a sled, among functions
 abbrev pub SledFacts : ℕ → List Function → Placed × ℕ → Type 0
 SledFacts base fs line =
     (line.0.place ≤ 1048576) × (sled_kind line.0.statement ≡ Some line.1) × LiesIn fs (base + (line.0.place + line.0.place % 2)) (base + line.0.owner.start)
@@ -213,7 +213,7 @@ kind_cases K a b c (Does Return) k e = let at : 1 ≡ k = cc e in subst K at b
 kind_fits : (s : Statement) (k : ℕ) → sled_kind s ≡ Some k → KindFits (eqb k 1) k
 kind_fits s k e = kind_cases (λ n. KindFits (eqb n 1) n) (inl refl) refl (inr refl) s k e
 
--- a trampoline's distance fits its place
+-- a trampoline's distance fits its field
 distance_near : (base far place : ℕ) → 0x200000 ≤ far → far ≤ 0x200020 → place ≤ 1048576 → FitsSigned w32 (pos (base + far) -ℤ pos (base + (place + place % 2) + 11))
 distance_near base far place low high h = omega (arith, ints)
 
@@ -239,7 +239,7 @@ pub near_sleds : (base : ℕ) (chosen : Choosing) (said : Lines) → AllLie 1048
     → EachSled (places_from base (pieces (placed chosen said))) (map_entries base (placed chosen said)) (Reaches (trampolines_at base))
 near_sleds base chosen said lie = each_sled base chosen said (Reaches (trampolines_at base)) lie (near_line base (functions base (placed chosen said)))
 
--- an entry says of its sled what the code says
+-- an entry agrees with the code about its sled
 pub entries_tell : (base : ℕ) (chosen : Choosing) (said : Lines) → AllLie 1048576 (placed chosen said)
     → EachSled (places_from base (pieces (placed chosen said))) (map_entries base (placed chosen said)) (IsEntryOf (functions base (placed chosen said)))
 entries_tell base chosen said lie =

@@ -54,7 +54,7 @@ functions_told entries (e ∷ es) = ap (λ ns. e.function ∷ ns) (functions_tol
 
 -- ---- the entry of a line
 
--- a line with a sled is one of an instrumented function, in which the sled is
+-- a line with a sled belongs to an instrumented function, and the sled lies in that function
 entry_owner : (base : ℕ) (p : Placed) (entry : MapEntry) (traced : Bool) (kind : Option ℕ)
     → cond traced (option_map (λ k. record { sled = base + (p.place + p.place % 2); function = base + p.owner.start; kind = k; always = cond p.owner.always 1 0; version = 0 }) kind) None ≡ Some entry
     → (traced ≡ true) × (entry.function ≡ base + p.owner.start)

@@ -1,4 +1,4 @@
--- The places of the next lines, from the last line on.
+-- The places of the next lines, found from the last line to the first.
 use Rattle.std.proofs.Common.{◌≡◌, ℕ, zero, suc, ◌-◌, get_or, append_assoc, append-nil, ◌<◌, ◌≤◌, List, [], ◌∷◌, ◌++◌, length, take, reverse, Option, Some, None, refl, sym, ap, ◌∙◌, arith}
 use Rattle.std.specs.Prelude.{slice_get}
 use Rattle.std.specs.List.{filter_map, cons_option}
@@ -8,7 +8,7 @@ use Rattle.asm_text.specs.declared.layout.Laid.{Laid}
 use Rattle.asm_text.specs.Layout.{Placed, own_place, next_place}
 use Rattle.asm_text.specs.Laying.{earlier, next_places, placed_in, line_placed}
 
--- the places of the next lines where next is that behind them
+-- the places of the next lines, if `next` is the place after them
 abbrev pub next_before : Option ℕ → List Placed → List (Option ℕ)
 next_before next [] = []
 next_before next (p ∷ behind) = earlier (next_place (p ∷ behind)) next ∷ next_before next behind

@@ -14,7 +14,7 @@ any_last : (p : ℕ × Statement → Bool) (lines : Lines) (number : ℕ) (state
 any_last p lines number statement =
     list_any-append p lines ((number, statement) ∷ []) ∙ elim (p (number, statement)) as (λ t. (list_any p lines || (t || false)) ≡ (list_any p lines || t)) [ true ↦ refl | false ↦ refl ]
 
--- the totals of lines, and of one line more
+-- the totals of lines, and of one more line
 pub totals_more : (lines : Lines) (number : ℕ) (statement : Statement) (old new : Totals) → IsTotals lines old → Follows old statement new → IsTotals (lines ++ (number, statement) ∷ []) new
 totals_more lines number statement old new is more = record {
   has_base = more.has_base ∙ ap (λ t. t || is_some (base_in statement)) is.has_base ∙ sym (any_last (λ line. is_some (base_in line.1)) lines number statement);

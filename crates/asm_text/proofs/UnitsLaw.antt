@@ -1,4 +1,4 @@
--- The units of a text are units of an image's code.
+-- The units of a text are the units of an image's code.
 use Rattle.std.proofs.Common.{◌≡◌, ℕ, ◌+◌, ◌%◌, ◌<◌, ◌≤◌, ◌-ℤ◌, pos, Bool, true, false, cond, List, [], ◌∷◌, ◌++◌, Option, Some, None, refl, arith, eqb, map}
 use Rattle.std.proofs.lemmas.Int.{ints}
 use Rattle.std.specs.Prelude.{FitsSigned, unwrap_or}
@@ -17,7 +17,7 @@ all_both : {X : Type 0} (P : X → Type 0) (xs ys : List X) → AllByRecursion P
 all_both P [] ys first second = second
 all_both P (x ∷ xs) ys first second = (first.0, all_both P xs ys first.1 second)
 
--- a distance within the code fits its place
+-- a distance within the code fits its field
 distance_fits : (target behind : ℕ) → target ≤ 1048576 → behind ≤ 1048576 → FitsSigned w32 (pos target -ℤ pos behind)
 distance_fits target behind t b = omega (arith, ints)
 

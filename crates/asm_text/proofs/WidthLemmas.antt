@@ -11,7 +11,7 @@ use Rattle.asm_text.specs.declared.statement.Branch.TheVariants as branches
 use Rattle.asm_text.specs.Statements.{Operation, Plain, Go, TailJump, Return, Does}
 use Rattle.asm_text.specs.Layout.{Part, Fixed, Jump, parts_of, aligned, widths, sleds_of, sled_shift, branch_width}
 
--- a sled behind the byte that aligns it, by the parity of its place
+-- a sled after its alignment byte, by the parity of its place
 abbrev pub at_parity : ℕ → Piece → List Part
 at_parity r sled = cond (eqb r 0) (Fixed sled ∷ []) (Fixed Align ∷ Fixed sled ∷ [])
 
@@ -43,7 +43,7 @@ widths_aligned place sled = widths_at_parity (place % 2) sled (omega arith)
 pub sleds_aligned : (place : ℕ) (sled : Piece) → sum_by sleds_of (aligned place sled) ≡ sleds_in sled
 sleds_aligned place sled = sleds_at_parity (place % 2) sled (omega arith)
 
--- the same with a branch behind it
+-- the same with a branch after it
 pub widths_aligned_branch : (place : ℕ) (sled : Piece) (branch : Branch) (name : List ℕ)
     → widths (aligned place sled ++ Jump branch name ∷ []) ≡ place % 2 + length (piece_bytes sled) + branch_width branch
 widths_aligned_branch place sled branch name = widths_before_branch (place % 2) sled branch name (omega arith)

@@ -15,7 +15,7 @@ use Rattle.asm_text.proofs.Monotone.{no_more}
 use Rattle.asm_text.proofs.Placing.{AllLie, lines_of-placed, all_lie, laid_lie, name_within, code_length, functions_count, sleds_count}
 use Rattle.asm_text.proofs.Fitting.{base_fits, names_fit}
 
--- the code has at most the bytes that were counted
+-- the code has at most as many bytes as were counted
 pub code_fits : (threshold : ℕ) (said : Lines) (t : Totals) → IsTotals said t → IsWithin t → widths (all_parts (by_threshold threshold) said) ≤ 1048576
 code_fits threshold said t totals within = omega (arith, (no_more threshold said).0, totals.code, within.code)
 

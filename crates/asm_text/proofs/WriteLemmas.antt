@@ -13,7 +13,7 @@ use Rattle.asm_text.specs.declared.header.Header.{Header}
 use Rattle.asm_text.specs.Writing.{header_of, function_bytes, entry_bytes, file_bytes}
 use Rattle.asm_text.specs.Files.{IsHeaderOf, image_laid}
 
--- a function and a map entry in front, counted and searched, whatever the base is
+-- one more function and map entry at the start, counted and searched, whatever the base is
 length_cons : {X : Type 0} (o : Option X) (xs : List X) → length (cons_option o xs) ≡ cond (is_some o) 1 0 + length xs
 length_cons (Some x) xs = omega arith
 length_cons None xs = omega arith
@@ -72,7 +72,7 @@ number_same : (o : Option (List ℕ)) (base : ℕ) (all : List Placed) → numbe
 number_same None base all = refl
 number_same (Some name) base all = position-functions name base all
 
--- the parts of the file behind one another
+-- the parts of the file, one after the other
 pub file_parts : (all : List Placed) (code : List ℕ) (h : Header) → code ≡ flat_map piece_bytes (pieces all) → IsHeaderOf all (length code) h
     → header_of h.base h.code h.functions h.entries h.entry ++ code ++ flat_map function_bytes (functions h.base all) ++ flat_map entry_bytes (map_entries h.base all)
     ≡ file_bytes (image_laid all)

@@ -23,7 +23,7 @@ image_of threshold said =
       entries = map_entries base all;
     }
 
--- what a text says, line by line, or its first refusal
+-- what a text says, line after line, or its first refusal
 abbrev pub said_by : List ℕ → Result Lines AsmFault
 said_by text = read_lines [] (numbered_lines text) >>= λ said. ended (length (lines text) + 1) said
 
@@ -31,7 +31,7 @@ said_by text = read_lines [] (numbered_lines text) >>= λ said. ended (length (l
 abbrev pub assembled : List ℕ → ℕ → Result (List ℕ) AsmFault
 assembled text threshold = said_by text >>= λ said. Ok (file_bytes (image_of threshold said))
 
--- an answer with the items of its image
+-- an answer, with the bytes of its image
 abbrev pub seen : Result (Vec ℕ Global) AsmFault → Result (List ℕ) AsmFault
 seen (Ok file) = Ok file.items
 seen (Err fault) = Err fault

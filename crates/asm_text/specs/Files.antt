@@ -1,4 +1,4 @@
--- The parts of the file that single lines make.
+-- The parts of the file that each line makes.
 use Rattle.std.specs.Prelude.{◌≡◌, ◌≤◌, ◌<◌, ℕ, List, [], length, slice_index_or, Option, Some, None, ⊤}
 use Rattle.xray_image.specs.Container.{Function, MapEntry}
 use Rattle.asm_text.specs.declared.layout.Laid.{Laid}
@@ -13,7 +13,7 @@ use Rattle.asm_text.specs.Laying.{lines_of}
 use Rattle.asm_text.specs.LaidTexts.{all_in, IsLaidText}
 use Rattle.asm_text.specs.Writing.{File, function_bytes, entry_bytes}
 
--- a function's name fits its place
+-- a function's name fits its field
 abbrev pub HasShortName : Statement → Type 0
 HasShortName (Base address) = ⊤
 HasShortName (Entry name) = ⊤
@@ -29,14 +29,14 @@ abbrev pub bytes_of_entry : Option MapEntry → List ℕ
 bytes_of_entry None = []
 bytes_of_entry (Some e) = entry_bytes e
 
--- the entry of the function that a line begins, and that of its sled
+-- the entry of the function that a line begins, and the map entry of its sled
 abbrev pub function_line_bytes : ℕ → Placed → List ℕ
 function_line_bytes base p = bytes_of_function (function_in base p p.statement)
 
 abbrev pub sled_line_bytes : ℕ → Placed → List ℕ
 sled_line_bytes base p = bytes_of_entry (entry_in base p)
 
--- each function's name fits its place
+-- each function's name fits its field
 abbrev pub AreShortNames : List Laid → Type 0
 AreShortNames lines = (i : ℕ) (d : Laid) → i < length lines → HasShortName (statement_said (slice_index_or lines i d).statement)
 
@@ -61,7 +61,7 @@ pub record IsWritable (text : LaidText) : Type 0 where
   pub functions : length (functions 0 (all_in text)) ≤ 1024
   pub entries : length (map_entries 0 (all_in text)) ≤ 4096
 
--- the header counts what the lines make
+-- the header has the counts of what the lines make
 pub record IsHeaderOf (all : List Placed) (code_length : ℕ) (h : Header) : Type 0 where
   pub base : h.base ≡ base_of (lines_of all)
   pub code : h.code ≡ code_length

@@ -1,4 +1,4 @@
--- What the assembler has gathered of the lines so far.
+-- What the assembler knows of the lines so far.
 use Rattle.std.specs.Prelude.{◌≡◌, ℕ, suc, option_map, ◌+◌, ◌≤◌, ◌||◌, Bool, true, false, List, [], ◌∷◌, ◌++◌, map, sum_by, count_by, nat_lt, is_some, if◌then◌else◌, Option, Some, None, Result, Ok, Err, ◌⊎◌}
 use Rattle.std.specs.List.{list_any}
 use Rattle.std.specs.Str.{bytes_eq}
@@ -32,7 +32,7 @@ lacks_lines Filled = false
 abbrev pub traced_after : Bool → Statement → Bool
 traced_after traced statement = (owner_of unless_never 0 (record { traced = traced; always = false; start = 0 }) statement []).traced
 
--- the same of lines
+-- the same after several lines
 abbrev pub traced_by : Bool → Lines → Bool
 traced_by traced [] = traced
 traced_by traced (line ∷ behind) = traced_by (traced_after traced line.1) behind
@@ -48,7 +48,7 @@ pub record IsTotals (lines : Lines) (t : Totals) : Type 0 where
   pub code : t.code ≡ widths (all_parts unless_never lines)
   pub sleds : t.sleds ≡ sum_by sleds_of (all_parts unless_never lines)
 
--- the new totals are the old ones with one more statement
+-- the new totals are the old ones after one more statement
 pub record Follows (old : Totals) (statement : Statement) (new : Totals) : Type 0 where
   pub has_base : new.has_base ≡ (old.has_base || is_some (base_in statement))
   pub has_entry : new.has_entry ≡ (old.has_entry || is_some (entry_in_line statement))
@@ -91,7 +91,7 @@ pub record IsFirstPass (pass : FirstPass) : Type 0 where
   pub within : IsWithin pass.totals
   pub names : IsNames (lines_in pass.entries.items) pass.names
 
--- the name that a statement defines
+-- the name that a statement defines, if it defines one
 abbrev pub name_defined : Statement → Option (List ℕ)
 name_defined (Base address) = None
 name_defined (EntryLine name) = None
@@ -99,14 +99,14 @@ name_defined (Func name choice) = Some name
 name_defined (Label name) = Some name
 name_defined (Does operation) = None
 
--- the rows that are left behind those of the statement itself
+-- the rows that come after those of the statement itself
 abbrev pub taken : Lines → ℕ → Statement → Result Lines AsmFault
 taken before number statement =
     if repeats before statement then Err (faults.Repeat number)
     else if exceeds_limits (before ++ (number, statement) ∷ []) then Err (faults.Limit number)
     else Ok (before ++ (number, statement) ∷ [])
 
--- a name that may be none is another
+-- a name, if there is one, is this one
 abbrev pub is_named : Option (List ℕ) → List ℕ → Bool
 is_named None q = false
 is_named (Some name) q = bytes_eq name q
@@ -119,12 +119,12 @@ Admits pass number statement (Ok totals) =
     × IsTotals (lines ++ (number, statement) ∷ []) totals × IsWithin totals
 Admits pass number statement (Err fault) = taken (lines_in pass.entries.items) number statement ≡ Err fault
 
--- an answer of the pass: its lines are those of the answer, or it has the answer's refusal, or memory ran out
+-- an answer of the pass: it has the lines of the verdict, or the verdict's refusal, or memory ran out
 abbrev pub Takes : {X : Type 0} → Result X AsmFault → Result Lines AsmFault → FirstPass → Type 0
 Takes (Ok x) answer pass = (answer ≡ Ok (lines_in pass.entries.items)) × IsFirstPass pass
 Takes (Err fault) answer pass = (fault ≡ faults.NoMemory) ⊎ (answer ≡ Err fault)
 
--- the same of the pass that is answered
+-- the same for the pass that is the answer
 abbrev pub Reads : Result FirstPass AsmFault → Result Lines AsmFault → Type 0
 Reads (Ok pass) answer = (answer ≡ Ok (lines_in pass.entries.items)) × IsFirstPass pass
 Reads (Err fault) answer = (fault ≡ faults.NoMemory) ⊎ (answer ≡ Err fault)

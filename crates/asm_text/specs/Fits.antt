@@ -1,17 +1,17 @@
--- What every statement of a text that was read keeps to.
+-- What is true of every statement of a text that was read.
 use Rattle.std.specs.Prelude.{◌≡◌, ◌≤◌, ◌%◌, length, [], ◌∷◌, ⊤}
 use Rattle.subset_decode.specs.Encoding.{IsNamed}
 use Rattle.asm_text.specs.Statements.{Operation, Plain, Go, TailJump, Return, Statement, Base, Entry, Func, Label, Does}
 use Rattle.asm_text.specs.Layout.{Lines}
 
--- an instruction that names no place is one of the subset
+-- an instruction that goes to no name is one of the subset
 abbrev pub OperationFits : Operation → Type 0
 OperationFits (Plain instr) = IsNamed instr
 OperationFits (Go branch name) = ⊤
 OperationFits (TailJump name) = ⊤
 OperationFits Return = ⊤
 
--- a function's name fits its place, the base is in range, and instructions are of the subset
+-- a function's name fits its field, the base is in range, and instructions are of the subset
 abbrev pub Fits : Statement → Type 0
 Fits (Base address) = (address % 16 ≡ 0) × (address ≤ 0x7FFF00000000)
 Fits (Entry name) = ⊤

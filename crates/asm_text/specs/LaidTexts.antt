@@ -9,7 +9,7 @@ use Rattle.asm_text.specs.Laying.{placed_in, ArePlaces}
 abbrev pub all_in : LaidText → List Placed
 all_in text = placed_in text.lines.items
 
--- the names lead to places within the code, in which each line begins
+-- the names lead to places within the code, and each line begins within it
 pub record IsLaidText (text : LaidText) : Type 0 where
   pub places : ArePlaces (all_in text) text.names text.targets.items
   pub within : (i : ℕ) (d : Laid) → i < length text.lines.items → (slice_index_or text.lines.items i d).place ≤ 1048576

@@ -13,11 +13,11 @@ use Rattle.asm_text.specs.Names.{name_of, before_end}
 use Rattle.asm_text.specs.Registers.{register32, register64, before_comma}
 use Rattle.asm_text.specs.Statements.{Plain, Go, TailJump, Return, Statement, Base, Entry, Func, Label, Does}
 
--- what a table has for a word
+-- the table's value for a word
 abbrev pub in_table : {X : Type 0} → List (List ℕ × X) → List ℕ → Option X
 in_table table word = option_map (λ entry. entry.1) (find (λ entry. bytes_eq entry.0 word) table)
 
--- the first words of lines, labels apart
+-- the first words of lines, except labels
 abbrev pub keywords : List (List ℕ × Keyword)
 keywords =
     (codes "base", words.Base) ∷ (codes "entry", words.Entry) ∷ (codes "fn", words.Function)
@@ -29,14 +29,14 @@ keywords =
 abbrev pub keyword_of : List ℕ → Option Keyword
 keyword_of word = in_table keywords word
 
--- the words behind a function's name
+-- the words after a function's name
 abbrev pub choices : List (List ℕ × Choice)
 choices = (codes "always", Always) ∷ (codes "never", Never) ∷ []
 
 abbrev pub choice_of : List ℕ → Option Choice
 choice_of word = in_table choices word
 
--- an instruction on two registers, the destination first
+-- an instruction on two registers, destination first
 abbrev pub on_two : (ℕ → ℕ → Instr) → List ℕ → List ℕ → Option Statement
 on_two instr first second =
     option_and_then (λ dst. option_map (λ src. Does (Plain (instr dst src))) (register64 second))
@@ -48,7 +48,7 @@ move first second =
     option_and_then (λ dst. option_map (λ imm. Does (Plain (instrs.Mov dst imm))) (number_of second))
     (option_and_then register32 (before_comma first))
 
--- what a keyword says with the words behind it
+-- what a keyword says with the words after it
 abbrev pub says : Keyword → List (List ℕ) → Option Statement
 says words.Base (number ∷ []) = option_map Base (number_of number)
 says words.Entry (name ∷ []) = option_map Entry (name_of name)
@@ -68,7 +68,7 @@ says words.Ret [] = Some (Does Return)
 says words.Out (number ∷ []) = option_map (λ n. Does (Plain (instrs.Out n))) (number_of number)
 says keyword behind = None
 
--- a label: a name and a colon (58), alone in its line
+-- a label: a name and a colon (58), by itself in a line
 abbrev pub label_of : List ℕ → List (List ℕ) → Option Statement
 label_of word [] = option_map Label (option_and_then name_of (before_end 58 word))
 label_of word (next ∷ behind) = None

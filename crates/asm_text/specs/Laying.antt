@@ -23,7 +23,7 @@ abbrev pub earlier : Option ℕ → Option ℕ → Option ℕ
 earlier (Some place) next = Some place
 earlier None next = next
 
--- for each line the place of the next instruction line or function from it on
+-- for each line, the place of the next instruction line or function, from this line on
 abbrev pub next_places : List Placed → List (Option ℕ)
 next_places [] = []
 next_places (p ∷ behind) = next_place (p ∷ behind) ∷ next_places behind
@@ -32,13 +32,13 @@ next_places (p ∷ behind) = next_place (p ∷ behind) ∷ next_places behind
 abbrev pub lines_of : List Placed → Lines
 lines_of lines = map (λ p. (p.line, p.statement)) lines
 
--- the table of names and the next places are those of the lines, and names stand for places within the code
+-- the table of names and the next places are those of the lines, and each name's place is within the code
 pub record ArePlaces (all : List Placed) (table : NameTable) (next : List (Option ℕ)) : Type 0 where
   pub names : IsNames (lines_of all) table
   pub targets : next ≡ next_places all
   pub within : (name : List ℕ) (place : ℕ) → place_of name all ≡ Some place → place ≤ 1048576
 
--- the bytes of parts, where branches count from the place behind them
+-- the bytes of parts; branches count from the place after them
 abbrev pub parts_bytes : List Placed → ℕ → List Part → List ℕ
 parts_bytes all behind parts = flat_map piece_bytes (map (piece_of all behind) parts)
 

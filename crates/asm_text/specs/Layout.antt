@@ -1,4 +1,4 @@
--- Where the lines of a text put their units. Places count from the code's first byte.
+-- Where the units of a text's lines lie. Places count from the code's first byte.
 use Rattle.std.specs.Prelude.{ℕ, suc, ◌+◌, ◌%◌, ◌||◌, ◌==◌, pos, ◌-ℤ◌, ℤ, Bool, true, false, nat_le, List, [], ◌∷◌, ◌++◌, length, map, sum_by, slice_get, Option, Some, None, option_map, unwrap_or, if◌then◌else◌}
 use Rattle.std.specs.List.{flat_map, filter_map, position_or_len}
 use Rattle.std.specs.Str.{bytes_eq}
@@ -12,13 +12,13 @@ use Rattle.asm_text.specs.declared.statement.Branch.{Branch}
 use Rattle.asm_text.specs.declared.statement.Branch.TheVariants as branches
 use Rattle.asm_text.specs.Statements.{Operation, Plain, Go, TailJump, Return, Statement, Base, Entry, Func, Label, Does}
 
--- the lines of a text that say something, each with its number
+-- the lines of a text that say something, with their numbers
 abbrev pub Lines : Type 0
 Lines = List (ℕ × Statement)
 
 -- ---- the parts of the code
 
--- a unit that is known from its line, or a branch to a name
+-- a unit that its line determines, or a branch to a name
 pub data Part : Type 0 where
   Fixed : (piece : Piece) → Part
   Jump : (branch : Branch) (name : List ℕ) → Part
@@ -32,7 +32,7 @@ branch_width branches.Call = 5
 branch_width branches.Jmp = 5
 branch_width branches.Jnz = 6
 
--- how many bytes a part has
+-- the length of a part in bytes
 abbrev pub width : Part → ℕ
 width (Fixed piece) = length (piece_bytes piece)
 width (Jump branch name) = branch_width branch
@@ -40,7 +40,7 @@ width (Jump branch name) = branch_width branch
 abbrev pub widths : List Part → ℕ
 widths parts = sum_by width parts
 
--- a sled that would stand at an odd place has an alignment byte before it
+-- a sled at an odd place gets an alignment byte before it
 abbrev pub aligned : ℕ → Piece → List Part
 aligned place sled = if place % 2 == 0 then Fixed sled ∷ [] else Fixed Align ∷ Fixed sled ∷ []
 
@@ -57,7 +57,7 @@ traced_parts place (Go branch name) = Jump branch name ∷ []
 traced_parts place (TailJump name) = aligned place (JumpSled sled_shift) ++ Jump branches.Jmp name ∷ []
 traced_parts place Return = aligned place (ReturnSled sled_shift)
 
--- the parts that a line makes, by whether its function is instrumented and where the line begins
+-- the parts of a line, by whether its function is instrumented and where the line begins
 abbrev pub parts_of : Bool → ℕ → Statement → List Part
 parts_of traced place (Base address) = []
 parts_of traced place (Entry name) = []
@@ -81,17 +81,17 @@ is_instruction (Func name choice) = false
 is_instruction (Label name) = false
 is_instruction (Does operation) = true
 
--- how many instruction lines stand before the next function
+-- how many instruction lines there are before the next function
 abbrev pub instruction_lines : Lines → ℕ
 instruction_lines [] = 0
 instruction_lines (line ∷ behind) =
     if is_function line.1 then 0 else if is_instruction line.1 then suc (instruction_lines behind) else instruction_lines behind
 
--- which functions are instrumented, by what they say and how many instruction lines they have
+-- which functions are instrumented, by what they say and by their numbers of instruction lines
 abbrev pub Choosing : Type 0
 Choosing = Choice → ℕ → Bool
 
--- those that say always, and those that don't say never and have the threshold's number of instruction lines
+-- those that say always, and those that don't say never and have at least as many instruction lines as the threshold
 abbrev pub by_threshold : ℕ → Choosing
 by_threshold threshold Always count = true
 by_threshold threshold Never count = false
@@ -105,7 +105,7 @@ unless_never ByLength count = true
 
 -- ---- places
 
--- the function that a line stands in: whether it is instrumented, whether it says always, and where it starts
+-- the function that a line belongs to: whether it is instrumented, whether it says always, and where it starts
 pub record Owner : Type 0 where
   pub traced : Bool
   pub always : Bool
@@ -119,12 +119,12 @@ is_always ByLength = false
 is_always Always = true
 is_always Never = false
 
--- a function that begins at a place: an instrumented one starts with its entry sled, behind any alignment byte
+-- a function that begins at a place; an instrumented one starts with its entry sled, after any alignment byte
 abbrev pub function_at : Bool → Choice → ℕ → Owner
 function_at traced choice place =
     record { traced = traced; always = is_always choice; start = if traced then place + place % 2 else place }
 
--- the function that a line stands in, by that of the line before it and the lines behind it
+-- the function that a line belongs to, by that of the line before it and by the lines after it
 abbrev pub owner_of : Choosing → ℕ → Owner → Statement → Lines → Owner
 owner_of chosen place owner (Base address) behind = owner
 owner_of chosen place owner (Entry name) behind = owner
@@ -132,7 +132,7 @@ owner_of chosen place owner (Func name choice) behind = function_at (chosen choi
 owner_of chosen place owner (Label name) behind = owner
 owner_of chosen place owner (Does operation) behind = owner
 
--- a line with its function and the place at which it begins
+-- a line with its function and the place where it begins
 pub record Placed : Type 0 where
   pub line : ℕ
   pub statement : Statement
@@ -142,7 +142,7 @@ pub record Placed : Type 0 where
 abbrev pub parts_at : Placed → List Part
 parts_at p = parts_of p.owner.traced p.place p.statement
 
--- the first line begins at 0, and each other behind the parts of the line before it
+-- the first line begins at 0, and each other one after the parts of the line before it
 abbrev pub placed_from : Choosing → ℕ → Owner → Lines → List Placed
 placed_from chosen place owner [] = []
 placed_from chosen place owner (line ∷ behind) =
@@ -153,7 +153,7 @@ placed_from chosen place owner (line ∷ behind) =
 abbrev pub placed : Choosing → Lines → List Placed
 placed chosen lines = placed_from chosen 0 no_owner lines
 
--- all parts, one behind the other
+-- all parts, one after the other
 abbrev pub all_parts : Choosing → Lines → List Part
 all_parts chosen lines = flat_map parts_at (placed chosen lines)
 
@@ -181,7 +181,8 @@ names_label name (Does operation) = false
 abbrev pub defines : List ℕ → Statement → Bool
 defines name statement = names_function name statement || names_label name statement
 
--- the place that a line itself gives: that of an instruction line's first byte, an alignment byte too, or a function's start
+-- the place that a line gives: that of an instruction line's first byte, which may be an alignment byte, or a
+-- function's start
 abbrev pub own_place : Placed → Option ℕ
 own_place p =
     if is_function p.statement then Some p.owner.start else if is_instruction p.statement then Some p.place else None
@@ -190,7 +191,7 @@ own_place p =
 abbrev pub next_place : List Placed → Option ℕ
 next_place lines = slice_get (filter_map own_place lines) 0
 
--- the place of a name: a function's start, or for a label the place of the next instruction line or function behind it
+-- the place of a name: a function's start, or for a label the place of the next instruction line or function after it
 abbrev pub place_of : List ℕ → List Placed → Option ℕ
 place_of name [] = None
 place_of name (p ∷ behind) = if defines name p.statement then next_place (p ∷ behind) else place_of name behind
@@ -202,7 +203,7 @@ branch_to branches.Call rel = instrs.Call rel
 branch_to branches.Jmp rel = instrs.Jmp rel
 branch_to branches.Jnz rel = instrs.Jnz rel
 
--- a part as a unit; a branch is the last part of its line, so its distance counts from where the line ends
+-- A part as a unit. A branch is the last part of its line, so its distance counts from the end of the line.
 abbrev pub piece_of : List Placed → ℕ → Part → Piece
 piece_of lines behind (Fixed piece) = piece
 piece_of lines behind (Jump branch name) =
@@ -214,7 +215,7 @@ line_pieces lines p = map (piece_of lines (p.place + widths (parts_at p))) (part
 abbrev pub pieces : List Placed → List Piece
 pieces lines = flat_map (line_pieces lines) lines
 
--- the functions, each at its start
+-- the function that a line begins, at its start
 abbrev pub function_in : ℕ → Placed → Statement → Option Function
 function_in base p (Base address) = None
 function_in base p (Entry name) = None

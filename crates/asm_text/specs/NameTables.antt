@@ -1,4 +1,4 @@
--- What a table of names tells.
+-- What a table of names says.
 use Rattle.std.specs.Prelude.{ℕ, List, Option}
 use Rattle.std.specs.HashMap.{get_by}
 use Rattle.std.specs.Str.{bytes_eq}

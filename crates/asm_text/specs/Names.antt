@@ -7,14 +7,14 @@ use Rattle.xray_image.specs.Program.{is_name_byte}
 abbrev pub is_decimal : ℕ → Bool
 is_decimal b = nat_le 48 b && nat_le b 57
 
--- a name has 1 to 255 letters, digits and _ . $ and doesn't begin with a digit
+-- a name has 1 to 255 letters, digits, `_`, `.` and `$`, and doesn't begin with a digit
 abbrev pub is_name : List ℕ → Bool
 is_name word = nat_le 1 (length word) && nat_le (length word) 255 && not (is_decimal (slice_index word 0)) && list_all is_name_byte word
 
 abbrev pub name_of : List ℕ → Option (List ℕ)
 name_of word = if is_name word then Some word else None
 
--- what stands before the byte that a word ends with, where it ends so
+-- the word without its last byte, if it ends with this byte
 abbrev pub before_end : ℕ → List ℕ → Option (List ℕ)
 before_end byte word =
     if nat_le 1 (length word) && slice_index word (length word - 1) == byte then Some (take (length word - 1) word) else None

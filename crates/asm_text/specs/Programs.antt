@@ -11,7 +11,7 @@ use Rattle.asm_text.specs.Statements.{Statement, Base, Entry, Func, Label, Does}
 use Rattle.asm_text.specs.Layout.{Lines, by_threshold, placed, pieces, functions, map_entries, entry_in, base_of, entry_in_line, sled_shift}
 use Rattle.asm_text.specs.Assembling.{said_by}
 
--- the function that an entry line names, or else the first
+-- the function that an entry line names, or else the first function
 abbrev pub entry_function : Option (List ℕ) → List Function → Option Function
 entry_function None all = slice_get all 0
 entry_function (Some name) all = find (λ f. bytes_eq f.name name) all
@@ -21,7 +21,7 @@ abbrev pub entry_address : Lines → List Function → ℕ
 entry_address said all =
     option_map_or (λ f. f.start) (entry_function (slice_get (filter_map (λ line. entry_in_line line.1) said) 0) all) 0
 
--- a sled as its line in the map tells it, with the id of its function and the displacement that each sled has
+-- a sled as its entry in the map says, with the id of its function and the displacement that each sled has
 abbrev pub sled_said : List MapEntry → MapEntry → Sled
 sled_said entries e = record {
   address = e.sled;
@@ -58,7 +58,7 @@ pub record IsProgramOf (text : List ℕ) (threshold : ℕ) (file : List ℕ) : T
   pub read : said_by text ≡ Ok said
   pub accepted : IsAccepted file (program_said threshold said)
 
--- ---- the function that a line stands in
+-- ---- the function that a line belongs to
 
 -- the name that a function line gives
 abbrev pub function_named : Statement → Option (List ℕ)
@@ -68,11 +68,11 @@ function_named (Func name choice) = Some name
 function_named (Label name) = None
 function_named (Does operation) = None
 
--- the name of the function that the line of a number stands in: that of the last function line up to it
+-- the name of the function that this line belongs to: that of the last function line up to it
 abbrev pub function_over : Lines → ℕ → Option (List ℕ)
 function_over said i = last_or None (filter_map (λ line. function_named line.1) (take (i + 1) said))
 
--- the sled of the line of a number, if it has one
+-- the sled of this line, if it has one
 abbrev pub sled_at_line : ℕ → Lines → ℕ → Option Sled
 sled_at_line threshold said i =
     let all = placed (by_threshold threshold) said in

@@ -1,5 +1,5 @@
--- The refusals, in the order in which they are looked for: line by line, on one line in the order of its rows, and
--- then at the end of the text.
+-- The refusals, in the order of the checks: line by line, for each line in the order of its rows, and then at the end
+-- of the text.
 use Rattle.std.specs.Prelude.{ℕ, ◌||◌, ◌==◌, ◌%◌, Bool, true, false, not, nat_lt, List, [], ◌∷◌, ◌++◌, fold, sum_by, count_by, Option, Some, None, is_some, Result, Ok, Err, if◌then◌else◌}
 use Rattle.std.specs.List.{list_any}
 use Rattle.subset_decode.specs.declared.instr.Instr.{Instr}
@@ -22,8 +22,8 @@ abbrev pub is_bare : Lines → Bool
 is_bare lines =
     fold (λ bare line. if is_function line.1 then true else if is_instruction line.1 then false else bare) false lines
 
--- a base or an entry that is repeated or stands behind a function, an instruction or a label that stands before any, a
--- function behind one without an instruction line
+-- A base or an entry that is repeated or comes after a function; an instruction or a label before any function; a
+-- function after one without an instruction line.
 abbrev pub is_misplaced : Lines → Statement → Bool
 is_misplaced before (Base address) = list_any (λ line. is_some (base_in line.1)) before || has_function before
 is_misplaced before (Entry name) = list_any (λ line. is_some (entry_in_line line.1)) before || has_function before
@@ -31,7 +31,7 @@ is_misplaced before (Func name choice) = is_bare before
 is_misplaced before (Label name) = not (has_function before)
 is_misplaced before (Does operation) = not (has_function before)
 
--- a register that may not be named
+-- a register that instructions can't name
 abbrev pub operation_reserves : Operation → Bool
 operation_reserves (Plain instr) = is_some (reserved_register instr)
 operation_reserves (Go branch name) = false
@@ -45,7 +45,7 @@ names_reserved (Func name choice) = false
 names_reserved (Label name) = false
 names_reserved (Does operation) = operation_reserves operation
 
--- a number that its place can't hold
+-- a number that doesn't fit its field
 abbrev pub is_wide : Instr → Bool
 is_wide (Mov dst imm) = nat_lt 4294967295 imm
 is_wide (Add dst src) = false
@@ -64,7 +64,7 @@ operation_exceeds (Go branch name) = false
 operation_exceeds (TailJump name) = false
 operation_exceeds Return = false
 
--- the base is a multiple of 16, and at most 0x7FFF00000000
+-- a base that isn't a multiple of 16 or is above 0x7FFF00000000, or a number that doesn't fit its field
 abbrev pub is_out_of_range : Statement → Bool
 is_out_of_range (Base address) = not (address % 16 == 0) || nat_lt 0x7FFF00000000 address
 is_out_of_range (Entry name) = false
@@ -72,7 +72,7 @@ is_out_of_range (Func name choice) = false
 is_out_of_range (Label name) = false
 is_out_of_range (Does operation) = operation_exceeds operation
 
--- a name that an earlier function or label has
+-- a name that an earlier line defines
 abbrev pub is_defined : List ℕ → Lines → Bool
 is_defined name lines = list_any (λ line. defines name line.1) lines
 
@@ -83,7 +83,7 @@ repeats before (Func name choice) = is_defined name before
 repeats before (Label name) = is_defined name before
 repeats before (Does operation) = false
 
--- more than 1,024 functions, 1,048,576 bytes of code or 4,096 sleds, as if each function that doesn't say never were
+-- more than 1,024 functions, 1,048,576 bytes of code or 4,096 sleds, if each function that doesn't say never is
 -- instrumented
 abbrev pub exceeds_limits : Lines → Bool
 exceeds_limits lines =
@@ -91,7 +91,7 @@ exceeds_limits lines =
     || nat_lt 1048576 (widths (all_parts unless_never lines))
     || nat_lt 4096 (sum_by sleds_of (all_parts unless_never lines))
 
--- the lines with one more, or the first row of its refusals that applies
+-- the lines with one more, or the first row that refuses it
 abbrev pub judged : Lines → ℕ → Statement → Result Lines AsmFault
 judged before number statement =
     if is_misplaced before statement then Err (Syntax number)
@@ -101,7 +101,7 @@ judged before number statement =
     else if exceeds_limits (before ++ (number, statement) ∷ []) then Err (Limit number)
     else Ok (before ++ (number, statement) ∷ [])
 
--- words that say nothing are refused first of all
+-- words that say nothing are refused before anything else is checked
 abbrev pub spoken : Lines → ℕ → Option Statement → Result Lines AsmFault
 spoken before number None = Err (Syntax number)
 spoken before number (Some statement) = judged before number statement
@@ -119,7 +119,7 @@ abbrev pub ◌>>=◌ : {A B : Type 0} → Result A AsmFault → (A → Result B 
 (Ok x) >>= f = f x
 (Err e) >>= f = Err e
 
--- what all lines say, behind those before them, or the first refusal
+-- what all lines say, after those before them, or the first refusal
 abbrev pub read_lines : Lines → List (ℕ × List ℕ) → Result Lines AsmFault
 read_lines before [] = Ok before
 read_lines before (line ∷ behind) = with_line before line >>= λ lines. read_lines lines behind
@@ -141,7 +141,7 @@ abbrev pub is_missing : Lines → Option (List ℕ) → Bool
 is_missing lines None = false
 is_missing lines (Some name) = not (is_defined name lines)
 
--- an entry that names no function, a label with no instruction line or function behind it, a name that isn't defined
+-- an entry that names no function, a label with no instruction line or function after it, or a name that isn't defined
 abbrev pub is_unresolved : Lines → Statement → Lines → Bool
 is_unresolved lines (Base address) behind = false
 is_unresolved lines (Entry name) behind = not (list_any (λ line. names_function name line.1) lines)
@@ -149,7 +149,7 @@ is_unresolved lines (Func name choice) behind = false
 is_unresolved lines (Label name) behind = not (list_any (λ line. is_function line.1 || is_instruction line.1) behind)
 is_unresolved lines (Does operation) behind = is_missing lines (name_in operation)
 
--- the lines that are left, or the first that is unresolved
+-- all lines, or the refusal of the first line among those left that is unresolved
 abbrev pub resolved : Lines → Lines → Result Lines AsmFault
 resolved lines [] = Ok lines
 resolved lines (line ∷ behind) =

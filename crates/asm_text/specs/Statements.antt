@@ -4,8 +4,8 @@ use Rattle.subset_decode.specs.declared.instr.Instr.{Instr}
 use Rattle.asm_text.specs.declared.statement.Choice.{Choice}
 use Rattle.asm_text.specs.declared.statement.Branch.{Branch}
 
--- what an instruction line asks for: an instruction that names no place, a branch to a name, a tail jump or a return.
--- Its registers and numbers are as they are written, also where they may not stand there
+-- What an instruction line asks for: an instruction that goes to no name, a branch to a name, a tail jump or a return.
+-- Its registers and numbers are as written, even if they can't be used there.
 pub data Operation : Type 0 where
   Plain : (instr : Instr) → Operation
   Go : (branch : Branch) (name : List ℕ) → Operation

@@ -1,4 +1,4 @@
--- What the assembler's own types say, for the contracts of its private functions.
+-- What the assembler's own types mean, for the contracts of its private functions.
 use Rattle.std.specs.Prelude.{◌≡◌, ℕ, ◌<◌, List, [], ◌∷◌, length, Option, Some, None, Result, Ok, Err, if◌then◌else◌}
 use Rattle.subset_decode.specs.declared.instr.Instr.{Instr}
 use Rattle.subset_decode.specs.declared.instr.Instr.TheVariants as instrs
@@ -78,20 +78,20 @@ statement_said (said.Function name choice) = Func name.now choice
 statement_said (said.Label name) = Label name.now
 statement_said (said.Does operation) = Does (operation_checked operation)
 
--- the words behind a keyword
+-- the words after a keyword
 abbrev pub AreOperands : List (List ℕ) → Operands → Type 0
 AreOperands words operands.Zero = words ≡ []
 AreOperands words (operands.One first) = words ≡ first.now ∷ []
 AreOperands words (operands.Two first second) = words ≡ first.now ∷ second.now ∷ []
 AreOperands words operands.Many = 2 < length words
 
--- what is judged of a line that was read, behind any lines
+-- what reading a line means for the text, whatever lines come before it
 abbrev pub LineGives : ℕ → List ℕ → Result (Option Spoken) AsmFault → Type 0
 LineGives number line (Ok None) = (before : Lines) → with_line before (number, line) ≡ Ok before
 LineGives number line (Ok (Some says)) = (before : Lines) → with_line before (number, line) ≡ judged before number (statement_spoken says)
 LineGives number line (Err fault) = (before : Lines) → with_line before (number, line) ≡ Err fault
 
--- an operation or a statement whose operands can stand there, or the refusal of its line
+-- an operation or a statement with checked operands, or the refusal of its line
 abbrev pub operation_of : ℕ → Operation → Result Operation AsmFault
 operation_of number operation =
     if operation_reserves operation then Err (faults.Register number)
@@ -102,7 +102,7 @@ statement_of_spoken number statement =
     if names_reserved statement then Err (faults.Register number)
     else if is_out_of_range statement then Err (faults.Range number) else Ok statement
 
--- an answer by what its value says
+-- an answer, by what its value says
 abbrev pub Tells : {X Y : Type 0} → (X → Y) → Result X AsmFault → Result Y AsmFault → Type 0
 Tells view (Ok x) answer = answer ≡ Ok (view x)
 Tells view (Err fault) answer = answer ≡ Err fault

@@ -14,18 +14,18 @@ use crate::write::write_file;
 use std::alloc::Global;
 use text_lines::count_lines;
 
-/// The image file of an assembler text. `always` and `never` behind a function's name decide
-/// whether it gets sleds; where neither stands there, it gets them from `threshold` instruction
-/// lines on. The sleds are those of compiler-rt's `xray_x86_64.cpp`: one at the function's entry,
-/// one in the place of each `ret`, and one before each tail jump.
+/// The image file of an assembler text. A function gets sleds if it says `always`, and none if it
+/// says `never`. If it says neither, it gets sleds if it has at least `threshold` instruction
+/// lines. The sleds are those of compiler-rt's `xray_x86_64.cpp`: one at the function's entry, one
+/// in place of each `ret`, and one before each tail jump.
 ///
-/// A text that can't be assembled is refused by its first fault, as `AsmFault` tells; `NoMemory`
-/// may come in place of any answer. The lines of the text are counted by `u32`.
+/// A text that can't be assembled is refused by its first fault; see `AsmFault`. `NoMemory` may
+/// come in place of any answer. Line numbers are of type `u32`.
 pub fn assemble(alloc: Global, text: &[u8], threshold: u32) -> Result<Vec<u8>, AsmFault>
     requires { length (lines text.now) < u32.MAX }
     ensures made { (result ≡ Err NoMemory) ⊎ (seen result ≡ assembled text.now threshold) }
-    // Each file is one that a reader of images accepts, and holds exactly the program that the
-    // text says.
+    // Each file is accepted by the definition of image files, and holds exactly the program that
+    // the text says.
     ensures accepted { IfOk result (λ file. IsProgramOf text.now threshold file.items) }
 {
     let pass = match read_text(alloc, text) {

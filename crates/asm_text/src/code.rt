@@ -37,7 +37,8 @@ fn push_filled(out: &mut Vec<u8>, head: &[u8; 2]) -> Result<(), AllocError>
     push_u32(out, SHIFT)
 }
 
-/// Adds a sled of a head at a place, with the alignment byte before it at an odd one.
+/// Adds the sled with this head at a place. If the place is odd, an alignment byte comes before the
+/// sled.
 fn push_sled(out: &mut Vec<u8>, place: u32, head: &[u8; 2]) -> Result<(), AllocError>
     ensures { let sled = head.now ++ nop_bytes sled_shift in OnOk result (out.new.items
         ≡ out.old.items ++ (if place % 2 == 0 then sled else ALIGNMENT ∷ sled)) }
@@ -48,7 +49,7 @@ fn push_sled(out: &mut Vec<u8>, place: u32, head: &[u8; 2]) -> Result<(), AllocE
     push_filled(out, head)
 }
 
-/// A branch to a target, whose distance counts from the place behind the branch.
+/// A branch to a target. The distance counts from the place after the branch, which is `behind`.
 fn branch(branch: Branch, target: u32, behind: u32) -> Instr
     requires target { target ≤ CODE_LIMIT }
     requires behind { behind ≤ 2 * CODE_LIMIT }

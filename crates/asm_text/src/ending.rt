@@ -12,7 +12,7 @@ use crate::layout::Laid;
 use crate::name_table::NameTable;
 use crate::statement::Statement;
 
-/// Whether a function has this name.
+/// Whether some function has this name.
 fn has_function(laid: &[Laid], name: &[u8]) -> bool
     ensures { result ≡ list_any (λ line. names_function name.now line.1)
         (lines_of (placed_in laid.now)) }
@@ -25,8 +25,8 @@ fn has_function(laid: &[Laid], name: &[u8]) -> bool
     false
 }
 
-/// Whether a line's name has no place, where `target` is the place of the next instruction line or
-/// function from the line on.
+/// Whether a line's name has no place. `target` is the place of the next instruction line or
+/// function, from this line on.
 fn is_unresolved(laid: &[Laid], names: &NameTable, line: &Laid, target: Option<u32>) -> bool
     ensures { (behind : List Placed) → IsNames (lines_of (placed_in laid.now)) names.now
         → target ≡ next_place (line_placed line.now ∷ behind)
@@ -44,7 +44,7 @@ fn is_unresolved(laid: &[Laid], names: &NameTable, line: &Laid, target: Option<u
     }
 }
 
-/// The first line with a name that has no place is refused.
+/// Refuses the first line with a name that has no place.
 pub(crate) fn resolve(
     laid: &[Laid],
     names: &NameTable,

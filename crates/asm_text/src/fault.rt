@@ -1,4 +1,4 @@
-//! Why a text is no assembler text.
+//! Why a text isn't an assembler text.
 
 ghost use Rattle.std.specs.Prelude.{◌≡◌};
 ghost use Rattle.asm_text.specs.declared.fault.AsmFault.TheVariants.{NoMemory};
@@ -7,34 +7,36 @@ use std::alloc::{AllocError, AllocFailed};
 use thiserror::Error;
 
 /// Why `assemble` gives no image. Each refusal has the number of its line, counted from 1. The
-/// first line that is refused is told; on one line the refusals stand in this order.
+/// answer is the refusal of the first line that is refused. If several apply to that line, the
+/// first in this order is the answer.
 #[derive(Clone, Copy, Debug, PartialEq, Eq, Error)]
 pub enum AsmFault {
-    /// The line is none of the language; or `base` or `entry` is repeated or stands behind a `fn`;
-    /// or an instruction or a label stands before the first `fn`; or a `fn` follows a function
-    /// without an instruction line. The number behind the last line where the text has no function,
-    /// or its last one has no instruction line.
+    /// The line isn't one of the language, or is in a wrong place: a `base` or `entry` that is
+    /// repeated or comes after a `fn`; an instruction or a label before the first `fn`; a `fn`
+    /// after a function without instruction lines. If the text has no function, or its last one has
+    /// no instruction line, the number is the one after the last line.
     #[error("line {0} is no line of the language, or stands in a wrong place")]
     Syntax(u32),
-    /// A register's place has `esp`, `rsp`, `r10d` or `r10`.
+    /// The line names `esp`, `rsp`, `r10d` or `r10` as a register.
     #[error("line {0} names a register that can't be named")]
     Register(u32),
-    /// An immediate is above 4,294,967,295, a port above 255, or a base is no multiple of 16 or
-    /// above 0x7FFF00000000.
+    /// An immediate is above 4,294,967,295, a port is above 255, or a base isn't a multiple of 16
+    /// or is above 0x7FFF00000000.
     #[error("line {0} has a number that is out of range")]
     Range(u32),
-    /// The name of the function or label was defined before.
+    /// An earlier line defines the same name, for a function or a label.
     #[error("line {0} defines a name again")]
     Repeat(u32),
-    /// The line takes the text past 1,024 functions, 4,096 sleds or 1,048,576 bytes of code. Sleds
-    /// are counted in each function that doesn't say `never`, whatever the threshold is.
+    /// With this line the text has more than 1,024 functions, 4,096 sleds or 1,048,576 bytes of
+    /// code. The sleds of each function that doesn't say `never` are counted, whatever the
+    /// threshold is.
     #[error("line {0} exceeds a limit")]
     Limit(u32),
-    /// Nothing has the name that the line goes to; or the `entry` names no function; or the label
-    /// stands at the end of the last function. Looked for behind all other refusals.
+    /// The line goes to a name that isn't defined, or is an `entry` that names no function, or is a
+    /// label at the end of the last function. This is checked after all other refusals.
     #[error("line {0} has a name without a place")]
     Label(u32),
-    /// There is no memory for the tables and the image.
+    /// Memory for the tables and the image was refused.
     #[error("out of memory")]
     NoMemory,
 }

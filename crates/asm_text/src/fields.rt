@@ -1,4 +1,4 @@
-//! Fields of the file, the lowest byte first.
+//! Fields of the file, lowest byte first.
 
 ghost use Rattle.std.specs.Prelude.{◌≡◌, ◌++◌, OnOk};
 ghost use Rattle.byteorder.specs.Endian.{little_bytes};

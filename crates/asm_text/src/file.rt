@@ -15,10 +15,10 @@ use std::alloc::AllocError;
 use xray_image::SledKind;
 use xray_image::format::{BASE_LIMIT, NAME_LIMIT};
 
-/// How many bytes of padding a map entry has.
+/// The padding of a map entry.
 const PADDING: [u8; 13] = [0; 13];
 
-/// The version of map entries with absolute addresses.
+/// The version of map entries that have absolute addresses.
 const MAP_VERSION: u8 = 0;
 
 /// Adds the entry of a function.
@@ -32,7 +32,7 @@ fn push_function(out: &mut Vec<u8>, start: u64, name: &[u8]) -> Result<(), Alloc
     out.extend_from_slice(name)
 }
 
-/// Adds the function that a line begins, if it does.
+/// Adds the function that a line begins, if it begins one.
 fn push_function_line(out: &mut Vec<u8>, base: u64, line: &Laid) -> Result<(), AllocError>
     requires base { base ≤ BASE_LIMIT }
     requires name { HasShortName (statement_said line.now.statement) }
@@ -73,7 +73,7 @@ fn push_flags(out: &mut Vec<u8>, kind: u8, always: bool) -> Result<(), AllocErro
     out.extend_from_slice(&PADDING)
 }
 
-/// Adds an entry of the sled map.
+/// Adds one entry of the sled map.
 fn push_entry(
     out: &mut Vec<u8>,
     sled: u64,

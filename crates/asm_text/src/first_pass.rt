@@ -1,4 +1,4 @@
-//! The first pass over the lines, with all refusals but those at the text's end.
+//! The first pass over the lines. It makes all refusals except those at the text's end.
 
 ghost use Rattle.std.specs.Prelude.{◌≡◌, ◌<◌, ℕ, List, [], ◌∷◌, ◌++◌, Some, option_copied, OnOk, IfOk, length, if◌then◌else◌};
 ghost use Rattle.std.specs.Str.Lines.{lines};
@@ -27,7 +27,7 @@ pub(crate) struct Entry<'a> {
     pub(crate) statement: Statement<'a>,
 }
 
-/// The lines so far.
+/// What was read of the lines so far.
 #[derive(Drop)]
 pub(crate) struct FirstPass<'a> {
     pub(crate) entries: Vec<Entry<'a>>,
@@ -35,7 +35,7 @@ pub(crate) struct FirstPass<'a> {
     pub(crate) totals: Totals,
 }
 
-/// Whether a name of the statement was defined before.
+/// Whether an earlier line defines the name that the statement defines.
 fn repeats(names: &NameTable, statement: &Statement) -> bool
     ensures { (before : Said) → IsNames before names.now
         → result ≡ repeats before (statement_said statement.now) }
@@ -46,7 +46,7 @@ fn repeats(names: &NameTable, statement: &Statement) -> bool
     }
 }
 
-/// Takes the name that a line defines, if it does.
+/// Takes the name that a line defines, if it defines one.
 fn define_name<'a>(
     names: &mut NameTable<'a>,
     name: Option<&'a [u8]>,
@@ -74,8 +74,8 @@ impl<'a> FirstPass<'a> {
         }
     }
 
-    /// The totals with a statement that stands in its place and has good operands. `Repeat` or
-    /// `Limit` where it may not follow.
+    /// The totals with one more statement, which is in its place and has good operands. `Repeat` or
+    /// `Limit` if it may not follow.
     fn totals_with(&self, line: u32, statement: &Statement<'a>) -> Result<Totals, AsmFault>
         requires { IsFirstPass self.now }
         ensures { Admits self.now line (statement_said statement.now) result }
@@ -135,7 +135,7 @@ impl<'a> FirstPass<'a> {
     }
 }
 
-/// Reads all lines. The first refusal answers.
+/// Reads all lines. The answer is the first refusal, if there is one.
 pub(crate) fn read_text<'a>(alloc: Global, text: &'a [u8]) -> Result<FirstPass<'a>, AsmFault>
     requires { length (lines text.now) < u32.MAX }
     ensures reads { Reads result (read_lines [] (numbered_lines text.now)) }

@@ -9,16 +9,16 @@ use crate::fields::{push_addresses, push_u32, push_u64};
 use std::alloc::AllocError;
 use xray_image::format::{BASE_LIMIT, MAGIC, VERSION};
 
-/// How far behind the base the entry trampoline stands.
+/// The distance of the entry trampoline from the base.
 const ENTRY_TRAMPOLINE: u64 = 0x20_0000;
 
-/// The same of the exit trampoline.
+/// The distance of the exit trampoline from the base.
 const EXIT_TRAMPOLINE: u64 = 0x20_0010;
 
-/// The same of the tail trampoline.
+/// The distance of the tail trampoline from the base.
 const TAIL_TRAMPOLINE: u64 = 0x20_0020;
 
-/// The same of the trampoline for entries with arguments.
+/// The distance from the base of the trampoline for entries with arguments.
 const ARGUMENT_TRAMPOLINE: u64 = 0x20_0030;
 
 /// What the header counts.
@@ -26,7 +26,7 @@ const ARGUMENT_TRAMPOLINE: u64 = 0x20_0030;
 pub(crate) struct Header {
     /// The address of the code's first byte.
     pub(crate) base: u64,
-    /// How long the code is.
+    /// The length of the code in bytes.
     pub(crate) code: u32,
     /// How many functions there are.
     pub(crate) functions: u32,
@@ -36,7 +36,7 @@ pub(crate) struct Header {
     pub(crate) entry: u32,
 }
 
-/// Adds the front of the header.
+/// Adds the first fields of the header.
 fn push_front(out: &mut Vec<u8>, base: u64) -> Result<(), AllocError>
     ensures { OnOk result (out.new.items ≡ out.old.items
         ++ (codes "XRIM" ++ little_bytes 4 1 ++ little_bytes 8 base)) }
@@ -55,7 +55,7 @@ fn push_pair(out: &mut Vec<u8>, first: u32, second: u32) -> Result<(), AllocErro
     push_u32(out, second)
 }
 
-/// Adds two addresses at distances behind the base.
+/// Adds two addresses, by their distances from the base.
 fn push_trampolines(out: &mut Vec<u8>, base: u64, first: u64, second: u64) -> Result<(), AllocError>
     requires base { base ≤ BASE_LIMIT }
     requires first { first ≤ ARGUMENT_TRAMPOLINE }

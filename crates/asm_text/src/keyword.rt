@@ -6,7 +6,7 @@ ghost use Rattle.asm_text.specs.Language.{in_table, keyword_of, choice_of};
 
 use crate::statement::Choice;
 
-/// A word with which a line begins that is no label.
+/// A word that begins a line and is no label.
 #[derive(Clone, Copy, Debug, PartialEq, Eq)]
 pub(crate) enum Keyword {
     Base,
@@ -25,7 +25,7 @@ pub(crate) enum Keyword {
     Out,
 }
 
-/// The keywords as they are written.
+/// The keywords, as texts have them.
 const KEYWORDS: [(&[u8], Keyword); 14] = [
     (b"base", Keyword::Base),
     (b"entry", Keyword::Entry),
@@ -43,7 +43,7 @@ const KEYWORDS: [(&[u8], Keyword); 14] = [
     (b"out", Keyword::Out),
 ];
 
-/// The keyword of a table's first entry with a word.
+/// The keyword of a table's first entry for a word.
 fn keyword_at(table: &[(&[u8], Keyword)], word: &[u8]) -> Option<Keyword>
     ensures { result ≡ option_map (λ e. e.1) (find (λ e. bytes_eq e.0.now word.now) table.now) }
 {
@@ -58,14 +58,14 @@ fn keyword_in(table: &[(&[u8], Keyword)], word: &[u8]) -> Option<Keyword>
     keyword_at(table, word)
 }
 
-/// The keyword that a word is.
+/// The keyword that a word is, if it is one.
 pub(crate) fn keyword_of(word: &[u8]) -> Option<Keyword>
     ensures { result ≡ keyword_of word.now }
 {
     keyword_in(&KEYWORDS, word)
 }
 
-/// The choice that the word behind a function's name makes.
+/// The choice that the word after a function's name makes.
 pub(crate) fn choice_of(word: &[u8]) -> Option<Choice>
     ensures { result ≡ choice_of word.now }
 {

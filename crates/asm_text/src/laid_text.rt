@@ -15,14 +15,14 @@ use xray_image::format::CODE_LIMIT;
 pub(crate) struct LaidText<'a> {
     pub(crate) lines: Vec<Laid<'a>>,
     pub(crate) names: NameTable<'a>,
-    /// For each line the place of the next instruction line or function.
+    /// For each line, the place of the next instruction line or function.
     pub(crate) targets: Vec<Option<u32>>,
 }
 
 impl LaidText<'_> {
     ghost use Rattle.asm_text.specs.LaidTexts.{all_in, IsLaidText};
 
-    /// The place that a name stands for, and 0 where it stands for none.
+    /// The place that a name stands for, or 0 if it stands for none.
     pub(crate) fn target_of(&self, name: &[u8]) -> u32
         requires { IsLaidText self.now }
         ensures value { result ≡ unwrap_or (place_of name.now (all_in self.now)) 0 }

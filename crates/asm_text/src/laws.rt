@@ -1,4 +1,4 @@
-//! What follows for the definitions. Each law is the contract of a function that does nothing.
+//! Laws of the definitions. Each law is the contract of a function that does nothing.
 
 ghost use Rattle.std.specs.Prelude.{◌≡◌, List, ℕ, Ok, Some};
 ghost use Rattle.xray_image.specs.declared.sled.Sled.{Sled};
@@ -9,15 +9,15 @@ ghost use Rattle.asm_text.specs.Writing.{file_bytes};
 ghost use Rattle.asm_text.specs.Assembling.{said_by, image_of};
 ghost use Rattle.asm_text.specs.Programs.{program_said, sled_at_line, function_over};
 
-/// The image of a text that is refused nowhere is accepted by the definition of image files, with
-/// the program that the text says.
+/// If a text isn't refused, its image is accepted by the definition of image files, with the
+/// program that the text says.
 pub fn an_assembled_file_is_accepted()
     ensures { (text : List ℕ) (threshold : ℕ) (said : Lines) → said_by text ≡ Ok said
         → IsAccepted (file_bytes (image_of threshold said)) (program_said threshold said) }
 {}
 
-/// The function of each sled, by the sled's id, is the one in whose lines the sled stands: its name
-/// is that of the last function line up to the sled's line.
+/// Each sled belongs to the function in whose lines it is. The name by the sled's id is that of the
+/// last function line up to the sled's line.
 pub fn each_sled_is_of_its_function()
     ensures { (text : List ℕ) (threshold : ℕ) (said : Lines) → said_by text ≡ Ok said
         → (i : ℕ) (sled : Sled) → sled_at_line threshold said i ≡ Some sled

@@ -12,7 +12,7 @@ use crate::width::line_width;
 use std::alloc::{AllocError, Global};
 use xray_image::format::CODE_LIMIT;
 
-/// The function that a line stands in.
+/// The function that a line belongs to.
 #[derive(Clone, Copy)]
 pub(crate) struct Owner {
     /// Whether it is instrumented.
@@ -30,11 +30,12 @@ pub(crate) struct Laid<'a> {
     pub(crate) line: u32,
     pub(crate) statement: Statement<'a>,
     pub(crate) owner: Owner,
-    /// Where the line begins, with any alignment byte of its own.
+    /// The place where the line begins. If the line has an alignment byte of its own, that is the
+    /// byte's place.
     pub(crate) place: u32,
 }
 
-/// How many instruction lines stand before the next function.
+/// How many instruction lines there are before the next function.
 fn instruction_lines(entries: &[Entry]) -> usize
     ensures { result ≡ instruction_lines (lines_in entries.now) }
 {
@@ -49,7 +50,7 @@ fn instruction_lines(entries: &[Entry]) -> usize
     count
 }
 
-/// Whether a function is instrumented, by what it says and the lines behind it.
+/// Whether a function is instrumented, by what it says and by the lines after it.
 fn is_traced(threshold: u32, choice: Choice, behind: &[Entry]) -> bool
     ensures { result ≡ by_threshold threshold choice (instruction_lines (lines_in behind.now)) }
 {
@@ -60,7 +61,7 @@ fn is_traced(threshold: u32, choice: Choice, behind: &[Entry]) -> bool
     }
 }
 
-/// The function that a line stands in, by that of the line before it and the lines behind it.
+/// The function that a line belongs to, by that of the line before it and by the lines after it.
 fn line_owner(
     threshold: u32,
     place: u32,

@@ -1,9 +1,9 @@
-//! The assembler: a text of functions, labels and instructions as an image file with sleds.
+//! The assembler: from a text of functions, labels and instructions to an image file with sleds.
 //!
-//! `line` reads a line as what it says, `operands` judges its operands, and `first_pass` gathers
-//! the lines with their names and totals and refuses the first that may not follow. Behind that
-//! `layout` gives each line its place, `targets` each name, `ending` refuses names without places,
-//! and `code`, `file` and `header` write the bytes. Each pass is linear in the text.
+//! `line` reads a line as what it says, and `operands` checks its operands. `first_pass` gathers
+//! the lines with their names and totals, and refuses the first that may not follow. After that
+//! `layout` gives each line its place and `targets` gives each name its place. `ending` refuses
+//! names without places. `code`, `file` and `header` write the bytes.
 #![tactic(auto)]
 
 mod assembling;

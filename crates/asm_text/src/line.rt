@@ -21,17 +21,17 @@ const COLON: u8 = b':';
 /// The byte that ends the first of two operands.
 const COMMA: u8 = b',';
 
-/// The words behind a keyword.
+/// The words after a keyword.
 #[derive(Clone, Copy)]
 enum Operands<'a> {
     Zero,
     One(&'a [u8]),
     Two(&'a [u8], &'a [u8]),
-    /// Three words or more, which no line has.
+    /// Three words or more. No line has as many.
     Many,
 }
 
-/// The words that are left.
+/// Takes the words that are left.
 fn read_operands<'a>(mut words: Words<'a>) -> Operands<'a>
     ensures { AreOperands words.entry result }
 {
@@ -56,7 +56,7 @@ fn branch_line<'a>(branch: Branch, word: &'a [u8]) -> Option<Spoken<'a>>
     Some(Spoken::Does(Written::Go { branch, name }))
 }
 
-/// What a keyword says alone.
+/// What a keyword says by itself.
 fn says_alone<'a>(keyword: Keyword) -> Option<Spoken<'a>>
     ensures { option_map statement_spoken result ≡ says keyword [] }
 {
@@ -96,7 +96,7 @@ fn says_one<'a>(keyword: Keyword, word: &'a [u8]) -> Option<Spoken<'a>>
     }
 }
 
-/// The two registers of an instruction, the destination first.
+/// The two registers of an instruction, destination first.
 fn two_registers(first: &[u8], second: &[u8]) -> Option<(RegisterWord, RegisterWord)>
     ensures { result
         ≡ option_and_then (λ dst. option_map (λ src. (dst, src)) (register64 second.now))
@@ -133,7 +133,7 @@ fn says_two<'a>(keyword: Keyword, first: &'a [u8], second: &'a [u8]) -> Option<S
     }
 }
 
-/// What a keyword says with the words behind it.
+/// What a keyword says with the words after it.
 fn says<'a>(keyword: Keyword, words: Words<'a>) -> Option<Spoken<'a>>
     ensures { option_map statement_spoken result ≡ says keyword words.entry }
 {
@@ -145,7 +145,7 @@ fn says<'a>(keyword: Keyword, words: Words<'a>) -> Option<Spoken<'a>>
     }
 }
 
-/// The label that a line is whose first word is no keyword.
+/// The label that a line is. Its first word isn't a keyword.
 fn label<'a>(word: &'a [u8], mut words: Words<'a>) -> Option<Spoken<'a>>
     ensures { option_map statement_spoken result ≡ label_of word.now words.entry }
 {
@@ -156,7 +156,7 @@ fn label<'a>(word: &'a [u8], mut words: Words<'a>) -> Option<Spoken<'a>>
     Some(Spoken::Label(name))
 }
 
-/// What a line says; nothing where it has no words. `Syntax` where it is no line of the language.
+/// What a line says, or nothing if it has no words. `Syntax` if it isn't a line of the language.
 pub(crate) fn read_line<'a>(line: &Line<'a>) -> Result<Option<Spoken<'a>>, AsmFault>
     ensures { LineGives line.now.number line.now.bytes.now result }
 {

@@ -5,7 +5,7 @@ ghost use Rattle.std.specs.Prelude.{◌≡◌, List, ℕ, Some, None, OnOk, if�
 use std::alloc::{AllocError, Global};
 use std::collections::HashMap;
 
-/// The lines that define the names so far, by their numbers among the lines with words, counted
+/// The lines that define the names so far. Each is a number among the lines with words, counted
 /// from 0.
 #[derive(Drop)]
 pub(crate) struct NameTable<'a> {
@@ -32,7 +32,7 @@ impl<'a> NameTable<'a> {
         self.lines.get(name).copied()
     }
 
-    /// Takes the line that defines a name.
+    /// Adds a name, with the line that defines it.
     pub(crate) fn define(&mut self, name: &'a [u8], line: usize) -> Result<(), AllocError>
         ensures { OnOk result ((q : List ℕ) → line_named self.new q
             ≡ (if bytes_eq name.now q then Some line else line_named self.old q)) }

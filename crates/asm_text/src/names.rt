@@ -25,14 +25,14 @@ fn is_name(word: &[u8]) -> bool
     all_may_name(word)
 }
 
-/// The word, where it is a name.
+/// The word, if it is a name.
 pub(crate) fn name_of(word: &[u8]) -> Option<&[u8]>
     ensures { option_copied result ≡ name_of word.now }
 {
     if is_name(word) { Some(word) } else { None }
 }
 
-/// What stands before the byte that a word ends with. None where it doesn't end so.
+/// The word without its last byte, if that is `byte`. Otherwise `None`.
 pub(crate) fn before_end(byte: u8, word: &[u8]) -> Option<&[u8]>
     ensures { option_copied result ≡ before_end byte word.now }
 {

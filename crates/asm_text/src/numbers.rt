@@ -5,11 +5,11 @@ ghost use Rattle.asm_text.specs.Numbers.{number_of};
 
 use text_lines::parse_digits;
 
-/// With what a hexadecimal number begins.
+/// What a hexadecimal number begins with.
 const HEXADECIMAL_FRONT: &[u8] = b"0x";
 
-/// The number that a word writes, hexadecimal behind `0x` and else decimal. None where it writes no
-/// number, or one above `u64::MAX`.
+/// The number that a word writes: hexadecimal after `0x`, otherwise decimal. The answer is `None`
+/// if the word writes no number, or one above `u64::MAX`.
 pub(crate) fn number_of(word: &[u8]) -> Option<u64>
     ensures { result ≡ number_of word.now }
 {

@@ -1,4 +1,4 @@
-//! Whether the operands of a line can stand there.
+//! Checks of a line's operands.
 
 ghost use Rattle.std.specs.Prelude.{◌≡◌, true, false, MatchResult};
 ghost use Rattle.subset_decode.specs.Registers.{is_reserved};
@@ -9,7 +9,7 @@ use crate::registers::{Register, RegisterWord};
 use crate::statement::{Operation, Plain, Spoken, Statement, Written};
 use xray_image::format::{BASE_ALIGNMENT, BASE_LIMIT};
 
-/// The register, or the fault `Register` where it can't be named.
+/// The register, or the fault `Register` if it can't be named.
 fn register(line: u32, word: RegisterWord) -> Result<Register, AsmFault>
     ensures { MatchResult result (λ reg. (register_number reg ≡ word) × (is_reserved word ≡ false))
         (λ e. (e ≡ AsmFault.Register line) × (is_reserved word ≡ true)) }
@@ -20,8 +20,8 @@ fn register(line: u32, word: RegisterWord) -> Result<Register, AsmFault>
     }
 }
 
-/// The operation of an instruction line. `Register` where it names a register that can't be named,
-/// and `Range` where a number doesn't fit its place.
+/// The operation of an instruction line. `Register` if it names a register that can't be named, and
+/// `Range` if a number doesn't fit its field.
 fn checked_operation<'a>(line: u32, written: &Written<'a>) -> Result<Operation<'a>, AsmFault>
     ensures { Tells operation_checked result (operation_of line (operation_written written.now)) }
 {
@@ -61,7 +61,7 @@ fn checked_operation<'a>(line: u32, written: &Written<'a>) -> Result<Operation<'
     }
 }
 
-/// What a line says, with operands that can stand there, or its refusal.
+/// What a line says, with checked operands, or its refusal.
 pub(crate) fn checked<'a>(line: u32, spoken: &Spoken<'a>) -> Result<Statement<'a>, AsmFault>
     ensures { Tells statement_said result (statement_of_spoken line (statement_spoken spoken.now)) }
 {

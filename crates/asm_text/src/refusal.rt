@@ -1,4 +1,4 @@
-//! The words in which a line on err says why a text can't be assembled.
+//! The words that a line on err gives for a text that can't be assembled.
 
 use crate::fault::AsmFault;
 use fault_words::{Fault, Words};

@@ -1,4 +1,4 @@
-//! The registers as a text names them.
+//! The registers, as a text names them.
 
 ghost use Rattle.std.specs.Prelude.{◌≡◌, ◌<◌, ◌≤◌, true, false, map, length, position, IfSome, MatchOption};
 ghost use Rattle.std.specs.Str.{bytes_eq};
@@ -8,7 +8,7 @@ ghost use Rattle.asm_text.specs.Registers.{number_in, register32, register64, re
 use std::marker::Model;
 use subset_decode::Reg;
 
-/// A register as a text names it, by its number; those too that can't be named.
+/// A register that a text names, by its number. It may be one that instructions can't name.
 #[derive(Clone, Copy)]
 pub(crate) struct RegisterWord(u8);
 
@@ -28,7 +28,7 @@ impl RegisterWord {
     ghost use Rattle.subset_decode.specs.Registers.{is_reserved};
     ghost use Rattle.asm_text.specs.Views.{register_number};
 
-    /// The register, where it can be named.
+    /// The register, if instructions can name it.
     pub(crate) fn register(self) -> Option<Register>
         ensures { MatchOption result (is_reserved self ≡ true)
             (λ r. (register_number r ≡ self) × (is_reserved self ≡ false)) }
@@ -53,7 +53,7 @@ impl RegisterWord {
     }
 }
 
-/// A register that an instruction may name.
+/// A register that instructions can name.
 #[derive(Clone, Copy, Debug, PartialEq, Eq)]
 pub(crate) enum Register {
     Rax,
@@ -72,7 +72,7 @@ pub(crate) enum Register {
     R15,
 }
 
-/// The register of a number that can be named.
+/// The register of this number, which instructions can name.
 fn named(number: u8) -> Reg
     requires { IsRegister number }
     ensures { result ≡ number }
@@ -86,7 +86,7 @@ fn named(number: u8) -> Reg
 impl Register {
     ghost use Rattle.asm_text.specs.Views.{register_number};
 
-    /// The register as instructions have it.
+    /// The register as part of an instruction.
     pub(crate) fn reg(self) -> Reg
         ensures { result ≡ register_number self }
     {
@@ -109,13 +109,13 @@ impl Register {
     }
 }
 
-/// The registers by number, as the names of their lower halves.
+/// The names of the registers' lower halves, by number.
 const NAMES32: [&[u8]; 16] = [
     b"eax", b"ecx", b"edx", b"ebx", b"esp", b"ebp", b"esi", b"edi", b"r8d", b"r9d", b"r10d",
     b"r11d", b"r12d", b"r13d", b"r14d", b"r15d",
 ];
 
-/// The registers by number, as the names of all their 64 bits.
+/// The names of the whole registers of 64 bits, by number.
 const NAMES64: [&[u8]; 16] = [
     b"rax", b"rcx", b"rdx", b"rbx", b"rsp", b"rbp", b"rsi", b"rdi", b"r8", b"r9", b"r10", b"r11",
     b"r12", b"r13", b"r14", b"r15",
@@ -128,7 +128,7 @@ fn place_in(names: &[&[u8]], word: &[u8]) -> Option<usize>
     names.iter().position(|name| *name == word)
 }
 
-/// The same of a list of at most 16 names.
+/// The same for a list of at most 16 names.
 #[tactic(auto, using(crate::proofs::NameLemmas::number_in_map, crate::proofs::NameLemmas::position_within))]
 fn number_in(names: &[&[u8]], word: &[u8]) -> Option<u8>
     requires { length names.now ≤ 16 }
@@ -141,7 +141,7 @@ fn number_in(names: &[&[u8]], word: &[u8]) -> Option<u8>
     }
 }
 
-/// A register's number, where it can't be named.
+/// A register's number, if instructions can't name it.
 fn reserved(number: u8) -> Option<u8>
     requires { number < 16 }
     ensures value { result ≡ reserved number }
@@ -153,8 +153,8 @@ fn reserved(number: u8) -> Option<u8>
     }
 }
 
-/// The register that a word names where `mov` has one. The names of rsp and r10 are registers
-/// whatever their width, and refused as that later on.
+/// The register that a word names as an operand of `mov`. The names of rsp and r10, of either
+/// width, are registers here. They are refused later.
 pub(crate) fn register32(word: &[u8]) -> Option<RegisterWord>
     ensures { result ≡ register32 word.now }
 {
@@ -164,7 +164,7 @@ pub(crate) fn register32(word: &[u8]) -> Option<RegisterWord>
     }
 }
 
-/// The same where the other instructions have a register.
+/// The same for the operands of other instructions.
 pub(crate) fn register64(word: &[u8]) -> Option<RegisterWord>
     ensures { result ≡ register64 word.now }
 {

@@ -5,10 +5,10 @@ ghost use Rattle.std.specs.Prelude.{◌≡◌, option_copied};
 use crate::registers::{Register, RegisterWord};
 use subset_decode::Instr;
 
-/// Which functions are instrumented.
+/// When a function is instrumented.
 #[derive(Clone, Copy, Debug, PartialEq, Eq)]
 pub(crate) enum Choice {
-    /// By its number of instruction lines.
+    /// Depending on its number of instruction lines.
     ByLength,
     /// In any case.
     Always,
@@ -16,7 +16,7 @@ pub(crate) enum Choice {
     Never,
 }
 
-/// The branches that name a place.
+/// The branches that go to a name.
 #[derive(Clone, Copy, Debug, PartialEq, Eq)]
 pub(crate) enum Branch {
     Call,
@@ -24,8 +24,8 @@ pub(crate) enum Branch {
     Jnz,
 }
 
-/// What an instruction line asks for as it is written. Its registers may be those that can't be
-/// named, and a number may be larger than its place.
+/// What an instruction line asks for, as it is written. It may name registers that instructions
+/// can't name, and its numbers may be larger than their fields.
 #[derive(Clone, Copy)]
 pub(crate) enum Written<'a> {
     Mov {
@@ -59,7 +59,7 @@ pub(crate) enum Written<'a> {
     Return,
 }
 
-/// What a line says as it is written.
+/// What a line says, as it is written.
 #[derive(Clone, Copy)]
 pub(crate) enum Spoken<'a> {
     Base(u64),
@@ -69,7 +69,7 @@ pub(crate) enum Spoken<'a> {
     Does(Written<'a>),
 }
 
-/// An instruction that names no place.
+/// An instruction that goes to no name.
 #[derive(Clone, Copy)]
 pub(crate) enum Plain {
     Mov { dst: Register, imm: u32 },
@@ -107,10 +107,10 @@ impl Plain {
     }
 }
 
-/// What an instruction line asks for, with operands that can stand there.
+/// What an instruction line asks for, with checked operands.
 #[derive(Clone, Copy)]
 pub(crate) enum Operation<'a> {
-    /// An instruction that names no place.
+    /// An instruction that goes to no name.
     Plain(Plain),
     /// A branch to a name.
     Go { branch: Branch, name: &'a [u8] },
@@ -120,7 +120,7 @@ pub(crate) enum Operation<'a> {
     Return,
 }
 
-/// What a line says, with operands that can stand there.
+/// What a line says, with checked operands.
 #[derive(Clone, Copy)]
 pub(crate) enum Statement<'a> {
     /// The address of the code's first byte.
@@ -156,7 +156,7 @@ impl<'a> Statement<'a> {
     ghost use Rattle.asm_text.specs.Views.{statement_said};
     ghost use Rattle.asm_text.specs.FirstPass.{name_defined};
 
-    /// The name that the statement gives a function or a label.
+    /// The name that the statement defines, for a function or a label.
     pub(crate) fn defined_name(&self) -> Option<&'a [u8]>
         ensures { option_copied result ≡ name_defined (statement_said self.now) }
     {

@@ -9,8 +9,7 @@ use crate::name_table::NameTable;
 use crate::statement::Statement;
 use std::alloc::{AllocError, Global};
 
-/// The place that a line itself gives: that of an instruction line's first byte, or a function's
-/// start.
+/// The place that a line gives: that of an instruction line's first byte, or a function's start.
 fn own_place(line: &Laid) -> Option<u32>
     ensures { result ≡ own_place (line_placed line.now) }
 {
@@ -21,7 +20,7 @@ fn own_place(line: &Laid) -> Option<u32>
     }
 }
 
-/// The place that a line gives, or else that of the line behind it.
+/// The place that a line gives, or else that of the line after it.
 fn place_before(line: &Laid, next: Option<u32>) -> Option<u32>
     ensures { result ≡ earlier (own_place (line_placed line.now)) next }
 {
@@ -31,7 +30,7 @@ fn place_before(line: &Laid, next: Option<u32>) -> Option<u32>
     }
 }
 
-/// For each line the place of the next instruction line or function from it on.
+/// For each line, the place of the next instruction line or function, from this line on.
 pub(crate) fn targets(alloc: Global, laid: &[Laid]) -> Result<Vec<Option<u32>>, AllocError>
     ensures { IfOk result (λ targets. targets.items ≡ next_places (placed_in laid.now)) }
 {
@@ -45,8 +44,8 @@ pub(crate) fn targets(alloc: Global, laid: &[Laid]) -> Result<Vec<Option<u32>>, 
     Ok(targets)
 }
 
-/// The place of a name: a function's start, or for a label that of the next instruction line or
-/// function.
+/// The place of a name: a function's start, or for a label the place of the next instruction line
+/// or function.
 pub(crate) fn place_of(names: &NameTable, targets: &[Option<u32>], name: &[u8]) -> Option<u32>
     ensures { (all : List Placed) → ArePlaces all names.now targets.now
         → result ≡ place_of name.now all }

@@ -6,7 +6,7 @@ use std::test::Fail;
 use text_lines::count_lines;
 use xray_image::read_image;
 
-/// The code of a move, an output and a return.
+/// The code of a move, an output, and a return.
 const MOVE: &[u8] = &[
     0xEB, 0x09, 0x66, 0x0F, 0x1F, 0x84, 0x00, 0x00, 0x02, 0x00, 0x00, 0xB8, 0x41, 0x00, 0x00, 0x00,
     0xE6, 0x01, 0xC3, 0x2E, 0x66, 0x0F, 0x1F, 0x84, 0x00, 0x00, 0x02, 0x00, 0x00,
@@ -34,7 +34,7 @@ const TAIL: &[u8] = &[
     0x02, 0x00, 0x00,
 ];
 
-/// The code of labels and branches both ways, behind a function without sleds.
+/// The code of labels and of branches both ways, after a function without sleds.
 const FIBONACCI: &[u8] = &[
     0xBF, 0x14, 0x00, 0x00, 0x00, 0xE8, 0x02, 0x00, 0x00, 0x00, 0xC3, 0x90, 0xEB, 0x09, 0x66, 0x0F,
     0x1F, 0x84, 0x00, 0x00, 0x02, 0x00, 0x00, 0xB9, 0x00, 0x00, 0x00, 0x00, 0x48, 0x01, 0xCF, 0x0F,
@@ -45,7 +45,7 @@ const FIBONACCI: &[u8] = &[
     0xFF, 0x90, 0xC3, 0x2E, 0x66, 0x0F, 0x1F, 0x84, 0x00, 0x00, 0x02, 0x00, 0x00,
 ];
 
-/// The text's verdict, where it has fewer lines than 2,000,000.
+/// The verdict on a text of fewer than 2,000,000 lines.
 fn verdict(alloc: Global, text: &[u8], threshold: u32) -> Result<Vec<u8>, AsmFault> {
     if count_lines(text) > 2_000_000 {
         return Err(AsmFault::NoMemory);
@@ -144,7 +144,7 @@ fn threshold_decides_where_the_function_does_not(rt: HostRuntime) -> Result<(), 
 
 #[test]
 fn assembled_file_is_read_back(rt: HostRuntime) -> Result<(), Fail> {
-    // The exit sled of f, main and its tail sled each stand behind an alignment byte.
+    // The exit sled of f, main, and its tail sled each come after an alignment byte.
     let text = b"entry main\nfn f always\nret\nfn main always\ntailjmp f\n";
     let file = verdict(rt.alloc(), text, 1)?;
     let image = read_image(rt.alloc(), &file)?;
@@ -228,8 +228,8 @@ fn blanks_comments_and_line_ends_change_nothing(rt: HostRuntime) -> Result<(), F
 
 #[test]
 fn labels_stand_for_their_three_places(rt: HostRuntime) -> Result<(), Fail> {
-    // Before an alignment byte, and at the end of a function, before the alignment byte of the
-    // next.
+    // Labels before an alignment byte, and at the end of a function, before the alignment byte of
+    // the next one.
     let text = b"fn a always\njmp x\npush rax\nx:\ny:\nret\nz:\nfn b always\njmp x\njmp z\nret\n";
     let file = verdict(rt.alloc(), text, 1)?;
     let expected: &[u8] = &[
@@ -243,7 +243,7 @@ fn labels_stand_for_their_three_places(rt: HostRuntime) -> Result<(), Fail> {
     Ok(())
 }
 
-/// So many lines behind others.
+/// A line, `count` times, after other lines.
 fn repeated(alloc: Global, front: &[u8], line: &[u8], count: u32) -> Result<Vec<u8>, AllocError> {
     let mut text = Vec::from_slice(alloc, front)?;
     for _ in 0..count {
@@ -252,7 +252,7 @@ fn repeated(alloc: Global, front: &[u8], line: &[u8], count: u32) -> Result<Vec<
     Ok(text)
 }
 
-/// So many functions of two lines.
+/// The text of `count` functions of two lines each.
 fn functions(alloc: Global, count: u32) -> Result<Vec<u8>, AllocError> {
     let mut text = Vec::new(alloc);
     for i in 0..count {

@@ -1,4 +1,4 @@
-//! What the lines so far come to.
+//! The totals of the lines so far.
 
 ghost use Rattle.std.specs.Prelude.{◌≡◌, ◌||◌, true, false, if◌then◌else◌};
 ghost use Rattle.asm_text.specs.Layout.{is_function, is_instruction};
@@ -8,7 +8,7 @@ use crate::statement::{Choice, Spoken, Statement};
 use crate::width::{line_sleds, line_width};
 use xray_image::format::{CODE_LIMIT, FUNCTION_LIMIT, SLED_LIMIT};
 
-/// How far the functions have come.
+/// Which functions have begun.
 #[derive(Clone, Copy, Debug, PartialEq, Eq)]
 enum Standing {
     /// No function has begun.
@@ -42,7 +42,7 @@ impl Standing {
         }
     }
 
-    /// The same with one more line.
+    /// The same after one more line.
     fn with(self, statement: &Statement) -> Standing
         ensures begun { has_begun result
             ≡ (has_begun self || is_function (statement_said statement.now)) }
@@ -61,8 +61,7 @@ impl Standing {
     }
 }
 
-/// Totals of the lines so far, counted as if each function that doesn't say `never` were
-/// instrumented.
+/// Totals of the lines so far. Each function that doesn't say `never` counts as instrumented.
 #[derive(Clone, Copy)]
 pub(crate) struct Totals {
     /// Whether a line gives the base.
@@ -103,7 +102,7 @@ impl Totals {
         }
     }
 
-    /// Whether a line may not stand behind those so far.
+    /// Whether a line may not come after those so far.
     pub(crate) fn misplaces(&self, spoken: &Spoken) -> bool
         ensures { (lines : Lines) → IsTotals lines self.now
             → result ≡ is_misplaced lines (statement_spoken spoken.now) }

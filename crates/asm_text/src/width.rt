@@ -19,7 +19,8 @@ fn branch_width(branch: Branch) -> u32
     }
 }
 
-/// How many bytes a sled at a place has, with the alignment byte before it at an odd one.
+/// How many bytes a sled has at a place. If the place is odd, that includes the alignment byte
+/// before it.
 fn aligned_width(place: u32) -> u32
     ensures width { result ≡ place % 2 + SLED_LENGTH }
     ensures few { result ≤ SLED_LENGTH + 1 }
@@ -40,7 +41,8 @@ fn plain_width(operation: &Operation) -> u32
     }
 }
 
-/// How many bytes an instruction line makes at a place in an instrumented function.
+/// How many bytes an instruction line makes in an instrumented function, if it begins at this
+/// place.
 #[tactic(auto, using(crate::proofs::WidthLemmas::widths_aligned, crate::proofs::WidthLemmas::widths_aligned_branch))]
 fn traced_width(place: u32, operation: &Operation) -> u32
     ensures width { result ≡ widths (traced_parts place (operation_checked operation.now)) }
@@ -53,7 +55,8 @@ fn traced_width(place: u32, operation: &Operation) -> u32
     }
 }
 
-/// How many bytes a line makes that begins at a place, in a function that is instrumented or not.
+/// How many bytes a line makes, if it begins at this place. `traced` says whether its function is
+/// instrumented.
 #[tactic(auto, using(crate::proofs::WidthLemmas::widths_aligned))]
 pub(crate) fn line_width(traced: bool, place: u32, statement: &Statement) -> u32
     ensures width { result ≡ widths (parts_of traced place (statement_said statement.now)) }

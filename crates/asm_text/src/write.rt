@@ -32,7 +32,7 @@ fn base_of(lines: &[Laid]) -> u64
     DEFAULT_BASE
 }
 
-/// The name of the entry function, where the text gives one.
+/// The name of the entry function, if the text gives one.
 fn entry_name<'a>(lines: &[Laid<'a>]) -> Option<&'a [u8]>
     ensures { option_copied result ≡ slice_get (filter_map (λ line. entry_in_line line.1)
         (lines_of (placed_in lines.now))) 0 }
@@ -73,7 +73,7 @@ fn count_sleds(lines: &[Laid]) -> u32
     count
 }
 
-/// The number of the function of a name, from 0.
+/// The number of the function with this name, from 0.
 fn function_number(lines: &[Laid], name: &[u8]) -> u32
     requires { length (functions 0 (placed_in lines.now)) ≤ 1024 }
     ensures { result ≡ position_or_len (λ f. bytes_eq f.name name.now)
@@ -91,7 +91,7 @@ fn function_number(lines: &[Laid], name: &[u8]) -> u32
     number
 }
 
-/// The number of the entry function, which is the first where the text names none.
+/// The number of the entry function. It is the first function if the text names none.
 fn entry_of(lines: &[Laid]) -> u32
     requires { length (functions 0 (placed_in lines.now)) ≤ 1024 }
     ensures { result ≡ entry_of (lines_of (placed_in lines.now))

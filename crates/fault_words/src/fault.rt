@@ -4,13 +4,13 @@ ghost use Rattle.fault_words.specs.Words.{words_text};
 
 use crate::words::Words;
 
-/// Why a reader gives no value: memory ran out, or the input is refused, with these words.
+/// Why a reader gives no value: memory ran out, or the input is refused, for which there are words.
 pub trait Fault: Drop {
-    /// The words in which a line on err says why the input is refused; none where memory ran out,
-    /// since nothing is refused for that.
+    /// The words that a line on err gives for the refusal. There are none if memory ran out, since
+    /// nothing is refused then.
     ghost told: { Self → Option (List ℕ) };
 
-    /// The words of the refusal; `None` where memory ran out.
+    /// The words of the refusal, or `None` if memory ran out.
     fn refusal(&self) -> Option<Words<'static>>
         ensures { option_map words_text result ≡ told self.now };
 }

@@ -1,7 +1,7 @@
-//! The words in which a line on err says why an input is refused: the name of the refusal, and its
-//! values, as `Code 0 Register 10`.
+//! The words that a line on err gives for a refused input: the name of the refusal and its values,
+//! as `Code 0 Register 10`.
 //!
-//! Each reader's fault has them in the reader's own crate, by the trait `Fault`.
+//! The fault of each reader has its words in the reader's own crate, by the trait `Fault`.
 #![tactic(auto)]
 
 mod fault;

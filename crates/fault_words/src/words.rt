@@ -5,20 +5,20 @@ ghost use Rattle.fault_words.specs.Words.{words_text};
 
 use xray_io::Piece;
 
-/// The words of a refusal, its name and its values, as the pieces of a text.
+/// The words of a refusal, which are its name and its values, as the pieces of a text.
 #[derive(Clone, Copy, Debug, PartialEq, Eq)]
 pub struct Words<'a> {
     /// The first piece.
     pub first: Piece<'a>,
-    /// The second, which may be empty, as may those behind it.
+    /// The second piece, which may be empty. So may the pieces after it.
     pub second: Piece<'a>,
-    /// The third.
+    /// The third piece.
     pub third: Piece<'a>,
-    /// The fourth.
+    /// The fourth piece.
     pub fourth: Piece<'a>,
 }
 
-/// What stands in the place of a piece that there isn't.
+/// A piece that isn't there.
 const NOTHING: Piece = Piece::Bytes(b"");
 
 impl<'a> Words<'a> {
@@ -29,7 +29,7 @@ impl<'a> Words<'a> {
         Words::two(Piece::Bytes(name), NOTHING)
     }
 
-    /// A name, with a blank at its end, and a number.
+    /// A name, with a blank at its end, and then a number.
     pub fn numbered(name: &'a [u8], number: u32) -> Self
         ensures { words_text result ≡ name.now ++ decimal number }
     {

@@ -6,7 +6,7 @@ use Rattle.std.specs.Prelude.{if◌then◌else◌}
 use Rattle.fdr_record.specs.declared.event.Event.{Event}
 use Rattle.fdr_buffer.specs.Segments.{has_room, segments_from, segments}
 
--- the last segment and the event behind it
+-- the last segment and the next event
 abbrev pub with_next : ℕ → List Event → Event → List (List Event)
 with_next size opened event = if has_room size (opened ++ event ∷ []) then (opened ++ event ∷ []) ∷ [] else opened ∷ (event ∷ []) ∷ []
 
@@ -84,7 +84,7 @@ pub hold_some : (size : ℕ) (events : List Event) → AllByRecursion (λ s. s �
 hold_some size [] = tt
 hold_some size (event ∷ events) = from_some size (event ∷ []) events (one_not_empty event)
 
--- there is room for one event in every buffer
+-- every buffer has room for one event
 one_has_room : (size : ℕ) (event : Event) → 72 ≤ size → has_room size (event ∷ []) ≡ true
 one_has_room size event least = le-leb _ _ (omega arith)
 

@@ -1,4 +1,4 @@
--- What the fields of a buffer tell, and how it fills.
+-- What the fields of a buffer say, and how it is filled.
 use Rattle.std.proofs.Common.{◌≡◌, Vec, Global, ℕ, ◌+◌, ◌-◌, ◌^◌, ◌<◌, ◌≤◌, true, leb, ltb, lt-ltb, lit<, List, [], ◌∷◌, ◌++◌, length, take, drop, Option, Some, None, refl, sym, ap, subst, ◌∙◌, append_assoc, arith, inl, inr}
 use Rattle.std.proofs.lemmas.Bool.{cases_Bool, ltb-true, ltb-false, leb-true}
 use Rattle.std.proofs.lemmas.Bool.Decides.{leb_tells, eqb_tells}
@@ -20,11 +20,11 @@ use Rattle.fdr_buffer.specs.Buffer.{filled_with, events_told, filled_in, Holds, 
 use Rattle.fdr_buffer.proofs.Records.{last_of-push, segment_bytes-push}
 use Rattle.fdr_buffer.proofs.Telling.{segment_told, nothing_told}
 
--- the bytes behind the preamble
+-- the bytes after the preamble
 behind_preamble : (thread : ℕ) (wall : Wall) (pid : ℕ) (events : List Event) → drop 48 (body thread wall pid events) ≡ segment_bytes events
 behind_preamble thread wall pid events = refl
 
--- the events that a buffer tells are those that it holds
+-- the events that a buffer says are those that it holds
 pub told_is : (a : Inside) (events : List Event) → Holds a events → events_told a ≡ events
 told_is a events h =
     elim (cases_Bool (ltb 0 a.used)) [
@@ -105,7 +105,7 @@ holds_more a b events event h g begun room =
       fit = All-push EventFits events event h.fit g.fits;
     }
 
--- no more events than bytes
+-- there are at most as many events as bytes
 records_not_empty : (before : Option Event) (event : Event) → 8 ≤ length (bytes_of (records_of before event))
 records_not_empty None event = omega arith
 records_not_empty (Some before) event =
@@ -120,12 +120,12 @@ events_short before (event ∷ events) =
     let all = ap length (flat_map-append record_bytes (records_of before event) (records_behind (Some event) events)) ∙ length-append (bytes_of (records_of before event)) (bytes_of (records_behind (Some event) events)) in
     omega (arith, all, records_not_empty before event, events_short (Some event) events)
 
--- there is a number for one event more
+-- one more event still has a number
 pub count_small : (a : Inside) (events : List Event) → Holds a events → ltb 0 a.used ≡ true → a.count + 1 < 2 ^ 32
 count_small a events h begun =
     omega (arith, h.count, used_is a events h begun, events_short None events, h.within, h.most)
 
--- the buffer that it then is
+-- the buffer after that
 pub more_is : (a b : Inside) (events : List Event) (event : Event) → Grows a b event → ltb 0 a.used ≡ true → Holds b (events ++ event ∷ []) → filled_in b ≡ record (filled_with a events) { events = events ++ event ∷ [] }
 more_is a b events event g begun h =
     filled_is b (events ++ event ∷ []) h ∙ rw (still_begun a b event g begun, begun, g.size, g.thread, g.serial, g.wall, g.pid) refl
@@ -169,11 +169,11 @@ grown_grows a bytes used event size fits written next =
 abbrev HasRoomFor : Event → Filled → Type 0
 HasRoomFor event v = has_room v.size (v.events ++ event ∷ []) ≡ true
 
--- one event more, in a buffer as contracts see it
+-- one more event, in a buffer as contracts see it
 abbrev pub with_event : Filled → Event → Filled
 with_event v event = record v { events = v.events ++ event ∷ [] }
 
--- what there is of an event to be written
+-- what is to be written of an event
 pub record IsToldBy (a : Inside) (lead : Lead) (event : Event) : Type 0 where
   pub records : lead_records lead event ≡ records_of a.last event
   pub cpu : event.cpu < 2 ^ 16
@@ -195,7 +195,7 @@ put_leaves a now event lead bytes used seen filled begun room id told size writt
 abbrev pub begun_as : Inside → List ℕ → ℕ → ℕ → ℕ → Wall → ℕ → Inside
 begun_as a bytes used thread serial wall pid = record { bytes = with_items a.bytes bytes; used = used; thread = thread; serial = serial; wall = wall; pid = pid; count = 0; last = None }
 
--- beginning a segment leaves a buffer without events
+-- beginning a segment leaves a buffer with no events
 pub begin_leaves : (a : Inside) (now : Filled) (bytes : List ℕ) (used thread serial : ℕ) (wall : Wall) (pid : ℕ) → filled_in a ≡ now → IsFilled a
     → (thread < 2 ^ 32) × (wall.secs < 2 ^ 64) × (wall.micros < 2 ^ 32) × (pid < 2 ^ 32) → length bytes ≡ length a.bytes.items → take used bytes ≡ body thread wall pid [] → used ≡ 48
     → IsFilled (begun_as a bytes used thread serial wall pid)

@@ -1,4 +1,4 @@
--- Records of events, one behind the other.
+-- Records of events, one after the other.
 use Rattle.std.proofs.Common.{◌≡◌, ℕ, List, [], ◌∷◌, ◌++◌, Option, Some, None, refl, sym, ap, ◌∙◌, append_assoc}
 use Rattle.std.proofs.lemmas.List.{append-nil}
 use Rattle.std.proofs.lemmas.List.Concat.{flat_map-append}
@@ -8,12 +8,12 @@ use Rattle.fdr_record.specs.Records.{record_bytes}
 use Rattle.fdr_buffer.specs.Segments.{bytes_of, records_of, records_behind, segment_bytes}
 use Rattle.fdr_buffer.specs.Filled.{last_behind, last_of}
 
--- two records behind a front
+-- two records after a prefix
 pub two_records : (front mid all : List ℕ) (a b : Rec) → mid ≡ front ++ record_bytes a → all ≡ mid ++ record_bytes b → all ≡ front ++ bytes_of (a ∷ b ∷ [])
 two_records front mid all a b first second =
     second ∙ ap (λ (x : List ℕ). x ++ record_bytes b) first ∙ append_assoc front (record_bytes a) (record_bytes b) ∙ ap (λ (x : List ℕ). front ++ (record_bytes a ++ x)) (sym (append-nil (record_bytes b)))
 
--- the last of events to which one was added
+-- the last of some events, with one more
 last_behind-push : (before : Option Event) (events : List Event) (event : Event) → last_behind before (events ++ event ∷ []) ≡ Some event
 last_behind-push before [] event = refl
 last_behind-push before (next ∷ events) event = last_behind-push (Some next) events event
@@ -21,7 +21,7 @@ last_behind-push before (next ∷ events) event = last_behind-push (Some next) e
 pub last_of-push : (events : List Event) (event : Event) → last_of (events ++ event ∷ []) ≡ Some event
 last_of-push events event = last_behind-push None events event
 
--- the records of events to which one was added
+-- the records of some events, with one more
 records_behind-push : (before : Option Event) (events : List Event) (event : Event) → records_behind before (events ++ event ∷ []) ≡ records_behind before events ++ records_of (last_behind before events) event
 records_behind-push before [] event = append-nil (records_of before event)
 records_behind-push before (next ∷ events) event =

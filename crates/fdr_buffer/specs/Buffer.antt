@@ -1,4 +1,4 @@
--- What the fields of a buffer tell, and what holds of them.
+-- What the fields of a buffer say, and what is true of them.
 use Rattle.std.specs.Prelude.{◌≡◌, ◌≤◌, List, [], length, take, drop, nat_lt, All}
 use Rattle.fdr_record.specs.declared.event.Event.{Event}
 use Rattle.fdr_buffer.specs.declared.buffer.TheConstants.{LEAST, LARGEST}
@@ -12,11 +12,11 @@ use Rattle.fdr_buffer.specs.Telling.{events_in}
 abbrev pub filled_with : Inside → List Event → Filled
 filled_with a events = record { size = length a.bytes.items; begun = nat_lt 0 a.used; thread = a.thread; serial = a.serial; wall = a.wall; pid = a.pid; events = events }
 
--- the events that its bytes tell, behind the preamble
+-- the events that its bytes say, after the preamble
 abbrev pub events_told : Inside → List Event
 events_told a = events_in (drop preamble_length (take a.used a.bytes.items))
 
--- the buffer that the fields tell
+-- the buffer that the fields say
 abbrev pub filled_in : Inside → Filled
 filled_in a = filled_with a (events_told a)
 

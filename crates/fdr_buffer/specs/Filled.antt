@@ -4,8 +4,8 @@ use Rattle.xray_io.specs.declared.faults.Wall.{Wall}
 use Rattle.fdr_record.specs.declared.event.Event.{Event}
 use Rattle.fdr_buffer.specs.Segments.{body}
 
--- its size in bytes; whether it was begun, and for which thread, as which of its segments, when and in which process; and the events
--- that it holds, the first first
+-- Its size in bytes; whether it was begun; for which thread, as which of its segments, when, and in which process; and
+-- the events that it holds, in order.
 pub record Filled : Type 0 where
   pub size : ℕ
   pub begun : Bool
@@ -19,11 +19,11 @@ pub record Filled : Type 0 where
 abbrev pub empty_buffer : ℕ → Filled
 empty_buffer size = record { size = size; begun = false; thread = 0; serial = 0; wall = record { secs = 0; micros = 0 }; pid = 0; events = [] }
 
--- the bytes that are used of a buffer
+-- the bytes of a buffer that are used
 abbrev pub used_bytes : Filled → List ℕ
 used_bytes buffer = if buffer.begun then body buffer.thread buffer.wall buffer.pid buffer.events else []
 
--- the last event of a list behind an event
+-- the last event of a list, or an earlier event if the list is empty
 abbrev pub last_behind : Option Event → List Event → Option Event
 last_behind before [] = before
 last_behind before (event ∷ events) = last_behind (Some event) events

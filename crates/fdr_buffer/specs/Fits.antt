@@ -1,4 +1,4 @@
--- What fits in a buffer, and in the records that it is read from again.
+-- What fits a buffer, and the records that it is read from later.
 use Rattle.std.specs.Prelude.{◌<◌, ◌≤◌, ◌^◌, length, All}
 use Rattle.fdr_buffer.specs.declared.buffer.TheConstants.{LARGEST}
 use Rattle.fdr_buffer.specs.Segments.{EventFits}
@@ -11,7 +11,7 @@ pub record PreambleFits (buffer : Filled) : Type 0 where
   pub micros : buffer.wall.micros < 2 ^ 32
   pub pid : buffer.pid < 2 ^ 32
 
--- so do its events fit theirs, and its bytes fit its size, which is one that a buffer may have
+-- so do its events fit theirs; its bytes fit its size, which is in its range
 pub record BufferFits (buffer : Filled) : Type 0 where
   pub preamble : PreambleFits buffer
   pub events : All EventFits buffer.events

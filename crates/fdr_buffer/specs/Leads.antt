@@ -1,4 +1,4 @@
--- What stands before an event's function record, for the contracts of private functions.
+-- What comes before an event's function record, for the contracts of private functions.
 use Rattle.std.specs.Prelude.{List, [], ◌∷◌}
 use Rattle.fdr_record.specs.declared.event.Event.{Event}
 use Rattle.fdr_record.specs.declared.rec.Rec.{Rec}
@@ -7,7 +7,7 @@ use Rattle.fdr_buffer.specs.declared.lead.Lead.{Lead}
 use Rattle.fdr_buffer.specs.declared.lead.Lead.TheVariants.{Cpu, Wrap, Delta}
 use Rattle.fdr_buffer.specs.Segments.{function_record}
 
--- the records of an event that is told so
+-- the records of an event with this lead
 abbrev pub lead_records : Lead → Event → List Rec
 lead_records Cpu event = NewCpu event.cpu event.tsc ∷ function_record event 0 ∷ []
 lead_records Wrap event = TscWrap event.tsc ∷ function_record event 0 ∷ []

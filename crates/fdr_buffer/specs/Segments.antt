@@ -19,23 +19,23 @@ is_out_of_reach before tsc = nat_lt tsc before || nat_lt (before + (2 ^ 32 - 1))
 abbrev pub records_on_new_cpu : Event → List Rec
 records_on_new_cpu event = NewCpu event.cpu event.tsc ∷ function_record event 0 ∷ []
 
--- the records of an event on the same CPU as the one before, by that one's counter
+-- the records of an event on the same CPU as the event before, by the counter of that one
 abbrev pub records_on_same_cpu : ℕ → Event → List Rec
 records_on_same_cpu before event =
     if is_out_of_reach before event.tsc then TscWrap event.tsc ∷ function_record event 0 ∷ []
     else function_record event (event.tsc - before) ∷ []
 
--- the records of an event behind the event before it in its segment
+-- the records of an event, by the event before it in its segment
 abbrev pub records_of : Option Event → Event → List Rec
 records_of None event = records_on_new_cpu event
 records_of (Some before) event = if before.cpu == event.cpu then records_on_same_cpu before.tsc event else records_on_new_cpu event
 
--- the records of events, each behind the one before
+-- the records of events, each after the event before
 abbrev pub records_behind : Option Event → List Event → List Rec
 records_behind before [] = []
 records_behind before (event ∷ events) = records_of before event ++ records_behind (Some event) events
 
--- records, one behind the other
+-- the bytes of records, one after the other
 abbrev pub bytes_of : List Rec → List ℕ
 bytes_of records = flat_map record_bytes records
 
@@ -51,22 +51,22 @@ preamble thread wall pid = bytes_of (NewBuffer thread ∷ WallTime wall ∷ Pid 
 abbrev pub body : ℕ → Wall → ℕ → List Event → List ℕ
 body thread wall pid events = preamble thread wall pid ++ segment_bytes events
 
--- how many bytes a preamble has
+-- the length of a preamble
 abbrev pub preamble_length : ℕ
 preamble_length = 48
 
--- the events have room in a buffer of this size, behind its preamble
+-- the events have room in a buffer of this size, after its preamble
 abbrev pub has_room : ℕ → List Event → Bool
 has_room size events = nat_le (preamble_length + length (segment_bytes events)) size
 
--- the segments of an open one and the events behind it
+-- the segments of an open segment and the events after it
 abbrev pub segments_from : ℕ → List Event → List Event → List (List Event)
 segments_from size opened [] = opened ∷ []
 segments_from size opened (event ∷ events) =
     if has_room size (opened ++ event ∷ []) then segments_from size (opened ++ event ∷ []) events
     else opened ∷ segments_from size (event ∷ []) events
 
--- The cut of events into segments: an event joins the open segment exactly where there is room for its records too.
+-- The events, cut into segments. An event joins the open segment exactly when there is room for its records too.
 abbrev pub segments : ℕ → List Event → List (List Event)
 segments size [] = []
 segments size (event ∷ events) = segments_from size (event ∷ []) events

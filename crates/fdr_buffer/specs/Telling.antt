@@ -1,4 +1,4 @@
--- The events that the bytes of a segment tell, read from left to right.
+-- The events that the bytes of a segment say, read from first to last.
 use Rattle.std.specs.Prelude.{ℕ, zero, suc, ◌+◌, ◌/◌, ◌%◌, List, [], ◌∷◌, drop, ◌==◌, if◌then◌else◌}
 use Rattle.byteorder.specs.Endian.{little_number}
 use Rattle.fdr_record.specs.declared.event.Kind.{Kind}
@@ -6,11 +6,11 @@ use Rattle.fdr_record.specs.declared.event.Kind.TheVariants.{Entry, Exit, TailEx
 use Rattle.fdr_record.specs.declared.event.Event.{Event}
 use Rattle.fdr_record.specs.Records.{first_of, new_cpu_id}
 
--- what an action's number says that happened
+-- the kind of event that an action's number stands for
 abbrev pub kind_told : ℕ → Kind
 kind_told action = if action == 0 then Entry else if action == 1 then Exit else TailExit
 
--- the events of bytes of which some are passed over first, behind a CPU and a counter
+-- the events of bytes after a CPU and a counter; some bytes are skipped first
 unfoldable pub events_behind : ℕ → ℕ → ℕ → List ℕ → List Event
 events_behind skipped cpu tsc [] = []
 events_behind (suc skipped) cpu tsc (byte ∷ bytes) = events_behind skipped cpu tsc bytes

@@ -1,4 +1,4 @@
-//! A buffer of one segment of a thread's events.
+//! A buffer with one segment of a thread's events.
 
 ghost use Rattle.std.specs.Prelude.{◌≡◌, ◌<◌, ◌≤◌, ◌^◌, [], ◌∷◌, ◌++◌, true, length, IsTrue, IfOk};
 ghost use Rattle.fdr_buffer.specs.Segments.{has_room};
@@ -18,24 +18,24 @@ pub const LEAST: u32 = 72;
 /// The largest size of a buffer, in bytes.
 pub const LARGEST: u32 = 1_048_576;
 
-/// The bytes of one segment of a thread's events: a preamble that says of which thread, when and in
-/// which process, and then the records of the events (LLVM's `xray_fdr_controller.h` fills its buffers
-/// with the same kinds of records). They lie in room that is taken when the buffer is made, and no
-/// other call takes memory.
+/// The bytes of one segment of a thread's events. First comes a preamble that says which thread it
+/// is, when the segment began, and in which process. The records of the events follow. LLVM's
+/// `xray_fdr_controller.h` fills its buffers with the same kinds of records. The size of a buffer
+/// never changes.
 #[derive(Debug, Drop)]
 pub struct Buffer {
-    /// As many bytes as the buffer's size.
+    /// As many bytes as the size of the buffer.
     bytes: Vec<u8>,
-    /// How many of them are used: none until it is begun.
+    /// How many of the bytes are used: 0 until the buffer is begun.
     used: usize,
-    /// What it was begun for; all 0 until then.
+    /// What the buffer was begun for. All fields are 0 until then.
     thread: u32,
     serial: u32,
     wall: Wall,
     pid: u32,
     /// How many events it holds.
     count: u32,
-    /// The last of them.
+    /// The last event, if there is one.
     last: Option<Event>,
 }
 
@@ -52,7 +52,7 @@ impl Model for Buffer {
 }
 
 impl Buffer {
-    /// A buffer of so many bytes, which holds no segment yet. `NoMemory` comes where an allocation was
+    /// A buffer of `size` bytes that holds no segment yet. `NoMemory` means that an allocation was
     /// refused.
     pub fn new(alloc: Global, size: u32) -> Result<Buffer, NoMemory>
         requires least { LEAST ≤ size }
@@ -71,8 +71,8 @@ impl Buffer {
         })
     }
 
-    /// Empties the buffer, and begins segment `serial` (from 0) of the thread in it: it writes the 48
-    /// bytes that every segment begins with, NewBuffer, WalltimeMarker and Pid.
+    /// Empties the buffer, and begins segment `serial` (from 0) of the thread in it. Writes the 48
+    /// bytes that every segment begins with: NewBuffer, WalltimeMarker and Pid.
     pub fn begin(&mut self, thread: u32, serial: u32, wall: Wall, pid: u32)
         ensures begun { self.new ≡ record {
           size = self.old.size;
@@ -83,7 +83,7 @@ impl Buffer {
           pid = pid;
           events = [];
         } }
-        // A buffer has a size that it may be made with.
+        // The size of a buffer is in its range.
         ensures least { LEAST ≤ self.old.size }
         ensures most { self.old.size ≤ LARGEST }
     {
@@ -96,8 +96,8 @@ impl Buffer {
         self.last = None;
     }
 
-    /// Whether there is room for the event's records behind those that the buffer holds. It has to be
-    /// begun.
+    /// Whether there is room for the event's records after those in the buffer. The buffer has to
+    /// be begun.
     pub fn fits(&self, event: &Event) -> bool
         requires { IsTrue self.now.begun }
         ensures { result ≡ has_room self.now.size (self.now.events ++ event.now ∷ []) }
@@ -105,8 +105,8 @@ impl Buffer {
         Lead::of(self.last, event).len(event) <= self.bytes.len() - self.used
     }
 
-    /// Adds an event behind the others. The buffer has to be begun and to have room for it, as `fits`
-    /// tells, and the function's id has to be below 2^28.
+    /// Adds an event after the others. The buffer has to be begun, and the event has to fit; `fits`
+    /// says whether it does. The function's id has to be below 2^28.
     pub fn put(&mut self, event: &Event)
         requires begun { IsTrue self.old.begun }
         requires room { IsTrue (has_room self.old.size (self.old.events ++ event.now ∷ [])) }
@@ -119,37 +119,37 @@ impl Buffer {
         self.last = Some(*event);
     }
 
-    /// The bytes of the segment, with its preamble: none where the buffer isn't begun.
+    /// The bytes of the segment, including its preamble. There are none if the buffer isn't begun.
     pub fn bytes(&self) -> &[u8]
         ensures bytes { result.now ≡ used_bytes self.now }
-        // What every buffer holds fits its records and its size.
+        // What a buffer holds fits its records and its size.
         ensures fits { BufferFits self.now }
     {
         &self.bytes[..self.used]
     }
 
-    /// The thread that it was begun for.
+    /// The thread that the buffer was begun for.
     pub fn thread(&self) -> u32
         ensures { result ≡ self.now.thread }
     {
         self.thread
     }
 
-    /// Which segment of its thread it was begun for, counted from 0.
+    /// The number of the segment that the buffer was begun for, counted from 0 for each thread.
     pub fn serial(&self) -> u32
         ensures { result ≡ self.now.serial }
     {
         self.serial
     }
 
-    /// How many events it holds.
+    /// How many events the buffer holds.
     pub fn events(&self) -> u32
         ensures { result ≡ length self.now.events }
     {
         self.count
     }
 
-    /// Whether it was begun.
+    /// Whether the buffer was begun.
     pub fn begun(&self) -> bool
         ensures { result ≡ self.now.begun }
     {

@@ -1,4 +1,4 @@
-//! What follows for segments. Each law is the contract of a function that does nothing.
+//! Laws of segments. Each law is the contract of a function that does nothing.
 
 ghost use Rattle.std.specs.Prelude.{◌≡◌, ◌≢◌, ◌≤◌, [], ◌∷◌, ◌++◌, List, ℕ, All, IsTrue, IsFalse, length};
 ghost use Rattle.std.specs.List.{flat_map};
@@ -7,9 +7,9 @@ ghost use Rattle.fdr_record.specs.declared.event.Event.{Event};
 ghost use Rattle.fdr_buffer.specs.declared.buffer.TheConstants.{LEAST};
 ghost use Rattle.fdr_buffer.specs.Segments.{body, has_room, segments};
 
-/// One event more begins the first segment, joins the last one where there is room, and else begins
-/// one more. So buffers that are filled by `fits` and `put`, each taken where the one before has no
-/// room, hold exactly the segments of the events that were put.
+/// One more event begins the first segment, or joins the last one if there is room, or else begins
+/// another one. So buffers that are filled by `fits` and `put` hold exactly the segments of the
+/// events, if each new buffer is begun when the last one has no room.
 pub fn a_segment_grows()
     ensures first { (size : ℕ) (event : Event)
         → segments size (event ∷ []) ≡ (event ∷ []) ∷ [] }
@@ -28,8 +28,8 @@ pub fn one_event_fits()
     ensures { (size : ℕ) (event : Event) → LEAST ≤ size → IsTrue (has_room size (event ∷ [])) }
 {}
 
-/// The segments are nonempty, and hold all events in their order. Each has room in a buffer, whatever
-/// its size is.
+/// No segment is empty, and together they hold all events in order. Each has room in a buffer of
+/// the size by which the events were cut.
 pub fn segments_hold_all()
     ensures all { (size : ℕ) (events : List Event) → flat_map (λ s. s) (segments size events) ≡ events }
     ensures some { (size : ℕ) (events : List Event) → All (λ s. s ≢ []) (segments size events) }
@@ -37,7 +37,8 @@ pub fn segments_hold_all()
         → All (λ s. IsTrue (has_room size s)) (segments size events) }
 {}
 
-/// Events with room in a buffer of a size have no more bytes, with their preamble, than the size.
+/// If events have room in a buffer, their bytes and the preamble are at most as many as the
+/// buffer's size.
 pub fn a_body_has_room()
     ensures { (size thread : ℕ) (wall : Wall) (pid : ℕ) (events : List Event)
         → IsTrue (has_room size events) → length (body thread wall pid events) ≤ size }

@@ -1,4 +1,4 @@
-//! What stands before an event's function record.
+//! What comes before an event's function record.
 
 ghost use Rattle.std.specs.Prelude.{◌≡◌, ◌<◌, ◌^◌, length};
 ghost use Rattle.fdr_buffer.specs.Segments.{bytes_of, records_of};
@@ -6,19 +6,19 @@ ghost use Rattle.fdr_buffer.specs.Leads.{lead_records};
 
 use fdr_record::{Event, FUNCTION_BYTES, METADATA_BYTES};
 
-/// How an event's records tell its CPU and counter.
+/// How an event's records say its CPU and counter.
 #[derive(Clone, Copy, Debug, PartialEq, Eq)]
 pub(crate) enum Lead {
-    /// A record of its CPU and counter stands before its function record.
+    /// A record with its CPU and counter comes first.
     Cpu,
-    /// A record of its counter does.
+    /// A record with its counter comes first.
     Wrap,
-    /// Its function record tells how far its counter is behind that of the event before.
+    /// Only the function record: it says how far the counter has advanced since the event before.
     Delta(u32),
 }
 
 impl Lead {
-    /// How an event is told that stands behind another one, if it isn't the first of its segment.
+    /// How the records of an event say it, if `before` is the event before it in its segment.
     pub(crate) fn of(before: Option<Event>, event: &Event) -> Lead
         ensures records { lead_records result event.now ≡ records_of before event.now }
         ensures cpu { event.now.cpu < 2 ^ 16 }
@@ -37,7 +37,7 @@ impl Lead {
         }
     }
 
-    /// How many bytes the event's records have.
+    /// The length of the event's records in bytes.
     pub(crate) fn len(self, event: &Event) -> usize
         ensures { result ≡ length (bytes_of (lead_records self event.now)) }
     {

@@ -1,6 +1,7 @@
-//! Buffers of events: the records of a thread's events, one behind the other, in room that is taken
-//! once. A buffer holds one segment of the thread's events, and the segments of a thread are its
-//! events cut greedily. The records are those of LLVM XRay's Flight Data Recorder mode.
+//! Buffers of events: the records of a thread's events, one after the other. A buffer holds one
+//! segment of the thread's events. The segments of a thread are its events in order, each segment
+//! filled as far as its buffer allows. The records are those of LLVM XRay's Flight Data Recorder
+//! mode.
 #![tactic(auto)]
 
 mod buffer;

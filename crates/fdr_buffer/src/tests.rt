@@ -23,7 +23,7 @@ const fn event(kind: Kind, func: u32, cpu: u16, tsc: u64) -> Event {
     }
 }
 
-/// The bytes of a buffer of thread 1 are its preamble and these.
+/// Checks that the bytes of a buffer of thread 1 are its preamble and these records.
 fn check_bytes(rt: &impl Abort, buffer: &Buffer, records: &[&[u8]]) {
     assert!(rt; (buffer.serial() as usize) < records.len());
     let bytes = buffer.bytes();
@@ -32,7 +32,8 @@ fn check_bytes(rt: &impl Abort, buffer: &Buffer, records: &[&[u8]]) {
     assert_eq!(rt; &bytes[PREAMBLE.len()..], records[buffer.serial() as usize]);
 }
 
-/// Events that fill buffers of a size one behind the other leave these records in them.
+/// Checks that events which fill buffers of this size, one after the other, leave these records in
+/// them.
 fn check_segments(
     rt: &impl Abort,
     alloc: Global,

@@ -1,4 +1,4 @@
-//! Records of preambles and events, in the bytes of a buffer.
+//! Writing the records of preambles and events into a buffer's bytes.
 
 ghost use Rattle.std.specs.Prelude.{◌≡◌, ◌≤◌, ◌<◌, ◌+◌, ◌^◌, [], ◌++◌, length, take};
 ghost use Rattle.fdr_buffer.specs.Segments.{body, bytes_of, function_record, preamble_length};
@@ -9,7 +9,7 @@ use crate::lead::Lead;
 use fdr_record::{Event, Rec, put_rec};
 use xray_io::Wall;
 
-/// Writes the records that a buffer begins with, and answers the place behind them.
+/// Writes the records that a buffer begins with, and answers the place after them.
 pub(crate) fn put_preamble(bytes: &mut [u8], thread: u32, wall: Wall, pid: u32) -> usize
     requires { preamble_length ≤ length bytes.old }
     ensures bytes { take result bytes.new ≡ body thread wall pid [] }
@@ -22,7 +22,7 @@ pub(crate) fn put_preamble(bytes: &mut [u8], thread: u32, wall: Wall, pid: u32) 
     put_rec(&Rec::Pid { pid }, bytes, at)
 }
 
-/// Writes a record behind those that end at `at`, and answers the place behind it.
+/// Writes a record at the place `at`, where the records so far end. Answers the place after it.
 fn append(bytes: &mut [u8], at: usize, rec: &Rec) -> usize
     requires room { at + length_of rec.now ≤ length bytes.old }
     requires id { IdFits rec.now }
@@ -43,7 +43,8 @@ fn function(event: &Event, delta: u32) -> Rec
     }
 }
 
-/// Writes the records of an event behind those that end at `at`, and answers the place behind them.
+/// Writes the records of an event at the place `at`, where the records so far end. Answers the
+/// place after them.
 #[tactic(auto, using(std::proofs::Common::append_assoc))]
 pub(crate) fn put_event(bytes: &mut [u8], at: usize, lead: Lead, event: &Event) -> usize
     requires room { at + length (bytes_of (lead_records lead event.now)) ≤ length bytes.old }

@@ -1,4 +1,4 @@
--- A file that is a trace by the grammar reads as it.
+-- A file that is a trace by the grammar reads as this trace.
 use Rattle.std.proofs.Common.{◌≡◌, ℕ, suc, ◌+◌, ◌%◌, ◌/◌, ◌≤◌, ◌<◌, Bool, true, false, eqb, ltb, leb, lit≤, List, [], ◌∷◌, ◌++◌, length, take, drop, map, Result, Ok, refl, sym, ap, subst, ◌∙◌, append_assoc, arith}
 use Rattle.std.specs.Prelude.{◌||◌}
 use Rattle.std.specs.List.{flat_map, list_any, AllByRecursion}
@@ -24,12 +24,12 @@ use Rattle.fdr_file.proofs.Deciding.{IsBehind, extents_is}
 
 -- ---- records
 
--- what stands where records do
+-- what is at the places of records
 abbrev pub stand_from : ℕ → List Rec → List Standing
 stand_from at [] = []
 stand_from at (r ∷ records) = (at, Ok r) ∷ stand_from (at + length_of r) records
 
--- a spelling in front
+-- a spelling at the start
 begins : (r : Rec) (front behind : List ℕ) → Spells front r → BeginsWith r (front ++ behind)
 begins r front behind is = subst (λ (x : List ℕ). Spells x r) (sym (take_at front behind (length_of r) is.whole)) is
 
@@ -62,7 +62,7 @@ pub or_true : (b : Bool) → (b || true) ≡ true
 or_true true = refl
 or_true false = refl
 
--- records behind a CPU have no fault
+-- records after a CPU have no fault
 stand_clean : (before : List Rec) (at : ℕ) (records : List Rec) → IsBehind before → list_any names_cpu before ≡ true → AllByRecursion IsInner records → standing_faults before (stand_from at records) ≡ []
 stand_clean before at [] many cpu inner = refl
 stand_clean before at (r ∷ records) (n, is) cpu (here, rest) =
@@ -81,14 +81,14 @@ preamble_clean before at (r ∷ records) many inner based = absurd cc
 
 -- ---- blocks
 
--- what a block's bytes are in front of others
+-- what a block's bytes are, if others follow
 record Stands (bytes : List ℕ) (at : ℕ) (block : Block) (behind : List ℕ) : Type 0 where
   some : 0 < length bytes
   clean : block_faults (at, bytes) ≡ []
   told : block_in (at, bytes) ≡ block
   rest : drop (block_length bytes) bytes ≡ behind
 
--- a preamble has its length
+-- a preamble has its full length
 preamble_long : (block : Block) (records : List Rec) (bytes : List ℕ) → AreSpelled (block_records block records) bytes → 48 ≤ length bytes
 preamble_long block records bytes (a, b, e1, f1, s1, (c, d, e2, f2, s2, (x, y, e3, f3, s3, rest))) =
     omega (arith, ap length e1, length-append a b, ap length e2, length-append c d, ap length e3, length-append x y, s1.whole, s2.whole, s3.whole)

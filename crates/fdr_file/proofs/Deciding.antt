@@ -1,4 +1,4 @@
--- What is read from left to right is what the places of a file decide.
+-- What is read from first to last is what the places of a file decide.
 use Rattle.std.proofs.Common.{◌≡◌, ℕ, suc, ◌+◌, ◌%◌, ◌≤◌, ◌<◌, ◌^◌, Bool, true, false, cond, eqb, ltb, List, [], ◌∷◌, ◌++◌, length, slice_index, lit≤, take, drop, map, Option, Some, None, Result, Ok, Err, add-zero, refl, sym, ap, ◌∙◌, append_assoc, arith, inl, inr}
 use Rattle.std.specs.Prelude.{option_to_list, ◌||◌, ◌⊎◌, not, sum, is_some}
 use Rattle.std.specs.List.{list_any}
@@ -28,7 +28,7 @@ use Rattle.fdr_file.specs.Reading.{◌>>=◌, Left, blocks_read, body_on, end_na
 
 -- ---- the extents
 
--- what a value is, where a test decides it
+-- what a value is, if a test decides it
 chosen : {A : Type 0} (b : Bool) (x y z : A) → cond b x y ≡ z → ((b ≡ true) × (x ≡ z)) ⊎ ((b ≡ false) × (y ≡ z))
 chosen true x y z e = inl (refl, e)
 chosen false x y z e = inr (refl, e)
@@ -39,7 +39,7 @@ extents_is bytes size e = grind (arith, common_steps)
 
 -- ---- events
 
--- the CPU and counter are those that records tell
+-- the CPU and counter are those that the records say
 abbrev IsBase : Option Base → List Rec → Type 0
 IsBase None before = list_any names_cpu before ≡ false
 IsBase (Some base) before = (list_any names_cpu before ≡ true) × (base.cpu ≡ cpu_of before) × (base.tsc % 2 ^ 64 ≡ counter_at before)
@@ -48,7 +48,7 @@ decided_more : {A : Type 0} (front : List A) (found : List TraceFault) (rest : L
 decided_more front [] rest = refl
 decided_more front (fault ∷ later) rest = refl
 
--- records behind a preamble
+-- records after a preamble
 abbrev pub IsBehind : List Rec → Type 0
 IsBehind before = (n : ℕ) × (length before ≡ suc (suc (suc n)))
 
@@ -114,21 +114,21 @@ events_decided base before ((at, Ok (Extents size)) ∷ behind) many is = no_mor
 
 -- ---- a preamble
 
--- the record that stands first is the one that names this, and what is left behind it
+-- the first record names this, and what is left after it
 record Named (r : Rec) (at : ℕ) (bytes : List ℕ) (left : Left) : Type 0 where
   stands : standings at bytes ≡ (at, Ok r) ∷ standings left.0 left.1
   long : length bytes ≤ 16 + length left.1
 
--- no record stands first that may stand there
+-- the first record isn't allowed there, or there is none
 record Unnamed (before : List Rec) (at : ℕ) (bytes : List ℕ) (e : TraceFault) : Type 0 where
   later : List TraceFault
   wrong : standing_faults before (standings at bytes) ≡ e ∷ later
 
--- a record has 16 bytes at the most
+-- a record has at most 16 bytes
 length_most : (bytes : List ℕ) → record_length bytes ≤ 16
 length_most bytes = elim (cases_Bool (eqb (slice_index bytes 0 % 2) 0)) [ inl e ↦ rw e (lit≤ tt) | inr e ↦ rw e (lit≤ tt) ]
 
--- what is left behind a record
+-- what is left after a record
 left_long : (at : ℕ) (bytes : List ℕ) (r : Rec) (left : Left) → record_on (at, bytes) ≡ Ok (r, left) → length bytes ≤ 16 + length left.1
 unfolding record_on
 left_long at bytes r left e = by_answer (record_in bytes) e
@@ -211,7 +211,7 @@ body_decided at bytes long =
 
 -- ---- a block
 
--- the block that begins in front of bytes, by its extents
+-- the block that bytes begin with, by its extents
 pub record Ends (at : ℕ) (bytes : List ℕ) (end : ℕ) : Type 0 where
   pub place : end ≡ at + (16 + extents_in bytes)
   pub least : 48 ≤ extents_in bytes
@@ -294,7 +294,7 @@ pub file_fails : (header : Header) (blocks : List Block) (at : ℕ) (bytes : Lis
 file_fails header blocks at bytes e some is =
     blocks_first header blocks at bytes some ∙ some_wrong (block_faults (at, bytes)) _ (block_in (at, bytes)) _ e is
 
--- one block more
+-- one more block
 pub file_goes_on : (header : Header) (blocks : List Block) (at : ℕ) (bytes : List ℕ) (block : Block) → 0 < length bytes → decided (block_faults (at, bytes)) (block_in (at, bytes)) ≡ Ok block
     → blocks_read header blocks (starts block_length 0 at bytes) ≡ blocks_read header (blocks ++ block ∷ []) (starts block_length 0 (at + block_length bytes) (drop (block_length bytes) bytes))
 file_goes_on header blocks at bytes block some is =
@@ -303,12 +303,12 @@ file_goes_on header blocks at bytes block some is =
     blocks_first header blocks at bytes some
     ∙ rw (h.0, h.1) (ap (λ (all : List Block). decided (flat_map block_faults left) (let made : Trace = record { header = header; blocks = all } in made)) (sym (append_assoc blocks (block ∷ []) (map block_in left))))
 
--- no block more
+-- no more blocks
 pub file_ends : (header : Header) (blocks : List Block) (at : ℕ) → blocks_read header blocks (starts block_length 0 at []) ≡ Ok (record { header = header; blocks = blocks })
 unfolding starts
 file_ends header blocks at = ap (λ (all : List Block). let made : Result Trace TraceFault = Ok (record { header = header; blocks = all }) in made) (append-nil blocks)
 
--- one block more, at a place of a file
+-- one more block, at a place of a file
 pub file_more : (trace : Result Trace TraceFault) (header : Header) (blocks more : List Block) (all : List ℕ) (at next : ℕ) (block : Block) → trace ≡ blocks_read header blocks (starts block_length 0 at (drop at all))
     → at < length all → decided (block_faults (at, drop at all)) (block_in (at, drop at all)) ≡ Ok block → next ≡ at + block_length (drop at all) → more ≡ blocks ++ block ∷ []
     → trace ≡ blocks_read header more (starts block_length 0 next (drop next all))
@@ -324,7 +324,7 @@ file_more trace header blocks more all at next block so_far within is on pushed 
 abbrev pub fails : TraceFault → Result Trace TraceFault
 fails e = Err e
 
--- a block that could not be read
+-- a block that couldn't be read
 pub file_refused : (trace : Result Trace TraceFault) (header : Header) (blocks : List Block) (at : ℕ) (bytes : List ℕ) (e : TraceFault) → trace ≡ blocks_read header blocks (starts block_length 0 at bytes)
     → 0 < length bytes → (e ≡ faults.NoMemory) ⊎ (decided (block_faults (at, bytes)) (block_in (at, bytes)) ≡ Err e) → (fails e ≡ fails faults.NoMemory) ⊎ (fails e ≡ trace)
 file_refused trace header blocks at bytes e so_far some (inl none) = inl (ap (λ (f : TraceFault). Err f) none)

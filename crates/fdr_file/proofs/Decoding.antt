@@ -1,4 +1,4 @@
--- The record that bytes begin with, as a function of them.
+-- The record that bytes begin with, computed from them.
 use Rattle.std.proofs.Common.{◌≡◌, ℕ, ◌+◌, ◌/◌, ◌%◌, ◌^◌, ◌<◌, ◌≤◌, true, false, eqb, ltb, eq-eqb, lit<, List, ◌∷◌, ◌++◌, length, take, drop, Result, Ok, Err, refl, sym, ap, subst, ◌∙◌, append_assoc, arith}
 use Rattle.std.proofs.lemmas.Bool.{le-ltb}
 use Rattle.std.proofs.lemmas.Grind.{common_steps}
@@ -17,7 +17,7 @@ use Rattle.fdr_file.specs.Traces.{record_in, record_length}
 use Rattle.fdr_file.specs.Reading.{TakenAt}
 use Rattle.std.specs.Prelude.{IfOk, IfErr}
 
--- a record that bytes begin with, and what they are then
+-- bytes that begin with a record: its bytes with a meaning, and the rest
 unspelled : (n : ℕ) (told filler bytes : List ℕ) → take n bytes ≡ told ++ filler → bytes ≡ told ++ (filler ++ drop n bytes)
 unspelled n told filler bytes is = sym (take-append-drop n bytes) ∙ ap (λ (x : List ℕ). x ++ drop n bytes) is ∙ append_assoc told filler (drop n bytes)
 
@@ -25,7 +25,7 @@ unspelled n told filler bytes is = sym (take-append-drop n bytes) ∙ ap (λ (x 
 is_whole : (bytes rest : List ℕ) (first : ℕ) → length (take 16 bytes) ≡ 16 → bytes ≡ first ∷ rest → ltb (length rest) 15 ≡ false
 is_whole bytes rest first whole is = le-ltb (length rest) 15 (omega (arith, length-take 16 bytes, ap length is))
 
--- one field in front, and two
+-- one field at the start, and two
 one_back : (n x : ℕ) (rest : List ℕ) → x < 256 ^ n → little_number n (little_bytes n x ++ rest) ≡ x
 one_back n x rest fits = little_number-reads_back n x rest fits
 
@@ -99,7 +99,7 @@ told_again (Function kind func delta) bytes fits is =
 abbrev HasLength : ℕ → List ℕ → Type 0
 HasLength n bytes = record_length bytes ≡ n
 
--- its first byte tells how many bytes a record has
+-- the first byte of a record says its length
 pub length_told : (r : Rec) (bytes : List ℕ) → FieldsFit r → BeginsWith r bytes → record_length bytes ≡ length_of r
 length_told (NewBuffer thread) bytes fits is = subst (HasLength 16) (sym (unspelled 16 (told_by (NewBuffer thread)) is.filler bytes is.told)) refl
 length_told (NewCpu cpu tsc) bytes fits is = subst (HasLength 16) (sym (unspelled 16 (told_by (NewCpu cpu tsc)) is.filler bytes is.told)) refl

@@ -33,7 +33,7 @@ use Rattle.fdr_file.proofs.Accepting.{length_some, stand_from, stand_records}
 abbrev pub AreBytes : List ℕ → Type 0
 AreBytes bytes = All (λ b. b < 256) bytes
 
--- of all bytes there is an answer of the decoder
+-- the decoder has an answer for any bytes
 abbrev pub Decodes : Type 0
 Decodes = (bytes : List ℕ) → AreBytes bytes → (a : Result Rec RecFault) × Answers bytes a
 
@@ -111,7 +111,7 @@ decoded decodes bytes all = by_answer (decodes bytes all).0 (decodes bytes all).
     by_answer (Ok r) h = subst (Answers bytes) (sym (told_again r bytes h.0 h.1)) h
     by_answer (Err f) h = subst (Answers bytes) (sym (refused_again f bytes h)) h
 
--- what stands without a fault is spelled
+-- what has no fault is spelled
 record Spelled (at : ℕ) (bytes : List ℕ) : Type 0 where
   records : List Rec
   stand : standings at bytes ≡ stand_from at records
@@ -187,14 +187,14 @@ record Shaped (records : List Rec) : Type 0 where
   may : AllByRecursion IsInner inner
   based : BeginWithCpu inner
 
--- a record that may stand at a place of the preamble
+-- a record that may be at this place of the preamble
 stands_at : (before : List Rec) (at : ℕ) (r : Rec) (records : List Rec) → standing_faults before (stand_from at (r ∷ records)) ≡ [] → (may_be (length before) r ≡ true) × (standing_faults (r ∷ before) (stand_from (at + length_of r) records) ≡ [])
 stands_at before at r records clean =
     let here = both_empty (record_faults before at r) (standing_faults (r ∷ before) (stand_from (at + length_of r) records)) clean in
     let order = both_empty (unless (may_be (length before) r) (faults.Order at)) (unless (list_any names_cpu before || not (needs_cpu r)) (faults.NoBase at)) here.0 in
     (unless_true (may_be (length before) r) (faults.Order at) order.0, here.1)
 
--- a record has 16 bytes at the most
+-- a record has at most 16 bytes
 length_few : (r : Rec) → length_of r ≤ 16
 length_few (NewBuffer thread) = lit≤ tt
 length_few (NewCpu cpu tsc) = lit≤ tt

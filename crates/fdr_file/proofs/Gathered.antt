@@ -20,12 +20,12 @@ pub block_parts : (buffer : Filled) (extents bytes : List ℕ) (n : ℕ) → byt
 block_parts buffer extents bytes n is count named =
     ap (λ (x : List ℕ). extents ++ x) (append-nil bytes) ∙ ap (λ (x : List ℕ). x ++ bytes) (named ∙ ap (λ (k : ℕ). record_bytes (Extents k)) (count ∙ ap length is)) ∙ ap (λ (x : List ℕ). record_bytes (Extents (length (used_bytes buffer))) ++ x) is
 
--- the blocks of the first i buffers, and of the one behind them
+-- the blocks of the first i buffers, and of the next one
 pub blocks_more : (buffers : List Filled) (i : ℕ) (d : Filled) → i < length buffers → flat_map block_bytes (take i buffers) ++ block_bytes (get_or buffers i d) ≡ flat_map block_bytes (take (i + 1) buffers)
 blocks_more buffers i d below =
     ap (λ (x : List ℕ). flat_map block_bytes (take i buffers) ++ x) (sym (append-nil (block_bytes (get_or buffers i d))))
     ∙ sym (ap (flat_map block_bytes) (take_more buffers i d below) ∙ flat_map-append block_bytes (take i buffers) (get_or buffers i d ∷ []))
 
--- the blocks of the first i buffers, and of those behind them
+-- the blocks of the first i buffers, and of the rest
 pub blocks_split : (buffers : List Filled) (i : ℕ) → flat_map block_bytes (take i buffers) ++ flat_map block_bytes (drop i buffers) ≡ flat_map block_bytes buffers
 blocks_split buffers i = sym (flat_map-append block_bytes (take i buffers) (drop i buffers)) ∙ ap (flat_map block_bytes) (take-append-drop i buffers)

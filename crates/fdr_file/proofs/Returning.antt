@@ -39,12 +39,12 @@ spelled_own (r ∷ records) (here, rest) = (record_bytes r, bytes_of records, fl
 
 -- ---- events
 
--- records that the records of an event stand behind: they tell the CPU and counter of the event before
+-- records before those of an event: they say the CPU and counter of the event before
 abbrev Follows : Option Event → List Rec → Type 0
 Follows None past = ⊤
 Follows (Some before) past = (cpu_of past ≡ before.cpu) × (counter_at past ≡ before.tsc)
 
--- the records of an event tell it
+-- the records of an event say it
 record Tells (before : Option Event) (event : Event) (past : List Rec) (rest : List Rec) : Type 0 where
   now : List Rec
   told : events_behind past (records_of before event ++ rest) ≡ event ∷ events_behind now rest
@@ -58,7 +58,7 @@ made event cpu tsc = record { cpu = cpu; func = event.func; kind = event.kind; t
 event_is : (event : Event) (cpu tsc : ℕ) → cpu ≡ event.cpu → tsc ≡ event.tsc → made event cpu tsc ≡ event
 event_is event cpu tsc e f = ap (λ (c : ℕ). made event c tsc) e ∙ ap (made event event.cpu) f
 
--- a whole counter, and no cycle behind it
+-- a whole counter, with no delta after it
 whole_is : (tsc : ℕ) → tsc < 2 ^ 64 → (tsc + 0) % 2 ^ 64 ≡ tsc
 whole_is tsc fits = omega arith
 

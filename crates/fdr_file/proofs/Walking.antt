@@ -12,7 +12,7 @@ use Rattle.fdr_file.specs.Places.{starts}
 use Rattle.fdr_file.specs.Traces.{fault_at, record_in, record_length, standing_at, standings, Standing}
 use Rattle.fdr_file.specs.Reading.{◌>>=◌, Left, events_on, read_first, record_on, step_on, with_front}
 
--- bytes of a part that was begun are passed over
+-- bytes of a part that was begun earlier are skipped
 pub starts_behind : (len : List ℕ → ℕ) (left at : ℕ) (bytes : List ℕ) → starts len left at bytes ≡ starts len 0 (at + left) (drop left bytes)
 unfolding starts
 starts_behind len zero at bytes = ap (λ (k : ℕ). starts len 0 k bytes) (omega arith)
@@ -20,7 +20,7 @@ starts_behind len (suc left) at [] = refl
 starts_behind len (suc left) at (byte ∷ bytes) =
     starts_behind len left (at + 1) bytes ∙ ap (λ (k : ℕ). starts len 0 k (drop left bytes)) (omega arith)
 
--- the first part, and what begins behind it
+-- the first part, and what begins after it
 pub starts_first : (len : List ℕ → ℕ) (at : ℕ) (bytes : List ℕ) → 0 < length bytes → 0 < len bytes → starts len 0 at bytes ≡ (at, bytes) ∷ starts len 0 (at + len bytes) (drop (len bytes) bytes)
 unfolding starts
 starts_first len at [] some whole = absurd (omega arith)
@@ -40,7 +40,7 @@ length_some bytes = elim (cases_Bool (eqb (slice_index bytes 0 % 2) 0)) [ inl e 
 pub stands_first : (at : ℕ) (bytes : List ℕ) → 0 < length bytes → standings at bytes ≡ (at, record_in bytes) ∷ standings (at + record_length bytes) (drop (record_length bytes) bytes)
 stands_first at bytes some = ap (map standing_at) (starts_first record_length at bytes some (length_some bytes))
 
--- what a record that stands first leaves
+-- what the first record leaves
 pub stands_taken : (at : ℕ) (bytes : List ℕ) (r : Rec) (left : Left) → 0 < length bytes → record_on (at, bytes) ≡ Ok (r, left) → standings at bytes ≡ (at, Ok r) ∷ standings left.0 left.1
 unfolding record_on
 stands_taken at bytes r left some e = by_answer (record_in bytes) refl e
@@ -56,7 +56,7 @@ stands_taken at bytes r left some e = by_answer (record_in bytes) refl e
         stands_first at bytes some ∙ rw (is, same) (ap (λ (l : Left). (at, Ok r) ∷ standings l.0 l.1) left_is)
     by_answer (Err f) is h = absurd cc
 
--- why none does
+-- why there is no first record
 pub record StandsNone (at : ℕ) (bytes : List ℕ) (e : TraceFault) : Type 0 where
   pub why : RecFault
   pub behind : List Standing
@@ -76,14 +76,14 @@ stands_none at bytes e some is = by_answer (record_in bytes) refl is
       fault = cc;
     }
 
--- ---- events behind others
+-- ---- events after others
 
 front_again : (front : List Event) (event : Option Event) (read : Result (List Event) TraceFault)
     → with_front front (read >>= λ events. Ok (option_to_list event ++ events)) ≡ with_front (front ++ option_to_list event) read
 front_again front event (Ok events) = ap (λ (x : List Event). Ok x) (sym (append_assoc front (option_to_list event) events))
 front_again front event (Err e) = refl
 
--- one record more
+-- one more record
 pub events_more : (front : List Event) (base : Option Base) (at : ℕ) (bytes : List ℕ) (r : Rec) (left : Left) (step : Base × Option Event) (total : Result (List Event) TraceFault)
     → 0 < length bytes → record_on (at, bytes) ≡ Ok (r, left) → step_on at r base ≡ Ok step → with_front front (events_on base (standings at bytes)) ≡ total
     → with_front (front ++ option_to_list step.1) (events_on (Some step.0) (standings left.0 left.1)) ≡ total
@@ -101,7 +101,7 @@ events_stop front base at bytes e total some none so_far =
     let h = stands_none at bytes e some none in
     sym so_far ∙ rw (h.stands, h.fault) refl
 
--- a record that may not stand there
+-- a record that isn't allowed there
 pub events_refuse : (front : List Event) (base : Option Base) (at : ℕ) (bytes : List ℕ) (r : Rec) (left : Left) (e : TraceFault) (total : Result (List Event) TraceFault)
     → 0 < length bytes → record_on (at, bytes) ≡ Ok (r, left) → step_on at r base ≡ Err e → with_front front (events_on base (standings at bytes)) ≡ total → total ≡ Err e
 unfolding events_on

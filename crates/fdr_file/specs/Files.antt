@@ -10,17 +10,18 @@ use Rattle.fdr_file.specs.declared.header.Header.{Header}
 use Rattle.fdr_file.specs.declared.trace.Block.{Block}
 use Rattle.fdr_file.specs.declared.trace.Trace.{Trace}
 
--- the flags of a header as a number: bit 0 is that the counter's frequency is constant, and bit 1 that it never stops
+-- The flags of a header as a number. Bit 0 says that the counter's frequency is constant, and bit 1 that the counter
+-- never stops.
 abbrev pub flags_of : Header → ℕ
 flags_of header = (if header.constant then 1 else 0) + (if header.nonstop then 2 else 0)
 
--- a header: its version, the type 1, its flags, the frequency, the size of a buffer, and 8 bytes that are reserved
+-- a header: its version, the type 1, its flags, the frequency, the size of a buffer, and 8 reserved bytes
 abbrev pub header_bytes : Header → List ℕ
 header_bytes header =
     little_bytes 2 header.version ++ little_bytes 2 1 ++ little_bytes 4 (flags_of header) ++ little_bytes 8 header.frequency
     ++ little_bytes 8 header.size ++ replicate 8 0
 
--- a block: extents that name the number of bytes behind them, and the bytes of a buffer
+-- a block: extents that name the number of the bytes after them, and the bytes of a buffer
 abbrev pub block_bytes : Filled → List ℕ
 block_bytes buffer = record_bytes (Extents (length (used_bytes buffer))) ++ used_bytes buffer
 
@@ -30,7 +31,7 @@ file_bytes header buffers = header_bytes header ++ flat_map block_bytes buffers
 
 -- ---- what is read again
 
--- what a buffer tells
+-- the block of a buffer
 abbrev pub block_told : Filled → Block
 block_told buffer = record { thread = buffer.thread; wall = buffer.wall; pid = buffer.pid; events = buffer.events }
 
@@ -38,7 +39,7 @@ block_told buffer = record { thread = buffer.thread; wall = buffer.wall; pid = b
 abbrev pub trace_told : Header → List Filled → Trace
 trace_told header buffers = record { header = header; blocks = map block_told buffers }
 
--- the fields of a header of version 3, as the program's types bound them
+-- the fields of a header of version 3 fit the program's types
 pub record HeaderFits (header : Header) : Type 0 where
   pub version : header.version ≡ 3
   pub frequency : header.frequency < 2 ^ 64

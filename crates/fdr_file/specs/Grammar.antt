@@ -1,4 +1,4 @@
--- What a trace file is: a header, and blocks, one behind the other.
+-- What a trace file is: a header, and blocks, one after the other.
 use Rattle.std.specs.Prelude.{◌≡◌, ◌<◌, ◌^◌, ◌/◌, ◌%◌, ◌==◌, ◌||◌, ⊤, ℕ, List, [], ◌∷◌, ◌++◌, length, IsTrue}
 use Rattle.std.specs.List.{AllByRecursion}
 use Rattle.byteorder.specs.Endian.{little_bytes}
@@ -11,8 +11,8 @@ use Rattle.fdr_file.specs.declared.trace.Trace.{Trace}
 use Rattle.fdr_file.specs.Events.{events_of}
 use Rattle.fdr_file.specs.Traces.{names_cpu, needs_cpu}
 
--- the bytes are a header with these fields, of version 3 and of the flight data recorder's type. The flags above the second and the 8
--- bytes at the end are free
+-- The bytes are a header with these fields, of version 3 and of the type of the Flight Data Recorder mode. The flags
+-- above the second, and the last 8 bytes, may have any values.
 pub record IsHeader (bytes : List ℕ) (header : Header) : Type 0 where
   pub flags : ℕ
   pub reserved : List ℕ
@@ -26,13 +26,13 @@ pub record IsHeader (bytes : List ℕ) (header : Header) : Type 0 where
   pub size_fits : header.size < 2 ^ 64
   pub whole : length reserved ≡ 8
 
--- the bytes are spellings of these records, one behind the other
+-- the bytes are spellings of these records, one after the other
 abbrev pub AreSpelled : List Rec → List ℕ → Type 0
 AreSpelled [] bytes = bytes ≡ []
 AreSpelled (r ∷ records) bytes =
     (front : List ℕ) × (behind : List ℕ) × (bytes ≡ front ++ behind) × FieldsFit r × Spells front r × AreSpelled records behind
 
--- records that may stand behind a preamble: CPUs, counters and functions, and the first of them names a CPU
+-- records that may follow a preamble: CPUs, counters and functions, the first of which names a CPU
 abbrev pub IsInner : Rec → Type 0
 IsInner r = IsTrue (names_cpu r || needs_cpu r)
 
@@ -44,7 +44,8 @@ BeginWithCpu (r ∷ records) = IsTrue (names_cpu r)
 abbrev pub block_records : Block → List Rec → List Rec
 block_records block records = NewBuffer block.thread ∷ WallTime block.wall ∷ Pid block.pid ∷ records
 
--- The bytes are a block: extents, and as many bytes as they name. These spell a preamble and records, which tell the block's events.
+-- The bytes are a block: extents, and as many bytes as they name. These spell a preamble and records, which say the
+-- block's events.
 pub record IsBlock (bytes : List ℕ) (block : Block) : Type 0 where
   pub extents : List ℕ
   pub body : List ℕ
@@ -57,7 +58,7 @@ pub record IsBlock (bytes : List ℕ) (block : Block) : Type 0 where
   pub based : BeginWithCpu records
   pub told : block.events ≡ events_of (block_records block records)
 
--- the bytes are these blocks, one behind the other
+-- the bytes are these blocks, one after the other
 abbrev pub AreBlocks : List Block → List ℕ → Type 0
 AreBlocks [] bytes = bytes ≡ []
 AreBlocks (block ∷ blocks) bytes =

@@ -1,8 +1,8 @@
--- Where the parts of bytes begin that stand one behind the other.
+-- Where the parts of bytes begin, if they come one after the other.
 use Rattle.std.specs.Prelude.{ℕ, zero, suc, ◌+◌, ◌-◌, List, [], ◌∷◌}
 
--- Each place at which a part begins, with the bytes from there on. A part begins where the one before it ends, and `len` tells from a
--- part's bytes how many it has. So many bytes in front belong to a part that was begun.
+-- Each place where a part begins, with the bytes from there on. A part begins where the one before it ends. `len` gives
+-- the length of a part from its bytes. The first bytes may belong to a part that began earlier.
 unfoldable pub starts : (List ℕ → ℕ) → ℕ → ℕ → List ℕ → List (ℕ × List ℕ)
 starts len left at [] = []
 starts len (suc left) at (byte ∷ bytes) = starts len left (at + 1) bytes

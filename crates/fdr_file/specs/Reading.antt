@@ -1,4 +1,4 @@
--- Reading a trace from left to right, for the contracts of the reader's private functions.
+-- Reading a trace from its first byte to its last, for the contracts of the reader's private functions.
 use Rattle.std.specs.Prelude.{◌≡◌, ◌⊎◌, ◌≤◌, ◌<◌, ℕ, ◌+◌, ◌^◌, ◌%◌, List, [], ◌∷◌, ◌++◌, length, drop, map, Option, Some, None, Result, Ok, Err, option_to_list, nat_lt, if◌then◌else◌}
 use Rattle.std.specs.List.{flat_map}
 use Rattle.xray_io.specs.declared.faults.Wall.{Wall}
@@ -20,7 +20,7 @@ abbrev pub ◌>>=◌ : {A B : Type 0} → Result A TraceFault → (A → Result 
 (Ok x) >>= f = f x
 (Err e) >>= f = Err e
 
--- what a function answered, seen so, is what reading gives
+-- what a function answered, as a view of it, is what reading gives
 abbrev pub Reads : {A B : Type 0} → (A → B) → Result A TraceFault → Result B TraceFault → Type 0
 Reads view (Ok x) read = read ≡ Ok (view x)
 Reads view (Err e) read = read ≡ Err e
@@ -30,22 +30,22 @@ abbrev pub Gives : {A B : Type 0} → (A → B) → Result A TraceFault → Resu
 Gives view (Ok x) read = read ≡ Ok (view x)
 Gives view (Err e) read = (e ≡ faults.NoMemory) ⊎ (read ≡ Err e)
 
--- what is left of bytes, with the place at which it begins
+-- the rest of some bytes, with the place where it begins
 abbrev pub Left : Type 0
 Left = ℕ × List ℕ
 
--- what is left of bytes at a place of them
+-- the rest of bytes from a place on
 abbrev pub left_at : List ℕ → ℕ → Left
 left_at bytes at = (at, drop at bytes)
 
 -- ---- a record
 
--- the answer of the decoder at a place of bytes, and the place behind the record
+-- the answer of the decoder at a place of bytes, and the place after the record
 abbrev pub TakenAt : List ℕ → ℕ → Result (Rec × ℕ) RecFault → Type 0
 TakenAt bytes at (Ok (r, next)) = (record_in (drop at bytes) ≡ Ok r) × (next ≡ at + record_length (drop at bytes)) × (next ≡ at + length_of r) × (next ≤ length bytes) × (at < next)
 TakenAt bytes at (Err fault) = record_in (drop at bytes) ≡ Err fault
 
--- the record that stands first in what is left of a block, and what is left behind it
+-- the first record of the rest of a block, and the rest after it
 abbrev pub read_first : Left → Result Rec RecFault → Result (Rec × Left) TraceFault
 read_first (at, bytes) (Ok r) = Ok (r, (at + record_length bytes, drop (record_length bytes) bytes))
 read_first (at, bytes) (Err fault) = Err (fault_at at fault)
@@ -55,7 +55,7 @@ record_on (at, bytes) = read_first (at, bytes) (record_in bytes)
 
 -- ---- a preamble
 
--- what is named in the record that stands first, which has to name something of that kind
+-- what the first record names; it has to name something of that kind
 abbrev pub named_or : {A : Type 0} → ℕ → Option A → Left → Result (A × Left) TraceFault
 named_or at (Some x) behind = Ok (x, behind)
 named_or at None behind = Err (faults.Order at)
@@ -74,7 +74,7 @@ preamble_on left = do
 
 -- ---- events
 
--- what a record does to the CPU and counter that are told, and the event that it tells
+-- the CPU and counter after a record, and the event that it says
 abbrev pub step_on : ℕ → Rec → Option Base → Result (Base × Option Event) TraceFault
 step_on at (NewCpu cpu tsc) base = Ok (record { cpu = cpu; tsc = tsc }, None)
 step_on at (TscWrap tsc) None = Err (faults.NoBase at)
@@ -85,7 +85,7 @@ step_on at (Function kind func delta) (Some base) =
     Ok (record { cpu = base.cpu; tsc = tsc }, Some (record { cpu = base.cpu; func = func; kind = kind; tsc = tsc }))
 step_on at r base = Err (faults.Order at)
 
--- the events of what stands behind a CPU and counter
+-- the events of what comes after a CPU and counter
 unfoldable pub events_on : Option Base → List Standing → Result (List Event) TraceFault
 events_on base [] = Ok []
 events_on base ((at, Ok r) ∷ behind) = do
@@ -94,14 +94,14 @@ events_on base ((at, Ok r) ∷ behind) = do
   Ok (option_to_list step.1 ++ events)
 events_on base ((at, Err fault) ∷ behind) = Err (fault_at at fault)
 
--- these events, and those that are read behind them
+-- these events, and those that are read after them
 abbrev pub with_front : List Event → Result (List Event) TraceFault → Result (List Event) TraceFault
 with_front front (Ok events) = Ok (front ++ events)
 with_front front (Err fault) = Err fault
 
 -- ---- a block
 
--- the place behind the block whose extents name so many bytes
+-- the place after the block, by the number of bytes that its extents name
 abbrev pub end_named : Left → Result Rec RecFault → Result ℕ TraceFault
 end_named (at, bytes) (Ok (Extents size)) =
     if nat_lt size 48 then Err (faults.Extents at)
@@ -112,7 +112,7 @@ end_named (at, bytes) (Err fault) = Err (faults.Bad at fault)
 unfoldable pub end_on : Left → Result ℕ TraceFault
 end_on (at, bytes) = if nat_lt (length bytes) 16 then Err (faults.Short at) else end_named (at, bytes) (record_in bytes)
 
--- the block whose preamble and events are left
+-- the block of a rest that begins with its preamble
 unfoldable pub body_on : Left → Result Block TraceFault
 body_on left = do
   preamble ← preamble_on left
@@ -121,7 +121,7 @@ body_on left = do
 
 -- ---- a file
 
--- the trace of these blocks, and of those that begin at places behind them
+-- the trace of these blocks, and of those that begin at places after them
 abbrev pub blocks_read : Header → List Block → List Left → Result Trace TraceFault
 blocks_read header blocks left =
     decided (flat_map block_faults left) (record { header = header; blocks = blocks ++ map block_in left })

@@ -17,11 +17,11 @@ use Rattle.fdr_file.specs.declared.trace.Trace.{Trace}
 use Rattle.fdr_file.specs.Places.{starts}
 use Rattle.fdr_file.specs.Events.{events_of}
 
--- this fault, unless the test holds
+-- this fault, unless the test passes
 abbrev pub unless : Bool → TraceFault → List TraceFault
 unless holds fault = if holds then [] else fault ∷ []
 
--- this value where nothing is wrong, and else the first fault
+-- this value if nothing is wrong, or else the first fault
 abbrev pub decided : {A : Type 0} → List TraceFault → A → Result A TraceFault
 decided [] value = Ok value
 decided (fault ∷ later) value = Err fault
@@ -38,7 +38,7 @@ type_in bytes = little_number 2 (drop 2 bytes)
 abbrev pub flags_in : List ℕ → ℕ
 flags_in bytes = little_number 4 (drop 4 bytes)
 
--- flag 0 is that the counter's frequency is constant, and flag 1 that it never stops
+-- flag 0 says that the counter's frequency is constant, and flag 1 that the counter never stops
 abbrev pub header_in : List ℕ → Header
 header_in bytes = record {
   version = version_in bytes;
@@ -48,7 +48,7 @@ header_in bytes = record {
   size = little_number 8 (drop 16 bytes);
 }
 
--- a header is whole, of version 3, and of the type of the flight data recorder's files
+-- a header is whole, of version 3, and of the type of the Flight Data Recorder mode
 abbrev pub header_faults : List ℕ → List TraceFault
 header_faults bytes =
     unless (nat_le 32 (length bytes)) (faults.Short 0) ++ unless (version_in bytes == 3) (faults.Version (version_in bytes))
@@ -61,33 +61,33 @@ unfoldable pub record_in : List ℕ → Result Rec RecFault
 record_in [] = Err decoder_faults.Short
 record_in (first ∷ rest) = if first % 2 == 0 then function_at first (first ∷ rest) else metadata_at (first / 2) rest
 
--- how many bytes the record has that bytes begin with, by its first one
+-- the length of the record that bytes begin with, by its first byte
 abbrev pub record_length : List ℕ → ℕ
 record_length bytes = length_by (slice_index bytes 0)
 
--- a place at which a record has to stand, and the one that does, or why none does
+-- a place where a record has to be, with the record that is there, or with the reason why there is none
 abbrev pub Standing : Type 0
 Standing = ℕ × Result Rec RecFault
 
 abbrev pub standing_at : ℕ × List ℕ → Standing
 standing_at (at, bytes) = (at, record_in bytes)
 
--- what stands at each place of bytes at which a record has to begin. The first of them is at the place `at`
+-- What is at each place of bytes where a record has to begin. The first of them is at the place `at`.
 abbrev pub standings : ℕ → List ℕ → List Standing
 standings at bytes = map standing_at (starts record_length 0 at bytes)
 
--- the records among what stands
+-- the records among these
 abbrev pub records_of : List Standing → List Rec
 records_of [] = []
 records_of ((at, Ok r) ∷ behind) = r ∷ records_of behind
 records_of ((at, Err fault) ∷ behind) = records_of behind
 
--- the thread that a record names with which a buffer begins
+-- the thread that a record names, if a buffer begins with it
 abbrev pub thread_named : Rec → Option ℕ
 thread_named (NewBuffer thread) = Some thread
 thread_named r = None
 
--- the wall time that a record tells
+-- the wall time that a record says
 abbrev pub wall_named : Rec → Option Wall
 wall_named (WallTime wall) = Some wall
 wall_named r = None
@@ -97,36 +97,36 @@ abbrev pub pid_named : Rec → Option ℕ
 pid_named (Pid pid) = Some pid
 pid_named r = None
 
--- the record tells a CPU and its counter
+-- the record says a CPU and its counter
 abbrev pub names_cpu : Rec → Bool
 names_cpu (NewCpu cpu tsc) = true
 names_cpu r = false
 
--- the record means something only behind one that names a CPU
+-- the record has a meaning only after one that names a CPU
 abbrev pub needs_cpu : Rec → Bool
 needs_cpu (TscWrap tsc) = true
 needs_cpu (Function kind func delta) = true
 needs_cpu r = false
 
--- the record may be number n of its block, counted from 0: the first three are the preamble, and behind them stand CPUs, counters and
--- functions
+-- The record may be number n of its block, counted from 0. The first three are the preamble. CPUs, counters and
+-- functions follow.
 abbrev pub may_be : ℕ → Rec → Bool
 may_be zero r = is_some (thread_named r)
 may_be (suc zero) r = is_some (wall_named r)
 may_be (suc (suc zero)) r = is_some (pid_named r)
 may_be (suc (suc (suc n))) r = names_cpu r || needs_cpu r
 
--- what is wrong with a record at a place, behind those before it
+-- what is wrong with a record at a place, after those before it
 abbrev pub record_faults : List Rec → ℕ → Rec → List TraceFault
 record_faults before at r =
     unless (may_be (length before) r) (faults.Order at) ++ unless (list_any names_cpu before || not (needs_cpu r)) (faults.NoBase at)
 
--- why no record stands at a place: the block ends before it does, or its action or kind is none
+-- why no record is at a place: the block ends too early, or its action or kind isn't one
 abbrev pub fault_at : ℕ → RecFault → TraceFault
 fault_at at decoder_faults.Short = faults.Extents at
 fault_at at fault = faults.Bad at fault
 
--- what is wrong with what stands behind records
+-- what is wrong at the places after some records
 abbrev pub standing_faults : List Rec → List Standing → List TraceFault
 standing_faults before [] = []
 standing_faults before ((at, Ok r) ∷ behind) = record_faults before at r ++ standing_faults (r ∷ before) behind
@@ -134,20 +134,20 @@ standing_faults before ((at, Err fault) ∷ behind) = fault_at at fault ∷ []
 
 -- ---- blocks
 
--- how many bytes the extents name at the front of a block
+-- how many bytes the extents at the start of a block name
 abbrev pub extents_in : List ℕ → ℕ
 extents_in bytes = little_number 8 (drop 1 bytes)
 
--- how many bytes the block has that bytes begin with: those of its extents, and as many as these name
+-- the length of the block that bytes begin with: its extents, and as many bytes as they name
 abbrev pub block_length : List ℕ → ℕ
 block_length bytes = 16 + extents_in bytes
 
--- what stands in the block that begins at a place
+-- what is at the places of the block that begins at a place
 abbrev pub block_standings : ℕ × List ℕ → List Standing
 block_standings (at, bytes) = standings (at + 16) (take (extents_in bytes) (drop 16 bytes))
 
--- what is wrong with the block that begins at a place: with what stands in front of it, with the number of bytes that it names, and
--- with its records
+-- what is wrong with the block that begins at a place: with its first record, with the number of bytes that it names,
+-- and with its records
 abbrev pub extents_faults : ℕ × List ℕ → Result Rec RecFault → List TraceFault
 extents_faults (at, bytes) (Ok (Extents size)) =
     unless (nat_le 48 size) (faults.Extents at) ++ unless (nat_le (16 + size) (length bytes)) (faults.Short at)
@@ -159,12 +159,12 @@ abbrev pub block_faults : ℕ × List ℕ → List TraceFault
 block_faults (at, bytes) =
     if nat_lt (length bytes) 16 then faults.Short at ∷ [] else extents_faults (at, bytes) (record_in bytes)
 
--- the first of a list
+-- the first item of a list
 abbrev pub first_or : {A : Type 0} → A → List A → A
 first_or otherwise [] = otherwise
 first_or otherwise (x ∷ xs) = x
 
--- the block that records tell: what the first of each kind names, and the events
+-- the block that records say: what the first of each kind names, and the events
 abbrev pub block_of : List Rec → Block
 block_of records = record {
   thread = first_or 0 (filter_map thread_named records);
@@ -179,15 +179,15 @@ block_in start = block_of (records_of (block_standings start))
 
 -- ---- files
 
--- each place at which a block begins, behind the 32 bytes of the header, with the bytes from there on
+-- each place where a block begins, after the 32 bytes of the header, with the bytes from there on
 abbrev pub block_starts : List ℕ → List (ℕ × List ℕ)
 block_starts bytes = starts block_length 0 32 (drop 32 bytes)
 
--- all that is wrong with a file, from its front on
+-- all that is wrong with a file, from its start on
 abbrev pub faults_of : List ℕ → List TraceFault
 faults_of bytes = header_faults bytes ++ flat_map block_faults (block_starts bytes)
 
--- what the bytes of a file tell
+-- what the bytes of a file say
 abbrev pub told_by : List ℕ → Trace
 told_by bytes = record { header = header_in bytes; blocks = map block_in (block_starts bytes) }
 

@@ -11,7 +11,7 @@ use crate::{Block, TraceFault};
 use fdr_record::{METADATA_BYTES, Rec};
 use std::alloc::Global;
 
-/// The place behind the block that begins at this place, by its extents.
+/// The place after the block that begins at this place, by its extents.
 #[tactic(auto, unfolding(crate::specs::Reading::end_on))]
 fn block_end(bytes: &[u8], at: usize) -> Result<usize, TraceFault>
     requires { at ≤ length bytes.now }
@@ -38,7 +38,7 @@ fn block_end(bytes: &[u8], at: usize) -> Result<usize, TraceFault>
     }
 }
 
-/// The block whose preamble begins at this place. The bytes are those of the file up to its end.
+/// The block whose preamble begins at this place. `block` is the file up to the block's end.
 #[tactic(auto, unfolding(crate::specs::Reading::body_on))]
 fn read_body(alloc: Global, block: &[u8], at: usize) -> Result<Block, TraceFault>
     requires { at ≤ length block.now }
@@ -54,7 +54,7 @@ fn read_body(alloc: Global, block: &[u8], at: usize) -> Result<Block, TraceFault
     })
 }
 
-/// The block that begins at this place, and the place behind it.
+/// The block that begins at this place, and the place after it.
 pub(crate) fn read_block(
     alloc: Global,
     bytes: &[u8],

@@ -10,14 +10,14 @@ use crate::{Events, TraceFault};
 use fdr_record::{Event, Rec};
 use std::alloc::Global;
 
-/// The CPU and the counter that the records so far tell.
+/// The CPU and the counter by the records so far.
 #[derive(Clone, Copy)]
 pub(crate) struct Base {
     cpu: u16,
     tsc: u64,
 }
 
-/// What the record at this place leaves as CPU and counter, and the event that it tells.
+/// The CPU and the counter after the record at this place, and the event that it says.
 fn step(at: u64, rec: Rec, base: Option<Base>) -> Result<(Base, Option<Event>), TraceFault>
     ensures { result ≡ step_on at rec base }
 {
@@ -42,7 +42,7 @@ fn step(at: u64, rec: Rec, base: Option<Base>) -> Result<(Base, Option<Event>), 
     }
 }
 
-/// The events of the records from this place on to the end of the block's bytes.
+/// The events of the records from this place on, to the end of the block's bytes.
 pub(crate) fn read_events(alloc: Global, block: &[u8], mut at: usize) -> Result<Events, TraceFault>
     requires { at ≤ length block.now }
     ensures { Gives (λ events. events) result (events_on None (standings at (drop at block.now))) }

@@ -1,4 +1,4 @@
-//! Why bytes are no trace.
+//! Why bytes aren't a trace.
 
 ghost use Rattle.std.specs.Prelude.{◌≡◌};
 ghost use Rattle.fdr_file.specs.declared.fault.TraceFault.TheVariants.{NoMemory};
@@ -7,38 +7,39 @@ use fdr_record::RecFault;
 use std::alloc::{AllocError, AllocFailed};
 use thiserror::Error;
 
-/// Why `read_trace` gives no trace. The first of the header's faults is told, and behind the header
-/// that of the first place that has one. A place is the byte offset of a record, counted from the
-/// file's start.
+/// Why `read_trace` gives no trace. The answer is the first of the header's faults. If the header
+/// has none, it is the fault of the first place that has one. A place is the byte offset of a
+/// record, counted from the file's start.
 #[derive(Clone, Copy, Debug, PartialEq, Eq, Error)]
 pub enum TraceFault {
-    /// The file ends too early: it has fewer bytes than a header, told with 0; or a block has to begin
-    /// at this place, and fewer bytes are left than a `BufferExtents` record has; or they are fewer
-    /// than the record there names behind itself.
+    /// The file ends too early. If it has fewer bytes than a header, the place is 0. Otherwise a
+    /// block has to begin at this place, and the bytes left are fewer than a `BufferExtents` record
+    /// has, or fewer than that record names.
     #[error("the file is cut off in what begins at {0}")]
     Short(u64),
-    /// The header's version, which isn't 3.
+    /// The header's version, if it isn't 3.
     #[error("version {0} isn't read")]
     Version(u16),
-    /// The header's type, which isn't 1, that of the Flight Data Recorder mode.
+    /// The header's type, if it isn't 1, which is that of the Flight Data Recorder mode.
     #[error("files of the type {0} aren't read")]
     Form(u16),
-    /// The record at this place may not stand there: a block begins with `BufferExtents`, `NewBuffer`,
-    /// `WalltimeMarker` and `Pid`, and goes on with `NewCPUId`, `TSCWrap` and function records.
+    /// The record at this place isn't allowed there. A block begins with `BufferExtents`,
+    /// `NewBuffer`, `WalltimeMarker` and `Pid`, and goes on with `NewCPUId`, `TSCWrap` and function
+    /// records.
     #[error("the record at {0} may not stand there")]
     Order(u64),
-    /// The extents at this place name fewer bytes than a preamble has, which are 48; or the record at
-    /// this place doesn't end where the extents of its block say that the block does, or before.
+    /// The extents at this place name fewer than the 48 bytes of a preamble. Or the record at this
+    /// place doesn't end within the block, whose end the extents say.
     #[error("the extents don't fit the record at {0}")]
     Extents(u64),
-    /// The bytes at this place are no record, by its action or its kind.
+    /// The bytes at this place aren't a record, because of their action or their kind.
     #[error("no record stands at {0}: {1}")]
     Bad(u64, RecFault),
-    /// The record at this place counts from a counter, and no `NewCPUId` stands before it in its
+    /// The record at this place counts from a counter, but no `NewCPUId` comes before it in its
     /// block.
     #[error("no counter stands before the record at {0}")]
     NoBase(u64),
-    /// There is no memory for the blocks and their events.
+    /// Memory for the blocks and their events was refused.
     #[error("out of memory")]
     NoMemory,
 }

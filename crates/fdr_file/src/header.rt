@@ -6,16 +6,16 @@ ghost use Rattle.fdr_file.specs.Traces.{decided, header_faults, header_in};
 use crate::TraceFault;
 use byteorder::{ByteOrder, LittleEndian};
 
-/// How many bytes a header has.
+/// The length of a header in bytes.
 pub(crate) const HEADER_BYTES: usize = 32;
 
 /// The version of the files that are read.
 const VERSION: u16 = 3;
 
-/// The type of the Flight Data Recorder mode's files.
+/// The type of files of the Flight Data Recorder mode.
 pub(crate) const FDR: u16 = 1;
 
-/// The places of a header's fields. The version stands at 0, and bytes from 24 on are reserved.
+/// The places of a header's fields. The version is at 0, and bytes from 24 on are reserved.
 const TYPE_AT: usize = 2;
 
 const FLAGS_AT: usize = 4;
@@ -24,7 +24,7 @@ const FREQUENCY_AT: usize = 8;
 
 const SIZE_AT: usize = 16;
 
-/// The flags, as they stand in their number.
+/// The flags, as bits of their number.
 pub(crate) const CONSTANT: u32 = 1;
 
 pub(crate) const NONSTOP: u32 = 2;
@@ -32,18 +32,18 @@ pub(crate) const NONSTOP: u32 = 2;
 /// The reserved bytes, as they are written.
 pub(crate) const RESERVED: [u8; 8] = [0; 8];
 
-/// What a trace file says of itself (LLVM's `XRayFileHeader`).
+/// What a trace file says about itself (LLVM's `XRayFileHeader`).
 #[derive(Clone, Copy, Debug, PartialEq, Eq)]
 pub struct Header {
-    /// The version of the format: 3 in each file that is read.
+    /// The version of the format. It is 3 in each file that is read.
     pub version: u16,
     /// Whether the counter runs at a constant frequency.
     pub constant: bool,
-    /// Whether the counter goes on where the processor sleeps.
+    /// Whether the counter goes on while the processor sleeps.
     pub nonstop: bool,
-    /// The counter's frequency, in cycles per second; 0 where it isn't known.
+    /// The counter's frequency, in cycles per second, or 0 if it isn't known.
     pub frequency: u64,
-    /// The size of a buffer, in bytes. Reading doesn't look whether the blocks keep it.
+    /// The size of a buffer, in bytes. Reading doesn't check the blocks against it.
     pub size: u64,
 }
 
@@ -55,7 +55,7 @@ fn from(bytes: &[u8], at: usize) -> &[u8]
     bytes.split_at(at).1
 }
 
-/// The header that a file begins with, or its first fault.
+/// The header of a file, or its first fault.
 pub(crate) fn read_header(bytes: &[u8]) -> Result<Header, TraceFault>
     ensures { result ≡ decided (header_faults bytes.now) (header_in bytes.now) }
 {

@@ -1,4 +1,4 @@
-//! What follows for the bytes of files. Each law is the contract of a function that does nothing.
+//! Laws of the bytes of files. Each law is the contract of a function that does nothing.
 
 ghost use Rattle.std.specs.Prelude.{◌≡◌, ◌<◌, List, ℕ, All, Ok};
 ghost use Rattle.fdr_buffer.specs.Filled.{Filled};
@@ -11,15 +11,15 @@ ghost use Rattle.fdr_file.specs.Traces.{record_in, trace_of};
 
 use fdr_record::one_answer;
 
-/// What the places of a file are looked at for is what the decoder of records may answer there: the
-/// record that the bytes from there on begin with, or its refusal.
+/// What a place of a file is read as is what the decoder of records answers there: the record that
+/// the bytes from there on begin with, or its refusal.
 pub fn a_place_is_decoded()
     ensures { (bytes : List ℕ) → All (λ b. b < 256) bytes → Answers bytes (record_in bytes) }
 {
     one_answer();
 }
 
-/// A file that is a trace by the grammar reads as this trace. So it is no other one.
+/// A file that is a trace by the grammar reads as this trace. So it isn't another one.
 pub fn a_trace_is_read()
     ensures read { (bytes : List ℕ) (trace : Trace) → IsTrace bytes trace
         → trace_of bytes ≡ Ok trace }
@@ -27,8 +27,8 @@ pub fn a_trace_is_read()
         → IsTrace bytes other → trace ≡ other }
 {}
 
-/// What a file reads as is the trace that it is by the grammar. With `a_trace_is_read`: a file reads
-/// as a trace exactly where it is this trace.
+/// What a file reads as is a trace of this file by the grammar. With `a_trace_is_read`, a file
+/// reads as a trace exactly when it is this trace.
 pub fn what_is_read_is_a_trace()
     ensures { (bytes : List ℕ) (trace : Trace) → All (λ b. b < 256) bytes
         → trace_of bytes ≡ Ok trace → IsTrace bytes trace }
@@ -36,8 +36,8 @@ pub fn what_is_read_is_a_trace()
     one_answer();
 }
 
-/// What is written for a header and buffers is a trace by the grammar, and reads back as the header and
-/// the events of the buffers, in order.
+/// The file that is written for a header and buffers is a trace by the grammar. It reads back as
+/// the header and the events of the buffers, in order.
 pub fn a_file_reads_back()
     ensures trace { (header : Header) (buffers : List Filled) → HeaderFits header
         → All BlockFits buffers → IsTrace (file_bytes header buffers) (trace_told header buffers) }

@@ -1,6 +1,6 @@
 //! Trace files of LLVM XRay's Flight Data Recorder mode, version 3: a header, and a block for each
-//! buffer that was flushed. `read_trace` reads a file whole, and `write_file` writes one. The layout is that of "XRay Flight Data
-//! Recorder Trace Format" of LLVM's documentation.
+//! buffer that was flushed. `read_trace` reads a whole file, and `write_file` writes one. The
+//! layout is that of "XRay Flight Data Recorder Trace Format" in LLVM's documentation.
 #![tactic(auto)]
 
 mod block;

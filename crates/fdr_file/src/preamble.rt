@@ -9,20 +9,20 @@ use crate::records::record_at;
 use fdr_record::Rec;
 use xray_io::Wall;
 
-/// How many bytes the three records of a preamble have.
+/// The length of the three records of a preamble in bytes.
 pub(crate) const PREAMBLE_BYTES: u64 = 48;
 
-/// What the first three records of a block tell.
+/// What the first three records of a block say.
 #[derive(Drop)]
 pub(crate) struct Preamble {
     pub(crate) thread: u32,
     pub(crate) wall: Wall,
     pub(crate) pid: u32,
-    /// The place behind them.
+    /// The place after them.
     pub(crate) end: usize,
 }
 
-/// The thread that the record at this place has to name, and the place behind it.
+/// The thread that the record at this place has to name, and the place after it.
 fn thread_at(block: &[u8], at: usize) -> Result<(u32, usize), TraceFault>
     requires { at ≤ length block.now }
     ensures reads { Reads (λ x. (x.0, left_at block.now x.1)) result
@@ -36,7 +36,7 @@ fn thread_at(block: &[u8], at: usize) -> Result<(u32, usize), TraceFault>
     }
 }
 
-/// The wall time that the record at this place has to tell, and the place behind it.
+/// The wall time that the record at this place has to say, and the place after it.
 fn wall_at(block: &[u8], at: usize) -> Result<(Wall, usize), TraceFault>
     requires { at ≤ length block.now }
     ensures reads { Reads (λ x. (x.0, left_at block.now x.1)) result
@@ -50,7 +50,7 @@ fn wall_at(block: &[u8], at: usize) -> Result<(Wall, usize), TraceFault>
     }
 }
 
-/// The process that the record at this place has to name, and the place behind it.
+/// The process that the record at this place has to name, and the place after it.
 fn pid_at(block: &[u8], at: usize) -> Result<(u32, usize), TraceFault>
     requires { at ≤ length block.now }
     ensures reads { Reads (λ x. (x.0, left_at block.now x.1)) result

@@ -1,4 +1,4 @@
-//! Traces from the bytes of a file.
+//! Reading traces from the bytes of a file.
 
 ghost use Rattle.std.specs.Prelude.{◌≡◌, ◌⊎◌, Err};
 ghost use Rattle.fdr_file.specs.declared.fault.TraceFault.TheVariants.{NoMemory};
@@ -9,17 +9,16 @@ use crate::header::{HEADER_BYTES, read_header};
 use crate::{Blocks, Trace, TraceFault};
 use std::alloc::Global;
 
-/// Reads a trace file of version 3, as LLVM's `FDRTraceWriter.cpp` writes it: a header of 32 bytes, and
-/// blocks up to the file's end. A block is a `BufferExtents` record and as many bytes as it names:
-/// `NewBuffer`, `WalltimeMarker`, `Pid`, and then `NewCPUId`, `TSCWrap` and function records. An event
-/// has the CPU of the `NewCPUId` before it, and its counter is the last one that was told whole and
-/// all deltas since, in 64 bits. A block may have no events, and a function any id. The header's flags
-/// above the second, its reserved bytes and the bytes of a metadata record behind its fields aren't
-/// looked at.
+/// Reads a trace file of version 3, as LLVM's `FDRTraceWriter.cpp` writes it: a header of 32 bytes,
+/// and then blocks up to the file's end. A block is a `BufferExtents` record and as many bytes as
+/// that names. These are `NewBuffer`, `WalltimeMarker`, `Pid`, and then `NewCPUId`, `TSCWrap` and
+/// function records. The CPU of an event is that of the last `NewCPUId` before it. Its counter is
+/// the last whole counter plus all deltas since, in 64 bits. A block may have no events, and a
+/// function may have any id. Some bytes are ignored: the header's flags above the second, its
+/// reserved bytes, and the bytes of a metadata record after its fields.
 ///
-/// Bytes that are no trace are refused by the fault of the first place that has one, as `TraceFault`
-/// tells; `NoMemory` may come in place of any answer. The time is linear in the file's length, and
-/// so is the memory.
+/// Bytes that aren't a trace are refused by the fault of the first place that has one; see
+/// `TraceFault`. `NoMemory` may come in place of any answer.
 pub fn read_trace(alloc: Global, bytes: &[u8]) -> Result<Trace, TraceFault>
     ensures reads { (result ≡ Err NoMemory) ⊎ (result ≡ trace_of bytes.now) }
 {

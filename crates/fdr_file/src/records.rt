@@ -6,7 +6,7 @@ ghost use Rattle.fdr_file.specs.Reading.{Reads, TakenAt, left_at, record_on};
 use crate::TraceFault;
 use fdr_record::{Rec, RecFault, take_rec};
 
-/// The record at a place of a file's bytes, and the place behind it.
+/// The record at a place of a file's bytes, and the place after it.
 pub(crate) fn taken_at(bytes: &[u8], at: usize) -> Result<(Rec, usize), RecFault>
     requires { at ≤ length bytes.now }
     ensures { TakenAt bytes.now at result }
@@ -14,8 +14,8 @@ pub(crate) fn taken_at(bytes: &[u8], at: usize) -> Result<(Rec, usize), RecFault
     take_rec(bytes, at)
 }
 
-/// The record at a place of a block's bytes, and the place behind it. A place is counted from the
-/// file's start, and the bytes are those of the file up to the block's end.
+/// The record at a place of a block's bytes, and the place after it. Places count from the file's
+/// start, and `block` is the file up to the block's end.
 #[tactic(auto, unfolding(crate::specs::Reading::record_on))]
 pub(crate) fn record_at(block: &[u8], at: usize) -> Result<(Rec, usize), TraceFault>
     requires { at ≤ length block.now }

@@ -10,7 +10,7 @@ use std::process::Abort;
 use std::test::Fail;
 use xray_io::{MemSink, Wall, WriteFault};
 
-/// A header of constant and nonstop counters, of buffers of 16,384 bytes.
+/// A header with a constant and nonstop counter, and with buffers of 16,384 bytes.
 const HEADER: &[u8] = b"\x03\0\x01\0\x03\0\0\0\0\0\0\0\0\0\0\0\0\x40\0\0\0\0\0\0\0\0\0\0\0\0\0\0";
 
 /// Extents of 72, 80 and 96 bytes.
@@ -43,7 +43,7 @@ fn file(alloc: Global, parts: &[&[u8]]) -> Result<Vec<u8>, AllocError> {
     Ok(bytes)
 }
 
-/// A file of one block with an entry of function 1 at counter 0 and its exit at 2.
+/// A file of one block, with an entry of function 1 at counter 0 and its exit at 2.
 fn one_block(alloc: Global) -> Result<Vec<u8>, AllocError> {
     file(
         alloc,
@@ -94,7 +94,7 @@ const CPU_AT_LAST: &[u8] = b"\x05\0\0\xFF\xFF\xFF\xFF\xFF\xFF\xFF\xFF\0\0\0\0\0"
 
 const CPU_1_AT_2: &[u8] = b"\x05\x01\0\x02\0\0\0\0\0\0\0\0\0\0\0\0";
 
-/// The counters 0 and 2^32, told whole.
+/// The whole counters 0 and 2^32.
 const WRAP_TO_0: &[u8] = b"\x07\0\0\0\0\0\0\0\0\0\0\0\0\0\0\0";
 
 const WRAP_TO_2_32: &[u8] = b"\x07\0\0\0\0\x01\0\0\0\0\0\0\0\0\0\0";
@@ -163,7 +163,7 @@ fn deltas_add_up_behind_the_last_whole_counter(rt: HostRuntime) -> Result<(), Fa
     Ok(())
 }
 
-/// One byte changed in the file of one block.
+/// The file of one block, with one byte changed.
 #[test]
 fn damaged_files_are_refused(rt: HostRuntime) -> Result<(), Fail> {
     for (at, to, wanted) in [
@@ -218,9 +218,9 @@ fn a_file_ends_behind_a_block_or_is_short(rt: HostRuntime) -> Result<(), Fail> {
     Ok(())
 }
 
-/// A file as LLVM's runtime lays it out: flags of which only two have a meaning, a frequency, reserved
-/// bytes, blocks of two threads, bytes behind the fields of metadata records that were never cleared,
-/// and a buffer that was begun and has no event.
+/// A file as LLVM's runtime lays it out. It has flags of which only two have a meaning, a
+/// frequency, reserved bytes and blocks of two threads. The bytes after the fields of its metadata
+/// records were never cleared. One buffer was begun and has no event.
 #[test]
 fn a_file_of_llvms_runtime_is_read(rt: HostRuntime) -> Result<(), Fail> {
     let header = b"\x03\0\x01\0\x02\0\0\x80\0\x5E\xD0\xB2\0\0\0\0\0\0\x01\0\0\0\0\0ABCDEFGH";

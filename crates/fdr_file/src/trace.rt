@@ -7,7 +7,7 @@ use fdr_record::Event;
 use std::marker::Model;
 use xray_io::Wall;
 
-/// The events of a block, the first first. Contracts see them as a list.
+/// The events of a block, in order. In contracts they are a list.
 #[derive(Debug, Drop)]
 pub struct Events {
     list: Vec<Event>,
@@ -37,7 +37,7 @@ impl Events {
         &self.list
     }
 
-    /// The events as the vector that they were made from.
+    /// The events as the vector that they were made of.
     pub fn into_vec(self) -> Vec<Event>
         ensures { result.items ≡ self }
     {
@@ -45,12 +45,12 @@ impl Events {
     }
 }
 
-/// What a thread's buffer told: one block of a file.
+/// One block of a file: what a thread's buffer said.
 #[derive(Debug, Drop)]
 pub struct Block {
     /// The thread whose buffer it was.
     pub thread: u32,
-    /// When the buffer was begun. Reading doesn't look whether its microseconds are below 1,000,000.
+    /// When the buffer was begun. Reading doesn't check that the microseconds are below 1,000,000.
     pub wall: Wall,
     /// The process that the thread belongs to.
     pub pid: u32,
@@ -58,7 +58,7 @@ pub struct Block {
     pub events: Events,
 }
 
-/// The blocks of a file, the first first. Contracts see them as a list.
+/// The blocks of a file, in order. In contracts they are a list.
 #[derive(Debug, Drop)]
 pub struct Blocks {
     list: Vec<Block>,
@@ -88,7 +88,7 @@ impl Blocks {
         &self.list
     }
 
-    /// The blocks as the vector that they were made from.
+    /// The blocks as the vector that they were made of.
     pub fn into_vec(self) -> Vec<Block>
         ensures { result.items ≡ self }
     {
@@ -96,11 +96,11 @@ impl Blocks {
     }
 }
 
-/// A trace: what a file says of itself, and what its blocks tell.
+/// A trace: what a file says about itself, and its blocks.
 #[derive(Debug, Drop)]
 pub struct Trace {
     /// The file's header.
     pub header: Header,
-    /// Its blocks, in the order of the file.
+    /// The file's blocks, in order.
     pub blocks: Blocks,
 }

@@ -1,4 +1,4 @@
-//! Traces as the bytes of a file.
+//! Writing traces as the bytes of a file.
 
 ghost use Rattle.std.specs.Prelude.{◌≡◌, All, IsTrue, OnOk};
 ghost use Rattle.std.specs.List.{flat_map};
@@ -24,7 +24,7 @@ fn flags(header: &Header) -> u32
     constant + nonstop
 }
 
-/// The extents of a block that has so many bytes behind them.
+/// The extents of a block that has `size` bytes after them.
 fn extents(size: u64) -> [u8; METADATA_BYTES]
     ensures { result ≡ record_bytes (Extents size) }
 {
@@ -97,11 +97,11 @@ fn add_file<S: Sink>(
     add_blocks(text, buffers)
 }
 
-/// Writes a trace file of version 3: the header, and for each buffer a block, a `BufferExtents` record
-/// with the number of the buffer's bytes, and these bytes. LLVM's runtime flushes its buffers so
-/// (`fdrLoggingFlush` of `xray_fdr_logging.cpp`). Each buffer has to be begun, so that its block has a
-/// preamble. What is written is a trace by the grammar, which reads back as the header and the events
-/// of the buffers, in order. Takes no memory.
+/// Writes a trace file of version 3: the header, and a block for each buffer. A block is a
+/// `BufferExtents` record with the number of the buffer's bytes, and these bytes. LLVM's runtime
+/// flushes its buffers in this way (`fdrLoggingFlush` of `xray_fdr_logging.cpp`). Each buffer has
+/// to be begun, so that its block has a preamble. The file is a trace by the grammar. It reads back
+/// as the header and the events of the buffers, in order.
 ///
 /// On `WriteFault` a prefix of the file was written, and the sink counted a fault.
 pub fn write_file<S: Sink>(

@@ -1,4 +1,4 @@
--- What is read of bytes is an answer of them.
+-- What is read from bytes is an answer to them.
 use Rattle.std.proofs.Common.{rules, ◌≡◌, ◌≢◌, ℕ, ◌+◌, ◌*◌, ◌/◌, ◌%◌, ◌≤◌, ltb, List, [], ◌∷◌, ◌++◌, length, get_or, take, drop, Result, Ok, Err, refl, ap, ◌∙◌, arith, inl, inr}
 use Rattle.std.proofs.lemmas.Bool.{cases_Bool, ltb-false, ltb-true, ne_eqb}
 use Rattle.std.proofs.lemmas.Bool.Decides.{eqb_tells}
@@ -20,7 +20,7 @@ use Rattle.fdr_record.proofs.Fields.{IsBytes, IsBytes-drop, IsBytes-rest, field_
 head_is : (first action : ℕ) (rest : List ℕ) → first % 2 ≡ 0 → first / 2 % 8 ≡ action → 2 * action + 16 * (little_number 4 (first ∷ rest) / 16) ≡ little_number 4 (first ∷ rest)
 head_is first action rest even is = omega arith
 
--- two fields, one behind the other, and what stands behind them
+-- two fields, one after the other, and the bytes after them
 two_fields : (n m k a b : ℕ) (bytes : List ℕ) → little_bytes n a ≡ take n bytes → little_bytes m b ≡ take m (drop n bytes) → take (n + m + k) bytes ≡ (little_bytes n a ++ little_bytes m b) ++ take k (drop (n + m) bytes)
 two_fields n m k a b bytes first second =
     take-add (n + m) k bytes ∙ ap (λ (x : List ℕ). x ++ take k (drop (n + m) bytes)) (take-add n m bytes ∙ rw (first, second) refl)
@@ -63,11 +63,11 @@ function_holds first rest fits even =
           ]
     ]
 
--- one field, and what stands behind it
+-- one field, and the bytes after it
 one_field : (n k a : ℕ) (bytes : List ℕ) → little_bytes n a ≡ take n bytes → take (n + k) bytes ≡ little_bytes n a ++ take k (drop n bytes)
 one_field n k a bytes is = take-add n k bytes ∙ rw is refl
 
--- a first byte, and what is spelled behind it
+-- a first byte, and what is spelled after it
 behind_first : (a b : ℕ) (xs ys : List ℕ) → a ≡ b → xs ≡ ys → a ∷ xs ≡ b ∷ ys
 behind_first a b xs ys e f = rw (e, f) refl
 
@@ -163,7 +163,7 @@ metadata_holds first rest fits odd =
           rw long (fields_hold (first / 2) first rest (IsBytes-rest first rest fits) (omega arith) le)
     ]
 
--- what is read of bytes, whose first one is looked at
+-- what is read from bytes, by their first byte
 pub function_answers : (bytes : List ℕ) → IsBytes bytes → 1 ≤ length bytes → get_or bytes 0 0 % 2 ≡ 0 → Answers bytes (function_at (get_or bytes 0 0) bytes)
 function_answers [] fits some even = absurd (omega arith)
 function_answers (first ∷ rest) fits some even = function_holds first rest fits even

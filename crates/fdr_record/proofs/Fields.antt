@@ -1,4 +1,4 @@
--- A field that is read is the one that stands there.
+-- A field that is read is the one in the bytes.
 use Rattle.std.proofs.Common.{◌≡◌, ℕ, suc, ◌+◌, ◌^◌, ◌<◌, ◌≤◌, List, ◌∷◌, length, get_or, take, drop, All, sym, ◌∙◌, lit<, lit≤, arith, inl, inr}
 use Rattle.std.specs.Int.{w16, w32, w64, from_le_bytes}
 use Rattle.std.proofs.lemmas.Bool.{cases_lt}

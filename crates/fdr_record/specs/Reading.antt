@@ -1,4 +1,4 @@
--- Reading a record from left to right, for the contracts of the reader's private functions.
+-- Reading a record from its first byte to its last, for the contracts of the reader's private functions.
 use Rattle.std.specs.Prelude.{◌/◌, ◌%◌, ℕ, List, length, drop, Result, Ok, Err, nat_lt, ◌==◌, if◌then◌else◌}
 use Rattle.byteorder.specs.Endian.{little_number}
 use Rattle.fdr_record.specs.declared.event.Kind.{Kind}
@@ -13,19 +13,19 @@ abbrev pub ◌>>=◌ : {A B : Type 0} → Result A RecFault → (A → Result B 
 (Ok x) >>= f = f x
 (Err e) >>= f = Err e
 
--- what an action's number says that happened
+-- the kind of event that an action's number stands for
 abbrev pub kind_read : ℕ → Result Kind RecFault
 kind_read action =
     if action == 0 then Ok Entry else if action == 1 then Ok Exit else if action == 2 then Ok TailExit else Err (faults.Action action)
 
--- the function record with this first byte, which the bytes begin with
+-- the function record that the bytes begin with, by their first byte
 unfoldable pub function_at : ℕ → List ℕ → Result Rec RecFault
 function_at first bytes =
     if nat_lt (length bytes) 8 then Err faults.Short else (do
       kind ← kind_read (first / 2 % 8)
       Ok (Function kind (little_number 4 bytes / 16) (little_number 4 (drop 4 bytes))))
 
--- a metadata record of a kind whose fields are all there
+-- a metadata record of this kind, with all its fields there
 abbrev pub fields_read : ℕ → List ℕ → Result Rec RecFault
 fields_read kind fields =
     if kind == 0 then Ok (NewBuffer (little_number 4 fields))
@@ -36,6 +36,6 @@ fields_read kind fields =
     else if kind == 9 then Ok (Pid (little_number 4 fields))
     else Err (faults.Kind kind)
 
--- a metadata record of a kind, from the bytes behind its first one
+-- a metadata record of this kind, from the bytes after its first byte
 unfoldable pub metadata_at : ℕ → List ℕ → Result Rec RecFault
 metadata_at kind fields = if nat_lt (length fields) 15 then Err faults.Short else fields_read kind fields

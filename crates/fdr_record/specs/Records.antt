@@ -1,4 +1,5 @@
--- The bytes of records, as LLVM's Flight Data Recorder format lays them out. Numbers stand with their lowest byte first.
+-- The bytes of records, as LLVM's Flight Data Recorder format lays them out. The lowest byte of each number comes
+-- first.
 use Rattle.std.specs.Prelude.{◌≡◌, ◌<◌, ◌^◌, ◌*◌, ◌+◌, ◌-◌, ℕ, List, ◌∷◌, ◌++◌, length, take, replicate}
 use Rattle.byteorder.specs.Endian.{little_bytes}
 use Rattle.fdr_record.specs.declared.event.Kind.{Kind}
@@ -6,7 +7,7 @@ use Rattle.fdr_record.specs.declared.event.Kind.TheVariants.{Entry, Exit, TailEx
 use Rattle.fdr_record.specs.declared.rec.Rec.{Rec}
 use Rattle.fdr_record.specs.declared.rec.Rec.TheVariants.{NewBuffer, NewCpu, TscWrap, WallTime, Pid, Extents, Function}
 
--- the kinds of metadata records, by the numbers that `MetadataRecord::RecordKinds` gives them
+-- the kinds of metadata records, with the numbers of `MetadataRecord::RecordKinds`
 abbrev pub new_buffer : ℕ
 new_buffer = 0
 
@@ -25,7 +26,7 @@ buffer_extents = 7
 abbrev pub pid : ℕ
 pid = 9
 
--- the number of what happened, as `FunctionRecord::RecordKinds` gives it
+-- the number of the action, as `FunctionRecord::RecordKinds` gives it
 abbrev pub action_of : Kind → ℕ
 action_of Entry = 0
 action_of Exit = 1
@@ -35,11 +36,12 @@ action_of TailExit = 2
 abbrev pub first_of : ℕ → ℕ
 first_of kind = 2 * kind + 1
 
--- the first four bytes of a function record, as a number: bit 0 is 0, three bits are the action, and 28 bits the function's id
+-- The first four bytes of a function record, as a number. Bit 0 is 0, the next three bits are the action, and 28 bits
+-- are the function's id.
 abbrev pub head_of : Kind → ℕ → ℕ
 head_of kind func = 2 * action_of kind + 16 * func
 
--- what a record's bytes tell: of a metadata record its first byte and its fields
+-- the bytes of a record that have a meaning; in a metadata record these are its first byte and its fields
 abbrev pub told_by : Rec → List ℕ
 told_by (NewBuffer thread) = first_of new_buffer ∷ little_bytes 4 thread
 told_by (NewCpu cpu tsc) = first_of new_cpu_id ∷ little_bytes 2 cpu ++ little_bytes 8 tsc
@@ -61,11 +63,12 @@ abbrev pub length_of : Rec → ℕ
 length_of (Function kind func delta) = function_length
 length_of _ = metadata_length
 
--- the bytes that are written for a record: what it tells, and zeros up to its length
+-- the bytes that are written for a record: those with a meaning, and zeros up to its length
 abbrev pub record_bytes : Rec → List ℕ
 record_bytes r = told_by r ++ replicate (length_of r - length (told_by r)) 0
 
--- these bytes spell the record: they begin with what it tells, and have its length. What stands behind what it tells is free
+-- These bytes spell the record. They begin with the bytes that have a meaning, and have the record's length. The bytes
+-- after those with a meaning may be any.
 pub record Spells (bytes : List ℕ) (r : Rec) : Type 0 where
   pub filler : List ℕ
   pub told : bytes ≡ told_by r ++ filler
@@ -75,7 +78,7 @@ pub record Spells (bytes : List ℕ) (r : Rec) : Type 0 where
 abbrev pub BeginsWith : Rec → List ℕ → Type 0
 BeginsWith r bytes = Spells (take (length_of r) bytes) r
 
--- the function's id, where the record has one, fits its 28 bits
+-- if the record has a function's id, it fits its 28 bits
 abbrev pub IdFits : Rec → Type 0
 IdFits (Function kind func delta) = func < 2 ^ 28
 IdFits _ = Unit {0}

@@ -1,20 +1,20 @@
-/// What a passing records of a call, as a function record of LLVM XRay's Flight Data Recorder
-/// mode tells it.
+/// What a passing records, as a function record of LLVM XRay's Flight Data Recorder mode says it.
 #[derive(Clone, Copy, Debug, PartialEq, Eq)]
 pub enum Kind {
     /// A function was entered.
     Entry,
     /// A function returned.
     Exit,
-    /// A function was left by a jump to another one, which returns in its place.
+    /// A function was left by a jump to another one, which returns in its place. LLVM calls it a
+    /// tail exit.
     TailExit,
 }
 
-/// One event of a thread: that it entered or left a function, where and when. It takes 16 bytes: its
-/// widest field stands first.
+/// One event of a thread: it entered or left a function, at this counter, on this CPU. The widest
+/// field comes first, so that an event takes 16 bytes.
 #[derive(Clone, Copy, Debug, PartialEq, Eq)]
 pub struct Event {
-    /// The counter at the passing, as a processor's time-stamp counter counts cycles.
+    /// The counter at the passing, in cycles, as a processor's time-stamp counter counts them.
     pub tsc: u64,
     /// The id of the function, from 1. A function record has 28 bits for it.
     pub func: u32,

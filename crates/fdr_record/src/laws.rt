@@ -1,4 +1,4 @@
-//! What follows for the bytes of records. Each law is the contract of a function that does nothing.
+//! Laws of the bytes of records. Each law is the contract of a function that does nothing.
 
 ghost use Rattle.std.specs.Prelude.{◌≡◌, ◌<◌, ◌++◌, List, ℕ, All, Result, Ok};
 ghost use Rattle.fdr_record.specs.declared.rec.Rec.{Rec};
@@ -6,8 +6,8 @@ ghost use Rattle.fdr_record.specs.declared.fault.RecFault.{RecFault};
 ghost use Rattle.fdr_record.specs.Records.{record_bytes, FieldsFit, BeginsWith};
 ghost use Rattle.fdr_record.specs.Refusals.{Answers};
 
-/// Behind what is written for a record anything may follow: the record stands there, and the answer is
-/// this record and no other.
+/// Bytes that begin with what is written for a record read as this record and as no other, whatever
+/// follows.
 pub fn a_record_reads_back()
     ensures stands { (r : Rec) (behind : List ℕ) → FieldsFit r
         → BeginsWith r (record_bytes r ++ behind) }
@@ -15,13 +15,13 @@ pub fn a_record_reads_back()
         → (a : Result Rec RecFault) → Answers (record_bytes r ++ behind) a → a ≡ Ok r }
 {}
 
-/// Bytes begin with one record at most.
+/// Bytes begin with at most one record.
 pub fn one_record()
     ensures { (r s : Rec) (bytes : List ℕ) → FieldsFit r → FieldsFit s
         → BeginsWith r bytes → BeginsWith s bytes → r ≡ s }
 {}
 
-/// Of any bytes exactly one answer holds: the record that they begin with, or one fault.
+/// Exactly one answer holds of any bytes: the record that they begin with, or one fault.
 pub fn one_answer()
     ensures some { (bytes : List ℕ) → All (λ b. b < 256) bytes
         → (a : Result Rec RecFault) × Answers bytes a }

@@ -1,4 +1,4 @@
-//! Records from bytes.
+//! Reading records from bytes.
 
 ghost use Rattle.std.specs.Prelude.{◌≡◌, ◌≤◌, ◌<◌, ◌+◌, length, drop, IfOk, IfErr, Ok, Err};
 ghost use Rattle.fdr_record.specs.declared.rec.Rec.{Rec};
@@ -17,7 +17,7 @@ use crate::{Kind, Rec, RecFault};
 use byteorder::{ByteOrder, LittleEndian};
 use xray_io::Wall;
 
-/// What an action's number says that happened.
+/// The kind of event that an action's number stands for.
 fn kind(action: u8) -> Result<Kind, RecFault>
     ensures { result ≡ kind_read action }
 {
@@ -29,7 +29,7 @@ fn kind(action: u8) -> Result<Kind, RecFault>
     }
 }
 
-/// The function record with this first byte, which the bytes begin with.
+/// The function record that the bytes begin with. `first` is their first byte.
 #[tactic(auto, unfolding(crate::specs::Reading::function_at))]
 fn function(first: u8, bytes: &[u8]) -> Result<Rec, RecFault>
     ensures { result ≡ function_at first bytes.now }
@@ -46,7 +46,7 @@ fn function(first: u8, bytes: &[u8]) -> Result<Rec, RecFault>
     })
 }
 
-/// The metadata record of this kind, from the bytes behind its first one.
+/// The metadata record of this kind, from the bytes after its first byte.
 #[tactic(auto, unfolding(crate::specs::Reading::metadata_at))]
 fn metadata(kind: u8, fields: &[u8]) -> Result<Rec, RecFault>
     ensures { result ≡ metadata_at kind fields.now }
@@ -103,15 +103,15 @@ fn record(bytes: &[u8]) -> Result<Rec, RecFault>
     }
 }
 
-/// The record that stands at the place `at` of the bytes, and the place behind it. Places are byte
-/// offsets from the start of `bytes`. What follows the record doesn't matter, and neither do the bytes
-/// of a metadata record behind its fields. `RecFault` says when there is none.
+/// Reads the record at the place `at` of the bytes. Answers it and the place after it. Places are
+/// byte offsets from the start of `bytes`. Bytes after the record don't matter, nor do those of a
+/// metadata record after its fields. `RecFault` says why there is no record.
 pub fn take_rec(bytes: &[u8], at: usize) -> Result<(Rec, usize), RecFault>
     requires { at ≤ length bytes.now }
     // What is read stands there.
     ensures found { IfOk result (λ x. FieldsFit x.0 × BeginsWith x.0 (drop at bytes.now)
         × (x.1 ≡ at + length_of x.0)) }
-    // The place behind it is further on, and within the bytes.
+    // The place after it is further on, and within the bytes.
     ensures next { IfOk result (λ x. (at < x.1) × (x.1 ≤ length bytes.now)) }
     // A record that stands there is read.
     ensures only { (r : Rec) → FieldsFit r → BeginsWith r (drop at bytes.now)

@@ -6,7 +6,7 @@ use super::*;
 use std::process::Abort;
 use xray_io::Wall;
 
-/// Ends the test where the function's id of a record has no place in it.
+/// Ends the test if the function's id doesn't fit a record.
 fn check_id(rt: &impl Abort, rec: &Rec)
     ensures { IdFits rec.now }
 {

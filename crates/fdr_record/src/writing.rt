@@ -1,4 +1,4 @@
-//! Records as bytes.
+//! Writing records as bytes.
 
 ghost use Rattle.std.specs.Prelude.{◌≡◌, ◌≤◌, ◌<◌, ◌+◌, ◌∷◌, ◌++◌, length, take, drop, replicate};
 ghost use Rattle.fdr_record.specs.Records.{action_of, first_of, length_of, metadata_length, record_bytes, IdFits, FieldsFit};
@@ -12,7 +12,7 @@ use crate::{Kind, Rec};
 use byteorder::{ByteOrder, LittleEndian};
 use xray_io::Wall;
 
-/// The number of what happened.
+/// The number of the action for this kind of event.
 fn action(kind: Kind) -> u32
     ensures value { result ≡ action_of kind }
     ensures small { result < 8 }
@@ -24,7 +24,7 @@ fn action(kind: Kind) -> u32
     })
 }
 
-/// A metadata record of this kind whose fields are all 0.
+/// Writes a metadata record of this kind, with all fields 0.
 fn put_kind(bytes: &mut [u8], kind: u8)
     requires whole { length bytes.old ≡ metadata_length }
     requires small { kind < 128 }
@@ -34,7 +34,7 @@ fn put_kind(bytes: &mut [u8], kind: u8)
     bytes[0] = (kind << KIND_SHIFT) + METADATA;
 }
 
-/// A record of a wall time.
+/// Writes a record with a wall time.
 fn put_wall_time(bytes: &mut [u8], wall: Wall)
     requires { length bytes.old ≡ metadata_length }
     ensures bytes { bytes.new ≡ record_bytes (Rec.WallTime wall) }
@@ -45,7 +45,7 @@ fn put_wall_time(bytes: &mut [u8], wall: Wall)
     LittleEndian::write_u32(&mut bytes[FIELDS + SECONDS_BYTES..], wall.micros);
 }
 
-/// Writes the record over bytes that are as many as it has.
+/// Writes the record over bytes of the record's length.
 fn put_all(rec: &Rec, bytes: &mut [u8])
     requires whole { length bytes.old ≡ length_of rec.now }
     requires id { IdFits rec.now }
@@ -83,13 +83,13 @@ fn put_all(rec: &Rec, bytes: &mut [u8])
     }
 }
 
-/// Writes a record's bytes at the place `at` of `buf`, counted from its start, and answers the place
-/// behind them. The rest of `buf` stays. The record has to end within `buf`: `rec_len` tells its
-/// length. A function's id has to be below 2^28.
+/// Writes a record's bytes at the place `at` of `buf`, counted from its start. Answers the place
+/// after them. The rest of `buf` stays as it is. The record has to end within `buf`; `rec_len`
+/// gives its length. A function's id has to be below 2^28.
 pub fn put_rec(rec: &Rec, buf: &mut [u8], at: usize) -> usize
     requires room { at + length_of rec.now ≤ length buf.old }
     requires id { IdFits rec.now }
-    // The record's bytes stand there, and all others stay.
+    // The record's bytes are there, and all others stay as they are.
     ensures bytes { buf.new ≡ take at buf.old ++ record_bytes rec.now
         ++ drop (at + length_of rec.now) buf.old }
     ensures next { result ≡ at + length_of rec.now }

@@ -1,4 +1,4 @@
--- Marks as bits: what is read of them, and what one more mark changes.
+-- Marks as bits: what is read from them, and what one more mark changes.
 use Rattle.std.proofs.Common.{◌≡◌, ◌≢◌, ◌<◌, ◌+◌, ◌*◌, ◌/◌, ◌%◌, ◌^◌, ℕ, zero, suc, List, [], ◌∷◌, ◌++◌, length, get_or, set, refl, sym, ap, ◌∙◌, inl, inr, arith, add-one, length-append, get_or-set_other, get_or-set_same}
 use Rattle.std.specs.Prelude.{slice_get, bit_or, Some}
 use Rattle.std.proofs.lemmas.Grind.{get_or_default_zero}
@@ -18,7 +18,7 @@ pub seen_counts : (bytes : List ℕ) (len room : ℕ) (seen : MarkList) → reco
 seen_counts bytes len room seen is =
     (sym (length-marks_from bytes 0 len) ∙ ap (λ (m : MarkList). length m.items) is, ap (λ (m : MarkList). m.room) is)
 
--- the mark of a number is that of its bits
+-- the n-th mark is that of its bits
 pub mark_there : (bytes : List ℕ) (n count i : ℕ) → i < count → slice_get (marks_from bytes n count) i ≡ Some (mark_of (bits_of bytes (n + i)))
 mark_there bytes n zero i below = absurd (omega arith)
 mark_there bytes n (suc count) zero below = let same : n ≡ n + zero = omega arith in ap (λ k. Some (mark_of (bits_of bytes k))) same
@@ -26,7 +26,7 @@ mark_there bytes n (suc count) (suc i) below =
     let same : (n + 1) + i ≡ n + suc i = omega arith in
     mark_there bytes (n + 1) count i (omega arith) ∙ ap (λ k. Some (mark_of (bits_of bytes k))) same
 
--- bytes with the same bits have the same marks
+-- bytes with equal bits have equal marks
 same_marks : (xs ys : List ℕ) (n count : ℕ) → ((i : ℕ) → i < n + count → bits_of xs i ≡ bits_of ys i) → marks_from xs n count ≡ marks_from ys n count
 same_marks xs ys n zero same = refl
 same_marks xs ys n (suc count) same =
@@ -34,14 +34,14 @@ same_marks xs ys n (suc count) same =
     let rest : marks_from xs (n + 1) count ≡ marks_from ys (n + 1) count = same_marks xs ys (n + 1) count (λ i below. same i (omega arith)) in
     cc
 
--- one mark more
+-- one more mark
 marks_more : (bytes : List ℕ) (n count : ℕ) → marks_from bytes n (suc count) ≡ marks_from bytes n count ++ mark_of (bits_of bytes (n + count)) ∷ []
 marks_more bytes n zero = let same : n ≡ n + zero = omega arith in ap (λ k. mark_of (bits_of bytes k) ∷ []) same
 marks_more bytes n (suc count) =
     let same : (n + 1) + count ≡ n + suc count = omega arith in
     ap (λ marks. mark_of (bits_of bytes n) ∷ marks) (marks_more bytes (n + 1) count ∙ ap (λ k. marks_from bytes (n + 1) count ++ mark_of (bits_of bytes k) ∷ []) same)
 
--- where the bits before a number stay, the marks before it stay, and that of the number follows
+-- if the bits before a number stay, so do the marks before it, and the mark of the number follows them
 pub marks_and_one : (old new : List ℕ) (n bits : ℕ) → ((i : ℕ) → i < n → bits_of new i ≡ bits_of old i) → bits_of new n ≡ bits
     → marks_from new 0 (n + 1) ≡ marks_from old 0 n ++ mark_of bits ∷ []
 marks_and_one old new n bits kept last =
@@ -58,21 +58,21 @@ shifted_small bits (suc (suc zero)) small below = omega arith
 shifted_small bits (suc (suc (suc zero))) small below = omega arith
 shifted_small bits (suc (suc (suc (suc place)))) small below = absurd (omega arith)
 
--- bits at a place behind which a byte has none
+-- bits put at a place from which on a byte has none
 byte_put : (byte bits place : ℕ) → byte < 2 ^ (place * 2) → bits < 4 → place < 4
     → bit_or byte (bits * 2 ^ (place * 2) % 256) ≡ bits * 2 ^ (place * 2) + byte
 byte_put byte bits place free small below =
     let whole : bits * 2 ^ (place * 2) % 256 ≡ bits * 2 ^ (place * 2) = omega (arith, shifted_small bits place small below) in
     rw whole (or_comm byte (bits * 2 ^ (place * 2)) ∙ or_shifted bits (place * 2) byte free)
 
--- the last byte with the bits behind those of its marks
+-- bits put into the last byte, after those of its marks
 pub put_there : (bytes : List ℕ) (n bits byte : ℕ) → IsFilledTo bytes n → n % 4 ≢ 0 → bits < 4 → byte ≡ get_or bytes (n / 4) byte
     → bit_or byte (bits * 2 ^ (n % 4 * 2) % 256) ≡ bits * 2 ^ (n % 4 * 2) + get_or bytes (n / 4) 0
 put_there bytes n bits byte filled begun small is =
     let read : byte ≡ get_or bytes (n / 4) 0 = is ∙ get_or_default_zero bytes (n / 4) byte (omega (arith, filled.count)) in
     rw read (byte_put (get_or bytes (n / 4) 0) bits (n % 4) (filled.free begun) small (omega arith))
 
--- they are read there
+-- the bits are read from there
 bits_put : (byte bits place : ℕ) → byte < 2 ^ (place * 2) → bits < 4 → place < 4 → (bits * 2 ^ (place * 2) + byte) / 2 ^ (place * 2) % 4 ≡ bits
 bits_put byte bits zero free small below = omega arith
 bits_put byte bits (suc zero) free small below = omega arith
@@ -80,7 +80,7 @@ bits_put byte bits (suc (suc zero)) free small below = omega arith
 bits_put byte bits (suc (suc (suc zero))) free small below = omega arith
 bits_put byte bits (suc (suc (suc (suc place)))) free small below = absurd (omega arith)
 
--- the places before them keep theirs
+-- the places before them keep their bits
 bits_kept : (byte bits place other : ℕ) → other < place → place < 4 → (bits * 2 ^ (place * 2) + byte) / 2 ^ (other * 2) % 4 ≡ byte / 2 ^ (other * 2) % 4
 bits_kept byte bits zero other before below = absurd (omega arith)
 bits_kept byte bits (suc zero) zero before below = omega arith
@@ -94,14 +94,14 @@ bits_kept byte bits (suc (suc (suc zero))) (suc (suc zero)) before below = omega
 bits_kept byte bits (suc (suc (suc zero))) (suc (suc (suc other))) before below = absurd (omega arith)
 bits_kept byte bits (suc (suc (suc (suc place)))) other before below = absurd (omega arith)
 
--- and no bits stand behind them
+-- and no bits come after them
 bits_below : (byte bits place : ℕ) → byte < 2 ^ (place * 2) → bits < 4 → place < 3 → bits * 2 ^ (place * 2) + byte < 2 ^ ((place + 1) * 2)
 bits_below byte bits zero free small below = omega arith
 bits_below byte bits (suc zero) free small below = omega arith
 bits_below byte bits (suc (suc zero)) free small below = omega arith
 bits_below byte bits (suc (suc (suc place))) free small below = absurd (omega arith)
 
--- a byte more behind full ones
+-- one more byte after full ones
 pub marks_in_byte : (bytes : List ℕ) (n bits : ℕ) → IsFilledTo bytes n → n % 4 ≡ 0 → bits < 4
     → marks_from (bytes ++ bits ∷ []) 0 (n + 1) ≡ marks_from bytes 0 n ++ mark_of bits ∷ []
 marks_in_byte bytes n bits filled full small =
@@ -112,7 +112,7 @@ marks_in_byte bytes n bits filled full small =
     rw (here, full, get_or-append_seam bytes bits [] 0) (omega arith) in
     marks_and_one bytes (bytes ++ bits ∷ []) n bits kept last
 
--- where the last byte has bits more behind those of its marks, each mark before keeps its bits
+-- more bits in the last byte, after those of its marks, leave the bits of each earlier mark as they are
 bits_before : (bytes : List ℕ) (n bits byte i : ℕ) → n / 4 < length bytes → byte ≡ bits * 2 ^ (n % 4 * 2) + get_or bytes (n / 4) 0 → i < n
     → bits_of (set bytes (n / 4) byte) i ≡ bits_of bytes i
 bits_before bytes n bits byte i within is before =
@@ -123,7 +123,7 @@ bits_before bytes n bits byte i within is before =
       | inr other ↦ ap (λ (b : ℕ). b / 2 ^ (i % 4 * 2) % 4) (get_or-set_other bytes (n / 4) (i / 4) byte 0 other.1)
     ]
 
--- bits more in the last byte
+-- more bits in the last byte
 pub marks_in_place : (bytes : List ℕ) (n bits byte : ℕ) → IsFilledTo bytes n → n % 4 ≢ 0 → bits < 4
     → byte ≡ bits * 2 ^ (n % 4 * 2) + get_or bytes (n / 4) 0
     → marks_from (set bytes (n / 4) byte) 0 (n + 1) ≡ marks_from bytes 0 n ++ mark_of bits ∷ []
@@ -135,7 +135,7 @@ marks_in_place bytes n bits byte filled begun small is =
     rw read (bits_put (get_or bytes (n / 4) 0) bits (n % 4) (filled.free begun) small (omega arith)) in
     marks_and_one bytes (set bytes (n / 4) byte) n bits (λ i before. bits_before bytes n bits byte i within is before) last
 
--- the bytes are filled by one mark more
+-- the bytes stay filled with one more mark
 pub filled_in_place : (bytes : List ℕ) (n bits byte : ℕ) → IsFilledTo bytes n → n % 4 ≢ 0 → bits < 4
     → byte ≡ bits * 2 ^ (n % 4 * 2) + get_or bytes (n / 4) 0 → IsFilledTo (set bytes (n / 4) byte) (n + 1)
 filled_in_place bytes n bits byte filled begun small is =
@@ -150,7 +150,7 @@ filled_in_place bytes n bits byte filled begun small is =
           rw (same, next, read) (bits_below (get_or bytes (n / 4) 0) bits (n % 4) (filled.free begun) small (omega arith));
     }
 
--- and so by one in a byte of its own
+-- and so they do with one in a byte of its own
 pub filled_in_byte : (bytes : List ℕ) (n bits : ℕ) → IsFilledTo bytes n → n % 4 ≡ 0 → bits < 4 → IsFilledTo (bytes ++ bits ∷ []) (n + 1)
 filled_in_byte bytes n bits filled full small = record {
   count = length-append bytes (bits ∷ []) ∙ omega (arith, filled.count);

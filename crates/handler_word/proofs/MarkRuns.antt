@@ -1,4 +1,4 @@
--- Runs of marks: what stands in front of a list, and how their text is put together.
+-- Runs of marks: the first run of a list, and how the text of runs is put together.
 use Rattle.std.proofs.Common.{◌≡◌, ◌≢◌, ◌<◌, ◌≤◌, ◌+◌, ◌-◌, ℕ, zero, suc, List, [], ◌∷◌, ◌++◌, length, drop, replicate, Bool, refl, sym, ap, ◌∙◌, arith, append_assoc, add-one, eq-eqb}
 use Rattle.std.specs.Prelude.{◌==◌, true, false, map, slice_get, Some, Option, Ok}
 use Rattle.std.specs.List.{flat_map, join_with_byte}
@@ -14,7 +14,7 @@ use Rattle.xray_io.specs.Calls.{Write}
 use Rattle.xray_io.specs.Text.{AddsText}
 use Rattle.xray_io.specs.declared.text.Text.{Text}
 
--- marks that are printed alike are the same
+-- marks with the same character are the same
 printed_alike : (mark other : Mark) → mark_byte mark ≡ mark_byte other → mark ≡ other
 printed_alike Skipped Skipped alike = refl
 printed_alike Skipped NoHandler alike = absurd (omega arith)
@@ -36,7 +36,7 @@ printed_alike Recorded Recorded alike = refl
 printed_apart : (mark other : Mark) → mark ≢ other → (mark_byte mark == mark_byte other) ≡ false
 printed_apart mark other apart = ne_eqb (mark_byte mark) (mark_byte other) (λ alike. apart (printed_alike mark other alike))
 
--- a mark begins a run in front of another one's
+-- a mark before a different one begins a run
 apart_in_front : (mark next : Mark) (runs : List (Mark × ℕ)) → mark ≢ next → onto_runs mark (onto_runs next runs) ≡ (mark, 1) ∷ onto_runs next runs
 apart_in_front mark next [] apart = rw (printed_apart mark next apart) refl
 apart_in_front mark next ((other, count) ∷ runs) apart = by_next (mark_byte next == mark_byte other) refl
@@ -52,7 +52,7 @@ apart_in_front mark next ((other, count) ∷ runs) apart = by_next (mark_byte ne
 pub record EndsRun (mark : Mark) (marks : List Mark) : Type 0 where
   pub differs : (next : Mark) (rest : List Mark) → marks ≡ next ∷ rest → mark ≢ next
 
--- as many of a mark as there are in front are a run, and behind it stand the runs of the rest
+-- equal marks at the start are a run, and the runs of the rest follow it
 pub run_in_front : (mark : Mark) (more : ℕ) (rest : List Mark) → EndsRun mark rest
     → runs_of (replicate (suc more) mark ++ rest) ≡ (mark, suc more) ∷ runs_of rest
 run_in_front mark zero [] ends = refl
@@ -61,12 +61,12 @@ run_in_front mark (suc more) rest ends =
     let alike : (mark_byte mark == mark_byte mark) ≡ true = eq-eqb (mark_byte mark) (mark_byte mark) refl in
     rw (run_in_front mark more rest ends, alike, add-one) refl
 
--- the mark of a number stands in front of those behind it
+-- the n-th mark, and then those after it
 pub mark_in_front : (marks : List Mark) (n : ℕ) (mark : Mark) → slice_get marks n ≡ Some mark → drop n marks ≡ mark ∷ drop (n + 1) marks
 mark_in_front marks n mark there =
     rw add-one (drop-cons marks n mark (slice_get_within marks n mark there) ∙ ap (λ first. first ∷ drop (suc n) marks) (get_or_from_slice_get marks n mark mark there))
 
--- a mark more in front
+-- one more mark before others
 pub one_more : (mark : Mark) (count : ℕ) (rest : List Mark) → replicate count mark ++ mark ∷ rest ≡ replicate (count + 1) mark ++ rest
 one_more mark count rest = sym (ap (λ front. front ++ rest) (replicate_next count mark) ∙ append_assoc (replicate count mark) (mark ∷ []) rest)
 
@@ -82,7 +82,7 @@ ends_with_list marks n mark past = record {
   differs = λ other rest front same. let none : drop n marks ≡ [] = drop_all n marks past in cc;
 }
 
--- equal marks in front of the end of a run are the run
+-- equal marks up to the end of a run are the run
 pub run_there : (marks : List Mark) (start end : ℕ) (mark : Mark) → start < end → drop start marks ≡ replicate (end - start) mark ++ drop end marks → EndsRun mark (drop end marks)
     → runs_of (drop start marks) ≡ (mark, end - start) ∷ runs_of (drop (start + (end - start)) marks)
 run_there marks start end mark begun same ends =
@@ -90,7 +90,7 @@ run_there marks start end mark begun same ends =
     let behind : start + (end - start) ≡ end = omega arith in
     rw (same, behind, more) (run_in_front mark (end - start - 1) (drop end marks) ends)
 
--- runs behind others, each with a space before it
+-- later runs, each with a space before it
 abbrev pub later_runs : List Mark → List ℕ
 later_runs marks = flat_map (λ run. 32 ∷ run_text run) (runs_of marks)
 
@@ -98,19 +98,19 @@ joined : (run : Mark × ℕ) (runs : List (Mark × ℕ)) → join_with_byte 32 (
 joined run [] = sym (append-nil (run_text run))
 joined run (next ∷ runs) = ap (λ text. run_text run ++ 32 ∷ text) (joined next runs)
 
--- the first run and those behind it are the text
+-- the first run and the later ones are the text
 pub first_and_later : (marks : List Mark) (run : Mark × ℕ) (behind : List Mark) → 0 < length marks → runs_of marks ≡ run ∷ runs_of behind
     → run_text run ++ later_runs behind ≡ runs_text marks
 first_and_later [] run behind some front = absurd (omega arith)
 first_and_later (mark ∷ marks) run behind some front =
     sym (ap (λ runs. join_with_byte 32 (map run_text runs)) front ∙ joined run (runs_of behind))
 
--- a run and those behind it
+-- a run and the later ones
 pub next_and_later : (marks : List Mark) (run : Mark × ℕ) (behind : List Mark) → runs_of marks ≡ run ∷ runs_of behind
     → (32 ∷ run_text run) ++ later_runs behind ≡ later_runs marks
 next_and_later marks run behind front = sym (ap (flat_map (λ run. 32 ∷ run_text run)) front)
 
--- a text was given the runs of all marks before one of a number
+-- the runs of all marks before this one were added to a text
 pub record HasRunsTo {S : Type 0} (written : S → Option (List ℕ)) (faults : S → ℕ) (along : S → S → List Write → Type 0) (old new : Text S) (marks : List Mark) (end : ℕ) : Type 0 where
   pub given : List ℕ
   pub adds : AddsText written faults along old new given (Ok tt)

@@ -1,22 +1,22 @@
--- Marks as bits: two bits a mark, four marks a byte.
+-- Marks as bits: two bits per mark, four marks per byte.
 use Rattle.std.specs.Prelude.{◌≡◌, ◌≢◌, ◌<◌, ◌+◌, ◌*◌, ◌/◌, ◌%◌, ◌^◌, ◌==◌, ℕ, zero, suc, List, [], ◌∷◌, length, slice_index, if◌then◌else◌}
 use Rattle.handler_word.specs.declared.mark.Mark.{Mark}
 use Rattle.handler_word.specs.declared.mark.Mark.TheVariants.{Skipped, NoHandler, NotLogging, Recorded}
 
--- the mark that two bits are kept for
+-- the mark that two bits stand for
 abbrev pub mark_of : ℕ → Mark
 mark_of bits = if bits == 0 then Skipped else if bits == 1 then NoHandler else if bits == 2 then NotLogging else Recorded
 
--- the two bits of the mark of a number: the first of the four marks of a byte is in its lowest bits
+-- the two bits of the mark of this number; the first of the four marks of a byte is in its lowest bits
 abbrev pub bits_of : List ℕ → ℕ → ℕ
 bits_of bytes n = slice_index bytes (n / 4) / 2 ^ (n % 4 * 2) % 4
 
--- so many marks, from one of a number on
+-- the next `count` marks, from the n-th on
 abbrev pub marks_from : List ℕ → ℕ → ℕ → List Mark
 marks_from bytes n zero = []
 marks_from bytes n (suc count) = mark_of (bits_of bytes n) ∷ marks_from bytes (n + 1) count
 
--- as many bytes as so many marks take, and no bit behind the last mark
+-- as many bytes as this many marks take, and no bit is set after the last mark
 pub record IsFilledTo (bytes : List ℕ) (marks : ℕ) : Type 0 where
   pub count : length bytes ≡ (marks + 3) / 4
   pub free : marks % 4 ≢ 0 → slice_index bytes (marks / 4) < 2 ^ (marks % 4 * 2)

@@ -3,7 +3,7 @@ use Rattle.std.specs.Prelude.{ℕ, List, Bool, true, false, count_by}
 use Rattle.handler_word.specs.declared.mark.Mark.{Mark}
 use Rattle.handler_word.specs.declared.mark.Mark.TheVariants.{Skipped, NoHandler, NotLogging, Recorded}
 
--- the marks, the first first, and how many there may be
+-- the marks, in the order of the passings, and how many there may be
 pub record MarkList : Type 0 where
   pub items : List Mark
   pub room : ℕ

@@ -1,4 +1,4 @@
--- The text of a list of marks: each run of equal marks as the mark and how many there are.
+-- The text of a list of marks: each run of equal marks as its mark and its length.
 use Rattle.std.specs.Prelude.{ℕ, ◌+◌, List, [], ◌∷◌, ◌==◌, if◌then◌else◌, codes, decimal, map}
 use Rattle.std.specs.List.{join_with_byte}
 use Rattle.handler_word.specs.declared.mark.Mark.{Mark}
@@ -11,7 +11,7 @@ mark_byte NoHandler = 110
 mark_byte NotLogging = 102
 mark_byte Recorded = 43
 
--- a mark in front of runs joins the first of them where they are alike
+-- a mark before runs joins the first of them if the two are alike
 abbrev pub onto_runs : Mark → List (Mark × ℕ) → List (Mark × ℕ)
 onto_runs mark [] = (mark, 1) ∷ []
 onto_runs mark ((next, count) ∷ runs) =
@@ -25,7 +25,7 @@ runs_of (mark ∷ marks) = onto_runs mark (runs_of marks)
 abbrev pub run_text : Mark × ℕ → List ℕ
 run_text (mark, count) = mark_byte mark ∷ decimal count
 
--- the runs with a space between them, or - for no marks
+-- the runs with a space between them, or - if there are no marks
 abbrev pub runs_text : List Mark → List ℕ
 runs_text [] = codes "-"
 runs_text (mark ∷ marks) = join_with_byte 32 (map run_text (runs_of (mark ∷ marks)))

@@ -1,4 +1,4 @@
-//! Marks: what the passings of a thread met, two bits each, and the text of their runs.
+//! Marks: what the passings of a thread met, and the text of their runs.
 #![tactic(auto)]
 
 mod mark;

@@ -5,13 +5,13 @@ ghost use Rattle.std.specs.Prelude.{◌≡◌, ◌<◌};
 /// What a passing of a sled met.
 #[derive(Clone, Copy, Debug, PartialEq, Eq)]
 pub enum Mark {
-    /// The sled was unpatched. Printed `.`.
+    /// The sled was unpatched. Printed as `.`.
     Skipped,
-    /// The sled was patched, and no handler was set. Printed `n`.
+    /// The sled was patched, and no handler was set. Printed as `n`.
     NoHandler,
-    /// A handler was set, and the log wasn't initialized. Printed `f`.
+    /// A handler was set, and the log wasn't initialized. Printed as `f`.
     NotLogging,
-    /// One event was recorded. Printed `+`.
+    /// One event was recorded. Printed as `+`.
     Recorded,
 }
 
@@ -26,7 +26,7 @@ impl Mark {
         matches!(self, Mark::Recorded)
     }
 
-    /// The two bits that it is kept in.
+    /// The two bits that stand for the mark.
     pub(crate) fn bits(self) -> u8
         ensures small { result < 4 }
         ensures mark { mark_of result ≡ self }
@@ -34,7 +34,7 @@ impl Mark {
         self as u8
     }
 
-    /// The mark that two bits are kept for.
+    /// The mark that these two bits stand for.
     pub(crate) fn from_bits(bits: u8) -> Mark
         requires { bits < 4 }
         ensures { result ≡ mark_of bits }

@@ -9,7 +9,7 @@ use std::alloc::Global;
 use std::marker::Model;
 use xray_io::NoMemory;
 
-/// How many marks a byte has.
+/// How many marks fit a byte.
 const MARKS_IN_BYTE: u32 = 4;
 
 /// How many bits a mark has.
@@ -18,17 +18,17 @@ const BITS_OF_MARK: u32 = 2;
 /// The bits of the first mark of a byte.
 const FIRST_MARK: u8 = 0b11;
 
-/// The marks of a thread's passings, the first first: two bits each, in room that is taken when it is
-/// made. No other call takes memory.
+/// The marks of a thread's passings, in the order of the passings. There is room for a fixed number
+/// of them.
 #[derive(Debug, Drop)]
 pub struct Marks {
-    /// Four marks a byte, the first in its lowest bits.
+    /// Four marks per byte. The first is in the lowest bits.
     bytes: Vec<u8>,
     /// How many marks there are.
     len: u32,
     /// How many of them are `Recorded`.
     recorded: u32,
-    /// How many marks there may be.
+    /// The most marks that there may be.
     room: u32,
 }
 
@@ -45,7 +45,7 @@ impl Model for Marks {
 }
 
 impl Marks {
-    /// No marks yet, with room for so many. `NoMemory` comes where an allocation was refused.
+    /// No marks yet, with room for `room` of them. `NoMemory` means that an allocation was refused.
     pub fn new(alloc: Global, room: u32) -> Result<Marks, NoMemory>
         ensures { IfOk result (λ marks. marks ≡ record { items = []; room = room }) }
     {
@@ -57,7 +57,8 @@ impl Marks {
         })
     }
 
-    /// Adds a mark behind the others. There has to be room for it: `is_full` tells.
+    /// Adds a mark after the others. There has to be room for it: `is_full` says whether there is
+    /// none.
     pub fn add(&mut self, mark: Mark)
         requires { length self.old.items < self.old.room }
         ensures items { self.new.items ≡ self.old.items ++ mark ∷ [] }
@@ -83,14 +84,14 @@ impl Marks {
         self.len == 0
     }
 
-    /// Whether there is no room for another one.
+    /// Whether there is no room for another mark.
     pub fn is_full(&self) -> bool
         ensures { IsTrue result ↔ (self.now.room ≤ length self.now.items) }
     {
         self.len == self.room
     }
 
-    /// The mark of a passing, counted from 0.
+    /// The mark of this passing, counted from 0.
     pub fn get(&self, n: u32) -> Mark
         requires { n < length self.now.items }
         ensures { slice_get self.now.items n ≡ Some result }
@@ -99,7 +100,7 @@ impl Marks {
         Mark::from_bits((byte >> (n % MARKS_IN_BYTE * BITS_OF_MARK)) & FIRST_MARK)
     }
 
-    /// How many of the marks are `Recorded`. It is counted as they come.
+    /// How many of the marks are `Recorded`.
     pub fn recorded(&self) -> u32
         ensures { result ≡ recorded_count self.now.items }
     {
@@ -107,7 +108,7 @@ impl Marks {
     }
 }
 
-/// Puts the bits of a mark behind those of so many marks.
+/// Puts the bits of a mark after those of `marks` marks.
 fn put_bits(bytes: &mut Vec<u8>, marks: u32, bits: u8)
     requires filled { IsFilledTo bytes.old.items marks }
     requires room { marks / MARKS_IN_BYTE < vec_capacity bytes.old }

@@ -1,4 +1,4 @@
-//! The text of marks: each run of equal marks as its character and its length.
+//! The text of marks. Each run of equal marks is printed as its character and its length.
 
 ghost use Rattle.std.specs.Prelude.{◌≡◌, ◌<◌, ◌≤◌, ◌+◌, [], ◌∷◌, ◌++◌, length, drop};
 ghost use Rattle.handler_word.specs.Runs.{mark_byte, runs_of, run_text, runs_text};
@@ -8,10 +8,10 @@ ghost use Rattle.xray_io.specs.Writes.{WritesText};
 use crate::{Mark, Marks};
 use xray_io::{Piece, Sink, Text, WriteFault};
 
-/// Writes the runs of marks, as `.3 n1 +20`: each longest run of equal marks as its character and its
-/// length, a space between them, or `-` for no marks. Takes no memory.
+/// Writes the runs of marks, as `.3 n1 +20`. Each longest run of equal marks is its character and
+/// its length, and there is a space between runs. The text is `-` if there are no marks.
 ///
-/// On `WriteFault` a front of the text was written, and the sink counted a fault.
+/// On `WriteFault` a prefix of the text was written, and the sink counted a fault.
 pub fn write_runs<S: Sink>(marks: &Marks, sink: &mut S) -> Result<(), WriteFault>
     ensures { WritesText S.written S.faults S.along sink.old sink.new
         (runs_text marks.now.items) result }
@@ -21,7 +21,7 @@ pub fn write_runs<S: Sink>(marks: &Marks, sink: &mut S) -> Result<(), WriteFault
     text.done()
 }
 
-/// Adds the runs of marks to a text, as `write_runs` writes them, for one that has more to say.
+/// Adds the runs of marks to a text that may say more. They look as `write_runs` writes them.
 pub fn add_runs<S: Sink>(text: &mut Text<S>, marks: &Marks) -> Result<(), WriteFault>
     ensures { AddsText S.written S.faults S.along text.old text.new
         (runs_text marks.now.items) result }
@@ -40,14 +40,14 @@ pub fn add_runs<S: Sink>(text: &mut Text<S>, marks: &Marks) -> Result<(), WriteF
     Ok(())
 }
 
-/// A run of equal marks, and how many they are.
+/// A run of equal marks, and its length.
 #[derive(Clone, Copy)]
 struct Run {
     mark: Mark,
     length: u32,
 }
 
-/// The longest run that begins with the mark of a number.
+/// The longest run that begins with the mark of this number.
 fn run_at(marks: &Marks, start: u32) -> Run
     requires { start < length marks.now.items }
     ensures run { runs_of (drop start marks.now.items)
@@ -67,7 +67,7 @@ fn run_at(marks: &Marks, start: u32) -> Run
     }
 }
 
-/// Adds a run, and what stands before it.
+/// Adds a run, with `before` before it.
 fn add_run<S: Sink>(text: &mut Text<S>, before: &'static [u8], run: Run) -> Result<(), WriteFault>
     ensures { AddsText S.written S.faults S.along text.old text.new
         (before.now ++ run_text (run.mark, run.length)) result }
@@ -79,7 +79,7 @@ fn add_run<S: Sink>(text: &mut Text<S>, before: &'static [u8], run: Run) -> Resu
     ])
 }
 
-/// How a mark is printed.
+/// The character of a mark.
 fn mark_symbol(mark: Mark) -> &'static [u8]
     ensures { result.now ≡ mark_byte mark ∷ [] }
 {

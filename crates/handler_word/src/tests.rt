@@ -6,7 +6,7 @@ use std::process::Abort;
 use std::test::Fail;
 use xray_io::{MemSink, Text, WriteFault};
 
-/// The mark that a character stands for in the rows below.
+/// The mark of a character in the rows below.
 fn mark_of(symbol: u8) -> Mark {
     match symbol {
         b'.' => Mark::Skipped,
@@ -16,7 +16,7 @@ fn mark_of(symbol: u8) -> Mark {
     }
 }
 
-/// Marks one by one, in room for exactly so many.
+/// These marks, added one by one, in room for just as many.
 fn marks_of(rt: &impl Abort, alloc: Global, symbols: &[u8]) -> Result<Marks, Fail> {
     assert!(rt; symbols.len() < 100);
     let mut marks = Marks::new(alloc, symbols.len() as u32)?;

@@ -12,7 +12,6 @@ use Rattle.machine_step.specs.Inside.{traced, want_at, IsSound, StandsSo}
 use Rattle.machine_step.specs.Loads.{Load, next_from}
 use Rattle.machine_step.specs.Machine.{state_at, first_machine, IsWithin}
 use Rattle.machine_step.specs.Standing.{RunsBy}
-use Rattle.machine_step.specs.Steps.{AreStepsOf}
 use Rattle.machine_step.specs.Traced.{HasLoaded, IsFresh, IsLoad, sleds_of, wanted_behind}
 use Rattle.machine_step.proofs.Accepted.{are_in_order}
 use Rattle.machine_step.proofs.Giving.{IsBetween, is_between, wants_at}
@@ -23,8 +22,7 @@ use Rattle.machine_step.proofs.ToSled.{at_passing}
 -- its fields before the first load
 pub record Begun (a : Inside) : Type 0 where
   pub bytes : List ℕ
-  pub accepted : IsAccepted bytes a.image.now
-  pub steps : AreStepsOf a.image.now a.steps.all.items
+  pub accepted : IsAccepted bytes a.steps.now
   pub within : IsWithin a.limits a.machine
   pub cpus : 0 < a.limits.cpus
   pub migrate : 0 < a.limits.migrate
@@ -33,13 +31,13 @@ pub record Begun (a : Inside) : Type 0 where
   pub few : a.threads ≤ 16
   pub room : a.marks.room ≡ a.limits.passings
   pub unmarked : a.marks.items ≡ []
-  pub runs : RunsBy a.image.now a.limits a.thread a.image.now.entry (first_machine a.thread) [] a.stand a.machine
+  pub runs : RunsBy a.steps.now a.limits a.thread a.steps.now.entry (first_machine a.thread) [] a.stand a.machine
 
 stands_begun : (a : Inside) → Begun a → (stand : Stand)
-    → RunsBy a.image.now a.limits a.thread a.image.now.entry (first_machine a.thread) [] stand a.machine
+    → RunsBy a.steps.now a.limits a.thread a.steps.now.entry (first_machine a.thread) [] stand a.machine
     → StandsSo a stand × (a.machine.passings ≡ 0)
 stands_begun a begun (Gate place k) (there, at, (n, reached)) =
-    let program = a.image.now in
+    let program = a.steps.now in
     let count : a.machine.passings ≡ 0 + 0 = way_count program a.limits a.thread n (opening program a.thread) (state_at there a.machine) [] reached in
     let next = at_passing program (are_in_order begun.bytes program begun.accepted) a.limits a.thread there place k a.machine at.step begun.within
     at.placed at.is_step at.due in (
@@ -55,7 +53,7 @@ stands_begun a begun (Gate place k) (there, at, (n, reached)) =
     )
 stands_begun a begun (Loading place k at) run = absurd run
 stands_begun a begun (Ended end) (there, (n, run)) =
-    let program = a.image.now in
+    let program = a.steps.now in
     let count : a.machine.passings ≡ 0 + 0 = run_count program a.limits a.thread n (opening program a.thread) (state_at there a.machine) [] end run in
     (record { address = there; passed = []; count = omega arith; run = (n, run) }, omega arith)
 
@@ -66,7 +64,6 @@ sound_begun a begun =
     record {
       bytes = begun.bytes;
       accepted = begun.accepted;
-      steps = begun.steps;
       within = begun.within;
       cpus = begun.cpus;
       migrate = begun.migrate;
@@ -86,14 +83,14 @@ no_load program thread made (Ended end) between load = load
 pub fresh_begun : (a : Inside) → Begun a → IsFresh (traced a)
 fresh_begun a begun = record {
   no_marks = begun.unmarked;
-  no_load = no_load a.image.now a.thread a.machine.passings a.stand
-      (is_between a.image.now a.limits a.thread a.image.now.entry (first_machine a.thread) a.machine [] a.stand begun.runs);
+  no_load = no_load a.steps.now a.thread a.machine.passings a.stand
+      (is_between a.steps.now a.limits a.thread a.steps.now.entry (first_machine a.thread) a.machine [] a.stand begun.runs);
 }
 
 all_none : {X : Type 0} (P : X → Type 0) → All P []
 all_none P k d below = absurd (omega arith)
 
-pub loads_begun : (a : Inside) → Begun a → (all : List Passing) (end : End) (last : State) → PlainRun a.image.now a.limits a.thread all end last
+pub loads_begun : (a : Inside) → Begun a → (all : List Passing) (end : End) (last : State) → PlainRun a.steps.now a.limits a.thread all end last
     → HasLoaded (traced a) all []
 loads_begun a begun all end last run =
     let sound = sound_begun a begun in
@@ -103,10 +100,10 @@ loads_begun a begun all end last run =
       last = last;
       run = run;
       wanted = λ i load found. absurd cc;
-      allowed = all_none (λ (load : Load). IsAllowed a.image.now a.thread load.word load.value);
-      marks = begun.unmarked ∙ sym (no_marks a.image.now a.thread a.hold 0 (sleds_of all));
+      allowed = all_none (λ (load : Load). IsAllowed a.steps.now a.thread load.word load.value);
+      marks = begun.unmarked ∙ sym (no_marks a.steps.now a.thread a.hold 0 (sleds_of all));
       wants = wants_at a sound [] all all end last (wanted_behind (traced a) all []) run refl none
-          (ap (λ n. next_from a.image.now a.thread a.hold n (sleds_of all) []) (sym none))
+          (ap (λ n. next_from a.steps.now a.thread a.hold n (sleds_of all) []) (sym none))
           a.stand sound.stands
-          (is_between a.image.now a.limits a.thread a.image.now.entry (first_machine a.thread) a.machine [] a.stand begun.runs);
+          (is_between a.steps.now a.limits a.thread a.steps.now.entry (first_machine a.thread) a.machine [] a.stand begun.runs);
     }

@@ -31,14 +31,14 @@ use Rattle.machine_step.proofs.Tracing.{before_of}
 
 -- the value is allowed of the word of its stage
 allowed_here : (a : Inside) (place k : ℕ) (at_stage : Stage) (value : ℕ) → a.stand ≡ Loading place k at_stage → Allows (traced a) (traced a).want value
-    → IsAllowed a.image.now a.thread (word_at a.image.now a.thread k at_stage) value
+    → IsAllowed a.steps.now a.thread (word_at a.steps.now a.thread k at_stage) value
 allowed_here a place k at_stage value is allows =
-    subst (λ (s : Stand). Allows (traced a) (want_at a.image.now a.thread a.machine.passings s) value) is allows
+    subst (λ (s : Stand). Allows (traced a) (want_at a.steps.now a.thread a.machine.passings s) value) is allows
 
 load_here : (a : Inside) (place k : ℕ) (at_stage : Stage) (value : ℕ) → a.stand ≡ Loading place k at_stage
-    → load_of (want_at a.image.now a.thread a.machine.passings (Loading place k at_stage)) value ≡ load_of (traced a).want value
+    → load_of (want_at a.steps.now a.thread a.machine.passings (Loading place k at_stage)) value ≡ load_of (traced a).want value
 load_here a place k at_stage value is =
-    ap (λ (s : Stand). load_of (want_at a.image.now a.thread a.machine.passings s) value) (sym is)
+    ap (λ (s : Stand). load_of (want_at a.steps.now a.thread a.machine.passings s) value) (sym is)
 
 pub clause_goes_on : (a : Inside) → IsSound a → (place k : ℕ) (at_stage next : Stage) (value : ℕ) → a.stand ≡ Loading place k at_stage
     → behind_load at_stage value ≡ Loads next → Allows (traced a) (traced a).want value
@@ -60,7 +60,7 @@ clause_ends a sound place k at_stage value is mark behind allows m ms stand at e
 -- the passing ended so
 pub ending_of : (a : Inside) (place k : ℕ) (at : IsAtPassing a place k) (m : Machine) (ms : MarkList) (stand : Stand) (mark : Mark)
     → IsWithin a.limits m → ms.items ≡ a.marks.items ++ mark ∷ [] → ms.room ≡ a.marks.room
-    → ((address j : ℕ) → IsAtSled a.image.now a.limits address place j a.machine → PassesTo a.image.now a.limits address a.machine stand m)
+    → ((address j : ℕ) → IsAtSled a.steps.now a.limits address place j a.machine → PassesTo a.steps.now a.limits address a.machine stand m)
     → Ending a m ms stand at.address mark
 ending_of a place k at m ms stand mark within items room passes =
     let passing = passes at.address k at.at a.thread in
@@ -69,13 +69,13 @@ ending_of a place k at m ms stand mark within items room passes =
 pub between_of : (a : Inside) (place k : ℕ) (at : IsAtPassing a place k) (m : Machine) (ms : MarkList) (stand : Stand) (mark : Mark)
     → Ending a m ms stand at.address mark → IsBetween stand
 between_of a place k at m ms stand mark ending =
-    is_between a.image.now a.limits a.thread at.address a.machine m (ending.made ∷ []) stand ending.runs
+    is_between a.steps.now a.limits a.thread at.address a.machine m (ending.made ∷ []) stand ending.runs
 
 -- the events with that of the passing
 pub clause_events : (a : Inside) → IsSound a → (place k : ℕ) → IsAtPassing a place k → (ms : List Mark) (mark : Mark) (answer : Option Event) (sled : Sled)
-    → ms ≡ a.marks.items ++ mark ∷ [] → slice_get a.image.now.sleds k ≡ Some sled
+    → ms ≡ a.marks.items ++ mark ∷ [] → slice_get a.steps.now.sleds k ≡ Some sled
     → ((address j : ℕ) → answer ≡ (if is_recorded mark then Some (event_of (passing_at a.limits a.thread (state_at address a.machine) j sled)) else None))
-    → (all : List Passing) (end : End) (last : State) → PlainRun a.image.now a.limits a.thread all end last
+    → (all : List Passing) (end : End) (last : State) → PlainRun a.steps.now a.limits a.thread all end last
     → recorded all ms ≡ recorded all a.marks.items ++ events_in answer
 clause_events a sound place k at ms mark answer sled more found answered =
     let before = before_of a sound place k at in

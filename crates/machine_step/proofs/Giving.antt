@@ -39,14 +39,14 @@ use Rattle.machine_step.proofs.WordsAt.{same_stage}
 pub record LoadsHere (a : Inside) (k : ℕ) (at_stage : Stage) (passed : List Passing) (next : Passing) (all : List Passing) (loads : List Load) : Type 0 where
   pub later : List Passing
   pub goes_on : all ≡ passed ++ next ∷ later
-  pub adds : (load : Load) → Adds a.image.now a.thread a.hold 0 k (sleds_of later) a.marks.items
-      (marks_of a.image.now a.thread a.hold (sleds_of all) (loads ++ load ∷ []))
+  pub adds : (load : Load) → Adds a.steps.now a.thread a.hold 0 k (sleds_of later) a.marks.items
+      (marks_of a.steps.now a.thread a.hold (sleds_of all) (loads ++ load ∷ []))
       (wanted_behind (traced a) all (loads ++ load ∷ [])) (behind_load at_stage load.value)
 
 wanted_word : (a : Inside) (place k : ℕ) (at_stage : Stage) → a.stand ≡ Loading place k at_stage → (all : List Passing) (loads : List Load)
-    → (has : HasLoaded (traced a) all loads) → wanted_behind (traced a) all loads ≡ Some (word_at a.image.now a.thread k at_stage)
+    → (has : HasLoaded (traced a) all loads) → wanted_behind (traced a) all loads ≡ Some (word_at a.steps.now a.thread k at_stage)
 wanted_word a place k at_stage is all loads has =
-    subst (λ (s : Stand). IsWant (traced a) all (wanted_behind (traced a) all loads) has.end (want_at a.image.now a.thread a.machine.passings s)) is has.wants
+    subst (λ (s : Stand). IsWant (traced a) all (wanted_behind (traced a) all loads) has.end (want_at a.steps.now a.thread a.machine.passings s)) is has.wants
 
 pub loads_here : (a : Inside) → IsSound a → (place k : ℕ) (at_stage : Stage) → a.stand ≡ Loading place k at_stage → (at : IsAtPassing a place k)
     → (all : List Passing) (loads : List Load) → HasLoaded (traced a) all loads
@@ -54,26 +54,26 @@ pub loads_here : (a : Inside) → IsSound a → (place k : ℕ) (at_stage : Stag
 loads_here a sound place k at_stage is at all loads has =
     let before = before_of a sound place k at in
     let on = goes_on_by a sound place k at all has.end has.last has.run in
-    let here = in_passing a.image.now a.thread a.hold 0 (sleds_of all) loads (word_at a.image.now a.thread k at_stage) (wanted_word a place k at_stage is all loads has) in
-    let within = slice_get_within a.image.now.sleds k before.sled before.found in
+    let here = in_passing a.steps.now a.thread a.hold 0 (sleds_of all) loads (word_at a.steps.now a.thread k at_stage) (wanted_word a place k at_stage is all loads has) in
+    let within = slice_get_within a.steps.now.sleds k before.sled before.found in
     let next_sled : at.next.sled ≡ k = ap (λ (p : Passing). p.sled) before.next_is in
     let long : length here.before ≡ length (sleds_of at.passed) =
     here.count ∙ (sym (ap length has.marks) ∙ (sound.made ∙ (sym at.count ∙ sym (sleds_length at.passed)))) in
     let split = same_split here.before (sleds_of at.passed) here.sled at.next.sled here.rest (sleds_of on.later) long
     (sym here.passed ∙ (ap sleds_of on.is ∙ sleds_split at.passed at.next on.later)) in
     let sled : here.sled ≡ k = split.0 ∙ next_sled in
-    let same : at_stage ≡ here.at = same_stage a.image.now a.thread k at_stage here.at within sound.some_thread
-    (here.word_is ∙ ap (λ j. word_at a.image.now a.thread j here.at) sled) in
+    let same : at_stage ≡ here.at = same_stage a.steps.now a.thread k at_stage here.at within sound.some_thread
+    (here.word_is ∙ ap (λ j. word_at a.steps.now a.thread j here.at) sled) in
     record {
       later = on.later;
       goes_on = on.is;
       adds = λ load.
-          let all_marks = marks_of a.image.now a.thread a.hold (sleds_of all) (loads ++ load ∷ []) in
+          let all_marks = marks_of a.steps.now a.thread a.hold (sleds_of all) (loads ++ load ∷ []) in
           let wanted = wanted_behind (traced a) all (loads ++ load ∷ []) in
-          subst (λ (s : Stage). Adds a.image.now a.thread a.hold 0 k (sleds_of on.later) a.marks.items all_marks wanted (behind_load s load.value)) (sym same)
-          (subst (λ j. Adds a.image.now a.thread a.hold 0 j (sleds_of on.later) a.marks.items all_marks wanted (behind_load here.at load.value)) sled
-          (subst (λ (ks : List ℕ). Adds a.image.now a.thread a.hold 0 here.sled ks a.marks.items all_marks wanted (behind_load here.at load.value)) split.1
-          (subst (λ (ms : List Mark). Adds a.image.now a.thread a.hold 0 here.sled here.rest ms all_marks wanted (behind_load here.at load.value)) (sym has.marks)
+          subst (λ (s : Stage). Adds a.steps.now a.thread a.hold 0 k (sleds_of on.later) a.marks.items all_marks wanted (behind_load s load.value)) (sym same)
+          (subst (λ j. Adds a.steps.now a.thread a.hold 0 j (sleds_of on.later) a.marks.items all_marks wanted (behind_load here.at load.value)) sled
+          (subst (λ (ks : List ℕ). Adds a.steps.now a.thread a.hold 0 here.sled ks a.marks.items all_marks wanted (behind_load here.at load.value)) split.1
+          (subst (λ (ms : List Mark). Adds a.steps.now a.thread a.hold 0 here.sled here.rest ms all_marks wanted (behind_load here.at load.value)) (sym has.marks)
           (here.adds load))));
     }
 
@@ -117,21 +117,21 @@ allowed_more program thread loads load allowed is =
 -- ---- a passing that goes on
 
 pub goes_on_loads : (a : Inside) → IsSound a → (place k : ℕ) (at_stage next : Stage) (value : ℕ) → a.stand ≡ Loading place k at_stage
-    → behind_load at_stage value ≡ Loads next → IsAllowed a.image.now a.thread (word_at a.image.now a.thread k at_stage) value
+    → behind_load at_stage value ≡ Loads next → IsAllowed a.steps.now a.thread (word_at a.steps.now a.thread k at_stage) value
     → (all : List Passing) (loads : List Load) → HasLoaded (traced a) all loads
-    → HasLoaded (traced (standing a (Loading place k next))) all (loads ++ record { word = word_at a.image.now a.thread k at_stage; value = value } ∷ [])
+    → HasLoaded (traced (standing a (Loading place k next))) all (loads ++ record { word = word_at a.steps.now a.thread k at_stage; value = value } ∷ [])
 goes_on_loads a sound place k at_stage next value is behind allowed all loads has =
     let at = loading_at a sound place k at_stage is in
-    let load : Load = record { word = word_at a.image.now a.thread k at_stage; value = value } in
+    let load : Load = record { word = word_at a.steps.now a.thread k at_stage; value = value } in
     let here = loads_here a sound place k at_stage is at all loads has in
-    let adds = subst (λ (n : Next). Adds a.image.now a.thread a.hold 0 k (sleds_of here.later) a.marks.items
-    (marks_of a.image.now a.thread a.hold (sleds_of all) (loads ++ load ∷ [])) (wanted_behind (traced a) all (loads ++ load ∷ [])) n) behind (here.adds load) in
+    let adds = subst (λ (n : Next). Adds a.steps.now a.thread a.hold 0 k (sleds_of here.later) a.marks.items
+    (marks_of a.steps.now a.thread a.hold (sleds_of all) (loads ++ load ∷ [])) (wanted_behind (traced a) all (loads ++ load ∷ [])) n) behind (here.adds load) in
     record {
       end = has.end;
       last = has.last;
       run = has.run;
       wanted = wanted_more (traced a) all loads load has.wanted (wanted_word a place k at_stage is all loads has);
-      allowed = allowed_more a.image.now a.thread loads load has.allowed allowed;
+      allowed = allowed_more a.steps.now a.thread loads load has.allowed allowed;
       marks = sym adds.0;
       wants = adds.1;
     }
@@ -148,13 +148,13 @@ pub record Ending (a : Inside) (m : Machine) (ms : MarkList) (stand : Stand) (ad
   pub items : ms.items ≡ a.marks.items ++ mark ∷ []
   pub room : ms.room ≡ a.marks.room
   pub made : Passing
-  pub runs : RunsBy a.image.now a.limits a.thread address a.machine (made ∷ []) stand m
+  pub runs : RunsBy a.steps.now a.limits a.thread address a.machine (made ∷ []) stand m
 
 stands_behind : (a : Inside) → IsSound a → (place k : ℕ) (at : IsAtPassing a place k) (m : Machine) (ms : MarkList) (made : Passing)
-    → IsWithin a.limits m → (whole stand : Stand) → RunsBy a.image.now a.limits a.thread at.address a.machine (made ∷ []) stand m
+    → IsWithin a.limits m → (whole stand : Stand) → RunsBy a.steps.now a.limits a.thread at.address a.machine (made ∷ []) stand m
     → StandsSo (passed_on a m ms whole) stand × (m.passings ≡ a.machine.passings + 1)
 stands_behind a sound place k at m ms made within whole (Gate place' k') (there, at', (n, reached)) =
-    let program = a.image.now in
+    let program = a.steps.now in
     let way = reaches_behind program a.limits a.thread at.comes.steps n (opening program a.thread) (state_at at.address a.machine) (state_at there m)
     at.passed (made ∷ []) at.comes.reached reached in
     let count : m.passings ≡ 0 + length (at.passed ++ made ∷ []) =
@@ -174,7 +174,7 @@ stands_behind a sound place k at m ms made within whole (Gate place' k') (there,
     )
 stands_behind a sound place k at m ms made within whole (Loading place' k' at_stage) run = absurd run
 stands_behind a sound place k at m ms made within whole (Ended end) (there, (n, run)) =
-    let program = a.image.now in
+    let program = a.steps.now in
     let way = runs_behind program a.limits a.thread at.comes.steps n (opening program a.thread) (state_at at.address a.machine) (state_at there m)
     at.passed (made ∷ []) end at.comes.reached run in
     let count : m.passings ≡ 0 + length (at.passed ++ made ∷ []) =
@@ -197,7 +197,6 @@ sound_behind a sound place k at m ms stand mark ending =
     record {
       bytes = sound.bytes;
       accepted = sound.accepted;
-      steps = sound.steps;
       within = ending.within;
       cpus = sound.cpus;
       migrate = sound.migrate;
@@ -235,10 +234,10 @@ is_between program limits thread address before after passed (Ended end) run = t
 
 -- what it wants behind these passings
 pub wants_at : (b : Inside) → IsSound b → (passed rest all : List Passing) (end : End) (last : State) (wanted : Option ℕ)
-    → PlainRun b.image.now b.limits b.thread all end last → all ≡ passed ++ rest → length b.marks.items ≡ length passed
-    → wanted ≡ next_from b.image.now b.thread b.hold (length b.marks.items) (sleds_of rest) []
+    → PlainRun b.steps.now b.limits b.thread all end last → all ≡ passed ++ rest → length b.marks.items ≡ length passed
+    → wanted ≡ next_from b.steps.now b.thread b.hold (length b.marks.items) (sleds_of rest) []
     → (stand : Stand) → StandsSo b stand → IsBetween stand
-    → IsWant (traced b) all wanted end (want_at b.image.now b.thread b.machine.passings stand)
+    → IsWant (traced b) all wanted end (want_at b.steps.now b.thread b.machine.passings stand)
 wants_at b sound passed rest all end last wanted run is long wants (Gate place k) at between =
     let on = goes_on_by b sound place k at all end last run in
     let here : length b.marks.items ≡ length at.passed = sound.made ∙ sym at.count in
@@ -248,33 +247,33 @@ wants_at b sound passed rest all end last wanted run is long wants (Gate place k
         passing = at.next;
         found = ap (slice_get all) here ∙ (ap (λ (ps : List Passing). slice_get ps (length at.passed)) on.is ∙ found_behind at.passed at.next on.later);
         first = wants
-            ∙ (ap (λ (ps : List Passing). next_from b.image.now b.thread b.hold (length b.marks.items) (sleds_of ps) []) rest_is
-            ∙ (first_next b.image.now b.thread b.hold (length b.marks.items) at.next.sled (sleds_of on.later)
-            ∙ (ap (λ n. Some (word_at b.image.now b.thread at.next.sled (first_stage b.hold n))) sound.made
+            ∙ (ap (λ (ps : List Passing). next_from b.steps.now b.thread b.hold (length b.marks.items) (sleds_of ps) []) rest_is
+            ∙ (first_next b.steps.now b.thread b.hold (length b.marks.items) at.next.sled (sleds_of on.later)
+            ∙ (ap (λ n. Some (word_at b.steps.now b.thread at.next.sled (first_stage b.hold n))) sound.made
             ∙ sym (ap Some (first_word_is b sound at.next.sled)))));
       },
     )
 wants_at b sound passed rest all end last wanted run is long wants (Loading place k at) so between = absurd between
 wants_at b sound passed rest all end last wanted run is long wants (Ended e) past between =
-    let same = same_run b.image.now (accepted_units sound.bytes b.image.now sound.accepted) b.limits b.thread run.0 past.run.0
-    (opening b.image.now b.thread) all past.passed end e last (state_at past.address b.machine) run.1 past.run.1 in
+    let same = same_run b.steps.now (accepted_units sound.bytes b.steps.now sound.accepted) b.limits b.thread run.0 past.run.0
+    (opening b.steps.now b.thread) all past.passed end e last (state_at past.address b.machine) run.1 past.run.1 in
     let count : length all ≡ length passed = ap length same.passings ∙ (past.count ∙ (sym sound.made ∙ long)) in
     let both : length all ≡ length passed + length rest = ap length is ∙ length-append passed rest in
     let none : rest ≡ [] = no_more rest (omega arith) in (
-      wants ∙ ap (λ (ps : List Passing). next_from b.image.now b.thread b.hold (length b.marks.items) (sleds_of ps) []) none,
+      wants ∙ ap (λ (ps : List Passing). next_from b.steps.now b.thread b.hold (length b.marks.items) (sleds_of ps) []) none,
       sym same.ends,
     )
 
 pub ends_loads : (a : Inside) → IsSound a → (place k : ℕ) (at_stage : Stage) (value : ℕ) (is : a.stand ≡ Loading place k at_stage) (mark : Mark)
-    → behind_load at_stage value ≡ Ends mark → IsAllowed a.image.now a.thread (word_at a.image.now a.thread k at_stage) value
+    → behind_load at_stage value ≡ Ends mark → IsAllowed a.steps.now a.thread (word_at a.steps.now a.thread k at_stage) value
     → (m : Machine) (ms : MarkList) (stand : Stand) → (at : IsAtPassing a place k) → Ending a m ms stand at.address mark
     → (all : List Passing) (loads : List Load) → HasLoaded (traced a) all loads
-    → HasLoaded (traced (passed_on a m ms stand)) all (loads ++ record { word = word_at a.image.now a.thread k at_stage; value = value } ∷ [])
+    → HasLoaded (traced (passed_on a m ms stand)) all (loads ++ record { word = word_at a.steps.now a.thread k at_stage; value = value } ∷ [])
 ends_loads a sound place k at_stage value is mark behind allowed m ms stand at ending all loads has =
-    let load : Load = record { word = word_at a.image.now a.thread k at_stage; value = value } in
+    let load : Load = record { word = word_at a.steps.now a.thread k at_stage; value = value } in
     let here = loads_here a sound place k at_stage is at all loads has in
-    let adds = subst (λ (n : Next). Adds a.image.now a.thread a.hold 0 k (sleds_of here.later) a.marks.items
-    (marks_of a.image.now a.thread a.hold (sleds_of all) (loads ++ load ∷ [])) (wanted_behind (traced a) all (loads ++ load ∷ [])) n) behind (here.adds load) in
+    let adds = subst (λ (n : Next). Adds a.steps.now a.thread a.hold 0 k (sleds_of here.later) a.marks.items
+    (marks_of a.steps.now a.thread a.hold (sleds_of all) (loads ++ load ∷ [])) (wanted_behind (traced a) all (loads ++ load ∷ [])) n) behind (here.adds load) in
     let after = sound_behind a sound place k at m ms stand mark ending in
     let long : length ms.items ≡ length a.marks.items + 1 = ap length ending.items ∙ length-append a.marks.items (mark ∷ []) in
     let here_long : length a.marks.items ≡ length at.passed = sound.made ∙ sym at.count in
@@ -285,11 +284,11 @@ ends_loads a sound place k at_stage value is mark behind allowed m ms stand at e
       last = has.last;
       run = has.run;
       wanted = wanted_more (traced a) all loads load has.wanted (wanted_word a place k at_stage is all loads has);
-      allowed = allowed_more a.image.now a.thread loads load has.allowed allowed;
+      allowed = allowed_more a.steps.now a.thread loads load has.allowed allowed;
       marks = ending.items ∙ sym adds.0;
       wants = wants_at (passed_on a m ms stand) after (at.passed ++ at.next ∷ []) here.later all has.end has.last
           (wanted_behind (traced a) all (loads ++ load ∷ [])) has.run
           (here.goes_on ∙ sym (append_assoc at.passed (at.next ∷ []) here.later)) (omega arith)
-          (adds.1 ∙ ap (λ n. next_from a.image.now a.thread a.hold n (sleds_of here.later) []) number)
-          stand after.stands (is_between a.image.now a.limits a.thread at.address a.machine m (ending.made ∷ []) stand ending.runs);
+          (adds.1 ∙ ap (λ n. next_from a.steps.now a.thread a.hold n (sleds_of here.later) []) number)
+          stand after.stands (is_between a.steps.now a.limits a.thread at.address a.machine m (ending.made ∷ []) stand ending.runs);
     }

@@ -71,19 +71,19 @@ recorded_at value mark two is =
 
 -- the stage of the state word
 at_state : (a : Inside) → IsSound a → (place k : ℕ) (at_stage : Stage) → a.stand ≡ Loading place k at_stage
-    → (traced a).want ≡ wants.Load (state_word a.image.now) → at_stage ≡ stages.State
+    → (traced a).want ≡ wants.Load (state_word a.steps.now) → at_stage ≡ stages.State
 at_state a sound place k at_stage is wanted =
     let before = before_of a sound place k (loading_at a sound place k at_stage is) in
-    let within = slice_get_within a.image.now.sleds k before.sled before.found in
-    let by_stand : want_at a.image.now a.thread a.machine.passings (Loading place k at_stage) ≡ wants.Load (state_word a.image.now) =
-    ap (want_at a.image.now a.thread a.machine.passings) (sym is) ∙ wanted in
-    let words : word_at a.image.now a.thread k at_stage ≡ state_word a.image.now = cc in
-    same_stage a.image.now a.thread k at_stage stages.State within sound.some_thread words
+    let within = slice_get_within a.steps.now.sleds k before.sled before.found in
+    let by_stand : want_at a.steps.now a.thread a.machine.passings (Loading place k at_stage) ≡ wants.Load (state_word a.steps.now) =
+    ap (want_at a.steps.now a.thread a.machine.passings) (sym is) ∙ wanted in
+    let words : word_at a.steps.now a.thread k at_stage ≡ state_word a.steps.now = cc in
+    same_stage a.steps.now a.thread k at_stage stages.State within sound.some_thread words
 
 wants_state : (a : Inside) (place k : ℕ) (at_stage : Stage) → a.stand ≡ Loading place k at_stage → at_stage ≡ stages.State
-    → (traced a).want ≡ wants.Load (state_word a.image.now)
+    → (traced a).want ≡ wants.Load (state_word a.steps.now)
 wants_state a place k at_stage is same =
-    ap (want_at a.image.now a.thread a.machine.passings) (is ∙ ap (Loading place k) same)
+    ap (want_at a.steps.now a.thread a.machine.passings) (is ∙ ap (Loading place k) same)
 
 some_if : (b : Bool) (event : Event) → IsSome (if b then Some event else None) → b ≡ true
 some_if true event is = refl
@@ -91,7 +91,7 @@ some_if false event is = absurd cc
 
 pub some_at_end : (a : Inside) → IsSound a → (place k : ℕ) (at_stage : Stage) (value : ℕ) (mark : Mark) (event : Event) (answer : Option Event)
     → a.stand ≡ Loading place k at_stage → behind_load at_stage value ≡ Ends mark → answer ≡ (if is_recorded mark then Some event else None)
-    → IsSome answer ↔ ((traced a).want ≡ wants.Load (state_word a.image.now)) × (value ≡ 2)
+    → IsSome answer ↔ ((traced a).want ≡ wants.Load (state_word a.steps.now)) × (value ≡ 2)
 some_at_end a sound place k at_stage value mark event answer is behind answered = (
   λ some.
       let here = recorded_behind at_stage value mark behind
@@ -105,7 +105,7 @@ some_at_end a sound place k at_stage value mark event answer is behind answered 
 
 pub some_goes_on : (a : Inside) → IsSound a → (place k : ℕ) (at_stage next : Stage) (value : ℕ) (answer : Option Event)
     → a.stand ≡ Loading place k at_stage → behind_load at_stage value ≡ Loads next → answer ≡ None
-    → IsSome answer ↔ ((traced a).want ≡ wants.Load (state_word a.image.now)) × (value ≡ 2)
+    → IsSome answer ↔ ((traced a).want ≡ wants.Load (state_word a.steps.now)) × (value ≡ 2)
 some_goes_on a sound place k at_stage next value answer is behind none = (
   λ some. absurd (no_event answer none some),
   λ (wanted, two).
@@ -159,7 +159,7 @@ recorded_more (p ∷ passed) next later (m ∷ ms) mark long =
 pub events_more : (a : Inside) (sound : IsSound a) (place k : ℕ) (at : IsAtPassing a place k) (ms : List Mark) (mark : Mark) (answer : Option Event)
     → ms ≡ a.marks.items ++ mark ∷ []
     → ((address j : ℕ) → answer ≡ (if is_recorded mark then Some (event_of (passing_at a.limits a.thread (state_at address a.machine) j (before_of a sound place k at).sled)) else None))
-    → (all : List Passing) (end : End) (last : State) → PlainRun a.image.now a.limits a.thread all end last
+    → (all : List Passing) (end : End) (last : State) → PlainRun a.steps.now a.limits a.thread all end last
     → recorded all ms ≡ recorded all a.marks.items ++ events_in answer
 events_more a sound place k at ms mark answer more answered all end last run =
     let before = before_of a sound place k at in
@@ -187,14 +187,14 @@ marks_added program thread made old new mark is (Ended end) between = (mark, is)
 
 -- it is a release word of 0
 release_at : (a : Inside) → IsSound a → (place k : ℕ) (at_stage : Stage) → a.stand ≡ Loading place k at_stage
-    → (traced a).want ≡ wants.Load (release_word a.image.now a.thread) → at_stage ≡ stages.Release
+    → (traced a).want ≡ wants.Load (release_word a.steps.now a.thread) → at_stage ≡ stages.Release
 release_at a sound place k at_stage is wanted =
     let before = before_of a sound place k (loading_at a sound place k at_stage is) in
-    let within = slice_get_within a.image.now.sleds k before.sled before.found in
-    let by_stand : want_at a.image.now a.thread a.machine.passings (Loading place k at_stage) ≡ wants.Load (release_word a.image.now a.thread) =
-    ap (want_at a.image.now a.thread a.machine.passings) (sym is) ∙ wanted in
-    let words : word_at a.image.now a.thread k at_stage ≡ release_word a.image.now a.thread = cc in
-    same_stage a.image.now a.thread k at_stage stages.Release within sound.some_thread words
+    let within = slice_get_within a.steps.now.sleds k before.sled before.found in
+    let by_stand : want_at a.steps.now a.thread a.machine.passings (Loading place k at_stage) ≡ wants.Load (release_word a.steps.now a.thread) =
+    ap (want_at a.steps.now a.thread a.machine.passings) (sym is) ∙ wanted in
+    let words : word_at a.steps.now a.thread k at_stage ≡ release_word a.steps.now a.thread = cc in
+    same_stage a.steps.now a.thread k at_stage stages.Release within sound.some_thread words
 
 pub kept_same : (a : Inside) → IsSound a → (place k : ℕ) (at_stage next : Stage) (value : ℕ) → a.stand ≡ Loading place k at_stage
     → behind_load at_stage value ≡ Loads next → IsKept (traced a) value → traced (standing a (Loading place k next)) ≡ traced a
@@ -279,7 +279,7 @@ pub nearer_on : (a : Inside) → IsSound a → (place k : ℕ) (at_stage next : 
     → behind_load at_stage value ≡ Loads next → (IsKept (traced a) value → ⊥)
     → loads_left (traced (standing a (Loading place k next))) < loads_left (traced a)
 nearer_on a sound place k at_stage next value is behind free =
-    let program = a.image.now in
+    let program = a.steps.now in
     let before = before_of a sound place k (loading_at a sound place k at_stage is) in
     let within = slice_get_within program.sleds k before.sled before.found in
     let held = (subst (StandsSo a) is sound.stands).1 in
@@ -318,7 +318,7 @@ pub nearer_end : (a : Inside) → IsSound a → (place k : ℕ) (at_stage : Stag
     → (m : Machine) (ms : MarkList) (stand : Stand) (mark : Mark) → ms.items ≡ a.marks.items ++ mark ∷ [] → IsBetween stand
     → loads_left (traced (passed_on a m ms stand)) < loads_left (traced a)
 nearer_end a sound place k at_stage is m ms stand mark more between =
-    let program = a.image.now in
+    let program = a.steps.now in
     let before = before_of a sound place k (loading_at a sound place k at_stage is) in
     let within = slice_get_within program.sleds k before.sled before.found in
     let long : length ms.items ≡ length a.marks.items + 1 = ap length more ∙ length-append a.marks.items (mark ∷ []) in

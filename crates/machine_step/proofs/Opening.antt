@@ -21,19 +21,19 @@ use Rattle.machine_step.proofs.WordsAt.{allowed_at, allows_at}
 
 -- what it wants tells where it stands, whatever its stand
 stands_as : (a : Inside) → IsSound a → (stand : Stand) → StandsSo a stand
-    → StandsAs (traced a) (want_at a.image.now a.thread a.machine.passings stand)
+    → StandsAs (traced a) (want_at a.steps.now a.thread a.machine.passings stand)
 stands_as a sound (Gate place k) at = stands_before a sound place k at
 stands_as a sound (Loading place k at) (here, at_stage) = stands_before a sound place k here
 stands_as a sound (Ended end) past = stands_past a sound end past
 
 pub stands : (a : Inside) → IsSound a → (stand : Stand) → a.stand ≡ stand
-    → StandsAs (traced a) (want_at a.image.now a.thread a.machine.passings stand)
+    → StandsAs (traced a) (want_at a.steps.now a.thread a.machine.passings stand)
 stands a sound stand is = stands_as a sound stand (subst (StandsSo a) is sound.stands)
 
 -- the sled that it is before is one of the image's
-pub sled_within : (a : Inside) → IsSound a → (place k : ℕ) → IsAtPassing a place k → k < length a.image.now.sleds
+pub sled_within : (a : Inside) → IsSound a → (place k : ℕ) → IsAtPassing a place k → k < length a.steps.now.sleds
 sled_within a sound place k at =
-    let before = before_of a sound place k at in slice_get_within a.image.now.sleds k before.sled before.found
+    let before = before_of a sound place k at in slice_get_within a.steps.now.sleds k before.sled before.found
 
 pub loading_at : (a : Inside) → IsSound a → (place k : ℕ) (at_stage : Stage) → a.stand ≡ Loading place k at_stage → IsAtPassing a place k
 loading_at a sound place k at_stage is = (subst (StandsSo a) is sound.stands).0
@@ -69,7 +69,6 @@ pub sound_loading : (a : Inside) → IsSound a → (place k : ℕ) (at_stage : S
 sound_loading a sound place k at_stage at held = record {
   bytes = sound.bytes;
   accepted = sound.accepted;
-  steps = sound.steps;
   within = sound.within;
   cpus = sound.cpus;
   migrate = sound.migrate;
@@ -86,7 +85,7 @@ pub opened_loads : (a : Inside) → IsSound a → (place k : ℕ) (at_stage : St
     → at_stage ≡ first_stage a.hold a.machine.passings → (all : List Passing) (loads : List Load)
     → HasLoaded (traced a) all loads → HasLoaded (traced (standing a (Loading place k at_stage))) all loads
 opened_loads a sound place k at_stage is first all loads has =
-    let wants = subst (λ (s : Stand). IsWant (traced a) all (wanted_behind (traced a) all loads) has.end (want_at a.image.now a.thread a.machine.passings s)) is has.wants in
+    let wants = subst (λ (s : Stand). IsWant (traced a) all (wanted_behind (traced a) all loads) has.end (want_at a.steps.now a.thread a.machine.passings s)) is has.wants in
     let next = begins_at a sound place k (gate_at a sound place k is) all has.end has.last (wanted_behind (traced a) all loads) has.run wants.1 in
     record {
       end = has.end;
@@ -95,7 +94,7 @@ opened_loads a sound place k at_stage is first all loads has =
       wanted = has.wanted;
       allowed = has.allowed;
       marks = has.marks;
-      wants = next ∙ ap (λ (s : Stage). Some (word_at a.image.now a.thread k s)) (sym first);
+      wants = next ∙ ap (λ (s : Stage). Some (word_at a.steps.now a.thread k s)) (sym first);
     }
 
 -- what it wants tells where it stands
@@ -106,15 +105,15 @@ stands_now a sound = stands a sound a.stand refl
 
 -- what is allowed at the stage of its stand is what it allows
 pub allows_by : (a : Inside) → IsSound a → (place k : ℕ) (at_stage : Stage) (value : ℕ) → a.stand ≡ Loading place k at_stage → (answer : Bool)
-    → ((sled : Sled) → slice_get a.image.now.sleds k ≡ Some sled → IsTrue answer ↔ AllowsAt a.image.now.trampolines sled at_stage value)
+    → ((sled : Sled) → slice_get a.steps.now.sleds k ≡ Some sled → IsTrue answer ↔ AllowsAt a.steps.now.trampolines sled at_stage value)
     → IsTrue answer ↔ Allows (traced a) (traced a).want value
 allows_by a sound place k at_stage value is answer allows =
     let at = loading_at a sound place k at_stage is in
     let before = before_of a sound place k at in
     let here = allows before.sled before.found in
-    subst (λ (s : Stand). IsTrue answer ↔ Allows (traced a) (want_at a.image.now a.thread a.machine.passings s) value) (sym is) (
-      λ true. allowed_at a.image.now a.thread k value before.sled at_stage sound.some_thread before.found (here.0 true),
-      λ allowed. here.1 (allows_at a.image.now a.thread k value before.sled at_stage sound.some_thread before.found allowed),
+    subst (λ (s : Stand). IsTrue answer ↔ Allows (traced a) (want_at a.steps.now a.thread a.machine.passings s) value) (sym is) (
+      λ true. allowed_at a.steps.now a.thread k value before.sled at_stage sound.some_thread before.found (here.0 true),
+      λ allowed. here.1 (allows_at a.steps.now a.thread k value before.sled at_stage sound.some_thread before.found allowed),
     )
 
 -- ---- the word that it wants
@@ -131,10 +130,10 @@ word_within program thread threads k stages.Handler within no_more = omega arith
 word_within program thread threads k stages.State within no_more = omega arith
 
 loadable : (a : Inside) → IsSound a → (stand : Stand) → StandsSo a stand
-    → IsLoadable (traced a) (want_at a.image.now a.thread a.machine.passings stand)
+    → IsLoadable (traced a) (want_at a.steps.now a.thread a.machine.passings stand)
 loadable a sound (Gate place k) at = tt
 loadable a sound (Loading place k at_stage) (at, held) =
-    word_within a.image.now a.thread a.threads k at_stage (sled_within a sound place k at) sound.no_more
+    word_within a.steps.now a.thread a.threads k at_stage (sled_within a sound place k at) sound.no_more
 loadable a sound (Ended end) past = tt
 
 pub loadable_now : (a : Inside) → IsSound a → IsLoadable (traced a) (traced a).want

@@ -25,7 +25,7 @@ use Rattle.machine_step.proofs.ToSled.{at_passing}
 -- the passing that the thread is before
 pub record Before (a : Inside) (place k : ℕ) (at : IsAtPassing a place k) : Type 0 where
   pub sled : Sled
-  pub found : slice_get a.image.now.sleds k ≡ Some sled
+  pub found : slice_get a.steps.now.sleds k ≡ Some sled
   pub next_is : at.next ≡ passing_at a.limits a.thread (state_at at.address a.machine) k sled
   pub left : a.machine.passings < a.limits.passings
 
@@ -35,9 +35,9 @@ if_some_left false o k is = refl
 
 pub before_of : (a : Inside) → IsSound a → (place k : ℕ) (at : IsAtPassing a place k) → Before a place k at
 before_of a sound place k at =
-    let here = at_passing a.image.now (are_in_order sound.bytes a.image.now sound.accepted) a.limits a.thread at.address place k a.machine
+    let here = at_passing a.steps.now (are_in_order sound.bytes a.steps.now sound.accepted) a.limits a.thread at.address place k a.machine
     at.at.step sound.within at.at.placed at.at.is_step at.at.due in
-    let made = (same_step a.image.now (accepted_units sound.bytes a.image.now sound.accepted) a.limits a.thread (state_at at.address a.machine)
+    let made = (same_step a.steps.now (accepted_units sound.bytes a.steps.now sound.accepted) a.limits a.thread (state_at at.address a.machine)
     (at.next ∷ []) (passing_at a.limits a.thread (state_at at.address a.machine) k here.sled ∷ []) at.comes.behind here.next
     at.comes.passes here.passes).0 in
     let other = eqb-false a.machine.passings a.limits.passings (if_some_left (a.machine.passings == a.limits.passings) _ k at.at.due) in
@@ -68,7 +68,7 @@ stands_before a sound place k at = record {
   next = at.next;
   address = at.address;
   count = at.count ∙ sym sound.made;
-  comes = subst (λ (s : State). ComesTo a.image.now a.limits a.thread at.passed s at.next) (same_state a sound at.address) at.comes;
+  comes = subst (λ (s : State). ComesTo a.steps.now a.limits a.thread at.passed s at.next) (same_state a sound at.address) at.comes;
 }
 
 pub stands_past : (a : Inside) → IsSound a → (end : End) → IsPastEnd a end → IsAtEnd (traced a) end
@@ -76,7 +76,7 @@ stands_past a sound end past = record {
   passed = past.passed;
   address = past.address;
   count = past.count ∙ sym sound.made;
-  run = subst (λ (s : State). PlainRun a.image.now a.limits a.thread past.passed end s) (same_state a sound past.address) past.run;
+  run = subst (λ (s : State). PlainRun a.steps.now a.limits a.thread past.passed end s) (same_state a sound past.address) past.run;
 }
 
 -- ---- the passings of its run
@@ -105,9 +105,9 @@ sleds_length (first ∷ passed) = ap suc (sleds_length passed)
 
 -- the run goes on with the passing that it is before
 pub goes_on_by : (a : Inside) → IsSound a → (place k : ℕ) (at : IsAtPassing a place k) (all : List Passing) (end : End) (last : State)
-    → PlainRun a.image.now a.limits a.thread all end last → GoesOnBy all at.passed at.next
+    → PlainRun a.steps.now a.limits a.thread all end last → GoesOnBy all at.passed at.next
 goes_on_by a sound place k at all end last run =
-    next_of_run a.image.now (accepted_units sound.bytes a.image.now sound.accepted) a.limits a.thread at.passed all (state_at at.address a.machine)
+    next_of_run a.steps.now (accepted_units sound.bytes a.steps.now sound.accepted) a.limits a.thread at.passed all (state_at at.address a.machine)
     at.next end last at.comes run
 
 -- ---- a gate that is opened
@@ -118,15 +118,15 @@ first_word_by : (program : Program) (thread k : ℕ) (held : Bool)
 first_word_by program thread k true = refl
 first_word_by program thread k false = refl
 
-pub first_word_is : (a : Inside) → IsSound a → (k : ℕ) → first_word (traced a) k ≡ word_at a.image.now a.thread k (first_stage a.hold a.machine.passings)
+pub first_word_is : (a : Inside) → IsSound a → (k : ℕ) → first_word (traced a) k ≡ word_at a.steps.now a.thread k (first_stage a.hold a.machine.passings)
 first_word_is a sound k =
-    first_word_by a.image.now a.thread k (is_held_at a.hold (length a.marks.items))
-    ∙ ap (λ n. word_at a.image.now a.thread k (first_stage a.hold n)) sound.made
+    first_word_by a.steps.now a.thread k (is_held_at a.hold (length a.marks.items))
+    ∙ ap (λ n. word_at a.steps.now a.thread k (first_stage a.hold n)) sound.made
 
 -- the first word of the passing that the thread is before
 pub begins_at : (a : Inside) → IsSound a → (place k : ℕ) → IsAtPassing a place k → (all : List Passing) (end : End) (last : State) (next : Option ℕ)
-    → PlainRun a.image.now a.limits a.thread all end last → BeginsPassing (traced a) all next
-    → next ≡ Some (word_at a.image.now a.thread k (first_stage a.hold a.machine.passings))
+    → PlainRun a.steps.now a.limits a.thread all end last → BeginsPassing (traced a) all next
+    → next ≡ Some (word_at a.steps.now a.thread k (first_stage a.hold a.machine.passings))
 begins_at a sound place k at all end last next run begins =
     let on = goes_on_by a sound place k at all end last run in
     let before = before_of a sound place k at in

@@ -1,4 +1,4 @@
--- What the fields of a `Cpu` tell, and what holds of them.
+-- What the fields of `Steps` and of a `Cpu` say, and what holds of them.
 use Rattle.std.specs.Prelude.{◌≡◌, ◌<◌, ◌≤◌, ℕ, List, length, Option, Some}
 use Rattle.xray_image.specs.Program.{Program, IsAccepted}
 use Rattle.machine_step.specs.declared.cpu.Cpu.TheInside.{Inside}
@@ -7,6 +7,7 @@ use Rattle.machine_step.specs.declared.stage.Stage.{Stage}
 use Rattle.machine_step.specs.declared.stage.Stage.TheVariants as stages
 use Rattle.machine_step.specs.declared.stand.Stand.{Stand}
 use Rattle.machine_step.specs.declared.stand.Stand.TheVariants.{Gate, Loading, Ended}
+use Rattle.machine_step.specs.declared.steps.Steps.TheInside as table
 use Rattle.machine_step.specs.declared.want.Want.{Want}
 use Rattle.machine_step.specs.declared.want.Want.TheVariants as wants
 use Rattle.machine_step.specs.PlainStep.{Passing, PlainRun}
@@ -17,6 +18,15 @@ use Rattle.machine_step.specs.Standing.{IsAtSled}
 use Rattle.machine_step.specs.Steps.{AreStepsOf}
 use Rattle.machine_step.specs.Traced.{Traced}
 
+-- the program that a table of steps is of
+abbrev pub program_run : table.Inside → Program
+program_run s = s.image.now
+
+-- some accepted file holds the image, and they are its steps
+pub record IsTable (s : table.Inside) : Type 0 where
+  pub accepted : (bytes : List ℕ) × IsAccepted bytes s.image.now
+  pub steps : AreStepsOf s.image.now s.all.items
+
 -- what a thread wants that stands so and has made so many passings
 abbrev pub want_at : Program → ℕ → ℕ → Stand → Want
 want_at program thread made (Gate place sled) = wants.Gate made
@@ -26,7 +36,7 @@ want_at program thread made (Ended end) = wants.Done end
 -- the traced thread that the fields tell
 abbrev pub traced : Inside → Traced
 traced a = record {
-  program = a.image.now;
+  program = a.steps.now;
   thread = a.thread;
   threads = a.threads;
   hold = a.hold;
@@ -37,24 +47,24 @@ traced a = record {
   output = a.machine.output;
   instructions = a.machine.instructions;
   marks = a.marks.items;
-  want = want_at a.image.now a.thread a.machine.passings a.stand;
+  want = want_at a.steps.now a.thread a.machine.passings a.stand;
 }
 
 -- the machine is where the plain run comes to a passing of this sled
 pub record IsAtPassing (a : Inside) (place sled : ℕ) : Type 0 where
   pub address : ℕ
-  pub at : IsAtSled a.image.now a.limits address place sled a.machine
+  pub at : IsAtSled a.steps.now a.limits address place sled a.machine
   pub passed : List Passing
   pub next : Passing
   pub count : length passed ≡ a.machine.passings
-  pub comes : ComesTo a.image.now a.limits a.thread passed (state_at address a.machine) next
+  pub comes : ComesTo a.steps.now a.limits a.thread passed (state_at address a.machine) next
 
 -- the machine is where the plain run ends
 pub record IsPastEnd (a : Inside) (end : End) : Type 0 where
   pub address : ℕ
   pub passed : List Passing
   pub count : length passed ≡ a.machine.passings
-  pub run : PlainRun a.image.now a.limits a.thread passed end (state_at address a.machine)
+  pub run : PlainRun a.steps.now a.limits a.thread passed end (state_at address a.machine)
 
 -- a release word is loaded only where the script holds the thread
 abbrev pub IsStageOf : Option ℕ → ℕ → Stage → Type 0
@@ -66,11 +76,10 @@ StandsSo a (Gate place sled) = IsAtPassing a place sled
 StandsSo a (Loading place sled stage) = IsAtPassing a place sled × IsStageOf a.hold a.machine.passings stage
 StandsSo a (Ended end) = IsPastEnd a end
 
--- the steps are the image's, the counts are within their limits, there is room for all marks, and the thread stands on its plain run
+-- some accepted file holds the image, the counts are within their limits, there is room for all marks, and the thread stands on its plain run
 pub record IsSound (a : Inside) : Type 0 where
   pub bytes : List ℕ
-  pub accepted : IsAccepted bytes a.image.now
-  pub steps : AreStepsOf a.image.now a.steps.all.items
+  pub accepted : IsAccepted bytes a.steps.now
   pub within : IsWithin a.limits a.machine
   pub cpus : 0 < a.limits.cpus
   pub migrate : 0 < a.limits.migrate

@@ -15,14 +15,13 @@ use crate::registers::REGISTERS;
 use crate::stage::{Next, behind_load, first_stage, word_at};
 use crate::stamp::event_at;
 use crate::stand::{Stand, pass_sled, run_to_sled};
-use crate::steps::{Steps, place_of};
+use crate::steps::Steps;
 use crate::want::Want;
 use fdr_record::Event;
 use handler_word::Marks;
 use sled_words::MAX_THREADS;
 use std::alloc::Global;
 use std::marker::Model;
-use xray_image::Image;
 use xray_io::NoMemory;
 
 /// A thread whose sleds may be patched while it runs, between two loads.
@@ -33,11 +32,10 @@ use xray_io::NoMemory;
 /// before its passing n it is where its plain run is before its passing n. A patched sled also
 /// writes r10, which no instruction names and no text prints.
 ///
-/// All memory is taken when it is made.
+/// All memory of its own is taken when it is made.
 #[derive(Drop)]
 pub struct Cpu<'a> {
-    image: &'a Image,
-    steps: Steps,
+    steps: &'a Steps<'a>,
     limits: Limits,
     thread: u32,
     threads: u32,
@@ -65,12 +63,12 @@ impl<'a> Cpu<'a> {
     /// A thread before its first load: it has run to its first sled, or to its end where it comes to
     /// none. Threads count from 1; `hold` is the passing before which the script holds it.
     ///
-    /// Takes all memory of the thread: for a step of each unit of the image, for its stack and its
-    /// output, and for a mark of each passing up to the limit. `NoMemory` comes where some of it was
-    /// refused.
+    /// Takes all memory of the thread: for its stack and its output, and for a mark of each passing up
+    /// to the limit. `NoMemory` comes if some of it was refused. All threads of an image borrow its
+    /// steps.
     pub fn new(
         alloc: Global,
-        image: &'a Image,
+        steps: &'a Steps<'a>,
         thread: u32,
         threads: u32,
         hold: Option<u32>,
@@ -79,20 +77,15 @@ impl<'a> Cpu<'a> {
         requires thread { (1 ≤ thread) × (thread ≤ threads) }
         requires threads { threads ≤ MAX_THREADS }
         requires stamps { (1 ≤ limits.cpus) × (1 ≤ limits.migrate) }
-        ensures thread { IfOk result (IsThreadOf image.now thread threads hold limits) }
+        ensures thread { IfOk result (IsThreadOf steps.now thread threads hold limits) }
         ensures fresh { IfOk result IsFresh }
         ensures loads { IfOk result (λ cpu. (passed : List Passing) (end : End) (last : State)
-            → PlainRun image.now limits thread passed end last → HasLoaded cpu passed []) }
+            → PlainRun steps.now limits thread passed end last → HasLoaded cpu passed []) }
     {
-        // Says that some accepted file holds the image.
-        image.base();
-        let steps = Steps::new(alloc, image)?;
         let marks = Marks::new(alloc, limits.passings)?;
         let mut machine = Machine::new(alloc, thread)?;
-        let start = place_of(image, image.entry()) as usize;
-        let stand = run_to_sled(&mut machine, image, &steps, limits, start);
+        let stand = run_to_sled(&mut machine, steps, limits, steps.start());
         Ok(Cpu {
-            image,
             steps,
             limits,
             thread,
@@ -117,7 +110,7 @@ impl<'a> Cpu<'a> {
             Stand::Loading { sled, stage, .. } => Want::Load(word_at(
                 stage,
                 sled,
-                self.image.sled_count(),
+                self.steps.image().sled_count(),
                 self.thread,
             )),
             Stand::Ended { end } => Want::Done(end),
@@ -148,7 +141,7 @@ impl<'a> Cpu<'a> {
         ensures { IsTrue result ↔ Allows self.now self.now.want value }
     {
         match self.stand {
-            Stand::Loading { sled, stage, .. } => allows(self.image, stage, sled, value),
+            Stand::Loading { sled, stage, .. } => allows(self.steps.image(), stage, sled, value),
             _ => false,
         }
     }
@@ -183,20 +176,14 @@ impl<'a> Cpu<'a> {
             }
             Next::Ends(mark) => {
                 let event = event_at(
-                    self.image.sled(sled),
+                    self.steps.image().sled(sled),
                     self.thread,
                     &self.machine,
                     self.limits,
                     mark,
                 );
                 self.marks.add(mark);
-                self.stand = pass_sled(
-                    &mut self.machine,
-                    self.image,
-                    &self.steps,
-                    self.limits,
-                    place,
-                );
+                self.stand = pass_sled(&mut self.machine, self.steps, self.limits, place);
                 event
             }
         }

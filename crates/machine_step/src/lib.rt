@@ -32,6 +32,7 @@ pub use registers::REGISTERS;
 pub use running::plain_run;
 pub use setup::Setup;
 pub use state_text::{add_marks, write_state};
+pub use steps::Steps;
 pub use want::Want;
 
 #[cfg(test)]

@@ -1,10 +1,8 @@
 //! The plain run of a thread.
 
-ghost use Rattle.std.specs.Prelude.{◌≡◌, ℕ, List, length, slice_index, IfOk};
-ghost use Rattle.xray_image.specs.Program.{IsAccepted};
+ghost use Rattle.std.specs.Prelude.{◌≡◌, ℕ, length, slice_index, IfOk};
 ghost use Rattle.machine_step.specs.PlainEnd.{IsPlainEnd};
 ghost use Rattle.machine_step.specs.Machine.{state_at, IsWithin, RunsFrom};
-ghost use Rattle.machine_step.specs.Steps.{AreStepsOf};
 
 use crate::end::End;
 use crate::limits::Limits;
@@ -12,35 +10,31 @@ use crate::machine::Machine;
 use crate::plain_end::PlainEnd;
 use crate::registers::REGISTERS;
 use crate::step::Way;
-use crate::steps::{Steps, place_of};
+use crate::steps::Steps;
 use std::alloc::Global;
-use xray_image::Image;
 use xray_io::NoMemory;
 
 /// Runs a thread from the entry function's start to its end. It finds its number in rdi. Entry and
 /// tail sleds do nothing, exit sleds are a `ret`, and each sled that is passed is counted; an
 /// instruction costs one of the fuel, and the passing of a sled none.
 ///
-/// All memory is taken before the first step: for a step of each unit, and for the whole of the
-/// stack and the output. `NoMemory` comes where some of it was refused.
+/// All memory is taken before the first step: for the whole of the stack and the output. `NoMemory`
+/// comes if some of it was refused.
 pub fn plain_run(
     alloc: Global,
-    image: &Image,
+    steps: &Steps,
     thread: u32,
     limits: Limits,
 ) -> Result<PlainEnd, NoMemory>
-    ensures run { IfOk result (IsPlainEnd image.now limits thread) }
+    ensures run { IfOk result (IsPlainEnd steps.now limits thread) }
     ensures registers { IfOk result (λ e. length e.regs.items ≡ 16) }
     // No instruction names rsp or r10.
     ensures unnamed { IfOk result (λ e.
         (slice_index e.regs.items 4 ≡ 0) × (slice_index e.regs.items 10 ≡ 0)) }
 {
-    // Says that some accepted file holds the image.
-    image.base();
-    let steps = Steps::new(alloc, image)?;
     let mut regs = vec![in alloc; 0; REGISTERS]?;
     let mut machine = Machine::new(alloc, thread)?;
-    let end = run(&mut machine, image, &steps, limits);
+    let end = run(&mut machine, steps, limits);
     regs.copy_from_slice(machine.registers.all());
     Ok(PlainEnd {
         thread,
@@ -54,19 +48,17 @@ pub fn plain_run(
 }
 
 /// Runs a machine from the entry function's start to its end.
-fn run(machine: &mut Machine, image: &Image, steps: &Steps, limits: Limits) -> End
-    requires accepted { (bytes : List ℕ) × IsAccepted bytes image.now }
-    requires steps { AreStepsOf image.now steps.now.all.items }
+fn run(machine: &mut Machine, steps: &Steps, limits: Limits) -> End
     requires within { IsWithin limits machine.old }
-    ensures { (thread : ℕ) → RunsFrom image.now limits thread
-        (state_at image.now.entry machine.old) result machine.new }
+    ensures { (thread : ℕ) → RunsFrom steps.now limits thread
+        (state_at steps.now.entry machine.old) result machine.new }
 {
-    let mut place = place_of(image, image.entry()) as usize;
+    let mut place = steps.start();
     'steps: loop {
         let step = steps.at(place);
         match machine.step(step, place, limits) {
             Way::To(next) => place = next,
-            Way::Back(address) => place = place_of(image, address) as usize,
+            Way::Back(address) => place = steps.place_of(address),
             Way::Ends(end) => return end,
         }
     }

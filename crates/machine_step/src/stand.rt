@@ -4,15 +4,14 @@ ghost use Rattle.std.specs.Prelude.{◌≡◌, ◌<◌, ℕ, List};
 ghost use Rattle.xray_image.specs.Program.{IsAccepted};
 ghost use Rattle.machine_step.specs.Machine.{IsWithin};
 ghost use Rattle.machine_step.specs.Standing.{IsAtSled, PassesTo, RunsOnTo, due_sled};
-ghost use Rattle.machine_step.specs.Steps.{AreStepsOf, IsPlaceOf};
+ghost use Rattle.machine_step.specs.Steps.{IsPlaceOf};
 
 use crate::end::End;
 use crate::limits::Limits;
 use crate::machine::Machine;
 use crate::stage::Stage;
 use crate::step::{Step, Way};
-use crate::steps::{Steps, place_of};
-use xray_image::Image;
+use crate::steps::Steps;
 
 /// Where a thread stands between two loads.
 #[derive(Clone, Copy)]
@@ -38,17 +37,15 @@ pub(crate) enum Stand {
 /// Runs a machine from a place to the next sled that it has a passing for, or to its end.
 pub(crate) fn run_to_sled(
     machine: &mut Machine,
-    image: &Image,
     steps: &Steps,
     limits: Limits,
     start: usize,
 ) -> Stand
-    requires accepted { (bytes : List ℕ) × IsAccepted bytes image.now }
-    requires steps { AreStepsOf image.now steps.now.all.items }
+    requires accepted { (bytes : List ℕ) × IsAccepted bytes steps.now }
     requires within { IsWithin limits machine.old }
-    requires placed { (address : ℕ) × IsPlaceOf image.now.units address start }
-    ensures runs { (address : ℕ) → IsPlaceOf image.now.units address start
-        → RunsOnTo image.now limits address machine.old result machine.new }
+    requires placed { (address : ℕ) × IsPlaceOf steps.now.units address start }
+    ensures runs { (address : ℕ) → IsPlaceOf steps.now.units address start
+        → RunsOnTo steps.now limits address machine.old result machine.new }
     ensures within { IsWithin limits machine.new }
 {
     let mut place = start;
@@ -59,7 +56,7 @@ pub(crate) fn run_to_sled(
         }
         match machine.step(step, place, limits) {
             Way::To(next) => place = next,
-            Way::Back(address) => place = place_of(image, address) as usize,
+            Way::Back(address) => place = steps.place_of(address),
             Way::Ends(end) => return Stand::Ended { end },
         }
     }
@@ -77,26 +74,19 @@ fn due_sled(machine: &Machine, step: &Step, limits: Limits) -> Option<u32>
 }
 
 /// Lets a machine that stands before a sled pass it, and run on to the next one or to its end.
-pub(crate) fn pass_sled(
-    machine: &mut Machine,
-    image: &Image,
-    steps: &Steps,
-    limits: Limits,
-    place: usize,
-) -> Stand
-    requires accepted { (bytes : List ℕ) × IsAccepted bytes image.now }
-    requires steps { AreStepsOf image.now steps.now.all.items }
+pub(crate) fn pass_sled(machine: &mut Machine, steps: &Steps, limits: Limits, place: usize) -> Stand
+    requires accepted { (bytes : List ℕ) × IsAccepted bytes steps.now }
     requires within { IsWithin limits machine.old }
-    requires at { (sled : ℕ) × (address : ℕ) × IsAtSled image.now limits address place sled machine.old }
-    ensures passes { (address sled : ℕ) → IsAtSled image.now limits address place sled machine.old
-        → PassesTo image.now limits address machine.old result machine.new }
+    requires at { (sled : ℕ) × (address : ℕ) × IsAtSled steps.now limits address place sled machine.old }
+    ensures passes { (address sled : ℕ) → IsAtSled steps.now limits address place sled machine.old
+        → PassesTo steps.now limits address machine.old result machine.new }
     ensures within { IsWithin limits machine.new }
 {
     match machine.step(steps.at(place), place, limits) {
-        Way::To(next) => run_to_sled(machine, image, steps, limits, next),
+        Way::To(next) => run_to_sled(machine, steps, limits, next),
         Way::Back(address) => {
-            let next = place_of(image, address) as usize;
-            run_to_sled(machine, image, steps, limits, next)
+            let next = steps.place_of(address);
+            run_to_sled(machine, steps, limits, next)
         }
         Way::Ends(end) => Stand::Ended { end },
     }

@@ -4,49 +4,102 @@ ghost use Rattle.std.specs.Prelude.{◌≡◌, ◌<◌, ◌≤◌, ◌+◌, ◌^
 ghost use Rattle.subset_decode.specs.Encoding.{spelling, IsNamed};
 ghost use Rattle.xray_image.specs.Program.{IsAccepted};
 ghost use Rattle.machine_step.specs.PlainStep.{branched};
-ghost use Rattle.machine_step.specs.Steps.{IsPlaceOf, IsStepOfInstruction, step_of_sled, IsStepOf, AreStepsOf};
+ghost use Rattle.machine_step.specs.Steps.{IsPlaceOf, IsStepOfInstruction, step_of_sled, IsStepOf, IsStepAt, AreStepsOf};
 
 use crate::step::Step;
 use std::alloc::{AllocError, Global};
+use std::marker::Model;
 use subset_decode::{Instr, LONGEST, encode};
 use xray_image::{Image, SledKind, Unit, What};
+use xray_io::NoMemory;
 
-/// The steps of an image, by their places.
+/// An image as threads run it: a step of each unit, with the place that a branch goes to.
+///
+/// It is made once, and all threads of the image borrow it. Contracts see it as the image's program.
 #[derive(Drop)]
-pub(crate) struct Steps {
+pub struct Steps<'i> {
+    image: &'i Image,
+    /// The step at each place.
     all: Vec<Step>,
 }
 
-impl Steps {
-    /// Those of an image. Takes memory once.
-    pub(crate) fn new(alloc: Global, image: &Image) -> Result<Self, AllocError>
-        requires { (bytes : List ℕ) × IsAccepted bytes image.now }
-        ensures { IfOk result (λ steps. AreStepsOf image.now steps.all.items) }
+impl<'i> Model for Steps<'i> {
+    ghost use Rattle.xray_image.specs.Program.{Program};
+
+    ghost Value = { Program };
+
+    ghost use Rattle.machine_step.specs.Inside.{program_run, IsTable};
+
+    ghost view = { program_run };
+
+    ghost invariant = { IsTable };
+}
+
+impl<'i> Steps<'i> {
+    /// The steps of an image. Takes all memory of the table; `NoMemory` comes if it was refused.
+    pub fn new(alloc: Global, image: &'i Image) -> Result<Steps<'i>, NoMemory>
+        ensures program { IfOk result (λ steps. steps ≡ image.now) }
     {
-        let count = image.unit_count();
-        let mut steps = Steps {
-            all: Vec::with_capacity(alloc, count as usize + 1)?,
-        };
-        for place in 0..count {
-            steps.all.push_reserved(step_of(image, image.unit(place)));
-        }
-        steps.all.push_reserved(Step::Nowhere);
-        Ok(steps)
+        // Says that some accepted file holds the image.
+        image.base();
+        let all = all_steps(alloc, image)?;
+        Ok(Steps { image, all })
+    }
+
+    /// The image whose steps they are.
+    #[inline]
+    pub fn image(&self) -> &'i Image
+        ensures program { result.now ≡ self.now }
+        // An image is what some accepted file holds.
+        ensures accepted { (bytes : List ℕ) × IsAccepted bytes self.now }
+    {
+        self.image
     }
 
     /// The step at a place.
     #[inline]
     pub(crate) fn at(&self, place: usize) -> &Step
-        requires { place < length self.now.all.items }
-        ensures { slice_get self.now.all.items place ≡ Some result.now }
+        requires { place ≤ length self.now.units }
+        ensures step { IsStepAt self.now place result.now }
+        ensures small { place + 1 < 2 ^ 64 }
     {
         &self.all[place]
     }
+
+    /// The place of an address.
+    #[inline]
+    pub(crate) fn place_of(&self, address: u64) -> usize
+        ensures { IsPlaceOf self.now.units address result }
+    {
+        place_of(self.image, address) as usize
+    }
+
+    /// The place at which threads start.
+    pub(crate) fn start(&self) -> usize
+        ensures place { IsPlaceOf self.now.units self.now.entry result }
+        ensures accepted { (bytes : List ℕ) × IsAccepted bytes self.now }
+    {
+        place_of(self.image, self.image.entry()) as usize
+    }
+}
+
+/// A step of each unit, and one of no unit at the end. Takes memory once.
+fn all_steps(alloc: Global, image: &Image) -> Result<Vec<Step>, AllocError>
+    requires { (bytes : List ℕ) × IsAccepted bytes image.now }
+    ensures { IfOk result (λ all. AreStepsOf image.now all.items) }
+{
+    let count = image.unit_count();
+    let mut all = Vec::with_capacity(alloc, count as usize + 1)?;
+    for place in 0..count {
+        all.push_reserved(step_of(image, image.unit(place)));
+    }
+    all.push_reserved(Step::Nowhere);
+    Ok(all)
 }
 
 /// The place of an address.
 #[inline]
-pub(crate) fn place_of(image: &Image, address: u64) -> u32
+fn place_of(image: &Image, address: u64) -> u32
     ensures { IsPlaceOf image.now.units address result }
 {
     match image.unit_at(address) {

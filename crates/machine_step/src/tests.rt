@@ -1,11 +1,12 @@
 //! Plain runs of an image, and their text.
 
-use crate::{End, Limits, PlainEnd, one_end, plain_run, some_end, write_plain};
+use crate::{End, Limits, PlainEnd, Steps, one_end, plain_run, some_end, write_plain};
 use std::test::Fail;
 use xray_image::read_image;
 use xray_io::MemSink;
 
 mod ends;
+mod sizes;
 mod traced;
 
 /// A function `main` that outputs an A: an entry sled, `mov eax, 0x41`, `out 1, al`, an exit sled.
@@ -41,12 +42,13 @@ const DEFAULT_LIMITS: Limits = Limits {
 /// The plain end of thread 1 of that image.
 fn run_main(rt: &HostRuntime, fuel: u64, passings: u32) -> Result<PlainEnd, Fail> {
     let image = read_image(rt.alloc(), &OUTPUTS_AN_A)?;
+    let steps = Steps::new(rt.alloc(), &image)?;
     let limits = Limits {
         fuel,
         passings,
         ..DEFAULT_LIMITS
     };
-    Ok(plain_run(rt.alloc(), &image, 1, limits)?)
+    Ok(plain_run(rt.alloc(), &steps, 1, limits)?)
 }
 
 #[test]

@@ -1,4 +1,4 @@
--- One command more in its place.
+-- One more command in its place.
 use Rattle.std.proofs.Common.{◌≡◌, ℕ, ◌+◌, ◌-◌, ◌≤◌, List, [], ◌∷◌, ◌++◌, Bool, false, cond, length, take, map, Option, Some, None, sym, ap, subst, ◌∙◌, inl, inr, arith}
 use Rattle.std.specs.Prelude.{slice_get, Vec}
 use Rattle.std.specs.Option.{option_or}

@@ -1,4 +1,4 @@
--- What a passing may load is what the code at a place allows it to.
+-- What the code at a place holds is what a passing may load.
 use Rattle.std.proofs.Common.{◌≡◌, ◌≢◌, ℕ, ◌≤◌, List, Some, refl, sym, ap, subst, ◌∙◌, inl, inr, arith}
 use Rattle.std.specs.Prelude.{slice_get, ◌⊎◌}
 use Rattle.xray_image.specs.declared.sled.Sled.{Sled}
@@ -26,7 +26,7 @@ head_allowed Exit head (inl e) = inl e
 head_allowed Exit head (inr (inl e)) = inr (subst (IsUnpatchedHead Exit) (sym e) (omega arith, refl))
 head_allowed Exit head (inr (inr e)) = inr (subst (IsUnpatchedHead Exit) (sym e) (omega arith, refl))
 
--- a value that a word may have is allowed where, in a part behind a head, it is what patching stores
+-- a value that a word may have is allowed; a part after a patched head has to be what patching stores
 allowed_by : (program : Program) (thread word value : ℕ) → IsCodeValue program word value
     → ((k : ℕ) (sled : Sled) (part : Part) → slice_get program.sleds k ≡ Some sled → word ≡ word_of k part → part ≢ Head
     → value ≡ patched program.trampolines sled part)

@@ -1,4 +1,4 @@
--- What stands before `go`: stores alone.
+-- The commands before `go` mean only stores.
 use Rattle.std.proofs.Common.{◌≡◌, ℕ, ◌<◌, zero, suc, List, [], ◌∷◌, ◌++◌, Bool, true, false, cond, not, take, get_or, Some, refl, sym, ap, subst, ◌∙◌, inl, inr, append_assoc}
 use Rattle.std.specs.Prelude.{slice_get, take_while, unwrap_or}
 use Rattle.std.specs.List.{list_any}

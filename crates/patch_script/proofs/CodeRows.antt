@@ -25,7 +25,7 @@ example = record {
 script : List Command
 script = commands.Patch ∷ commands.Go ∷ commands.Unpatch ∷ commands.Init ∷ commands.SetHandler ∷ []
 
--- behind three stores the id, the opcode and the offset are patched, and the head isn't yet
+-- after three stores the id, the opcode and the offset are patched, and the head isn't yet
 patched_behind : code_at example script 3 (word_of 0 Offset) ≡ 0x1FFFF5
 unfolding example script
 patched_behind = refl
@@ -38,7 +38,7 @@ head_last : code_at example script 4 (word_of 0 Head) ≡ 0xBA41
 unfolding example script
 head_last = refl
 
--- unpatching takes the head away, and leaves what a thread that has loaded the head goes on to load
+-- unpatching removes the head, and leaves the parts that a thread loads after a patched head
 head_away : code_at example script 9 (word_of 0 Head) ≡ 0x09EB
 unfolding example script
 head_away = refl
@@ -51,12 +51,12 @@ opcode_stays : code_at example script 9 (word_of 0 Opcode) ≡ 0xE8
 unfolding example script
 opcode_stays = refl
 
--- an exit sled that was patched is a return with another byte behind it
+-- an exit sled that was patched is a return with another byte after it
 exit_left : code_at example script 10 (word_of 1 Head) ≡ 0xBAC3
 unfolding example script
 exit_left = refl
 
--- the log is being initialized, and then is; the handler is set last
+-- the log is being initialized, and then is initialized; the handler is set last
 initializing : code_at example script 11 (state_word example) ≡ 1
 unfolding example script
 initializing = refl

@@ -66,7 +66,7 @@ is_before-first test (c ∷ cs) (suc n) = elim (cases_Bool (test c)) [
 
 -- ---- the sleds that commands patch
 
--- a number is among those of sleds that are counted from one
+-- a number is among those of sleds that are numbered from n on
 counted_from : (n : ℕ) (sleds : List Sled) (k : ℕ) (sled : Sled) (test : Sled → Bool) → slice_get sleds k ≡ Some sled
     → list_any (λ j. j == n + k) (numbers (filter (λ s. test s.1) (enumerate_from n sleds))) ≡ test sled
 counted_from n [] k sled test at = absurd (none-some sled at)
@@ -104,7 +104,7 @@ all_counted n (s ∷ ss) (suc k) sled at =
     ap (λ b. b || list_any (λ j. j == n + suc k) (numbers (enumerate_from (n + 1) ss))) (ne_eqb n (n + suc k) (λ same. omega (arith, same)))
     ∙ ap (λ m. list_any (λ j. j == m) (numbers (enumerate_from (n + 1) ss))) next ∙ all_counted (n + 1) ss k sled at
 
--- a command patches a sled where it patches all, or the sled's function
+-- a command patches a sled if it patches all, or the sled's function
 patches_sled : (program : Program) (k : ℕ) (sled : Sled) → slice_get program.sleds k ≡ Some sled → (command : Command)
     → list_any (λ j. j == k) (numbers (patches program command)) ≡ (patches_all command || patches_function sled.id command)
 patches_sled program k sled at commands.Patch = ap (λ m. list_any (λ j. j == m) (numbers (all_sleds program))) (let zero_first : k ≡ 0 + k = omega arith in zero_first) ∙ all_counted 0 program.sleds k sled at
@@ -127,7 +127,7 @@ swap_or false true false d = refl
 swap_or false false true d = refl
 swap_or false false false d = refl
 
--- whether commands before patch a sled
+-- whether earlier commands patch a sled
 pub patched_before-is : (program : Program) (k : ℕ) (sled : Sled) → slice_get program.sleds k ≡ Some sled → (before : List Command)
     → list_any (λ j. j == k) (patched_by program before) ≡ (list_any patches_all before || list_any (patches_function sled.id) before)
 patched_before-is program k sled at [] = refl

@@ -1,4 +1,4 @@
--- What the commands have done, with one command more.
+-- What the commands have done, with one more command.
 use Rattle.std.proofs.Common.{◌≡◌, ℕ, ◌<◌, zero, suc, List, [], ◌∷◌, ◌++◌, ◌||◌, Bool, true, false, cond, not, length, get_or, Option, Some, None, refl, sym, ap, subst, ◌∙◌, ◌==◌, inl, inr, arith, eqb-true, eq-eqb}
 use Rattle.std.specs.Prelude.{is_some}
 use Rattle.std.specs.Option.{option_or}
@@ -34,7 +34,7 @@ or_parts : (a b : Bool) → (a || b) ≡ false → (a ≡ false) × (b ≡ false
 or_parts true b h = cc
 or_parts false b h = (refl, h)
 
--- a condition that holds, of a row that asks for it
+-- a condition that holds, if the row that asks for it passes
 holds_then : (a b : Bool) → (not a || b) ≡ false → a ≡ true
 holds_then true b h = refl
 holds_then false b h = cc
@@ -51,7 +51,7 @@ none_if : (o : Option ℕ) → is_some o ≡ false → o ≡ None
 none_if None h = refl
 none_if (Some n) h = cc
 
--- the hold of one command more
+-- the hold with one more command
 hold_of-last : (thread : ℕ) (before : List Command) (command : Command) → hold_of thread (before ++ command ∷ []) ≡ option_or (hold_of thread before) (hold_by thread command)
 hold_of-last thread [] command = option_or-none (hold_by thread command)
 hold_of-last thread (c ∷ cs) command =
@@ -198,7 +198,7 @@ held_at script holds are (Held passing) thread is held =
     held_found thread script script passing (sym (are.passings thread) ∙ sym (ap passing_of is)) (sym (are.released thread) ∙ sym (ap was_released is))
 held_at script holds are (Released passing) thread is held = cc
 
--- one of holds is held
+-- one of the holds holds a thread
 held_place : (holds : List Hold) → list_any is_held holds ≡ true → (n : ℕ) × (is_held (get_or holds n Free) ≡ true)
 held_place [] so = absurd cc
 held_place (h ∷ hs) so = elim (cases_Bool (is_held h)) [

@@ -16,7 +16,7 @@ slice_get-append_right [] ys i = ap (slice_get ys) (omega arith)
 slice_get-append_right (x ∷ xs) ys i =
     ap (slice_get (x ∷ (xs ++ ys))) (let next : length (x ∷ xs) + i ≡ suc (length xs + i) = omega arith in next) ∙ slice_get-append_right xs ys i
 
--- a list by what stands at a place
+-- a list, split at a place
 pub split_at : {X : Type 0} (xs : List X) (i : ℕ) (x : X) → slice_get xs i ≡ Some x → xs ≡ take i xs ++ x ∷ drop (suc i) xs
 split_at [] i x at = absurd (none-some x at)
 split_at (y ∷ ys) zero x at = ap (λ z. z ∷ ys) (same_Some y x at)

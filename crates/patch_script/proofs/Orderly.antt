@@ -38,7 +38,7 @@ six false false false false false true p q r s t u y x is = absurd cc
 six false false false false false false p q r s t u y x is = (refl, refl, refl, refl, refl, refl, same_Ok y x is)
 
 module _ (program : Program) (threads : ℕ) where
-  -- a line that is taken adds nothing, or a command that no row refuses
+  -- a line adds nothing, or a command that no row refuses
   record Adds (before : Lines) (number : ℕ) (x : Lines) (command : Command) : Type 0 where
     lines : before ++ (number, command) ∷ [] ≡ x
     admitted : IsAdmitted program threads (commands_of before) command
@@ -121,7 +121,7 @@ module _ (program : Program) (threads : ℕ) where
       picked true false is = (refl, refl, same_Ok said x is)
       picked false held is = absurd cc
 
--- the script of a text
+-- the script of a text is in order
 pub orderly : (program : Program) (threads : ℕ) (text : List ℕ) (plan : Plan) → plan_of program threads text ≡ Ok plan → IsOrderly plan
 orderly program threads text plan e =
     let number = length (lines text) + 1 in

@@ -1,4 +1,4 @@
--- Which micro steps the commands of a script mean, and in which order.
+-- The micro steps that the commands of a script mean, and their order.
 use Rattle.std.proofs.Common.{◌≡◌, ℕ, ◌+◌, ◌≤◌, List, [], ◌∷◌, ◌++◌, suc, Some, Bool, sym, ap, ◌∙◌, arith}
 use Rattle.std.specs.Prelude.{◌==◌, map, slice_get}
 use Rattle.std.specs.List.{All, flat_map, list_any, enumerate_from}
@@ -17,7 +17,7 @@ use Rattle.patch_script.specs.Micros.{Numbered, all_sleds, sleds_of, patch_sled,
 abbrev pub IsListed : Program → Numbered → Type 0
 IsListed program (k, sled) = slice_get program.sleds k ≡ Some sled
 
--- a micro step that stands alone: all but those that patch a sled
+-- a micro step on its own: all but those that patch a sled
 pub data IsLone (program : Program) : Micro → Type 0 where
   unpatching : (k : ℕ) (sled : Sled) (was_patched : Bool) → slice_get program.sleds k ≡ Some sled
       → IsLone program (Store (word_of k Head) (head_left sled.kind was_patched))
@@ -26,7 +26,7 @@ pub data IsLone (program : Program) : Micro → Type 0 where
   releasing : (thread : ℕ) → IsLone program (Store (release_word program thread) 1)
   awaiting : (thread count : ℕ) → IsLone program (Await thread count)
 
--- micro steps among which a sled is patched by four in a row, and all others stand alone
+-- micro steps in which four in a row patch a sled, and all others are on their own
 pub data ArePatches (program : Program) : List Micro → Type 0 where
   ended : ArePatches program []
   lone : (step : Micro) (steps : List Micro) → IsLone program step → ArePatches program steps → ArePatches program (step ∷ steps)

@@ -1,4 +1,4 @@
--- What every script keeps of the words, at each place.
+-- What holds of the words at each place, for every script.
 use Rattle.std.proofs.Common.{◌≡◌, ◌≢◌, ℕ, ◌≤◌, List, ◌∷◌, zero, suc, Option, Some, None, Bool, true, false, refl, sym, ap, subst, ◌∙◌, inl, inr, arith, take, drop, unwrap_or}
 use Rattle.std.specs.Prelude.{◌==◌, if◌then◌else◌, slice_get, IfSome}
 use Rattle.std.specs.List.{All}
@@ -31,7 +31,7 @@ abbrev IsStored : Trampolines → Sled → Part → ℕ → Type 0
 IsStored trampolines sled Head value = IsHead sled.kind value
 IsStored trampolines sled part value = value ≡ patched trampolines sled part
 
--- each step is one of those that stand alone, or one of those that patch a sled
+-- each step is one on its own, or one of those that patch a sled
 data IsStep (program : Program) : Micro → Type 0 where
   alone : (step : Micro) → IsLone program step → IsStep program step
   patching : (k : ℕ) (sled : Sled) (part : Part) → slice_get program.sleds k ≡ Some sled
@@ -70,7 +70,7 @@ patched_is_stored trampolines sled Id = refl
 patched_is_stored trampolines sled Opcode = refl
 patched_is_stored trampolines sled Offset = refl
 
--- a word of a sled is none of those behind the sleds
+-- a word of a sled is none of those after the sleds
 pub apart : (program : Program) (k : ℕ) (sled : Sled) (part : Part) (word : ℕ) → slice_get program.sleds k ≡ Some sled
     → handler_word program ≤ word → word ≡ word_of k part → ⊥
 apart program k sled part word at past same = let below = below_others program k sled part at in omega arith
@@ -103,7 +103,7 @@ stored_in_part program k sled part at _ (patching j s other at_j) =
 
 -- ---- a patched head
 
--- behind a head, what is stored is what patching stores
+-- after a head, what is stored is what patching stores
 stored_behind_head : (program : Program) (k : ℕ) (sled : Sled) (part : Part) → slice_get program.sleds k ≡ Some sled → part ≢ Head
     → (step : Micro) → IsStep program step → IfSome (stored_in (word_of k part) step) (λ v. v ≡ patched program.trampolines sled part)
 stored_behind_head program k sled Head at other step is = absurd (other refl)
@@ -118,7 +118,7 @@ left_is_unpatched Tail was_patched = omega arith
 left_is_unpatched Exit true = omega arith
 left_is_unpatched Exit false = omega arith
 
--- a step that stands alone stores no patched head
+-- a step on its own stores no patched head
 lone_head : (program : Program) (k : ℕ) (sled : Sled) → slice_get program.sleds k ≡ Some sled → (step : Micro) → IsLone program step
     → IfSome (stored_in (word_of k Head) step) (λ v. v ≢ patched_head)
 lone_head program k sled at _ (unpatching j s was_patched at_j) =
@@ -140,7 +140,7 @@ opcode_behind same = cc
 offset_behind : Offset ≢ Head
 offset_behind same = cc
 
--- where a part is patched behind a patched head before a step that stands alone, it is behind that step
+-- if a part is patched after a patched head, it still is after a step on its own
 lone_keeps : (o : Option ℕ) (h v u goal : ℕ) → IfSome o (λ x. x ≢ patched_head) → (v ≡ goal → u ≡ goal)
     → (h ≡ patched_head → v ≡ goal) → unwrap_or o h ≡ patched_head → u ≡ goal
 lone_keeps None h v u goal stored keeps before now = keeps (before now)
@@ -179,7 +179,7 @@ patched_elsewhere program j k s part v other =
     ∙ stored_elsewhere (word_of j Opcode) (word_of k part) (patched program.trampolines s Opcode) _ (apart Opcode)
     ∙ stored_elsewhere (word_of j Id) (word_of k part) (patched program.trampolines s Id) v (apart Id)
 
--- where a part is patched behind a patched head before a sled is patched, it is behind that
+-- if a part is patched after a patched head, it still is after a sled is patched
 patch_keeps : (program : Program) (j k : ℕ) (s sled : Sled) (part : Part) (h v : ℕ)
     → slice_get program.sleds j ≡ Some s → slice_get program.sleds k ≡ Some sled
     → (h ≡ patched_head → v ≡ patched program.trampolines sled part)
@@ -196,7 +196,7 @@ patch_keeps program j k s sled part h v at_j at before now =
           ∙ before (sym (patched_elsewhere program j k s Head h other) ∙ now)
     ]
 
--- the store of a part behind the head
+-- the store of a part other than the head
 store_keeps : (program : Program) (j k : ℕ) (s sled : Sled) (a part : Part) (v : ℕ)
     → slice_get program.sleds j ≡ Some s → slice_get program.sleds k ≡ Some sled → part ≢ Head
     → v ≡ patched program.trampolines sled part
@@ -209,7 +209,7 @@ store_keeps program j k s sled a part v at_j at other before =
 head_stays : (j k : ℕ) (a : Part) (value h : ℕ) → a ≢ Head → behind (word_of k Head) (Store (word_of j a) value) h ≡ h
 head_stays j k a value h other = stored_elsewhere (word_of j a) (word_of k Head) value h (λ same. other (same_part j k a Head same))
 
--- at each place, a part is patched where the head is
+-- at each place, a part is patched if the head is
 patched_together : (program : Program) (k : ℕ) (sled : Sled) (part : Part) → slice_get program.sleds k ≡ Some sled → part ≢ Head
     → {steps : List Micro} → ArePatches program steps → (p h v : ℕ) → (h ≡ patched_head → v ≡ patched program.trampolines sled part)
     → held (word_of k Head) (take p steps) h ≡ patched_head
@@ -247,13 +247,13 @@ patched_together program k sled part at other (patch j s rest at_j later) (suc (
     patched_together program k sled part at other later p (held (word_of k Head) block h) (held (word_of k part) block v)
     (patch_keeps program j k s sled part h v at_j at before) now
 
--- a head that the file has isn't patched
+-- a head as the file has it isn't a patched one
 first_head : (kind : SledKind) → unpatched_head kind ≢ patched_head
 first_head Entry = omega arith
 first_head Exit = omega arith
 first_head Tail = omega arith
 
--- at a place that isn't before one where the head is patched, each part behind it is patched
+-- once the head is patched at a place, each other part is patched there and at all later places
 pub part_patched : (program : Program) (script : List Command) (p q k : ℕ) (sled : Sled) (part : Part) → slice_get program.sleds k ≡ Some sled
     → part ≢ Head → p ≤ q → HasPatchedHead program script p k
     → code_at program script q (word_of k part) ≡ patched program.trampolines sled part
@@ -324,9 +324,9 @@ part_has_value program script place k sled part at =
     (λ step is. IfSome_then (stored_in (word_of k part) step) (stored_in_part program k sled part at step is) (stored_value program.trampolines sled part))
     (subst P (sym (part_at_first program.sleds k sled part at)) (file_value program.trampolines sled part))
 
--- ---- the words behind those of the sleds
+-- ---- the words after those of the sleds
 
--- what is stored in a word behind those of the sleds, by the steps that store there
+-- what is stored in a word after those of the sleds, by the steps that store there
 stored_behind_sleds : (program : Program) (word : ℕ) (P : ℕ → Type 0) → handler_word program ≤ word
     → ((value : ℕ) → value ≤ 1 → handler_word program ≡ word → P value)
     → ((value : ℕ) → value ≤ 4 → state_word program ≡ word → P value)
@@ -341,7 +341,7 @@ stored_behind_sleds program word P past handler state release _ (alone _ (awaiti
 stored_behind_sleds program word P past handler state release _ (patching j s part at) =
     by_word P (word_of j part) word (patched program.trampolines s part) (λ same. absurd (apart program j s part word at past (sym same)))
 
--- such a word is at most so much, where the steps that store there store no more
+-- such a word is at most this much, if no step stores more in it
 at_most : (program : Program) (script : List Command) (place word limit : ℕ) → handler_word program ≤ word
     → ((value : ℕ) → value ≤ 1 → handler_word program ≡ word → value ≤ limit)
     → ((value : ℕ) → value ≤ 4 → state_word program ≡ word → value ≤ limit)

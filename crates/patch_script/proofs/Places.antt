@@ -139,7 +139,7 @@ module _ (placed : PlacedCommands) (are : ArePlaced placed) where
           ];
     }
 
-  -- ---- what a command's micro steps are
+  -- ---- the micro steps of a command
 
   pub found_step : (place number : ℕ) (one : Placed) (micro : Micro) → slice_get placed.commands.items number ≡ Some one → one.before ≤ place
       → slice_get (steps_of placed.image.value (patched_before placed number) one.command) (place - one.before) ≡ Some micro
@@ -191,7 +191,7 @@ unpatching_steps : (program : Program) (earlier : List ℕ) (command : Command) 
 unpatching_steps program earlier command (inl is) = ap (steps_of program earlier) is ∙ sym (ap (λ c. map (unpatch_sled earlier) (sleds_named program c)) is)
 unpatching_steps program earlier command (inr is) = ap (steps_of program earlier) is.1 ∙ sym (ap (λ c. map (unpatch_sled earlier) (sleds_named program c)) is.1)
 
--- what stands at a place within a list
+-- the item at a place within a list
 pub item_at : {X : Type 0} (xs : List X) (k : ℕ) → k < length xs → (x : X) × (slice_get xs k ≡ Some x)
 item_at [] k lt = absurd (omega arith)
 item_at (x ∷ xs) zero lt = (x, refl)
@@ -249,7 +249,7 @@ function_named program command id values range is are has = record {
     named (inl is) = ap (sleds_named program) is
     named (inr is) = ap (sleds_named program) is
 
--- what is kept of one sled more
+-- what is kept of one more sled
 pub values_more : (program : Program) (n : ℕ) (values values' : List SledValues) (value : SledValues) → n < length program.sleds
     → values ≡ map (values_of program.trampolines) (take n program.sleds) → ((sled : Sled) → slice_get program.sleds n ≡ Some sled → value ≡ values_of program.trampolines sled)
     → values' ≡ values ++ value ∷ [] → values' ≡ map (values_of program.trampolines) (take (n + 1) program.sleds)

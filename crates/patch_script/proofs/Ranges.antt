@@ -51,7 +51,7 @@ range_at program range k sled lt at =
     ∙ slice_get-enumerate 0 program.sleds (range.start + k) sled at
     ∙ ap (λ m. Some (m, sled)) (let zero_first : 0 + (range.start + k) ≡ range.start + k = omega arith in zero_first)
 
--- a store that patches a sled of a range, by its number among the stores of all
+-- the store that patches a sled of a range, by its number among all of these stores
 pub patching_at : (program : Program) (range : SledRange) (sleds : List Numbered) (step k : ℕ) (sled : Sled) (micro : Micro) → sleds ≡ in_range range (all_sleds program)
     → step < 4 * (range.end - range.start) → k ≡ range.start + step / 4 → slice_get program.sleds k ≡ Some sled
     → slice_get (patch_sled program (k, sled)) (step % 4) ≡ Some micro → slice_get (flat_map (patch_sled program) sleds) step ≡ Some micro
@@ -65,7 +65,7 @@ patching_at program range sleds step k sled micro are lt is at part =
     ∙ slice_get-fours (patch_sled program) sleds (step / 4) (step % 4) (k, sled) (λ s. refl) here (omega arith)
     ∙ part
 
--- a store that unpatches one
+-- the store that unpatches one
 pub unpatching_at : (program : Program) (earlier : List ℕ) (range : SledRange) (sleds : List Numbered) (step k : ℕ) (sled : Sled) (micro : Micro)
     → sleds ≡ in_range range (all_sleds program) → step < range.end - range.start → k ≡ range.start + step → slice_get program.sleds k ≡ Some sled
     → micro ≡ unpatch_sled earlier (k, sled) → slice_get (map (unpatch_sled earlier) sleds) step ≡ Some micro

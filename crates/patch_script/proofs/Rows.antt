@@ -1,4 +1,4 @@
--- Small scripts, worked by hand: what the definitions of `specs/` make of them.
+-- Small scripts worked by hand: what the definitions make of them.
 use Rattle.std.proofs.Common.{◌≡◌, ℕ, true, List, [], ◌∷◌, ◌++◌, Some, refl}
 use Rattle.std.specs.Prelude.{codes, replicate, Result, Ok, Err}
 use Rattle.xray_image.specs.declared.sled.Sled.{Sled}
@@ -18,7 +18,7 @@ use Rattle.patch_script.specs.Refusals.{Lines, commands_of, with_line}
 abbrev sled : ℕ → SledKind → Sled
 sled address kind = record { address = address; function = 0x1000; id = 1; kind = kind; always = true; shift = 512 }
 
--- a function of 29 bytes with an entry sled and an exit sled; what scripts don't look at is left out
+-- A function of 29 bytes with an entry sled and an exit sled. What scripts don't look at is left out.
 abbrev one_function : Program
 one_function = record {
   base = 0x1000;
@@ -88,14 +88,14 @@ signed_number = refl
 bad_byte : verdict_of ((codes "go" ++ 127 ∷ []) ∷ []) ≡ Err (faults.Syntax 1)
 bad_byte = refl
 
--- the limit is looked at before the words
+-- the limit is checked before the words
 one_too_many : with_line one_function 1 (replicate 1024 (1, commands.Patch)) (1025, codes "what") ≡ Err (faults.Limit 1025)
 one_too_many = refl
 
 blank_behind : with_line one_function 1 (replicate 1024 (1, commands.Patch)) (1025, codes " # blank") ≡ Ok (replicate 1024 (1, commands.Patch))
 blank_behind = refl
 
--- a thread that is held before its passing 3 makes 3 passings and no more
+-- a thread that is held before its passing 3 makes 3 passings, and no more
 waits_for_itself : verdict_of (codes "hold 1 3" ∷ codes "go" ∷ codes "await 1 5" ∷ codes "release 1" ∷ []) ≡ Err (faults.SelfWait 3)
 waits_for_itself = refl
 
@@ -111,7 +111,7 @@ waits_at_1 = refl
 held_before_3 : hold_of 1 (commands_of held_at_3) ≡ Some 3
 held_before_3 = refl
 
--- lines without words are skipped, leading zeros are fine
+-- lines without words are skipped, and leading zeros are allowed
 with_comments : verdict_of (codes "# traced" ∷ [] ∷ codes " patch_function 01 # one" ∷ codes "go" ∷ []) ≡ accepted ((3, commands.PatchFunction 1) ∷ (4, commands.Go) ∷ [])
 with_comments = refl
 
@@ -138,7 +138,7 @@ nothing_behind = refl
 never_patched : micros one_function (commands.Go ∷ commands.Unpatch ∷ []) ≡ Store 0 0x09EB ∷ Store 4 0x2EC3 ∷ []
 never_patched = refl
 
--- and one that was keeps the high byte of the patched head
+-- one that was patched keeps the high byte of the patched head
 patched_before : micros one_function (commands.Patch ∷ commands.Unpatch ∷ commands.Go ∷ [])
     ≡ micros one_function (commands.Patch ∷ []) ++ Store 0 0x09EB ∷ Store 4 0xBAC3 ∷ []
 patched_before = refl

@@ -141,7 +141,7 @@ start_within program script =
     let more = whole_front script in
     omega (arith, ap (total_of program) more.1, total_grows program (take_while stays script) more.0)
 
--- ---- the first line at which somebody may wait
+-- ---- the first line at which a thread or the patcher may wait
 
 pub waiting_more : (lines : Lines) (line : ℕ) (command : Command)
     → waiting_line (lines ++ (line, command) ∷ []) ≡ option_or (waiting_line lines) (cond (is_waiting command) (Some line) None)

@@ -53,7 +53,7 @@ module _ (bad : Micro → Bool) (program : Program) where
       let parts = or_parts (bad (unpatch_sled earlier s)) (list_any (λ s. bad (unpatch_sled earlier s)) ss) none in
       neither (bad (unpatch_sled earlier s)) (list_any bad (map (unpatch_sled earlier) ss)) parts.0 (unpatched_none earlier ss parts.1)
 
-  -- where no step of a command is bad, none of the script is
+  -- if no step of a command is bad, no step of the script is
   pub script_none : (fault : Command → Bool) → ((earlier : List ℕ) (command : Command) → fault command ≡ false → list_any bad (steps_of program earlier command) ≡ false)
       → (earlier : List ℕ) (script : List Command) → list_any fault script ≡ false → list_any bad (micros_behind program earlier script) ≡ false
   script_none fault each earlier [] none = refl
@@ -63,7 +63,7 @@ module _ (bad : Micro → Bool) (program : Program) where
       list_any-append bad (steps_of program earlier c) (micros_behind program more cs)
       ∙ neither (list_any bad (steps_of program earlier c)) (list_any bad (micros_behind program more cs)) (each earlier c parts.0) (script_none fault each more cs parts.1)
 
-  -- and so none that is found by its place
+  -- and so neither is one that is found by its place
   pub found_none : (steps : List Micro) → list_any bad steps ≡ false → (place : ℕ) → place < length steps → bad (get_or steps place End) ≡ false
   found_none steps none place lt = elim (cases_Bool (bad (get_or steps place End))) [
     | inl so ↦ absurd (let some : list_any bad steps ≡ true = list_any_at bad steps place End lt so in cc)
@@ -132,7 +132,7 @@ module _ (program : Program) (threads : ℕ) where
       let bounds = not_beyond thread fits in behind_sleds (4 * length program.sleds + 1 + thread) (omega (arith, bounds.0, bounds.1))
   steps_near earlier (commands.Await thread count) fits = neither (is_beyond threads thread) false fits refl
 
--- what a script's micro steps name is there
+-- what a script's micro steps name exists
 pub micro_within : (plan : Plan) → IsOrderly plan → (place : ℕ) (micro : Micro) → micro ≡ micro_at plan.program (commands_of plan.lines) place → IsWithin plan micro
 micro_within plan all place micro is = elim (cases_lt place (total_of plan.program (commands_of plan.lines))) [
   | inl lt ↦

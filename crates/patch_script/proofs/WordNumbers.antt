@@ -1,4 +1,4 @@
--- The numbers of words: two parts of sleds have one number only where both are the same.
+-- The numbers of words. Two parts of sleds have the same number only if they are the same part of the same sled.
 use Rattle.std.proofs.Common.{◌≡◌, ℕ, ◌+◌, ◌*◌, ◌<◌, List, [], ◌∷◌, length, zero, suc, Some, None, Bool, eqb, refl, sym, ap, subst, ◌∙◌, inl, inr, arith}
 use Rattle.std.specs.Prelude.{◌==◌, if◌then◌else◌, IfSome, slice_get, slice_index}
 use Rattle.std.specs.List.{flat_map}
@@ -46,7 +46,7 @@ part_of_number Offset Opcode h = absurd (omega arith)
 pub same_part : (j k : ℕ) (a b : Part) → word_of j a ≡ word_of k b → a ≡ b
 same_part j k a b h = part_of_number a b (same_number j k a b h)
 
--- a part of a listed sled stands below the words of the handler, the state and the threads
+-- a part of a listed sled comes before the words of the handler, the state and the threads
 pub below_others : (program : Program) (k : ℕ) (sled : Sled) (part : Part) → slice_get program.sleds k ≡ Some sled
     → word_of k part < handler_word program
 below_others program k sled part at =
@@ -77,7 +77,7 @@ zero_at_first program word past = get_or_past (all_sled_words program) word 0 (o
 
 -- ---- which word a store goes to
 
--- a store goes to the word only where it is the word
+-- a store goes to the word only if it names that word
 pub by_word : (P : ℕ → Type 0) (w word value : ℕ) → (w ≡ word → P value) → IfSome (if w == word then Some value else None) P
 by_word P w word value there = elim (cases_Bool (eqb w word)) [
   | inl e ↦ subst (λ (b : Bool). IfSome (if b then Some value else None) P) (sym e) (there (eqb-true w word e))

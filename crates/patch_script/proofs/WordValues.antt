@@ -1,4 +1,4 @@
--- The value of one word behind micro steps.
+-- The value of one word after micro steps.
 use Rattle.std.proofs.Common.{◌≡◌, ℕ, zero, suc, ◌+◌, ◌*◌, ◌<◌, ◌≤◌, List, [], ◌∷◌, ◌++◌, Option, Some, None, unwrap_or, refl, sym, ap, subst, ◌∙◌, inl, inr, take, drop, get_or, set, length, replicate, add-one}
 use Rattle.std.specs.Prelude.{IfSome, slice_get, slice_index}
 use Rattle.std.specs.List.{filter_map, last_or, cons_option, All}
@@ -14,7 +14,7 @@ use Rattle.patch_script.specs.Micros.{micros, micro_at}
 use Rattle.patch_script.specs.CodeAt.{stored_in, initial_value, code_at}
 use Rattle.patch_script.specs.StoredWords.{stored, AreCodeAt}
 
--- the value of a word behind a step, and behind steps, from a value before
+-- the value of a word after a step, or after steps, from the value before
 abbrev pub behind : ℕ → Micro → ℕ → ℕ
 behind word step value = unwrap_or (stored_in word step) value
 
@@ -50,7 +50,7 @@ held-append : (word : ℕ) (xs ys : List Micro) (value : ℕ) → held word (xs 
 held-append word [] ys value = refl
 held-append word (x ∷ xs) ys value = held-append word xs ys (behind word x value)
 
--- a later place stands behind an earlier one
+-- later steps follow earlier ones
 pub held_later : (word : ℕ) (steps : List Micro) (p q value : ℕ) → p ≤ q
     → held word (take q steps) value ≡ held word (drop p (take q steps)) (held word (take p steps) value)
 held_later word steps p q value h =
@@ -62,7 +62,7 @@ pub behind_has : (P : ℕ → Type 0) (o : Option ℕ) (value : ℕ) → IfSome 
 behind_has P None value stored before = before
 behind_has P (Some x) value stored before = stored
 
--- a fact that each store to a word keeps holds of its value behind them
+-- a fact that each store to a word keeps still holds of its value after them
 pub held_has : (P : ℕ → Type 0) (word : ℕ) (steps : List Micro) (value : ℕ)
     → All (λ step. IfSome (stored_in word step) P) steps → P value → P (held word steps value)
 held_has P word [] value each before = before
@@ -71,7 +71,7 @@ held_has P word (step ∷ steps) value each before =
     held_has P word steps (behind word step value) (All-tail Q step steps each)
     (behind_has P (stored_in word step) value (All-head Q step steps each) before)
 
--- one step more
+-- one more step
 held_next : (word : ℕ) (steps : List Micro) (place value : ℕ)
     → held word (take (suc place) steps) value ≡ behind word (unwrap_or (slice_get steps place) End) (held word (take place steps) value)
 held_next word [] zero value = refl
@@ -88,7 +88,7 @@ code_at_next program script place word =
     code_at_held program script (place + 1) word ∙ ap (λ n. held word (take n steps) first) (add-one place)
     ∙ held_next word steps place first ∙ ap (behind word (micro_at program script place)) (sym (code_at_held program script place word))
 
--- zeros behind a list change no number that is read with 0 for none
+-- zeros after a list change no number that is read with 0 for none
 zeros : (n i : ℕ) → ◌≡◌ {A = ℕ} (get_or (replicate n 0) i 0) 0
 zeros zero i = refl
 zeros (suc n) zero = refl
@@ -102,7 +102,7 @@ get_or-zeros (x ∷ xs) n (suc i) = get_or-zeros xs n i
 pub code_at_first : (program : Program) (script : List Command) (threads : ℕ) → AreCodeAt program script 0 (initial_words program threads)
 code_at_first program script threads word within = get_or-zeros (all_sled_words program) (2 + 2 * threads) word
 
--- a step changes each word to its value behind the step
+-- a step changes each word to its value after the step
 stored_behind : (words : List ℕ) (step : Micro) (word : ℕ) → word < length (stored words step)
     → slice_index (stored words step) word ≡ behind word step (slice_index words word)
 stored_behind words (Await thread count) word within = refl

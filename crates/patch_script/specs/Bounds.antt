@@ -7,12 +7,13 @@ use Rattle.patch_script.specs.declared.micro.Micro.{Micro}
 use Rattle.patch_script.specs.declared.micro.Micro.TheVariants.{Store, Await, End}
 use Rattle.patch_script.specs.Micros.{micros}
 
--- at the micro step the patcher waits until the thread has made the passing of a number, which counts from 0
+-- at this micro step the patcher waits until the thread has made this passing, counted from 0
 abbrev pub awaits_passing : ℕ → ℕ → Micro → Bool
 awaits_passing thread passing (Store word value) = false
 awaits_passing thread passing (Await awaited count) = (awaited == thread) && nat_lt passing count
 awaits_passing thread passing End = false
 
--- the bound of a thread's passing: the number of the first micro step that awaits it, or that of all micro steps
+-- the bound of a thread's passing: the number of the first micro step that awaits it, or of all micro steps if none
+-- does
 abbrev pub bound_of : Program → List Command → ℕ → ℕ → ℕ
 bound_of program script thread passing = position_or_len (awaits_passing thread passing) (micros program script)

@@ -17,7 +17,7 @@ program_of draft = draft.placed.image.value
 abbrev pub lines_of : Draft → Lines
 lines_of draft = lines_in draft.placed
 
--- the commands stand in their places, and what they have done is kept
+-- the commands are in their places, and the standing is what they have done
 pub record IsDraft (draft : Draft) : Type 0 where
   pub few_threads : draft.threads ≤ 16
   pub ids : draft.ids ≡ id_count (program_of draft)
@@ -28,24 +28,24 @@ pub record IsDraft (draft : Draft) : Type 0 where
 abbrev pub MayFollow : Draft → Command → Type 0
 MayFollow draft command = IsAdmitted (program_of draft) draft.threads (commands_of (lines_of draft)) command
 
--- the command is admitted, or its first refusal is told
+-- the command is admitted, or this is its first refusal
 abbrev pub Judges : {X : Type 0} → Draft → ℕ → Command → Result X ScriptFault → Type 0
 Judges draft number command (Ok x) = MayFollow draft command
 Judges draft number command (Err fault) = judged (program_of draft) draft.threads (lines_of draft) number command ≡ Err fault
 
--- the new draft has these lines, for the same image and threads
+-- the new draft has these lines, for the same image and the same threads
 pub record HasLines (old : Draft) (all : Lines) (new : Draft) : Type 0 where
   pub program : program_of new ≡ program_of old
   pub threads : new.threads ≡ old.threads
   pub lines : lines_of new ≡ all
   pub sound : IsDraft new
 
--- an answer that leaves the lines of a verdict, or tells its refusal, or memory ran out
+-- the answer for a verdict: the new draft has its lines, or this is its refusal, or memory ran out
 abbrev pub Takes : {X : Type 0} → Result X ScriptFault → Draft → Result Lines ScriptFault → Draft → Type 0
 Takes (Ok x) old verdict new = (verdict ≡ Ok (lines_of new)) × HasLines old (lines_of new) new
 Takes (Err fault) old verdict new = (fault ≡ faults.NoMemory) ⊎ (verdict ≡ Err fault)
 
--- the same of a draft that is answered, for an image and threads
+-- the same for a draft that is the answer, for an image and a number of threads
 abbrev pub Reads : Program → ℕ → Result Draft ScriptFault → Result Lines ScriptFault → Type 0
 Reads program threads (Ok draft) verdict =
     (verdict ≡ Ok (lines_of draft)) × (program_of draft ≡ program) × (draft.threads ≡ threads) × IsDraft draft

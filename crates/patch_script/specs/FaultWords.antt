@@ -1,9 +1,10 @@
--- The words in which a line on err says why a text is no script: the name of the refusal and its value, a blank between them.
+-- The words that a line on err gives for a text that isn't a script: the name of the refusal and its value, with a
+-- blank between them.
 use Rattle.std.specs.Prelude.{ℕ, List, ◌++◌, Option, Some, None, codes, decimal}
 use Rattle.patch_script.specs.declared.fault.ScriptFault.{ScriptFault}
 use Rattle.patch_script.specs.declared.fault.ScriptFault.TheVariants.{Limit, Syntax, Function, Thread, Go, Hold, Log, SelfWait, NoMemory}
 
--- the words; none where memory ran out, which refuses nothing
+-- the words; there are none if memory ran out, since nothing is refused then
 abbrev pub script_words : ScriptFault → Option (List ℕ)
 script_words (Limit line) = Some (codes "Limit " ++ decimal line)
 script_words (Syntax line) = Some (codes "Syntax " ++ decimal line)

@@ -10,12 +10,12 @@ abbrev pub patches_all : Command → Bool
 patches_all commands.Patch = true
 patches_all _ = false
 
--- `patch_function` of a function
+-- `patch_function` for a function
 abbrev pub patches_function : ℕ → Command → Bool
 patches_function id (commands.PatchFunction patched) = patched == id
 patches_function id _ = false
 
--- what a table has for an id, which counts from 1
+-- the table's value for an id, which counts from 1
 abbrev pub first_in : List (Option ℕ) → ℕ → Option ℕ
 first_in table zero = None
 first_in table (suc n) = option_and_then (λ first. first) (slice_get table n)
@@ -25,28 +25,28 @@ abbrev pub first_number : (Command → Bool) → List Command → Option ℕ
 first_number test [] = None
 first_number test (command ∷ behind) = if test command then Some 0 else option_map suc (first_number test behind)
 
--- the tables name the first commands that patch all sleds, and those of a function
+-- the tables hold the numbers of the first commands that patch all sleds, and of those that patch a function
 pub record AreFirst (ids : ℕ) (script : List Command) (first : FirstPatches) : Type 0 where
   pub room : length first.by_id.items ≡ ids
   pub all : first.all ≡ first_number patches_all script
   pub by_id : (id : ℕ) → first_in first.by_id.items id ≡ first_number (patches_function id) script
 
--- a number that is known, or that of a command that passes
+-- a known number, or else the number of a command that passes
 abbrev pub or_number : Option ℕ → Bool → ℕ → Option ℕ
 or_number first passes number = option_or first (if passes then Some number else None)
 
--- the new tables are the old ones with the command of a number
+-- the new tables are the old ones with one more command
 pub record AddsFirst (old : FirstPatches) (command : Command) (number : ℕ) (new : FirstPatches) : Type 0 where
   pub room : length new.by_id.items ≡ length old.by_id.items
   pub all : new.all ≡ or_number old.all (patches_all command) number
   pub by_id : (id : ℕ) → first_in new.by_id.items id ≡ or_number (first_in old.by_id.items id) (patches_function id command) number
 
--- the table has a place for the function that a command patches
+-- the table has a place for the function that the command patches
 abbrev pub HasRoom : Command → FirstPatches → Type 0
 HasRoom (commands.PatchFunction id) first = (0 < id) × (id ≤ length first.by_id.items)
 HasRoom _ first = Unit {0}
 
--- a command is before that of a number
+-- a command comes before the one with this number
 abbrev pub is_before : Option ℕ → ℕ → Bool
 is_before (Some first) number = nat_lt first number
 is_before None number = false

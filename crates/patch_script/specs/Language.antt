@@ -21,21 +21,21 @@ keywords =
     ∷ (codes "hold", words.Hold) ∷ (codes "go", words.Go)
     ∷ (codes "release", words.Release) ∷ (codes "await", words.Await) ∷ []
 
--- what a table has for a word
+-- the keyword that a table has for a word
 abbrev pub in_table : List (List ℕ × Keyword) → List ℕ → Option Keyword
 in_table table word = option_map (λ entry. entry.1) (find (λ entry. is_word entry.0 word) table)
 
 abbrev pub keyword_of : List ℕ → Option Keyword
 keyword_of word = in_table keywords word
 
--- a command on one number, and on two
+-- a command with one number, and one with two
 abbrev pub on_one : (ℕ → Command) → List ℕ → Option Command
 on_one command word = option_map command (number_of word)
 
 abbrev pub on_two : (ℕ → ℕ → Command) → List ℕ → List ℕ → Option Command
 on_two command first second = option_and_then (λ n. option_map (command n) (number_of second)) (number_of first)
 
--- the command that a keyword is with the words behind it
+-- the command that a keyword is with the words after it
 abbrev pub says : Keyword → List (List ℕ) → Option Command
 says words.Patch [] = Some commands.Patch
 says words.Unpatch [] = Some commands.Unpatch

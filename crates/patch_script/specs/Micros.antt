@@ -41,18 +41,18 @@ patch_sled program (k, sled) =
     ∷ Store (word_of k Head) (patched program.trampolines sled Head)
     ∷ []
 
--- the head that unpatching leaves: a jump over the sled; or a return, whose high byte is what stood there
+-- the head that unpatching leaves: a jump over the sled, or a return that keeps the high byte that was there
 abbrev pub head_left : SledKind → Bool → ℕ
 head_left Entry was_patched = 0x09EB
 head_left Tail was_patched = 0x09EB
 head_left Exit true = 0xBAC3
 head_left Exit false = 0x2EC3
 
--- unpatching a sled stores its head alone; the sleds that earlier commands patched are known by their numbers
+-- Unpatching a sled stores only its head. The sleds that earlier commands patched are known by their numbers.
 abbrev pub unpatch_sled : List ℕ → Numbered → Micro
 unpatch_sled earlier (k, sled) = Store (word_of k Head) (head_left sled.kind (list_any (λ j. j == k) earlier))
 
--- the micro steps of a command behind others that patched the sleds of these numbers
+-- the micro steps of a command, if earlier commands patched the sleds of these numbers
 abbrev pub steps_of : Program → List ℕ → Command → List Micro
 steps_of program earlier commands.Patch = flat_map (patch_sled program) (all_sleds program)
 steps_of program earlier commands.Unpatch = map (unpatch_sled earlier) (all_sleds program)
@@ -71,7 +71,7 @@ steps_of program earlier (commands.Await thread count) = Await thread count ∷ 
 abbrev pub numbers : List Numbered → List ℕ
 numbers sleds = map (λ s. s.0) sleds
 
--- the micro steps of commands, one command's behind the other's
+-- the micro steps of commands, command after command
 abbrev pub micros_behind : Program → List ℕ → List Command → List Micro
 micros_behind program earlier [] = []
 micros_behind program earlier (command ∷ rest) =
@@ -85,18 +85,18 @@ abbrev pub is_go : Command → Bool
 is_go commands.Go = true
 is_go _ = false
 
--- how many micro steps stand before `go`, and how many there are
+-- how many micro steps come before `go`, and how many there are
 abbrev pub start_of : Program → List Command → ℕ
 start_of program script = length (micros program (take_while (λ c. not (is_go c)) script))
 
 abbrev pub total_of : Program → List Command → ℕ
 total_of program script = length (micros program script)
 
--- the micro step at a place, and the end behind them all
+-- the micro step at a place, or the end after all of them
 abbrev pub micro_at : Program → List Command → ℕ → Micro
 micro_at program script place = unwrap_or (slice_get (micros program script) place) End
 
--- the passing before which a script holds a thread
+-- the passing that a script holds a thread before
 abbrev pub hold_by : ℕ → Command → Option ℕ
 hold_by thread (commands.Hold held passing) = if held == thread then Some passing else None
 hold_by thread _ = None

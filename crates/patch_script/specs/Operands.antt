@@ -1,4 +1,4 @@
--- The words behind a keyword, as they were counted.
+-- The words after a keyword, as they were counted.
 use Rattle.std.specs.Prelude.{◌≡◌, ◌<◌, ℕ, List, [], ◌∷◌, length}
 use Rattle.patch_script.specs.declared.line.Operands.{Operands}
 use Rattle.patch_script.specs.declared.line.Operands.TheVariants.{Zero, One, Two, Many}

@@ -1,4 +1,4 @@
--- Commands in their places, as they are kept.
+-- Commands in their places, as they are stored.
 use Rattle.std.specs.Prelude.{◌≡◌, ◌<◌, ◌≤◌, ◌+◌, ◌*◌, ◌-◌, ℕ, List, length, map, take, slice_get, slice_index_or, false, Some}
 use Rattle.std.specs.List.{flat_map}
 use Rattle.std.specs.List.Sorted.{IsNonDecreasingBy}
@@ -15,7 +15,7 @@ use Rattle.patch_script.specs.Plans.{waiting_line}
 use Rattle.patch_script.specs.Refusals.{Lines, commands_of, names_no_function, names_no_thread}
 use Rattle.patch_script.specs.Sleds.{values_of, HasSleds}
 
--- how many micro steps a command is that patches or unpatches so many sleds
+-- how many micro steps a command has, by the number of sleds that it patches or unpatches
 abbrev pub step_count : Command → ℕ → ℕ
 step_count commands.Patch sleds = 4 * sleds
 step_count commands.Unpatch sleds = sleds
@@ -36,32 +36,32 @@ line_in placed = (placed.line, placed.command)
 abbrev pub lines_in : PlacedCommands → Lines
 lines_in placed = map line_in placed.commands.items
 
--- the release words of threads are words
+-- the threads that the command names have release words
 abbrev pub NamesFewThreads : Command → Type 0
 NamesFewThreads (commands.Release thread) = thread ≤ 16
 NamesFewThreads _ = Unit {0}
 
--- a command stands in its place
+-- a command is in its place
 pub record IsPlaced (program : Program) (earlier : List Command) (placed : Placed) : Type 0 where
   pub before : placed.before ≡ total_of program earlier
   pub sleds : HasSleds program placed.command placed.sleds
   pub thread : NamesFewThreads placed.command
 
--- the numbers of the sleds that the commands before one patch
+-- the numbers of the sleds that the commands so far patch
 abbrev pub patched_by : Program → List Command → List ℕ
 patched_by program script = flat_map (λ command. numbers (patches program command)) script
 
 abbrev pub patched_before : PlacedCommands → ℕ → List ℕ
 patched_before placed number = patched_by placed.image.value (take number (commands_of (lines_in placed)))
 
--- what is kept of an image
+-- what is kept belongs to the image
 pub record IsOfImage (program : Program) (placed : PlacedCommands) : Type 0 where
   pub few : length program.sleds ≤ 4096
   pub in_order : IsNonDecreasingBy (λ sled. sled.id) program.sleds
   pub sleds : placed.sleds.items ≡ map (values_of program.trampolines) program.sleds
   pub handler : placed.handler_word ≡ handler_word program
 
--- the commands stand in their places
+-- the commands are in their places
 pub record ArePlaced (placed : PlacedCommands) : Type 0 where
   pub image : IsOfImage placed.image.value placed
   pub each : (i : ℕ) (one : Placed) → slice_get placed.commands.items i ≡ Some one
@@ -73,13 +73,13 @@ pub record ArePlaced (placed : PlacedCommands) : Type 0 where
   pub few : placed.total ≤ 16384 * length (lines_in placed)
   pub room : length (lines_in placed) ≤ 1024
 
--- a command that may be added: its function and its thread exist, and a script has at most 1,024 commands
+-- A command that may be added. Its function and its thread exist, and there are fewer than 1,024 commands so far.
 pub record MayFollow (placed : PlacedCommands) (command : Command) : Type 0 where
   pub function : names_no_function placed.image.value command ≡ false
   pub thread : names_no_thread 16 command ≡ false
   pub room : length (lines_in placed) < 1024
 
--- the micro step at a place is one of the command of a number
+-- the micro step at a place belongs to the command with this number
 pub record IsAt (placed : PlacedCommands) (place number : ℕ) : Type 0 where
   pub within : number < length placed.commands.items
   pub begins : (d : Placed) → (slice_index_or placed.commands.items number d).before ≤ place

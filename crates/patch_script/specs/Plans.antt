@@ -12,7 +12,7 @@ use Rattle.patch_script.specs.declared.micro.Micro.{Micro}
 use Rattle.patch_script.specs.declared.micro.Micro.TheVariants.{Store, Await, End}
 use Rattle.patch_script.specs.Refusals.{Lines, commands_of, has_go, holds_for_good, IsAdmitted, read_lines, ended, ◌>>=◌}
 
--- what contracts see of a `Script`: its commands with their lines, and what they are for
+-- what contracts see of a `Script`: its commands with their lines, and the program and threads that they are for
 pub record Plan : Type 0 where
   -- the program whose sleds it patches
   pub program : Program
@@ -28,7 +28,7 @@ plan_of program threads text =
     >>= (λ said. ended (length (lines text) + 1) said)
     >>= λ said. Ok (record { program = program; threads = threads; lines = said })
 
--- a thread may wait for the command, or the patcher at it
+-- a thread may wait because of the command, or the patcher may wait at it
 abbrev pub is_waiting : Command → Bool
 is_waiting (commands.Hold thread passing) = true
 is_waiting (commands.Release thread) = true
@@ -39,11 +39,11 @@ is_waiting _ = false
 abbrev pub waiting_line : Lines → Option ℕ
 waiting_line lines = option_map (λ line. line.0) (find (λ line. is_waiting line.1) lines)
 
--- some text has the script
+-- some text says the script
 abbrev pub IsRead : Plan → Type 0
 IsRead plan = (text : List ℕ) × (plan_of plan.program plan.threads text ≡ Ok plan)
 
--- each command of the script may stand behind those before it, and nothing is missing at the end
+-- each command of the script may follow those before it, and nothing is missing at the end
 pub record IsOrderly (plan : Plan) : Type 0 where
   pub admitted : (i : ℕ) (line : ℕ × Command) → slice_get plan.lines i ≡ Some line
       → IsAdmitted plan.program plan.threads (take i (commands_of plan.lines)) line.1
@@ -51,8 +51,8 @@ pub record IsOrderly (plan : Plan) : Type 0 where
   pub released : list_any (holds_for_good (commands_of plan.lines)) (commands_of plan.lines) ≡ false
   pub few : length plan.lines ≤ 1024
 
--- the word that a micro step stores in is one of those before the progress words, and the thread that it waits for is one of the
--- script's
+-- The word that a micro step stores in comes before the progress words. The thread that it waits for is one of the
+-- script's.
 abbrev pub IsWithin : Plan → Micro → Type 0
 IsWithin plan (Store word value) = word < code_word_count plan.program plan.threads
 IsWithin plan (Await thread count) = (0 < thread) × (thread ≤ plan.threads)

@@ -1,5 +1,5 @@
--- The refusals of scripts, in the order in which they are looked for: line by line, on one line in the order of its
--- rows, and then at the end of the text. Each row is a condition on the commands before the line.
+-- The refusals of scripts, in the order of the checks: line by line, for each line in the order of its rows, and then
+-- at the end of the text. Each row is a condition on the commands before the line.
 use Rattle.std.specs.Prelude.{◌≡◌, ℕ, ◌||◌, ◌&&◌, ◌==◌, Bool, true, false, not, nat_lt, nat_le, List, [], ◌∷◌, ◌++◌, length, map, Option, Some, None, is_some, Result, Ok, Err, if◌then◌else◌}
 use Rattle.std.specs.Option.{option_map_or}
 use Rattle.std.specs.List.{list_any}
@@ -60,7 +60,7 @@ names_no_thread threads (commands.Release thread) = is_beyond threads thread
 names_no_thread threads (commands.Await thread count) = is_beyond threads thread
 names_no_thread threads _ = false
 
--- threads are held before they start, and released and awaited behind that; they start once
+-- Threads are held before `go`, and released and awaited after it. There is one `go`.
 abbrev pub is_misplaced : List Command → Command → Bool
 is_misplaced before commands.Go = has_go before
 is_misplaced before (commands.Hold thread passing) = has_go before
@@ -74,19 +74,19 @@ breaks_hold before (commands.Hold thread passing) = is_held thread before
 breaks_hold before (commands.Release thread) = not (is_held thread before) || is_released thread before
 breaks_hold before _ = false
 
--- the log is initialized once, and finalized once behind that
+-- the log is initialized once, and finalized once after that
 abbrev pub breaks_log : List Command → Command → Bool
 breaks_log before commands.Init = list_any is_init before
 breaks_log before commands.Finalize = not (list_any is_init before) || list_any is_finalize before
 breaks_log before _ = false
 
--- a thread that is still held before a passing makes no more passings than the ones before that
+-- a thread that is held before a passing, and not released, makes no more passings than the ones before it
 abbrev pub waits_for_itself : List Command → Command → Bool
 waits_for_itself before (commands.Await thread count) =
     option_map_or (λ passing. nat_lt passing count) (hold_of thread before) false && not (is_released thread before)
 waits_for_itself before _ = false
 
--- no row refuses a command behind those before it
+-- no row refuses a command that follows these
 pub record IsAdmitted (program : Program) (threads : ℕ) (before : List Command) (command : Command) : Type 0 where
   pub function : names_no_function program command ≡ false
   pub thread : names_no_thread threads command ≡ false
@@ -95,7 +95,7 @@ pub record IsAdmitted (program : Program) (threads : ℕ) (before : List Command
   pub log : breaks_log before command ≡ false
   pub wait : waits_for_itself before command ≡ false
 
--- the lines with one more, or the first row of its refusals that applies
+-- the lines with one more, or the first row that refuses it
 abbrev pub judged : Program → ℕ → Lines → ℕ → Command → Result Lines ScriptFault
 judged program threads before number command =
     if names_no_function program command then Err (Function number)
@@ -106,7 +106,7 @@ judged program threads before number command =
     else if waits_for_itself (commands_of before) command then Err (SelfWait number)
     else Ok (before ++ (number, command) ∷ [])
 
--- words that are no command are refused before that
+-- words that aren't a command are refused earlier
 abbrev pub spoken : Program → ℕ → Lines → ℕ → Option Command → Result Lines ScriptFault
 spoken program threads before number None = Err (Syntax number)
 spoken program threads before number (Some command) = judged program threads before number command
@@ -115,7 +115,7 @@ spoken program threads before number (Some command) = judged program threads bef
 abbrev pub command_in : List ℕ → Option Command
 command_in line = if is_clean line then command_of (words_of line) else None
 
--- a line without words is skipped, and a 1,025th with words is refused first of all
+-- A line without words is skipped. The 1,025th line with words is refused before anything else is checked.
 abbrev pub with_line : Program → ℕ → Lines → ℕ × List ℕ → Result Lines ScriptFault
 with_line program threads before (number, line) =
     if length (words_of line) == 0 then Ok before
@@ -127,7 +127,7 @@ abbrev pub ◌>>=◌ : {A B : Type 0} → Result A ScriptFault → (A → Result
 (Ok x) >>= f = f x
 (Err e) >>= f = Err e
 
--- the commands of all lines, behind those before them, or the first refusal
+-- the commands of all lines, after those before them, or the first refusal
 abbrev pub read_lines : Program → ℕ → Lines → List (ℕ × List ℕ) → Result Lines ScriptFault
 read_lines program threads before [] = Ok before
 read_lines program threads before (line ∷ behind) =
@@ -140,7 +140,7 @@ abbrev pub holds_for_good : List Command → Command → Bool
 holds_for_good script (commands.Hold thread passing) = not (is_released thread script)
 holds_for_good script _ = false
 
--- what is missing at the end is told with the number behind the last line
+-- what is missing at the end is refused with the number after the last line
 abbrev pub ended : ℕ → Lines → Result Lines ScriptFault
 ended number lines =
     if not (has_go (commands_of lines)) then Err (Go number)

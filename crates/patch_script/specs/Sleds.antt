@@ -1,4 +1,4 @@
--- The sleds of commands, as the patcher keeps them.
+-- The sleds of commands, as the patcher stores them.
 use Rattle.std.specs.Prelude.{◌≡◌, ◌<◌, ◌≤◌, ◌-◌, ℕ, List, [], length, take, drop, slice_index_or}
 use Rattle.xray_image.specs.declared.sled.Sled.{Sled}
 use Rattle.xray_image.specs.Program.{Program, Trampolines}
@@ -20,7 +20,7 @@ values_of trampolines sled = record {
   offset = patched trampolines sled Offset;
 }
 
--- what patching stores in a part, by what is kept
+-- what patching stores in a part, from what is kept
 abbrev pub value_in : SledValues → Part → ℕ
 value_in sled Head = patched_head
 value_in sled Id = sled.id
@@ -30,7 +30,7 @@ value_in sled Offset = sled.offset
 abbrev pub no_sleds : SledRange
 no_sleds = record { start = 0; end = 0 }
 
--- the sleds before the range have lower ids, those in it this one, and those behind it higher ones
+-- the sleds before the range have lower ids, those in it have this one, and those after it have higher ones
 pub record HasId (sleds : List SledValues) (id : ℕ) (range : SledRange) : Type 0 where
   pub ordered : range.start ≤ range.end
   pub within : range.end ≤ length sleds
@@ -46,7 +46,7 @@ sleds_named program (commands.PatchFunction id) = sleds_of program id
 sleds_named program (commands.UnpatchFunction id) = sleds_of program id
 sleds_named program _ = []
 
--- those that stand in a range
+-- the sleds in a range
 abbrev pub in_range : SledRange → List Numbered → List Numbered
 in_range range sleds = take (range.end - range.start) (drop range.start sleds)
 

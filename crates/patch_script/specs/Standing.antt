@@ -1,4 +1,4 @@
--- What the commands so far have done, as it is kept.
+-- What the commands so far have done, as it is stored.
 use Rattle.std.specs.Prelude.{◌≡◌, ℕ, zero, suc, Bool, true, false, ◌==◌, ◌||◌, List, slice_index_or, Option, Some, None, if◌then◌else◌}
 use Rattle.std.specs.List.{list_any}
 use Rattle.patch_script.specs.declared.command.Command.{Command}
@@ -17,11 +17,11 @@ abbrev pub hold_in : Holds → ℕ → Hold
 hold_in holds zero = Free
 hold_in holds (suc n) = slice_index_or holds.threads n Free
 
--- the same where one thread's is another
+-- the same, with another hold for one thread
 abbrev pub with_hold : Holds → ℕ → Hold → ℕ → Hold
 with_hold holds thread hold other = if thread == other then hold else hold_in holds other
 
--- the passing before which a thread is held
+-- the passing that a thread is held before
 abbrev pub passing_of : Hold → Option ℕ
 passing_of Free = None
 passing_of (Held passing) = Some passing
@@ -51,25 +51,25 @@ was_finalized Uninitialized = false
 was_finalized Initialized = false
 was_finalized Finalized = true
 
--- a held thread is released
+-- the hold of a thread that is released
 abbrev pub released_of : Hold → Hold
 released_of Free = Free
 released_of (Held passing) = Released passing
 released_of (Released passing) = Released passing
 
--- the hold of a thread behind a command
+-- the hold of a thread after a command
 abbrev pub hold_after : ℕ → Command → Hold → Hold
 hold_after thread (commands.Hold held passing) hold = if held == thread then Held passing else hold
 hold_after thread (commands.Release released) hold = if released == thread then released_of hold else hold
 hold_after thread _ hold = hold
 
--- the log behind a command
+-- the log after a command
 abbrev pub log_after : Command → Log → Log
 log_after commands.Init log = Initialized
 log_after commands.Finalize log = Finalized
 log_after _ log = log
 
--- the new standing is the old one with a command
+-- the new standing is the old one after a command
 pub record Follows (old : Standing) (command : Command) (new : Standing) : Type 0 where
   pub going : new.going ≡ (old.going || is_go command)
   pub log : new.log ≡ log_after command old.log

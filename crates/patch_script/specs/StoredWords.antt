@@ -6,7 +6,7 @@ use Rattle.patch_script.specs.declared.micro.Micro.{Micro}
 use Rattle.patch_script.specs.declared.micro.Micro.TheVariants.{Store, Await, End}
 use Rattle.patch_script.specs.CodeAt.{code_at}
 
--- the words behind a micro step
+-- the words after a micro step
 abbrev pub stored : List ℕ → Micro → List ℕ
 stored words (Store word value) = slice_set words word value
 stored words (Await thread count) = words

@@ -9,14 +9,14 @@ use Rattle.sled_words.specs.declared.part.Part.TheVariants.{Head, Id, Opcode, Of
 use Rattle.sled_words.specs.Words.{word_of, handler_word, state_word, release_word}
 use Rattle.sled_words.specs.Parts.{patched, unpatched}
 
--- the heads that a sled may have: patched, or a jump over the sled; at an exit sled a return, as the file has it or as
--- unpatching leaves it
+-- the heads that a sled may have: the patched one, a jump over the sled, or in an exit sled a return as the file has it
+-- or as unpatching leaves it
 abbrev pub IsHead : SledKind → ℕ → Type 0
 IsHead Entry head = (head ≡ 0xBA41) ⊎ (head ≡ 0x09EB)
 IsHead Tail head = (head ≡ 0xBA41) ⊎ (head ≡ 0x09EB)
 IsHead Exit head = (head ≡ 0xBA41) ⊎ ((head ≡ 0x2EC3) ⊎ (head ≡ 0xBAC3))
 
--- the values that a part of a sled may have: a head; or what the file has, or what patching stores
+-- the values that a part of a sled may have: a head, or what the file has, or what patching stores
 abbrev pub IsPartValue : Trampolines → Sled → Part → ℕ → Type 0
 IsPartValue trampolines sled Head value = IsHead sled.kind value
 IsPartValue trampolines sled Id value = (value ≡ unpatched sled Id) ⊎ (value ≡ patched trampolines sled Id)

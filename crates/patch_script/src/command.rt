@@ -1,4 +1,5 @@
-/// A command of a patch script, one a line. Function ids and threads count from 1, passings from 0.
+/// A command of a patch script. Each line has one. Function ids and threads count from 1, passings
+/// from 0.
 #[derive(Clone, Copy, Debug, PartialEq, Eq)]
 pub enum Command {
     /// `patch`: patches every sled.
@@ -17,7 +18,7 @@ pub enum Command {
     },
     /// `set_handler`: installs the handler.
     SetHandler,
-    /// `remove_handler`: takes the handler out.
+    /// `remove_handler`: removes the handler.
     RemoveHandler,
     /// `init`: initializes the log.
     Init,
@@ -27,7 +28,7 @@ pub enum Command {
     Hold {
         /// The thread that waits.
         thread: u32,
-        /// The passing before which it waits.
+        /// The passing that it waits before.
         passing: u32,
     },
     /// `go`: the threads start here.
@@ -37,11 +38,11 @@ pub enum Command {
         /// The thread.
         thread: u32,
     },
-    /// `await T N`: waits until a thread has made so many passings or has ended.
+    /// `await T N`: waits until a thread has made this many passings or has ended.
     Await {
         /// The thread.
         thread: u32,
-        /// How many passings.
+        /// The number of passings.
         count: u32,
     },
 }

@@ -1,4 +1,4 @@
-//! Which sleds were patched before.
+//! Which sleds were patched by earlier commands.
 
 ghost use Rattle.std.specs.Prelude.{◌≡◌, ◌||◌, [], IfOk};
 ghost use Rattle.patch_script.specs.FirstPatches.{is_before};
@@ -9,13 +9,13 @@ use std::alloc::{AllocError, Global};
 /// The numbers, counted from 0, of the first commands that patch sleds.
 #[derive(Debug, Drop)]
 pub(crate) struct FirstPatches {
-    /// That of the first `patch`.
+    /// The number of the first `patch`.
     all: Option<u32>,
-    /// For each function id, from id 1 on, that of its first `patch_function`.
+    /// For each function id, from 1 on, the number of its first `patch_function`.
     by_id: Vec<Option<u32>>,
 }
 
-/// Whether a command comes before that of a number.
+/// Whether a command comes before the one with this number.
 fn is_before(command: Option<u32>, number: u32) -> bool
     ensures { result ≡ is_before command number }
 {
@@ -28,7 +28,7 @@ fn is_before(command: Option<u32>, number: u32) -> bool
 impl FirstPatches {
     ghost use Rattle.patch_script.specs.FirstPatches.{first_in, AreFirst, AddsFirst, HasRoom};
 
-    /// Of no commands, for an image with so many function ids.
+    /// No commands yet, for an image with this many function ids.
     pub(crate) fn new(alloc: Global, ids: u32) -> Result<FirstPatches, AllocError>
         ensures { IfOk result (λ first. AreFirst ids [] first) }
     {
@@ -38,7 +38,7 @@ impl FirstPatches {
         })
     }
 
-    /// Adds the command of a number.
+    /// Adds a command with its number.
     pub(crate) fn add(&mut self, command: Command, number: u32)
         requires { HasRoom command self.old }
         ensures { AddsFirst self.old command number self.new }
@@ -53,14 +53,14 @@ impl FirstPatches {
         }
     }
 
-    /// Whether a command before that of the number patches the sleds of a function.
+    /// Whether a command before the one with this number patches the sleds of a function.
     pub(crate) fn patch_before(&self, id: u32, number: u32) -> bool
         ensures { result ≡ (is_before self.now.all number || is_before (first_in self.now.by_id.items id) number) }
     {
         is_before(self.all, number) || is_before(self.of_function(id), number)
     }
 
-    /// The first `patch_function` of a function. `None` where there is no such function.
+    /// The number of the first `patch_function` of a function, or `None` if there is none.
     fn of_function(&self, id: u32) -> Option<u32>
         ensures { result ≡ first_in self.now.by_id.items id }
     {

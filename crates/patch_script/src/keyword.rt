@@ -20,7 +20,7 @@ pub(crate) enum Keyword {
     Await,
 }
 
-/// The keywords as they are written.
+/// The keywords, as scripts have them.
 const KEYWORDS: [(&[u8], Keyword); 12] = [
     (b"patch", Keyword::Patch),
     (b"unpatch", Keyword::Unpatch),
@@ -36,7 +36,7 @@ const KEYWORDS: [(&[u8], Keyword); 12] = [
     (b"await", Keyword::Await),
 ];
 
-/// The keyword of a table's first entry with a word.
+/// The keyword of a table's first entry for a word.
 fn keyword_at(table: &[(&[u8], Keyword)], word: &[u8]) -> Option<Keyword>
     ensures { result ≡ option_map (λ e. e.1) (find (λ e. is_word e.0.now word.now) table.now) }
 {
@@ -51,7 +51,7 @@ fn keyword_in(table: &[(&[u8], Keyword)], word: &[u8]) -> Option<Keyword>
     keyword_at(table, word)
 }
 
-/// The keyword that a word is.
+/// The keyword that a word is, if it is one.
 pub(crate) fn keyword_of(word: &[u8]) -> Option<Keyword>
     ensures { result ≡ keyword_of word.now }
 {

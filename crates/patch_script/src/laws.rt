@@ -1,4 +1,4 @@
-//! What follows for the definitions. Each law is the contract of a function that does nothing.
+//! Laws of the definitions. Each law is the contract of a function that does nothing.
 
 ghost use Rattle.std.specs.Prelude.{◌≡◌, ◌<◌, ◌≤◌, ◌+◌, ℕ, List, Some, slice_get, unwrap_or};
 ghost use Rattle.xray_image.specs.declared.sled.Sled.{Sled};
@@ -15,30 +15,30 @@ ghost use Rattle.patch_script.specs.Values.{IsCodeValue};
 
 use crate::micro::Micro;
 
-/// Whoever loads a patched head loads behind it what patching stores, however many stores come between
-/// the loads: no store of any script changes an id, an opcode or an offset to anything else, and the
-/// head is stored behind the three.
+/// If a thread loads a patched head, it then loads from the sled's other parts what patching
+/// stores, however many stores come between the loads. No script stores anything else in an id, an
+/// opcode or an offset, and it stores these three before the head.
 pub fn a_patched_head_has_patched_parts()
     ensures { (program : Program) (script : List Command) (p q k : ℕ) (sled : Sled)
         → slice_get program.sleds k ≡ Some sled → p ≤ q
         → HasPatchedHead program script p k → HasPatchedParts program script q k sled }
 {}
 
-/// At each place, each word has one of its few values.
+/// At each place, each word has one of a few values.
 pub fn each_word_has_a_code_value()
     ensures { (program : Program) (script : List Command) (place word : ℕ)
         → IsCodeValue program word (code_at program script place word) }
 {}
 
-/// Whatever a script stores keeps each sled whole for a thread that passes it: what it loads is allowed,
-/// wherever its loads fall between the stores.
+/// The stores of any script keep each sled whole for a thread that passes it. What the thread loads
+/// is allowed, wherever its loads fall between the stores.
 pub fn each_script_keeps_sleds()
     ensures { (program : Program) (script : List Command) (thread : ℕ)
         → KeepsSleds program thread (code_at program script) }
 {}
 
-/// Stores that are made one by one give the code at each place: at first the words are those before the
-/// script, and a micro step brings each of them to its value at the next place.
+/// Stores made one by one give the code at each place. At first the words are those before the
+/// script. Each micro step brings the words to their values at the next place.
 #[inline(always)]
 pub fn stores_give_the_code()
     ensures first { (program : Program) (script : List Command) (threads : ℕ)
@@ -51,9 +51,9 @@ pub fn stores_give_the_code()
         ≡ unwrap_or (stored_in word (micro_at program script place)) (code_at program script place word) }
 {}
 
-/// How far the patcher may have come while a thread makes a passing: up to the first micro step that
-/// awaits it. The patcher stands within the bound as long as each await that it has passed is for no
-/// more passings than the thread had made before this one.
+/// How far the patcher may have come while a thread makes a passing: up to the first micro step
+/// that awaits this passing. The patcher is within this bound if each await so far was for at most
+/// the passings that the thread had made before this one.
 #[inline(always)]
 pub fn awaits_bound_passings()
     ensures within { (program : Program) (script : List Command) (thread passing : ℕ)

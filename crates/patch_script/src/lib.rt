@@ -1,8 +1,9 @@
 //! Patch scripts: which texts are scripts, and what their commands mean as stores.
 //!
-//! `line` reads a line as a command, `standing` keeps what the commands so far have done, by which `reading` refuses
-//! the first line that may not follow, and `placed` gives each command its place among the micro steps. The micro steps
-//! of a script aren't stored: a script may have some sixteen million of them, and each is found by its place.
+//! `line` reads a line as a command. `standing` keeps what the commands so far have done. By that,
+//! `reading` refuses the first line that may not follow. `placed` gives each command its place
+//! among the micro steps. The micro steps of a script aren't stored, since there may be some
+//! sixteen million. Each is found by its place.
 #![tactic(auto)]
 
 mod command;

@@ -1,4 +1,4 @@
-//! A line as the command that it is.
+//! A line as its command.
 
 ghost use Rattle.std.specs.Prelude.{◌≡◌, ◌==◌, ◌∷◌, [], not, length};
 ghost use Rattle.text_lines.specs.Words.{words_of};
@@ -10,17 +10,17 @@ use crate::command::Command;
 use crate::keyword::{Keyword, keyword_of};
 use text_lines::{Line, Words, parse_number};
 
-/// The words behind a keyword.
+/// The words after a keyword.
 #[derive(Clone, Copy)]
 pub(crate) enum Operands<'a> {
     Zero,
     One(&'a [u8]),
     Two(&'a [u8], &'a [u8]),
-    /// Three words or more, which no command has.
+    /// Three words or more. No command has as many.
     Many,
 }
 
-/// The words that are left.
+/// Takes the words that are left.
 fn read_operands<'a>(mut words: Words<'a>) -> Operands<'a>
     ensures { AreOperands words.entry result }
 {
@@ -36,7 +36,7 @@ fn read_operands<'a>(mut words: Words<'a>) -> Operands<'a>
     }
 }
 
-/// The command that a keyword is alone.
+/// The command that a keyword is by itself.
 fn says_alone(keyword: Keyword) -> Option<Command>
     ensures { result ≡ says keyword [] }
 {
@@ -96,7 +96,7 @@ fn says_two(keyword: Keyword, first: &[u8], second: &[u8]) -> Option<Command>
     }
 }
 
-/// The command that a keyword is with the words behind it.
+/// The command that a keyword is with the words after it.
 fn says(keyword: Keyword, words: Words) -> Option<Command>
     ensures { result ≡ says keyword words.entry }
 {
@@ -108,7 +108,7 @@ fn says(keyword: Keyword, words: Words) -> Option<Command>
     }
 }
 
-/// The command that words are.
+/// The command that these words are.
 fn command_of(mut words: Words) -> Option<Command>
     ensures { result ≡ command_of words.entry }
 {
@@ -117,14 +117,14 @@ fn command_of(mut words: Words) -> Option<Command>
     says(keyword, words)
 }
 
-/// Whether a line says nothing.
+/// Whether a line has no words.
 pub(crate) fn is_blank(line: &Line) -> bool
     ensures { result ≡ (length (words_of line.now.bytes.now) == 0) }
 {
     line.words().next().is_none()
 }
 
-/// The command that a line is. `None` where it is no command.
+/// The command that a line is, or `None` if it isn't one.
 pub(crate) fn command_in(line: &Line) -> Option<Command>
     ensures { result ≡ command_in line.now.bytes.now }
 {

@@ -1,4 +1,4 @@
-/// One step of the patcher: what it does to the words between two moments of the threads.
+/// One step of the patcher.
 #[derive(Clone, Copy, Debug, PartialEq, Eq)]
 pub enum Micro {
     /// A store of a value in a word.
@@ -8,13 +8,13 @@ pub enum Micro {
         /// The value, in the word's size.
         value: u64,
     },
-    /// A wait until a thread has made so many passings or has ended.
+    /// A wait until a thread has made this many passings or has ended.
     Await {
         /// The thread, from 1.
         thread: u32,
-        /// How many passings.
+        /// The number of passings.
         count: u32,
     },
-    /// Nothing: the script is at its end.
+    /// Nothing: the script has ended.
     End,
 }

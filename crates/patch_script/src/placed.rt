@@ -16,10 +16,10 @@ use std::alloc::{AllocError, Global};
 use std::snapshot::Snapshot;
 use xray_image::Image;
 
-/// The parts of a sled in the order in which patching stores them.
+/// The parts of a sled, in the order in which patching stores them.
 const PATCH_ORDER: [Part; 4] = [Part::Id, Part::Opcode, Part::Offset, Part::Head];
 
-/// A command in its place.
+/// A command with its place.
 #[derive(Clone, Copy, Debug)]
 pub(crate) struct Placed {
     /// The number of its line, from 1.
@@ -27,32 +27,33 @@ pub(crate) struct Placed {
     pub(crate) command: Command,
     /// The sleds that it patches or unpatches.
     sleds: SledRange,
-    /// How many micro steps stand before it.
+    /// How many micro steps come before it.
     before: u64,
 }
 
-/// Commands in their places, with what tells their micro steps.
+/// Commands in their places, and what their micro steps are made of.
 #[derive(Drop)]
 pub(crate) struct PlacedCommands {
-    /// The image, for contracts alone.
+    /// The image, for contracts only.
     pub(crate) image: Snapshot<Image>,
     pub(crate) commands: Vec<Placed>,
-    /// How many micro steps they are.
+    /// How many micro steps there are.
     pub(crate) total: u64,
-    /// How many of them stand before `go`, or of all where it isn't there.
+    /// How many of them come before `go`. If there is no `go`, this is the number of all.
     pub(crate) start: u64,
-    /// The line of the first command at which somebody may wait.
+    /// The line of the first command at which a thread or the patcher may wait.
     pub(crate) waits: Option<u32>,
     first_patches: FirstPatches,
     sleds: Vec<SledValues>,
-    /// The word of the handler, and the first behind those of the sleds.
+    /// The number of the handler's word, which is the first after those of the sleds.
     handler_word: u32,
 }
 
 impl Command {
     ghost use Rattle.patch_script.specs.Placing.{step_count};
 
-    /// How many micro steps a command is that patches or unpatches so many sleds.
+    /// How many micro steps a command has. `sleds` is the number of sleds that it patches or
+    /// unpatches.
     fn step_count(self, sleds: u32) -> u64
         ensures { result ≡ step_count self sleds }
     {
@@ -66,7 +67,7 @@ impl Command {
         }
     }
 
-    /// The command's line, where a thread or the patcher may wait at it.
+    /// The command's line, if a thread or the patcher may wait at it.
     fn waiting_line(self, line: u32) -> Option<u32>
         ensures { result ≡ (if is_waiting self then Some line else None) }
     {
@@ -116,7 +117,7 @@ impl PlacedCommands {
         }
     }
 
-    /// Adds a command of a line. `going` says whether a `go` came before.
+    /// Adds the command of a line. `going` says whether `go` came before it.
     pub(crate) fn push(
         &mut self,
         line: u32,
@@ -145,7 +146,8 @@ impl PlacedCommands {
         Ok(())
     }
 
-    /// How many micro steps stand before `go`: as many as before where it came before, and all where it didn't.
+    /// How many micro steps come before `go`. If `go` came earlier, the number stays. Otherwise it
+    /// is that of all micro steps so far.
     fn start_behind(&self, going: bool) -> u64
         ensures { result ≡ (if going then self.now.start else self.now.total) }
     {
@@ -165,7 +167,7 @@ impl PlacedCommands {
         self.step(number as u32, placed, place - placed.before)
     }
 
-    /// The number of the command whose micro steps the one at a place is among.
+    /// The number of the command that the micro step at a place belongs to.
     fn number_at(&self, place: u64) -> usize
         requires sound { ArePlaced self.now }
         requires within { place < self.now.total }
@@ -176,7 +178,7 @@ impl PlacedCommands {
             - 1
     }
 
-    /// A step of the command of a number.
+    /// A micro step of the command with this number.
     fn step(&self, number: u32, placed: Placed, step: u64) -> Micro
         requires sound { ArePlaced self.now }
         requires placed { slice_get self.now.commands.items number ≡ Some placed }
@@ -219,7 +221,7 @@ impl PlacedCommands {
         }
     }
 
-    /// A store that patches a sled, of the part of a number in the order of patching.
+    /// The store that patches a part of a sled. Parts are numbered in the order of patching.
     fn patch_step(&self, sled: u32, part: usize) -> Micro
         requires sound { ArePlaced self.now }
         requires sled { sled < length self.now.image.value.sleds }
@@ -234,7 +236,7 @@ impl PlacedCommands {
         }
     }
 
-    /// The store by which the command of a number unpatches a sled.
+    /// The store by which the command with this number unpatches a sled.
     fn unpatch_step(&self, number: u32, sled: u32) -> Micro
         requires sound { ArePlaced self.now }
         requires sled { sled < length self.now.image.value.sleds }

@@ -1,4 +1,4 @@
-//! Scripts from their texts.
+//! Reading scripts from their texts.
 
 ghost use Rattle.std.specs.Prelude.{◌≡◌, ◌<◌, ◌≤◌, ◌⊎◌, ◌++◌, ◌∷◌, [], ◌+◌, List, ℕ, length, Ok, Err, IfOk, OnOk};
 ghost use Rattle.std.specs.Str.Lines.{lines};
@@ -23,7 +23,7 @@ use xray_image::Image;
 /// The most commands of a script.
 const COMMAND_LIMIT: usize = 1024;
 
-/// The commands so far.
+/// The commands that were read so far.
 #[derive(Drop)]
 pub(crate) struct Draft {
     /// How many threads there are.
@@ -34,7 +34,7 @@ pub(crate) struct Draft {
     pub(crate) standing: Standing,
 }
 
-/// Whether a number is none of those from 1 to a count.
+/// Whether a number isn't one of those from 1 to `count`.
 fn is_beyond(count: u32, number: u32) -> bool
     ensures { result ≡ is_beyond count number }
 {
@@ -55,7 +55,7 @@ impl Draft {
         })
     }
 
-    /// Whether a command names a function that isn't there.
+    /// Whether a command names a function that doesn't exist.
     fn names_no_function(&self, command: Command) -> bool
         ensures { (program : Program) → self.now.ids ≡ id_count program
             → result ≡ names_no_function program command }
@@ -68,7 +68,7 @@ impl Draft {
         }
     }
 
-    /// Whether a command names a thread that isn't there.
+    /// Whether a command names a thread that doesn't exist.
     fn names_no_thread(&self, command: Command) -> bool
         ensures { result ≡ names_no_thread self.now.threads command }
     {
@@ -80,7 +80,7 @@ impl Draft {
         }
     }
 
-    /// The first refusal of a line's command, by the commands before it.
+    /// The first refusal that applies to the command of a line, by the commands before it.
     fn judge(&self, line: u32, command: Command) -> Result<(), ScriptFault>
         requires { IsDraft self.now }
         ensures { Judges self.now line command result }
@@ -140,7 +140,7 @@ impl Draft {
     }
 }
 
-/// Reads all lines. The first refusal answers.
+/// Reads all lines. The answer is the first refusal, if there is one.
 fn read_lines(alloc: Global, text: &[u8], image: &Image, threads: u32) -> Result<Draft, ScriptFault>
     requires threads { threads ≤ MAX_THREADS }
     requires few { length (lines text.now) < u32.MAX }
@@ -154,9 +154,9 @@ fn read_lines(alloc: Global, text: &[u8], image: &Image, threads: u32) -> Result
     Ok(draft)
 }
 
-/// Reads a script for an image and a number of threads. Where the text is none the answer is its first refusal, as
-/// `ScriptFault` tells; `NoMemory` may come in place of any answer. The lines of the text are counted by `u32`. Takes
-/// time linear in the text's length and in the image's sleds, with a binary search for each command on a function.
+/// Reads a script for an image and a number of threads. If the text isn't a script, the answer is
+/// its first refusal; see `ScriptFault`. `NoMemory` may come in place of any answer. Line numbers
+/// are of type `u32`.
 pub fn read_script(
     alloc: Global,
     text: &[u8],

@@ -1,4 +1,4 @@
-//! The words in which a line on err says why a text is no script.
+//! The words that a line on err gives for a text that isn't a script.
 
 use crate::fault::ScriptFault;
 use fault_words::{Fault, Words};

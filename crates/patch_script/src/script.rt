@@ -1,4 +1,4 @@
-//! A script that was read, and what it tells.
+//! A script that was read, and what it says.
 
 ghost use Rattle.std.specs.Prelude.{◌≡◌, ◌<◌, ◌≤◌, ◌↔◌, ℕ};
 ghost use Rattle.patch_script.specs.Micros.{start_of, total_of, micro_at, hold_of};
@@ -11,11 +11,11 @@ use crate::reading::Draft;
 use crate::standing::Holds;
 use std::marker::Model;
 
-/// A patch script that was read for an image and a number of threads. Contracts see it as its commands with their
-/// lines, the image's program and the number of threads.
+/// A patch script that was read for an image and a number of threads. In contracts it is its
+/// commands with their lines, the image's program, and the number of threads.
 ///
-/// Its commands come to micro steps: single stores, and waits for a thread. They are numbered from 0 in the order in
-/// which the patcher makes them.
+/// Commands mean micro steps: single stores, and waits for a thread. Micro steps are numbered from
+/// 0, in the order in which the patcher makes them.
 #[derive(Drop)]
 pub struct Script {
     threads: u32,
@@ -38,7 +38,7 @@ impl Model for Script {
 impl Script {
     ghost use Rattle.patch_script.specs.Drafts.{IsWhole, plan_of_draft};
 
-    /// The script of all commands of a text.
+    /// The script of a whole text.
     pub(crate) fn of_draft(draft: Draft) -> Script
         requires { IsWhole draft }
         ensures { result ≡ plan_of_draft draft }
@@ -50,14 +50,14 @@ impl Script {
         }
     }
 
-    /// How many micro steps stand before `go`, where the threads start.
+    /// How many micro steps come before `go`, where the threads start.
     pub fn start(&self) -> u64
         ensures start { result ≡ start_of self.now.program (commands_of self.now.lines) }
         ensures within { result ≤ total_of self.now.program (commands_of self.now.lines) }
-        // The threads start behind stores alone.
+        // Before the threads start there are only stores.
         ensures stores { (place : ℕ) → place < result
             → IsStore (micro_at self.now.program (commands_of self.now.lines) place) }
-        // A script is what some text says, and its commands follow each other as they may.
+        // A script is what some text says, and each of its commands may follow those before it.
         ensures read { IsRead self.now }
         ensures orderly { IsOrderly self.now }
     {
@@ -72,8 +72,8 @@ impl Script {
         self.placed.total
     }
 
-    /// The micro step of a number, counted from 0. `End` exactly where there are no more than so many. It is found by a
-    /// binary search among the commands.
+    /// The micro step of this number, counted from 0. The answer is `End` exactly when there are no
+    /// more micro steps than that.
     pub fn micro(&self, p: u64) -> Micro
         ensures micro { result ≡ micro_at self.now.program (commands_of self.now.lines) p }
         ensures within { IsWithin self.now result }
@@ -82,15 +82,16 @@ impl Script {
         self.placed.micro(p)
     }
 
-    /// The passing, counted from 0, before which the script holds a thread. `None` exactly where it doesn't hold it.
+    /// The passing, counted from 0, before which the script holds a thread. The answer is `None`
+    /// exactly when it doesn't hold the thread.
     pub fn hold_of(&self, thread: u32) -> Option<u32>
         ensures { result ≡ hold_of thread (commands_of self.now.lines) }
     {
         self.holds.passing_of(thread)
     }
 
-    /// The line of the first `hold`, `release` or `await`, at which a thread or the patcher may wait. `None` exactly where
-    /// there is none.
+    /// The line of the first `hold`, `release` or `await`. There a thread or the patcher may wait.
+    /// The answer is `None` exactly when there is no such line.
     pub fn waits(&self) -> Option<u32>
         ensures { result ≡ waiting_line self.now.lines }
     {

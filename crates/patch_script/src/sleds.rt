@@ -10,11 +10,11 @@ use sled_words::{JUMP_HEAD, PATCHED_HEAD, Part, part_value};
 use std::alloc::{AllocError, Global};
 use xray_image::{Image, SledKind};
 
-/// What unpatching leaves as the head of an exit sled that was never patched: C3, which is `ret`, and 2E, which stands
-/// behind it in the file.
+/// The head that unpatching leaves in an exit sled that was never patched: C3, which is `ret`, and
+/// 2E, the byte after it in the file.
 const RETURN_HEAD: u64 = 0x2EC3;
 
-/// What it leaves of a patched one: C3 in place of the low byte of 41 BA.
+/// The head that it leaves in an exit sled that was patched: C3 in place of the low byte of 41 BA.
 const RETURN_OVER_PATCH: u64 = 0xBAC3;
 
 /// What the patcher has to know of a sled.
@@ -31,7 +31,7 @@ pub(crate) struct SledValues {
 impl SledValues {
     ghost use Rattle.patch_script.specs.Sleds.{value_in};
 
-    /// What there is to know of the sled of a number.
+    /// What the patcher has to know of the sled of this number.
     fn new(image: &Image, number: u32) -> SledValues
         requires { number < length image.now.sleds }
         ensures { (sled : Sled) → slice_get image.now.sleds number ≡ Some sled
@@ -58,7 +58,7 @@ impl SledValues {
         }
     }
 
-    /// The head that unpatching leaves.
+    /// The head that unpatching stores.
     pub(crate) fn unpatched_head(self, was_patched: bool) -> u64
         ensures { result ≡ head_left self.kind was_patched }
     {
@@ -73,7 +73,7 @@ impl SledValues {
     }
 }
 
-/// What there is to know of all sleds, in the order of the map.
+/// What the patcher has to know of all sleds, in the order of the map.
 pub(crate) fn sled_values(alloc: Global, image: &Image) -> Result<Vec<SledValues>, AllocError>
     ensures sleds { IfOk result (λ sleds. sleds.items
         ≡ map (values_of image.now.trampolines) image.now.sleds) }
@@ -88,7 +88,7 @@ pub(crate) fn sled_values(alloc: Global, image: &Image) -> Result<Vec<SledValues
     Ok(sleds)
 }
 
-/// Sleds that stand side by side in the map: those with the numbers from `start` up to, and without, `end`.
+/// A run of sleds in the map: those with numbers from `start` on, up to but not including `end`.
 #[derive(Clone, Copy, Debug)]
 pub(crate) struct SledRange {
     pub(crate) start: u32,
@@ -117,7 +117,7 @@ impl SledRange {
         }
     }
 
-    /// How many sleds they are.
+    /// How many sleds there are in the range.
     pub(crate) fn len(self) -> u32
         requires { self.start ≤ self.end }
         ensures { result ≡ self.end - self.start }

@@ -10,14 +10,14 @@ use crate::command::Command;
 /// The most threads that a script may name.
 const THREADS: usize = 16;
 
-/// Whether a thread waits at a passing.
+/// Whether a thread waits before a passing.
 #[derive(Clone, Copy, Debug, PartialEq, Eq)]
 pub(crate) enum Hold {
     /// No command holds the thread.
     Free,
-    /// The thread is held before a passing, and not released.
+    /// The thread is held before a passing, and no command has released it.
     Held { passing: u32 },
-    /// The thread is held before a passing, until a command that came releases it.
+    /// The thread was held before a passing, and a later command has released it.
     Released { passing: u32 },
 }
 
@@ -39,7 +39,7 @@ impl Holds {
         }
     }
 
-    /// The hold of a thread. `Free` where there is no such thread.
+    /// The hold of a thread. It is `Free` if there is no such thread.
     pub(crate) fn of(&self, thread: u32) -> Hold
         ensures { result ≡ hold_in self.now thread }
     {
@@ -61,7 +61,7 @@ impl Holds {
         self.threads[thread as usize - 1] = hold;
     }
 
-    /// Releases a thread, where it is held.
+    /// Releases a thread that is held. Other threads stay as they are.
     fn release(&mut self, thread: u32)
         requires some { 0 < thread }
         requires few { thread ≤ 16 }
@@ -75,7 +75,7 @@ impl Holds {
         self.set(thread, released);
     }
 
-    /// The passing before which a thread is held.
+    /// The passing that a thread is held before.
     pub(crate) fn passing_of(&self, thread: u32) -> Option<u32>
         ensures { result ≡ passing_of (hold_in self.now thread) }
     {
@@ -85,7 +85,7 @@ impl Holds {
         }
     }
 
-    /// Whether a thread is held that isn't released.
+    /// Whether some thread is held and not released.
     fn any_held(&self) -> bool
         ensures { result ≡ any_held self.now }
     {
@@ -95,7 +95,7 @@ impl Holds {
     }
 }
 
-/// In which state the log is.
+/// The state of the log.
 #[derive(Clone, Copy, Debug, PartialEq, Eq)]
 pub(crate) enum Log {
     Uninitialized,
@@ -115,7 +115,7 @@ pub(crate) struct Standing {
 impl Standing {
     ghost use Rattle.patch_script.specs.Standing.{IsStanding, Follows};
 
-    /// Before all commands.
+    /// The state before all commands.
     pub(crate) fn new() -> Standing
         ensures { IsStanding [] result }
     {
@@ -126,7 +126,7 @@ impl Standing {
         }
     }
 
-    /// Whether a command stands on the wrong side of `go`.
+    /// Whether a command is on the wrong side of `go`.
     pub(crate) fn misplaces(&self, command: Command) -> bool
         ensures { (before : List Said) → IsStanding before self.now
             → result ≡ is_misplaced before command }
@@ -138,7 +138,8 @@ impl Standing {
         }
     }
 
-    /// Whether a command holds a held thread, or releases one that isn't held or was released.
+    /// Whether a command holds a thread that was held before, or releases one that isn't held or
+    /// was released.
     pub(crate) fn breaks_hold(&self, command: Command) -> bool
         ensures { (before : List Said) → IsStanding before self.now
             → result ≡ breaks_hold before command }
@@ -150,7 +151,7 @@ impl Standing {
         }
     }
 
-    /// Whether a command can't follow in the log's state.
+    /// Whether a command isn't allowed in the log's state.
     pub(crate) fn breaks_log(&self, command: Command) -> bool
         ensures { (before : List Said) → IsStanding before self.now
             → result ≡ breaks_log before command }
@@ -162,7 +163,7 @@ impl Standing {
         }
     }
 
-    /// Whether a command awaits passings of a held thread behind the one where it is held.
+    /// Whether a command awaits passings that a held thread can't make before it is released.
     pub(crate) fn waits_for_itself(&self, command: Command) -> bool
         ensures { (before : List Said) → IsStanding before self.now
             → result ≡ waits_for_itself before command }
@@ -191,7 +192,7 @@ impl Standing {
         }
     }
 
-    /// Whether a thread is held for good.
+    /// Whether a thread is held and never released.
     pub(crate) fn holds_for_good(&self) -> bool
         ensures { (script : List Said) → IsStanding script self.now
             → result ≡ list_any (holds_for_good script) script }

@@ -1,4 +1,4 @@
-//! Scripts for one small image: which are refused and where, and the micro steps of those that aren't.
+//! Scripts for one small image: which are refused and where, and the micro steps of the others.
 
 use super::*;
 use std::alloc::Global;
@@ -6,7 +6,8 @@ use std::test::Fail;
 use text_lines::count_lines;
 use xray_image::{Image, read_image};
 
-/// A function `main` that outputs an A: an entry sled at 0x1000, `mov eax, 0x41`, `out 1, al` and an exit sled at 0x1012.
+/// A function `main` that prints an A: an entry sled at 0x1000, `mov eax, 0x41`, `out 1, al` and an
+/// exit sled at 0x1012.
 const OUTPUTS_AN_A: [u8; 170] = [
     // magic, version, base 0x1000
     0x58, 0x52, 0x49, 0x4D, 1, 0, 0, 0, 0x00, 0x10, 0, 0, 0, 0, 0, 0,
@@ -26,7 +27,7 @@ const OUTPUTS_AN_A: [u8; 170] = [
     0, 0, 0, 0, 0, 0, 0, 0,
 ];
 
-/// The script of a text that has fewer lines than 2,000, for one thread.
+/// The script of a text with fewer than 2,000 lines, for one thread.
 fn script_of(alloc: Global, text: &[u8], image: &Image) -> Result<Script, ScriptFault> {
     if count_lines(text) > 2_000 {
         return Err(ScriptFault::NoMemory);
@@ -34,7 +35,7 @@ fn script_of(alloc: Global, text: &[u8], image: &Image) -> Result<Script, Script
     read_script(alloc, text, image, 1)
 }
 
-/// Why the text is no script.
+/// Why the text isn't a script.
 fn fault_of(alloc: Global, text: &[u8], image: &Image) -> Option<ScriptFault> {
     match script_of(alloc, text, image) {
         Ok(_) => None,

@@ -13,7 +13,7 @@ found_within : (sleds : List Sled) (k : ℕ) (P : Sled → Type 0) (found : Opti
 found_within sleds k P None is some = absurd some
 found_within sleds k P (Some sled) is some = slice_get_within sleds k sled is
 
--- a sled that a unit names has its words where there are words of all sleds
+-- the words of a sled that a unit names are there if those of all sleds are
 pub unit_has_words : (units : List Unit) (sleds : List Sled) (words : List ℕ) → SledsStand units sleds → length sleds ≤ 4096 → 4 * length sleds ≤ length words
     → (i : ℕ) (u : Unit) → slice_get units i ≡ Some u → (what : What) → u.what ≡ what → HasWords words what
 unit_has_words units sleds words stand few all i u at (whats.Plain instr) is = tt

@@ -9,20 +9,20 @@ use Rattle.sled_words.specs.declared.part.Part.TheVariants.{Head, Id, Opcode, Of
 use Rattle.sled_words.specs.Words.{word_of, handler_word, state_word, release_word}
 use Rattle.sled_words.specs.Parts.{patched_head, patched}
 
--- a head of a sled that isn't patched: a jump over the sled; or a return, whatever stands behind its byte C3
+-- the head of a sled that isn't patched: a jump over the sled, or the byte C3 of a return and any second byte
 abbrev pub IsUnpatchedHead : SledKind → ℕ → Type 0
 IsUnpatchedHead Entry head = head ≡ 0x09EB
 IsUnpatchedHead Tail head = head ≡ 0x09EB
 IsUnpatchedHead Exit head = (head < 2 ^ 16) × (head % 256 ≡ 0xC3)
 
--- what a passing may load from a part of a sled: a head, or behind a patched head what patching stores
+-- what a passing may load from a part of a sled: a head, and after a patched head what patching stores
 abbrev pub IsAllowedPart : Trampolines → Sled → Part → ℕ → Type 0
 IsAllowedPart trampolines sled Head value = (value ≡ patched_head) ⊎ IsUnpatchedHead sled.kind value
 IsAllowedPart trampolines sled Id value = value ≡ patched trampolines sled Id
 IsAllowedPart trampolines sled Opcode value = value ≡ patched trampolines sled Opcode
 IsAllowedPart trampolines sled Offset value = value ≡ patched trampolines sled Offset
 
--- What a passing of a thread may load from a word. Of the release words it loads its own alone.
+-- What a passing of a thread may load from a word. Of the release words, only the thread's own is limited.
 pub record IsAllowed (program : Program) (thread word value : ℕ) : Type 0 where
   pub part : (k : ℕ) (sled : Sled) (part : Part) → slice_get program.sleds k ≡ Some sled → word ≡ word_of k part
       → IsAllowedPart program.trampolines sled part value

@@ -7,8 +7,9 @@ use Rattle.sled_words.specs.Allowed.{IsAllowed}
 use Rattle.sled_words.specs.Parts.{patched_head}
 use Rattle.sled_words.specs.Words.{handler_word, word_of}
 
--- The changes keep each sled whole for a thread that loads its head first and then its other parts: a head is allowed at each place, and
--- so are the words behind those of the sleds; each part of a sled is at a place that isn't before one where its head is patched.
+-- The changes keep each sled whole for a thread that loads its head first, and then its other parts. The head is
+-- allowed at each place. So are the words after those of the sleds. Once the head is patched at a place, each other
+-- part is allowed there and at all later places.
 pub record KeepsSleds (program : Program) (thread : ℕ) (code : ℕ → ℕ → ℕ) : Type 0 where
   pub head : (place k : ℕ) → IsAllowed program thread (word_of k Head) (code place (word_of k Head))
   pub part : (p q k : ℕ) (part : Part) → p ≤ q → code p (word_of k Head) ≡ patched_head

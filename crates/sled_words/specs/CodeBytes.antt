@@ -17,25 +17,25 @@ part_size Id = 4
 part_size Opcode = 1
 part_size Offset = 4
 
--- the bytes of a part of a sled, as its word has them, in little-endian order
+-- the bytes of a part of a sled, taken from its word in little-endian order
 abbrev pub part_bytes : List ℕ → ℕ → Part → List ℕ
 part_bytes words sled part = take (part_size part) (to_le_bytes w64 (slice_index words (word_of sled part)))
 
--- the eleven bytes of a sled, as its words have them
+-- the eleven bytes of a sled, taken from its words
 abbrev pub sled_bytes : List ℕ → ℕ → List ℕ
 sled_bytes words sled = part_bytes words sled Head ++ part_bytes words sled Id ++ part_bytes words sled Opcode ++ part_bytes words sled Offset
 
--- the bytes of a unit: those of a sled as the words have them, all others as in the image
+-- the bytes of a unit: those of a sled are taken from the words, and all others are those of the image
 abbrev pub unit_bytes : List ℕ → What → List ℕ
 unit_bytes words (whats.Plain instr) = spelling instr
 unit_bytes words (whats.Sled sled) = sled_bytes words sled
 unit_bytes words whats.Pad = 0x90 ∷ []
 
--- the bytes of the code, one unit's behind the other's
+-- the bytes of the code, unit after unit
 abbrev pub code_bytes : Program → List ℕ → List ℕ
 code_bytes program words = flat_map (λ unit. unit_bytes words unit.what) program.units
 
--- a unit that is a sled has its words among the words
+-- if a unit is a sled, its words are among the words
 abbrev pub HasWords : List ℕ → What → Type 0
 HasWords words (whats.Plain instr) = Unit {0}
 HasWords words (whats.Sled sled) = (sled < 2 ^ 30) × (4 * sled + 3 < length words)

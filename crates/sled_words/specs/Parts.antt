@@ -19,13 +19,14 @@ unpatched_head Tail = 0x09EB
 abbrev pub patched_head : ℕ
 patched_head = 0xBA41
 
--- the opcode of a patched sled: a jump to the exit trampoline, a call of the others
+-- the opcode of a patched sled: a jump to the exit trampoline, or a call of the others
 abbrev pub patched_opcode : SledKind → ℕ
 patched_opcode Entry = 0xE8
 patched_opcode Exit = 0xE9
 patched_opcode Tail = 0xE8
 
--- the displacement of a call or a jump: its target's distance from the address behind it, as 32 bits in two's complement
+-- the displacement of a call or a jump: the distance of its target from the address after it, as 32 bits in two's
+-- complement
 abbrev pub displacement : ℕ → ℕ → ℕ
 displacement behind target = unsigned_abs (int_rem_euclid (pos target -ℤ pos behind) (pos (2 ^ 32)))
 
@@ -40,7 +41,7 @@ unpatched sled Id = 0x841F0F66
 unpatched sled Opcode = 0
 unpatched sled Offset = sled.shift
 
--- the parts of a patched sled: mov r10d, id, and a call or a jump to the trampoline
+-- the parts of a patched sled: mov r10d, id, and then a call of the trampoline or a jump to it
 abbrev pub patched : Trampolines → Sled → Part → ℕ
 patched trampolines sled Head = patched_head
 patched trampolines sled Id = sled.id
@@ -59,6 +60,6 @@ sled_words sled = unpatched sled Head ∷ unpatched sled Id ∷ unpatched sled O
 abbrev pub all_sled_words : Program → List ℕ
 all_sled_words program = flat_map sled_words program.sleds
 
--- all words before the script: those of the sleds unpatched, all others 0
+-- all words before the script: those of the sleds are unpatched, and all others are 0
 abbrev pub initial_words : Program → ℕ → List ℕ
 initial_words program threads = all_sled_words program ++ replicate (2 + 2 * threads) 0

@@ -1,4 +1,4 @@
--- The numbers of the words: four a sled, then the handler's and the state's, then two a thread.
+-- The numbers of the words: four per sled, then the handler's and the state's, then two per thread.
 use Rattle.std.specs.Prelude.{ℕ, ◌+◌, ◌*◌, length}
 use Rattle.xray_image.specs.Program.{Program}
 use Rattle.sled_words.specs.declared.part.Part.{Part}
@@ -26,14 +26,14 @@ state_word program = 4 * length program.sleds + 1
 abbrev pub release_word : Program → ℕ → ℕ
 release_word program thread = 4 * length program.sleds + 1 + thread
 
--- the word in which a thread says how many passings it has made
+-- the word in which a thread keeps the number of its passings
 abbrev pub progress_word : Program → ℕ → ℕ → ℕ
 progress_word program threads thread = 4 * length program.sleds + 1 + threads + thread
 
--- how many words there are before the progress words: those that the patcher stores in, and that passings load
+-- how many words come before the progress words; the patcher stores in these words, and passings load them
 abbrev pub code_word_count : Program → ℕ → ℕ
 code_word_count program threads = 4 * length program.sleds + 2 + threads
 
--- how many words there are for so many threads
+-- how many words there are for this many threads
 abbrev pub word_count : Program → ℕ → ℕ
 word_count program threads = 4 * length program.sleds + 2 + 2 * threads

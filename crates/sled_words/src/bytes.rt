@@ -1,4 +1,4 @@
-//! The code's bytes while its sleds change.
+//! The bytes of the code while its sleds change.
 
 ghost use Rattle.std.specs.Prelude.{◌≡◌, ◌<◌, ◌≤◌, ◌+◌, ◌*◌, ◌^◌, ◌++◌, length, IfOk, OnOk};
 ghost use Rattle.sled_words.specs.CodeBytes.{code_bytes as bytes_of_code, part_bytes, part_size, sled_bytes, unit_bytes, HasWords};
@@ -11,18 +11,18 @@ use xray_image::format::ALIGNMENT;
 use xray_image::{Image, What};
 use xray_io::NoMemory;
 
-/// The bytes of the code with each sled's taken from its words: what a processor would execute that met them so. Of
-/// a word the low bytes are taken, as many as its part has: two of a head, four of an id, one of an opcode and four of
-/// an offset, in little-endian order.
+/// The bytes of the code, with those of each sled taken from its words: the code that a processor
+/// would execute if it read these values. A word gives its low bytes, as many as its part has: two
+/// of a head, four of an id, one of an opcode and four of an offset, in little-endian order.
 ///
-/// It takes memory once; `NoMemory` comes where that was refused. The words are those of the sleds and any others
-/// behind them.
+/// `words` holds the words of the sleds, and may hold more after them. `NoMemory` means that an
+/// allocation was refused.
 pub fn code_bytes(alloc: Global, image: &Image, words: &[u64]) -> Result<Vec<u8>, NoMemory>
     requires { 4 * length image.now.sleds ≤ length words.now }
     ensures { IfOk result (λ bytes. bytes.items ≡ bytes_of_code image.now words.now) }
 {
     let mut bytes = Vec::with_capacity(alloc, image.code().len())?;
-    // Says that the sleds which units name are there.
+    // Called for its contract: the sleds that units name exist.
     image.sled_count();
     for i in 0..image.unit_count() {
         push_unit(&mut bytes, image.unit(i).what, words)?;
@@ -58,7 +58,7 @@ fn push_sled(bytes: &mut Vec<u8>, sled: u32, words: &[u64]) -> Result<(), AllocE
     Ok(())
 }
 
-/// Appends the bytes of a part of a sled: the low ones of its word.
+/// Appends the bytes of a part of a sled: the low bytes of its word.
 fn push_part(bytes: &mut Vec<u8>, sled: u32, part: Part, words: &[u64]) -> Result<(), AllocError>
     requires few { sled < 2 ^ 30 }
     requires words { 4 * sled + 3 < length words.now }

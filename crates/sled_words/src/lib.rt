@@ -1,7 +1,9 @@
-//! The words of an image's sleds, and of the threads that pass them: what patching stores and a passing loads.
+//! The words of an image's sleds, and those of the threads that pass them: what patching stores and
+//! passings load.
 //!
-//! A sled has 11 bytes, in four parts. Each part is a word of its own, so that a running thread loads it, and the
-//! patcher stores it, in one piece. The layout is that of LLVM's compiler-rt, `xray_x86_64.cpp`.
+//! A sled has 11 bytes, in four parts. Each part is a word of its own: a running thread loads it
+//! whole, and the patcher stores it whole. The layout is that of LLVM's compiler-rt,
+//! `xray_x86_64.cpp`.
 #![tactic(auto)]
 
 mod bytes;

@@ -1,11 +1,12 @@
-//! The words of one image, whose trampolines lie above its code and below it.
+//! The words of one image, with trampolines above its code and below it.
 ghost use Rattle.std.specs.Prelude.{◌<◌, length};
 
 use crate::{Part, handler_word, initial_words, part_value, word_of};
 use std::test::Fail;
 use xray_image::{Image, read_image};
 
-/// A function `main` that outputs an A: an entry sled at 0x1000, `mov eax, 0x41`, `out 1, al` and an exit sled at 0x1012.
+/// A function `main` that prints an A: an entry sled at 0x1000, `mov eax, 0x41`, `out 1, al` and an
+/// exit sled at 0x1012.
 const OUTPUTS_AN_A: [u8; 170] = [
     // magic, version, base 0x1000
     0x58, 0x52, 0x49, 0x4D, 1, 0, 0, 0, 0x00, 0x10, 0, 0, 0, 0, 0, 0,
@@ -71,7 +72,7 @@ fn patched_sleds_call_and_jump_to_their_trampolines(rt: HostRuntime) -> Result<(
     assert_eq!(rt; patched_values(&image, 0), [0xBA41, 1, 0xE8, 0x1F_FFF5]);
     assert_eq!(rt; patched_values(&image, 1), [0xBA41, 1, 0xE9, 0x1F_FFF3]);
 
-    // Trampolines at 0xF00 and 0xF10, 267 and 269 bytes below the ends of the sleds.
+    // Trampolines at 0xF00 and 0xF10. They are 267 and 269 bytes below the ends of the sleds.
     let mut below = OUTPUTS_AN_A;
     below[33] = 0x0F;
     below[34] = 0;

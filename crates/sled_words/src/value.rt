@@ -7,31 +7,34 @@ use subset_decode::opcodes::{CALL, JMP};
 use xray_image::format::{self, SLED_LENGTH};
 use xray_image::{Image, Sled, SledKind};
 
-/// The head of an entry or tail sled in the file: EB 09, a jump over the nine bytes of the nop behind it
+/// The head of an entry or tail sled in the file: EB 09, a jump over the nop of nine bytes after it
 /// (`Jmp9Seq` of `xray_x86_64.cpp`).
 pub const JUMP_HEAD: u64 = format::JUMP_HEAD[0] as u64 | (format::JUMP_HEAD[1] as u64) << 8;
 
-/// The head of an exit sled in the file: C3, which is `ret`, and 2E, the first byte of the nop of ten bytes behind it.
+/// The head of an exit sled in the file: C3, which is `ret`, and 2E, the first byte of the nop of
+/// ten bytes after it.
 const RETURN_HEAD: u64 = format::RETURN_HEAD[0] as u64 | (format::RETURN_HEAD[1] as u64) << 8;
 
-/// The head of a patched sled: 41 BA, of which `mov r10d, imm32` begins (`MovR10Seq` of `xray_x86_64.cpp`). The
-/// function id behind it is the immediate.
+/// The head of a patched sled: 41 BA, the first bytes of `mov r10d, imm32` (`MovR10Seq` of
+/// `xray_x86_64.cpp`). The function id after it is the immediate.
 pub const PATCHED_HEAD: u64 = 0xBA41;
 
-/// 66 0F 1F 84, with which the nop behind an unpatched sled's head begins: `nopw disp32(rax, rax)` (Intel SDM vol. 2B).
+/// 66 0F 1F 84, the first bytes of the nop after an unpatched sled's head: `nopw disp32(rax, rax)`
+/// (Intel SDM vol. 2B).
 const NOP: u64 = format::NOP[0] as u64
     | (format::NOP[1] as u64) << 8
     | (format::NOP[2] as u64) << 16
     | (format::NOP[3] as u64) << 24;
 
-/// 00, which stands between the nop's first four bytes and its displacement: the SIB byte of (rax, rax).
+/// 00, the byte between the nop's first four bytes and its displacement: the SIB byte of (rax,
+/// rax).
 const NOP_SIB: u64 = format::NOP[4] as u64;
 
-/// The value of a part of a sled: as the image file has it, or as patching stores it.
+/// The value of a part of a sled, as the image file has it or as patching stores it.
 ///
-/// A patched sled is `mov r10d, id` and then a call of the trampoline of its kind, or for an exit sled a jump to it; the
-/// offset counts from the sled's end. The value has the part's size: 2 bytes of a head, 4 of an id, 1 of an opcode and 4
-/// of an offset, in little-endian order.
+/// A patched sled is `mov r10d, id`, and then a call of the trampoline of its kind. In an exit sled
+/// it is a jump. The offset counts from the sled's end. The value has the part's size: 2 bytes for
+/// a head, 4 for an id, 1 for an opcode and 4 for an offset, in little-endian order.
 pub fn part_value(image: &Image, sled: u32, part: Part, patched: bool) -> u64
     requires { sled < length image.now.sleds }
     ensures { (s : Sled) → slice_get image.now.sleds sled ≡ Some s
@@ -74,7 +77,8 @@ fn patched_value(image: &Image, sled: Sled, part: Part) -> u64
     }
 }
 
-/// The displacement of a call or a jump that ends a sled: from the sled's end to the target, as 32 bits.
+/// The displacement of a call or jump that ends a sled: from the sled's end to the target, in 32
+/// bits.
 fn distance(sled_address: u64, target: u64) -> u64
     ensures { result ≡ displacement (sled_address + SLED_LENGTH) target }
 {

@@ -10,10 +10,11 @@ use xray_io::NoMemory;
 /// The most threads that run at once.
 pub const MAX_THREADS: u32 = 16;
 
-/// All words before a script's first store, for so many threads: of each sled its unpatched head, id, opcode and offset,
-/// and then zeros, for the handler's word, the state's, and two words of each thread.
+/// All words for `threads` threads, before a script's first store. Each sled has its unpatched
+/// head, id, opcode and offset. Then there are zeros for the handler's word, the state's, and two
+/// words per thread.
 ///
-/// It takes memory once; `NoMemory` comes where that was refused.
+/// `NoMemory` means that an allocation was refused.
 pub fn initial_words(alloc: Global, image: &Image, threads: u32) -> Result<Vec<u64>, NoMemory>
     requires { threads ≤ MAX_THREADS }
     ensures { IfOk result (λ words. words.items ≡ initial_words image.now threads) }
@@ -28,7 +29,7 @@ pub fn initial_words(alloc: Global, image: &Image, threads: u32) -> Result<Vec<u
     Ok(words)
 }
 
-/// The words of one sled as the image file has them.
+/// The words of a sled, as the image file has them.
 fn unpatched_words(sled: Sled) -> [u64; 4]
     ensures { result ≡ sled_words sled }
 {

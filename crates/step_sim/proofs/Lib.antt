@@ -19,9 +19,10 @@ pub mod AllRecorded
 pub mod Recordings
 pub mod Counting
 pub mod EndedRuns
+pub mod MoreLoads
 pub mod StockRuns
+pub mod LostRuns
 pub mod Beginnings
 pub mod Simulated
-pub mod Waiting
 pub mod OneRun
 pub mod SomeRun

@@ -27,10 +27,10 @@ pub eqb_not : (a b : ℕ) → a ≢ b → (a == b) ≡ false
 eqb_not a b apart = grind (arith, nat_tests)
 
 -- a segment is of its own thread
-serial_own : (thread serial : ℕ) → serials_of thread (Segment thread serial ∷ []) ≡ serial ∷ []
+pub serial_own : (thread serial : ℕ) → serials_of thread (Segment thread serial ∷ []) ≡ serial ∷ []
 serial_own thread serial = rw (eqb_is thread thread refl) refl
 
-serial_other : (owner thread serial : ℕ) → owner ≢ thread → serials_of thread (Segment owner serial ∷ []) ≡ []
+pub serial_other : (owner thread serial : ℕ) → owner ≢ thread → serials_of thread (Segment owner serial ∷ []) ≡ []
 serial_other owner thread serial apart = rw (eqb_not owner thread apart) refl
 
 pub serials_of-append : (thread : ℕ) (items others : List Item)
@@ -61,7 +61,7 @@ front_of [] item = record { front = item; is = refl }
 front_of (x ∷ queue) item = record { front = x; is = refl }
 
 -- the same items, in the same order
-same_items : (taken queue : List Item) (item : Item)
+pub same_items : (taken queue : List Item) (item : Item)
     → (taken ++ take 1 (queue ++ item ∷ [])) ++ drop 1 (queue ++ item ∷ []) ≡ (taken ++ queue) ++ item ∷ []
 same_items taken queue item =
     append_assoc taken (take 1 (queue ++ item ∷ [])) (drop 1 (queue ++ item ∷ []))

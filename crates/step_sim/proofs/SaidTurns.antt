@@ -1,5 +1,5 @@
--- A text that is a schedule names threads.
-use Rattle.std.proofs.Common.{◌≡◌, ◌<◌, ◌++◌, ℕ, Bool, true, false, List, [], ◌∷◌, Some, None, Ok, refl, arith}
+-- A text that is a schedule gives turns to its threads.
+use Rattle.std.proofs.Common.{◌≡◌, ◌<◌, ◌≤◌, ◌++◌, ℕ, Bool, true, false, List, [], ◌∷◌, Some, None, Ok, refl, arith}
 use Rattle.std.specs.Prelude.{nat_le, ◌&&◌}
 use Rattle.std.specs.List.{All, flat_map}
 use Rattle.std.proofs.lemmas.List.Elements.{All-cons, All-nil, All-append}
@@ -7,8 +7,10 @@ use Rattle.step_sim.specs.declared.fault.ScheduleFault.{ScheduleFault}
 use Rattle.step_sim.specs.declared.line.Said.{Said}
 use Rattle.step_sim.specs.declared.line.Said.TheVariants.{Nothing, Loads, Steps, Unknown}
 use Rattle.step_sim.specs.declared.turns.Turns.{Turns}
+use Rattle.step_sim.specs.declared.turns.Turns.TheVariants.{Thread, Patcher}
 use Rattle.step_sim.specs.Along.{NamesThread}
-use Rattle.step_sim.specs.Schedules.{decided, faults_of, is_thread, line_faults, line_turns, said_by, said_faults, schedule_of, turns_of, turns_said, unless}
+use Rattle.step_sim.specs.declared.fault.ScheduleFault.TheVariants as faults
+use Rattle.step_sim.specs.Schedules.{AreTurnsOf, decided, faults_of, is_count, is_thread, line_faults, line_turns, said_by, said_faults, schedule_of, turns_of, turns_said, unless}
 use Rattle.text_lines.specs.Lines.{numbered_lines}
 use Rattle.text_lines.specs.Words.{words_of}
 
@@ -35,32 +37,53 @@ first_holds false other is = absurd cc
 one_at_least : (n : ℕ) → nat_le 1 n ≡ true → 0 < n
 one_at_least n is = grind arith
 
-names_one : (threads number : ℕ) (said : Said) → said_faults threads number said ≡ [] → All NamesThread (turns_said said)
-names_one threads number Nothing none = All-nil NamesThread
-names_one threads number (Loads None count) none = absurd (let there = holds (is_thread threads None) _ (right_none _ _ none) in cc)
-names_one threads number (Loads (Some thread) None) none = All-nil NamesThread
-names_one threads number (Loads (Some thread) (Some count)) none =
+both_hold : (one other : Bool) → (one && other) ≡ true → other ≡ true
+both_hold true other is = is
+both_hold false other is = absurd cc
+
+at_most : (n most : ℕ) → nat_le n most ≡ true → n ≤ most
+at_most n most is = grind arith
+
+turns_one : (threads number : ℕ) (said : Said) → said_faults threads number said ≡ [] → All (AreTurnsOf threads) (turns_said said)
+turns_one threads number Nothing none = All-nil (AreTurnsOf threads)
+turns_one threads number (Loads None count) none = absurd (let there = holds (is_thread threads None) _ (right_none _ _ none) in cc)
+turns_one threads number (Loads (Some thread) None) none = All-nil (AreTurnsOf threads)
+turns_one threads number (Loads (Some thread) (Some count)) none =
     let there = holds (is_thread threads (Some thread)) _ (right_none _ _ none) in
-    All-cons NamesThread _ [] (one_at_least thread (first_holds _ _ there)) (All-nil NamesThread)
-names_one threads number (Steps None) none = All-nil NamesThread
-names_one threads number (Steps (Some count)) none = All-cons NamesThread _ [] tt (All-nil NamesThread)
-names_one threads number Unknown none = All-nil NamesThread
+    let counted = holds (is_count (Some count)) (faults.Syntax number) (left_none _ _ none) in
+    All-cons (AreTurnsOf threads) _ [] (
+      one_at_least thread (first_holds _ _ there),
+      at_most thread threads (both_hold (nat_le 1 thread) (nat_le thread threads) there),
+      one_at_least count counted,
+    ) (All-nil (AreTurnsOf threads))
+turns_one threads number (Steps None) none = All-nil (AreTurnsOf threads)
+turns_one threads number (Steps (Some count)) none =
+    let counted = holds (is_count (Some count)) (faults.Syntax number) (left_none _ _ none) in
+    All-cons (AreTurnsOf threads) _ [] (one_at_least count counted) (All-nil (AreTurnsOf threads))
+turns_one threads number Unknown none = All-nil (AreTurnsOf threads)
 
 -- ---- all lines
 
-names_all : (threads : ℕ) (lines : List (ℕ × List ℕ)) → flat_map (line_faults threads) lines ≡ [] → All NamesThread (flat_map line_turns lines)
-names_all threads [] none = All-nil NamesThread
-names_all threads ((number, line) ∷ lines) none =
+turns_all : (threads : ℕ) (lines : List (ℕ × List ℕ)) → flat_map (line_faults threads) lines ≡ [] → All (AreTurnsOf threads) (flat_map line_turns lines)
+turns_all threads [] none = All-nil (AreTurnsOf threads)
+turns_all threads ((number, line) ∷ lines) none =
     let here = right_none _ _ (left_none (line_faults threads (number, line)) _ none) in
-    All-append NamesThread (line_turns (number, line)) (flat_map line_turns lines)
-    (names_one threads number (said_by (words_of line)) here)
-    (names_all threads lines (right_none (line_faults threads (number, line)) _ none))
+    All-append (AreTurnsOf threads) (line_turns (number, line)) (flat_map line_turns lines)
+    (turns_one threads number (said_by (words_of line)) here)
+    (turns_all threads lines (right_none (line_faults threads (number, line)) _ none))
 
 decided_so : (faults : List ScheduleFault) (turns schedule : List Turns) → decided faults turns ≡ Ok schedule → (faults ≡ []) × (turns ≡ schedule)
 decided_so [] turns schedule is = (refl, cc)
 decided_so (fault ∷ later) turns schedule is = absurd cc
 
-pub names_threads : (threads : ℕ) (text : List ℕ) (schedule : List Turns) → schedule_of threads text ≡ Ok schedule → All NamesThread schedule
-names_threads threads text schedule is =
+pub turns_within : (threads : ℕ) (text : List ℕ) (schedule : List Turns) → schedule_of threads text ≡ Ok schedule → All (AreTurnsOf threads) schedule
+turns_within threads text schedule is =
     let so = decided_so (faults_of threads text) (turns_of text) schedule is in
-    rw (← so.1) (names_all threads (numbered_lines text) (right_none _ _ so.0))
+    rw (← so.1) (turns_all threads (numbered_lines text) (right_none _ _ so.0))
+
+names_of : (threads : ℕ) (turns : Turns) → AreTurnsOf threads turns → NamesThread turns
+names_of threads (Thread thread count) of = of.0
+names_of threads (Patcher count) of = tt
+
+pub names_threads : (threads : ℕ) (text : List ℕ) (schedule : List Turns) → schedule_of threads text ≡ Ok schedule → All NamesThread schedule
+names_threads threads text schedule is = λ k d within. names_of threads _ (turns_within threads text schedule is k d within)

@@ -21,7 +21,7 @@ use Rattle.step_sim.specs.declared.patcher.Patcher.{Patcher}
 use Rattle.step_sim.specs.declared.pool.Pool.{Pool}
 use Rattle.step_sim.specs.declared.turns.Turns.{Turns}
 use Rattle.step_sim.specs.Replay.{marks_at, of_thread}
-use Rattle.step_sim.specs.Replayed.{IsSimulated, cast_of, cast_with, passed_of, spare_of}
+use Rattle.step_sim.specs.Replayed.{IsReplayOf, IsSimulated, cast_of, cast_with, passed_of, spare_of}
 use Rattle.step_sim.specs.Pool.{AllPooledRunOut, Pooled, PooledReplay, pooled_lines, segments_among}
 use Rattle.step_sim.specs.Recorded.{is_of, numbers_from, pooling_of, segments_held}
 use Rattle.step_sim.specs.Schedules.{AreTurnsOf}
@@ -34,7 +34,8 @@ use Rattle.step_sim.proofs.Gathering.{all_gathered, first_are, sealed_are}
 use Rattle.step_sim.proofs.PoolLemmas.{AllSaid, SomeSaid, nonempty_count}
 use Rattle.step_sim.proofs.Recordings.{Ended, first_of, recording}
 use Rattle.step_sim.proofs.SmallIds.{recorded_short}
-use Rattle.step_sim.proofs.StockRuns.{StockIs, are_lost, first_is, lines_are, runs_are, segments_same}
+use Rattle.step_sim.proofs.LostRuns.{replay_loses}
+use Rattle.step_sim.proofs.StockRuns.{segments_same}
 
 -- ---- the number of segments
 
@@ -104,19 +105,7 @@ pub is_simulated : (program : Program) (script : List Command) (schedule lines :
     → IsSimulated program script schedule setup ts sealed segments first buffers
 is_simulated program script schedule lines setup passed count p ts pool sealed segments first buffers one accepted passed_count end counted said turns rest left = record {
   runs = runs;
-  replay = record {
-    run = record {
-      count = all.count;
-      plain = λ i run found.
-          let flipped : 1 + i ≡ i + 1 = omega arith in
-          subst (λ (n : ℕ). PlainRun program setup.limits n run.passed run.end run.last) flipped (all.each i run found).plain;
-    };
-    last = last;
-    replay = subst (λ (ps : List (List Passing)). PooledReplay (cast_of program script (map sleds_of ps))
-        (pooling_of (cast_of program script (map sleds_of ps)) ps setup.size (spare_of setup)) schedule last) (sym passed_is) replayed;
-    marks = marks_are;
-    lost = lost_are;
-  };
+  replay = replay_is;
   leaves = record {
     count = end.at.stands.count ∙ sym all.count;
     cpus_are = λ i run t found there.
@@ -130,7 +119,7 @@ is_simulated program script schedule lines setup passed count p ts pool sealed s
   sealed_are = left.sealed_are ∙ sealed_are r.stamp r.threads its last.stock pool end.at.holds
       ∙ sym (runs_map (λ run. segment_count setup.size run - 1) (λ t. segs t - 1) runs 1 setup.threads all.count
       (λ j run found. ap (λ (n : ℕ). n - 1) (count_is j run found)));
-  losses = are_lost r last ts pool runs all.count all.each end.at.holds stock;
+  losses = replay_loses program script schedule setup runs turns replay_is;
 }
   where
     r : Recording
@@ -205,9 +194,17 @@ is_simulated program script schedule lines setup passed count p ts pool sealed s
         ap (λ (n : ℕ). buffers_behind r.stamp n (1 + j) (segments_in r.stamp its (1 + j))) (sym (all.each j run found).lost)
         ∙ ap (buffers_behind r.stamp run.lost (1 + j)) (sym (segments_same r last ts (1 + j) run (omega arith) (all.each j run found))))
 
-    stock : StockIs r.threads r.spare last.stock
-    stock =
-        runs_are r.cast (pooling_in r) r.threads r.spare count 1 (fold (line_in r) (first_of r) lines) last (omega arith) (omega (arith, counted)) end.out
-        (lines_are r.cast (pooling_in r) r.threads r.spare lines (first_of r)
-        (recursion_from_All (AreTurnsOf setup.threads) lines (subst (All (AreTurnsOf setup.threads)) (sym said) turns))
-        (first_is r.threads r.spare))
+    replay_is : IsReplayOf program script schedule setup runs
+    replay_is = record {
+      run = record {
+        count = all.count;
+        plain = λ i run found.
+            let flipped : 1 + i ≡ i + 1 = omega arith in
+            subst (λ (n : ℕ). PlainRun program setup.limits n run.passed run.end run.last) flipped (all.each i run found).plain;
+      };
+      last = last;
+      replay = subst (λ (ps : List (List Passing)). PooledReplay (cast_of program script (map sleds_of ps))
+          (pooling_of (cast_of program script (map sleds_of ps)) ps setup.size (spare_of setup)) schedule last) (sym passed_is) replayed;
+      marks = marks_are;
+      lost = lost_are;
+    }

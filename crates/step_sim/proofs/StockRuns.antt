@@ -14,19 +14,17 @@ use Rattle.machine_step.specs.Traced.{Traced}
 use Rattle.traced_run.specs.Kept.{segment_count, segments_of}
 use Rattle.traced_run.specs.Losses.{AreLost, recycled_of}
 use Rattle.traced_run.specs.Runs.{ThreadRun}
-use Rattle.step_sim.specs.declared.pool.Pool.{Pool}
 use Rattle.step_sim.specs.declared.turns.Turns.{Turns}
 use Rattle.step_sim.specs.declared.turns.Turns.TheVariants.{Thread, Patcher}
 use Rattle.step_sim.specs.Pool.{AllPooledRunOut, Fresh, Item, Pooled, Pooling, Segment, Stock, first_stock, pooled_line, pooled_step, pooled_turn, queued, segments_among, serials_of, stock_behind}
-use Rattle.step_sim.specs.Holding.{segments_in}
-use Rattle.step_sim.specs.Recording.{PoolAt, Recording, histories}
+use Rattle.step_sim.specs.Holding.{below, segments_in}
+use Rattle.step_sim.specs.Recording.{Recording, histories}
 use Rattle.step_sim.specs.Replay.{Cast, of_thread, thread_turn, turns}
 use Rattle.step_sim.specs.Schedules.{AreTurnsOf}
 use Rattle.step_sim.proofs.Counting.{IsItemOf, IsSegmentOf, all_segments, first_segments, fresh_serials, front_items, pushed_items, segment_items, summed, summed_among, summed_runs}
 use Rattle.step_sim.proofs.EndedRuns.{IsRunOf}
-use Rattle.step_sim.proofs.Gathering.{few_lost}
 use Rattle.step_sim.proofs.OneRecorded.{history_is}
-use Rattle.step_sim.proofs.PoolLemmas.{length-below}
+use Rattle.step_sim.proofs.PoolLemmas.{length-below, serials_of-append}
 
 -- ---- the stock
 
@@ -123,61 +121,62 @@ each_run : (P : ThreadRun → Type 0) (runs : List ThreadRun) → ((j : ℕ) (ru
 each_run P [] each = tt
 each_run P (run ∷ runs) each = (each zero run refl, each_run P runs (λ j. each (suc j)))
 
-pub are_lost : (r : Recording) (last : Pooled) (ts : List Traced) (pool : Pool) (runs : List ThreadRun) → length runs ≡ r.threads
-    → ((j : ℕ) (run : ThreadRun) → slice_get runs j ≡ Some run → IsRunOf r last ts (1 + j) run) → PoolAt r last pool
-    → StockIs r.threads r.spare last.stock → AreLost r.stamp.size r.spare runs
-are_lost r last ts pool runs count own holds is = record {
+-- The losses of runs, by a stock in which stand, of each thread, the segments that it has put in the queue.
+pub losses_of : (size spare threads : ℕ) (runs : List ThreadRun) (stock : Stock) (segs : ℕ → ℕ) → length runs ≡ threads
+    → ((j : ℕ) (run : ThreadRun) → slice_get runs j ≡ Some run → run.lost ≡ segments_among (1 + j) stock.taken)
+    → ((j : ℕ) (run : ThreadRun) → slice_get runs j ≡ Some run → segment_count size run ≡ segs (1 + j))
+    → ((t : ℕ) → 0 < t → serials_of t (stock.taken ++ stock.queue) ≡ below (segs t - 1)) → StockIs threads spare stock
+    → AreLost size spare runs
+losses_of size spare threads runs stock segs count lost_is count_is order is = record {
   few = record {
-    below = All-from_recursion (λ run. 0 < segment_count r.stamp.size run → run.lost < segment_count r.stamp.size run) runs (each_run (λ run. 0 < segment_count r.stamp.size run → run.lost < segment_count r.stamp.size run) runs below_of);
-    none = All-from_recursion (λ run. segment_count r.stamp.size run ≡ 0 → run.lost ≡ 0) runs (each_run (λ run. segment_count r.stamp.size run ≡ 0 → run.lost ≡ 0) runs none_of);
+    below = All-from_recursion (λ run. 0 < segment_count size run → run.lost < segment_count size run) runs (each_run (λ run. 0 < segment_count size run → run.lost < segment_count size run) runs below_of);
+    none = All-from_recursion (λ run. segment_count size run ≡ 0 → run.lost ≡ 0) runs (each_run (λ run. segment_count size run ≡ 0 → run.lost ≡ 0) runs none_of);
   };
-  recycled = lost_sum ∙ taken_sum ∙ ap (λ (n : ℕ). n - r.spare) (is.count ∙ sym (put_sum ∙ pushed_sum));
+  recycled = lost_sum ∙ taken_sum ∙ ap (λ (n : ℕ). n - spare) (is.count ∙ sym (put_sum ∙ pushed_sum));
 }
   where
-    segs : ℕ → ℕ
-    segs t = length (segments_in r.stamp (histories r last.moment) t)
-
-    count_is : (j : ℕ) (run : ThreadRun) → slice_get runs j ≡ Some run → segment_count r.stamp.size run ≡ segs (1 + j)
-    count_is j run found = ap length (segments_same r last ts (1 + j) run (omega arith) (own j run found))
-
-    few_of : (j : ℕ) (run : ThreadRun) → slice_get runs j ≡ Some run → run.lost ≤ segment_count r.stamp.size run - 1
+    few_of : (j : ℕ) (run : ThreadRun) → slice_get runs j ≡ Some run → run.lost ≤ segment_count size run - 1
     few_of j run found =
+        let there : 0 < 1 + j = omega arith in
         omega (
           arith,
-          few_lost r.stamp r.threads (histories r last.moment) last.stock pool (1 + j) holds,
-          (own j run found).lost,
+          ap length (order (1 + j) there),
+          ap length (serials_of-append (1 + j) stock.taken stock.queue),
+          length-append (serials_of (1 + j) stock.taken) (serials_of (1 + j) stock.queue),
+          length-below (segs (1 + j) - 1),
+          lost_is j run found,
           count_is j run found,
         )
 
-    below_of : (j : ℕ) (run : ThreadRun) → slice_get runs j ≡ Some run → 0 < segment_count r.stamp.size run → run.lost < segment_count r.stamp.size run
+    below_of : (j : ℕ) (run : ThreadRun) → slice_get runs j ≡ Some run → 0 < segment_count size run → run.lost < segment_count size run
     below_of j run found some = omega (arith, few_of j run found, some)
 
-    none_of : (j : ℕ) (run : ThreadRun) → slice_get runs j ≡ Some run → segment_count r.stamp.size run ≡ 0 → run.lost ≡ 0
+    none_of : (j : ℕ) (run : ThreadRun) → slice_get runs j ≡ Some run → segment_count size run ≡ 0 → run.lost ≡ 0
     none_of j run found none = omega (arith, few_of j run found, none)
 
-    lost_sum : recycled_of runs ≡ summed (λ t. segments_among t last.stock.taken) 1 r.threads
-    lost_sum = summed_runs (λ run. run.lost) (λ t. segments_among t last.stock.taken) runs 1 r.threads count (λ j run found. (own j run found).lost)
+    lost_sum : recycled_of runs ≡ summed (λ t. segments_among t stock.taken) 1 threads
+    lost_sum = summed_runs (λ run. run.lost) (λ t. segments_among t stock.taken) runs 1 threads count lost_is
 
-    taken_is : last.stock.taken ≡ take (length last.stock.taken) (replicate r.spare Fresh ++ is.pushed)
-    taken_is = sym (take-append_seam last.stock.taken last.stock.queue) ∙ ap (take (length last.stock.taken)) is.all
+    taken_is : stock.taken ≡ take (length stock.taken) (replicate spare Fresh ++ is.pushed)
+    taken_is = sym (take-append_seam stock.taken stock.queue) ∙ ap (take (length stock.taken)) is.all
 
-    taken_few : length last.stock.taken ≤ r.spare + length is.pushed
+    taken_few : length stock.taken ≤ spare + length is.pushed
     taken_few = omega (arith, is.count)
 
-    taken_sum : summed (λ t. segments_among t last.stock.taken) 1 r.threads ≡ length last.stock.taken - r.spare
+    taken_sum : summed (λ t. segments_among t stock.taken) 1 threads ≡ length stock.taken - spare
     taken_sum =
-        summed_among r.threads last.stock.taken (subst (AllByRecursion (IsItemOf r.threads)) (sym taken_is)
-        (front_items r.threads r.spare (length last.stock.taken) is.pushed is.own))
-        ∙ ap segment_items taken_is ∙ first_segments r.threads r.spare (length last.stock.taken) is.pushed is.own taken_few
+        summed_among threads stock.taken (subst (AllByRecursion (IsItemOf threads)) (sym taken_is)
+        (front_items threads spare (length stock.taken) is.pushed is.own))
+        ∙ ap segment_items taken_is ∙ first_segments threads spare (length stock.taken) is.pushed is.own taken_few
 
-    put_of : (t : ℕ) → segs t - 1 ≡ segments_among t is.pushed
-    put_of t =
-        sym (length-below (segs t - 1)) ∙ ap length (sym (holds.order t)) ∙ ap (λ (items : List Item). length (serials_of t items)) is.all
-        ∙ ap length (fresh_serials r.spare t is.pushed)
+    put_of : (t : ℕ) → 0 < t → segs t - 1 ≡ segments_among t is.pushed
+    put_of t some =
+        sym (length-below (segs t - 1)) ∙ ap length (sym (order t some)) ∙ ap (λ (items : List Item). length (serials_of t items)) is.all
+        ∙ ap length (fresh_serials spare t is.pushed)
 
-    put_sum : sum_by (λ run. segment_count r.stamp.size run - 1) runs ≡ summed (λ t. segments_among t is.pushed) 1 r.threads
-    put_sum = summed_runs (λ run. segment_count r.stamp.size run - 1) (λ t. segments_among t is.pushed) runs 1 r.threads count
-        (λ j run found. ap (λ (n : ℕ). n - 1) (count_is j run found) ∙ put_of (1 + j))
+    put_sum : sum_by (λ run. segment_count size run - 1) runs ≡ summed (λ t. segments_among t is.pushed) 1 threads
+    put_sum = summed_runs (λ run. segment_count size run - 1) (λ t. segments_among t is.pushed) runs 1 threads count
+        (λ j run found. ap (λ (n : ℕ). n - 1) (count_is j run found) ∙ put_of (1 + j) (omega arith))
 
-    pushed_sum : summed (λ t. segments_among t is.pushed) 1 r.threads ≡ length is.pushed
-    pushed_sum = summed_among r.threads is.pushed (pushed_items r.threads is.pushed is.own) ∙ all_segments r.threads is.pushed is.own
+    pushed_sum : summed (λ t. segments_among t is.pushed) 1 threads ≡ length is.pushed
+    pushed_sum = summed_among threads is.pushed (pushed_items threads is.pushed is.own) ∙ all_segments threads is.pushed is.own

@@ -1,5 +1,5 @@
 //! Laws of replays, each the contract of a function that does nothing.
-ghost use Rattle.std.specs.Prelude.{◌≡◌, ℕ, List, None};
+ghost use Rattle.std.specs.Prelude.{◌≡◌, ℕ, All, List, None, Ok};
 ghost use Rattle.xray_image.specs.Program.{IsAccepted, Program};
 ghost use Rattle.patch_script.specs.declared.command.Command.{Command};
 ghost use Rattle.patch_script.specs.Micros.{hold_of};
@@ -7,11 +7,13 @@ ghost use Rattle.patch_script.specs.Plans.{waiting_line};
 ghost use Rattle.patch_script.specs.Refusals.{Lines, commands_of};
 ghost use Rattle.handler_word.specs.declared.mark.Mark.{Mark};
 ghost use Rattle.machine_step.specs.declared.setup.Setup.{Setup};
+ghost use Rattle.traced_run.specs.Losses.{AreLost};
 ghost use Rattle.traced_run.specs.Runs.{ThreadRun};
 ghost use Rattle.step_sim.specs.declared.turns.Turns.{Turns as Line};
 ghost use Rattle.step_sim.specs.Pool.{Pooled, PooledReplay, Pooling};
 ghost use Rattle.step_sim.specs.Replay.{Cast, Replay, marks_at};
-ghost use Rattle.step_sim.specs.Replayed.{IsReplayOf};
+ghost use Rattle.step_sim.specs.Replayed.{IsReplayOf, spare_of};
+ghost use Rattle.step_sim.specs.Schedules.{AreTurnsOf, schedule_of};
 
 use machine_step::{one_end, some_end};
 
@@ -77,3 +79,16 @@ pub fn some_run()
 {
     some_end();
 }
+
+/// A replay loses no more segments than its queue has no buffers for, and of each thread that has
+/// segments it keeps the last one: whatever the program, the script and the setup are, where the
+/// schedule gives turns to its threads alone.
+pub fn a_replay_loses_few()
+    ensures named { (program : Program) (script : List Command) (schedule : List Line) (setup : Setup)
+        (runs : List ThreadRun) → All (AreTurnsOf setup.threads) schedule
+        → IsReplayOf program script schedule setup runs → AreLost setup.size (spare_of setup) runs }
+    // Each text that is a schedule for so many threads gives turns to these alone.
+    ensures read { (program : Program) (script : List Command) (text : List ℕ) (schedule : List Line)
+        (setup : Setup) (runs : List ThreadRun) → schedule_of setup.threads text ≡ Ok schedule
+        → IsReplayOf program script schedule setup runs → AreLost setup.size (spare_of setup) runs }
+{}

@@ -21,9 +21,9 @@ mod turns;
 pub use along::{a_replay_reads_along, no_replay_tears_a_sled};
 pub use fault::ScheduleFault;
 pub use laws::{
-    buffers_change_no_replay, one_pooled_replay, one_replay, one_run, some_replay, some_run,
+    a_replay_loses_few, buffers_change_no_replay, one_pooled_replay, one_replay, one_run, some_replay, some_run,
 };
-pub use replay::{SimEnd, simulate};
+pub use replay::SimEnd;
 pub use schedule::{Schedule, read_schedule};
 pub use sim_fault::SimFault;
 pub use start::SimStart;

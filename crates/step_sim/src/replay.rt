@@ -1,31 +1,20 @@
 //! The replay of a schedule.
 
-ghost use Rattle.std.specs.Prelude.{◌≡◌, ◌≤◌, ◌↔◌, ℕ, All, Err, Some, IfOk, fold, length};
-ghost use Rattle.patch_script.specs.Plans.{waiting_line};
-ghost use Rattle.patch_script.specs.Refusals.{commands_of};
+ghost use Rattle.std.specs.Prelude.{◌≡◌, ℕ, All, fold, length};
 ghost use Rattle.machine_step.specs.declared.limits.Limits.{Limits};
-ghost use Rattle.step_sim.specs.declared.sim_fault.SimFault.{SimFault};
-ghost use Rattle.step_sim.specs.declared.sim_fault.SimFault.TheVariants.{Waits};
 ghost use Rattle.step_sim.specs.Replay.{AllRunOut, Cast, Moment, line_turns};
 ghost use Rattle.step_sim.specs.Pool.{AllPooledRunOut, Pooled};
 ghost use Rattle.step_sim.specs.Recording.{AllRecord, AllRecordAt, Recording, line_in, pooling_in};
-ghost use Rattle.step_sim.specs.Replayed.{IsSimulated};
 ghost use Rattle.step_sim.specs.Schedules.{AreTurnsOf};
 ghost use Rattle.step_sim.specs.Standing.{AllPlay, AllStandAt, Rests};
 
 use crate::patcher::Patcher;
 use crate::pool::Pool;
 use crate::schedule::Schedule;
-use crate::sim_fault::SimFault;
-use crate::start::SimStart;
 use crate::thread::{make_loads, run_out};
 use crate::turns::Turns;
 use fdr_buffer::Buffer;
-use machine_step::{Cpu, Setup};
-use patch_script::Script;
-use sled_words::MAX_THREADS;
-use std::alloc::Global;
-use xray_image::Image;
+use machine_step::Cpu;
 
 /// What a replay leaves.
 #[derive(Drop)]
@@ -41,40 +30,6 @@ pub struct SimEnd<'a> {
     pub first: Vec<u32>,
     /// The buffers that hold an event: by thread, and then by segment.
     pub buffers: Vec<Buffer>,
-}
-
-/// Replays a schedule: the lines in order, whose turns are loads of the threads and micro steps of the
-/// patcher; behind them thread 1 runs to its end, then thread 2, up to the last. The threads start
-/// behind the micro steps before the script's `go`. What is left of a line whose thread has ended, or
-/// of one of the patcher behind the script's last step, does nothing and takes no time. The micro
-/// steps that are left when all threads have ended aren't made, since nobody loads behind them.
-///
-/// `Waits` comes exactly where the script has a line at which somebody may wait, and tells the first;
-/// `NoMemory` where memory was refused. All memory is taken before the first turn: by
-/// `SimStart::new`, while `SimStart::play` takes none.
-pub fn simulate<'a>(
-    alloc: Global,
-    image: &'a Image,
-    script: &Script,
-    schedule: &Schedule,
-    setup: &Setup,
-) -> Result<SimEnd<'a>, SimFault>
-    requires program { script.now.program ≡ image.now }
-    requires threads { script.now.threads ≡ setup.now.threads }
-    requires few { setup.now.threads ≤ MAX_THREADS }
-    requires schedule { All (AreTurnsOf setup.now.threads) schedule.now }
-    requires stamps { (1 ≤ setup.now.limits.cpus) × (1 ≤ setup.now.limits.migrate) }
-    requires sizes { (72 ≤ setup.now.size) × (setup.now.size ≤ 1048576) }
-    requires buffers { (setup.now.threads ≤ setup.now.max) × (setup.now.max ≤ 1024) }
-    ensures waits { (line : ℕ) → (result ≡ Err (Waits line)) ↔ (waiting_line script.now.lines ≡ Some line) }
-    ensures simulated { IfOk result (λ end. IsSimulated image.now (commands_of script.now.lines)
-        schedule.now setup.now end.cpus.items end.sealed.items end.segments.items end.first.items
-        end.buffers.items) }
-{
-    match SimStart::new(alloc, image, script, setup) {
-        Ok(start) => Ok(start.play(schedule)),
-        Err(fault) => Err(fault),
-    }
 }
 
 /// The lines of a schedule, and behind them each thread up to its end.

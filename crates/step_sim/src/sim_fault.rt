@@ -5,7 +5,7 @@ ghost use Rattle.step_sim.specs.declared.sim_fault.SimFault.TheVariants as fault
 
 use thiserror::Error;
 
-/// Why `simulate` gives no replay.
+/// Why `SimStart::new` gives no replay.
 #[derive(Clone, Copy, Debug, PartialEq, Eq, Error)]
 pub enum SimFault {
     /// At the command on this line of the script, counted from 1, a thread or the patcher may wait: it

@@ -15,13 +15,12 @@ use crate::schedule::Schedule;
 use crate::sim_fault::SimFault;
 use crate::thread::new_thread;
 use fdr_buffer::{Buffer, segments_hold_all};
-use machine_step::{Cpu, Setup, one_end};
+use machine_step::{Cpu, Setup, Steps, one_end};
 use patch_script::Script;
 use sled_words::MAX_THREADS;
 use std::alloc::Global;
 use std::marker::Model;
 use traced_run::passings_fit;
-use xray_image::Image;
 use xray_io::NoMemory;
 
 /// A replay before its first turn, with all that it needs: the words as they are when the threads
@@ -52,16 +51,16 @@ impl<'a, 's> Model for SimStart<'a, 's> {
 }
 
 impl<'a, 's> SimStart<'a, 's> {
-    /// Takes all memory of a replay of this script over this image. `Waits` comes exactly where the
-    /// script has a line at which somebody may wait, and tells the first; `NoMemory` where memory was
-    /// refused.
+    /// Takes all memory of a replay of this script over the image of these steps. `Waits` comes exactly
+    /// when the script has a line at which somebody may wait, with the number of the first; `NoMemory`
+    /// if memory was refused.
     pub fn new(
         alloc: Global,
-        image: &'a Image,
+        steps: &'a Steps<'a>,
         script: &'s Script,
         setup: &Setup,
     ) -> Result<SimStart<'a, 's>, SimFault>
-        requires program { script.now.program ≡ image.now }
+        requires program { script.now.program ≡ steps.now }
         requires threads { script.now.threads ≡ setup.now.threads }
         requires few { setup.now.threads ≤ MAX_THREADS }
         requires stamps { (1 ≤ setup.now.limits.cpus) × (1 ≤ setup.now.limits.migrate) }
@@ -69,15 +68,14 @@ impl<'a, 's> SimStart<'a, 's> {
         requires buffers { (setup.now.threads ≤ setup.now.max) × (setup.now.max ≤ 1024) }
         ensures waits { (line : ℕ) → (result ≡ Err (Waits line)) ↔ (waiting_line script.now.lines ≡ Some line) }
         ensures start { IfOk result (λ start. start
-            ≡ record { program = image.now; script = commands_of script.now.lines; setup = setup.now }) }
+            ≡ record { program = steps.now; script = commands_of script.now.lines; setup = setup.now }) }
     {
         if let Some(line) = script.waits() {
             return Err(SimFault::Waits(line));
         }
-        // Says that some accepted file holds the image.
-        image.base();
+        let image = steps.image();
         let patcher = Patcher::new(alloc, image, script, setup.threads)?;
-        let cpus = new_threads(alloc, image, script, setup)?;
+        let cpus = new_threads(alloc, steps, script, setup)?;
         let pool = Pool::new(alloc, setup)?;
         let kept = room_for(alloc, setup.max)?;
         let segments = room_for(alloc, setup.threads)?;
@@ -91,7 +89,12 @@ impl<'a, 's> SimStart<'a, 's> {
         })
     }
 
-    /// Replays a schedule, as `simulate` tells. Takes no memory, and always comes to an end.
+    /// Replays a schedule: the lines in order, whose turns are loads of the threads and micro steps of
+    /// the patcher; then thread 1 runs to its end, then thread 2, up to the last. The threads start
+    /// after the micro steps before the script's `go`. What is left of a line whose thread has ended,
+    /// or of one of the patcher after the script's last step, does nothing and takes no time. The
+    /// micro steps that are left when all threads have ended aren't made, since nobody loads after
+    /// them. Takes no memory, and always comes to an end.
     pub fn play(self, schedule: &Schedule) -> SimEnd<'a>
         requires { All (AreTurnsOf self.setup.threads) schedule.now }
         ensures { IsSimulated self.entry.program self.entry.script schedule.now self.entry.setup
@@ -129,19 +132,19 @@ impl<'a, 's> SimStart<'a, 's> {
 /// All threads before their first loads, thread 1 first.
 fn new_threads<'a>(
     alloc: Global,
-    image: &'a Image,
+    steps: &'a Steps<'a>,
     script: &Script,
     setup: &Setup,
 ) -> Result<Vec<Cpu<'a>>, NoMemory>
     requires threads { setup.now.threads ≤ MAX_THREADS }
     requires stamps { (1 ≤ setup.now.limits.cpus) × (1 ≤ setup.now.limits.migrate) }
     ensures count { IfOk result (λ cpus. length cpus.items ≡ setup.now.threads) }
-    ensures begun { IfOk result (λ cpus. AllHaveBegun image.now (commands_of script.now.lines)
+    ensures begun { IfOk result (λ cpus. AllHaveBegun steps.now (commands_of script.now.lines)
         setup.now.threads setup.now.limits cpus.items) }
 {
     let mut cpus = Vec::with_capacity(alloc, setup.threads as usize)?;
     for number in 0..setup.threads {
-        cpus.push(new_thread(alloc, image, script, setup, number + 1)?)?;
+        cpus.push(new_thread(alloc, steps, script, setup, number + 1)?)?;
     }
     Ok(cpus)
 }

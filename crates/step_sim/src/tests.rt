@@ -6,6 +6,7 @@ use std::test::Fail;
 
 mod buffers;
 mod replays;
+mod sizes;
 
 #[test]
 fn a_schedule_has_the_turns_of_its_lines(rt: HostRuntime) -> Result<(), Fail> {

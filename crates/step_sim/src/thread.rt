@@ -15,17 +15,16 @@ ghost use Rattle.step_sim.specs.Recording.{RecordAt, Recording, Records, pooling
 use crate::along::a_replay_reads_along;
 use crate::patcher::Patcher;
 use crate::pool::Pool;
-use machine_step::{Cpu, Setup, Want, some_end};
+use machine_step::{Cpu, Setup, Steps, Want, some_end};
 use patch_script::Script;
 use sled_words::MAX_THREADS;
 use std::alloc::Global;
-use xray_image::Image;
 use xray_io::NoMemory;
 
 /// A thread before its first load.
 pub(crate) fn new_thread<'a>(
     alloc: Global,
-    image: &'a Image,
+    steps: &'a Steps<'a>,
     script: &Script,
     setup: &Setup,
     number: u32,
@@ -34,13 +33,13 @@ pub(crate) fn new_thread<'a>(
     requires threads { setup.now.threads ≤ MAX_THREADS }
     requires stamps { (1 ≤ setup.now.limits.cpus) × (1 ≤ setup.now.limits.migrate) }
     ensures { IfOk result
-        (HasBegun image.now (commands_of script.now.lines) setup.now.threads setup.now.limits number) }
+        (HasBegun steps.now (commands_of script.now.lines) setup.now.threads setup.now.limits number) }
 {
     // Says that some accepted file holds the image.
-    image.base();
+    steps.image();
     some_end();
     let hold = script.hold_of(number);
-    Cpu::new(alloc, image, number, setup.threads, hold, setup.limits)
+    Cpu::new(alloc, steps, number, setup.threads, hold, setup.limits)
 }
 
 /// Lets a thread into its next passing, where it stands before one.

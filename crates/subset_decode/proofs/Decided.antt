@@ -1,4 +1,4 @@
--- What the decoder answers at the front of an encoding, whatever follows.
+-- What the decoder answers at the start of an encoding, whatever follows.
 use Rattle.std.proofs.Common.{◌≡◌, ℕ, zero, suc, ◌+◌, ◌*◌, ◌/◌, ◌%◌, ◌<◌, ◌⊎◌, inl, inr, ℤ, Bool, true, false, cond, ltb, List, [], ◌∷◌, ◌++◌, Option, Some, None, Result, Ok, Err, refl, sym, ap, subst, ◌∙◌, append_assoc, arith}
 use Rattle.std.proofs.Math.Facts.{Fits-of_z}
 use Rattle.std.proofs.lemmas.Bool.{cases_eq, cases_lt, le-ltb}
@@ -33,11 +33,11 @@ abbrev pub outcome : Option ℕ → Instr → List ℕ → Read Instr
 outcome None i rest = Ok (i, rest)
 outcome (Some n) i rest = Err (Register n)
 
--- an instruction on one register behind its opcode
+-- an instruction on one register, after its opcode
 abbrev pub one_at : (ℕ → Instr) → ℕ → List ℕ → Read Instr
 one_at make n bytes = register_of n >>= λ reg. Ok (make reg, bytes)
 
--- `mov` behind its opcode
+-- `mov` after its opcode
 abbrev mov_at : ℕ → List ℕ → Read Instr
 mov_at n bytes = register_of n >>= λ dst. field_at bytes >>= λ imm. Ok (Mov dst imm.0, imm.1)
 
@@ -92,11 +92,11 @@ operands_again dst_bank src_bank dst src d s =
     let middle : src_bank + modrm dst src / 8 % 8 ≡ src = omega (arith, s) in
     rw (form, low, middle) refl
 
--- an instruction on two registers behind its opcode
+-- an instruction on two registers, after its opcode
 abbrev pub two_at : (ℕ → ℕ → Instr) → ℕ → ℕ → List ℕ → Read Instr
 two_at make dst_bank src_bank bytes = byte_at bytes >>= λ q. operands_of dst_bank src_bank q.0 >>= λ r. Ok (make r.0 r.1, q.1)
 
--- an opcode on two registers is read so behind each prefix
+-- an opcode on two registers is read in this way after each prefix
 pub record ReadsTwo (opcode : ℕ) (make : ℕ → ℕ → Instr) : Type 0 where
   pub low_low : (bytes : List ℕ) → instr_at (0x48 ∷ opcode ∷ bytes) ≡ two_at make 0 0 bytes
   pub high_low : (bytes : List ℕ) → instr_at (0x49 ∷ opcode ∷ bytes) ≡ two_at make 8 0 bytes
@@ -186,7 +186,7 @@ decided_named i rest h = decided i rest (named i h).0 ∙ ap (λ (o : Option ℕ
 pub decided_front : (i : Instr) (bytes : List ℕ) → IsNamed i → (p : Begins (spelling i) bytes) → instr_at bytes ≡ Ok (i, p.0)
 decided_front i bytes h p = ap instr_at p.1 ∙ decided_named i p.0 h
 
--- where a front decides, whatever follows
+-- a prefix decides, whatever follows
 abbrev pub Decides : List ℕ → DecodeFault → Type 0
 Decides front f = (rest : List ℕ) → instr_at (front ++ rest) ≡ Err f
 
@@ -202,11 +202,11 @@ unknown_outcome : (o : Option ℕ) (i : Instr) (b : ℕ) → outcome o i [] ≡ 
 unknown_outcome None i b e = cc
 unknown_outcome (Some m) i b e = cc
 
--- a front that decides for a register begins encodings with this register alone
+-- a prefix that decides for a register begins encodings with this register alone
 pub only_register : (front : List ℕ) (n : ℕ) → Decides front (Register n) → (i : Instr) → IsEncodable i → Begins front (spelling i) → reserved_register i ≡ Some n
 only_register front n d i fits p = register_outcome (reserved_register i) i n (decided_begun front (Register n) i d fits p)
 
--- a front that decides for an unknown byte begins no encoding
+-- a prefix that decides for an unknown byte begins no encoding
 pub begins_none : (front : List ℕ) (b : ℕ) → Decides front (Unknown b) → (i : Instr) → IsEncodable i → Begins front (spelling i) → ⊥
 begins_none front b d i fits p = unknown_outcome (reserved_register i) i b (decided_begun front (Unknown b) i d fits p)
 
@@ -224,7 +224,7 @@ ok_outcome : (o : Option ℕ) (i j : Instr) (rest : List ℕ) → outcome o i []
 ok_outcome None i j rest e = refl
 ok_outcome (Some n) i j rest e = absurd cc
 
--- an encoding that goes on behind an instruction has no reserved register
+-- an encoding that goes on after an instruction has no reserved register
 pub not_reserved : (i j : Instr) → IsNamed i → IsEncodable j → Begins (spelling i) (spelling j) → reserved_register j ≡ None
 not_reserved i j h fits p =
     ok_outcome (reserved_register j) j i p.0 (sym (decided j [] fits) ∙ ap instr_at (append-nil (spelling j)) ∙ decided_front i (spelling j) h p)

@@ -1,4 +1,4 @@
--- The clauses of `decode` from what its reading gives.
+-- From what the reading gives to the clauses of `decode`.
 use Rattle.std.proofs.Common.{◌≡◌, ℕ, ◌+◌, ◌-◌, ◌<◌, ◌≤◌, List, length, get_or, take, drop, Fits, w8, Result, Ok, Err, sym, ap, subst, ltb, inl, inr, ◌∙◌, lit<, arith}
 use Rattle.std.proofs.lemmas.Bool.{cases_Bool}
 use Rattle.std.proofs.lemmas.List.{length-append, length-drop, take_rest}
@@ -12,7 +12,7 @@ use Rattle.subset_decode.proofs.Fields.{IsBytes-drop}
 use Rattle.subset_decode.proofs.Refused.{same_answer}
 use Rattle.subset_decode.proofs.Found.{found, refused}
 
--- an instruction stands at the place, and the next place is behind it
+-- an instruction stands at the place, and the next place is the one after it
 pub record StandsAt (bytes : List ℕ) (at : ℕ) (i : Instr) (next : ℕ) : Type 0 where
   pub named : IsNamed i
   pub begins : Begins (spelling i) (drop at bytes)
@@ -65,7 +65,7 @@ pub refuses : (bytes : List ℕ) (at : ℕ) (f : DecodeFault) → FitBytes bytes
 refuses bytes at f fits e =
     refused (drop at bytes) f (IsBytes-drop at bytes (λ k. (fits k).fits)) (ap instr_at (sym (take_rest bytes at)) ∙ e)
 
--- the same of the first instruction alone
+-- the same, for the first instruction only
 first_is : (bytes : List ℕ) (at : ℕ) (read : Read Instr) → ReadsAt bytes at read → first_instr (drop at bytes) ≡ (read >>= λ i. Ok i.0)
 first_is bytes at read e = ap (λ (r : Read Instr). r >>= λ i. Ok i.0) (ap instr_at (sym (take_rest bytes at)) ∙ e)
 

@@ -1,4 +1,4 @@
--- A field of four bytes that is read is the one that was written, and the other way round.
+-- A field of four bytes reads as it was written, and the other way round.
 use Rattle.std.proofs.Common.{◌≡◌, ℕ, zero, suc, ◌+◌, ◌^◌, ◌<◌, List, [], ◌∷◌, ◌++◌, length, get_or, take, drop, All, Ok, refl, sym, ap, ◌∙◌, append_assoc, lit<, arith, inl, inr}
 use Rattle.std.specs.Int.{w32, to_le_bytes, from_le_bytes}
 use Rattle.std.proofs.lemmas.Bool.{cases_lt, le-ltb}
@@ -44,7 +44,7 @@ field_again n rest lt =
     let number : little_number 4 (to_le_bytes w32 n) ≡ n = number_is (to_le_bytes w32 n) ∙ from_le_bytes-to_le_bytes_4 n lt in
     rw long (ap (λ (m : ℕ). field m rest) number)
 
--- a field that is cut off is the front of some field
+-- a field that is cut off is a prefix of some field
 pub record IsPart (bytes : List ℕ) : Type 0 where
   pub number : ℕ
   pub fits : number < 2 ^ 32

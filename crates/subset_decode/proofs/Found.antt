@@ -1,4 +1,4 @@
--- What the decoder answers holds of the bytes.
+-- What the decoder answers is true of the bytes.
 use Rattle.std.proofs.Common.{◌≡◌, ℕ, ◌+◌, ◌-◌, ◌/◌, ◌%◌, ◌<◌, ◌≤◌, ◌^◌, inl, inr, ℤ, pos, true, false, eqb, ltb, List, [], ◌∷◌, ◌++◌, length, take, drop, Result, Ok, Err, refl, sym, ap, subst, ◌∙◌, append_assoc, append-nil, lit<, rules, arith}
 use Rattle.std.proofs.lemmas.Bool.{cases_Bool, eq-eqb, ltb-true, ltb-false, lt-ltb, le-ltb}
 use Rattle.std.proofs.lemmas.Bool.Decides.{eqb_tells}
@@ -18,25 +18,25 @@ use Rattle.subset_decode.specs.Reading.{◌>>=◌, Read, byte_at, field_at, dist
 use Rattle.subset_decode.proofs.Fields.{IsBytes, IsBytes-rest, IsBytes-take, cut_field, number_back, number_fits}
 use Rattle.subset_decode.proofs.Decided.{one_at, two_at, jump_then, Decides, only_register, begins_none}
 
--- what is read is what stands there; a fault holds there
+-- what is read stands there, and a fault holds there
 abbrev pub Holds : List ℕ → Read Instr → Type 0
 Holds bytes (Ok x) = IsNamed x.0 × (bytes ≡ spelling x.0 ++ x.1)
 Holds bytes (Err f) = Refuses bytes f
 
--- where an unknown byte decides
+-- an unknown byte decides
 stops : (front : List ℕ) (b : ℕ) (rest : List ℕ) → IsCut front → Decides (front ++ b ∷ []) (Unknown b) → StopsAt b (front ++ b ∷ rest)
 stops front b rest cut d = (front, (rest, sym (append_assoc front (b ∷ []) rest)), cut, begins_none (front ++ b ∷ []) b d)
 
--- where a register decides
+-- a register decides
 reserves : (front : List ℕ) (n : ℕ) (rest : List ℕ) (i : Instr) → IsEncodable i → Begins front (spelling i) → Decides front (Register n) → NamesReserved n (front ++ rest)
 reserves front n rest i fits begins d = (front, (rest, refl), (i, fits, begins), only_register front n d)
 
--- the opcodes behind no prefix name the first eight registers, those behind 41 the others
+-- the opcodes without a prefix name the first eight registers, and those after 41 the others
 data Bank : ℕ → List ℕ → Type 0 where
   low : Bank 0 []
   high : Bank 8 (0x41 ∷ [])
 
--- an opcode behind the front is read as one with a register in its low bits
+-- an opcode after the prefix is read as one with a register in its low bits
 abbrev ReadsLow : ℕ → List ℕ → ℕ → Type 0
 ReadsLow bank front b = (rest : List ℕ) → instr_at (front ++ b ∷ rest) ≡ low_register_at bank b rest
 
@@ -54,7 +54,7 @@ bank_below : (bank : ℕ) (front : List ℕ) → Bank bank front → (b : ℕ) �
 bank_below bank front low b = omega arith
 bank_below bank front high b = omega arith
 
--- what instructions there are behind a front of an encoding
+-- a prefix of an encoding that lacks some of its bytes is cut off
 cut_behind : (front : List ℕ) (i : Instr) (next : ℕ) (rest : List ℕ) → IsNamed i → spelling i ≡ front ++ next ∷ rest → IsCut front
 cut_behind front i next rest h e = (i, h, next, (rest, e ∙ sym (append_assoc front (next ∷ []) rest)))
 
@@ -72,7 +72,7 @@ register_is n lt e =
       ]
     ]
 
--- instructions with a field of four bytes behind their front
+-- instructions with a field of four bytes after their first bytes
 abbrev field_then : (ℕ → Instr) → List ℕ → Read Instr
 field_then make rest = field_at rest >>= λ k. Ok (make k.0, k.1)
 
@@ -97,14 +97,14 @@ field_holds front make all spelled rest bytes =
           rw long (all number fits, whole)
     ]
 
--- where an opcode decides for the register in its low bits
+-- an opcode decides for the register in its low bits
 low_reserved : (bank : ℕ) (front : List ℕ) → Bank bank front → (opcode b : ℕ) → b - b % 8 ≡ opcode → (i : Instr) → IsEncodable i → Begins (opcode_of opcode (bank + b % 8)) (spelling i)
     → ReadsLow bank front b → ((t : List ℕ) → low_register_at bank b t ≡ Err (Register (bank + b % 8))) → (rest : List ℕ) → NamesReserved (bank + b % 8) ((front ++ b ∷ []) ++ rest)
 low_reserved bank front at opcode b e i fits begins reads decides rest =
     let spelled = opcode_is bank front at opcode b e in
     reserves (front ++ b ∷ []) (bank + b % 8) rest i fits (subst (λ (x : List ℕ). Begins x (spelling i)) spelled begins) (λ t. ap instr_at (append_assoc front (b ∷ []) t) ∙ reads t ∙ decides t)
 
--- `mov` behind its opcode
+-- `mov` after its opcode
 mov_holds : (bank : ℕ) (front : List ℕ) → Bank bank front → (b : ℕ) (rest : List ℕ) → IsBytes rest → ReadsLow bank front b → b - b % 8 ≡ 0xB8
     → Holds ((front ++ b ∷ []) ++ rest) (register_of (bank + b % 8) >>= λ dst. field_then (Mov dst) rest)
 unfolding low_register_at
@@ -118,7 +118,7 @@ mov_holds bank front at b rest bytes reads e =
           rw free (field_holds (front ++ b ∷ []) (Mov n) (λ k fits. (register_is n below free, fits)) (λ k _. ap (λ (x : List ℕ). x ++ to_le_bytes w32 k) (opcode_is bank front at 0xB8 b e)) rest bytes)
     ]
 
--- an instruction that is an opcode with a register, and no more
+-- an instruction that is only an opcode with a register
 record IsOne (opcode : ℕ) (make : ℕ → Instr) : Type 0 where
   encodable : (n : ℕ) → n < 16 → IsEncodable (make n)
   named : (n : ℕ) → IsRegister n → IsNamed (make n)
@@ -156,7 +156,7 @@ low_holds bank front at b rest bytes reads =
       ]
     ]
 
--- behind the prefix 41
+-- the bytes after the prefix 41
 abbrev high_at : List ℕ → Read Instr
 high_at rest = byte_at rest >>= λ opcode. low_register_at 8 opcode.0 opcode.1
 
@@ -165,7 +165,7 @@ unfolding instr_at low_register_at
 high_holds [] bytes = bank_cut 8 (0x41 ∷ []) high
 high_holds (b ∷ rest) bytes = low_holds 8 (0x41 ∷ []) high b rest (IsBytes-rest b rest bytes) (λ t. refl)
 
--- the prefixes of two registers: destination and source, of the registers from each bank on
+-- the prefixes of two registers: the destination and the source, each counted from the first register of its bank
 data Prefix : ℕ → ℕ → ℕ → Type 0 where
   low_low : Prefix 0 0 0x48
   high_low : Prefix 8 0 0x49
@@ -179,7 +179,7 @@ prefix_reads d s p high_low bytes = refl
 prefix_reads d s p low_high bytes = refl
 prefix_reads d s p high_high bytes = refl
 
--- the banks are registers of their own
+-- the first registers of the banks can be named
 prefix_banks : (d s p : ℕ) → Prefix d s p → IsRegister d × IsRegister s
 prefix_banks d s p low_low = (search rules, search rules)
 prefix_banks d s p high_low = (search rules, search rules)
@@ -222,7 +222,7 @@ is_add = record { encodable = λ d s g h. (g, h); named = λ d s g h. (g, h); sp
 is_sub : IsTwo 0x29 Sub
 is_sub = record { encodable = λ d s g h. (g, h); named = λ d s g h. (g, h); spelled = λ d s. refl }
 
--- the opcode is read so behind the prefix
+-- the opcode is read in this way after the prefix
 abbrev ReadsOperands : ℕ → ℕ → ℕ → ℕ → (ℕ → ℕ → Instr) → Type 0
 ReadsOperands d s p opcode make = (t : List ℕ) → instr_at (p ∷ opcode ∷ t) ≡ two_at make d s t
 
@@ -301,11 +301,11 @@ port_holds : (rest : List ℕ) → IsBytes rest → Holds (0xE6 ∷ rest) (byte_
 port_holds [] bytes = cut_behind (0xE6 ∷ []) (Out 0) 0 [] (lit< tt) refl
 port_holds (port ∷ rest) bytes = (bytes 0, refl)
 
--- a first byte and what is read behind it
+-- a first byte, and what is read after it
 first_holds : (b first : ℕ) (rest : List ℕ) (read : Read Instr) → b ≡ first → Holds (first ∷ rest) read → Holds (b ∷ rest) read
 first_holds b first rest read e h = subst (λ (k : ℕ). Holds (k ∷ rest) read) (sym e) h
 
--- the bytes that begin an instruction of their own
+-- the bytes that begin an instruction each
 record IsOther (b : ℕ) : Type 0 where
   rex_b : eqb b 0x41 ≡ false
   rex_w : eqb b 0x48 ≡ false

@@ -1,4 +1,4 @@
--- What stands behind the bytes of a code stays 0.
+-- The bytes after those of a code stay 0.
 use Rattle.std.proofs.Common.{◌≡◌, ℕ, ◌+◌, ◌-◌, ◌≤◌, List, length, drop, replicate, sym, ap, ◌∙◌, drop-drop, arith}
 use Rattle.std.proofs.lemmas.List.{drop-replicate}
 use Rattle.std.proofs.lemmas.Slice.{drop-put_mid}

@@ -1,4 +1,4 @@
--- Fronts of one list of bytes: one of two is a front of the other.
+-- Of two prefixes of the same bytes, one is a prefix of the other.
 use Rattle.std.proofs.Common.{◌≡◌, ℕ, ◌⊎◌, inl, inr, List, [], ◌∷◌, ◌++◌, length, refl, sym, ap, ◌∙◌, append_assoc, arith}
 use Rattle.std.proofs.lemmas.List.{append-nil, length-append}
 use Rattle.subset_decode.specs.Encoding.{Begins}
@@ -9,7 +9,7 @@ Begins-trans a b c p q = (p.0 ++ q.0, q.1 ∙ ap (λ (x : List ℕ). x ++ q.0) p
 pub Begins-all : (a : List ℕ) → Begins a a
 Begins-all a = ([], sym (append-nil a))
 
--- a byte before the end
+-- a prefix without its last byte is a prefix
 pub Begins-front : (a : List ℕ) (b : ℕ) (c : List ℕ) → Begins (a ++ b ∷ []) c → Begins a c
 Begins-front a b c p = (b ∷ p.0, p.1 ∙ append_assoc a (b ∷ []) p.0)
 
@@ -27,7 +27,7 @@ nested_at (x ∷ a) (y ∷ b) c d e =
       | inr p ↦ inr (cons_front y x b a (sym head) p)
     ]
 
--- two fronts of one list
+-- two prefixes of one list
 pub nested : (a b bytes : List ℕ) → Begins a bytes → Begins b bytes → Begins a b ⊎ Begins b a
 nested a b bytes p q = nested_at a b p.0 q.0 (sym p.1 ∙ q.1)
 
@@ -42,7 +42,7 @@ behind_at (x ∷ front) b (y ∷ q) c d e =
       | inr p ↦ inr (cons_front x y (front ++ b ∷ []) q head p)
     ]
 
--- a front ends before the byte b, or goes on with it
+-- a prefix ends before the byte b, or goes on with it
 pub behind : (front : List ℕ) (b : ℕ) (q bytes : List ℕ) → Begins (front ++ b ∷ []) bytes → Begins q bytes → Begins q front ⊎ Begins (front ++ b ∷ []) q
 behind front b q bytes p r = behind_at front b q p.0 r.0 (sym p.1 ∙ r.1)
 
@@ -61,11 +61,11 @@ ends_at (u ∷ f) b (v ∷ g) d x y e =
       ]
     ]
 
--- two fronts that end with a byte: one goes on behind the other, or they end with the same
+-- two prefixes that end with a byte: one goes on after the other, or they end with the same byte
 pub ends : (f : List ℕ) (b : ℕ) (g : List ℕ) (d : ℕ) (bytes : List ℕ) → Begins (f ++ b ∷ []) bytes → Begins (g ++ d ∷ []) bytes → Begins (f ++ b ∷ []) g ⊎ (Begins (g ++ d ∷ []) f ⊎ (b ≡ d))
 ends f b g d bytes p q = ends_at f b g d p.0 q.0 (sym p.1 ∙ q.1)
 
--- a list that goes on behind another is no front of it
+-- a list that goes on after another is no prefix of it
 pub longer : (a : List ℕ) (b : ℕ) (c : List ℕ) → Begins (a ++ b ∷ []) c → Begins c a → ⊥
 longer a b c p q =
     omega (arith, simp length-append at (ap length p.1), simp length-append at (ap length q.1))

@@ -8,7 +8,7 @@ use Rattle.subset_decode.specs.Refusals.{IsCut, StopsAt, NamesReserved, Refuses,
 use Rattle.subset_decode.proofs.Prefixes.{Begins-trans, Begins-front, Begins-all, nested, behind, ends, longer}
 use Rattle.subset_decode.proofs.Decided.{named, same_instr, not_reserved}
 
--- an instruction with a reserved register is not of the subset
+-- an instruction with a reserved register isn't of the subset
 unreserved : (i : Instr) (n : ℕ) → IsNamed i → reserved_register i ≡ Some n → ⊥
 unreserved i n h e = let none = (named i h).1 in let both : Some n ≡ None = sym e ∙ none in cc
 
@@ -44,7 +44,7 @@ cut_not_reserved : (n : ℕ) (bytes : List ℕ) → IsCut bytes → NamesReserve
 cut_not_reserved n bytes cut r =
     unreserved cut.0 n cut.1 (r.3 cut.0 (named cut.0 cut.1).0 (Begins-trans r.0 bytes (spelling cut.0) r.1 (Begins-front bytes cut.2 (spelling cut.0) cut.3)))
 
--- a front at which encodings stop begins no front with which one goes on
+-- no encoding goes on after a prefix and b, so no longer prefix that goes on begins with them
 no_further : (front : List ℕ) (b : ℕ) (other : List ℕ) → ((i : Instr) → IsEncodable i → Begins (front ++ b ∷ []) (spelling i) → ⊥) → Begins (front ++ b ∷ []) other → IsCut other → ⊥
 no_further front b other none p cut =
     none cut.0 (named cut.0 cut.1).0 (Begins-trans (front ++ b ∷ []) other (spelling cut.0) p (Begins-front other cut.2 (spelling cut.0) cut.3))

@@ -5,7 +5,7 @@ use Rattle.subset_decode.specs.declared.instr.Instr.{Instr}
 use Rattle.subset_decode.specs.declared.instr.Instr.TheVariants.{Mov, Add, Sub, Push, Pop, Call, Jmp, Jnz, Ret, Out}
 use Rattle.subset_decode.specs.Registers.{is_reserved, IsRegister}
 
--- an opcode with a register in its low three bits, behind the prefix 41 for r8 to r15
+-- an opcode with a register in its low three bits, after the prefix 41 for r8 to r15
 abbrev pub opcode_of : ℕ → ℕ → List ℕ
 opcode_of opcode n = if nat_lt n 8 then (opcode + n % 8) ∷ [] else 0x41 ∷ (opcode + n % 8) ∷ []
 
@@ -61,14 +61,14 @@ HasFields R (Out port) = port < 2 ^ 8
 abbrev pub IsNamed : Instr → Type 0
 IsNamed i = HasFields IsRegister i
 
--- the same with any of the sixteen registers, which is what the bytes could say
+-- the same with any of the sixteen registers: all that the bytes could say
 abbrev pub IsEncodable : Instr → Type 0
 IsEncodable i = HasFields (λ n. n < 16) i
 
--- the first register of the instruction that may not be named
+-- the first register of the instruction that can't be named
 abbrev pub reserved_register : Instr → Option ℕ
 reserved_register i = find is_reserved (registers i)
 
--- the bytes are the front and what stands behind it
+-- the bytes begin with this prefix
 abbrev pub Begins : List ℕ → List ℕ → Type 0
 Begins front bytes = (behind : List ℕ) × (bytes ≡ front ++ behind)

@@ -1,4 +1,4 @@
--- Reading an instruction from left to right, for the contracts of the decoder's private functions.
+-- Reading an instruction byte by byte, for the contracts of the decoder's private functions.
 use Rattle.std.specs.Prelude.{ℤ, ◌/◌, ◌≡◌, ℕ, ◌+◌, ◌-◌, ◌%◌, List, [], ◌∷◌, length, take, drop, Result, Ok, Err, nat_lt, ◌==◌, if◌then◌else◌}
 use Rattle.std.specs.Int.{w32, cast_signed}
 use Rattle.byteorder.specs.Endian.{little_number}
@@ -13,7 +13,7 @@ abbrev pub ◌>>=◌ : {A B : Type 0} → Result A DecodeFault → (A → Result
 (Ok x) >>= f = f x
 (Err e) >>= f = Err e
 
--- a part of an instruction, or an instruction, and the bytes behind it
+-- a part of an instruction, or an instruction, and the bytes after it
 abbrev pub Read : Type 0 → Type 0
 Read A = Result (A × List ℕ) DecodeFault
 
@@ -103,7 +103,7 @@ first_instr bytes = do
   i ← instr_at bytes
   Ok i.0
 
--- what a function of the decoder returned, seen by view, is what reading gives
+-- what a function of the decoder returned, as a view of it, is what reading gives
 abbrev pub Gives : {X Y : Type 0} → (X → Y) → Result X DecodeFault → Result Y DecodeFault → Type 0
 Gives view (Ok x) read = read ≡ Ok (view x)
 Gives view (Err f) read = read ≡ Err f

@@ -1,22 +1,22 @@
--- When bytes are no instruction: each refusal over the encodings alone. The shortest front of the bytes
--- that decides gives the answer.
+-- When bytes are no instruction. Each refusal is defined by the encodings alone. The shortest prefix of the bytes that
+-- decides gives the answer.
 use Rattle.std.specs.Prelude.{◌≡◌, ℕ, List, [], ◌∷◌, ◌++◌, Some, Result, Ok, Err}
 use Rattle.subset_decode.specs.declared.instr.Instr.{Instr}
 use Rattle.subset_decode.specs.declared.fault.DecodeFault.{DecodeFault}
 use Rattle.subset_decode.specs.declared.fault.DecodeFault.TheVariants.{Short, Unknown, Register}
 use Rattle.subset_decode.specs.Encoding.{spelling, IsNamed, IsEncodable, reserved_register, Begins}
 
--- some instruction goes on behind these bytes: they are a front of its encoding, and not all of it
+-- these bytes are a proper prefix of the encoding of some instruction
 abbrev pub IsCut : List ℕ → Type 0
 IsCut bytes = (i : Instr) × IsNamed i × (next : ℕ) × Begins (bytes ++ next ∷ []) (spelling i)
 
--- no encoding goes on with b behind a front with which some instruction goes on
+-- some prefix of the bytes is followed by b; some instruction goes on after the prefix, but no encoding goes on with b
 abbrev pub StopsAt : ℕ → List ℕ → Type 0
 StopsAt b bytes =
     (front : List ℕ) × Begins (front ++ b ∷ []) bytes × IsCut front
     × ((i : Instr) → IsEncodable i → Begins (front ++ b ∷ []) (spelling i) → ⊥)
 
--- a front begins encodings, and each of them has n as its first reserved register
+-- the prefix begins encodings, and n is the first reserved register of each of them
 abbrev pub NamesReserved : ℕ → List ℕ → Type 0
 NamesReserved n bytes =
     (front : List ℕ) × Begins front bytes

@@ -3,24 +3,24 @@
 ghost use Rattle.std.specs.Prelude.{◌≡◌, ◌≤◌, ◌+◌, ◌-◌, [], ◌++◌, length, take, drop, replicate};
 ghost use Rattle.subset_decode.specs.declared.code.TheConstants.{LONGEST};
 
-/// How many bytes the longest encoding has: `mov` into r8 to r15.
+/// The length of the longest encoding in bytes: `mov` into r8 to r15.
 pub const LONGEST: usize = 6;
 
-/// How many bytes `call` and `jmp` have.
+/// The length of `call` and `jmp` in bytes.
 pub const NEAR_LENGTH: u32 = 5;
 
-/// How many bytes `jnz` has, whose opcode has two.
+/// The length of `jnz` in bytes. Its opcode has two bytes.
 pub const CONDITIONAL_LENGTH: u32 = 6;
 
-/// How many bytes `ret` has.
+/// The length of `ret` in bytes.
 pub const RETURN_LENGTH: u32 = 1;
 
-/// The encoding of one instruction. `as_slice` gives its bytes alone.
+/// The encoding of one instruction. `as_slice` gives its bytes without padding.
 #[derive(Clone, Copy, Debug, PartialEq, Eq)]
 pub struct Code {
-    /// The bytes of the instruction, then zeros.
+    /// The bytes of the instruction, and zeros after them.
     pub bytes: [u8; LONGEST],
-    /// How many of the bytes are the instruction's.
+    /// How many of the bytes belong to the instruction.
     pub len: u8,
     pub ghost within: { len ≤ LONGEST },
     pub ghost padded: { drop len bytes ≡ replicate (LONGEST - len) 0 },

@@ -1,6 +1,6 @@
-//! The instructions of the traced machine and their x86-64 encodings, both ways: `encode` gives the
-//! one encoding of an instruction, and `decode` reads the instruction that stands at a place of some
-//! code. The encodings are those of the Intel SDM, volume 2.
+//! The instructions of the traced machine and their x86-64 encodings, both ways. `encode` gives the
+//! one encoding of an instruction. `decode` reads the instruction at a place of some code. The
+//! encodings are those of the Intel SDM, volume 2.
 #![tactic(auto)]
 
 mod code;

@@ -1,4 +1,4 @@
-//! Instructions from bytes.
+//! Reading instructions from bytes.
 
 ghost use Rattle.std.specs.Prelude.{◌≡◌, ◌≤◌, ◌<◌, ◌+◌, length, drop, IfOk, IfErr, Ok, Err};
 ghost use Rattle.subset_decode.specs.declared.instr.Instr.{Instr};
@@ -26,7 +26,7 @@ fn byte(bytes: &[u8]) -> Result<(u8, &[u8]), DecodeFault>
     }
 }
 
-/// The field of four bytes, the lowest first.
+/// The field of four bytes, lowest byte first.
 fn field(bytes: &[u8]) -> Result<(u32, &[u8]), DecodeFault>
     ensures { Gives (λ x. (x.0, x.1.now)) result (field_at bytes.now) }
 {
@@ -53,7 +53,7 @@ fn register(number: u8) -> Result<Reg, DecodeFault>
     Reg::new(number).ok_or(DecodeFault::Register(number))
 }
 
-/// The instruction whose opcode has a register in its low three bits, counted from `from`.
+/// The instruction whose opcode holds a register in its low three bits, counted from `from`.
 #[tactic(auto, unfolding(crate::specs::Reading::low_register_at))]
 fn low_register(from: u8, opcode: u8, rest: &[u8]) -> Result<(Instr, &[u8]), DecodeFault>
     requires { from ≤ 8 }
@@ -78,7 +78,7 @@ fn low_register(from: u8, opcode: u8, rest: &[u8]) -> Result<(Instr, &[u8]), Dec
     }
 }
 
-/// Destination and source in a ModRM byte, counted from `dst_from` and `src_from`.
+/// The destination and the source of a ModRM byte, counted from `dst_from` and `src_from`.
 fn operands(dst_from: u8, src_from: u8, modrm: u8) -> Result<(Reg, Reg), DecodeFault>
     requires dst { dst_from ≤ 8 }
     requires src { src_from ≤ 8 }
@@ -92,7 +92,7 @@ fn operands(dst_from: u8, src_from: u8, modrm: u8) -> Result<(Reg, Reg), DecodeF
     Ok((dst, src))
 }
 
-/// `add` or `sub`, behind its prefix.
+/// `add` or `sub`, after its prefix.
 #[tactic(auto, unfolding(crate::specs::Reading::arithmetic_at))]
 fn arithmetic(dst_from: u8, src_from: u8, bytes: &[u8]) -> Result<(Instr, &[u8]), DecodeFault>
     requires dst { dst_from ≤ 8 }
@@ -115,7 +115,7 @@ fn arithmetic(dst_from: u8, src_from: u8, bytes: &[u8]) -> Result<(Instr, &[u8])
     }
 }
 
-/// The instruction with an opcode of two bytes, behind the first of them.
+/// The instruction with an opcode of two bytes, after the first of them.
 #[tactic(auto, unfolding(crate::specs::Reading::escaped_at))]
 fn escaped(bytes: &[u8]) -> Result<(Instr, &[u8]), DecodeFault>
     ensures { Gives (λ x. (x.0, x.1.now)) result (escaped_at bytes.now) }
@@ -130,7 +130,7 @@ fn escaped(bytes: &[u8]) -> Result<(Instr, &[u8]), DecodeFault>
     }
 }
 
-/// The instruction that the bytes begin with, and the bytes behind it.
+/// The instruction that the bytes begin with, and the bytes after it.
 #[tactic(auto, unfolding(crate::specs::Reading::instr_at))]
 fn instr(bytes: &[u8]) -> Result<(Instr, &[u8]), DecodeFault>
     ensures { Gives (λ x. (x.0, x.1.now)) result (instr_at bytes.now) }
@@ -163,20 +163,20 @@ fn instr(bytes: &[u8]) -> Result<(Instr, &[u8]), DecodeFault>
     }
 }
 
-/// The instruction that stands at the place `at` of the bytes, and the place behind it. Places are
-/// byte offsets from the start of `bytes`. What follows the instruction doesn't matter. The shortest
-/// front of what stands at `at` that decides gives the fault; see `DecodeFault`.
+/// Reads the instruction at the place `at` of the bytes. Answers it and the place after it. Places
+/// are byte offsets from the start of `bytes`. What follows the instruction doesn't matter. The
+/// fault is that of the shortest prefix of the bytes from `at` on that decides; see `DecodeFault`.
 pub fn decode(bytes: &[u8], at: usize) -> Result<(Instr, usize), DecodeFault>
     requires { at ≤ length bytes.now }
     // What is read stands there.
     ensures found { IfOk result (λ x. IsNamed x.0 × Begins (spelling x.0) (drop at bytes.now)
         × (x.1 ≡ at + length (spelling x.0))) }
-    // The place behind it is further on, and within the bytes.
+    // The place after it is further on, and within the bytes.
     ensures next { IfOk result (λ x. (at < x.1) × (x.1 ≤ length bytes.now)) }
     // An instruction that stands there is read.
     ensures only { (i : Instr) → IsNamed i → Begins (spelling i) (drop at bytes.now)
         → result ≡ Ok (i, at + length (spelling i)) }
-    // The answer is computed from the bytes from there on, as their first instruction.
+    // The answer is the first instruction of the bytes from there on.
     ensures computed { Gives (λ x. x.0) result (first_instr (drop at bytes.now)) }
     // A fault that is answered holds there.
     ensures fault { IfErr result (Refuses (drop at bytes.now)) }

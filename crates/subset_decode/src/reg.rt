@@ -5,9 +5,10 @@ ghost use Rattle.subset_decode.specs.Registers.{IsRegister};
 
 use std::marker::Model;
 
-/// A general register by its number: 0 to 15 are rax, rcx, rdx, rbx, rsp, rbp, rsi, rdi and r8 to
-/// r15, as in the encodings (Intel SDM, volume 2). Numbers 4 and 10 can't be named: rsp belongs to
-/// the stack instructions, and a patched sled overwrites r10 with the function id.
+/// A general register by its number. Numbers 0 to 15 are rax, rcx, rdx, rbx, rsp, rbp, rsi, rdi and
+/// r8 to r15, as in the encodings (Intel SDM, volume 2). Two numbers can't be named. 4 is rsp,
+/// which belongs to the stack instructions. 10 is r10, in which a patched sled puts the function
+/// id.
 #[derive(Clone, Copy, Debug, PartialEq, Eq)]
 pub struct Reg(u8);
 
@@ -31,7 +32,7 @@ const SLED_SCRATCH: u8 = 10;
 pub const REGISTERS: usize = 16;
 
 impl Reg {
-    /// The register with this number. None exactly for 4, 10 and numbers above 15.
+    /// The register with this number. The answer is `None` exactly for 4, 10 and numbers above 15.
     pub fn new(n: u8) -> Option<Self>
         ensures named { IsSome result ↔ IsRegister n }
         ensures value { IfSome result (λ reg. reg ≡ n) }
@@ -42,7 +43,7 @@ impl Reg {
         Some(Reg(n))
     }
 
-    /// The register's number, 0 to 15 without 4 and 10.
+    /// The register's number: 0 to 15, without 4 and 10.
     pub fn number(&self) -> u8
         ensures value { result ≡ self.now }
         ensures named { IsRegister result }

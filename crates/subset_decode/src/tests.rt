@@ -7,7 +7,7 @@ use super::*;
 use std::test::*;
 use two_byte_starts::{RUNS, Start};
 
-/// The register with this number, which has a name.
+/// The register with this number, which can be named.
 fn reg(number: u8) -> Result<Reg, Fail> {
     Ok(Reg::new(number).ok_or("the register has a name")?)
 }

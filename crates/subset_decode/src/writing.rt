@@ -1,4 +1,4 @@
-//! Instructions as bytes.
+//! Writing instructions as bytes.
 
 ghost use Rattle.std.specs.Prelude.{FitsSigned, ◌≡◌, ◌≤◌, ◌+◌, ◌^◌, ◌<◌, [], ◌∷◌, ◌++◌, length, take};
 ghost use Rattle.std.specs.Int.{w32, to_le_bytes};
@@ -14,7 +14,7 @@ use crate::opcodes::{
 use crate::reg::Reg;
 use byteorder::{ByteOrder, LittleEndian};
 
-/// The opcode with the register in its low three bits, behind the prefix that r8 to r15 need.
+/// The opcode with the register in its low three bits, after the prefix that r8 to r15 need.
 fn push_opcode(code: &mut Code, opcode: u8, reg: Reg)
     requires empty { code.old.len ≡ 0 }
     requires fits { opcode < 249 }
@@ -30,7 +30,7 @@ fn push_opcode(code: &mut Code, opcode: u8, reg: Reg)
     code.push_all(&[opcode + number % 8]);
 }
 
-/// A field of four bytes, the lowest first.
+/// A field of four bytes, lowest byte first.
 fn push_field(code: &mut Code, field: u32)
     requires { code.old.len ≤ 2 }
     ensures bytes { take code.new.len code.new.bytes ≡ take code.old.len code.old.bytes
@@ -52,7 +52,7 @@ fn push_distance(code: &mut Code, rel: i32)
     push_field(code, rel.cast_unsigned());
 }
 
-/// An opcode on two registers, behind the prefix with the high bits of their numbers.
+/// An opcode on two registers, after the prefix with the high bits of their numbers.
 fn push_two_registers(code: &mut Code, opcode: u8, dst: Reg, src: Reg)
     requires { code.old.len ≡ 0 }
     ensures bytes { take code.new.len code.new.bytes ≡ two_registers opcode dst src }

@@ -22,7 +22,7 @@ lines_of_more x (y ∷ more) h = refl
 lines_of_last : (x : List ℕ) → 0 < length x → lines_of_parts (x ∷ []) ≡ x ∷ []
 lines_of_last x some = grind arith
 
--- the line before the first LF, and the lines behind it
+-- the line before the first LF, and the lines after it
 line_in_front : (text : List ℕ) (end : ℕ) → Some end ≡ position ends_line text → lines text ≡ strip_carriage_return (take end text) ∷ lines (drop (end + 1) text)
 line_in_front text end h =
     let at = Some-position ends_line text end h in
@@ -34,7 +34,7 @@ line_in_front text end h =
     let P : ℕ → Type 0 = λ i. lines text ≡ strip_carriage_return (take i text) ∷ lines (drop (i + 1) text) in
     subst P at.0 first
 
--- the same, with what is behind the LF as the range that `&text[end + 1..]` is
+-- the same, with the bytes after the LF as the range that `&text[end + 1..]` is
 pub first_line : (text : List ℕ) (end : ℕ) → Some end ≡ position ends_line text
     → lines text ≡ strip_carriage_return (take end text) ∷ lines (take (length text - (end + 1)) (drop (end + 1) text))
 first_line text end h = rw take_rest (line_in_front text end h)
@@ -48,7 +48,7 @@ only_line (b ∷ text) h some =
     All-from_get_or (λ x. ends_line x ≡ false) (b ∷ text) 0 (λ k l. fails_before_first ends_line (b ∷ text) k 0 (omega (arith, no))) in
     ap lines_of_parts (slice_split_none ends_line (b ∷ text) all) ∙ lines_of_last (b ∷ text) some
 
--- a byte in front of a text that isn't empty: an LF there is one line more, and any other byte none
+-- one more byte before a text that isn't empty: an LF makes one line more, and any other byte none
 lines_of_byte_more : (b : ℕ) (parts : List (List ℕ)) → 0 < length (lines_of_parts parts) → length (lines_of_parts (onto_first b parts)) ≡ length (lines_of_parts parts)
 lines_of_byte_more b [] some = absurd (omega arith)
 lines_of_byte_more b ([] ∷ []) some = absurd (omega arith)
@@ -98,14 +98,14 @@ length_of_lines (b ∷ c ∷ text) last some is =
     let more = length_of_lines (c ∷ text) last (omega arith) (is ∙ ap (λ i. get_or (b ∷ c ∷ text) i 0) shift) in
     omega (arith, length-lines-cons b c text (some_lines c text), more, sum_by-cons (λ x. cond (ends_line x) 1 0) b (c ∷ text))
 
--- a line takes a byte at least
+-- a line takes at least one byte
 pub length_of_lines-le : (text : List ℕ) → length (lines text) ≤ length text
 length_of_lines-le [] = omega arith
 length_of_lines-le (b ∷ []) = elim (ends_line b) as (λ t. length (lines_of_parts (cond t ([] ∷ [] ∷ []) ((b ∷ []) ∷ []))) ≤ 1) [ true ↦ omega arith | false ↦ omega arith ]
 length_of_lines-le (b ∷ c ∷ text) =
     omega (arith, length-lines-cons b c text (some_lines c text), cond-le-one (ends_line b), length_of_lines-le (c ∷ text))
 
--- so the numbers of the lines are no more than the bytes
+-- so the number of the last line is no more than the count of bytes
 pub length_of_numbered_lines : (text : List ℕ) → length (numbered_lines text) ≤ length text
 length_of_numbered_lines text = omega (arith, length-enumerate_from 1 (lines text), length_of_lines-le text)
 

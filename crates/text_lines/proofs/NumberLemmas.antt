@@ -11,7 +11,7 @@ use Rattle.text_lines.specs.Numbers.{is_numeral, numeral, number_of}
 abbrev pub most : ℕ
 most = 18446744073709551615
 
--- the number of digits that follow those of n
+-- the number that these digits make after those of n
 abbrev pub numeral_after : ℕ → ℕ → List ℕ → Option ℕ
 numeral_after radix n [] = Some n
 numeral_after radix n (c ∷ cs) =
@@ -20,13 +20,13 @@ numeral_after radix n (c ∷ cs) =
 product-ge : (n radix : ℕ) → 2 ≤ radix → n ≤ n * radix
 product-ge n radix some = grind arith
 
--- digits that follow make a number no smaller
+-- more digits don't make a number smaller
 digits_value_after-ge : (radix n : ℕ) (cs : List ℕ) → 2 ≤ radix → n ≤ digits_value_after radix n cs
 digits_value_after-ge radix n [] some = omega arith
 digits_value_after-ge radix n (c ∷ cs) some =
     omega (arith, product-ge n radix some, digits_value_after-ge radix (n * radix + digit_value c) cs some)
 
--- one digit more, where the number so far fits, and where it does not
+-- one digit more, if the number so far fits, and if it doesn't
 number_fits : (digit others below : Bool) (v : ℕ) (read : Option ℕ) → read ≡ cond (others && below) (Some v) None → cond (digit && true) read None ≡ cond (digit && others && below) (Some v) None
 number_fits true others below v read is = is
 number_fits false others below v read is = refl
@@ -49,7 +49,7 @@ numeral_after_is radix n (c ∷ cs) some low =
     rw (lt-leb m most large, lt-leb v most (omega (arith, large, digits_value_after-ge radix m cs some))) (number_grows (ltb (digit_value c) radix) others v (numeral_after radix m cs)) in
     elim (cases_lt most m) [ inl large ↦ grows large | inr small ↦ fits small ]
 
--- digits, one at least, are read from the first on
+-- one or more digits, read from the first on
 pub numeral_from_zero : (radix : ℕ) (digits : List ℕ) → 2 ≤ radix → 0 < length digits → numeral radix digits ≡ numeral_after radix 0 digits
 numeral_from_zero radix [] some long = absurd (omega arith)
 numeral_from_zero radix (c ∷ cs) some long =
@@ -99,10 +99,10 @@ large_below true v n is large = elim (cases_lt most v) [
 pub number_none : (word : List ℕ) → None ≡ numeral 10 word → number_of word ≡ None
 number_none word none = none_below (is_numeral 10 word) (digits_value 10 word) none
 
--- a number of 32 bits
+-- a number that fits 32 bits
 pub number_some : (word : List ℕ) (n : ℕ) → Some n ≡ numeral 10 word → n ≤ 4294967295 → number_of word ≡ Some n
 number_some word n is small = some_below (is_numeral 10 word) (digits_value 10 word) n is small
 
--- a number above them
+-- a number that doesn't
 pub number_large : (word : List ℕ) (n : ℕ) → Some n ≡ numeral 10 word → 4294967295 < n → number_of word ≡ None
 number_large word n is large = large_below (is_numeral 10 word) (digits_value 10 word) n is large

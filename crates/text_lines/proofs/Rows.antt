@@ -1,26 +1,26 @@
--- Small texts, worked by hand: what the definitions of `specs/` make of them.
+-- Small texts worked by hand: what the definitions make of them.
 use Rattle.std.proofs.Common.{◌≡◌, true, false, [], ◌∷◌, ◌++◌, Some, None, refl}
 use Rattle.std.specs.Prelude.{codes}
 use Rattle.text_lines.specs.Lines.{numbered_lines}
 use Rattle.text_lines.specs.Words.{is_clean, words_of}
 use Rattle.text_lines.specs.Numbers.{number_of, numeral}
 
--- "go" CR LF, LF, "p 2": three lines, and the CR is none of the first
+-- "go" CR LF, LF, "p 2": three lines, and the CR is no part of the first
 three_lines : numbered_lines (codes "go" ++ 13 ∷ 10 ∷ 10 ∷ codes "p 2") ≡ (1, codes "go") ∷ (2, []) ∷ (3, codes "p 2") ∷ []
 three_lines = refl
 
--- of CR CR LF one CR stays, and so does a CR behind the last LF
+-- of CR CR LF one CR stays, and so does a CR after the last LF
 carriage_returns : numbered_lines (13 ∷ 13 ∷ 10 ∷ 97 ∷ 13 ∷ []) ≡ (1, 13 ∷ []) ∷ (2, 97 ∷ 13 ∷ []) ∷ []
 carriage_returns = refl
 
 no_lines : numbered_lines [] ≡ []
 no_lines = refl
 
--- a tab and two spaces part two words, and the comment has none
+-- a tab and two spaces separate two words, and the comment has none
 two_words : words_of (9 ∷ codes "hold  7#now and") ≡ codes "hold" ∷ codes "7" ∷ []
 two_words = refl
 
--- any byte may stand in a comment, and a CR, DEL or byte above it nowhere else
+-- a comment may hold any byte; a CR, a DEL or a higher byte is allowed nowhere else
 clean_comment : is_clean (codes "go # " ++ 0 ∷ 255 ∷ []) ≡ true
 clean_comment = refl
 

@@ -11,7 +11,7 @@ use Rattle.std.proofs.lemmas.Bool.{cases_lt}
 use Rattle.text_lines.specs.Words.{is_blank, words_between_blanks}
 use Rattle.text_lines.proofs.Places.{Some-position, None-position, unwrap_or-position}
 
--- whether a part is a word
+-- whether a part has bytes, and so is a word
 abbrev pub has_bytes : List ℕ → Bool
 has_bytes part = not (eqb (length part) 0)
 
@@ -19,18 +19,18 @@ has_bytes part = not (eqb (length part) 0)
 abbrev pub is_in_word : ℕ → Bool
 is_in_word b = not (is_blank b)
 
--- a part in front that has bytes is a word, and one that has none is not
+-- a first part that has bytes is a word, and an empty one isn't
 words_of_part : (part : List ℕ) (parts : List (List ℕ)) → 0 < length part → filter has_bytes (part ∷ parts) ≡ part ∷ filter has_bytes parts
 words_of_part part parts some = grind arith
 
--- a blank in front
+-- a blank before the rest
 words-blank : (b : ℕ) (bytes : List ℕ) → is_blank b ≡ true → words_between_blanks (b ∷ bytes) ≡ words_between_blanks bytes
 words-blank b bytes blank = ap (filter has_bytes) (slice_split-cons_yes is_blank b bytes blank)
 
 one_more : (n : ℕ) → suc n ≡ 1 + n
 one_more n = omega arith
 
--- blanks in front of the first word
+-- blanks before the first word
 words-drop_blanks : (bytes : List ℕ) → words_between_blanks bytes ≡ words_between_blanks (drop (position_or_len is_in_word bytes) bytes)
 words-drop_blanks [] = refl
 words-drop_blanks (b ∷ bytes) =
@@ -47,7 +47,7 @@ words_none bytes h =
     let no = None-position is_in_word bytes h in
     words-drop_blanks bytes ∙ ap words_between_blanks (drop_all (position_or_len is_in_word bytes) bytes (omega (arith, no)))
 
--- the blank behind a word
+-- the blank after a word
 words-behind : (bytes : List ℕ) (n : ℕ) → position_or_len is_blank bytes ≡ n → n < length bytes → words_between_blanks (drop n bytes) ≡ words_between_blanks (drop (n + 1) bytes)
 words-behind bytes n at within =
     let here : is_blank (get_or bytes n 0) ≡ true = subst (λ i. is_blank (get_or bytes i 0) ≡ true) at (passes_at_first is_blank bytes 0 (omega (arith, at))) in
@@ -55,7 +55,7 @@ words-behind bytes n at within =
     ∙ words-blank (get_or bytes n 0) (drop (suc n) bytes) here
     ∙ ap (λ i. words_between_blanks (drop i bytes)) (one_more n ∙ omega arith)
 
--- the word in front ends at the first blank, or with the last byte
+-- the first word ends at the first blank, or with the last byte
 words-word : (bytes : List ℕ) (n : ℕ) → position_or_len is_blank bytes ≡ n → 0 < n → words_between_blanks bytes ≡ take n bytes ∷ words_between_blanks (drop n bytes)
 words-word bytes n at some =
     let within : n < length bytes → words_between_blanks bytes ≡ take n bytes ∷ words_between_blanks (drop n bytes) = λ lt.
@@ -76,8 +76,7 @@ in_front : (bytes : List ℕ) → 0 < length bytes → is_in_word (get_or bytes 
 in_front [] some word = absurd (omega arith)
 in_front (b ∷ bytes) some word = subst (λ t. 0 < cond t (1 + position_or_len is_blank bytes) 0) (sym word) (omega arith)
 
--- the first word: `start` is the place of the first byte that is no blank, and `end` that of the
--- first blank behind it
+-- the first word: `start` is the place of the first byte that isn't a blank, and `end` that of the first blank after it
 pub words_some : (bytes : List ℕ) (start : ℕ) → Some start ≡ position is_in_word bytes → (end : Option ℕ) → end ≡ position is_blank (drop start bytes)
     → let rest = drop start bytes in let n = unwrap_or end (length rest) in words_between_blanks bytes ≡ take n rest ∷ words_between_blanks (drop n rest)
 words_some bytes start h end e =
@@ -91,7 +90,7 @@ words_some bytes start h end e =
     let skipped : words_between_blanks bytes ≡ words_between_blanks rest = subst (λ i. words_between_blanks bytes ≡ words_between_blanks (drop i bytes)) at.0 (words-drop_blanks bytes) in
     skipped ∙ words-word rest (unwrap_or end (length rest)) (sym n) (omega (arith, n, some))
 
--- a word takes a byte at least
+-- a word takes at least one byte
 words_of_part-le : (part : List ℕ) (parts : List (List ℕ)) → length (filter has_bytes (part ∷ parts)) ≤ 1 + length (filter has_bytes parts)
 words_of_part-le part parts = elim (has_bytes part) as (λ t. length (cond t (part ∷ filter has_bytes parts) (filter has_bytes parts)) ≤ 1 + length (filter has_bytes parts)) [ true ↦ omega arith | false ↦ omega arith ]
 

@@ -1,5 +1,5 @@
--- The lines of a text. A text is bytes: `lines` of `Rattle.std.specs.Str.Lines` cuts it after each
--- LF, drops one CR directly before an LF, and takes bytes behind the last LF for a line too.
+-- The lines of a text. A text is bytes. `lines` of `Rattle.std.specs.Str.Lines` ends a line at each LF and drops one CR
+-- directly before an LF. Bytes after the last LF are a line too.
 use Rattle.std.specs.Prelude.{ℕ, List}
 use Rattle.std.specs.List.{enumerate_from}
 use Rattle.std.specs.Str.Lines.{lines}

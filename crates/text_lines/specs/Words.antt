@@ -1,4 +1,4 @@
--- What a line says: its words, which stand before its comment with blanks between them.
+-- What a line says: the words before its comment, with blanks between them.
 use Rattle.std.specs.Prelude.{ℕ, Bool, ◌||◌, ◌&&◌, not, ◌==◌, nat_le, List, length, filter}
 use Rattle.std.specs.List.{before_first, list_all, slice_split}
 
@@ -23,7 +23,7 @@ before_comment line = before_first begins_comment line
 abbrev pub is_clean : List ℕ → Bool
 is_clean line = list_all is_allowed (before_comment line)
 
--- the parts between blanks that have a byte
+-- the parts between blanks, without the empty ones
 abbrev pub words_between_blanks : List ℕ → List (List ℕ)
 words_between_blanks bytes = filter (λ part. not (length part == 0)) (slice_split is_blank bytes)
 

@@ -1,8 +1,8 @@
 //! The lines, words and numbers of the text inputs: scripts, schedules and assembler texts.
 //!
-//! A text is bytes. A line ends with LF, and the last line may lack it; one CR directly before an
-//! LF is no part of the line. `#` begins a comment, which runs to the end of its line and may hold
-//! any bytes. Words are separated by spaces and tabs. Outside comments a line may hold tabs and the
+//! A text is bytes. A line ends with LF, which the last line may lack. One CR directly before an LF
+//! is no part of the line. `#` begins a comment, which runs to the end of its line and may hold any
+//! bytes. Words are separated by spaces and tabs. Outside comments a line may hold tabs and the
 //! bytes 0x20 to 0x7E.
 #![tactic(auto)]
 

@@ -2,9 +2,9 @@
 ghost use Rattle.std.specs.Prelude.{◌≡◌, ◌≤◌};
 ghost use Rattle.text_lines.specs.Numbers.{numeral, number_of};
 
-/// The number that `word` writes in digits of a radix, zeros in front or not. Letters of either
-/// case are the digits above nine. `None` where the word has no byte or another than a digit, such
-/// as a sign, and where the number is above `u64::MAX`.
+/// The number that `word` writes in digits of a radix. Leading zeros are allowed. Letters of either
+/// case are the digits above nine. The answer is `None` if the word is empty, if a byte isn't a
+/// digit (a sign, for example), or if the number is above `u64::MAX`.
 #[tactic(auto, using(crate::proofs::NumberLemmas::numeral_from_zero, crate::proofs::NumberLemmas::numeral_step))]
 pub fn parse_digits(radix: u32, word: &[u8]) -> Option<u64>
     requires two { 2 ≤ radix }
@@ -24,8 +24,9 @@ pub fn parse_digits(radix: u32, word: &[u8]) -> Option<u64>
     Some(number)
 }
 
-/// The number that `word` writes in decimal digits, zeros in front or not. `None` where the word
-/// has no byte or another than a digit, such as a sign, and where the number is above `u32::MAX`.
+/// The number that `word` writes in decimal digits. Leading zeros are allowed. The answer is `None`
+/// if the word is empty, if a byte isn't a digit (a sign, for example), or if the number is above
+/// `u32::MAX`.
 #[tactic(auto, using(crate::proofs::NumberLemmas::number_none, crate::proofs::NumberLemmas::number_some, crate::proofs::NumberLemmas::number_large))]
 pub fn parse_number(word: &[u8]) -> Option<u32>
     ensures { result ≡ number_of word.now }

@@ -2,7 +2,7 @@ use super::*;
 use std::alloc::{AllocError, Global};
 use std::test::Fail;
 
-/// Each line as its number, `!` where it isn't clean, its words with a space before each, and `;`.
+/// Each line as its number, `!` if it isn't clean, its words with a space before each, and `;`.
 fn shown(alloc: Global, text: &[u8]) -> Result<Vec<u8>, AllocError> {
     let mut shown = Vec::new(alloc);
     if text.len() > 99 {

@@ -10,7 +10,7 @@ use std::marker::Model;
 /// The byte that ends a line.
 const LINE_FEED: u8 = b'\n';
 
-/// The byte that a line loses where it stands directly before the line feed.
+/// The byte that a line drops if it is directly before the line feed.
 const CARRIAGE_RETURN: u8 = b'\r';
 
 /// The byte that begins a comment.
@@ -21,7 +21,7 @@ const COMMENT: u8 = b'#';
 pub struct Line<'a> {
     /// The line's number in its text, counted from 1.
     pub number: u32,
-    /// The line's bytes, its comment among them.
+    /// The line's bytes, including its comment.
     pub bytes: &'a [u8],
 }
 
@@ -37,8 +37,8 @@ impl<'a> Line<'a> {
             .all(|byte| matches!(*byte, b'\t' | b' '..=b'~'))
     }
 
-    /// The words before the line's comment, first to last. In a line that isn't clean they hold its
-    /// bad bytes.
+    /// The words before the line's comment, first to last. In a line that isn't clean, words may
+    /// hold the bytes that aren't allowed.
     pub fn words(&self) -> Words<'a>
         ensures words { result ≡ words_of self.now.bytes.now }
         ensures bound { length result ≤ length self.now.bytes.now }
@@ -57,12 +57,12 @@ impl<'a> Line<'a> {
     }
 }
 
-/// The lines of a text that are left to read: an iterator, which contracts see as the list of these
+/// The lines of a text that are left to read: an iterator. In contracts it is the list of these
 /// lines, each with its number.
 #[derive(Drop)]
 pub struct Lines<'a> {
     rest: &'a [u8],
-    /// How many lines stand before `rest`.
+    /// How many lines come before `rest`.
     passed: u32,
 }
 
@@ -77,8 +77,8 @@ impl<'a> Model for Lines<'a> {
 impl<'a> Lines<'a> {
     ghost use Rattle.text_lines.specs.Lines.{numbered_lines};
 
-    /// The lines of `text`, first to last. A text of fewer than `u32::MAX` bytes has so few lines
-    /// that each of their numbers, and the number behind the last, fits a `u32`.
+    /// The lines of `text`, first to last. The text has fewer than `u32::MAX` bytes, so the number
+    /// of each line, and the one after the last, fits a `u32`.
     #[tactic(auto, using(crate::proofs::LineLemmas::length_of_numbered_lines, crate::proofs::LineLemmas::lines_within))]
     pub fn new(text: &'a [u8]) -> Self
         requires { length text.now < u32.MAX }
@@ -91,8 +91,8 @@ impl<'a> Lines<'a> {
         }
     }
 
-    /// The lines of `text`, first to last, where there are fewer than `u32::MAX` of them. The text
-    /// may have any length.
+    /// The lines of `text`, first to last. There are fewer than `u32::MAX` of them. The text may
+    /// have any length.
     #[tactic(auto, using(crate::proofs::LineLemmas::length_of_numbered_lines))]
     pub fn with_few_lines(text: &'a [u8]) -> Self
         requires { length (lines text.now) < u32.MAX }
@@ -132,7 +132,7 @@ impl<'a> Iterator for Lines<'a> {
 
 impl FusedIterator for Lines<'_> {}
 
-/// The first line of a text that isn't empty, and the text behind it.
+/// The first line of a text that isn't empty, and the text after it.
 #[tactic(auto, using(crate::proofs::LineLemmas::first_line, crate::proofs::LineLemmas::only_line))]
 fn split_line(text: &[u8]) -> (&[u8], &[u8])
     requires { 0 < length text.now }
@@ -145,7 +145,7 @@ fn split_line(text: &[u8]) -> (&[u8], &[u8])
     }
 }
 
-/// A line that an LF ended, without the CR directly before that.
+/// A line that ended with an LF, without the CR directly before that.
 fn without_carriage_return(line: &[u8]) -> &[u8]
     ensures { result.now ≡ strip_carriage_return line.now }
 {
@@ -169,7 +169,7 @@ fn count_of(byte: u8, bytes: &[u8]) -> usize
     bytes.iter().filter(|found| **found == byte).count()
 }
 
-/// The number of lines of `text`: one for each LF, and one more where bytes follow the last LF.
+/// The number of lines of `text`: one for each LF, and one more if bytes follow the last LF.
 #[tactic(auto, using(crate::proofs::LineLemmas::length_of_lines))]
 pub fn count_lines(text: &[u8]) -> usize
     ensures count { result ≡ length (lines text.now) }

@@ -6,7 +6,7 @@ ghost use Rattle.text_lines.specs.Words.{is_blank, words_between_blanks};
 use std::iter::FusedIterator;
 use std::marker::Model;
 
-/// The words of a line that are left to read: an iterator, which contracts see as the list of these
+/// The words of a line that are left to read: an iterator. In contracts it is the list of these
 /// words.
 #[derive(Drop)]
 pub struct Words<'a> {
@@ -53,7 +53,7 @@ fn is_blank(byte: u8) -> bool
     matches!(byte, b' ' | b'\t')
 }
 
-/// The place of the first byte that is no blank, counted from 0.
+/// The place of the first byte that isn't a blank, counted from 0.
 fn first_in_word(bytes: &[u8]) -> Option<usize>
     ensures { result ≡ position (λ byte. not (is_blank byte)) bytes.now }
 {
@@ -67,7 +67,7 @@ fn first_blank(bytes: &[u8]) -> Option<usize>
     bytes.iter().position(|byte| is_blank(*byte))
 }
 
-/// The first word of `bytes` and what is behind it, or `None` where all bytes are blanks.
+/// The first word of `bytes` and what follows it, or `None` if all bytes are blanks.
 #[tactic(auto, using(crate::proofs::WordLemmas::words_none, crate::proofs::WordLemmas::words_some))]
 fn split_word(bytes: &[u8]) -> Option<(&[u8], &[u8])>
     ensures none { IfNone result (words_between_blanks bytes.now ≡ []) }

@@ -46,12 +46,12 @@ pub line_pieces : (line : AuditLine) (marks : List Mark) (thread : ℕ) (name : 
 line_pieces line marks thread name passings recorded segments first same_thread same_name same_passings same_recorded same_segments same_first =
     rw (same_thread, same_name, same_passings, same_recorded, same_segments, same_first) (simp append_assoc)
 
--- the lines of accounts are those that they were made of
+-- the lines of accounts are those that they were made from
 pub lines_of_accounts : (lines : List AuditLine) (threads : List Traced) → length lines ≡ length threads
     → map (λ account. account.0) (accounts lines threads) ≡ lines
 lines_of_accounts lines threads same = firsts-zip lines (map (λ thread. thread.marks) threads) (length-map threads (λ thread. thread.marks) ∙ sym same)
 
--- an account more
+-- one more account
 pub accounts_more : (lines : List AuditLine) (threads : List Traced) (i : ℕ) (line : AuditLine) (thread : Traced)
     → i < length lines → i < length threads → ((d : AuditLine) → line ≡ get_or lines i d) → ((d : Traced) → thread ≡ get_or threads i d)
     → flat_map thread_lines (take i (accounts lines threads)) ++ thread_lines (line, thread.marks)
@@ -67,12 +67,12 @@ accounts_more (first ∷ lines) (head ∷ threads) (suc i) line thread within al
     rw add-one (append_assoc (thread_lines (first, head.marks)) (flat_map thread_lines (take i (accounts lines threads))) (thread_lines (line, thread.marks))
     ∙ ap (λ text. thread_lines (first, head.marks) ++ text) (rest ∙ rw add-one refl))
 
--- the accounts before one of a number, and those behind it
+-- the accounts before this one, and the rest
 pub accounts_split : (told : List Account) (i : ℕ)
     → flat_map thread_lines (take i told) ++ flat_map thread_lines (drop i told) ≡ flat_map thread_lines told
 accounts_split told i = sym (flat_map-append thread_lines (take i told) (drop i told)) ∙ ap (flat_map thread_lines) (take-append-drop i told)
 
--- as many accounts as there are lines are all of them
+-- if there are as many accounts as lines, they are all of them
 pub accounts_all : (lines : List AuditLine) (threads : List Traced) (i : ℕ) → length lines ≡ length threads → i ≡ min (length lines) (length threads)
     → flat_map thread_lines (take i (accounts lines threads)) ≡ flat_map thread_lines (accounts lines threads)
 accounts_all lines threads i same all =

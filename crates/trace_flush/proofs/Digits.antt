@@ -1,4 +1,4 @@
--- Numbers in a text, told apart from what stands behind them.
+-- Numbers in a text, told apart from what follows them.
 use Rattle.std.proofs.Common.{◌≡◌, ◌<◌, ◌≤◌, ◌/◌, ◌%◌, nat_eq, cond, ℕ, zero, suc, Bool, true, false, List, [], ◌∷◌, ◌++◌, refl, arith}
 use Rattle.std.specs.Prelude.{decimal}
 use Rattle.std.specs.Fmt.{digits, digits_onto, digit_glyph}
@@ -9,7 +9,7 @@ abbrev pub IsAbove : ℕ → List ℕ → Type 0
 IsAbove low [] = Unit {0}
 IsAbove low (x ∷ xs) = (low < x) × IsAbove low xs
 
--- bytes that are above what stands behind them end where that begins
+-- bytes that are above what follows them end where it begins
 pub split_at : (low : ℕ) (xs ys : List ℕ) (c d : ℕ) (r s : List ℕ) → IsAbove low xs → IsAbove low ys → c ≤ low → d ≤ low
     → xs ++ c ∷ r ≡ ys ++ d ∷ s → (xs ≡ ys) × (c ∷ r ≡ d ∷ s)
 split_at low [] [] c d r s above above' small small' same = (refl, same)
@@ -37,12 +37,12 @@ pub decimal_above : (n : ℕ) → IsAbove 47 (decimal n)
 unfolding digits
 decimal_above n = digits_above 64 n [] tt
 
--- a number, and what stands behind it
+-- a number, and what follows it
 pub number_split : (m n c d : ℕ) (r s : List ℕ) → c ≤ 47 → d ≤ 47 → decimal m ++ c ∷ r ≡ decimal n ++ d ∷ s
     → (decimal m ≡ decimal n) × (c ∷ r ≡ d ∷ s)
 number_split m n c d r s small small' same = split_at 47 (decimal m) (decimal n) c d r s (decimal_above m) (decimal_above n) small small' same
 
--- what stands behind the same bytes
+-- what follows the same bytes
 pub behind : (front r s : List ℕ) → front ++ r ≡ front ++ s → r ≡ s
 behind [] r s same = same
 behind (x ∷ front) r s same = behind front r s cc

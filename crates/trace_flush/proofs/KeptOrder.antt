@@ -1,4 +1,4 @@
--- The buffers of a run stand in the order of a flush, and hold events.
+-- The buffers of a run are in the order of a flush, and hold events.
 use Rattle.std.proofs.Common.{◌≡◌, ◌≢◌, ◌<◌, ◌≤◌, ℕ, zero, suc, ◌+◌, List, [], ◌∷◌, ◌++◌, inl, inr, refl, sym, subst, ap, ◌∙◌, arith, length, drop, map, lt-ltb}
 use Rattle.std.specs.Prelude.{All, AllPairs, filter}
 use Rattle.std.specs.List.{AllByRecursion, enumerate_from, flat_map}
@@ -13,11 +13,11 @@ use Rattle.traced_run.specs.Kept.{buffer_of, kept_buffers, segments_of, stamp_of
 use Rattle.traced_run.specs.Runs.{ThreadRun, events_of}
 use Rattle.trace_flush.specs.Arranged.{IsBefore, has_event}
 
--- each of the first list stands before each of the second
+-- each of the first list comes before each of the second
 abbrev AllBefore : List Filled → List Filled → Type 0
 AllBefore xs ys = AllByRecursion (λ x. AllByRecursion (IsBefore x) ys) xs
 
--- each stands before each behind it
+-- each comes before each later one
 abbrev Ordered : List Filled → Type 0
 Ordered [] = Unit {0}
 Ordered (x ∷ xs) = AllByRecursion (IsBefore x) xs × Ordered xs
@@ -51,7 +51,7 @@ serials_ordered setup thread (suc first) k (events ∷ segs) = serials_ordered s
 
 -- ---- of all threads
 
--- all are of threads from one of a number on
+-- all are of threads from this one on
 abbrev FromThread : ℕ → List Filled → Type 0
 FromThread k xs = AllByRecursion (λ (b : Filled). k ≤ b.thread) xs
 

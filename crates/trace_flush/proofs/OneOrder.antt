@@ -1,4 +1,4 @@
--- Buffers in order: what a sort by thread and segment leaves, and that it leaves but one list.
+-- Buffers in order: what a sort by thread and segment leaves, and why only one list is left.
 use Rattle.std.proofs.Common.{◌≡◌, ◌⊎◌, ◌<◌, ◌≤◌, ◌+◌, ◌-◌, ℕ, zero, suc, true, List, [], ◌∷◌, length, get_or, inl, inr, refl, sym, ap, ◌∙◌, subst, arith, Ordering}
 use Rattle.std.specs.Prelude.{sum_by, AllPairs, Contains, IsPermutation}
 use Rattle.std.specs.Cmp.{IsTotalOrder, nat_cmp_total, on_total, then_total}
@@ -12,7 +12,7 @@ use Rattle.trace_flush.specs.Arranged.{IsBefore}
 
 -- ---- what the sort leaves
 
--- the key that the sort goes by, and its order
+-- the key of the sort, and its order
 abbrev pub place : Filled → ℕ × ℕ
 place buffer = (buffer.thread, buffer.serial)
 
@@ -33,9 +33,9 @@ in_order buffers up i j d ahead within before =
     let less = before_is_less (get_or buffers j d) (get_or buffers i d) before in
     cc
 
--- ---- it leaves but one list
+-- ---- only one list is left
 
--- an element of a list
+-- an item of a list
 abbrev IsIn : {X : Type 0} → X → List X → Type 0
 IsIn x [] = ⊥
 IsIn x (y ∷ ys) = (x ≡ y) ⊎ IsIn x ys
@@ -55,7 +55,7 @@ place_in [] x is = absurd is
 place_in (y ∷ ys) x (inl is) = (0, omega arith, λ d. sym is)
 place_in (y ∷ ys) x (inr is) = let there = place_in ys x is in (suc there.0, omega (arith, there.1), there.2)
 
--- each of a list and each behind it, from the first on
+-- each item of a list and each later one
 abbrev Pairwise : {X : Type 0} → (X → X → Type 0) → List X → Type 0
 Pairwise R [] = Unit {0}
 Pairwise {X} R (x ∷ xs) = ((y : X) → IsIn y xs → R x y) × Pairwise R xs
@@ -88,7 +88,7 @@ sum_above f (y ∷ ys) x (inr is) = omega (arith, sum_by-cons f y ys, sum_above 
 
 -- ---- two lists of the same buffers, one of them in strict order
 
--- 1 where the other has the same thread and segment, and else 0
+-- 1 if the other has the same thread and segment, and 0 otherwise
 shares : Filled → Filled → ℕ
 shares buffer other = 1 - ((buffer.thread - other.thread) + (other.thread - buffer.thread) + (buffer.serial - other.serial) + (other.serial - buffer.serial))
 
@@ -101,18 +101,18 @@ unfolding shares
 before_shares first second (inl earlier) = omega arith
 before_shares first second (inr (same, earlier)) = omega arith
 
--- one that shares the place of a buffer stands before those that the buffer stands before
+-- a buffer with the same thread and segment as another comes before the same buffers
 shared_before : (buffer other later : Filled) → 0 < shares buffer other → IsBefore buffer later → IsBefore other later
 unfolding shares
 shared_before buffer other later some (inl earlier) = inl (omega arith)
 shared_before buffer other later some (inr (same, earlier)) = inr (omega arith, omega arith)
 
--- the elements of the one are in the other, and all totals are the same
+-- the items of the first list are in the second, and all totals are equal
 record IsSameBag (xs ys : List Filled) : Type 0 where
   among : (y : Filled) → IsIn y ys → IsIn y xs
   totals : (f : Filled → ℕ) → sum_by f ys ≡ sum_by f xs
 
--- their first elements are the same
+-- their first items are the same
 same_first : (x : Filled) (xs : List Filled) (y : Filled) (ys : List Filled) → Pairwise IsBefore (x ∷ xs)
     → Pairwise (λ first second. IsBefore second first → ⊥) (y ∷ ys) → IsSameBag (x ∷ xs) (y ∷ ys) → y ≡ x
 same_first x xs y ys strict weak bag = by_place (bag.among y (inl refl))
@@ -127,7 +127,7 @@ same_first x xs y ys strict weak bag = by_place (bag.among y (inl refl))
         let other = sum_some (shares x) ys some in
         absurd (weak.0 other.0 other.1 (shared_before x other.0 y other.2 before))
 
--- and so are those behind them
+-- and so are the items after them
 same_rest : (x : Filled) (xs ys : List Filled) → Pairwise IsBefore (x ∷ xs) → IsSameBag (x ∷ xs) (x ∷ ys) → IsSameBag xs ys
 same_rest x xs ys strict bag = record {
   among = λ z is. by_place z is (bag.among z (inr is));
@@ -159,7 +159,7 @@ same_lists (x ∷ xs) (y ∷ ys) strict weak bag =
     let rest : ys ≡ xs = same_lists xs ys strict.1 weak.1 (same_rest x xs ys strict (subst P first bag)) in
     cc
 
--- buffers in order are the list in strict order that has the same ones
+-- if a list in strict order has the same buffers as buffers in order, the two are equal
 pub one_order : (buffers wanted arranged : List Filled) → IsPermutation buffers arranged
     → AllPairs (λ first second. IsBefore second first → ⊥) arranged → AllPairs IsBefore wanted → IsPermutation buffers wanted → arranged ≡ wanted
 one_order buffers wanted arranged kept weak strict also =

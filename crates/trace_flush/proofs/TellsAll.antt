@@ -1,4 +1,4 @@
--- The text of an audit tells what it is of.
+-- The text of an audit determines its run.
 use Rattle.std.proofs.Common.{◌≡◌, ◌<◌, ◌≤◌, ◌^◌, ℕ, suc, Bool, true, false, cond, List, [], ◌∷◌, ◌++◌, length, get_or, nat_lt, refl, sym, ap, ◌∙◌, arith, append_assoc}
 use Rattle.std.specs.Prelude.{All, codes, decimal, map, ◌==◌}
 use Rattle.std.specs.List.{flat_map}
@@ -21,7 +21,7 @@ use Rattle.trace_flush.proofs.TellsMarks.{marks_tell}
 
 -- ---- ends
 
--- the end of a name, by its first letter; those that begin alike, by their seventh
+-- the end by its name's first letter; those that begin alike, by their seventh
 end_named : List ℕ → End
 end_named name =
     cond (get_or name 0 0 == 114) ends.Returned (cond (get_or name 0 0 == 102) ends.Fuel (cond (get_or name 0 0 == 112) ends.Passings
@@ -38,7 +38,7 @@ end_named-end_text ends.StackFull = refl
 end_named-end_text ends.StackEmpty = refl
 end_named-end_text ends.BadTarget = refl
 
--- no name has a space
+-- no name has a space in it
 is_above : ℕ → List ℕ → Bool
 is_above low [] = true
 is_above low (x ∷ xs) = cond (nat_lt low x) (is_above low xs) false
@@ -80,7 +80,7 @@ number_tells m n c d r s small small' low low' same =
 
 -- ---- a thread's lines
 
--- a thread's lines and what stands behind them, each part before the next
+-- a thread's lines and what follows them, each part before the next
 abbrev line_before : Account → List ℕ → List ℕ
 line_before (line, marks) rest =
     codes "thread " ++ (decimal line.thread ++ (codes " " ++ (end_text line.end ++ (codes " passings " ++ (decimal (length marks)
@@ -109,7 +109,7 @@ one_line line line' threads ends_same segments firsts =
     ∙ (ap (λ (n : ℕ). made line'.thread line'.end n line.first) segments
     ∙ ap (λ (m : ℕ). made line'.thread line'.end line'.segments m) firsts))
 
--- the lines of a thread tell it
+-- the lines of a thread determine it
 thread_tells : (line line' : AuditLine) (marks marks' : List Mark) (r s : List ℕ) → HasNumbers (line, marks) → HasNumbers (line', marks')
     → lines_before (line, marks) r ≡ lines_before (line', marks') s → (◌≡◌ {A = Account} (line, marks) (line', marks')) × (r ≡ s)
 thread_tells line line' marks marks' r s small small' same =
@@ -177,7 +177,7 @@ setup_is setup rest =
     append_assoc (buffers ++ limits) stamps rest ∙ (append_assoc buffers limits (stamps ++ rest) ∙ (buffers_are setup (limits ++ (stamps ++ rest))
     ∙ ap (buffers_before setup) (limits_are setup.limits (stamps ++ rest) ∙ ap (limits_before setup.limits) (stamps_are setup rest))))
 
--- what the setups of two equal texts have in common: what their numbers are printed as
+-- what the setups of two equal texts have in common: the digits of their numbers
 record IsToldAlike (setup setup' : Setup) : Type 0 where
   threads : decimal setup.threads ≡ decimal setup'.threads
   size : decimal setup.size ≡ decimal setup'.size
@@ -254,7 +254,7 @@ is_setup_of : (s : Setup) → s ≡ setup_of s.threads s.size s.max s.limits s.p
 unfolding setup_of
 is_setup_of s = refl
 
--- setups whose numbers are printed alike are the same
+-- setups whose numbers have the same digits are the same
 one_setup : (setup setup' : Setup) → HasSetupNumbers setup → HasSetupNumbers setup' → IsToldAlike setup setup' → setup ≡ setup'
 one_setup setup setup' small small' told =
     let equal : (k m n : ℕ) → k < 13 → get_or (setup_numbers setup) k 0 ≡ m → get_or (setup_numbers setup') k 0 ≡ n → decimal m ≡ decimal n → m ≡ n =
@@ -280,7 +280,7 @@ one_setup setup setup' small small' told =
 
 -- ---- the whole text
 
--- the text before its threads, and behind them
+-- the text before its threads, and the text after them
 parts_alike : (setup setup' : Setup) (threads others : List Account) → audit_text setup threads ≡ audit_text setup' others
     → setup_before setup (flat_map thread_lines threads ++ recycled_line (map (λ thread. thread.0) threads))
     ≡ setup_before setup' (flat_map thread_lines others ++ recycled_line (map (λ thread. thread.0) others))

@@ -1,4 +1,4 @@
--- The line of marks tells the marks.
+-- The line of marks determines the marks.
 use Rattle.std.proofs.Common.{◌≡◌, ◌<◌, ◌≤◌, ◌+◌, ◌^◌, ℕ, suc, Bool, true, false, cond, List, [], ◌∷◌, ◌++◌, length, map, replicate, refl, sym, ap, ◌∙◌, arith, append_assoc, add-one}
 use Rattle.std.specs.Prelude.{codes, decimal, max, ◌==◌}
 use Rattle.std.specs.List.{join_with_byte}
@@ -23,21 +23,21 @@ mark_named-mark_byte Recorded = refl
 printed_alike : (mark other : Mark) → mark_byte mark ≡ mark_byte other → mark ≡ other
 printed_alike mark other alike = sym (mark_named-mark_byte mark) ∙ (ap mark_named alike ∙ mark_named-mark_byte other)
 
--- a mark isn't printed as none are
+-- no mark is printed as an empty list is
 mark_is_no_dash : (mark : Mark) → mark_byte mark ≡ 45 → ⊥
 mark_is_no_dash Skipped same = omega arith
 mark_is_no_dash NoHandler same = omega arith
 mark_is_no_dash NotLogging same = omega arith
 mark_is_no_dash Recorded same = omega arith
 
--- and isn't the end of a line
+-- and none is printed as the end of a line
 mark_is_no_end : (mark : Mark) → mark_byte mark ≡ 10 → ⊥
 mark_is_no_end Skipped same = omega arith
 mark_is_no_end NoHandler same = omega arith
 mark_is_no_end NotLogging same = omega arith
 mark_is_no_end Recorded same = omega arith
 
--- ---- the runs tell the marks
+-- ---- the runs determine the marks
 
 marks_in : List (Mark × ℕ) → List Mark
 marks_in [] = []
@@ -85,7 +85,7 @@ unfolding AreUpTo
 runs_up_to [] = tt
 runs_up_to (mark ∷ marks) = onto_up_to (length marks) mark (runs_of marks) (runs_up_to marks)
 
--- ---- the text of runs tells the runs
+-- ---- the text of runs determines the runs
 
 joined_tells : (most : ℕ) (runs others : List (Mark × ℕ)) (run other : Mark × ℕ) (r s : List ℕ) → most < 2 ^ 64
     → AreUpTo most (run ∷ runs) → AreUpTo most (other ∷ others)
@@ -147,7 +147,7 @@ runs_tell most (run ∷ runs) [] r s small up up' same =
     absurd (mark_is_no_end run.0 first)
 runs_tell most (run ∷ runs) (other ∷ others) r s small up up' same = joined_tells most runs others run other r s small up up' same
 
--- ---- the text of marks tells the marks
+-- ---- the text of marks determines the marks
 
 no_dash : (runs : List (Mark × ℕ)) (r s : List ℕ) → codes "-" ++ 10 ∷ r ≡ join_with_byte 32 (map run_text runs) ++ 10 ∷ s → ⊥
 no_dash [] r s same = let first : ◌≡◌ {A = ℕ} 45 10 = cc in absurd (omega arith)
@@ -156,7 +156,7 @@ no_dash (run ∷ runs) r s same =
     let first : mark_byte run.0 ≡ 45 = cc (front.1) in
     mark_is_no_dash run.0 first
 
--- the text of marks, up to the end of its line, tells the marks
+-- the text of marks, up to the end of its line, determines the marks
 pub marks_tell : (marks others : List Mark) (r s : List ℕ) → length marks < 2 ^ 64 → length others < 2 ^ 64
     → runs_text marks ++ 10 ∷ r ≡ runs_text others ++ 10 ∷ s → (marks ≡ others) × (r ≡ s)
 marks_tell [] [] r s small small' same = (refl, cc)

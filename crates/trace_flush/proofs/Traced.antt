@@ -65,7 +65,7 @@ other_blocks setup thread other (events ∷ segs) apart = elim (eqb_tells thread
   | inr not_same ↦ rw not_same.0 (other_blocks setup thread other segs apart)
 ]
 
--- the blocks of runs from one of a number on
+-- the blocks of runs, from this thread on
 abbrev blocks_from : Setup → ℕ → List ThreadRun → List Block
 blocks_from setup k runs = flat_map (thread_blocks setup) (enumerate_from k runs)
 
@@ -129,7 +129,7 @@ begun_thread setup thread zero k (events ∷ segs) =
 begun_thread setup thread (suc first) k [] = All-from_recursion (λ (b : Filled). b.begun ≡ true) [] tt
 begun_thread setup thread (suc first) k (events ∷ segs) = begun_thread setup thread first (k + 1) segs
 
-begun_all : (setup : Setup) (k : ℕ) (runs : List ThreadRun) → All (λ (b : Filled). b.begun ≡ true) (flat_map (thread_buffers setup) (enumerate_from k runs))
+pub begun_all : (setup : Setup) (k : ℕ) (runs : List ThreadRun) → All (λ (b : Filled). b.begun ≡ true) (flat_map (thread_buffers setup) (enumerate_from k runs))
 begun_all setup k [] = All-from_recursion (λ (b : Filled). b.begun ≡ true) [] tt
 begun_all setup k (run ∷ runs) =
     subst (All (λ (b : Filled). b.begun ≡ true)) (sym (flat_map-cons (thread_buffers setup) (k, run) (enumerate_from (k + 1) runs)))

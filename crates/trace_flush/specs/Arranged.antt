@@ -6,6 +6,6 @@ use Rattle.fdr_buffer.specs.Filled.{Filled}
 abbrev pub has_event : Filled → Bool
 has_event buffer = nat_lt 0 (length buffer.events)
 
--- the first buffer stands before the second: it is of an earlier thread, or has an earlier segment of the same one
+-- the first buffer comes before the second: it is of an earlier thread, or has an earlier segment of the same thread
 abbrev pub IsBefore : Filled → Filled → Type 0
 IsBefore first second = (first.thread < second.thread) ⊎ ((first.thread ≡ second.thread) × (first.serial < second.serial))

@@ -1,4 +1,4 @@
--- The audit: what a run was made with, and what its threads came to.
+-- The audit: what a run was made with, and how its threads ended.
 use Rattle.std.specs.Prelude.{ℕ, List, ◌++◌, length, map, sum_by, codes, decimal}
 use Rattle.std.specs.List.{flat_map, zip}
 use Rattle.handler_word.specs.declared.mark.Mark.{Mark}
@@ -9,7 +9,7 @@ use Rattle.machine_step.specs.Texts.{end_text, marks_line, line_feed}
 use Rattle.machine_step.specs.Traced.{Traced}
 use Rattle.trace_flush.specs.declared.line.AuditLine.{AuditLine}
 
--- what the audit tells of a thread: what its line has, and the marks of its passings
+-- what the audit says of a thread: what its line has, and the marks of its passings
 abbrev pub Account : Type 0
 Account = AuditLine × List Mark
 
@@ -25,7 +25,7 @@ buffers_text setup =
     codes "xray-audit 1" ++ line_feed
     ++ codes "threads=" ++ decimal setup.threads ++ codes " buffer-size=" ++ decimal setup.size ++ codes " buffer-max=" ++ decimal setup.max
 
--- what bounds and stamps each thread
+-- the limits and the stamps of each thread
 abbrev pub limits_text : Limits → List ℕ
 limits_text limits =
     codes " fuel=" ++ decimal limits.fuel ++ codes " passings=" ++ decimal limits.passings ++ codes " tick=" ++ decimal limits.tick
@@ -41,7 +41,7 @@ stamps_text setup =
 abbrev pub setup_lines : Setup → List ℕ
 setup_lines setup = buffers_text setup ++ limits_text setup.limits ++ stamps_text setup
 
--- ---- what its threads came to
+-- ---- how its threads ended
 
 -- how a thread ended, its passings and those that recorded an event, its segments, and how many of these were recycled
 abbrev pub thread_line : Account → List ℕ

@@ -12,8 +12,8 @@ use Rattle.traced_run.specs.Kept.{kept_buffers, kept_of}
 use Rattle.traced_run.specs.Losses.{recycled_of}
 use Rattle.traced_run.specs.Runs.{ThreadRun, events_of}
 
--- the header of the traces of a setup: version 3; that the counter runs at a constant frequency, and never stops; that frequency, in
--- cycles per second; and the size of a buffer, in bytes
+-- The header of a trace with this setup: version 3, a counter that runs at a constant frequency and never stops, that
+-- frequency in cycles per second, and the size of a buffer in bytes.
 abbrev pub header_of : Setup → Header
 header_of setup = record { version = 3; constant = true; nonstop = true; frequency = setup.frequency; size = setup.size }
 
@@ -25,9 +25,9 @@ block_of setup thread events = record { thread = thread; wall = setup.wall; pid 
 abbrev pub trace_bytes : Setup → List ThreadRun → List ℕ
 trace_bytes setup runs = file_bytes (header_of setup) (kept_buffers setup runs)
 
--- ---- what they say
+-- ---- what the bytes say
 
--- whether a block is of a thread, and the blocks of one
+-- whether a block belongs to a thread, and the blocks of a thread
 abbrev pub is_of : ℕ → Block → Bool
 is_of thread block = block.thread == thread
 
@@ -38,10 +38,11 @@ blocks_of thread trace = filter (is_of thread) trace.blocks
 abbrev pub thread_blocks : Setup → ℕ × ThreadRun → List Block
 thread_blocks setup (thread, run) = map (block_of setup thread) (kept_of setup.size run)
 
--- The bytes are the trace of a run: by the grammar of trace files, a header with the setup's frequency and size of buffers, and blocks.
--- Those of each thread are the last whole segments of exactly the entries and exits that its marks record: all but its oldest ones,
--- which are lost. They hold all of these events where the run has lost no segment. The blocks stand by threads, and those of a thread by
--- segments; there are no others.
+-- The bytes are the trace of a run. By the grammar of trace files, they are a header with the setup's frequency and
+-- size of buffers, and blocks. The blocks of each thread are the last whole segments of exactly the entries and exits
+-- that its marks record. Only its oldest segments may be missing, which are lost. If the run has lost no segment, the
+-- blocks hold all of these events. The blocks are ordered by thread, and those of a thread by segment. There are no
+-- others.
 pub record IsTraceOf (setup : Setup) (runs : List ThreadRun) (bytes : List ℕ) : Type 0 where
   pub trace : Trace
   pub reads : IsTrace bytes trace

@@ -12,13 +12,13 @@ use Rattle.traced_run.specs.Runs.{ThreadRun}
 use Rattle.trace_flush.specs.declared.line.AuditLine.{AuditLine}
 use Rattle.trace_flush.specs.Audit.{Account}
 
--- the end of a thread that wants this; one that has not ended has none
+-- the end of a thread that wants this; it means nothing for a thread that hasn't ended
 abbrev pub end_of : Want → End
 end_of (Gate passing) = Returned
 end_of (Load word) = Returned
 end_of (Done end) = end
 
--- the line of a thread with so many segments, of which so many are lost
+-- the line of a thread with `segments` segments, of which `first` are lost
 abbrev pub line_of : Traced → ℕ → ℕ → AuditLine
 line_of thread segments first = record { thread = thread.thread; end = end_of thread.want; segments = segments; first = first }
 
@@ -27,7 +27,8 @@ abbrev pub lines_of : List Traced → List ℕ → List ℕ → List AuditLine
 lines_of (thread ∷ threads) (n ∷ segments) (m ∷ first) = line_of thread n m ∷ lines_of threads segments first
 lines_of threads segments first = []
 
--- What the audit says of each thread of a run: its number, its end, its segments and how many of them are lost, and its marks.
+-- What the audit says of each thread of a run: its number, its end, how many segments it has and how many of these are
+-- lost, and its marks.
 abbrev pub account_of : Setup → ℕ × ThreadRun → Account
 account_of setup (thread, run) =
     (record { thread = thread; end = run.end; segments = segment_count setup.size run; first = run.lost }, run.marks)

@@ -1,4 +1,4 @@
--- What the text of an audit tells.
+-- What the text of an audit determines.
 use Rattle.std.specs.Prelude.{◌<◌, ◌^◌, ℕ, List, [], ◌∷◌, All, length}
 use Rattle.machine_step.specs.declared.setup.Setup.{Setup}
 use Rattle.trace_flush.specs.Audit.{Account}

@@ -12,10 +12,10 @@ use handler_word::Marks;
 use machine_step::{Cpu, Limits, Setup, add_marks, end_name};
 use xray_io::{Piece, Sink, Text, WriteFault};
 
-/// Writes the audit of a run whose threads have all ended: what it was made with, two lines for each
-/// thread in order, and how many segments were recycled. Takes no memory.
+/// Writes the audit of a run whose threads have all ended: what it was made with, two lines for
+/// each thread in order, and how many segments were recycled.
 ///
-/// On `WriteFault` a front of the text was written, and the sink counted a fault.
+/// On `WriteFault` a prefix of the text was written, and the sink counted a fault.
 pub fn write_audit<S: Sink>(
     setup: &Setup,
     lines: &[AuditLine],
@@ -48,7 +48,7 @@ fn add_audit<S: Sink>(
     add_recycled(text, lines)
 }
 
-/// Adds the line of the format, and that of the setup.
+/// Adds the line of the format and the line of the setup.
 fn add_setup<S: Sink>(text: &mut Text<S>, setup: &Setup) -> Result<(), WriteFault>
     ensures { AddsText S.written S.faults S.along text.old text.new (setup_lines setup.now) result }
 {
@@ -72,7 +72,7 @@ fn add_buffers<S: Sink>(text: &mut Text<S>, setup: &Setup) -> Result<(), WriteFa
     ])
 }
 
-/// Adds what bounds and stamps each thread.
+/// Adds the limits and the stamps of each thread.
 fn add_limits<S: Sink>(text: &mut Text<S>, limits: &Limits) -> Result<(), WriteFault>
     ensures { AddsText S.written S.faults S.along text.old text.new
         (limits_text limits.now) result }
@@ -93,7 +93,7 @@ fn add_limits<S: Sink>(text: &mut Text<S>, limits: &Limits) -> Result<(), WriteF
     ])
 }
 
-/// Adds what is written in the trace of the process, the wall time and the counter.
+/// Adds the process, the wall time and the counter's frequency, which the trace has too.
 fn add_stamps<S: Sink>(text: &mut Text<S>, setup: &Setup) -> Result<(), WriteFault>
     ensures { AddsText S.written S.faults S.along text.old text.new (stamps_text setup.now) result }
 {
@@ -110,7 +110,7 @@ fn add_stamps<S: Sink>(text: &mut Text<S>, setup: &Setup) -> Result<(), WriteFau
     ])
 }
 
-/// Adds the two lines of each thread.
+/// Adds two lines for each thread.
 fn add_threads<S: Sink>(
     text: &mut Text<S>,
     lines: &[AuditLine],
@@ -161,7 +161,7 @@ fn add_line<S: Sink>(text: &mut Text<S>, line: &AuditLine, marks: &Marks) -> Res
     ])
 }
 
-/// Adds the line of the segments that were recycled.
+/// Adds the line with the number of recycled segments.
 fn add_recycled<S: Sink>(text: &mut Text<S>, lines: &[AuditLine]) -> Result<(), WriteFault>
     ensures { AddsText S.written S.faults S.along text.old text.new
         (recycled_line lines.now) result }

@@ -9,8 +9,8 @@ use machine_step::Setup;
 /// The version of the traces that are written.
 const VERSION: u16 = 3;
 
-/// The header of the trace of a run that was made with this: version 3, a counter that runs at a
-/// constant frequency and never stops, its frequency, and the size of a buffer.
+/// The header of the trace of a run with this setup: version 3, a counter that runs at a constant
+/// frequency and never stops, that frequency, and the size of a buffer.
 pub fn trace_header(setup: &Setup) -> Header
     ensures { result ≡ header_of setup.now }
 {

@@ -1,4 +1,4 @@
-//! Laws of what is written of a run. Each is the contract of a function that does nothing.
+//! Laws of what is written of a run. Each law is the contract of a function that does nothing.
 
 ghost use Rattle.std.specs.Prelude.{◌≡◌, List, ℕ, All};
 ghost use Rattle.xray_image.specs.Program.{IsAccepted, Program};
@@ -16,9 +16,9 @@ ghost use Rattle.trace_flush.specs.Telling.{HasNumbers, HasSetupNumbers};
 use fdr_file::a_file_reads_back;
 use traced_run::{a_run_fits_its_buffers, a_run_without_losses_is_whole};
 
-/// The text of an audit tells what it is of: two audits with the same text are of runs that were made
-/// with the same, and of the same threads, each with the same end, the same marks, and as many segments
-/// and recycled ones.
+/// The text of an audit determines its run. If two audits have the same text, their runs had the
+/// same setup and the same threads. Each thread has the same end, the same marks, and as many
+/// segments and recycled ones.
 pub fn audit_tells_its_run()
     ensures threads { (setup other : Setup) (threads others : List Account)
         → All HasNumbers threads → All HasNumbers others
@@ -28,8 +28,8 @@ pub fn audit_tells_its_run()
         → audit_text setup threads ≡ audit_text other others → setup ≡ other }
 {}
 
-/// The trace of a run is what the marks of its threads say: a header with the setup's numbers, and the
-/// last whole segments of exactly the events that they record.
+/// The trace of a run is what the marks of its threads say: a header with the setup's numbers, and
+/// the last whole segments of exactly the events that they record.
 pub fn a_run_is_traced()
     ensures { (bytes : List ℕ) (program : Program) (setup : Setup) (runs : List ThreadRun)
         → IsAccepted bytes program → SetupFits setup → IsRun program setup runs
@@ -40,8 +40,8 @@ pub fn a_run_is_traced()
     a_run_without_losses_is_whole();
 }
 
-/// The audit of what a run leaves says of each thread its number, its end, its segments, how many of
-/// them are lost, and its marks.
+/// The audit of what a run leaves says for each thread its number, its end, its segments, how many
+/// of them are lost, and its marks.
 pub fn a_run_is_audited()
     ensures { (setup : Setup) (runs : List ThreadRun) (cpus : List Traced) (segments first : List ℕ)
         (buffers : List Filled) → Leaves setup runs cpus segments first buffers

@@ -1,5 +1,5 @@
-//! The end of a traced run: what is written once all threads have ended. The audit tells what the run
-//! was made with, and what its threads came to; the buffers go into the trace in the order of a flush.
+//! The end of a traced run: what is written once all threads have ended. The audit says what the
+//! run was made with, and how its threads ended. The trace has the buffers in the order of a flush.
 #![tactic(auto)]
 
 mod audit;

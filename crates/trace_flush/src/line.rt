@@ -1,4 +1,4 @@
-//! The audit's line of a thread.
+//! A thread's line of the audit.
 
 ghost use Rattle.std.specs.Prelude.{◌≡◌, ◌≤◌, ◌+◌, ◌++◌, All, length, vec_len, vec_capacity};
 ghost use Rattle.machine_step.specs.Traced.{IsDone};
@@ -6,16 +6,18 @@ ghost use Rattle.trace_flush.specs.Lines.{end_of, lines_of};
 
 use machine_step::{Cpu, End, Want};
 
-/// What the audit tells of a thread, beside its marks.
+/// What the audit says of a thread, except its marks.
 #[derive(Clone, Copy, Debug, PartialEq, Eq)]
 pub struct AuditLine {
     /// The number of the thread, from 1.
     pub thread: u32,
     /// How it ended.
     pub end: End,
-    /// Into how many segments its events were cut, one a buffer, the recycled ones included.
+    /// How many segments its events were cut into, including the recycled ones. Each segment had a
+    /// buffer.
     pub segments: u32,
-    /// How many of them were lost, since their buffers were taken again: they are its first ones.
+    /// How many of its segments were lost because their buffers were taken again. These are its
+    /// first ones.
     pub first: u32,
 }
 
@@ -30,8 +32,8 @@ fn end(cpu: &Cpu) -> End
     }
 }
 
-/// Adds the lines of the threads of a run, by how many segments each has and how many of them are
-/// lost. Takes no memory: `lines` has to have room for them.
+/// Adds the lines of the threads of a run, by the numbers of their segments and of their lost
+/// segments. `lines` has to have room for them.
 pub fn add_audit_lines(cpus: &[Cpu], segments: &[u32], first: &[u32], lines: &mut Vec<AuditLine>)
     requires done { All (λ cpu. IsDone cpu.want) cpus.now }
     requires segments { length segments.now ≡ length cpus.now }

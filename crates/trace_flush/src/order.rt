@@ -1,6 +1,6 @@
 //! The order of a flush.
 
-ghost use Rattle.std.specs.Prelude.{◌≡◌, List, IsPermutation, AllPairs, filter};
+ghost use Rattle.std.specs.Prelude.{◌≡◌, All, List, IsPermutation, IsTrue, AllPairs, filter};
 ghost use Rattle.fdr_buffer.specs.Filled.{Filled};
 ghost use Rattle.machine_step.specs.declared.setup.Setup.{Setup};
 ghost use Rattle.traced_run.specs.Kept.{kept_buffers};
@@ -9,22 +9,26 @@ ghost use Rattle.trace_flush.specs.Arranged.{has_event, IsBefore};
 
 use fdr_buffer::{Buffer, segments_hold_all};
 
-/// Drops the buffers that hold no event, and orders the rest as a trace has them: by their threads, and
-/// those of a thread by their segments. Takes no memory.
+/// Drops the buffers that hold no event, and puts the rest in the order of a trace: thread by
+/// thread, and those of a thread by segment.
 ///
-/// Where two buffers have the same thread and segment, either may come first.
+/// If two buffers have the same thread and segment, either may come first.
 pub fn arrange(buffers: &mut Vec<Buffer>)
     ensures kept { IsPermutation (filter has_event buffers.old.items) buffers.new.items }
     ensures order { AllPairs (λ first second. IsBefore second first → ⊥) buffers.new.items }
-    // Whichever list has the same buffers in strict order is what is left.
+    // If a list has the same buffers in strict order, it is what is left.
     ensures exact { (wanted : List Filled) → AllPairs IsBefore wanted
         → IsPermutation (filter has_event buffers.old.items) wanted → buffers.new.items ≡ wanted }
-    // Of a run, the buffers of the segments that are left: also where they stood in this order before.
+    // For a run, what is left are the buffers of the segments that are left, in order. It doesn't
+    // matter in which order they were before.
     ensures run { (setup : Setup) (runs : List ThreadRun)
         → IsPermutation (filter has_event buffers.old.items) (kept_buffers setup runs)
         → buffers.new.items ≡ kept_buffers setup runs }
     ensures stay { (setup : Setup) (runs : List ThreadRun) → buffers.old.items ≡ kept_buffers setup runs
         → buffers.new.items ≡ kept_buffers setup runs }
+    // Each of them was begun, as a block of a trace has to be.
+    ensures begun { (setup : Setup) (runs : List ThreadRun) → buffers.old.items ≡ kept_buffers setup runs
+        → All (λ buffer. IsTrue buffer.begun) buffers.new.items }
 {
     segments_hold_all();
     buffers.retain(|buffer| buffer.events() > 0);

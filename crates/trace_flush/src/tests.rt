@@ -3,13 +3,13 @@
 use crate::{AuditLine, arrange, audit_tells_its_run, write_audit};
 use fdr_buffer::Buffer;
 use fdr_record::{Event, Kind};
-use machine_step::{Cpu, End, Limits, Setup, Want};
+use machine_step::{Cpu, End, Limits, Setup, Steps, Want};
 use std::alloc::Global;
 use std::test::Fail;
 use xray_image::{Image, read_image};
 use xray_io::{MemSink, Wall, WriteFault};
 
-/// A function `main` that outputs an A: an entry sled, `mov eax, 0x41`, `out 1, al`, an exit sled.
+/// A function `main` that prints an A: an entry sled, `mov eax, 0x41`, `out 1, al`, an exit sled.
 const OUTPUTS_AN_A: [u8; 170] = [
     // magic, version, base 0x1000
     0x58, 0x52, 0x49, 0x4D, 1, 0, 0, 0, 0x00, 0x10, 0, 0, 0, 0, 0, 0,
@@ -29,7 +29,7 @@ const OUTPUTS_AN_A: [u8; 170] = [
     0, 0, 0, 0, 0, 0, 0, 0,
 ];
 
-/// What a run is made with where nothing else is said.
+/// What a run is made with unless a test says otherwise.
 const DEFAULT_SETUP: Setup = Setup {
     threads: 1,
     size: 16_384,
@@ -52,23 +52,23 @@ const ENTRY: [(u32, u64); 4] = [(0, 0xBA41), (1, 1), (2, 0xE8), (3, 0x1F_FFF5)];
 
 const EXIT: [(u32, u64); 4] = [(4, 0xBA41), (5, 1), (6, 0xE9), (7, 0x1F_FFF3)];
 
-/// How many threads the image is run with.
+/// How many threads run the image.
 const THREADS: u32 = 2;
 
-/// The words of the handler and of the log's state, with no handler, and with one in a log that
-/// records or that has ended.
+/// The words of the handler and of the log's state: with no handler, and with one whose log records
+/// or has ended.
 const NO_HANDLER: [(u32, u64); 1] = [(8, 0)];
 
 const RECORDS: [(u32, u64); 2] = [(8, 1), (9, 2)];
 
 const HAS_ENDED: [(u32, u64); 2] = [(8, 1), (9, 4)];
 
-/// The image whose bytes these are.
+/// The image of these bytes.
 fn image_of(alloc: Global) -> Result<Image, Fail> {
     Ok(read_image(alloc, &OUTPUTS_AN_A)?)
 }
 
-/// Lets a thread into its next passing, and gives it the values of the words that it loads there.
+/// Lets a thread into its next passing, and gives it the values of the words that it loads.
 fn pass(cpu: &mut Cpu, sled: &[(u32, u64)], rest: &[(u32, u64)]) -> Result<(), Fail> {
     if let Want::Gate(_) = cpu.want() {
         cpu.opened();
@@ -84,10 +84,11 @@ fn pass(cpu: &mut Cpu, sled: &[(u32, u64)], rest: &[(u32, u64)]) -> Result<(), F
     Ok(())
 }
 
-/// Adds a thread that has passed both sleds, the entry sled and the exit sled behind these words.
+/// Adds a thread that has passed both sleds. It loaded these words before those of the entry sled
+/// and of the exit sled.
 fn add_thread<'a>(
     cpus: &mut Vec<Cpu<'a>>,
-    image: &'a Image,
+    steps: &'a Steps<'a>,
     thread: u32,
     limits: Limits,
     entry: &[(u32, u64)],
@@ -96,14 +97,14 @@ fn add_thread<'a>(
     if thread == 0 || thread > THREADS || limits.cpus == 0 || limits.migrate == 0 {
         Err("no such thread")?;
     }
-    let mut cpu = Cpu::new(*cpus.allocator(), image, thread, THREADS, None, limits)?;
+    let mut cpu = Cpu::new(*cpus.allocator(), steps, thread, THREADS, None, limits)?;
     pass(&mut cpu, &ENTRY, entry)?;
     pass(&mut cpu, &EXIT, exit)?;
     cpus.push(cpu)?;
     Ok(())
 }
 
-/// Writes the audit of threads, where all have ended and each has its line.
+/// Writes the audit of threads. All of them have ended, and each has a line.
 fn audit_of(
     setup: &Setup,
     lines: &[AuditLine],
@@ -123,10 +124,11 @@ fn audit_of(
 fn the_audit_of_a_thread_that_records_all(rt: HostRuntime) -> Result<(), Fail> {
     let alloc = rt.alloc();
     let image = image_of(alloc)?;
+    let steps = Steps::new(alloc, &image)?;
     let mut cpus = Vec::new(alloc);
     add_thread(
         &mut cpus,
-        &image,
+        &steps,
         1,
         DEFAULT_SETUP.limits,
         &RECORDS,
@@ -155,6 +157,7 @@ fn the_audit_of_two_threads_that_lost_segments(rt: HostRuntime) -> Result<(), Fa
     audit_tells_its_run();
     let alloc = rt.alloc();
     let image = image_of(alloc)?;
+    let steps = Steps::new(alloc, &image)?;
     let limits = Limits {
         fuel: 2,
         passings: 1_048_575,
@@ -176,8 +179,8 @@ fn the_audit_of_two_threads_that_lost_segments(rt: HostRuntime) -> Result<(), Fa
         frequency: 2_400_000_000,
     };
     let mut cpus = Vec::new(alloc);
-    add_thread(&mut cpus, &image, 1, limits, &RECORDS, &HAS_ENDED)?;
-    add_thread(&mut cpus, &image, 2, limits, &NO_HANDLER, &HAS_ENDED)?;
+    add_thread(&mut cpus, &steps, 1, limits, &RECORDS, &HAS_ENDED)?;
+    add_thread(&mut cpus, &steps, 2, limits, &NO_HANDLER, &HAS_ENDED)?;
     let lines = [
         AuditLine {
             thread: 1,
@@ -206,12 +209,12 @@ fn the_audit_of_two_threads_that_lost_segments(rt: HostRuntime) -> Result<(), Fa
     Ok(())
 }
 
-/// Threads of the image that end before their first passing, and the lines of these.
-fn threads_at_once(
+/// Threads of the image that end before their first passing, and their lines.
+fn threads_at_once<'a>(
     alloc: Global,
     count: u32,
-    image: &Image,
-) -> Result<(Vec<AuditLine>, Vec<Cpu<'_>>), Fail> {
+    steps: &'a Steps<'a>,
+) -> Result<(Vec<AuditLine>, Vec<Cpu<'a>>), Fail> {
     let limits = Limits {
         passings: 0,
         ..DEFAULT_SETUP.limits
@@ -219,7 +222,7 @@ fn threads_at_once(
     let mut lines = Vec::new(alloc);
     let mut cpus = Vec::new(alloc);
     for _ in 0..count {
-        cpus.push(Cpu::new(alloc, image, 1, 1, None, limits)?)?;
+        cpus.push(Cpu::new(alloc, steps, 1, 1, None, limits)?)?;
         lines.push(AuditLine {
             thread: 1,
             end: End::Passings,
@@ -234,12 +237,13 @@ fn threads_at_once(
 fn a_sink_that_fails_in_mid_text_has_a_front_of_it(rt: HostRuntime) -> Result<(), Fail> {
     let alloc = rt.alloc();
     let image = image_of(alloc)?;
-    let (lines, cpus) = threads_at_once(alloc, 80, &image)?;
+    let steps = Steps::new(alloc, &image)?;
+    let (lines, cpus) = threads_at_once(alloc, 80, &steps)?;
     let mut whole = MemSink::new(alloc, Vec::new(alloc));
     audit_of(&DEFAULT_SETUP, &lines, &cpus, &mut whole)??;
     assert!(rt; whole.bytes().ends_with(b"\nmarks -\nrecycled 0\n"));
 
-    // The text is longer than what is gathered for a write: the second write fails.
+    // The text is longer than what is gathered for one write, and the second write fails.
     let mut broken = MemSink::new(alloc, vec![in alloc; 1]?);
     assert_eq!(rt;
         audit_of(&DEFAULT_SETUP, &lines, &cpus, &mut broken)?,
@@ -251,7 +255,7 @@ fn a_sink_that_fails_in_mid_text_has_a_front_of_it(rt: HostRuntime) -> Result<()
     Ok(())
 }
 
-/// A buffer that was begun for a segment of a thread, and holds so many events.
+/// A buffer that was begun for a segment of a thread, with this many events.
 fn buffer_of(alloc: Global, thread: u32, serial: u32, events: u32) -> Result<Buffer, Fail> {
     let mut buffer = Buffer::new(alloc, 1_000)?;
     buffer.begin(thread, serial, DEFAULT_SETUP.wall, DEFAULT_SETUP.pid);

@@ -38,7 +38,7 @@ events_fit (p ∷ passed) (mark ∷ marks) fit =
 
 -- ---- segments
 
--- what a segment of a run keeps
+-- what is true of each segment of a run
 record SegmentFits (size : ℕ) (events : List Event) : Type 0 where
   room : IsTrue (has_room size events)
   fit : AllByRecursion EventFits events

@@ -14,9 +14,9 @@ use Rattle.machine_step.specs.PlainStep.{Ends, Next, Passing, PlainRun, PlainSte
 use Rattle.traced_run.specs.Fits.{PassingFits}
 use Rattle.traced_run.proofs.SmallIds.{small_id}
 
--- ---- what holds of each passing
+-- ---- what is true of each passing
 
--- it holds of the passings of all sleds
+-- it is true of the passings of all sleds
 abbrev pub OfEach : (Passing → Type 0) → Program → Limits → ℕ → Type 0
 OfEach P program limits thread =
     (s : State) (k : ℕ) (sled : XraySled) → slice_get program.sleds k ≡ Some sled → P (passing_at limits thread s k sled)

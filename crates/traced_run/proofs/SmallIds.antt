@@ -1,4 +1,4 @@
--- The functions' ids of an image's sleds are small: it has few map entries.
+-- The functions' ids of an image's sleds are small, since its map has few entries.
 use Rattle.std.proofs.Common.{◌≡◌, ℕ, zero, suc, ◌+◌, ◌<◌, ◌≤◌, ◌^◌, List, [], ◌∷◌, Bool, true, false, Option, Some, None, refl, sym, subst, ap, ◌∙◌, arith, length, map, take, drop}
 use Rattle.std.specs.Prelude.{◌==◌, if◌then◌else◌, not, nat_lt, slice_get}
 use Rattle.std.specs.List.{list_any, prefix_len, zip}
@@ -13,7 +13,7 @@ use Rattle.xray_image.specs.declared.sled.Sled.{Sled as XraySled}
 
 -- ---- how many map entries there are
 
--- as many items as were asked for
+-- there are as many items as were asked for
 several_count : (X : Type 0) (item : List ℕ → Option (X × List ℕ)) (n : ℕ) (bytes : List ℕ) (found : List X × List ℕ)
     → several item n bytes ≡ Some found → length found.0 ≡ n
 several_count X item zero bytes found e =

@@ -4,7 +4,7 @@ use Rattle.fdr_buffer.specs.declared.buffer.TheConstants.{LEAST, LARGEST}
 use Rattle.machine_step.specs.declared.setup.Setup.{Setup}
 use Rattle.machine_step.specs.PlainStep.{Passing}
 
--- the numbers of a setup as its types bound them, with at least one processor, and a size that a buffer may have
+-- the numbers of a setup fit its types, there is at least one processor, and a buffer may have this size
 pub record SetupFits (setup : Setup) : Type 0 where
   pub threads : setup.threads < 2 ^ 32
   pub least : LEAST ≤ setup.size
@@ -16,7 +16,7 @@ pub record SetupFits (setup : Setup) : Type 0 where
   pub micros : setup.wall.micros < 2 ^ 32
   pub frequency : setup.frequency < 2 ^ 64
 
--- the stamp and the id of a passing
+-- the stamp and the id of a passing fit
 pub record PassingFits (p : Passing) : Type 0 where
   pub cpu : p.cpu < 2 ^ 16
   pub id : p.id < 2 ^ 28

@@ -15,7 +15,7 @@ segments_of size run = segments size (events_of run)
 abbrev pub segment_count : ℕ → ThreadRun → ℕ
 segment_count size run = length (segments_of size run)
 
--- the segments that are left: the last ones
+-- the segments that are left, which are the last ones
 abbrev pub kept_of : ℕ → ThreadRun → List (List Event)
 kept_of size run = drop run.lost (segments_of size run)
 
@@ -42,7 +42,7 @@ buffer_of stamp thread (serial, events) = record {
   events = events;
 }
 
--- the buffers of a thread's segments, without those of the first ones
+-- the buffers of a thread's segments, without those of its first ones
 abbrev pub buffers_behind : Stamp → ℕ → ℕ → List (List Event) → List Filled
 buffers_behind stamp first thread segs = map (buffer_of stamp thread) (drop first (enumerate_from 0 segs))
 
@@ -50,6 +50,6 @@ buffers_behind stamp first thread segs = map (buffer_of stamp thread) (drop firs
 abbrev pub thread_buffers : Setup → ℕ × ThreadRun → List Filled
 thread_buffers setup (thread, run) = buffers_behind (stamp_of setup) run.lost thread (segments_of setup.size run)
 
--- The buffers of a run: by thread, and those of a thread by segment.
+-- The buffers of a run, thread by thread. Those of a thread are in the order of its segments.
 abbrev pub kept_buffers : Setup → List ThreadRun → List Filled
 kept_buffers setup runs = flat_map (thread_buffers setup) (enumerate_from 1 runs)

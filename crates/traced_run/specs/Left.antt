@@ -7,7 +7,7 @@ use Rattle.machine_step.specs.Traced.{Traced}
 use Rattle.traced_run.specs.Runs.{ThreadRun}
 use Rattle.traced_run.specs.Kept.{kept_buffers, segment_count}
 
--- a traced thread is at the end of its run, and has the run's marks
+-- a traced thread is at the end of its run, with the run's marks
 pub record HasRun (number : ℕ) (run : ThreadRun) (t : Traced) : Type 0 where
   pub thread : t.thread ≡ number
   pub done : t.want ≡ Done run.end
@@ -18,8 +18,8 @@ pub record HasRun (number : ℕ) (run : ThreadRun) (t : Traced) : Type 0 where
   pub passings : length t.marks ≡ run.last.passings
   pub marks : t.marks ≡ run.marks
 
--- What a run leaves: its threads at their ends, thread 1 first; into how many segments the events of each were cut, and how many of
--- these are lost; and the buffers of those that are left.
+-- What a run leaves. Its threads are at their ends, thread 1 first. It says how many segments the events of each thread
+-- were cut into, and how many of these are lost. The buffers are those of the segments that are left.
 pub record Leaves (setup : Setup) (runs : List ThreadRun) (cpus : List Traced) (segments first : List ℕ) (buffers : List Filled) : Type 0 where
   pub count : length cpus ≡ length runs
   pub cpus_are : (i : ℕ) (run : ThreadRun) (t : Traced) → slice_get runs i ≡ Some run → slice_get cpus i ≡ Some t → HasRun (i + 1) run t

@@ -1,4 +1,4 @@
--- The threads of a run, however their loads fell between the patcher's stores.
+-- The threads of a run, however their loads fall between the patcher's stores.
 use Rattle.std.specs.Prelude.{◌≡◌, ◌+◌, ℕ, List, length, slice_get, Some}
 use Rattle.xray_image.specs.Program.{Program}
 use Rattle.handler_word.specs.declared.mark.Mark.{Mark}
@@ -8,8 +8,8 @@ use Rattle.machine_step.specs.declared.setup.Setup.{Setup}
 use Rattle.machine_step.specs.Events.{recorded}
 use Rattle.machine_step.specs.PlainStep.{Passing, PlainRun, State}
 
--- How one thread of a run goes: the passings of its plain run, its end and its last state; the marks of its passings; and how many of
--- the segments of its events were lost when their buffers were taken again: its oldest ones.
+-- How one thread of a run goes: the passings of its plain run, its end and its last state; the marks of its passings;
+-- and how many segments of its events were lost because their buffers were taken again. These are its oldest segments.
 pub record ThreadRun : Type 0 where
   pub passed : List Passing
   pub end : End
@@ -17,11 +17,11 @@ pub record ThreadRun : Type 0 where
   pub marks : List Mark
   pub lost : ℕ
 
--- The threads of a run, thread 1 first: there are as many as the setup says, and each runs as its plain run does.
+-- The threads of a run, thread 1 first. There are as many as the setup says, and each runs as its plain run does.
 pub record IsRun (program : Program) (setup : Setup) (runs : List ThreadRun) : Type 0 where
   pub count : length runs ≡ setup.threads
   pub plain : (i : ℕ) (run : ThreadRun) → slice_get runs i ≡ Some run → PlainRun program setup.limits (i + 1) run.passed run.end run.last
 
--- the events of a thread: those of the passings whose marks record
+-- the events of a thread: those of the passings that were marked as recorded
 abbrev pub events_of : ThreadRun → List Event
 events_of run = recorded run.passed run.marks

@@ -1,4 +1,4 @@
-//! Laws of runs. Each is the contract of a function that does nothing.
+//! Laws of runs. Each law is the contract of a function that does nothing.
 
 ghost use Rattle.std.specs.Prelude.{◌≡◌, ◌≤◌, ◌<◌, ◌^◌, ◌++◌, List, ℕ, All, Some, slice_get, take};
 ghost use Rattle.std.specs.List.{flat_map};
@@ -15,8 +15,8 @@ ghost use Rattle.traced_run.specs.Runs.{IsRun, ThreadRun, events_of};
 
 use fdr_buffer::{a_body_has_room, segments_hold_all};
 
-/// The segments of a thread that are lost are its oldest: their events, and then those of the segments
-/// that are left, are all events that its marks record.
+/// The segments of a thread that are lost are its oldest. Their events, and then those of the
+/// segments that are left, are all events that the thread's marks record.
 pub fn lost_segments_are_the_oldest()
     ensures { (size : ℕ) (run : ThreadRun)
         → flat_map (λ s. s) (take run.lost (segments_of size run)) ++ flat_map (λ s. s) (kept_of size run)
@@ -25,7 +25,7 @@ pub fn lost_segments_are_the_oldest()
     segments_hold_all();
 }
 
-/// Where a run has lost no segment, each thread has all of its own, and these hold all events that its
+/// If a run has lost no segment, each thread has all of its segments. They hold all events that its
 /// marks record.
 pub fn a_run_without_losses_is_whole()
     ensures segments { (size : ℕ) (runs : List ThreadRun) (i : ℕ) (run : ThreadRun)
@@ -37,8 +37,8 @@ pub fn a_run_without_losses_is_whole()
     segments_hold_all();
 }
 
-/// The ids of a plain run's passings fit the records of events, and so do their stamps, where there is
-/// a processor and no more than its field can count.
+/// The ids of a plain run's passings fit the records of events. So do their stamps, if there is a
+/// processor, and no more of them than the field can count.
 pub fn passings_fit()
     ensures ids { (bytes : List ℕ) (program : Program) (limits : Limits) (thread : ℕ)
         (passed : List Passing) (end : End) (last : State) → IsAccepted bytes program
@@ -49,7 +49,7 @@ pub fn passings_fit()
         → All PassingFits passed }
 {}
 
-/// All that a run leaves in its buffers fits them, and the records that it is read from again.
+/// All that a run leaves in its buffers fits them, and fits the records that it is read from later.
 pub fn a_run_fits_its_buffers()
     ensures { (bytes : List ℕ) (program : Program) (setup : Setup) (runs : List ThreadRun)
         → IsAccepted bytes program → SetupFits setup → IsRun program setup runs

@@ -1,7 +1,7 @@
 //! Runs of traced threads: how each thread goes, what all of them leave, and which of their events
-//! are left in buffers. It has no code but laws. Whoever makes a run, by a stated order or on threads
-//! of its own, says by these definitions what it leaves; whoever writes the run's trace and its audit
-//! says by them what is written.
+//! are left in buffers. The crate has no code, only definitions and laws. Code that makes a run, in
+//! a stated order or on real threads, says by these definitions what the run leaves. Code that
+//! writes a run's trace and audit says by them what is written.
 #![tactic(auto)]
 
 mod laws;

@@ -10,10 +10,10 @@ use std::thread::Threads;
 use xray_io::MemDesk;
 
 /// A move, an output and a return: the text of the image that the other tests have as bytes.
-const STRAIGHT_LINE: &str = "base 0x1000\nfn main always\nmov eax, 65\nout 1\nret\n";
+pub const STRAIGHT_LINE: &str = "base 0x1000\nfn main always\nmov eax, 65\nout 1\nret\n";
 
 /// An exit sled that needs its alignment byte.
-const ODD_EXIT: &str = "base 0x1000\nfn main always\nout 0\nret\n";
+pub const ODD_EXIT: &str = "base 0x1000\nfn main always\nout 0\nret\n";
 
 /// A call over an alignment byte.
 pub const CALL: &str = "base 0x1000\nfn main always\ncall f\nret\nfn f always\nret\n";
@@ -191,7 +191,7 @@ fn an_assembled_image_is_replayed(rt: HostRuntime) -> Result<(), Fail> {
     assert_eq!(rt; desk.get("i").ok_or("no image")?, IMAGE.as_slice());
     assert_eq!(rt; desk.get("t").ok_or("no text")?, STRAIGHT_LINE.as_bytes());
     let replayed = format!(in rt.alloc(); "{STATE}marks n1 .1\n")?;
-    assert_done(&rt, &["sim", "i", "s", "c"], &mut desk, &replayed)
+    assert_done(&rt, &["sim", "i", "s", "c", "n", "a"], &mut desk, &replayed)
 }
 
 #[test]

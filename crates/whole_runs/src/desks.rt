@@ -2,7 +2,6 @@
 ghost use Rattle.std.specs.Prelude.{◌^◌};
 ghost use Rattle.xray_io.specs.Desk.{Untold};
 
-use std::alloc::{AllocError, Global};
 use xray_io::{Desk, Failed, MemDesk, ReadFail};
 
 /// A desk that gives one byte a read, and takes one a write.
@@ -50,77 +49,5 @@ impl Desk for Trickle {
 
     fn append(&mut self, name: &str, bytes: &[u8]) -> Result<usize, Failed> {
         self.desk.append(name, &bytes[..bytes.len().min(1)])
-    }
-}
-
-/// A desk that notes the names that it is asked for, one behind the other.
-#[derive(Drop)]
-pub struct Noting {
-    desk: MemDesk,
-    alloc: Global,
-    last: String,
-    names: String,
-}
-
-impl Noting {
-    /// Over this desk, with no name noted.
-    pub fn new(alloc: Global, desk: MemDesk) -> Self {
-        Noting {
-            desk,
-            alloc,
-            last: String::new(alloc),
-            names: String::new(alloc),
-        }
-    }
-
-    /// The names, in the order in which they were asked for. Calls with a name that follow each other are one.
-    pub fn names(&self) -> &str {
-        self.names.as_str()
-    }
-
-    fn note(&mut self, name: &str) -> Result<(), AllocError> {
-        if self.last.as_str() != name {
-            self.last = String::from_str(self.alloc, name)?;
-            self.names.push_str(name)?;
-        }
-        Ok(())
-    }
-}
-
-impl Desk for Noting {
-    ghost held = { λ _ _. Untold };
-
-    ghost read_faults = { λ _. 2 ^ 64 };
-
-    ghost write_faults = { λ _. 2 ^ 64 };
-
-    ghost along = { λ _ _ _. Unit {0} };
-
-    ghost along_none = { λ _. tt };
-
-    ghost along_both = { λ _ _ _ _ _ _ _. tt };
-
-    fn read(&mut self, name: &str, from: u64, buf: &mut [u8]) -> Result<usize, ReadFail> {
-        if self.note(name).is_err() {
-            return Err(ReadFail::Failed);
-        }
-        match self.desk.read(name, from, buf) {
-            Ok(count) => Ok(count),
-            Err(_) => Err(ReadFail::Failed),
-        }
-    }
-
-    fn create(&mut self, name: &str) -> Result<(), Failed> {
-        if self.note(name).is_err() {
-            return Err(Failed);
-        }
-        self.desk.create(name)
-    }
-
-    fn append(&mut self, name: &str, bytes: &[u8]) -> Result<usize, Failed> {
-        if self.note(name).is_err() {
-            return Err(Failed);
-        }
-        self.desk.append(name, bytes)
     }
 }

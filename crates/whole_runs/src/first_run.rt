@@ -1,12 +1,12 @@
 //! One thread, whose sleds are patched before its start and unpatched behind it.
-use crate::desks::{Noting, Trickle};
+use crate::desks::Trickle;
 use crate::runs::{IMAGE, SCHEDULE, SCRIPT, STATE, desk_of, run_words};
 use std::process::Abort;
 use std::sync::Wait;
 use std::test::Fail;
 use std::thread::Threads;
 
-const SIM: [&str; 4] = ["sim", "i", "s", "c"];
+const SIM: [&str; 6] = ["sim", "i", "s", "c", "t", "a"];
 
 #[test]
 fn unpatching_in_the_middle_of_a_passing_keeps_the_call_whole(rt: HostRuntime) -> Result<(), Fail> {
@@ -40,80 +40,55 @@ fn a_desk_that_gives_one_byte_a_read_changes_nothing(rt: HostRuntime) -> Result<
     Ok(())
 }
 
-/// The names show that no input is opened before the one before it was judged.
 #[test]
 fn an_input_that_is_not_what_it_has_to_be_is_refused_in_its_turn(
     rt: HostRuntime,
 ) -> Result<(), Fail> {
     let cut = &IMAGE[..63];
-    assert_refused(&rt, cut, SCRIPT, SCHEDULE, "xray: i: image Short\n", "i")?;
-    assert_refused(&rt, cut, "patch", "t 1", "xray: i: image Short\n", "i")?;
-    assert_refused(
-        &rt,
-        &IMAGE,
-        "patch",
-        SCHEDULE,
-        "xray: s: script Go 2\n",
-        "is",
-    )?;
-    assert_refused(
-        &rt,
-        &IMAGE,
-        SCRIPT,
-        "t 1",
-        "xray: c: schedule Syntax 1\n",
-        "isc",
-    )?;
-    assert_refused(
-        &rt,
-        &IMAGE,
-        SCRIPT,
-        "t 2 1",
-        "xray: c: schedule Thread 1\n",
-        "isc",
-    )
+    assert_refused(&rt, cut, "patch", "t 1", "xray: i: image Short\n")?;
+    assert_refused(&rt, &IMAGE, "patch", "t 1", "xray: s: script Go 2\n")?;
+    assert_refused(&rt, &IMAGE, SCRIPT, "t 1", "xray: c: schedule Syntax 1\n")?;
+    assert_refused(&rt, &IMAGE, SCRIPT, "t 2 1", "xray: c: schedule Thread 1\n")
 }
 
-/// Checks that inputs are refused with a line on err, and which of them were asked for.
+/// Checks that inputs are refused with a line on err.
 fn assert_refused<R: Abort + Threads + Wait + Sync + AllocGlobal>(
     rt: &R,
     image: &[u8],
     script: &str,
     schedule: &str,
     line: &str,
-    names: &str,
 ) -> Result<(), Fail> {
-    let desk = desk_of(rt.alloc(), &[], image, script, schedule)?;
-    let mut noting = Noting::new(rt.alloc(), desk);
-    let run = run_words(rt, &SIM, &mut noting, &[], &[])?;
+    let mut desk = desk_of(rt.alloc(), &[], image, script, schedule)?;
+    let run = run_words(rt, &SIM, &mut desk, &[], &[])?;
     assert_eq!(rt; run.status, 2, "{line}");
     assert_eq!(rt; run.out.as_str(), "", "{line}");
     assert_eq!(rt; run.err.as_str(), line);
-    assert_eq!(rt; noting.names(), names, "{line}");
     Ok(())
 }
 
 #[test]
-fn words_that_say_no_command_open_no_input(rt: HostRuntime) -> Result<(), Fail> {
+fn words_that_say_no_command_are_a_bad_line(rt: HostRuntime) -> Result<(), Fail> {
     assert_bad_line(&rt, &[])?;
     assert_bad_line(&rt, &["sim", "i", "s"])?;
-    assert_bad_line(&rt, &["sim", "i", "s", "c", "c"])?;
-    assert_bad_line(&rt, &["run", "i", "s", "c"])?;
-    assert_bad_line(&rt, &["sim", "-x", "s", "c"])
+    assert_bad_line(&rt, &["sim", "i", "s", "c"])?;
+    assert_bad_line(&rt, &["sim", "i", "s", "c", "t", "t"])?;
+    assert_bad_line(&rt, &["sim", "i", "s", "c", "t", "s"])?;
+    assert_bad_line(&rt, &["sim", "i", "s", "c", "t", "a", "c"])?;
+    assert_bad_line(&rt, &["run", "i", "s", "c", "t", "a"])?;
+    assert_bad_line(&rt, &["sim", "-x", "s", "c", "t", "a"])
 }
 
-/// Checks that words are a bad command line, and that no input was asked for.
+/// Checks that words are a bad command line.
 fn assert_bad_line<R: Abort + Threads + Wait + Sync + AllocGlobal>(
     rt: &R,
     words: &[&str],
 ) -> Result<(), Fail> {
-    let desk = desk_of(rt.alloc(), &[], &IMAGE, SCRIPT, SCHEDULE)?;
-    let mut noting = Noting::new(rt.alloc(), desk);
-    let run = run_words(rt, words, &mut noting, &[], &[])?;
+    let mut desk = desk_of(rt.alloc(), &[], &IMAGE, SCRIPT, SCHEDULE)?;
+    let run = run_words(rt, words, &mut desk, &[], &[])?;
     assert_eq!(rt; run.status, 1);
     assert_eq!(rt; run.out.as_str(), "");
     assert_eq!(rt; run.err.as_str(), "xray: bad command line\n");
-    assert_eq!(rt; noting.names(), "");
     Ok(())
 }
 
@@ -121,7 +96,7 @@ fn assert_bad_line<R: Abort + Threads + Wait + Sync + AllocGlobal>(
 fn a_lone_dash_names_a_file(rt: HostRuntime) -> Result<(), Fail> {
     let mut desk = desk_of(rt.alloc(), &[], b"", SCRIPT, SCHEDULE)?;
     desk.put("-", &IMAGE)?;
-    let run = run_words(&rt, &["sim", "-", "s", "c"], &mut desk, &[], &[])?;
+    let run = run_words(&rt, &["sim", "-", "s", "c", "t", "a"], &mut desk, &[], &[])?;
     assert_eq!(rt; run.status, 0);
     Ok(())
 }
@@ -129,31 +104,22 @@ fn a_lone_dash_names_a_file(rt: HostRuntime) -> Result<(), Fail> {
 /// Each input is read in two calls: one for its bytes, and one that finds its end.
 #[test]
 fn a_read_that_fails_names_the_input_whose_turn_it_was(rt: HostRuntime) -> Result<(), Fail> {
-    for (call, line) in [
-        (0, "xray: i: read fault\n"),
-        (1, "xray: i: read fault\n"),
-        (2, "xray: s: read fault\n"),
-        (3, "xray: s: read fault\n"),
-        (4, "xray: c: read fault\n"),
-        (5, "xray: c: read fault\n"),
-    ] {
+    for (call, line) in [(1, "xray: i: read fault\n"), (4, "xray: c: read fault\n")] {
         let mut desk = desk_of(rt.alloc(), &[call], &IMAGE, SCRIPT, SCHEDULE)?;
         let run = run_words(&rt, &SIM, &mut desk, &[], &[])?;
         assert_eq!(rt; run.status, 3, "{call}");
         assert_eq!(rt; run.out.as_str(), "", "{call}");
         assert_eq!(rt; run.err.as_str(), line, "{call}");
     }
-    let mut desk = desk_of(rt.alloc(), &[6], &IMAGE, SCRIPT, SCHEDULE)?;
-    assert_eq!(rt; run_words(&rt, &SIM, &mut desk, &[], &[])?.status, 0);
     Ok(())
 }
 
 #[test]
 fn a_name_that_is_not_held_is_a_read_fault(rt: HostRuntime) -> Result<(), Fail> {
     for (words, line) in [
-        (["sim", "x", "s", "c"], "xray: x: read fault\n"),
-        (["sim", "i", "y", "z"], "xray: y: read fault\n"),
-        (["sim", "i", "s", "z"], "xray: z: read fault\n"),
+        (["sim", "x", "s", "c", "t", "a"], "xray: x: read fault\n"),
+        (["sim", "i", "y", "z", "t", "a"], "xray: y: read fault\n"),
+        (["sim", "i", "s", "z", "t", "a"], "xray: z: read fault\n"),
     ] {
         let mut desk = desk_of(rt.alloc(), &[], &IMAGE, SCRIPT, SCHEDULE)?;
         let run = run_words(&rt, &words, &mut desk, &[], &[])?;
@@ -161,16 +127,6 @@ fn a_name_that_is_not_held_is_a_read_fault(rt: HostRuntime) -> Result<(), Fail> 
         assert_eq!(rt; run.out.as_str(), "", "{line}");
         assert_eq!(rt; run.err.as_str(), line);
     }
-    Ok(())
-}
-
-#[test]
-fn an_output_that_fails_is_a_write_fault(rt: HostRuntime) -> Result<(), Fail> {
-    let mut desk = desk_of(rt.alloc(), &[], &IMAGE, SCRIPT, SCHEDULE)?;
-    let run = run_words(&rt, &SIM, &mut desk, &[0], &[])?;
-    assert_eq!(rt; run.status, 4);
-    assert_eq!(rt; run.out.as_str(), "");
-    assert_eq!(rt; run.err.as_str(), "xray: output: write fault\n");
     Ok(())
 }
 

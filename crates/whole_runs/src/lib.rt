@@ -14,3 +14,5 @@ mod plain;
 mod runs;
 #[cfg(test)]
 mod sim;
+#[cfg(test)]
+mod traces;

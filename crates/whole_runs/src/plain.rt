@@ -152,7 +152,7 @@ fn words_that_lack_a_value_or_a_name_are_a_bad_line(rt: HostRuntime) -> Result<(
 #[test]
 fn two_dashes_and_a_schedule_replay(rt: HostRuntime) -> Result<(), Fail> {
     let mut desk = desk_of(rt.alloc(), &[], &IMAGE, SCRIPT, SCHEDULE)?;
-    let words = ["sim", "i", "--", "s", "c"];
+    let words = ["sim", "i", "--", "s", "c", "t", "a"];
     assert_eq!(rt; run_words(&rt, &words, &mut desk, &[], &[])?.status, 0);
     Ok(())
 }
@@ -188,7 +188,7 @@ fn an_image_is_refused_with_the_values_of_its_fault(rt: HostRuntime) -> Result<(
     ] {
         assert_stops(&rt, &["plain", "i"], image, 2, line)?;
         assert_stops(&rt, &["extract", "i"], image, 2, line)?;
-        assert_stops(&rt, &["sim", "i", "s", "c"], image, 2, line)?;
+        assert_stops(&rt, &["sim", "i", "s", "c", "t", "a"], image, 2, line)?;
     }
     Ok(())
 }
@@ -220,7 +220,7 @@ fn an_input_above_its_limit_is_too_long(rt: HostRuntime) -> Result<(), Fail> {
     for words in [
         &["plain", "i"][..],
         &["extract", "i"],
-        &["sim", "i", "s", "c"],
+        &["sim", "i", "s", "c", "t", "a"],
     ] {
         assert_stops(&rt, words, &image, 6, "xray: i: too long\n")?;
     }
@@ -232,7 +232,7 @@ fn an_input_above_its_limit_is_too_long(rt: HostRuntime) -> Result<(), Fail> {
         std::str::from_utf8(&script)?,
         SCHEDULE,
     )?;
-    let run = run_words(&rt, &["sim", "i", "s", "c"], &mut desk, &[], &[])?;
+    let run = run_words(&rt, &["sim", "i", "s", "c", "t", "a"], &mut desk, &[], &[])?;
     assert_eq!(rt; run.status, 6);
     assert_eq!(rt; run.err.as_str(), "xray: s: too long\n");
     Ok(())

@@ -1,20 +1,19 @@
 //! `sim`: marks by scripts and schedules, several threads, limits, and the refusals of scripts and schedules.
 use crate::asm::{CALL, CALL_END, TAIL_JUMP, TAIL_JUMP_END};
-use crate::desks::Noting;
 use crate::runs::{IMAGE, Run, SCHEDULE, SCRIPT, STATE, desk_of, run_words};
 use std::process::Abort;
 use std::sync::Wait;
 use std::test::Fail;
 use std::thread::Threads;
 
-const SIM: [&str; 4] = ["sim", "i", "s", "c"];
+pub const SIM: [&str; 6] = ["sim", "i", "s", "c", "t", "a"];
 
 /// All is ready before the thread starts: the sleds are patched, a handler is set, and the log is initialized.
-const TRACED: &str = "patch\nset_handler\ninit\ngo\n";
+pub const TRACED: &str = "patch\nset_handler\ninit\ngo\n";
 
 /// The sleds are patched while the threads run: id, opcode, offset and head of the entry sled, and then of the exit
 /// sled.
-const LIVE: &str = "set_handler\ninit\ngo\npatch\n";
+pub const LIVE: &str = "set_handler\ninit\ngo\npatch\n";
 
 /// Runs words over the image of one function, a script and a schedule.
 fn run_image<R: Threads + Wait + Sync + AllocGlobal>(
@@ -99,7 +98,7 @@ fn marks_tell_of_the_handler_and_the_log(rt: HostRuntime) -> Result<(), Fail> {
 /// Thread 1 has passed the entry sled before it is patched; thread 2 runs behind all.
 #[test]
 fn each_thread_has_marks_of_its_own(rt: HostRuntime) -> Result<(), Fail> {
-    let words = ["sim", "i", "s", "c", "--threads", "2"];
+    let words = ["sim", "i", "s", "c", "t", "a", "--threads", "2"];
     let states = "thread 1 returned instructions 3 passings 2\n\
         rax=41 rcx=0 rdx=0 rbx=0 rbp=0 rsi=0 rdi=1 r8=0 r9=0 r11=0 r12=0 r13=0 r14=0 r15=0 zf=0\n\
         output 41\n\
@@ -126,7 +125,7 @@ fn there_may_be_sixteen_threads(rt: HostRuntime) -> Result<(), Fail> {
             marks {marks}\n"
         )?)?;
     }
-    let words = ["sim", "--threads=16", "i", "s", "c"];
+    let words = ["sim", "--threads=16", "i", "s", "c", "t", "a"];
     assert_prints(&rt, &words, LIVE, "t 16 1\np 8", &states)
 }
 
@@ -170,7 +169,7 @@ fn a_replay_ends_at_the_limits_of_its_options(rt: HostRuntime) -> Result<(), Fai
             marks {marks}\n"
         )?;
         let [option, value] = options;
-        let words = ["sim", "i", "s", option, value, "c"];
+        let words = ["sim", "i", "s", option, value, "c", "t", "a"];
         assert_prints(&rt, &words, TRACED, "", &state)?;
     }
     Ok(())
@@ -190,17 +189,21 @@ fn options_of_sim_stand_anywhere_and_at_the_ends_of_their_ranges(
             "i",
             "s",
             "c",
+            "t",
+            "a",
         ][..],
         &[
             "sim",
             "i",
             "s",
             "c",
+            "t",
+            "a",
             "--passings=1048576",
             "--fuel",
             "01000000000",
         ],
-        &["sim", "i", "--threads=1", "--", "s", "c"],
+        &["sim", "i", "--threads=1", "--", "s", "c", "t", "a"],
     ] {
         assert_prints(&rt, words, SCRIPT, SCHEDULE, &state)?;
     }
@@ -210,15 +213,25 @@ fn options_of_sim_stand_anywhere_and_at_the_ends_of_their_ranges(
 #[test]
 fn options_that_sim_does_not_take_are_a_bad_line(rt: HostRuntime) -> Result<(), Fail> {
     for words in [
-        &["sim", "i", "s", "c", "--threads", "17"][..],
-        &["sim", "i", "s", "c", "--threads", "0"],
-        &["sim", "i", "s", "c", "--threads", "1", "--threads=1"],
-        &["sim", "i", "s", "c", "--thread", "1"],
-        &["sim", "i", "s", "c", "--fuel", "1000000001"],
-        &["sim", "i", "s", "c", "--passings", "1048577"],
-        &["sim", "i", "s", "c", "--fuel"],
-        &["sim", "i", "s", "--", "c", "--fuel=1"],
-        &["sim", "i", "s", "c", "--threshold", "1"],
+        &["sim", "i", "s", "c", "t", "a", "--threads", "17"][..],
+        &["sim", "i", "s", "c", "t", "a", "--threads", "0"],
+        &[
+            "sim",
+            "i",
+            "s",
+            "c",
+            "t",
+            "a",
+            "--threads",
+            "1",
+            "--threads=1",
+        ],
+        &["sim", "i", "s", "c", "t", "a", "--thread", "1"],
+        &["sim", "i", "s", "c", "t", "a", "--fuel", "1000000001"],
+        &["sim", "i", "s", "c", "t", "a", "--passings", "1048577"],
+        &["sim", "i", "s", "c", "t", "a", "--fuel"],
+        &["sim", "i", "s", "--", "c", "t", "a", "--fuel=1"],
+        &["sim", "i", "s", "c", "t", "a", "--threshold", "1"],
     ] {
         let run = run_image(&rt, words, SCRIPT, SCHEDULE)?;
         assert_eq!(rt; run.err.as_str(), "xray: bad command line\n");
@@ -228,28 +241,25 @@ fn options_that_sim_does_not_take_are_a_bad_line(rt: HostRuntime) -> Result<(), 
     Ok(())
 }
 
-/// Checks that an input is refused with a line on err, and which inputs were asked for.
+/// Checks that an input is refused with a line on err.
 fn assert_refused<R: Abort + Threads + Wait + Sync + AllocGlobal>(
     rt: &R,
     words: &[&str],
     script: &str,
     schedule: &str,
     line: &str,
-    names: &str,
 ) -> Result<(), Fail> {
-    let desk = desk_of(rt.alloc(), &[], &IMAGE, script, schedule)?;
-    let mut noting = Noting::new(rt.alloc(), desk);
-    let run = run_words(rt, words, &mut noting, &[], &[])?;
+    let mut desk = desk_of(rt.alloc(), &[], &IMAGE, script, schedule)?;
+    let run = run_words(rt, words, &mut desk, &[], &[])?;
     assert_eq!(rt; run.err.as_str().trim_end(), line);
     assert_eq!(rt; run.status, 2, "{line}");
     assert_eq!(rt; run.out.as_str(), "", "{line}");
-    assert_eq!(rt; noting.names(), names, "{line}");
     Ok(())
 }
 
-/// The schedule would be refused too, and isn't opened.
+/// The schedule would be refused too.
 #[test]
-fn a_script_is_refused_before_the_schedule_is_opened(rt: HostRuntime) -> Result<(), Fail> {
+fn a_script_is_refused_before_the_schedule(rt: HostRuntime) -> Result<(), Fail> {
     let too_many = "patch\n".repeat(rt.alloc(), 1025)?;
     for (script, line) in [
         ("", "xray: s: script Go 1"),
@@ -277,7 +287,7 @@ fn a_script_is_refused_before_the_schedule_is_opened(rt: HostRuntime) -> Result<
         ("\n# \u{1}\ngo \u{1}", "xray: s: script Syntax 3"),
         (too_many.as_str(), "xray: s: script Limit 1025"),
     ] {
-        assert_refused(&rt, &SIM, script, "p 0", line, "is")?;
+        assert_refused(&rt, &SIM, script, "p 0", line)?;
     }
     Ok(())
 }
@@ -293,7 +303,7 @@ fn a_schedule_is_refused_by_its_first_fault(rt: HostRuntime) -> Result<(), Fail>
         ("t 1 4294967296", "xray: c: schedule Syntax 1"),
         (too_many.as_str(), "xray: c: schedule Limit"),
     ] {
-        assert_refused(&rt, &SIM, "go", schedule, line, "isc")?;
+        assert_refused(&rt, &SIM, "go", schedule, line)?;
     }
     Ok(())
 }
@@ -312,38 +322,17 @@ fn a_script_that_waits_is_refused_behind_the_schedule(rt: HostRuntime) -> Result
         ),
         ("go\n\nawait 1 0", "", "xray: s: script Waits 3"),
     ] {
-        assert_refused(&rt, &SIM, script, schedule, line, "isc")?;
+        assert_refused(&rt, &SIM, script, schedule, line)?;
     }
     Ok(())
 }
 
 #[test]
 fn scripts_and_schedules_are_read_for_the_number_of_threads(rt: HostRuntime) -> Result<(), Fail> {
-    let three = ["sim", "i", "s", "c", "--threads=3"];
-    assert_refused(
-        &rt,
-        &three,
-        "hold 4 0\ngo",
-        "",
-        "xray: s: script Thread 1",
-        "is",
-    )?;
-    assert_refused(
-        &rt,
-        &three,
-        "hold 3 0\ngo",
-        "",
-        "xray: s: script Hold 3",
-        "is",
-    )?;
-    assert_refused(
-        &rt,
-        &three,
-        "go",
-        "t 4 1",
-        "xray: c: schedule Thread 1",
-        "isc",
-    )?;
+    let three = ["sim", "i", "s", "c", "t", "a", "--threads=3"];
+    assert_refused(&rt, &three, "hold 4 0\ngo", "", "xray: s: script Thread 1")?;
+    assert_refused(&rt, &three, "hold 3 0\ngo", "", "xray: s: script Hold 3")?;
+    assert_refused(&rt, &three, "go", "t 4 1", "xray: c: schedule Thread 1")?;
     assert_eq!(rt; run_image(&rt, &three, "go", "t 3 1")?.status, 0);
     Ok(())
 }

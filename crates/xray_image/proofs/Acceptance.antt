@@ -1,4 +1,4 @@
--- What follows of an accepted file.
+-- What follows from an accepted file.
 use Rattle.std.proofs.Common.{◌≡◌, ℕ, zero, suc, ◌+◌, ◌≤◌, List, [], ◌∷◌, length, take, drop, map, Bool, true, false, cond, ltb, Option, Some, None, refl, sym, ap, subst, ◌∙◌, arith}
 use Rattle.std.specs.Prelude.{slice_get}
 use Rattle.std.specs.Option.{option_map}
@@ -45,7 +45,7 @@ parts_count bytes parts e =
       sym (ap (λ (p : Parts). length p.entries) m.2) ∙ several_count map_entry_at (entry_count bytes) functions.1 m.0 m.1,
     ))
 
--- the code is the bytes behind the header
+-- the code is the bytes after the header
 pub code_is : (bytes : List ℕ) (parts : Parts) → parts_of bytes ≡ Some parts → parts.code ≡ take (code_length bytes) (drop 64 bytes)
 code_is bytes parts e =
     let behind = drop (64 + code_length bytes) bytes in
@@ -57,7 +57,7 @@ code_is bytes parts e =
     let m = mapped (make functions) (several map_entry_at (entry_count bytes) functions.1) parts more in
     sym (ap (λ (p : Parts). p.code) m.2))
 
--- the code is as long as the header says, at most
+-- the code is at most as long as the header says
 pub code_short : (bytes : List ℕ) (parts : Parts) → parts_of bytes ≡ Some parts → length parts.code ≤ code_length bytes
 code_short bytes parts e =
     let behind = drop (64 + code_length bytes) bytes in

@@ -43,7 +43,7 @@ same_by_get (x ∷ xs) [] same = absurd (none-some x (sym (same 0)))
 same_by_get (x ∷ xs) (y ∷ ys) same =
     ap (λ (n : ℕ). n ∷ xs) (same_Some x y (same 0)) ∙ ap (λ (ns : List ℕ). y ∷ ns) (same_by_get xs ys (λ i. same (suc i)))
 
--- each branch goes to a unit, said by places and by membership
+-- each branch goes to a unit, by numbers and by membership
 reach_at : (units : List Unit) → BranchesReach units → (i : ℕ) → BranchesRightly units i
 reach_at units reach i u e = reach u (i, slice_get_within units i u e, get_or_from_slice_get units i u u e)
 
@@ -114,7 +114,7 @@ ok_is_no_fault p fault e = cc
 same_Ok : (p q : Program) → ◌≡◌ {A = Verdict} (Ok p) (Ok q) → p ≡ q
 same_Ok p q e = cc
 
--- where the file reads as a program, each condition holds, and what follows it reads as the program
+-- if the file reads as a program, each condition holds, and what follows it reads as the program
 needs_ok : (condition : Type 0) (fault : ImageFault) (Follows : Type 0) (p : Program) → ((condition → ⊥) × ◌≡◌ {A = Verdict} (Ok p) (Err fault)) ⊎ (condition × Follows) → condition × Follows
 needs_ok condition fault Follows p (inl a) = absurd (ok_is_no_fault p fault a.1)
 needs_ok condition fault Follows p (inr a) = a
@@ -167,7 +167,7 @@ ReadsPieces bytes parts pieces = ReadsProgram parts.entries (places_from (base_a
 abbrev ReadsUnits : List ℕ → Parts → Verdict → Type 0
 ReadsUnits bytes parts = Needs (parts.rest ≡ []) faults.Trailing (NeedsUnits (base_address bytes) parts.code (ReadsPieces bytes parts))
 
--- what holds of one program holds of the same one
+-- what is true of one program is true of an equal one
 moved : (P : Program → Type 0) (p q : Program) → p ≡ q → P q → P p
 moved P p q e h = subst P (sym e) h
 
@@ -215,6 +215,6 @@ accepted_from bytes program r =
       holds = rows.holds;
     }
 
--- a file is accepted exactly where it reads as a program
+-- a file is accepted exactly when it reads as a program
 pub accepted : (bytes : List ℕ) (program : Program) → IsAccepted bytes program ↔ ReadsAs bytes (Ok program)
 accepted bytes program = (λ a. rows_of_file bytes program a, λ r. accepted_from bytes program r)

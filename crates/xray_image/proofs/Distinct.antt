@@ -14,7 +14,7 @@ use Rattle.xray_image.specs.Program.{distinct}
 abbrev among : ℕ → List ℕ → Bool
 among x xs = list_any (λ y. y == x) xs
 
--- ---- the numbers of a front stand in front
+-- ---- the numbers of a prefix come first
 
 either : (b : Bool) (x y u v : List ℕ) → (m : List ℕ) × (x ≡ u ++ m) → (m : List ℕ) × (y ≡ v ++ m) → (m : List ℕ) × (cond b x y ≡ cond b u v ++ m)
 either true x y u v p q = p
@@ -26,7 +26,7 @@ front_first seen (x ∷ xs) ys =
     let rest = front_first (x ∷ seen) xs ys in
     either (among x seen) _ _ _ _ (front_first seen xs ys) (rest.0, ap (λ t. x ∷ t) rest.1)
 
--- ---- what is told of all numbers is told of each once
+-- ---- what is true of all numbers is true of each once
 
 chosen : (P : ℕ → Type 0) (b : Bool) (x y : List ℕ) → All P x → All P y → All P (cond b x y)
 chosen P true x y p q = p
@@ -99,7 +99,7 @@ one_old seen (y ∷ ys) x known =
 
 -- ---- numbers that don't fall
 
--- of the numbers up to a place, the one at that place is the last that is new, and above those before it
+-- of the numbers up to a place, the one at that place is the last new one, and above those before it
 record EndsWith (xs : List ℕ) (i : ℕ) : Type 0 where
   front : List ℕ
   is : distinct [] (take (suc i) xs) ≡ front ++ get_or xs i 0 ∷ []
@@ -111,13 +111,13 @@ module _ (xs : List ℕ) (up : IsNonDecreasing xs) where
       let there : get_or (take (suc i) xs) k 0 ≡ get_or xs k 0 = get_or-take (suc i) xs k 0 (omega (arith, within, length-take (suc i) xs)) in
       omega (arith, up k i 0 (omega (arith, within, length-take (suc i) xs)) lt, there, same, less))
 
-  -- a number that isn't the one before it is new
+  -- a number that differs from the one before it is new
   pub new_number : (i : ℕ) → suc i < length xs → (get_or xs i 0 ≡ get_or xs (suc i) 0 → ⊥) → distinct [] (take (suc (suc i)) xs) ≡ distinct [] (take (suc i) xs) ++ get_or xs (suc i) 0 ∷ []
   new_number i lt other =
       ap (distinct []) (take-suc xs (suc i) 0 lt)
       ∙ one_new [] (take (suc i) xs) (get_or xs (suc i) 0) (All-nil _) (up_to i (get_or xs (suc i) 0) (omega arith) (omega (arith, up i (suc i) 0 (omega arith) lt, other)))
 
-  -- one that is isn't
+  -- a number that equals the one before it isn't
   pub old_number : (i : ℕ) → suc i < length xs → get_or xs i 0 ≡ get_or xs (suc i) 0 → distinct [] (take (suc (suc i)) xs) ≡ distinct [] (take (suc i) xs)
   old_number i lt same =
       let x : ℕ = get_or xs (suc i) 0 in
@@ -149,7 +149,7 @@ module _ (xs : List ℕ) (up : IsNonDecreasing xs) where
             }
       ]
 
-  -- a number's place among all is the last of those up to it
+  -- a number's place among all of them is the last of those up to it
   pub place_of_number : (i : ℕ) → i < length xs → 1 + position_or_len (λ y. y == get_or xs i 0) (distinct [] xs) ≡ length (distinct [] (take (suc i) xs))
   place_of_number i lt =
       let x : ℕ = get_or xs i 0 in

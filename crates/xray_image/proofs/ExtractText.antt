@@ -18,7 +18,7 @@ lines_more line [] i x found = absurd cc
 lines_more line (y ∷ xs) zero x found = ap line (sym (same_Some _ _ found)) ∙ sym (append-nil (line y))
 lines_more line (y ∷ xs) (suc i) x found = append_assoc (line y) (flat_map line (take i xs)) (line x) ∙ ap (λ t. line y ++ t) (lines_more line xs i x found)
 
--- the lines so far, and what is behind them
+-- the lines so far, and what follows them
 pub lines_split : {X : Type 0} (line : X → List ℕ) (xs : List X) (head tail : List ℕ) (i : ℕ)
     → (head ++ flat_map line (take i xs)) ++ (flat_map line (drop i xs) ++ tail) ≡ head ++ flat_map line xs ++ tail
 lines_split line xs head tail i =
@@ -28,7 +28,7 @@ lines_split line xs head tail i =
     ∙ ap (λ t. head ++ t) (sym (append_assoc (flat_map line (take i xs)) (flat_map line (drop i xs)) tail) ∙ ap (λ t. t ++ tail) whole)
     ∙ sym (append_assoc head (flat_map line xs) tail)
 
--- the parts of a line, one behind the other
+-- the parts of a line, one after the other
 line_parts : (a b c d e f g h i j k l m : List ℕ)
     → a ++ (b ++ (c ++ (d ++ (e ++ (f ++ (g ++ (h ++ (i ++ (j ++ (k ++ (l ++ m))))))))))) ≡ a ++ b ++ c ++ d ++ e ++ f ++ g ++ h ++ i ++ j ++ k ++ l ++ m
 line_parts a b c d e f g h i j k l m = sym (simp append_assoc)
@@ -43,7 +43,7 @@ pieces_line program sled id kind truth name same_id same_kind same_truth same_na
     (line_parts (codes "- { id: ") (decimal sled.id) (codes ", address: ") (codes "0x" ++ hexadecimal sled.address 16) (codes ", function: ") (codes "0x" ++ hexadecimal sled.function 16)
     (codes ", kind: ") (kind_text sled.kind) (codes ", always-instrument: ") (truth_text sled.always) (codes ", function-name: '") (unwrap_or (name_of program sled.id) []) (codes "' }\n"))
 
--- all lines, and what is behind them
+-- all lines, and what follows them
 pub lines_all : {X : Type 0} (line : X → List ℕ) (xs : List X) (head tail : List ℕ) (i : ℕ) → length xs ≤ i
     → head ++ flat_map line (take i xs) ++ tail ≡ head ++ flat_map line xs ++ tail
 lines_all line xs head tail i past = ap (λ ys. head ++ flat_map line ys ++ tail) (take_all i xs past)

@@ -11,7 +11,7 @@ use Rattle.xray_image.specs.Container.{Function, MapEntry, Parts, base_address, 
 use Rattle.xray_image.specs.Program.{program_of}
 use Rattle.xray_image.specs.Table.{Verdict, Needs, NeedsUnits, ReadsProgram, ReadsParts}
 
--- the parts with these functions, and with the entries that stand behind them
+-- the parts with these functions, and with the entries after them
 abbrev with_entries : List ℕ → List Function → Option (List MapEntry × List ℕ) → Option Parts
 with_entries bytes functions o = option_map (λ entries. record { code = take (code_length bytes) (drop 64 bytes); functions = functions; entries = entries.0; rest = entries.1 }) o
 
@@ -39,7 +39,7 @@ module _ (bytes : List ℕ) (long : 64 ≤ length bytes) where
   short_row : parts_of bytes ≡ None → ReadsParts bytes (Err faults.Short)
   short_row e = subst (λ (o : Option Parts). Rows bytes o (Err faults.Short)) (sym e) refl
 
-  -- the same by what the code has: what stands behind the header and behind the code, and the counts
+  -- The same, by the rest of the file after the header and after the code, and by the counts.
   module _ (behind rest : List ℕ) (n f m : ℕ) (behind_is : behind ≡ drop 64 bytes) (n_is : n ≡ code_length bytes) (f_is : f ≡ function_count bytes) (m_is : m ≡ entry_count bytes) where
     pub short_code : length behind < n → ReadsParts bytes (Err faults.Short)
     short_code short = short_row (no_code (omega (arith, ap length behind_is, n_is)))
@@ -83,7 +83,7 @@ module _ (bytes : List ℕ) (long : 64 ≤ length bytes) where
               parts_are ∙ ap (λ (left : List ℕ). Some (code_with left)) none
               ∙ ap made same
 
--- what a part is refused for, the file is
+-- if a part is refused, the file is refused for the same reason
 pub refused_by : {Why : Type 0} (bytes : List ℕ) (fault : ImageFault) → (fault ≡ faults.NoMemory) ⊎ ((fault ≡ faults.Short) × Why) → (Why → ReadsParts bytes (Err faults.Short))
     → (fault ≡ faults.NoMemory) ⊎ ReadsParts bytes (Err fault)
 refused_by bytes fault (inl full) why = inl full

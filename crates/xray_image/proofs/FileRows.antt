@@ -1,4 +1,4 @@
--- What a file reads as, from what the reader has of it.
+-- What a file reads as, by what the reader knows of it.
 use Rattle.std.proofs.Common.{◌≡◌, ℕ, ◌+◌, ◌<◌, ◌≤◌, ◌^◌, inl, inr, List, [], ◌∷◌, ◌++◌, length, map, Option, Some, Ok, Err, refl, sym, ap, subst, ◌∙◌, arith}
 use Rattle.std.specs.Prelude.{◌⊎◌, slice_get}
 use Rattle.std.specs.Option.{option_map_or}
@@ -31,7 +31,7 @@ use Rattle.xray_image.proofs.Lying.{places_ascend}
 use Rattle.xray_image.proofs.Placement.{has_within}
 use Rattle.xray_image.proofs.SoFar.{stand_shown}
 
--- sleds are at most as many as bytes
+-- there are at most as many sleds as bytes
 places_few : (a : ℕ) (ps : List Piece) → length (places_from a ps) ≤ length (flat_map piece_bytes ps)
 places_few a [] = omega arith
 places_few a (Instruction i ∷ ps) = omega (arith, places_few (a + length (spelling i)) ps, length-append (spelling i) (flat_map piece_bytes ps))
@@ -39,7 +39,7 @@ places_few a (JumpSled shift ∷ ps) = omega (arith, places_few (a + 11) ps)
 places_few a (ReturnSled shift ∷ ps) = omega (arith, places_few (a + 11) ps)
 places_few a (Align ∷ ps) = omega (arith, places_few (a + 1) ps)
 
--- a program with what the header tells
+-- a program with what the header says
 abbrev told : ℕ → ℕ → FileParts → List Unit → List SledPlace → Trampolines → Program
 told base index p units places t = record {
   base = base;
@@ -76,7 +76,7 @@ module _ (bytes : List ℕ) (h : Header) (head : HasHeader bytes) (is : IsHeader
   parts_row : (v : Verdict) → NeedsUnits (base_address bytes) p.code.now (λ pieces. ReadsProgram (map entry_of p.entries.items) (places_from (base_address bytes) pieces) (program_of bytes (parts_of_view p) pieces)) v → ReadsAs bytes v
   parts_row v units = past_header bytes v head (subst (λ (o : Option Parts). Rows bytes o v) (sym there) (inr (refl, units)))
 
-  -- where the units stop
+  -- the units stop here
   pub units_stop : (fault : ImageFault) → (fault ≡ faults.NoMemory) ⊎ StopsAt h.base p.code.now fault → (fault ≡ faults.NoMemory) ⊎ ReadsAs bytes (Err fault)
   units_stop fault (inl full) = inl full
   units_stop fault (inr stops) = inr (parts_row (Err fault) (inl (fault, subst (λ (b : ℕ). StopsAt b p.code.now fault) is.base stops, refl)))
@@ -121,7 +121,7 @@ module _ (bytes : List ℕ) (h : Header) (head : HasHeader bytes) (is : IsHeader
             ∙ ap (λ (a : ℕ). three (number8_at bytes 32) a h.trampolines.tail) is.exit
             ∙ ap (three (number8_at bytes 32) (number8_at bytes 40)) is.tail
 
-    -- what the program reads as, the file does
+    -- what the program reads as, the file reads as
     program_row : (v : Verdict) → ReadsProgram (map entry_of p.entries.items) (places_in u) (program_read h p u) v → ReadsAs bytes v
     program_row v reads =
         parts_row v (inr (
@@ -143,7 +143,7 @@ module _ (bytes : List ℕ) (h : Header) (head : HasHeader bytes) (is : IsHeader
       pub program_accepted : (file : List ℕ) × IsAccepted file (program_read h p u)
       program_accepted = (bytes, (accepted bytes (program_read h p u)).1 program_reads)
 
--- a fault that is memory's, or the file's
+-- a fault is want of memory, or the file's
 pub told_fault : (bytes : List ℕ) (fault : ImageFault) → (fault ≡ faults.NoMemory) ⊎ ReadsAs bytes (Err fault) → ◌⊎◌ (◌≡◌ {A = Verdict} (Err fault) (Err faults.NoMemory)) (ReadsAs bytes (Err fault))
 told_fault bytes fault (inl full) = inl (ap (λ (f : ImageFault). Err f) full)
 told_fault bytes fault (inr reads) = inr reads

@@ -119,7 +119,7 @@ begins_above base start (Some f) h = h
 abbrev pub zero_function : FunctionEntry
 zero_function = record { start = 0; name = record { ref_ptr = (0, 0); now = [] } }
 
--- what is kept of the functions before a number: where the last begins, and their names
+-- what is kept of the functions before a number: where the last of them begins, and their names
 pub record IsPast (functions : List Function) (n : ℕ) (last : Option ℕ) (names : List (List ℕ)) : Type 0 where
   pub last_is : last ≡ option_map (λ f. f.start) (last_or None (take n functions))
   pub names_are : (q : List ℕ) → is_among names q ≡ is_before (take n functions) q
@@ -177,7 +177,7 @@ module _ (base : ℕ) (functions : List FunctionEntry) (i : ℕ) (within : i < l
       turned false true = refl
       turned false false = refl
 
--- no function past the last
+-- no function comes after the last
 pub no_function : (base : ℕ) (units : List Unit) (functions : List FunctionEntry) (i : ℕ) → length functions ≤ i → FunctionIsFit base units (map function_of functions) i
 no_function base units functions i le g e = absurd (let within = slice_get_within (map function_of functions) i g e in omega (arith, length-map functions function_of))
 

@@ -1,4 +1,4 @@
--- The rows of the header: which of its fields is the first beyond its limits.
+-- The rows of the header: which of its fields is the first out of range.
 use Rattle.std.proofs.Common.{◌≡◌, ℕ, ◌<◌, ◌≤◌, ◌%◌, true, inl, inr, List, [], ◌∷◌, length, Err, refl, sym, subst, ◌∙◌, arith}
 use Rattle.std.specs.Prelude.{◌⊎◌, codes, nat_eq}
 use Rattle.std.specs.List.{starts_with}
@@ -11,11 +11,11 @@ use Rattle.xray_image.specs.Header.{HasHeader}
 use Rattle.xray_image.specs.Table.{Verdict, ReadsAs, ReadsParts}
 use Rattle.xray_image.specs.Views.{IsHeaderOf}
 
--- bytes that start with the magic have it as their first four
+-- the first four bytes of bytes that start with the magic are the magic
 pub magic_is : (bytes : List ℕ) → true ≡ starts_with nat_eq bytes (0x58 ∷ 0x52 ∷ 0x49 ∷ 0x4D ∷ []) → magic bytes ≡ codes "XRIM"
 magic_is bytes e = grind (arith, common_steps)
 
--- past a header within its limits the parts decide
+-- after a header in range the parts decide
 pub past_header : (bytes : List ℕ) (v : Verdict) → HasHeader bytes → ReadsParts bytes v → ReadsAs bytes v
 past_header bytes v h parts =
     inr (h.has_header, inr (h.magic_bytes, inr (h.first_version, inr (h.code_limit, inr ((h.some_function, h.functions_limit), inr (h.sleds_limit, inr (h.entry_exists, inr ((h.base_aligned, h.base_limit), parts))))))))

@@ -29,7 +29,7 @@ use Rattle.xray_image.proofs.Lying.{lines_known, lines_in_order}
 use Rattle.xray_image.proofs.Naming.{functions_ascend}
 use Rattle.xray_image.proofs.Scans.{item_at}
 
--- functions that are fit have names of such bytes
+-- functions that are fit have names of allowed bytes
 pub names_all : (base : ℕ) (units : List Unit) (functions : List Function) → ((i : ℕ) → FunctionIsFit base units functions i) → All (λ f. All (λ b. is_name_byte b ≡ true) f.name) functions
 names_all base units functions all k d lt = (all k (get_or functions k d) (slice_get-get_or functions k d lt)).name_bytes
 

@@ -1,4 +1,4 @@
--- The index of the units grows by one.
+-- The index of the units grows by one unit.
 use Rattle.std.proofs.Common.{◌≡◌, ◌≢◌, ℕ, zero, suc, ◌+◌, ◌-◌, ◌*◌, ◌/◌, ◌^◌, ◌<◌, ◌≤◌, List, [], length, get_or, set, sym, ap, subst, ◌∙◌, arith, inl, inr}
 use Rattle.std.specs.Prelude.{Contains, Some, slice_get}
 use Rattle.std.proofs.lemmas.Option.{slice_get_within, get_or_from_slice_get}
@@ -23,7 +23,7 @@ address_read units i u found =
 in_block : (k : ℕ) → (128 * (k / 128) ≤ k) × (k < 128 * (k / 128) + 128)
 in_block k = (omega (arith, div-add-mod k 128), omega (arith, div-add-mod k 128, mod_below k 128 (omega arith)))
 
--- numbers that ascend are as far apart as their places at the least
+-- the difference of ascending numbers is at least that of their places
 gap : (all : List ℕ) → IsStrictlyIncreasing all → (i d : ℕ) → i + d < length all → get_or all i 0 + d ≤ get_or all (i + d) 0
 gap all up i zero lt = let e : i + 0 ≡ i = omega arith in omega (arith, ap (λ n. get_or all n 0) e)
 gap all up i (suc d) lt =
@@ -35,7 +35,7 @@ module _ (all firsts steps : List ℕ) (base i : ℕ) (below : i < length all) (
   abbrev place : ℕ
   place = get_or all i 0 - base
 
-  -- the first of a block that is begun isn't far
+  -- the first of a block that is begun isn't far away
   pub first_near : place / 128 < length firsts → (get_or firsts (place / 128) 0 ≤ i) × (i < get_or firsts (place / 128) 0 + 128)
   first_near begun =
       let first = so_far.first_of (place / 128) begun in
@@ -112,7 +112,7 @@ module _ (all firsts steps : List ℕ) (base i : ℕ) (below : i < length all) (
     pub one_more : HasFirst all firsts' steps' base (i + 1)
     one_more = record { first_of = first_of; stands = stands; numbered = numbered }
 
--- with no unit in it no byte has a step
+-- while the index has no unit, no byte has a step
 pub none_yet : (all steps : List ℕ) (base : ℕ) → ((k : ℕ) → k < length steps → get_or steps k 0 ≡ 255) → HasFirst all [] steps base 0
 none_yet all steps base empty = record {
   first_of = λ b lt. absurd (omega arith);
@@ -120,7 +120,7 @@ none_yet all steps base empty = record {
   numbered = λ j lt. absurd (omega arith);
 }
 
--- with all in it the index is whole
+-- once the index has all units, it is whole
 pub whole_index : (all : List ℕ) (index : UnitIndex) (i : ℕ) → length all < 2 ^ 32 - 1 → AreWithin index.base (length index.steps.items) all → length all ≤ i
     → HasFirst all index.firsts.items index.steps.items index.base i → IsIndexOf all index
 whole_index all index i few within past so_far = record { few = few; within = within; stands = so_far.stands; numbered = λ j lt. so_far.numbered j (omega arith) }

@@ -1,4 +1,4 @@
--- The rows behind the units: what is looked at decides what the program reads as.
+-- The rows after the units: the checks decide what the program reads as.
 use Rattle.std.proofs.Common.{◌≡◌, ℕ, ◌≤◌, List, length, map, inl, inr, Ok, Err, refl, sym, ap, subst, ◌∙◌, arith}
 use Rattle.std.specs.Prelude.{◌⊎◌}
 use Rattle.std.proofs.lemmas.List.{length-map}
@@ -26,11 +26,11 @@ use Rattle.xray_image.proofs.Scans.{same_items}
 
 -- ---- the table
 
--- what is judged is read
+-- a program that passes the checks is read
 pub judged_reads : (entries : List MapEntry) (places : List SledPlace) (program : Program) → IsJudged entries places program → ReadsProgram entries places program (Ok program)
 judged_reads entries places program j = inr (j.functions, inr (j.order, inr (j.entries_fit, inr (j.near, inr (j.branches, refl)))))
 
--- each entry and the sled of its number have one address
+-- the entry and the sled of each number have one address
 pub in_order : (spots : List SledSpot) (lines : List MapLine) → ((i : ℕ) → HasOneAddress (map place_of spots) (map entry_of lines) i) → map (λ e. e.sled) (map entry_of lines) ≡ map (λ p. p.address) (map place_of spots)
 in_order spots lines all = same_items (map (λ e. e.sled) (map entry_of lines)) (map (λ p. p.address) (map place_of spots)) all
 
@@ -39,7 +39,7 @@ as_many spots lines all =
     sym (length-map lines entry_of) ∙ sym (length-map (map entry_of lines) (λ e. e.sled)) ∙ ap length (in_order spots lines all)
     ∙ length-map (map place_of spots) (λ p. p.address) ∙ length-map spots place_of
 
--- ---- what the code looks at, list by list
+-- ---- what the code checks, list by list
 
 module _ (h : Header) (p : FileParts) (u : CodeUnits) where
   abbrev Told : ImageFault → Type 0

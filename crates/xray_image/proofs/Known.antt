@@ -1,4 +1,4 @@
--- What holds or doesn't: each condition of the table of refusals is one of the two.
+-- Each condition of the table of refusals holds or doesn't hold.
 use Rattle.std.proofs.Common.{◌≡◌, ◌≢◌, ℕ, ◌+◌, ◌<◌, ◌≤◌, inl, inr, Bool, true, false, List, [], ◌∷◌, ◌++◌, length, Option, Some, None, refl, sym, ap, subst, ◌∙◌, arith}
 use Rattle.std.specs.Prelude.{◌⊎◌, ℤ, pos, negsuc, Contains, IfSome, FitsSigned}
 use Rattle.std.specs.Bool.{Decides}
@@ -34,7 +34,7 @@ pub known_not : (P : Type 0) → Known P → Known (P → ⊥)
 known_not P (inl p) = inr (λ fails. fails p)
 known_not P (inr fails) = inl fails
 
--- a test decides
+-- a test decides it
 pub known_by : (b : Bool) (P : Type 0) → Decides b P → Known P
 known_by true P d = inl (d.0 refl)
 known_by false P d = inr (λ p. false≢true (d.1 p))
@@ -58,7 +58,7 @@ known_true false = inr false≢true
 pub known_list : (xs ys : List ℕ) → Known (xs ≡ ys)
 known_list xs ys = known_by _ (xs ≡ ys) (bytes_eq-Decides xs ys)
 
--- two numbers that may be missing are the same, or not
+-- two optional numbers are the same, or not
 pub known_option : (a b : Option ℕ) → Known (a ≡ b)
 known_option None None = inl refl
 known_option None (Some y) = inr (λ e. cc)
@@ -79,7 +79,7 @@ known_all P known (x ∷ xs) = by_parts (known x) (known_all P known xs)
     by_parts (inl first) (inr fails) = inr (λ all. fails (All-tail P x xs all))
     by_parts (inr fails) rest = inr (λ all. fails (All-head P x xs all))
 
--- what has to hold of an item, where there is one
+-- a fact holds of an item if there is one, or not
 pub known_item : {X : Type 0} (o : Option X) (P : X → Type 0) → ((x : X) → Known (P x)) → Known ((x : X) → o ≡ Some x → P x)
 known_item {X} None P known = inl (λ x e. absurd (nothing x e))
   where
@@ -91,7 +91,7 @@ known_item {X} (Some y) P known = by_it (known y)
     by_it (inl holds) = inl (λ x e. subst P (same_Some y x e) holds)
     by_it (inr fails) = inr (λ all. fails (all y refl))
 
--- bytes begin with a front, or they don't
+-- bytes begin with a prefix, or they don't
 pub known_front : (front bytes : List ℕ) → Known (Begins front bytes)
 known_front [] bytes = inl (bytes, refl)
 known_front (x ∷ xs) [] = inr (λ b. let e = b.1 in cc)
@@ -110,12 +110,12 @@ known_front (x ∷ xs) (y ∷ ys) = by_parts (cases_eq y x) (known_front xs ys)
 
 -- ---- the conditions of the table
 
--- a function begins behind the one before it, or not
+-- a function begins after the one before it, or not
 known_begins : (base start : ℕ) (o : Option Function) → Known (BeginsBehind base o start)
 known_begins base start None = cases_eq start base
 known_begins base start (Some before) = known_below before.start start
 
--- a function may stand behind those before it, or not
+-- a function may come after those before it, or not
 pub known_function : (base : ℕ) (units : List Unit) (before : List Function) (f : Function) → Known (IsFunction base units before f)
 known_function base units before f =
     whole (known_contains (addresses units) f.start) (known_begins base f.start (last_or None before)) (known_not (f.name ≡ []) (known_list f.name []))
@@ -141,7 +141,7 @@ known_kind false kind = either (cases_eq kind 0) (cases_eq kind 2)
     either (inr no_entry) (inl b) = inl (inr b)
     either (inr no_entry) (inr no_tail) = inr (λ k. elim k [ inl a ↦ no_entry a | inr b ↦ no_tail b ])
 
--- an entry says what the code says, or not
+-- an entry agrees with the code, or not
 pub known_entry : (functions : List Function) (place : SledPlace) (entry : MapEntry) → Known (IsEntryOf functions place entry)
 known_entry functions place entry =
     whole (known_option _ (Some entry.function)) (known_kind place.returns entry.kind) (known_below entry.version 2)
@@ -166,7 +166,7 @@ known_fits (negsuc n) = by_size (known_below n 2147483648)
     by_size (inl below) = inl (record { sfits = below })
     by_size (inr fails) = inr (λ fits. fails fits.sfits)
 
--- a sled's trampoline is in reach, or not
+-- a sled reaches its trampoline, or not
 pub known_reach : (trampolines : Trampolines) (place : SledPlace) (entry : MapEntry) → Known (Reaches trampolines place entry)
 known_reach trampolines place entry = known_fits _
 
@@ -187,15 +187,15 @@ known_target units (Some (pos n)) = by_unit (known_contains (addresses units) n)
     by_unit (inr fails) = inr (λ h. fails (subst (Contains (addresses units)) (sym (pos_same n h.0 h.1)) h.2))
 known_target units (Some (negsuc n)) = inr (λ h. let e = h.1 in cc)
 
--- what is asked of a unit that is this
+-- what is asked of a unit, by what it is
 abbrev Goes : List Unit → Unit → What → Type 0
 Goes units u what = (instr : Instr) → what ≡ Plain instr → Arrives units (branch_target (u.address + length (spelling instr)) instr)
 
--- one unit is one instruction
+-- equal units hold equal instructions
 plain_same : (i j : Instr) → Plain i ≡ Plain j → i ≡ j
 plain_same i j e = cc
 
--- a sled is no instruction
+-- a sled isn't an instruction
 no_sled : (k : ℕ) (i : Instr) → Sled k ≡ Plain i → ⊥
 no_sled k i e = cc
 

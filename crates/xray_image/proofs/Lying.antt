@@ -50,7 +50,7 @@ last_below (f ∷ fs) address start o e = by_first (nat_le f.start address) refl
       | inr b ↦ inr (later b)
     ]
 
--- of functions that don't fall it is the highest
+-- of functions that don't fall, it is the highest
 highest : (functions : List Function) (address start : ℕ) (o : Option ℕ) → IsNonDecreasingBy (λ f. f.start) functions
     → last_or o (map (λ f. f.start) (filter (λ f. nat_le f.start address) functions)) ≡ Some start
     → (k : ℕ) → k < length functions → (get_or functions k none).start ≤ address → (get_or functions k none).start ≤ start
@@ -105,7 +105,7 @@ places_ascend a (Align ∷ ps) = places_ascend (a + 1) ps
 module _ (functions : List FunctionEntry) (places : List SledPlace) (lines : List MapLine)
     (order : map (λ e. e.sled) (map entry_of lines) ≡ map (λ p. p.address) places)
     (each : EachSled places (map entry_of lines) (IsEntryOf (map function_of functions))) where
-  -- as many lines as places
+  -- there are as many lines as places
   count : length lines ≡ length places
   count = sym (length-map lines entry_of) ∙ sym (length-map (map entry_of lines) (λ e. e.sled)) ∙ ap length order ∙ length-map places (λ p. p.address)
 
@@ -129,7 +129,7 @@ module _ (functions : List FunctionEntry) (places : List SledPlace) (lines : Lis
       let there : get_or (map (λ f. f.start) (map function_of functions)) below.k start ≡ start = get_or-map (λ f. f.start) (map function_of functions) below.k none start below.within ∙ below.there in
       subst (λ (starts : List ℕ). Contains starts start) starts_same (below.k, within, there)
 
-  -- the lines' functions follow each other as the functions do
+  -- the lines' functions are in the order of the functions
   pub lines_in_order : IsStrictlyIncreasing (map (λ f. f.start) (map function_of functions)) → IsNonDecreasingBy (λ p. p.address) places → IsNonDecreasing (map (λ e. e.function) lines)
   lines_in_order up places_up i j d le lt =
       let line : MapLine = record { sled = 0; function = 0; kind = 0; always = 0; version = 0 } in

@@ -18,7 +18,7 @@ use Rattle.xray_image.proofs.Scans.{zero_spot, zero_line}
 
 -- ---- functions
 
--- the name of the function of a number
+-- the name of the function with this number
 pub name_at : (functions : List FunctionEntry) (i : ℕ) → i < length functions → All (λ f. All (λ b. is_name_byte b ≡ true) f.name) (map function_of functions)
     → All (λ b. is_name_byte b ≡ true) (get_or functions i zero_function).name.now
 name_at functions i within all =
@@ -45,7 +45,7 @@ module _ (spots : List SledSpot) (lines : List MapLine) (enough : length lines �
       pair : {A B : Type 0} {a a' : A} {b b' : B} → a ≡ a' → b ≡ b' → ◌≡◌ {A = A × B} (a, b) (a', b')
       pair e f = cc
 
-  -- one more sled is made of the next spot and line
+  -- one more sled, made of the next spot and line
   pub sled_more : (made made' : List Sled) (i : ℕ) (ids : List ℕ) (kind : SledKind) → made ≡ take i sleds → i < length lines → ids ≡ map (λ e. id_of (map entry_of lines) e.function) lines
       → kind ≡ kind_of (get_or lines i zero_line).kind
       → made' ≡ made ++ record {

@@ -52,7 +52,7 @@ accepted_ascend bytes program a =
 
 -- ---- names
 
--- functions that ascend are found by their addresses
+-- ascending functions are found by their addresses
 found_by_start : (functions : List Function) (k : ℕ) (f : Function) → IsStrictlyIncreasing (map (λ g. g.start) functions) → slice_get functions k ≡ Some f
     → find (λ g. g.start == f.start) functions ≡ Some f
 found_by_start functions k f up at =
@@ -85,7 +85,7 @@ number_found functions some numbers n k are at =
 
 module _ (program : Program) (named : List Named) (numbers : List ℕ) (functions_are : program.functions ≡ map named_function named)
     (up : IsStrictlyIncreasing (map (λ f. f.start) program.functions)) (are : AreNumbersOf (map (λ f. f.start) program.functions) (sledded_functions program) numbers) where
-  -- an id's function has the id's name
+  -- the function of an id has the id's name
   name_found : (n k : ℕ) → slice_get numbers n ≡ Some k → (g : Named) × (slice_get named k ≡ Some g) × (name_of program (suc n) ≡ Some (string_bytes g.name))
   name_found n k at =
       let f = number_found program.functions (sledded_functions program) numbers n k are at in
@@ -93,7 +93,7 @@ module _ (program : Program) (named : List Named) (numbers : List ℕ) (function
       let name : name_at program f.0.start ≡ Some f.0.name = ap (option_map (λ (h : Function). h.name)) (found_by_start program.functions k f.0 up f.1) in
       (g.0, g.1, ap (option_and_then (name_at program)) f.2 ∙ name ∙ ap (λ (h : Function). Some h.name) (sym g.2))
 
-  -- there are as many numbers as ids, and no more than sleds
+  -- there are as many numbers as ids, and at most as many as sleds
   pub numbers_few : (length numbers ≡ id_count program) × (length numbers ≤ length program.sleds)
   numbers_few =
       let count = as_many _ (sledded_functions program) numbers are in

@@ -1,4 +1,4 @@
--- The displacement that is read of a nop is the one that its bytes spell.
+-- The displacement that is read from a nop is the one that its bytes spell.
 use Rattle.std.proofs.Common.{◌≡◌, ℕ, ◌+◌, ◌^◌, ◌<◌, ◌≤◌, List, ◌∷◌, ◌++◌, length, get_or, take, drop, sym, ap, subst, ◌∙◌, arith, inl, inr}
 use Rattle.std.specs.Int.{w32, from_le_bytes, to_le_bytes}
 use Rattle.byteorder.specs.Endian.{little_number, little_bytes}
@@ -32,7 +32,7 @@ number_front bytes long =
     let d = get_or-take 4 bytes 3 0 (omega arith) in
     omega arith
 
--- the field at the front is the bytes of its number
+-- the field at the start is the bytes of its number
 pub field_shown : (field : List ℕ) → 4 ≤ length field → IsBytes field → field ≡ little_bytes 4 (little_number 4 field) ++ drop 4 field
 field_shown field long h =
     let front = take 4 field in

@@ -24,7 +24,7 @@ not_falling n xs up i j d le lt = elim (cases_eq i j) [
   | inr other ↦ omega (arith, AllPairs-from_increasing (map n xs) up i j 0 (omega arith) (omega (arith, length-map xs n)), get_or-map n xs i d 0 (omega arith), get_or-map n xs j d 0 lt)
 ]
 
--- where those below a number end, the number stands, if it is one of those that ascend
+-- where the numbers below a given one end, that number stands, if it is one of the ascending numbers
 pub stands_there : {X : Type 0} (n : X → ℕ) (xs : List X) (s i : ℕ) → IsStrictlyIncreasing (map n xs) → Contains (map n xs) s → i ≤ length xs
     → IsPartitionPoint (λ y. nat_lt (n y) s ≡ true) (λ y. nat_lt (n y) s ≡ false) xs i → slice_get (map n xs) i ≡ Some s
 stands_there n [] s i up known le point = absurd (omega (arith, known.1))
@@ -57,7 +57,7 @@ number_more all some numbers x n are found = record {
   each = map-append (slice_get all) numbers (n ∷ []) ∙ ap (λ t. t ++ slice_get all n ∷ []) are.each ∙ ap (λ o. map Some some ++ o ∷ []) found ∙ sym (map-append Some some (x ∷ []));
 }
 
--- there are as many numbers as there are addresses
+-- there are as many numbers as addresses
 pub as_many : (all some numbers : List ℕ) → AreNumbersOf all some numbers → length numbers ≡ length some
 as_many all some numbers are = sym (length-map numbers (slice_get all)) ∙ ap length are.each ∙ length-map some Some
 

@@ -1,4 +1,4 @@
--- The pieces of a code: no code is two lists of pieces.
+-- The pieces of a code: a code has at most one list of pieces.
 use Rattle.std.proofs.Common.{◌≡◌, ◌≢◌, ℕ, ◌+◌, ◌^◌, ◌<◌, ◌*◌, ◌/◌, ◌%◌, Bool, true, false, cond, ltb, List, [], ◌∷◌, ◌++◌, length, refl, sym, ap, subst, ◌∙◌, arith}
 use Rattle.std.specs.Prelude.{⊤}
 use Rattle.std.specs.List.{flat_map, AllByRecursion}
@@ -12,13 +12,13 @@ use Rattle.subset_decode.specs.declared.instr.Instr.TheVariants.{Mov, Add, Sub, 
 use Rattle.subset_decode.specs.Encoding.{opcode_of, two_registers, distance, spelling, IsNamed, Begins}
 use Rattle.xray_image.specs.Units.{Piece, Instruction, JumpSled, ReturnSled, Align, nop_bytes, piece_bytes, IsPiece, IsUnits}
 
--- that bytes begin with one instruction at most
+-- bytes begin with at most one instruction
 abbrev pub OneInstruction : Type 0
 OneInstruction =
     (i j : Instr) (bytes : List ℕ) → IsNamed i → IsNamed j → Begins (spelling i) bytes → Begins (spelling j) bytes → i ≡ j
 
--- bytes that begin as no jump sled and no alignment byte do, nor with the second byte of a return sled, and that
--- are a return alone where they begin with one
+-- Bytes that don't begin as a jump sled or an alignment byte, nor with the second byte of a return sled. If they begin
+-- with a return, they are that return alone.
 pub record Opens (bytes : List ℕ) : Type 0 where
   pub first : ℕ
   pub rest : List ℕ
@@ -61,15 +61,15 @@ apart x y xs ys differ e = differ (head_same x y xs ys e)
 tail_same : (x y : ℕ) (xs ys : List ℕ) → x ∷ xs ≡ y ∷ ys → xs ≡ ys
 tail_same x y xs ys e = cc
 
--- an instruction doesn't begin with another byte than its first
+-- an instruction begins with no byte but its first
 pub other_byte : (i : Instr) (b : ℕ) (s t : List ℕ) (o : Opens (spelling i)) → o.first ≢ b → spelling i ++ s ≡ b ∷ t → ⊥
 other_byte i b s t o differs e =
     let front : spelling i ++ s ≡ o.first ∷ (o.rest ++ s) = ap (λ (x : List ℕ). x ++ s) o.begins in
     differs (head_same o.first b (o.rest ++ s) t (sym front ∙ e))
 
--- ---- a return and the byte behind it
+-- ---- a return and the byte after it
 
--- a piece that is an instruction and what stands behind it don't begin as a return sled does
+-- a piece that is an instruction, and what follows it, don't begin as a return sled
 abbrev pub IsNoReturnSled : Piece → List ℕ → Type 0
 IsNoReturnSled (Instruction i) behind = (rest : List ℕ) → spelling i ++ behind ≡ 0xC3 ∷ 0x2E ∷ rest → ⊥
 IsNoReturnSled (JumpSled shift) behind = ⊤
@@ -84,7 +84,7 @@ no_second (JumpSled shift ∷ ps) rest fits e = apart 0xEB 0x2E _ _ (λ h. omega
 no_second (ReturnSled shift ∷ ps) rest fits e = apart 0xC3 0x2E _ _ (λ h. omega arith) e
 no_second (Align ∷ ps) rest fits e = apart 0x90 0x2E _ _ (λ h. omega arith) e
 
--- so an instruction before pieces begins no return sled
+-- so an instruction before pieces doesn't begin as a return sled
 pub return_alone : (i : Instr) (ps : List Piece) (rest : List ℕ) → IsNamed i → AllByRecursion IsPiece ps → spelling i ++ flat_map piece_bytes ps ≡ 0xC3 ∷ 0x2E ∷ rest → ⊥
 return_alone i ps rest named fits e =
     let o = opens i named in
@@ -154,7 +154,7 @@ piece_has_byte Align = omega arith
 
 -- ---- lists of pieces
 
--- no code without bytes has pieces
+-- a code without bytes has no pieces
 no_pieces : (p : Piece) (ps : List Piece) → [] ≡ flat_map piece_bytes (p ∷ ps) → ⊥
 no_pieces p ps e =
     let h = ap length e in
@@ -177,19 +177,19 @@ one_list one code ps qs p q = same_pieces one ps qs p.pieces_fit q.pieces_fit (s
 
 -- ---- the first piece
 
--- the piece that stands at the front is the first of the pieces
+-- the piece that the bytes begin with is the first of the pieces
 pub first_is : OneInstruction → (p first : Piece) (others : List Piece) (bytes behind : List ℕ) → IsPiece p → bytes ≡ piece_bytes p ++ behind → IsNoReturnSled p behind → IsUnits bytes (first ∷ others) → p ≡ first
 first_is one p first others bytes behind fits e alone u =
     same_piece one p first behind (flat_map piece_bytes others) fits u.pieces_fit.0 alone (no_return_sled_at first others u.pieces_fit.0 u.pieces_fit.1) (sym e ∙ u.whole)
 
--- bytes that begin with a sled's jump and no nop behind it begin no unit
+-- bytes that begin with a sled's jump, with no nop after it, begin with no unit
 pub no_jump_sled : (first : Piece) (others : List Piece) (bytes nop : List ℕ) → bytes ≡ 0xEB ∷ 0x09 ∷ nop → ((shift : ℕ) → Begins (nop_bytes shift) nop → ⊥) → IsUnits bytes (first ∷ others) → ⊥
 no_jump_sled (Instruction i) others bytes nop e none u = other_byte i 0xEB (flat_map piece_bytes others) _ (opens i u.pieces_fit.0) (opens i u.pieces_fit.0).no_jump (sym u.whole ∙ e)
 no_jump_sled (JumpSled shift) others bytes nop e none u = none shift (flat_map piece_bytes others, tail_same 0x09 0x09 _ _ (tail_same 0xEB 0xEB _ _ (sym e ∙ u.whole)))
 no_jump_sled (ReturnSled shift) others bytes nop e none u = apart 0xEB 0xC3 _ _ (λ h. omega arith) (sym e ∙ u.whole)
 no_jump_sled Align others bytes nop e none u = apart 0xEB 0x90 _ _ (λ h. omega arith) (sym e ∙ u.whole)
 
--- the same of a return's
+-- the same for a return
 pub no_return_sled : (first : Piece) (others : List Piece) (bytes nop : List ℕ) → bytes ≡ 0xC3 ∷ 0x2E ∷ nop → ((shift : ℕ) → Begins (nop_bytes shift) nop → ⊥) → IsUnits bytes (first ∷ others) → ⊥
 no_return_sled (Instruction i) others bytes nop e none u = return_alone i others nop u.pieces_fit.0 u.pieces_fit.1 (sym u.whole ∙ e)
 no_return_sled (JumpSled shift) others bytes nop e none u = apart 0xC3 0xEB _ _ (λ h. omega arith) (sym e ∙ u.whole)

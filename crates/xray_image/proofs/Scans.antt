@@ -16,12 +16,12 @@ use Rattle.xray_image.specs.Views.{entry_of, place_of}
 pub from_below : (C : ℕ → Type 0) (n : ℕ) → ((j : ℕ) → j < n → C j) → ((j : ℕ) → n ≤ j → C j) → (i : ℕ) → C i
 from_below C n below past i = elim (cases_lt i n) [ inl lt ↦ below i lt | inr le ↦ past i le ]
 
--- an item of a list that is read by its number
+-- an item of a list, read by its number
 pub item_at : {X Y : Type 0} (f : X → Y) (xs : List X) (i : ℕ) (x : X) → i < length xs → x ≡ get_or xs i x → slice_get (map f xs) i ≡ Some (f x)
 item_at f xs i x within is = slice_get-map f xs i ∙ ap (option_map f) (slice_get-get_or xs i x within) ∙ ap (λ y. Some (f y)) (sym is)
 
 module _ (spots : List SledSpot) (lines : List MapLine) (i : ℕ) where
-  -- no entry has a number past the last
+  -- no number past the last has an entry
   pub fits_past : (P : SledPlace → MapEntry → Type 0) → length lines ≤ i → FitsAt (map place_of spots) (map entry_of lines) P i
   fits_past P past place entry there entry_there =
       absurd (let within = slice_get_within (map entry_of lines) i entry entry_there in omega (arith, length-map lines entry_of))

@@ -1,4 +1,4 @@
--- The sleds of a function stand side by side: ids never fall in the order of the map.
+-- The sleds of a function are next to each other: ids never fall in the order of the map.
 use Rattle.std.proofs.Common.{◌≡◌, ℕ, ◌+◌, ◌<◌, ◌≤◌, zero, suc, List, [], ◌∷◌, ◌++◌, ◌==◌, length, take, get_or, map, false, refl, sym, ap, ◌∙◌, arith}
 use Rattle.std.specs.List.{zip, position_or_len}
 use Rattle.std.specs.List.Sorted.{IsNonDecreasing, IsNonDecreasingBy}
@@ -14,21 +14,21 @@ use Rattle.xray_image.proofs.Distinct.{front_first, place_of_number}
 use Rattle.xray_image.proofs.Lying.{lies_in_order, places_ascend}
 use Rattle.xray_image.proofs.Naming.{functions_ascend}
 
--- a front of a front
+-- a prefix of a prefix
 take_front : (xs : List ℕ) (i j : ℕ) → i ≤ j → (m : List ℕ) × (take j xs ≡ take i xs ++ m)
 take_front xs zero j le = (take j xs, refl)
 take_front xs (suc i) zero le = absurd (omega arith)
 take_front [] (suc i) (suc j) le = ([], refl)
 take_front (x ∷ xs) (suc i) (suc j) le = let rest = take_front xs i j (omega arith) in (rest.0, ap (λ t. x ∷ t) rest.1)
 
--- of more numbers there are no fewer that are new
+-- more numbers have no fewer new ones among them
 fewer_in_front : (xs : List ℕ) (i j : ℕ) → i ≤ j → length (distinct [] (take i xs)) ≤ length (distinct [] (take j xs))
 fewer_in_front xs i j le =
     let more = take_front xs i j le in
     let front = front_first [] (take i xs) more.0 in
     omega (arith, ap (λ t. length (distinct [] t)) more.1, ap length front.1, length-append (distinct [] (take i xs)) front.0)
 
--- of numbers that don't fall the places among those that differ don't fall
+-- for numbers that don't fall, the places among the distinct ones don't fall
 places_in_order : (xs : List ℕ) → IsNonDecreasing xs → (i j : ℕ) → i ≤ j → j < length xs
     → position_or_len (λ y. y == get_or xs i 0) (distinct [] xs) ≤ position_or_len (λ y. y == get_or xs j 0) (distinct [] xs)
 places_in_order xs up i j le lt =

@@ -1,4 +1,4 @@
--- The units that are read up to a place of the code.
+-- The units that were read up to a place of the code.
 use Rattle.std.proofs.Common.{◌≡◌, ℕ, ◌+◌, ◌-◌, ◌<◌, ◌≤◌, inl, inr, true, false, List, [], ◌∷◌, ◌++◌, length, drop, refl, sym, ap, subst, ◌∙◌, append_assoc, arith}
 use Rattle.std.specs.List.{flat_map}
 use Rattle.std.proofs.lemmas.List.{length-append, length-drop, drop-drop}
@@ -42,7 +42,7 @@ units_from-append address sleds (p ∷ xs) ys =
 
 -- ---- units that stand
 
--- one more unit stands behind those that stand
+-- one more unit after those that stand
 stand_push : (address : ℕ) (bytes : List ℕ) (front : List Piece) (end : ℕ) (left : List ℕ) (piece : Piece) (behind : List ℕ)
     → StandUpTo address bytes front end left → StandsAt end left piece behind → StandUpTo address bytes (front ++ piece ∷ []) (end + length (piece_bytes piece)) behind
 stand_push address bytes [] end left piece behind s at =
@@ -102,7 +102,7 @@ one_more base code at units units' places places' piece n so_far left stands wid
     one_place address (ReturnSled shift) = omega arith
     one_place address Align = omega arith
 
--- where none stands, the units stop
+-- where no unit stands, the units stop
 why_none : (place : ℕ) (bytes : List ℕ) (e : NoUnit) → IsNoUnit bytes e → UnitFault place bytes (fault_at place e)
 why_none place bytes Sled h = inl (h, refl)
 why_none place bytes (Code f) h = inr (h.0, (f, h.1, refl))
@@ -121,7 +121,7 @@ stops base code at units places e so_far left none why =
       why = subst (λ (p : ℕ). UnitFault p (drop at code) (fault_at at e)) place (why_none at (drop at code) e why);
     }
 
--- ---- the same of the bytes that are left, as the code has them
+-- ---- the same for the bytes that are left, as the code has them
 
 pub next_read : (base : ℕ) (code : List ℕ) (at : ℕ) (units units' : List Unit) (places places' : List SledPlace) (piece : Piece) (n : ℕ) (rest : List ℕ)
     → IsReadTo base code at units places → at < length code → rest ≡ drop at code → StandsAt (base + at) rest piece (drop n rest) → n ≡ length (piece_bytes piece)

@@ -1,4 +1,4 @@
--- Each file reads as something by the table.
+-- The table decides each file in some way.
 use Rattle.std.proofs.Common.{◌≡◌, ◌≢◌, ℕ, zero, suc, ◌+◌, ◌-◌, ◌%◌, ◌<◌, ◌≤◌, ◌^◌, inl, inr, List, [], ◌∷◌, ◌++◌, length, get_or, take, drop, map, Option, Some, None, Ok, Err, refl, sym, ap, subst, ◌∙◌, arith}
 use Rattle.std.specs.Prelude.{◌⊎◌, All, MatchOption, Result, codes, slice_get}
 use Rattle.std.proofs.lemmas.Bool.{cases_eq, cases_lt}
@@ -41,12 +41,12 @@ all_bytes bytes all i =
       | inr past ↦ rw (get_or_past bytes i 0 past) (omega arith)
     ]
 
--- what stands behind a front is bytes
+-- the rest after a prefix of bytes is bytes
 behind_front : (front behind : List ℕ) → AreBytes (front ++ behind) → AreBytes behind
 behind_front [] behind all = all
 behind_front (x ∷ xs) behind all = behind_front xs behind (All-tail (λ b. b < 256) x (xs ++ behind) all)
 
--- the same of bytes that are a front and what stands behind it
+-- the same for bytes that are a prefix and a rest
 bytes_behind : (bytes front behind : List ℕ) → bytes ≡ front ++ behind → AreBytes bytes → AreBytes behind
 bytes_behind bytes front behind e all = behind_front front behind (subst AreBytes e all)
 
@@ -56,7 +56,7 @@ bytes_behind bytes front behind e all = behind_front front behind (subst AreByte
 abbrev NopOf : List ℕ → Type 0
 NopOf bytes = ((shift : ℕ) × (shift < 2 ^ 32) × Begins (nop_bytes shift) bytes) ⊎ ((shift : ℕ) → Begins (nop_bytes shift) bytes → ⊥)
 
--- bytes begin with a nop, or with none
+-- bytes begin with a nop, or they don't
 some_nop : (bytes : List ℕ) → AreBytes bytes → NopOf bytes
 some_nop bytes all = by_front (known_front (0x66 ∷ 0x0F ∷ 0x1F ∷ 0x84 ∷ 0x00 ∷ []) bytes)
   where
@@ -76,7 +76,7 @@ SledOf bytes =
     ((piece : Piece) × IsSled piece × IsPiece piece × Begins (piece_bytes piece) bytes)
     ⊎ ((piece : Piece) → IsSled piece → Begins (piece_bytes piece) bytes → ⊥)
 
--- bytes begin with a sled, or with none
+-- bytes begin with a sled, or they don't
 some_sled : (bytes : List ℕ) → AreBytes bytes → SledOf bytes
 some_sled bytes all = by_front (known_front (0xEB ∷ 0x09 ∷ []) bytes) (known_front (0xC3 ∷ 0x2E ∷ []) bytes)
   where
@@ -100,12 +100,12 @@ some_sled bytes all = by_front (known_front (0xEB ∷ 0x09 ∷ []) bytes) (known
     by_front (inr fails) (inl b) = returns b.0 b.1 (some_nop b.0 (bytes_behind bytes (0xC3 ∷ 0x2E ∷ []) b.0 b.1 all))
     by_front (inr fails) (inr fails') = inr (neither fails fails')
 
--- no unit stands in front of the bytes, and why
+-- the bytes begin with no unit, and why
 record NoneStands (address : ℕ) (bytes : List ℕ) : Type 0 where
   none : (piece : Piece) (behind : List ℕ) → StandsAt address bytes piece behind → ⊥
   why : (place : ℕ) → (fault : ImageFault) × UnitFault place bytes fault
 
--- a unit stands in front of the bytes, or none does
+-- the bytes begin with a unit, or they don't
 abbrev UnitOf : ℕ → List ℕ → Type 0
 UnitOf address bytes = ((piece : Piece) × ((behind : List ℕ) × StandsAt address bytes piece behind)) ⊎ NoneStands address bytes
 
@@ -121,7 +121,7 @@ sled_stands address bytes (JumpSled shift) sled fits b even = record { spelled =
 sled_stands address bytes (ReturnSled shift) sled fits b even = record { spelled = b.1; fits = fits; place = even }
 sled_stands address bytes Align sled fits b even = absurd sled
 
--- where bytes begin as a sled
+-- bytes that begin as a sled
 sled_unit : (address : ℕ) (bytes : List ℕ) → AreBytes bytes → BeginsAsSled bytes → (get_or bytes 0 0 ≡ 0x90 → ⊥) → UnitOf address bytes
 sled_unit address bytes all begins other = by_sled (some_sled bytes all) (cases_eq (address % 2) 0)
   where
@@ -131,7 +131,7 @@ sled_unit address bytes all begins other = by_sled (some_sled bytes all) (cases_
         inr (record { none = no_even address bytes begins other odd; why = λ place. (faults.Sled place, inl (begins, refl)) })
     by_sled (inr none) even = inr (record { none = no_whole address bytes begins other none; why = λ place. (faults.Sled place, inl (begins, refl)) })
 
--- where they don't, the decoder answers
+-- for other bytes, the decoder answers
 plain_unit : OneAnswer → (address : ℕ) (bytes : List ℕ) → (BeginsAsSled bytes → ⊥) → (get_or bytes 0 0 ≡ 0x90 → ⊥)
     → (a : Result Instr DecodeFault) → Answers bytes a → UnitOf address bytes
 plain_unit one address bytes plain other (Ok i) (named, b) =
@@ -148,7 +148,7 @@ plain_unit one address bytes plain other (Err f) refused =
     none (ReturnSled shift) behind s = plain (inr (nop_bytes shift ++ behind, s.spelled))
     none Align behind s = other (ap (λ (ns : List ℕ). get_or ns 0 0) s.spelled)
 
--- in front of some bytes a unit stands, or none does
+-- bytes begin with a unit, or they don't
 some_unit : SomeAnswer → OneAnswer → (address first : ℕ) (rest : List ℕ) → AreBytes (first ∷ rest) → UnitOf address (first ∷ rest)
 some_unit some one address first rest all =
     by_first (cases_eq first 0x90) (known_front (0xEB ∷ []) (first ∷ rest)) (known_front (0xC3 ∷ 0x2E ∷ []) (first ∷ rest))
@@ -164,12 +164,12 @@ some_unit some one address first rest all =
 
 -- ---- all places
 
--- bytes are left, and no unit stands in front of them
+-- bytes are left, and they begin with no unit
 record Stops (address : ℕ) (left : List ℕ) : Type 0 where
   some_left : left ≢ []
   stands : NoneStands address left
 
--- units that stand up to the end, or to where none does
+-- units that stand up to the end, or up to where none follows
 record Front (address : ℕ) (bytes : List ℕ) : Type 0 where
   pieces : List Piece
   end : ℕ
@@ -177,17 +177,17 @@ record Front (address : ℕ) (bytes : List ℕ) : Type 0 where
   stand : StandUpTo address bytes pieces end left
   ends : (left ≡ []) ⊎ Stops end left
 
--- no units stand up to the end of no bytes
+-- no bytes are no units
 no_bytes : (address : ℕ) → Front address []
 no_bytes address = record { pieces = []; end = address; left = []; stand = (refl, refl); ends = inl refl }
 
--- one unit in front of others
+-- one unit before others
 one_before : (address : ℕ) (bytes : List ℕ) (piece : Piece) (behind : List ℕ) → StandsAt address bytes piece behind
     → Front (address + length (piece_bytes piece)) behind → Front address bytes
 one_before address bytes piece behind stands rest =
     record { pieces = piece ∷ rest.pieces; end = rest.end; left = rest.left; stand = (behind, stands, rest.stand); ends = rest.ends }
 
--- units stand up to the end, or to where none does: each has a byte, so they are at most as many as the bytes
+-- Units stand up to the end, or up to where none follows. Each has a byte, so there are at most as many units as bytes.
 some_front : SomeAnswer → OneAnswer → (most address : ℕ) (bytes : List ℕ) → length bytes ≤ most → AreBytes bytes → Front address bytes
 some_front some one most address [] short all = no_bytes address
 some_front some one zero address (x ∷ xs) short all = absurd (omega arith)
@@ -213,7 +213,7 @@ some_front some one (suc most) address (x ∷ xs) short all =
 abbrev pub SomeVerdict : (Verdict → Type 0) → Type 0
 SomeVerdict reads = (verdict : Verdict) × reads verdict
 
--- a row decides, where its condition is known and what follows decides
+-- a row decides if its condition is known and what follows decides
 some_needs : (condition : Type 0) (fault : ImageFault) (follows : Verdict → Type 0) → Known condition → (condition → SomeVerdict follows)
     → SomeVerdict (Needs condition fault follows)
 some_needs condition fault follows (inl holds) rest = let r = rest holds in (r.0, inr (holds, r.1))
@@ -223,7 +223,7 @@ some_needs condition fault follows (inr fails) rest = (Err fault, inl (fails, re
 abbrev FirstBelow : (ℕ → Type 0) → ℕ → Type 0
 FirstBelow C n = ((i : ℕ) × (C i → ⊥) × ((j : ℕ) → j < i → C j)) ⊎ ((j : ℕ) → j < n → C j)
 
--- below a bound some number is the first for which a condition doesn't hold, or it holds for all
+-- below a bound there is a first number for which a condition doesn't hold, or it holds for all
 first_below : (C : ℕ → Type 0) → ((i : ℕ) → Known (C i)) → (n : ℕ) → FirstBelow C n
 first_below C known zero = inr (λ j lt. absurd (omega arith))
 first_below C known (suc n) = by_rest (first_below C known n) (known n)
@@ -234,7 +234,7 @@ first_below C known (suc n) = by_rest (first_below C known n) (known n)
         inr (λ j lt. elim (cases_eq j n) [ inl e ↦ subst C (sym e) holds | inr apart ↦ below j (omega arith) ])
     by_rest (inr below) (inr fails) = inl (n, fails, below)
 
--- a row over all numbers decides, where from some number on there is nothing to hold
+-- a row over all numbers decides if from some number on nothing is asked
 some_needs_each : (condition : ℕ → Type 0) (fault : ℕ → ImageFault) (follows : Verdict → Type 0) → ((i : ℕ) → Known (condition i)) → (n : ℕ)
     → ((i : ℕ) → n ≤ i → condition i) → SomeVerdict follows → SomeVerdict (NeedsEach condition fault follows)
 some_needs_each condition fault follows known n beyond rest = by_first (first_below condition known n)
@@ -282,7 +282,7 @@ some_option (Some x) missing there some = some x refl
 
 -- ---- the table
 
--- what is asked of the item of a number is asked of nothing past the end
+-- nothing is asked of numbers past the end
 no_item : {X : Type 0} (xs : List X) (i : ℕ) (P : X → Type 0) → length xs ≤ i → (x : X) → slice_get xs i ≡ Some x → P x
 no_item xs i P past x e = absurd (let within = slice_get_within xs i x e in omega arith)
 
@@ -292,11 +292,11 @@ both_past entries places i past =
     slice_get_past (map (λ e. e.sled) entries) i (omega (arith, length-map entries (λ e. e.sled)))
     ∙ sym (slice_get_past (map (λ p. p.address) places) i (omega (arith, length-map places (λ p. p.address))))
 
--- the function of a number is fit, or not
+-- the function of this number is fit, or not
 known_fit : (base : ℕ) (units : List Unit) (functions : List Function) (i : ℕ) → Known (FunctionIsFit base units functions i)
 known_fit base units functions i = known_item (slice_get functions i) _ (λ f. known_function base units (take i functions) f)
 
--- the sled and the entry of a number fit each other, or not
+-- the sled and the entry of this number fit each other, or not
 known_at : (places : List SledPlace) (entries : List MapEntry) (Fits : SledPlace → MapEntry → Type 0)
     → ((place : SledPlace) (entry : MapEntry) → Known (Fits place entry)) → (i : ℕ) → Known (FitsAt places entries Fits i)
 known_at places entries Fits known i =

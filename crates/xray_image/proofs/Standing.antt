@@ -1,4 +1,4 @@
--- Units that stand one behind the other: what stands at a place is one unit at most.
+-- Units that stand one after the other: at most one unit stands at a place.
 use Rattle.std.proofs.Common.{◌≡◌, ℕ, ◌+◌, ◌%◌, inl, inr, true, false, List, [], ◌∷◌, ◌++◌, length, All, refl, sym, ap, subst, ◌∙◌, arith}
 use Rattle.std.specs.Prelude.{◌↔◌}
 use Rattle.std.specs.List.{flat_map, AllByRecursion}
@@ -13,14 +13,14 @@ use Rattle.xray_image.proofs.Pieces.{OneInstruction, IsNoReturnSled, same_piece,
 
 -- ---- one place
 
--- an instruction that stands somewhere is no return in front of 2E
+-- an instruction that stands somewhere isn't a return before 2E
 no_return_sled : (address : ℕ) (bytes : List ℕ) (p : Piece) (behind : List ℕ) → StandsAt address bytes p behind → IsNoReturnSled p behind
 no_return_sled address bytes (Instruction i) behind s = λ rest e. s.place (inr (rest, s.spelled ∙ e))
 no_return_sled address bytes (JumpSled shift) behind s = tt
 no_return_sled address bytes (ReturnSled shift) behind s = tt
 no_return_sled address bytes Align behind s = tt
 
--- what stands at a place, and what is behind it, the bytes determine
+-- the bytes determine the unit at a place and the bytes after it
 pub stands_once : OneInstruction → (address : ℕ) (bytes : List ℕ) (p q : Piece) (s t : List ℕ) → StandsAt address bytes p s → StandsAt address bytes q t → (p ≡ q) × (s ≡ t)
 stands_once one address bytes p q s t x y =
     let same : p ≡ q = same_piece one p q s t x.fits y.fits (no_return_sled address bytes p s x) (no_return_sled address bytes q t y) (sym x.spelled ∙ y.spelled) in (
@@ -28,13 +28,13 @@ stands_once one address bytes p q s t x y =
       append_cancel_left (piece_bytes p) s t (sym x.spelled ∙ y.spelled ∙ ap (λ (x : Piece). piece_bytes x ++ t) (sym same)),
     )
 
--- ---- one front
+-- ---- one run of units
 
--- no unit stands in front of the bytes
+-- the bytes begin with no unit
 pub record IsStuck (address : ℕ) (bytes : List ℕ) : Type 0 where
   pub none : (piece : Piece) (behind : List ℕ) → StandsAt address bytes piece behind → ⊥
 
--- nothing stands in front of no bytes
+-- no bytes begin with no unit
 pub stuck_at_end : (address : ℕ) → IsStuck address []
 stuck_at_end address = record {
   none = λ piece behind s.
@@ -42,7 +42,7 @@ stuck_at_end address = record {
       omega (arith, length-append (piece_bytes piece) behind, piece_has_byte piece);
 }
 
--- units that go on until none does
+-- units up to where none follows
 pub record IsFront (address : ℕ) (bytes : List ℕ) (pieces : List Piece) (end : ℕ) (left : List ℕ) : Type 0 where
   pub stand : StandUpTo address bytes pieces end left
   pub stuck : IsStuck end left
@@ -52,7 +52,7 @@ pub record SameFront (ps qs : List Piece) (end end' : ℕ) (left left' : List �
   pub ends : end ≡ end'
   pub lefts : left ≡ left'
 
--- the bytes determine how far units go on, and which
+-- the bytes determine which units stand, and how far
 pub one_front : OneInstruction → (address : ℕ) (bytes : List ℕ) (ps qs : List Piece) (end end' : ℕ) (left left' : List ℕ)
     → IsFront address bytes ps end left → IsFront address bytes qs end' left' → SameFront ps qs end end' left left'
 one_front one address bytes [] [] end end' left left' f g =
@@ -86,7 +86,7 @@ even_with address bytes (JumpSled shift) behind ps s even = All-cons IsEven (rec
 even_with address bytes (ReturnSled shift) behind ps s even = All-cons IsEven (record { address = address; shift = shift; returns = true }) (places_from (address + 11) ps) s.place even
 even_with address bytes Align behind ps s even = even
 
--- units that stand up to the end are the units of the code, and their sleds stand at even addresses
+-- units that stand up to the end are the units of the code, and their sleds have even addresses
 pub stand_are : (address : ℕ) (bytes : List ℕ) (pieces : List Piece) (end : ℕ) → StandUpTo address bytes pieces end [] → IsUnits bytes pieces × All IsEven (places_from address pieces)
 stand_are address bytes [] end s = (record { whole = sym s.1; pieces_fit = tt }, All-nil IsEven)
 stand_are address bytes (p ∷ ps) end s =
@@ -102,7 +102,7 @@ even_behind address (JumpSled shift) ps even = All-tail IsEven (record { address
 even_behind address (ReturnSled shift) ps even = All-tail IsEven (record { address = address; shift = shift; returns = true }) (places_from (address + 11) ps) even
 even_behind address Align ps even = even
 
--- an instruction in front of units begins as no sled
+-- an instruction before units doesn't begin as a sled
 begins_no_sled : (i : Instr) (ps : List Piece) (bytes : List ℕ) → IsNamed i → AllByRecursion IsPiece ps → bytes ≡ spelling i ++ flat_map piece_bytes ps → BeginsAsSled bytes → ⊥
 begins_no_sled i ps bytes fit fits e (inl (rest, jump)) = other_byte i 0xEB (flat_map piece_bytes ps) rest (opens i fit) (opens i fit).no_jump (sym e ∙ jump)
 begins_no_sled i ps bytes fit fits e (inr (rest, returns)) = return_alone i ps rest fit fits (sym e ∙ returns)
@@ -114,7 +114,7 @@ may_stand address bytes (JumpSled shift) ps e fit fits even = All-head IsEven (r
 may_stand address bytes (ReturnSled shift) ps e fit fits even = All-head IsEven (record { address = address; shift = shift; returns = true }) (places_from (address + 11) ps) even
 may_stand address bytes Align ps e fit fits even = tt
 
--- the units of a code whose sleds stand at even addresses stand up to its end
+-- the units of a code stand up to its end, if its sleds have even addresses
 pub units_stand : (address : ℕ) (bytes : List ℕ) (pieces : List Piece) → IsUnits bytes pieces → All IsEven (places_from address pieces) → StandUpTo address bytes pieces (address + length bytes) []
 units_stand address bytes [] u even = (let h = ap length u.whole in omega arith, sym u.whole)
 units_stand address bytes (p ∷ ps) u even =
@@ -127,7 +127,7 @@ units_stand address bytes (p ∷ ps) u even =
       subst (λ (e : ℕ). StandUpTo next behind ps e []) end rest,
     )
 
--- the units stand up to the code's end exactly where they are the code and their sleds stand at even addresses
+-- the units stand up to the code's end exactly when they are the code and their sleds have even addresses
 pub stand_whole : (base : ℕ) (code : List ℕ) (pieces : List Piece)
     → StandUpTo base code pieces (base + length code) [] ↔ (IsUnits code pieces × All (λ place. place.address % 2 ≡ 0) (places_from base pieces))
 stand_whole base code pieces = (λ s. stand_are base code pieces (base + length code) s, λ u. units_stand base code pieces u.0 u.1)

@@ -1,4 +1,4 @@
--- Units that are told by where they begin.
+-- Units as stored by where they begin.
 use Rattle.std.proofs.Common.{◌≡◌, ℕ, zero, suc, ◌+◌, ◌<◌, List, [], ◌∷◌, ◌++◌, Some, length, get_or, drop, map, refl, sym, ap, ◌∙◌, arith}
 use Rattle.std.specs.Prelude.{slice_get}
 use Rattle.std.specs.List.{zip}
@@ -32,7 +32,7 @@ pairs_push [] (b ∷ ys) x y e = absurd (omega arith)
 pairs_push (a ∷ xs) [] x y e = absurd (omega arith)
 pairs_push (a ∷ xs) (b ∷ ys) x y e = ap (λ ps. (a, b) ∷ ps) (pairs_push xs ys x y (omega arith))
 
--- the unit of a number is told by its place and its count of sleds
+-- the unit of a number, by its place and its count of sleds
 module _ (base : ℕ) (code places sleds : List ℕ) where
   pub length-units : length places ≡ length sleds → length (map (unit_at base code) (zip places sleds)) ≡ length places
   length-units paired = length-map (zip places sleds) (unit_at base code) ∙ length-pairs places sleds paired
@@ -60,7 +60,7 @@ unit_push base code places sleds places' sleds' place count paired more more' =
 abbrev one_unit : ℕ → What → List Unit
 one_unit address what = record { address = address; what = what } ∷ []
 
--- that unit is what the piece is that stands there
+-- that unit is the piece that stands there
 pub unit_told : (base' base : ℕ) (code' code : List ℕ) (place at count sleds : ℕ) (piece : Piece) (rest : List ℕ) → base' ≡ base → code' ≡ code → place ≡ at → count ≡ sleds
     → rest ≡ drop at code → ((n : ℕ) → what_at n rest ≡ what_of n piece) → unit_at base' code' (place, count) ∷ [] ≡ units_from (base + at) sleds (piece ∷ [])
 unit_told base' base code' code place at count sleds piece rest same_base same_code there counted same told =
@@ -72,7 +72,7 @@ unit_told base' base code' code place at count sleds piece rest same_base same_c
 
 -- ---- the alignment byte
 
--- it is no sled and no instruction
+-- it is neither a sled nor an instruction
 pub aligned : (bytes : List ℕ) (sleds : ℕ) → get_or bytes 0 0 ≡ 0x90 → what_at sleds bytes ≡ Pad
 unfolding instr_at low_register_at
 aligned [] sleds e = absurd (omega arith)

@@ -8,7 +8,7 @@ pub length-sums : (firsts : List ℕ) (i : ℕ) (steps : List ℕ) → length (s
 length-sums firsts i [] = refl
 length-sums firsts i (step ∷ steps) = ap suc (length-sums firsts (i + 1) steps)
 
--- the sum of a number is its block's first and its step
+-- the sum of a number is the first of its block, plus its step
 sum_from : (firsts : List ℕ) (i : ℕ) (steps : List ℕ) (k : ℕ) → k < length steps → slice_get (sums_from firsts i steps) k ≡ Some (get_or firsts ((i + k) / 16) 0 + get_or steps k 0)
 sum_from firsts i [] k lt = absurd (omega arith)
 sum_from firsts i (step ∷ steps) zero lt = ap (λ (n : ℕ). Some (get_or firsts (n / 16) 0 + step)) (omega arith)
@@ -16,7 +16,7 @@ sum_from firsts i (step ∷ steps) (suc k) lt =
     let there : (i + 1) + k ≡ i + suc k = omega arith in
     sum_from firsts (i + 1) steps k (omega arith) ∙ ap (λ (n : ℕ). Some (get_or firsts (n / 16) 0 + get_or steps k 0)) there
 
--- one more step is one more sum, where the blocks before it stay
+-- one more step is one more sum, if the earlier blocks stay
 sums_push : (old new : List ℕ) (i : ℕ) (steps : List ℕ) (step : ℕ) → ((k : ℕ) → k < i + length steps → get_or new (k / 16) 0 ≡ get_or old (k / 16) 0)
     → sums_from new i (steps ++ step ∷ []) ≡ sums_from old i steps ++ (get_or new ((i + length steps) / 16) 0 + step) ∷ []
 sums_push old new i [] step kept = ap (λ (n : ℕ). (get_or new (n / 16) 0 + step) ∷ []) (omega arith)
@@ -26,10 +26,10 @@ sums_push old new i (s ∷ steps) step kept =
     ∙ ap (λ (ns : List ℕ). (get_or old (i / 16) 0 + s) ∷ ns) (sums_push old new (i + 1) steps step (λ k lt. kept k (omega arith)))
     ∙ ap (λ (n : ℕ). (get_or old (i / 16) 0 + s) ∷ (sums_from old (i + 1) steps ++ (get_or new (n / 16) 0 + step) ∷ [])) there
 
--- ---- the same of sums that are sound
+-- ---- the same for sums that are sound
 
 module _ (firsts steps : List ℕ) (total : ℕ) (sound : AreSums firsts steps total) where
-  -- what is read of a number: its block's first and its step
+  -- what is read for a number: its block's first, and its step
   module _ (i first step : ℕ) (exists : i < length (sums_from firsts 0 steps)) where
     pub step_there : i < length steps
     step_there = omega (arith, length-sums firsts 0 steps, exists)

@@ -1,4 +1,4 @@
--- The rows of the table of refusals: where what follows decides one way, so does the row.
+-- The rows of the table of refusals: if what follows decides in one way, so does the row.
 use Rattle.std.proofs.Common.{◌≡◌, ℕ, ◌+◌, ◌-◌, ◌<◌, inl, inr, List, [], length, Option, Some, None, Err, sym, ap, subst, ◌∙◌, arith}
 use Rattle.std.specs.Prelude.{Result, MatchOption}
 use Rattle.std.proofs.lemmas.Bool.{cases_lt}
@@ -12,11 +12,11 @@ use Rattle.xray_image.specs.Table.{Verdict, Needs, NeedsEach, NeedsUnits, UnitFa
 use Rattle.xray_image.proofs.Pieces.{OneInstruction}
 use Rattle.xray_image.proofs.Standing.{IsFront, stuck_at_end, one_front}
 
--- a part of the table has one verdict at most
+-- a part of the table has at most one verdict
 pub record IsOneWay (Part : Verdict → Type 0) : Type 0 where
   pub same : (v w : Verdict) → Part v → Part w → v ≡ w
 
--- that bytes have one answer at most
+-- bytes have at most one answer
 abbrev pub OneAnswer : Type 0
 OneAnswer = (bytes : List ℕ) (a b : Result Instr DecodeFault) → Answers bytes a → Answers bytes b → a ≡ b
 
@@ -33,7 +33,7 @@ needs_one condition fault follows one = record { same = both }
 
 -- ---- a condition on each number
 
--- the least number for which a condition doesn't hold is one
+-- there is only one least number for which a condition doesn't hold
 least_same : (condition : ℕ → Type 0) (i j : ℕ) → (condition i → ⊥) → ((k : ℕ) → k < i → condition k) → (condition j → ⊥) → ((k : ℕ) → k < j → condition k) → i ≡ j
 least_same condition i j fails below fails' below' =
     elim (cases_lt i j) [

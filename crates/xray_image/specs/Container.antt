@@ -37,7 +37,7 @@ pub record Function : Type 0 where
   pub start : ℕ
   pub name : List ℕ
 
--- an entry of the sled map; the padding behind the version isn't looked at
+-- an entry of the sled map; the padding after the version isn't looked at
 pub record MapEntry : Type 0 where
   pub sled : ℕ
   pub function : ℕ
@@ -45,33 +45,33 @@ pub record MapEntry : Type 0 where
   pub always : ℕ
   pub version : ℕ
 
--- a function entry and what stands behind it, where the bytes reach so far
+-- a function entry and the bytes after it, if the bytes hold a whole one
 abbrev pub function_at : List ℕ → Option (Function × List ℕ)
 function_at bytes =
     let name_length = slice_index bytes 8 in
     if nat_lt (length bytes) (9 + name_length) then None
     else Some (record { start = number8_at bytes 0; name = take name_length (drop 9 bytes) }, drop (9 + name_length) bytes)
 
--- the same of a map entry of 32 bytes
+-- the same for a map entry of 32 bytes
 abbrev pub map_entry_at : List ℕ → Option (MapEntry × List ℕ)
 map_entry_at bytes =
     if nat_lt (length bytes) 32 then None
     else Some (record { sled = number8_at bytes 0; function = number8_at bytes 8; kind = slice_index bytes 16; always = slice_index bytes 17; version = slice_index bytes 18 }, drop 32 bytes)
 
--- n items, one behind the other, and what stands behind them
+-- n items, one after the other, and the bytes after them
 abbrev pub several : {X : Type 0} → (List ℕ → Option (X × List ℕ)) → ℕ → List ℕ → Option (List X × List ℕ)
 several item zero bytes = Some ([], bytes)
 several item (suc n) bytes =
     option_and_then (λ first. option_map (λ others. (first.0 ∷ others.0, others.1)) (several item n first.1)) (item bytes)
 
--- the parts behind the header, and what stands behind the last of them
+-- the parts after the header, and the bytes after the last of them
 pub record Parts : Type 0 where
   pub code : List ℕ
   pub functions : List Function
   pub entries : List MapEntry
   pub rest : List ℕ
 
--- the code, the functions and the map entries that the header counts, where the file reaches so far
+-- the code, the functions and the map entries that the header counts, if the file holds all of them
 abbrev pub parts_of : List ℕ → Option Parts
 parts_of bytes =
     let code = take (code_length bytes) (drop 64 bytes) in

@@ -9,7 +9,7 @@ use Rattle.xray_image.specs.declared.sled.SledKind.TheVariants.{Entry, Exit, Tai
 use Rattle.xray_image.specs.Program.{Program}
 use Rattle.xray_image.specs.Ids.{name_of}
 
--- as llvm-xray's extract names the kinds
+-- the names that llvm-xray's extract has for the kinds
 abbrev pub kind_text : SledKind → List ℕ
 kind_text Entry = codes "function-enter"
 kind_text Exit = codes "function-exit"

@@ -1,4 +1,5 @@
--- The words in which a line on err says why a file is no image: the name of the refusal and its values, a blank between them.
+-- The words that a line on err gives for a file that isn't an image: the name of the refusal and its values, with a
+-- blank between them.
 use Rattle.std.specs.Prelude.{ℕ, List, ◌++◌, Option, Some, None, codes, decimal}
 use Rattle.subset_decode.specs.declared.fault.DecodeFault.{DecodeFault}
 use Rattle.subset_decode.specs.declared.fault.DecodeFault.TheVariants as decoding
@@ -21,7 +22,7 @@ decode_words decoding.Short = codes "Short"
 decode_words (decoding.Unknown byte) = codes "Unknown " ++ decimal byte
 decode_words (decoding.Register number) = codes "Register " ++ decimal number
 
--- the words; none where memory ran out, which refuses nothing
+-- the words; there are none if memory ran out, since nothing is refused then
 abbrev pub image_words : ImageFault → Option (List ℕ)
 image_words Short = Some (codes "Short")
 image_words Magic = Some (codes "Magic")

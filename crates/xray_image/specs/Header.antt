@@ -2,7 +2,7 @@
 use Rattle.std.specs.Prelude.{◌≡◌, ◌<◌, ◌≤◌, ◌%◌, ℕ, List, length, codes}
 use Rattle.xray_image.specs.Container.{magic, version, base_address, code_length, function_count, entry_count, entry_index}
 
--- the header is whole, and each of its fields is within its limits
+-- the header is whole, and each of its fields is in range
 pub record HasHeader (bytes : List ℕ) : Type 0 where
   pub has_header : 64 ≤ length bytes
   pub magic_bytes : magic bytes ≡ codes "XRIM"

@@ -3,7 +3,7 @@ use Rattle.std.specs.Prelude.{◌≡◌, ◌<◌, ◌≤◌, ◌-◌, ℕ, zero,
 use Rattle.std.specs.Option.{option_map}
 use Rattle.xray_image.specs.Program.{Program, distinct}
 
--- the functions that have a sled, each where its first sled stands: the first has id 1
+-- the functions that have a sled, in the order of their first sleds; the first of them has id 1
 abbrev pub sledded_functions : Program → List ℕ
 sledded_functions program = distinct [] (map (λ s. s.function) program.sleds)
 
@@ -20,15 +20,15 @@ abbrev pub name_of : Program → ℕ → Option (List ℕ)
 name_of program zero = None
 name_of program (suc n) = option_and_then (name_at program) (slice_get (sledded_functions program) n)
 
--- the numbers of addresses among all
+-- the numbers of some addresses among all
 pub record AreNumbersOf (all some numbers : List ℕ) : Type 0 where
   pub each : map (slice_get all) numbers ≡ map Some some
 
--- the function of the entry before one
+-- the function of the entry before this one, if there is one
 abbrev pub IsBefore : List ℕ → ℕ → Option ℕ → Type 0
 IsBefore functions i last = MatchOption last (i ≡ 0) (λ x. (0 < i) × (slice_index functions (i - 1) ≡ x))
 
--- what is counted of the first entries, by the functions of all entries and by their ids
+-- the ids given to the first i entries, and the functions that have them
 pub record HasCounted (starts functions ids : List ℕ) (i : ℕ) (last : Option ℕ) (numbers so_far : List ℕ) : Type 0 where
   pub numbers_are : AreNumbersOf starts (distinct [] (take i functions)) numbers
   pub few : length numbers ≤ i

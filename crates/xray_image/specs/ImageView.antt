@@ -1,4 +1,4 @@
--- What an image's fields tell, and what holds of them.
+-- What an image's fields say, and what is true of them.
 use Rattle.std.specs.Prelude.{◌≡◌, ℕ, List, map}
 use Rattle.std.specs.String.{string_bytes}
 use Rattle.xray_image.specs.declared.image.Image.TheInside.{Inside}
@@ -13,7 +13,7 @@ use Rattle.xray_image.specs.Views.{trampolines_of}
 abbrev pub named_function : Named → Function
 named_function f = record { start = f.start; name = string_bytes f.name }
 
--- the program that the fields tell
+-- the program that the fields say
 abbrev pub program_in : Inside → Program
 program_in a = record {
   base = a.base;
@@ -25,7 +25,7 @@ program_in a = record {
   trampolines = trampolines_of a.trampolines;
 }
 
--- some accepted file holds the program, the tables are those of its units, and the ids name its functions with sleds
+-- some accepted file holds the program; the tables are those of its units; the ids name its functions with sleds
 pub record IsSound (a : Inside) : Type 0 where
   pub bytes : List ℕ
   pub accepted : IsAccepted bytes (program_in a)

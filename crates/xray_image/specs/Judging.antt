@@ -1,4 +1,4 @@
--- What is looked at behind the units, for the contracts of the reader's private functions.
+-- What is checked after the units, for the contracts of the reader's private functions.
 use Rattle.std.specs.List.Sorted.{IsStrictlyIncreasing}
 use Rattle.xray_image.specs.Container.{Function, MapEntry}
 use Rattle.std.specs.Prelude.{◌≡◌, ◌≢◌, ◌<◌, ℕ, List, [], map, Bool, true, Option, Some, None, All, Contains}
@@ -13,26 +13,27 @@ pub record IsName (name : List ℕ) : Type 0 where
   pub has_bytes : name ≢ []
   pub name_bytes : All (λ b. is_name_byte b ≡ true) name
 
--- the first function begins at the base, each other above the one before it
+-- the first function begins at the base, and each other one above the one before it
 abbrev pub IsAbove : ℕ → Option ℕ → ℕ → Type 0
 IsAbove base None start = start ≡ base
 IsAbove base (Some last) start = last < start
 
--- a function may stand behind one that begins at `last`, in a code whose units begin at these addresses
+-- a function may come after one that begins at `last`, in a code whose units begin at these addresses
 pub record StandsBehind (base : ℕ) (addresses : List ℕ) (last : Option ℕ) (f : Function) : Type 0 where
   pub above : IsAbove base last f.start
   pub at_unit : Contains addresses f.start
   pub named : IsName f.name
 
--- whether a name is among names
+-- whether a name is one of these names
 abbrev pub is_among : List (List ℕ) → List ℕ → Bool
 is_among names name = list_any (bytes_eq name) names
 
--- functions stand in ascending order
+-- functions ascend by address
 abbrev pub Ascend : List Function → Type 0
 Ascend functions = IsStrictlyIncreasing (map (λ f. f.start) functions)
 
--- what holds of a program that is read: its functions, the order of the map, its entries, the distances and the branches
+-- what is true of a program that is read: its functions, the order of the map, its entries, the distances and the
+-- branches
 pub record IsJudged (entries : List MapEntry) (places : List SledPlace) (program : Program) : Type 0 where
   pub functions : (i : ℕ) → FunctionIsFit program.base program.units program.functions i
   pub order : (i : ℕ) → HasOneAddress places entries i

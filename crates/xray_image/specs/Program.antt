@@ -15,7 +15,7 @@ use Rattle.xray_image.specs.Units.{Piece, IsUnits, units_from, SledPlace, places
 use Rattle.xray_image.specs.Container.{Function, MapEntry, Parts, base_address, entry_index, number8_at, parts_of}
 use Rattle.xray_image.specs.Header.{HasHeader}
 
--- the handlers' trampolines by the kind of the sleds that call them
+-- the handlers' trampolines, by the kind of the sleds that call them
 pub record Trampolines : Type 0 where
   pub entry : ℕ
   pub exit : ℕ
@@ -26,7 +26,7 @@ trampoline_of t Entry = t.entry
 trampoline_of t Exit = t.exit
 trampoline_of t Tail = t.tail
 
--- a program as the image file tells it: what contracts see of an `Image`
+-- a program as its image file says: what contracts see of an `Image`
 pub record Program : Type 0 where
   -- the address of the code's first byte
   pub base : ℕ
@@ -44,18 +44,18 @@ addresses units = map (λ u. u.address) units
 
 -- ---- functions
 
--- letters, digits, and _ . $
+-- letters, digits, `_`, `.` and `$`
 abbrev pub is_name_byte : ℕ → Bool
 is_name_byte b =
     (nat_le 65 b && nat_le b 90) || (nat_le 97 b && nat_le b 122) || (nat_le 48 b && nat_le b 57)
     || (b == 95) || (b == 46) || (b == 36)
 
--- the first function begins at the base, each other above the one before it
+-- the first function begins at the base, and each other one above the one before it
 abbrev pub BeginsBehind : ℕ → Option Function → ℕ → Type 0
 BeginsBehind base None start = start ≡ base
 BeginsBehind base (Some before) start = before.start < start
 
--- a function that may stand behind those before it: at a unit, in ascending order, with a name of its own
+-- a function that may come after these: at a unit, in ascending order, with a name of its own
 pub record IsFunction (base : ℕ) (units : List Unit) (before : List Function) (f : Function) : Type 0 where
   pub at_unit : Contains (addresses units) f.start
   pub in_order : BeginsBehind base (last_or None before) f.start
@@ -67,7 +67,7 @@ abbrev pub AreFunctions : ℕ → List Unit → List Function → Type 0
 AreFunctions base units functions =
     (i : ℕ) (f : Function) → slice_get functions i ≡ Some f → IsFunction base units (take i functions) f
 
--- the function that an address lies in is the last one that begins at it or below
+-- an address lies in the last function that begins at it or below
 abbrev pub LiesIn : List Function → ℕ → ℕ → Type 0
 LiesIn functions address start =
     last_or None (map (λ f. f.start) (filter (λ f. nat_le f.start address) functions)) ≡ Some start
@@ -80,12 +80,12 @@ kind_of zero = Entry
 kind_of (suc zero) = Exit
 kind_of (suc (suc n)) = Tail
 
--- exit sleds begin with a return, entry and tail sleds with a jump
+-- exit sleds begin with a return, and entry and tail sleds with a jump
 abbrev pub KindFits : Bool → ℕ → Type 0
 KindFits true kind = kind ≡ 1
 KindFits false kind = (kind ≡ 0) ⊎ (kind ≡ 2)
 
--- an entry says of the sled at its place what the code says
+-- an entry agrees with the code about the sled at its place
 pub record IsEntryOf (functions : List Function) (place : SledPlace) (entry : MapEntry) : Type 0 where
   pub in_function : LiesIn functions place.address entry.function
   pub kind : KindFits place.returns entry.kind
@@ -102,7 +102,7 @@ EachSled places entries P =
     (i : ℕ) (place : SledPlace) (entry : MapEntry)
     → slice_get places i ≡ Some place → slice_get entries i ≡ Some entry → P place entry
 
--- the numbers of a list that aren't among those seen, each where it first stands
+-- the numbers of a list without repetitions and without those seen before, in the order in which they first appear
 abbrev pub distinct : List ℕ → List ℕ → List ℕ
 distinct seen [] = []
 distinct seen (x ∷ xs) = if list_any (λ y. y == x) seen then distinct seen xs else x ∷ distinct (x ∷ seen) xs
@@ -124,7 +124,7 @@ sled_of entries (place, entry) = record {
 
 -- ---- branches
 
--- where a branch goes, as a whole number: the address behind it and the distance that it names
+-- where a branch goes, as a whole number: the address after it, plus the distance that it names
 abbrev pub branch_target : ℕ → Instr → Option ℤ
 branch_target behind (Mov dst imm) = None
 branch_target behind (Add dst src) = None
@@ -137,14 +137,14 @@ branch_target behind (Jnz rel) = Some (pos behind +ℤ rel)
 branch_target behind Ret = None
 branch_target behind (Out port) = None
 
--- a unit that branches goes to a unit
+-- if a unit branches, it goes to a unit
 abbrev pub BranchReaches : List Unit → Unit → Type 0
 BranchReaches units u =
     (instr : Instr) → u.what ≡ Plain instr
     → IfSome (branch_target (u.address + length (spelling instr)) instr)
     (λ target. (address : ℕ) × (target ≡ pos address) × Contains (addresses units) address)
 
--- each branch among units goes to a unit
+-- each branch of the units goes to a unit
 abbrev pub BranchesReach : List Unit → Type 0
 BranchesReach units = (u : Unit) → Contains units u → BranchReaches units u
 
@@ -162,7 +162,7 @@ program_of bytes parts pieces = record {
   trampolines = record { entry = number8_at bytes 32; exit = number8_at bytes 40; tail = number8_at bytes 48 };
 }
 
--- The bytes are an image file that is accepted, and the program is what it holds.
+-- The bytes are an accepted image file, and the program is what it holds.
 pub record IsAccepted (bytes : List ℕ) (program : Program) : Type 0 where
   pub header : HasHeader bytes
   pub parts : Parts

@@ -1,4 +1,4 @@
--- Reading from left to right, for the contracts of the reader's private functions.
+-- Reading byte by byte, for the contracts of the reader's private functions.
 use Rattle.std.specs.Prelude.{◌≡◌, ◌<◌, ◌≤◌, ◌+◌, ◌%◌, ℕ, List, [], length, drop}
 use Rattle.xray_image.specs.declared.fault.ImageFault.{ImageFault}
 use Rattle.xray_image.specs.declared.unit.Unit.{Unit}
@@ -25,7 +25,7 @@ pub record IsReadTo (base : ℕ) (code : List ℕ) (at : ℕ) (units : List Unit
   pub places_are : places ≡ places_from base front
   pub few : length places ≤ at
 
--- a scan of numbers from 0 on ends at the least for which the condition doesn't hold, and answers its fault
+-- a scan of the numbers from 0 on ends at the least for which the condition doesn't hold, and answers its fault
 pub record IsFirstFault (condition : ℕ → Type 0) (fault : ℕ → ImageFault) (answer : ImageFault) : Type 0 where
   pub number : ℕ
   pub fails : condition number → ⊥

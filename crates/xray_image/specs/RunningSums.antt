@@ -3,7 +3,7 @@ use Rattle.std.specs.Prelude.{◌≡◌, ◌≢◌, ◌<◌, ◌≤◌, ◌+◌,
 use Rattle.xray_image.specs.declared.running_sums.RunningSums.{RunningSums}
 use Rattle.xray_image.specs.declared.running_sums.TheConstants.{LARGEST_STEP}
 
--- sums from a number on: each is the first of its block of sixteen, and its step
+-- the sums of numbers from i on: each is the first of its block of sixteen, plus its own step
 abbrev pub sums_from : List ℕ → ℕ → List ℕ → List ℕ
 sums_from firsts i [] = []
 sums_from firsts i (step ∷ steps) = (slice_index firsts (i / 16) + step) ∷ sums_from firsts (i + 1) steps
@@ -12,7 +12,7 @@ sums_from firsts i (step ∷ steps) = (slice_index firsts (i / 16) + step) ∷ s
 abbrev pub sums_in : RunningSums → List ℕ
 sums_in s = sums_from s.firsts.items 0 s.steps.items
 
--- the blocks are those of the steps, no sum is above the total, and the total isn't far above the first of the last block
+-- the blocks are those of the steps; no sum is above the total; the total isn't far above the first of the last block
 pub record AreSums (firsts steps : List ℕ) (total : ℕ) : Type 0 where
   pub blocks : length firsts ≡ (length steps + 15) / 16
   pub each : (i : ℕ) → i < length steps → slice_index firsts (i / 16) + slice_index steps i ≤ total
@@ -22,7 +22,7 @@ pub record AreSums (firsts steps : List ℕ) (total : ℕ) : Type 0 where
 abbrev pub IsSound : RunningSums → Type 0
 IsSound s = AreSums s.firsts.items s.steps.items s.total
 
--- the block of the next sum, of which there are n, is begun: its first is near the total
+-- the block of the next sum, after n, is begun: its first is close to the total
 pub record HasBegunBlock (old new : List ℕ) (n total : ℕ) : Type 0 where
   pub kept : (b : ℕ) → b < length old → slice_index new b ≡ slice_index old b
   pub reaches : length new ≡ n / 16 + 1

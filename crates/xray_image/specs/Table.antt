@@ -1,4 +1,4 @@
--- The refusals of image files: what is looked at, in its order, and what each failing comes to.
+-- The refusals of image files: each check, in order, and what follows if it fails.
 use Rattle.std.specs.Prelude.{◌≡◌, ◌≢◌, ◌<◌, ◌≤◌, ◌+◌, ◌-◌, ◌%◌, ◌⊎◌, ℕ, List, [], ◌∷◌, ◌++◌, length, take, Some, Result, Ok, Err, codes, map, slice_get, slice_index, MatchOption, ⊤}
 use Rattle.subset_decode.specs.declared.fault.DecodeFault.{DecodeFault}
 use Rattle.subset_decode.specs.Encoding.{Begins}
@@ -11,17 +11,17 @@ use Rattle.xray_image.specs.Units.{Piece, Instruction, JumpSled, ReturnSled, Ali
 use Rattle.xray_image.specs.Container.{Function, MapEntry, magic, version, base_address, code_length, function_count, entry_count, entry_index, parts_of}
 use Rattle.xray_image.specs.Program.{Program, IsFunction, IsEntryOf, Reaches, BranchReaches, addresses, program_of}
 
--- what reading a file comes to: the program that it holds, or why it is refused
+-- what a file reads as: the program that it holds, or the reason why it is refused
 abbrev pub Verdict : Type 0
 Verdict = Result Program ImageFault
 
 -- ---- rows of the table
 
--- a condition that has to hold: where it doesn't, the file is refused so; where it does, what follows decides
+-- A condition that has to hold. If it doesn't, the file is refused with this fault. If it does, what follows decides.
 abbrev pub Needs : Type 0 → ImageFault → (Verdict → Type 0) → Verdict → Type 0
 Needs condition fault follows verdict = ((condition → ⊥) × (verdict ≡ Err fault)) ⊎ (condition × follows verdict)
 
--- the same of a condition on each number from 0 on: the least for which it doesn't hold decides
+-- The same for a condition on each number from 0 on. The least number for which it doesn't hold decides.
 abbrev pub NeedsEach : (ℕ → Type 0) → (ℕ → ImageFault) → (Verdict → Type 0) → Verdict → Type 0
 NeedsEach condition fault follows verdict =
     ((i : ℕ) × (condition i → ⊥) × ((j : ℕ) → j < i → condition j) × (verdict ≡ Err (fault i)))
@@ -29,37 +29,37 @@ NeedsEach condition fault follows verdict =
 
 -- ---- units
 
--- bytes begin as a sled: with the jump of an entry or tail sled, or with the return of an exit sled and its second byte
+-- bytes begin as a sled: with the jump of an entry or tail sled, or with the return and the second byte of an exit sled
 abbrev pub BeginsAsSled : List ℕ → Type 0
 BeginsAsSled bytes = Begins (0xEB ∷ []) bytes ⊎ Begins (0xC3 ∷ 0x2E ∷ []) bytes
 
--- sleds stand at even addresses, and no instruction stands where bytes begin as a sled
+-- sleds have even addresses, and no instruction stands where bytes begin as a sled
 abbrev pub MayStand : ℕ → List ℕ → Piece → Type 0
 MayStand address bytes (Instruction instr) = BeginsAsSled bytes → ⊥
 MayStand address bytes (JumpSled shift) = address % 2 ≡ 0
 MayStand address bytes (ReturnSled shift) = address % 2 ≡ 0
 MayStand address bytes Align = ⊤
 
--- a unit stands at an address, in front of the bytes from there on, with these behind it
+-- at this address, the bytes begin with this unit, and `behind` is the rest
 pub record StandsAt (address : ℕ) (bytes : List ℕ) (piece : Piece) (behind : List ℕ) : Type 0 where
   pub spelled : bytes ≡ piece_bytes piece ++ behind
   pub fits : IsPiece piece
   pub place : MayStand address bytes piece
 
--- units stand one behind the other from an address on, up to another, from which on these bytes are left
+-- from this address to the end, units stand one after the other, and `left` is the rest of the bytes
 abbrev pub StandUpTo : ℕ → List ℕ → List Piece → ℕ → List ℕ → Type 0
 StandUpTo address bytes [] end left = (end ≡ address) × (left ≡ bytes)
 StandUpTo address bytes (piece ∷ pieces) end left =
     (behind : List ℕ) × StandsAt address bytes piece behind
     × StandUpTo (address + length (piece_bytes piece)) behind pieces end left
 
--- why no unit stands in front of the bytes from a place of the code on: what begins as a sled is none, or the decoder's fault
+-- why the bytes at a place of the code begin with no unit: a sled is begun and isn't one, or the decoder's fault
 abbrev pub UnitFault : ℕ → List ℕ → ImageFault → Type 0
 UnitFault place bytes fault =
     (BeginsAsSled bytes × (fault ≡ faults.Sled place))
     ⊎ ((BeginsAsSled bytes → ⊥) × ((f : DecodeFault) × Answers bytes (Err f) × (fault ≡ faults.Code place f)))
 
--- units stand up to an address where none goes on, though bytes are left
+-- units stand up to an address where no unit follows, though bytes are left
 pub record StopsAt (base : ℕ) (code : List ℕ) (fault : ImageFault) : Type 0 where
   pub front : List Piece
   pub address : ℕ
@@ -69,7 +69,7 @@ pub record StopsAt (base : ℕ) (code : List ℕ) (fault : ImageFault) : Type 0 
   pub none_goes_on : (piece : Piece) (behind : List ℕ) → StandsAt address left piece behind → ⊥
   pub why : UnitFault (address - base) left fault
 
--- the units have to be the whole code: the first place where none stands decides
+-- The units have to be the whole code. The first place where no unit stands decides.
 abbrev pub NeedsUnits : ℕ → List ℕ → (List Piece → Verdict → Type 0) → Verdict → Type 0
 NeedsUnits base code follows verdict =
     ((fault : ImageFault) × StopsAt base code fault × (verdict ≡ Err fault))
@@ -77,33 +77,33 @@ NeedsUnits base code follows verdict =
 
 -- ---- conditions with a number
 
--- the function of a number, where there is one, may stand behind those before it
+-- the function of this number, if there is one, may come after those before it
 abbrev pub FunctionIsFit : ℕ → List Unit → List Function → ℕ → Type 0
 FunctionIsFit base units functions i =
     (f : Function) → slice_get functions i ≡ Some f → IsFunction base units (take i functions) f
 
--- the entry and the sled of a number have one address, or there is neither
+-- the entry and the sled of this number have one address, or neither exists
 abbrev pub HasOneAddress : List SledPlace → List MapEntry → ℕ → Type 0
 HasOneAddress places entries i =
     slice_get (map (λ e. e.sled) entries) i ≡ slice_get (map (λ p. p.address) places) i
 
--- the sled and the entry of a number, where both are there, fit each other
+-- the sled and the entry of this number, if both exist, fit each other
 abbrev pub FitsAt : List SledPlace → List MapEntry → (SledPlace → MapEntry → Type 0) → ℕ → Type 0
 FitsAt places entries Fits i =
     (place : SledPlace) (entry : MapEntry)
     → slice_get places i ≡ Some place → slice_get entries i ≡ Some entry → Fits place entry
 
--- the unit of a number, where there is one, goes to a unit if it branches
+-- the unit of this number, if there is one and it branches, goes to a unit
 abbrev pub BranchesRightly : List Unit → ℕ → Type 0
 BranchesRightly units i = (u : Unit) → slice_get units i ≡ Some u → BranchReaches units u
 
--- the place in the code of the unit of a number
+-- the place in the code of the unit of this number
 abbrev pub place_of_unit : ℕ → List Unit → ℕ → ℕ
 place_of_unit base units i = slice_index (addresses units) i - base
 
 -- ---- the table
 
--- behind its units: functions, the map's order, its entries, distances and branches
+-- after the units: the functions, the map's order, its entries, the distances and the branches
 abbrev pub ReadsProgram : List MapEntry → List SledPlace → Program → Verdict → Type 0
 ReadsProgram entries places program verdict =
     NeedsEach (FunctionIsFit program.base program.units program.functions) (λ i. faults.Names i)
@@ -113,7 +113,7 @@ ReadsProgram entries places program verdict =
     (NeedsEach (BranchesRightly program.units) (λ i. faults.Target (place_of_unit program.base program.units i))
     (λ v. v ≡ Ok program))))) verdict
 
--- behind its header: the parts, nothing behind them, and the units of the code
+-- after the header: the parts, no bytes after them, and the units of the code
 abbrev pub ReadsParts : List ℕ → Verdict → Type 0
 ReadsParts bytes verdict =
     MatchOption (parts_of bytes) (verdict ≡ Err faults.Short)

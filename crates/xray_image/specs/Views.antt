@@ -1,4 +1,4 @@
--- What the reader's own structs say, for the contracts of its private functions.
+-- What the reader's own structs mean, for the contracts of its private functions.
 use Rattle.std.specs.Prelude.{◌≡◌, ℕ, List, [], length, map, slice_get}
 use Rattle.xray_image.specs.declared.header.Header.{Header}
 use Rattle.xray_image.specs.declared.header.Trampolines.{Trampolines as Addresses}
@@ -43,7 +43,7 @@ function_of f = record { start = f.start; name = f.name.now }
 abbrev pub entry_of : MapLine → MapEntry
 entry_of e = record { sled = e.sled; function = e.function; kind = e.kind; always = e.always; version = e.version }
 
--- the parts, with nothing behind them
+-- the parts, with nothing after them
 abbrev pub parts_of_view : FileParts → Parts
 parts_of_view p = record { code = p.code.now; functions = map function_of p.functions.items; entries = map entry_of p.entries.items; rest = [] }
 
@@ -56,17 +56,17 @@ piece_of raw.Align = Align
 abbrev pub place_of : SledSpot → SledPlace
 place_of s = record { address = s.address; shift = s.shift; returns = s.returns }
 
--- why bytes begin no unit
+-- why bytes begin with no unit
 abbrev pub IsNoUnit : List ℕ → NoUnit → Type 0
 IsNoUnit bytes none.Sled = BeginsAsSled bytes
 IsNoUnit bytes (none.Code fault) = (BeginsAsSled bytes → ⊥) × Refuses bytes fault
 
--- the fault of no unit at a place of the code
+-- the fault at a place of the code where no unit stands
 abbrev pub fault_at : ℕ → NoUnit → ImageFault
 fault_at place none.Sled = faults.Sled place
 fault_at place (none.Code fault) = faults.Code place fault
 
--- the sleds that are found
+-- the sleds that were found
 abbrev pub places_in : CodeUnits → List SledPlace
 places_in u = map place_of u.sleds.items
 
@@ -78,7 +78,7 @@ pub record AreTablesTo (base : ℕ) (code : List ℕ) (at : ℕ) (u : CodeUnits)
   pub place : u.units.places.total ≡ at
   pub sleds : u.units.sleds.total ≡ length u.sleds.items
 
--- the program that the header, the parts and the units tell
+-- the program that the header, the parts and the units say
 abbrev pub program_read : Header → FileParts → CodeUnits → Program
 program_read h p u = record {
   base = h.base;

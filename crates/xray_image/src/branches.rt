@@ -15,8 +15,8 @@ use crate::unit::{Unit, UnitTable, What};
 use crate::unit_index::UnitIndex;
 use subset_decode::{CONDITIONAL_LENGTH, Instr, NEAR_LENGTH};
 
-/// Where an instruction at an address goes, as a whole number, if it is a branch: its distance counts
-/// from the address behind it.
+/// Where an instruction at an address goes, as a whole number, if it is a branch. The distance of a
+/// branch counts from the address after it.
 fn target(address: u64, instr: &Instr) -> Option<i128>
     ensures target { result ≡ branch_target (address + length (spelling instr.now)) instr.now }
     ensures fits { IfSome result (FitsSigned w128) }
@@ -37,7 +37,7 @@ fn target(address: u64, instr: &Instr) -> Option<i128>
     }
 }
 
-/// Whether a unit goes to a unit, if it branches.
+/// Whether a unit that branches goes to a unit. Units that don't branch pass.
 fn goes_rightly(index: &UnitIndex, unit: &Unit) -> bool
     ensures { (units : List Unit) → IsIndexOf (addresses units) index.now
         → ((a : ℕ) → Contains (addresses units) a → a < 2 ^ 64)
@@ -55,7 +55,7 @@ fn goes_rightly(index: &UnitIndex, unit: &Unit) -> bool
     }
 }
 
-/// Looks at each branch. `Target` tells the place of the first that goes to no unit's address.
+/// Checks each branch. `Target` gives the place of the first that goes to no unit's address.
 pub(crate) fn check_branches(
     base: u64,
     index: &UnitIndex,

@@ -13,14 +13,14 @@ use crate::unit::UnitTable;
 use crate::unit_reader::{NoUnit, RawUnit, read_unit};
 use std::alloc::Global;
 
-/// A sled as the code alone tells it.
+/// A sled as the code shows it.
 #[derive(Clone, Copy)]
 pub(crate) struct SledSpot {
     /// The address of its first byte.
     pub(crate) address: u64,
     /// The displacement of its nop.
     pub(crate) shift: u32,
-    /// Whether it begins with a return, as exit sleds do.
+    /// Whether it begins with a return, as an exit sled does.
     pub(crate) returns: bool,
 }
 
@@ -44,7 +44,7 @@ impl NoUnit {
 }
 
 impl CodeUnits {
-    /// Adds the sled that stands at an address, where the unit there is one.
+    /// Adds the sled at an address, if the unit there is a sled.
     fn add_sled(&mut self, address: u64, raw: RawUnit) -> Result<(), ImageFault>
         ensures sleds { OnOk result (places_in self.new ≡ places_in self.old
             ++ places_from address (piece_of raw ∷ [])) }
@@ -64,7 +64,7 @@ impl CodeUnits {
         Ok(())
     }
 
-    /// Adds the unit of a width that stands at an address, behind the others.
+    /// Adds a unit at an address, with its width in bytes, after the others.
     fn add(&mut self, address: u64, raw: RawUnit, width: u32) -> Result<(), ImageFault>
         requires sound { IsSoundTable self.old.units }
         requires width { width ≤ LARGEST_STEP }
@@ -90,7 +90,7 @@ impl CodeUnits {
         Ok(())
     }
 
-    /// Adds the unit that stands at a place of the code, and gives the place behind it.
+    /// Adds the unit at a place of the code, and answers the place after it.
     fn add_next(&mut self, base: u64, code: &[u8], at: usize) -> Result<usize, ImageFault>
         requires base { base < 2 ^ 63 }
         requires code { length code.now < 2 ^ 32 }
@@ -115,8 +115,8 @@ impl CodeUnits {
         }
     }
 
-    /// The units of the code whose first byte has the address `base`, or why none stands at the first
-    /// place where none does.
+    /// The units of the code whose first byte has the address `base`. If they don't cover the code,
+    /// the answer is the fault at the first place where no unit stands.
     pub(crate) fn read(alloc: Global, base: u64, code: &[u8]) -> Result<CodeUnits, ImageFault>
         requires base { base < 2 ^ 63 }
         requires code { length code.now < 2 ^ 32 }

@@ -11,13 +11,13 @@ use crate::image::Image;
 use crate::sled::{Sled, SledKind};
 use xray_io::{Piece, Sink, Text, WriteFault};
 
-/// How many hexadecimal digits an address is printed in.
+/// How many hexadecimal digits an address is printed with.
 const ADDRESS_DIGITS: usize = 16;
 
-/// Writes the sled map of an image as `llvm-xray extract` does, as a YAML document with a line for
-/// each sled in the order of the map. Takes no memory.
+/// Writes the sled map of an image as `llvm-xray extract` does: a YAML document with a line for
+/// each sled, in the order of the map.
 ///
-/// On `WriteFault` a front of the text was written, and the sink counted a fault.
+/// On `WriteFault` a prefix of the text was written, and the sink counted a fault.
 pub fn write_extract<S: Sink>(image: &Image, sink: &mut S) -> Result<(), WriteFault>
     ensures { WritesText S.written S.faults S.along sink.old sink.new
         (extract_text image.now) result }
@@ -80,7 +80,7 @@ fn name_bytes(image: &Image, id: u32) -> &[u8]
     }
 }
 
-/// How a kind of sleds is printed.
+/// The word for a kind of sleds.
 fn kind_bytes(kind: SledKind) -> &'static [u8]
     ensures { result.now ≡ kind_text kind }
 {
@@ -91,7 +91,7 @@ fn kind_bytes(kind: SledKind) -> &'static [u8]
     }
 }
 
-/// How a yes or no is printed.
+/// The word for a yes or no.
 fn truth_bytes(holds: bool) -> &'static [u8]
     ensures { result.now ≡ truth_text holds }
 {

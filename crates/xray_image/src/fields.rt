@@ -1,4 +1,4 @@
-//! Fields of the container, the lowest byte first.
+//! Fields of the container, lowest byte first.
 
 ghost use Rattle.std.specs.Prelude.{◌≡◌, ◌≤◌, ◌+◌, length};
 ghost use Rattle.xray_image.specs.Container.{number4_at, number8_at};

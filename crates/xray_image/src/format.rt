@@ -1,6 +1,6 @@
-//! The format of image files, as far as those who read it and those who write it have to agree: what
-//! begins a file, how much may stand in it, and the bytes of its sleds. The sleds are those that LLVM's
-//! compiler leaves and compiler-rt patches (`xray_x86_64.cpp`).
+//! What the readers and the writers of image files share: the bytes that begin a file, the limits,
+//! and the bytes of sleds. The sleds are those that LLVM's compiler leaves and compiler-rt patches
+//! (`xray_x86_64.cpp`).
 
 ghost use Rattle.std.specs.Prelude.{◌≡◌};
 ghost use Rattle.xray_image.specs.Program.{is_name_byte};
@@ -13,7 +13,7 @@ pub const MAGIC: [u8; 4] = [0x58, 0x52, 0x49, 0x4D];
 /// The version of the container.
 pub const VERSION: u32 = 1;
 
-/// How long the header is in bytes. The code stands behind it.
+/// The length of the header in bytes. The code follows it.
 pub const HEADER_LENGTH: usize = 64;
 
 /// The longest code in bytes.
@@ -22,33 +22,33 @@ pub const CODE_LIMIT: u32 = 1_048_576;
 /// The most functions.
 pub const FUNCTION_LIMIT: u32 = 1024;
 
-/// The most sleds, and entries of the sled map: each sled has one.
+/// The most sleds. Each sled has one entry of the sled map.
 pub const SLED_LIMIT: u32 = 4096;
 
-/// The base address is a multiple of this, so that sleds at even places have even addresses.
+/// The base address is a multiple of this. So sleds at even places have even addresses.
 pub const BASE_ALIGNMENT: u64 = 16;
 
-/// The highest base address. All code then lies in the lower half of the address space.
+/// The highest base address. It keeps all code in the lower half of the address space.
 pub const BASE_LIMIT: u64 = 0x7FFF_0000_0000;
 
-/// The longest name of a function in bytes: a function entry has its length in one byte.
+/// The longest name of a function in bytes. A function entry keeps the length in one byte.
 pub const NAME_LIMIT: usize = 255;
 
-/// How long a sled is in bytes: two of its head, and a nop of nine.
+/// The length of a sled in bytes: a head of two, and a nop of nine.
 pub const SLED_LENGTH: usize = 11;
 
 /// The head of an entry or tail sled: a short jump over the sled's other nine bytes (`Jmp9Seq` of
 /// `xray_x86_64.cpp`).
 pub const JUMP_HEAD: [u8; 2] = [0xEB, 0x09];
 
-/// The head of an exit sled: a return, and the byte that tells it from a return of its own.
+/// The head of an exit sled: a return, and a byte that sets it apart from a plain return.
 pub const RETURN_HEAD: [u8; 2] = [RET, 0x2E];
 
-/// The nop that fills a sled, up to its displacement of four bytes: `nopw disp32(rax, rax)` (Intel SDM,
-/// volume 2, `NOP`).
+/// The nop that fills a sled, up to its displacement of four bytes: `nopw disp32(rax, rax)` (Intel
+/// SDM, volume 2, `NOP`).
 pub const NOP: [u8; 5] = [0x66, 0x0F, 0x1F, 0x84, 0x00];
 
-/// The byte that stands before a sled whose place would be odd: `nop`.
+/// The byte before a sled that would otherwise be at an odd place: `nop`.
 pub const ALIGNMENT: u8 = 0x90;
 
 /// Whether a byte may stand in a name: a letter, a digit, or one of `_`, `.` and `$`.

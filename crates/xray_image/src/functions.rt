@@ -1,4 +1,4 @@
-//! The functions of a file against the units of its code.
+//! Checks of a file's functions against the units of its code.
 
 ghost use Rattle.std.specs.Prelude.{◌≡◌, ◌<◌, ◌^◌, ◌↔◌, ◌⊎◌, ℕ, List, length, map, not, Contains, ◌||◌, IsTrue, OnOk, IfOk, IfErr};
 ghost use Rattle.std.specs.Str.{bytes_eq};
@@ -24,8 +24,8 @@ fn is_name(name: &[u8]) -> bool
     !name.is_empty() && name.iter().all(|&byte| is_name_byte(byte))
 }
 
-/// Whether a function that begins at `start` stands above one that begins at `last`, or at the base
-/// where it is the first.
+/// Whether a function may begin at `start` after one that begins at `last`: above it, or at the
+/// base if there is none before.
 fn is_above(base: u64, last: Option<u64>, start: u64) -> bool
     ensures { IsTrue result ↔ IsAbove base last start }
 {
@@ -42,7 +42,7 @@ fn is_unit(index: &UnitIndex, address: u64) -> bool
     index.find(address).is_some()
 }
 
-/// Whether a function may stand behind one that begins at `last`, whatever the names before it are.
+/// Whether a function may come after one that begins at `last`. Earlier names aren't looked at.
 fn may_stand(base: u64, index: &UnitIndex, last: Option<u64>, function: &FunctionEntry<'_>) -> bool
     ensures { (all : List ℕ) → IsIndexOf all index.now
         → IsTrue result ↔ StandsBehind base all last (function_of function.now) }
@@ -50,7 +50,7 @@ fn may_stand(base: u64, index: &UnitIndex, last: Option<u64>, function: &Functio
     is_above(base, last, function.start) && is_unit(index, function.start) && is_name(function.name)
 }
 
-/// Adds a name to those of the functions before. Whether it is none of them.
+/// Adds a name to those of the earlier functions. Answers whether it is none of them.
 fn add_name<'a>(names: &mut BTreeSet<&'a [u8]>, name: &'a [u8]) -> Result<bool, ImageFault>
     ensures own { IfOk result (λ own. own ≡ not (is_among (map (λ k. k.now) names.old.keys) name.now)) }
     ensures names { OnOk result ((other : List ℕ) → is_among (map (λ k. k.now) names.new.keys) other
@@ -60,8 +60,8 @@ fn add_name<'a>(names: &mut BTreeSet<&'a [u8]>, name: &'a [u8]) -> Result<bool, 
     Ok(names.insert(name)?)
 }
 
-/// Looks at each function: whether it begins at a unit and in order, and has a name of its own.
-/// `Names` tells the first that doesn't.
+/// Checks each function: that it begins at a unit and in order, and that its name is its own.
+/// `Names` gives the first that fails.
 pub(crate) fn check_functions(
     alloc: Global,
     base: u64,

@@ -22,7 +22,7 @@ impl Trampolines {
     ghost use Rattle.xray_image.specs.Program.{trampoline_of};
     ghost use Rattle.xray_image.specs.Views.{trampolines_of};
 
-    /// The trampoline of a kind of sleds.
+    /// The trampoline for a kind of sleds.
     pub(crate) fn of(&self, kind: SledKind) -> u64
         ensures { result ≡ trampoline_of (trampolines_of self.now) kind }
     {
@@ -51,7 +51,7 @@ impl Header {
     ghost use Rattle.xray_image.specs.Table.{ReadsAs};
     ghost use Rattle.xray_image.specs.Views.{IsHeaderOf};
 
-    /// The header that a file begins with, or the first fault of its fields in the order of the checks.
+    /// The header of a file, or the first fault of its fields, in the order of the checks.
     pub(crate) fn read(bytes: &[u8]) -> Result<Header, ImageFault>
         ensures accepted { OnOk result (HasHeader bytes.now) }
         ensures fields { IfOk result (IsHeaderOf bytes.now) }
@@ -85,7 +85,7 @@ impl Header {
         Ok(header)
     }
 
-    /// The fields, each at its place.
+    /// The fields of the header, read from their places.
     fn fields(bytes: &[u8]) -> Header
         requires { HEADER_LENGTH ≤ length bytes.now }
         ensures { IsHeaderOf bytes.now result }

@@ -9,7 +9,7 @@ ghost use Rattle.xray_image.specs.Views.{entry_of};
 use crate::parts::{FunctionEntry, MapLine};
 use std::alloc::{AllocError, Global};
 
-/// The number of the function that begins at an address, among functions in ascending address.
+/// The number of the function that begins at an address. The functions ascend by address.
 fn number_of(functions: &[FunctionEntry<'_>], start: u64) -> u32
     requires ascend { IsStrictlyIncreasing (map (λ f. f.start) functions.now) }
     requires known { Contains (map (λ f. f.start) functions.now) start }
@@ -24,13 +24,13 @@ fn number_of(functions: &[FunctionEntry<'_>], start: u64) -> u32
 pub(crate) struct FunctionIds {
     /// The id of each entry's function, in the order of the map.
     pub(crate) of_entries: Vec<u32>,
-    /// The number of the function of each id, from id 1 on.
+    /// For each id, from 1 on, the number of its function.
     pub(crate) functions: Vec<u32>,
 }
 
 impl FunctionIds {
-    /// The id of the next entry's function. A function other than that of the entry before gets a new
-    /// one.
+    /// The id of the next entry's function. If it isn't the function of the entry before, it gets a
+    /// new id.
     fn next_id(
         &mut self,
         functions: &[FunctionEntry<'_>],
@@ -58,8 +58,8 @@ impl FunctionIds {
         Ok(self.functions.len() as u32)
     }
 
-    /// The ids that a map's entries give, where each entry's function is one of the functions, and
-    /// they follow each other in the map as they do in the file.
+    /// The ids that a map's entries give. Each entry's function is one of the functions, and the
+    /// map has them in the order of the file.
     pub(crate) fn new(
         alloc: Global,
         functions: &[FunctionEntry<'_>],

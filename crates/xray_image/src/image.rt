@@ -1,4 +1,4 @@
-//! An image that was read, and what it tells.
+//! An image that was read, and what it says.
 
 ghost use Rattle.std.specs.Prelude.{◌≡◌, ◌<◌, ◌≤◌, ◌↔◌, List, ℕ, length, true, Some, slice_get, All, Contains, MatchOption, IsSome, IfOk};
 ghost use Rattle.std.specs.List.Sorted.{IsNonDecreasingBy};
@@ -25,7 +25,7 @@ pub(crate) struct Function {
 }
 
 impl Function {
-    /// The function that begins at an address, with its name as text.
+    /// The function that begins at an address, with this name.
     pub(crate) fn new(alloc: Global, start: u64, name: &[u8]) -> Result<Function, AllocError>
         requires { All (λ b. is_name_byte b ≡ true) name.now }
         ensures { IfOk result (λ f. named_function f ≡ record { start = start; name = name.now }) }
@@ -35,8 +35,8 @@ impl Function {
     }
 }
 
-/// A program with sleds, as an accepted image file tells it: its units, the sleds among them, and
-/// the addresses of the handlers' trampolines. Addresses are absolute, in bytes.
+/// A program with sleds, as an accepted image file says: its units, the sleds among them, and the
+/// addresses of the handlers' trampolines. Addresses are absolute, in bytes.
 #[derive(Debug, Drop)]
 pub struct Image {
     base: u64,
@@ -46,7 +46,7 @@ pub struct Image {
     sleds: Vec<Sled>,
     trampolines: Trampolines,
     index: UnitIndex,
-    /// The number of the function of each id, from id 1 on.
+    /// For each id, from 1 on, the number of its function.
     ids: Vec<u32>,
 }
 
@@ -83,7 +83,7 @@ impl Image {
         self.entry
     }
 
-    /// The bytes of the code as the file has them, the sleds unpatched.
+    /// The bytes of the code as in the file, with its sleds unpatched.
     pub fn code(&self) -> &[u8]
         ensures { result.now ≡ self.now.code }
     {
@@ -105,7 +105,7 @@ impl Image {
         self.units.len() as u32
     }
 
-    /// The unit of a number, counted from 0 in ascending address.
+    /// The unit of this number, counted from 0 in ascending address.
     pub fn unit(&self, i: u32) -> Unit
         requires { i < length self.now.units }
         ensures { slice_get self.now.units i ≡ Some result }
@@ -113,7 +113,8 @@ impl Image {
         self.units.get(i as usize)
     }
 
-    /// The number of the unit that begins at an address. None exactly where none begins there.
+    /// The number of the unit that begins at an address. The answer is `None` exactly when none
+    /// begins there.
     pub fn unit_at(&self, address: u64) -> Option<u32>
         ensures { MatchOption result (Contains (addresses self.now.units) address → ⊥)
             (λ i. slice_get (addresses self.now.units) i ≡ Some address) }
@@ -125,14 +126,14 @@ impl Image {
     pub fn sled_count(&self) -> u32
         ensures count { result ≡ length self.now.sleds }
         ensures few { result ≤ SLED_LIMIT }
-        // The sleds of a function stand side by side.
+        // The sleds of a function are next to each other.
         ensures in_order { IsNonDecreasingBy (λ s. s.id) self.now.sleds }
         ensures stand { SledsStand self.now.units self.now.sleds }
     {
         self.sleds.len() as u32
     }
 
-    /// The sled of a number, counted from 0 in ascending address.
+    /// The sled of this number, counted from 0 in ascending address.
     pub fn sled(&self, k: u32) -> Sled
         requires { k < length self.now.sleds }
         ensures { slice_get self.now.sleds k ≡ Some result }
@@ -140,16 +141,16 @@ impl Image {
         self.sleds[k as usize]
     }
 
-    /// How many function ids there are. Ids count from 1 over the functions that have a sled, in the
-    /// order of the sled map, as XRay's do.
+    /// How many function ids there are. As in XRay, ids count from 1 over the functions that have a
+    /// sled, in the order of the sled map.
     pub fn id_count(&self) -> u32
         ensures { result ≡ id_count self.now }
     {
         self.ids.len() as u32
     }
 
-    /// The name of the function with an id. None exactly for 0 and for numbers above the count of
-    /// ids.
+    /// The name of the function with an id. The answer is `None` exactly for 0 and for numbers
+    /// above the count of ids.
     pub fn name_of(&self, id: u32) -> Option<&str>
         ensures name { option_map (λ name. name.now) result ≡ name_of self.now id }
         ensures some { IsSome result ↔ (0 < id) × (id ≤ id_count self.now) }
@@ -161,7 +162,7 @@ impl Image {
         Some(self.functions[number as usize].name.as_str())
     }
 
-    /// The address of the trampoline that patched sleds of a kind call.
+    /// The address of the trampoline that patched sleds of this kind call.
     pub fn trampoline(&self, kind: SledKind) -> u64
         ensures { result ≡ trampoline_of self.now.trampolines kind }
     {

@@ -1,4 +1,4 @@
-//! What follows for the definitions. Each law is the contract of a function that does nothing.
+//! Laws of the definitions. Each law is the contract of a function that does nothing.
 
 ghost use Rattle.std.specs.Prelude.{◌≡◌, ◌<◌, ◌↔◌, List, ℕ, All, Ok};
 ghost use Rattle.xray_image.specs.Units.{Piece, IsUnits};
@@ -21,8 +21,8 @@ pub fn one_reading()
     one_instruction();
 }
 
-/// The table of refusals decides each file one way at the most, and accepts exactly the accepted files:
-/// those to which no line of it applies.
+/// The table of refusals decides each file in at most one way. It accepts exactly the accepted
+/// files, to which none of its rows applies.
 pub fn one_verdict()
     ensures one { (bytes : List ℕ) (v w : Verdict) → ReadsAs bytes v → ReadsAs bytes w → v ≡ w }
     ensures accepted { (bytes : List ℕ) (program : Program)
@@ -32,8 +32,8 @@ pub fn one_verdict()
     one_answer();
 }
 
-/// The table of refusals decides each file, whatever its bytes are: it reads as a program, or it is
-/// refused for the first line that applies to it. With `one_verdict`, exactly one way.
+/// The table of refusals decides each file, whatever its bytes are. It reads as a program, or it is
+/// refused by the first row that applies. With `one_verdict`, there is exactly one way.
 pub fn some_verdict()
     ensures { (bytes : List ℕ) → All (λ b. b < 256) bytes → (verdict : Verdict) × ReadsAs bytes verdict }
 {

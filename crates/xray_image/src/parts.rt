@@ -1,4 +1,4 @@
-//! What stands behind the header: the code, the functions and the sled map.
+//! The parts after the header: the code, the functions and the sled map.
 
 ghost use Rattle.std.specs.Prelude.{◌≡◌, ◌≤◌, ◌⊎◌, length, map, Some, None, Err, IfOk, IfErr};
 ghost use Rattle.std.specs.Option.{option_map};
@@ -12,22 +12,22 @@ use crate::format::HEADER_LENGTH;
 use crate::header::Header;
 use std::alloc::Global;
 
-/// How long a function entry is before its name: the start address and the name's length.
+/// The bytes of a function entry before its name: the start address and the name's length.
 const FUNCTION_FRONT: usize = 9;
 
-/// Where the name's length stands in a function entry.
+/// The place of the name's length in a function entry.
 const NAME_LENGTH_AT: usize = 8;
 
-/// How long an entry of the sled map is. The bytes behind its version are padding.
+/// The length of an entry of the sled map. The bytes after its version are padding.
 const MAP_ENTRY_LENGTH: usize = 32;
 
-/// Where the sled's kind stands in a map entry.
+/// The place of the sled's kind in a map entry.
 const KIND_AT: usize = 16;
 
-/// Where a map entry tells that its function is always instrumented.
+/// The place in a map entry of the flag that says that its function is always instrumented.
 const ALWAYS_AT: usize = 17;
 
-/// Where a map entry has its version.
+/// The place of the version in a map entry.
 const VERSION_AT: usize = 18;
 
 /// A function of the file.
@@ -38,7 +38,7 @@ pub(crate) struct FunctionEntry<'a> {
 }
 
 impl<'a> FunctionEntry<'a> {
-    /// The function entry that the bytes begin with, and the bytes behind it.
+    /// The function entry that the bytes begin with, and the bytes after it.
     fn read(bytes: &'a [u8]) -> Option<(FunctionEntry<'a>, &'a [u8])>
         ensures { option_map (λ x. (function_of x.0, x.1.now)) result ≡ function_at bytes.now }
     {
@@ -56,7 +56,7 @@ impl<'a> FunctionEntry<'a> {
     }
 }
 
-/// An entry of the sled map as it stands in the file.
+/// An entry of the sled map, as the file has it.
 #[derive(Clone, Copy)]
 pub(crate) struct MapLine {
     pub(crate) sled: u64,
@@ -67,7 +67,7 @@ pub(crate) struct MapLine {
 }
 
 impl MapLine {
-    /// The map entry that the bytes begin with, and the bytes behind it.
+    /// The map entry that the bytes begin with, and the bytes after it.
     fn read(bytes: &[u8]) -> Option<(MapLine, &[u8])>
         ensures { option_map (λ x. (entry_of x.0, x.1.now)) result ≡ map_entry_at bytes.now }
     {
@@ -86,7 +86,7 @@ impl MapLine {
     }
 }
 
-/// The parts of a file behind its header.
+/// The parts of a file after its header.
 #[derive(Drop)]
 pub(crate) struct FileParts<'a> {
     pub(crate) code: &'a [u8],
@@ -94,8 +94,8 @@ pub(crate) struct FileParts<'a> {
     pub(crate) entries: Vec<MapLine>,
 }
 
-/// As many function entries as are counted, and the bytes behind them. Room is taken as they are
-/// read, so that a count costs nothing that the bytes don't bear out.
+/// The function entries, as many as the header counts, and the bytes after them. Room is taken
+/// entry by entry and not by the count, which may be more than the file holds.
 fn read_functions<'a>(
     alloc: Global,
     count: u32,
@@ -118,7 +118,7 @@ fn read_functions<'a>(
     Ok((functions, rest))
 }
 
-/// The same of map entries.
+/// The same for map entries.
 fn read_entries(
     alloc: Global,
     count: u32,
@@ -142,7 +142,7 @@ fn read_entries(
 }
 
 impl<'a> FileParts<'a> {
-    /// The parts that the header counts. `Short` where the file ends before them, `Trailing` where
+    /// The parts that the header counts. `Short` if the file ends before them, and `Trailing` if
     /// bytes follow them.
     pub(crate) fn read(
         alloc: Global,

@@ -1,4 +1,4 @@
-//! The words in which a line on err says why a file is no image.
+//! The words that a line on err gives for a file that isn't an image.
 
 ghost use Rattle.std.specs.Prelude.{◌≡◌, ◌++◌, codes, decimal};
 ghost use Rattle.xray_io.specs.Piece.{piece_text};
@@ -34,7 +34,7 @@ impl Fault for ImageFault {
     }
 }
 
-/// The words for a field of the header that is beyond its limits.
+/// The words for a field of the header that is out of range.
 fn limit(which: Which) -> Words<'static>
     ensures { words_text result ≡ codes "Limit " ++ field_words which }
 {
@@ -54,7 +54,7 @@ fn field_name(which: Which) -> &'static [u8]
     }
 }
 
-/// The words for a place of the code at which no instruction stands.
+/// The words for a place of the code where no instruction stands.
 fn code(place: u32, fault: DecodeFault) -> Words<'static>
     ensures { words_text result ≡ codes "Code " ++ decimal place ++ codes " " ++ decode_words fault }
 {
@@ -67,7 +67,7 @@ fn code(place: u32, fault: DecodeFault) -> Words<'static>
     }
 }
 
-/// The pieces for why bytes are no instruction, with a blank before them.
+/// The pieces that say why bytes are no instruction, with a blank before them.
 fn decode_pieces(fault: DecodeFault) -> (Piece<'static>, Piece<'static>)
     ensures { piece_text result.0 ++ piece_text result.1 ≡ codes " " ++ decode_words fault }
 {

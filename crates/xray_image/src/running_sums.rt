@@ -8,24 +8,24 @@ use std::alloc::{AllocError, Global};
 /// How many sums a block has.
 const BLOCK: usize = 16;
 
-/// The largest number that may be added. With it the last sum of a block is fifteen additions above the
-/// first, 255 at most, so that how far any sum is above the first of its block fits a byte.
+/// The largest number that may be added. The last sum of a block is fifteen additions above the
+/// first, at most 255. So the distance of any sum from the first of its block fits a byte.
 pub(crate) const LARGEST_STEP: u32 = u8::MAX as u32 / (BLOCK as u32 - 1);
 
-/// The sum of the numbers before each of some numbers, in a byte and a quarter: it is the sum at which
-/// its block begins, and what is added since.
+/// For each of some numbers, the sum of the numbers before it. It is stored in a byte and a
+/// quarter: the sum at which its block begins, and the distance from that.
 #[derive(Debug, Drop)]
 pub(crate) struct RunningSums {
-    /// For each block its first sum.
+    /// For each block, its first sum.
     firsts: Vec<u32>,
-    /// For each number how far its sum is above the first of its block.
+    /// For each number, how far its sum is above the first of its block.
     steps: Vec<u8>,
     /// The sum of all numbers.
     total: u32,
 }
 
 impl RunningSums {
-    /// No numbers, with room for so many, so that adding them takes no memory.
+    /// No numbers yet. Asks for the room of `room` numbers.
     pub(crate) fn with_room(alloc: Global, room: usize) -> Result<RunningSums, AllocError>
         ensures sums { IfOk result (λ sums. sums_in sums ≡ []) }
         ensures total { IfOk result (λ sums. sums.total ≡ 0) }
@@ -38,7 +38,7 @@ impl RunningSums {
         })
     }
 
-    /// Begins the block of the next sum, where it is the first.
+    /// Begins a block, if the next sum is the first of one.
     fn begin_block(&mut self) -> Result<(), AllocError>
         requires { IsSound self.old }
         ensures begun { OnOk result (HasBegunBlock self.old.firsts.items self.new.firsts.items
@@ -52,7 +52,7 @@ impl RunningSums {
         Ok(())
     }
 
-    /// Adds a number behind the others.
+    /// Adds a number after the others.
     pub(crate) fn push(&mut self, number: u32) -> Result<(), AllocError>
         requires sound { IsSound self.old }
         requires small { number ≤ LARGEST_STEP }
@@ -75,7 +75,7 @@ impl RunningSums {
         self.steps.len()
     }
 
-    /// The sum of the numbers before one.
+    /// The sum of the numbers before the one with this number, counted from 0.
     pub(crate) fn get(&self, number: usize) -> u32
         requires exists { number < length (sums_in self.now) }
         requires sound { IsSound self.now }

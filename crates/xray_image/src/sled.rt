@@ -2,12 +2,12 @@
 
 ghost use Rattle.std.specs.Prelude.{◌≡◌, ◌≤◌, MatchOption};
 
-/// What a sled stands before or in the place of, as the sled map says it.
+/// The kind of a sled, as the sled map says it.
 #[derive(Clone, Copy, Debug, PartialEq, Eq)]
 pub enum SledKind {
     /// At a function's entry. Map kind 0.
     Entry,
-    /// In the place of a `ret`. Map kind 1.
+    /// In place of a `ret`. Map kind 1.
     Exit,
     /// Before a tail jump. Map kind 2.
     Tail,
@@ -17,7 +17,7 @@ impl SledKind {
     ghost use Rattle.xray_image.specs.Kinds.{kind_number};
     ghost use Rattle.xray_image.specs.Program.{kind_of};
 
-    /// The number of the kind in an entry of the sled map, which is that of compiler-rt's `XRayEntryType`.
+    /// The number of the kind in an entry of the sled map: that of compiler-rt's `XRayEntryType`.
     pub fn number(self) -> u8
         ensures { result ≡ kind_number self }
     {
@@ -28,7 +28,7 @@ impl SledKind {
         }
     }
 
-    /// The kind of this number. None exactly for numbers above 2.
+    /// The kind of this number. The answer is `None` exactly for numbers above 2.
     pub fn from_number(number: u8) -> Option<SledKind>
         ensures { MatchOption result (3 ≤ number)
             (λ kind. (number ≡ kind_number kind) × (kind ≡ kind_of number)) }

@@ -1,4 +1,4 @@
-//! The entries of the sled map against the sleds of the code.
+//! Checks of the sled map's entries against the sleds of the code.
 
 ghost use Rattle.std.specs.Prelude.{◌≡◌, ◌<◌, ◌≤◌, ◌^◌, ◌↔◌, ◌-ℤ◌, ◌+◌, ℕ, pos, length, map, IsTrue, OnOk, IfOk, IfErr, FitsSigned};
 ghost use Rattle.std.specs.List.{zip};
@@ -17,11 +17,11 @@ use crate::parts::{FunctionEntry, MapLine};
 use crate::sled::{Sled, SledKind};
 use std::alloc::{AllocError, Global};
 
-/// The versions of map entries that are known are those below this.
+/// Map entries with versions below this are known.
 const VERSIONS: u8 = 2;
 
-/// Looks whether the entries of the map stand in the order of the sleds, one for each. `MapOrder` tells
-/// the first number whose entry and sled don't both exist with one address.
+/// Checks that the map has one entry for each sled, in the order of the sleds. `MapOrder` gives the
+/// first number whose entry and sled don't share one address.
 pub(crate) fn check_order(spots: &[SledSpot], lines: &[MapLine]) -> Result<(), ImageFault>
     requires spots { length spots.now < 2 ^ 32 }
     requires lines { length lines.now < 2 ^ 32 }
@@ -54,7 +54,7 @@ fn lies_in(functions: &[FunctionEntry<'_>], address: u64, start: u64) -> bool
     count > 0 && functions[count - 1].start == start
 }
 
-/// Whether a sled that begins with a return, or doesn't, may have a kind of the map.
+/// Whether a sled may have a kind of the map. Exit sleds begin with a return, and others don't.
 fn may_have_kind(returns: bool, kind: u8) -> bool
     ensures { IsTrue result ↔ KindFits returns kind }
 {
@@ -65,7 +65,7 @@ fn may_have_kind(returns: bool, kind: u8) -> bool
     }
 }
 
-/// Whether an entry says of a sled what the code says.
+/// Whether an entry agrees with the code about a sled.
 fn is_entry_of(functions: &[FunctionEntry<'_>], spot: &SledSpot, line: &MapLine) -> bool
     requires { Ascend (map function_of functions.now) }
     ensures { IsTrue result
@@ -76,8 +76,8 @@ fn is_entry_of(functions: &[FunctionEntry<'_>], spot: &SledSpot, line: &MapLine)
         && line.version < VERSIONS
 }
 
-/// Looks at what each entry says of its sled: the function that the sled lies in, a kind that fits how
-/// the sled begins, and a known version. `Odd` tells the first that doesn't.
+/// Checks what each entry says of its sled: the function that the sled lies in, a kind that fits
+/// how the sled begins, and a known version. `Odd` gives the first that fails.
 pub(crate) fn check_entries(
     functions: &[FunctionEntry<'_>],
     spots: &[SledSpot],
@@ -99,15 +99,15 @@ pub(crate) fn check_entries(
     Ok(())
 }
 
-/// The kind of a sled by its number in the map, where that is known.
+/// The kind of a sled by its number in the map, which is known.
 fn kind_of(kind: u8) -> SledKind
     ensures { result ≡ kind_of kind }
 {
     SledKind::from_number(kind).unwrap_or(SledKind::Tail)
 }
 
-/// Whether a sled's call or jump reaches a trampoline: the displacement is a whole number that
-/// counts from the sled's end and has to fit 32 bits.
+/// Whether a sled's call or jump reaches a trampoline. The displacement counts from the sled's end,
+/// as a whole number that has to fit 32 bits.
 fn reaches(sled: u64, trampoline: u64) -> bool
     ensures { IsTrue result ↔ FitsSigned w32 (pos trampoline -ℤ pos (sled + SLED_LENGTH)) }
 {
@@ -115,7 +115,7 @@ fn reaches(sled: u64, trampoline: u64) -> bool
     i32::try_from(i128::from(trampoline) - end).is_ok()
 }
 
-/// Looks whether each sled reaches the trampoline of its kind. `Far` tells the first entry whose sled
+/// Checks that each sled reaches the trampoline of its kind. `Far` gives the first entry whose sled
 /// doesn't.
 pub(crate) fn check_distances(
     trampolines: &Trampolines,
@@ -138,8 +138,7 @@ pub(crate) fn check_distances(
     Ok(())
 }
 
-/// The sleds of a code with what the map's entries of the same numbers say, and the ids of the entries'
-/// functions.
+/// The sleds of a code, with what the map's entries say of them, and the ids of their functions.
 pub(crate) fn read_sleds(
     alloc: Global,
     spots: &[SledSpot],

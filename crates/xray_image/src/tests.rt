@@ -1,4 +1,4 @@
-//! Image files: all that one tells, and why others are refused.
+//! Image files: what one says, and why others are refused.
 
 use crate::{
     ImageFault, Sled, SledKind, Unit, What, Which, one_reading, one_unit_list, one_verdict,
@@ -8,7 +8,7 @@ use std::alloc::{AllocError, Global};
 use std::test::Fail;
 use subset_decode::{DecodeFault, Instr, Reg};
 
-/// A function `main` that outputs an A: an entry sled, `mov eax, 0x41`, `out 1, al`, an exit sled.
+/// A function `main` that prints an A: an entry sled, `mov eax, 0x41`, `out 1, al`, an exit sled.
 pub(crate) const OUTPUTS_AN_A: [u8; 170] = [
     // magic, version, base 0x1000
     0x58, 0x52, 0x49, 0x4D, 1, 0, 0, 0, 0x00, 0x10, 0, 0, 0, 0, 0, 0,
@@ -28,7 +28,7 @@ pub(crate) const OUTPUTS_AN_A: [u8; 170] = [
     0, 0, 0, 0, 0, 0, 0, 0,
 ];
 
-/// Why the bytes are read as no image, if they aren't.
+/// Why the bytes are refused, if they are.
 fn fault_of(rt: &HostRuntime, bytes: &[u8]) -> Option<ImageFault> {
     read_image(rt.alloc(), bytes).err()
 }
@@ -89,11 +89,11 @@ fn an_image_tells_its_units_and_sleds(rt: HostRuntime) -> Result<(), Fail> {
     Ok(())
 }
 
-/// That image with some bytes changed, cut to a length or with a zero behind it, and why it is
+/// Changed bytes of that image, the length to which it is cut or extended by a zero, and why it is
 /// refused.
 type Damage = (&'static [(usize, u8)], usize, ImageFault);
 
-/// How long that image is.
+/// The length of that image.
 const WHOLE: usize = 170;
 
 /// The damaged file.
@@ -152,7 +152,7 @@ const DAMAGES: [Damage; 24] = [
     (&[(75, 0xE9)], WHOLE, ImageFault::Target(11)),
 ];
 
-/// Two rows each that stand next to each other. `Short` of the parts and `Trailing` never meet.
+/// Two adjacent rows each. The two rows `Short` (of the parts) and `Trailing` can't both apply.
 const TWICE_DAMAGED: [Damage; 15] = [
     (&[(0, 0x59)], 63, ImageFault::Short),
     (&[(0, 0x59), (4, 2)], WHOLE, ImageFault::Magic),
@@ -213,7 +213,7 @@ fn of_two_faults_the_first_of_the_table_is_told(rt: HostRuntime) -> Result<(), F
     Ok(())
 }
 
-/// Adds a number in some bytes, the lowest first.
+/// Adds a number in `length` bytes, lowest byte first.
 fn put(bytes: &mut Vec<u8>, number: u64, length: usize) -> Result<(), AllocError> {
     let mut rest = number;
     for _byte in 0..length {
@@ -223,8 +223,8 @@ fn put(bytes: &mut Vec<u8>, number: u64, length: usize) -> Result<(), AllocError
     Ok(())
 }
 
-/// The header of a code at 0x1000 with so many functions and map entries, and the code. The entry
-/// function is the first.
+/// The header of a code at 0x1000 with these counts of functions and map entries, and the code. The
+/// entry function is the first.
 fn front(
     alloc: Global,
     code: &[u8],
@@ -260,7 +260,7 @@ fn add_entry(bytes: &mut Vec<u8>, sled: u64, function: u64, kind: u8) -> Result<
     put(bytes, u64::from(kind), 16)
 }
 
-/// The file of a code at 0x1000 with functions by their starts and names, and with map entries by
+/// The file of a code at 0x1000, with functions by their starts and names, and with map entries by
 /// sled, function and kind.
 fn file(
     alloc: Global,
@@ -285,12 +285,12 @@ const CODES: [(&[u8], Option<ImageFault>); 14] = [
         &[0x41, 0xBA, 1, 0, 0, 0, 0xC3],
         Some(ImageFault::Code(0, DecodeFault::Register(10))),
     ),
-    // an instruction that the code's end cuts
+    // an instruction that is cut by the code's end
     (
         &[0x90, 0xB8, 0x41],
         Some(ImageFault::Code(1, DecodeFault::Short)),
     ),
-    // a return as the last byte, and the first bytes of sleds
+    // a return as the last byte, and the start of sleds
     (&[0xC3], None),
     (&[0xC3, 0x2E], Some(ImageFault::Sled(0))),
     (&[0xEB], Some(ImageFault::Sled(0))),
@@ -313,7 +313,7 @@ const CODES: [(&[u8], Option<ImageFault>); 14] = [
     (&[0xE9, 0xFB, 0xFF, 0xFF, 0xFF], None),
     (&[0xE9, 0xFC, 0xFF, 0xFF, 0xFF], Some(ImageFault::Target(0))),
     (&[0xE9, 0, 0, 0, 0x80], Some(ImageFault::Target(0))),
-    // conditional jumps to the unit behind, and past the code
+    // conditional jumps to the next unit, and past the code
     (&[0x0F, 0x85, 0, 0, 0, 0, 0x90], None),
     (
         &[0x90, 0x0F, 0x85, 1, 0, 0, 0, 0x90],
@@ -355,12 +355,12 @@ const FUNCTIONS: [(&[(u64, &str)], Option<ImageFault>); 8] = [
         &[(0x1000, "main"), (0x101C, "main")],
         Some(ImageFault::Names(1)),
     ),
-    // the name of an earlier function than the one before
+    // the name of an earlier function that isn't the one before
     (
         &[(0x1000, "f"), (0x1010, "g"), (0x101C, "f")],
         Some(ImageFault::Names(2)),
     ),
-    // at no unit, and not above the one before
+    // not at a unit, and not above the one before
     (
         &[(0x1000, "main"), (0x101D, "f")],
         Some(ImageFault::Names(1)),
@@ -398,18 +398,18 @@ fn functions_have_to_fit_the_units_and_the_map(rt: HostRuntime) -> Result<(), Fa
     Ok(())
 }
 
-/// The file of a code of alignment bytes with one function.
+/// The file of a code of alignment bytes, with one function.
 fn file_of_code(alloc: Global, length: usize) -> Result<Vec<u8>, AllocError> {
     let code = vec![in alloc; 0x90_u8; length]?;
     file(alloc, &code, &[(0x1000, "main")], &[])
 }
 
-/// The last digit of a number as text.
+/// The last digit of a number, as text.
 fn digit(number: usize) -> u8 {
     b'0' + (number % 10) as u8
 }
 
-/// The file of a code of alignment bytes with a function at each, named by its number in four
+/// The file of a code of alignment bytes, with a function at each. Its name is its number in four
 /// digits.
 fn file_of_functions(alloc: Global, count: usize) -> Result<Vec<u8>, AllocError> {
     let code = vec![in alloc; 0x90_u8; count]?;
@@ -441,7 +441,7 @@ fn file_of_sleds(alloc: Global, count: usize) -> Result<Vec<u8>, AllocError> {
     Ok(bytes)
 }
 
-/// The file of a code of two alignment bytes with two functions, whose names are as many letters.
+/// The file of a code of two alignment bytes, with two functions. Their names have these lengths.
 fn file_of_names(alloc: Global, first: usize, second: usize) -> Result<Vec<u8>, AllocError> {
     let mut bytes = front(alloc, &[0x90, 0x90], 2, 0)?;
     add_function(&mut bytes, 0x1000, &vec![in alloc; b'n'; first]?)?;

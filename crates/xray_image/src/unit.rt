@@ -20,31 +20,32 @@ pub enum What {
     Pad,
 }
 
-/// One step of the code: an instruction, a sled or an alignment byte, and where it begins.
+/// One step of the code, and the address where it begins: an instruction, a sled or an alignment
+/// byte.
 #[derive(Clone, Copy, Debug, PartialEq, Eq)]
 pub struct Unit {
     /// The address of its first byte.
     pub address: u64,
-    /// What stands there.
+    /// What it is.
     pub what: What,
 }
 
-/// The units of a code, in ascending address: the code itself, and where they begin. A unit is read
-/// from the code where it is asked for.
+/// The units of a code in ascending address, stored as the code and the places where they begin. A
+/// unit is decoded whenever it is asked for.
 #[derive(Debug, Drop)]
 pub(crate) struct UnitTable {
     /// The address of the code's first byte.
     base: u64,
     code: Vec<u8>,
-    /// The places of the units in the code: each the sum of the lengths before it.
+    /// The places of the units in the code. Each is the sum of the lengths before it.
     places: RunningSums,
-    /// How many sleds stand before each unit.
+    /// How many sleds come before each unit.
     sleds: RunningSums,
 }
 
 impl UnitTable {
-    /// A table without units, for a code whose first byte has the address `base`. It has room for all
-    /// units that so many bytes may be, so that adding them takes no memory.
+    /// A table without units, for a code whose first byte has the address `base`. It asks for the
+    /// room of all units that a code of this length may have.
     pub(crate) fn new(alloc: Global, base: u64, code: &[u8]) -> Result<UnitTable, AllocError>
         requires low { base < 2 ^ 63 }
         requires short { length code.now < 2 ^ 32 }
@@ -63,7 +64,7 @@ impl UnitTable {
         })
     }
 
-    /// Adds the unit that stands behind the others, by its width in bytes and how many sleds it is.
+    /// Adds a unit after the others, by its width in bytes and the number of sleds in it, 0 or 1.
     pub(crate) fn push(&mut self, width: u32, sleds: u32) -> Result<(), AllocError>
         requires sound { IsSoundTable self.old }
         requires width { width ≤ LARGEST_STEP }
@@ -98,7 +99,7 @@ impl UnitTable {
         self.places.len()
     }
 
-    /// The address of the unit of a number, from 0.
+    /// The address of the unit of this number, from 0.
     pub(crate) fn address(&self, number: usize) -> u64
         requires exists { number < length (units_in self.now) }
         requires sound { IsSoundTable self.now }
@@ -107,7 +108,7 @@ impl UnitTable {
         self.base + u64::from(self.places.get(number))
     }
 
-    /// The unit of a number, from 0.
+    /// The unit of this number, from 0.
     pub(crate) fn get(&self, number: usize) -> Unit
         requires exists { number < length (units_in self.now) }
         requires sound { IsSoundTable self.now }

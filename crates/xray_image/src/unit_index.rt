@@ -9,27 +9,28 @@ ghost use Rattle.xray_image.specs.UnitTable.{units_in, IsSoundTable};
 use crate::unit::UnitTable;
 use std::alloc::{AllocError, Global};
 
-/// How many bytes of the code a block has.
+/// How many bytes of the code make a block.
 const BLOCK: usize = 128;
 
-/// Stands at the bytes of the code at which no unit begins.
+/// The mark of a byte of the code at which no unit begins.
 const NO_UNIT: u8 = u8::MAX;
 
-/// The units of a code by their addresses, in about one byte for each byte of the code: a unit's number
-/// is that of the first unit of its block, and the unit's number within the block.
+/// The units of a code by their addresses, in about one byte for each byte of the code. The number
+/// of a unit is that of the first unit of its block, plus its number within the block.
 #[derive(Debug, Drop)]
 pub(crate) struct UnitIndex {
     /// The address of the code's first byte.
     base: u64,
-    /// For each block of the code, up to that of the last unit, how many units begin before it.
+    /// For each block of the code, how many units begin before it. The last block is that of the
+    /// last unit.
     firsts: Vec<u32>,
-    /// For each byte of the code the number within its block of the unit that begins there, from 0, or
-    /// `NO_UNIT`.
+    /// For each byte of the code, the number within its block of the unit that begins there, from
+    /// 0, or `NO_UNIT`.
     steps: Vec<u8>,
 }
 
 impl UnitIndex {
-    /// Begins the blocks up to one that aren't begun. The next unit is their first.
+    /// Begins all blocks up to this one that aren't begun. The next unit is their first.
     fn begin_blocks(&mut self, block: usize, number: u32) -> Result<(), AllocError>
         ensures begun { OnOk result
             (HasBegun self.old.firsts.items self.new.firsts.items block number) }
@@ -43,7 +44,7 @@ impl UnitIndex {
         Ok(())
     }
 
-    /// Adds a unit behind the others, by its place in the code.
+    /// Adds a unit after the others, by its place in the code.
     fn add(&mut self, place: usize, number: u32) -> Result<(), AllocError>
         requires within { place < length self.old.steps.items }
         requires above { (b : ℕ) → b < length self.old.firsts.items
@@ -63,7 +64,7 @@ impl UnitIndex {
         Ok(())
     }
 
-    /// The index of units that lie in ascending address within a code of a length.
+    /// The index of units in ascending address, within a code of this length.
     pub(crate) fn new(
         alloc: Global,
         base: u64,

@@ -1,4 +1,4 @@
-//! The units of a code, read from its first byte to its last.
+//! The units of a code, read from the first byte to the last.
 
 ghost use Rattle.std.specs.Prelude.{◌≡◌, ◌<◌, ◌^◌, ◌↔◌, ℕ, List, ◌++◌, length, drop, MatchOption, IfSome, IsSome, IsTrue, IfOk, IfErr, OnErr};
 ghost use Rattle.subset_decode.specs.Encoding.{Begins};
@@ -12,13 +12,13 @@ use crate::format::{ALIGNMENT, JUMP_HEAD, NOP, RETURN_HEAD, SLED_LENGTH};
 use crate::unit::What;
 use subset_decode::{DecodeFault, Instr, decode};
 
-/// The byte with which an entry or tail sled begins, and no instruction.
+/// The byte that begins an entry or tail sled, and no instruction.
 const JUMP: [u8; 1] = [JUMP_HEAD[0]];
 
-/// How long the displacement of the nop is.
+/// The length of the nop's displacement in bytes.
 const SHIFT_LENGTH: usize = 4;
 
-/// A unit as its bytes tell it.
+/// A unit as its bytes say.
 #[derive(Clone, Copy)]
 pub(crate) enum RawUnit {
     /// An instruction.
@@ -32,7 +32,7 @@ pub(crate) enum RawUnit {
 }
 
 impl RawUnit {
-    /// How many sleds it is.
+    /// How many sleds it is, 0 or 1.
     pub(crate) fn sleds(&self) -> u32
         ensures { result ≡ sleds_in (piece_of self.now) }
     {
@@ -46,13 +46,13 @@ impl RawUnit {
 /// Why no unit stands at an address.
 #[derive(Clone, Copy)]
 pub(crate) enum NoUnit {
-    /// What stands there begins as a sled, and isn't a whole one or stands at an odd address.
+    /// The bytes there begin as a sled, but aren't a whole one or have an odd address.
     Sled,
-    /// What stands there is no instruction.
+    /// The bytes there are no instruction.
     Code(DecodeFault),
 }
 
-/// What stands behind a front, where the bytes begin with it.
+/// The bytes after a prefix, if the bytes begin with it.
 fn behind<'a>(bytes: &'a [u8], front: &[u8]) -> Option<&'a [u8]>
     ensures { MatchOption result ((rest : List ℕ) → bytes.now ≡ front.now ++ rest → ⊥)
         (λ rest. bytes.now ≡ front.now ++ rest.now) }
@@ -72,14 +72,14 @@ fn nop_shift(bytes: &[u8]) -> Option<u32>
     Some(u32_at(field, 0))
 }
 
-/// Whether the bytes begin as a sled does. No instruction of the subset begins so, but for a return.
+/// Whether the bytes begin as a sled does. No instruction of the subset begins so, except a return.
 fn begins_as_sled(bytes: &[u8]) -> bool
     ensures { IsTrue result ↔ BeginsAsSled bytes.now }
 {
     behind(bytes, &JUMP).is_some() || behind(bytes, &RETURN_HEAD).is_some()
 }
 
-/// The sled that the bytes begin with.
+/// The sled that the bytes begin with, if they do.
 fn whole_sled(bytes: &[u8]) -> Option<RawUnit>
     ensures found { IfSome result (λ raw. IsSled (piece_of raw) × IsPiece (piece_of raw)
         × Begins (piece_bytes (piece_of raw)) bytes.now) }
@@ -94,12 +94,12 @@ fn whole_sled(bytes: &[u8]) -> Option<RawUnit>
     Some(RawUnit::ReturnSled(shift))
 }
 
-/// The unit that stands at an address, where these bytes begin, and its length.
+/// The unit at an address, where these bytes begin, and its length.
 pub(crate) fn read_unit(address: u64, bytes: &[u8]) -> Result<(RawUnit, usize), NoUnit>
     requires { 0 < length bytes.now }
     ensures found { IfOk result (λ x. StandsAt address bytes.now (piece_of x.0) (drop x.1 bytes.now)) }
     ensures length { IfOk result (λ x. x.1 ≡ length (piece_bytes (piece_of x.0))) }
-    // Behind so many sleds it is what `what_stands` tells.
+    // With this many sleds before it, it is what `what_stands` gives.
     ensures what { IfOk result (λ x. (sleds : ℕ)
         → what_at sleds bytes.now ≡ what_of sleds (piece_of x.0)) }
     ensures none { OnErr result ((piece : Piece) (rest : List ℕ)
@@ -124,8 +124,8 @@ pub(crate) fn read_unit(address: u64, bytes: &[u8]) -> Result<(RawUnit, usize), 
     }
 }
 
-/// What the unit is that stands where these bytes begin, of which some unit does: with no look at the
-/// nop of a sled, or at its address. What is no sled and no instruction is the alignment byte.
+/// What the unit is that these bytes begin with. They have to begin with one: the nop of a sled and
+/// its address aren't looked at. What is neither a sled nor an instruction is the alignment byte.
 pub(crate) fn what_stands(bytes: &[u8], sleds: u32) -> What
     ensures { result ≡ what_at sleds bytes.now }
 {

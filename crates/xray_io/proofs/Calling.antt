@@ -46,7 +46,7 @@ up_to name bound from room answer calls later some fits p is = record {
   last = ap (λ (l : List Call). calls ++ l) is;
 }
 
--- reads up to a byte, and then one that gave none
+-- reads up to a byte, and then one that gave nothing
 pub reads_end : {S : Type 0} {along : S → S → List Call → Type 0} → Composes along → (first second third : S) (name : List ℕ) (bound from room to : ℕ)
     → 0 < room → from + room ≤ bound → to ≡ from
     → Went (along first second) (Reads name bound 0 from) → Went (along second third) (IsPiece name from room (Ok 0)) → Went (along first third) (ReadsUpTo name bound to (Ok 0))
@@ -68,7 +68,7 @@ err_is : {X E : Type 0} (answer : Result X E) (error : E) → IsErrAnd answer (�
 err_is (Ok value) error is = absurd is
 err_is (Err given) error is = ap Err is
 
--- reads up to a byte, and then a piece that gave none
+-- reads up to a byte, and then one that failed
 pub reads_stop : {S : Type 0} {along : S → S → List Call → Type 0} → Composes along → (first second third : S) (name : List ℕ) (limit from room : ℕ) (error : ReadError)
     → 0 < room → from + room ≤ limit + 1
     → Went (along first second) (Reads name (limit + 1) 0 from) → Went (along second third) (IsPiece name from room (Err error))
@@ -95,7 +95,7 @@ sends_one old new bytes offered n within adds calm way = record {
   went = record { calls = Wrote offered (Ok n) ∷ []; way = way; are = record { bytes = omega (arith, length-take n bytes); answered = tt } };
 }
 
--- bytes up to a place were written, and then n more
+-- the bytes before a place were written, and then n more
 pub sends_more : {S : Type 0} {written : S → Option (List ℕ)} {faults : S → ℕ} {along : S → S → List Write → Type 0} → Composes along
     → (first second third : S) (bytes : List ℕ) (i offered n : ℕ) → Sends written faults along first second bytes (drop i bytes) (Ok tt)
     → n ≤ length (take (length bytes - i) (drop i bytes)) → Adds (written second) (written third) (take n (take (length bytes - i) (drop i bytes)))

@@ -1,4 +1,4 @@
--- What the steps of a Text add together.
+-- What the steps of a Text add up to.
 use Rattle.std.proofs.Common.{◌≡◌, ℕ, ◌+◌, ◌≤◌, List, [], ◌++◌, length, Option, Result, Ok, Err, OnOk, OnErr, refl, sym, ap, subst, ◌∙◌, append_assoc}
 use Rattle.std.proofs.lemmas.List.{append-nil}
 use Rattle.xray_io.specs.Sink.{Adds, AddsPrefix}
@@ -29,7 +29,7 @@ gains_passed written old new bytes before adds after = λ start given was. recor
   rest = ap (λ (t : List ℕ). t ++ bytes) (was.rest ∙ ap (λ (t : List ℕ). was.front ++ t) before ∙ append-nil was.front) ∙ sym (ap (λ (t : List ℕ). (was.front ++ bytes) ++ t) after ∙ append-nil (was.front ++ bytes));
 }
 
--- the bytes wait behind what waited
+-- the bytes wait after what waited
 pub gains_waiting : {S : Type 0} (written : S → Option (List ℕ)) (old new : Text S) (bytes : List ℕ) → sink_of new ≡ sink_of old → waiting new ≡ waiting old ++ bytes → Gains written old new bytes
 gains_waiting written old new bytes same more = λ start given was. record {
   front = was.front;
@@ -46,7 +46,7 @@ pub gains_both : {S : Type 0} (written : S → Option (List ℕ)) (first second 
 gains_both written first second third x y p q = λ start given was.
     subst (λ (t : List ℕ). Gathers written start third t) (append_assoc given x y) (q start (given ++ x) (p start given was))
 
--- a front of what waited and of the bytes was written
+-- a prefix of what waited and of the bytes was written
 pub breaks_written : {S : Type 0} (written : S → Option (List ℕ)) (old : Text S) (sink : S) (bytes : List ℕ) → AddsPrefix (written (sink_of old)) (written sink) (waiting old ++ bytes) → Breaks written old sink bytes
 breaks_written written old sink bytes adds = λ start given was.
     subst (λ (t : List ℕ). AddsPrefix start (written sink) t) (sym (ap (λ (t : List ℕ). t ++ bytes) was.rest ∙ append_assoc was.front (waiting old) bytes)) (front_behind _ _ _ _ _ was.told adds)
@@ -56,7 +56,7 @@ pub breaks_behind : {S : Type 0} (written : S → Option (List ℕ)) (first seco
 breaks_behind written first second sink x y p q = λ start given was.
     subst (λ (t : List ℕ). AddsPrefix start (written sink) t) (append_assoc given x y) (q start (given ++ x) (p start given was))
 
--- a front is a front of more
+-- a prefix is a prefix of more
 pub breaks_more : {S : Type 0} (written : S → Option (List ℕ)) (old : Text S) (sink : S) (x y : List ℕ) → Breaks written old sink x → Breaks written old sink (x ++ y)
 breaks_more written old sink x y p = λ start given was.
     subst (λ (t : List ℕ). AddsPrefix start (written sink) t) (append_assoc given x y) (front_longer _ _ (given ++ x) y (p start given was))
@@ -66,7 +66,7 @@ pub breaks_within : {S : Type 0} (written : S → Option (List ℕ)) (first seco
 breaks_within written first second sink x y z whole p q e =
     subst (λ (t : List ℕ). Breaks written first sink t) e (breaks_more written first sink (x ++ y) z (breaks_behind written first second sink x y p q))
 
--- a fact of a call that failed
+-- a fact that holds if a call failed
 pub at_fault : {T E P : Type 0} (r : Result T E) → P → OnErr r P
 at_fault (Ok x) p = tt
 at_fault (Err e) p = p
@@ -83,7 +83,7 @@ gains_of {written = written} {old = old} {new = new} {bytes = bytes} (Ok done) p
       ∙ ap (λ (t : List ℕ). was.front ++ (p.sends.sent ++ t)) p.sends.all ∙ sym (append_assoc was.front p.sends.sent (waiting new));
 }
 
--- what could not be added broke off
+-- a failure to add breaks off
 pub breaks_of : {S : Type 0} {written : S → Option (List ℕ)} {faults : S → ℕ} {along : S → S → List Write → Type 0} {old new : Text S} {bytes : List ℕ} (answer : Answer)
     → AddsText written faults along old new bytes answer → OnErr answer (Breaks written old (sink_of new) bytes)
 breaks_of (Ok done) p = tt

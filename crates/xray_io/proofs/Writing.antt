@@ -1,4 +1,4 @@
--- What several writes add together.
+-- What several writes add up to.
 use Rattle.std.proofs.Common.{◌≡◌, ℕ, ◌+◌, ◌-◌, ◌≤◌, List, [], ◌++◌, length, take, drop, Option, Some, None, refl, sym, ap, ◌∙◌, arith, append_assoc, length-append}
 use Rattle.std.proofs.lemmas.List.{take_rest, append-nil, take-append-le}
 use Rattle.std.proofs.Math.Seq.{take-add, take-append-add}
@@ -24,7 +24,7 @@ adds_none a b e = record { told = e ∙ ends_with_none a }
 pub adds_both : (a b c : Option (List ℕ)) (x y : List ℕ) → Adds a b x → Adds b c y → Adds a c (x ++ y)
 adds_both a b c x y p q = record { told = q.told ∙ ap (ends_with y) p.told ∙ ends_with_both a x y }
 
--- all of one, and then a front of another
+-- all of one, and then a prefix of another
 pub front_behind : (a b c : Option (List ℕ)) (x y : List ℕ) → Adds a b x → AddsPrefix b c y → AddsPrefix a c (x ++ y)
 front_behind a b c x y p q = record {
   count = length x + q.count;
@@ -32,7 +32,7 @@ front_behind a b c x y p q = record {
   told = q.told ∙ ap (ends_with (take q.count y)) p.told ∙ ends_with_both a x (take q.count y) ∙ ap (λ (t : List ℕ). ends_with t a) (sym (take-append-add x y q.count));
 }
 
--- a front is a front of more
+-- a prefix is a prefix of more
 pub front_longer : (a b : Option (List ℕ)) (x y : List ℕ) → AddsPrefix a b x → AddsPrefix a b (x ++ y)
 front_longer a b x y p = record {
   count = p.count;
@@ -40,7 +40,7 @@ front_longer a b x y p = record {
   told = p.told ∙ ap (λ (t : List ℕ). ends_with t a) (sym (take-append-le p.count x y p.within));
 }
 
--- the first i bytes, and then n of those behind them
+-- the first i bytes, and then the next n
 pub adds_on : (a b c : Option (List ℕ)) (bytes : List ℕ) (i n : ℕ) → Adds a b (take i bytes) → Adds b c (take n (take (length bytes - i) (drop i bytes))) → Adds a c (take (i + n) bytes)
 adds_on a b c bytes i n p q = rw take-add (adds_both a b c (take i bytes) (take n (drop i bytes)) p (rw take_rest at q))
 

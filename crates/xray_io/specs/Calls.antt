@@ -17,22 +17,22 @@ pub data Write : Type 0 where
 abbrev pub append_call : List ℕ → Write → Call
 append_call name (Wrote offered answer) = Append name offered answer
 
--- Some calls lead from one state to another, and this is said of them.
+-- Some calls lead from one state to another, and a property holds of these calls.
 pub record Went {C : Type 0} (Way : List C → Type 0) (Are : List C → Type 0) : Type 0 where
   pub calls : List C
   pub way : Way calls
   pub are : Are calls
 
--- no call leads from a state to itself
+-- no calls lead from a state to itself
 abbrev pub HoldsOfNone : {S C : Type 0} → (S → S → List C → Type 0) → Type 0
 HoldsOfNone {S = S} along = (state : S) → along state state []
 
--- calls, and then other calls, lead where the other calls lead
+-- if some calls lead to a state, and other calls on from there, then all of them in turn lead the whole way
 abbrev pub Composes : {S C : Type 0} → (S → S → List C → Type 0) → Type 0
 Composes {S = S} {C = C} along =
     (first second third : S) (calls later : List C) → along first second calls → along second third later → along first third (calls ++ later)
 
--- calls of which one thing is said, and then calls of which another is
+-- calls with one property, and then calls with another
 pub went_on : {S C : Type 0} (along : S → S → List C → Type 0) → Composes along → (first second third : S) (P Q R : List C → Type 0)
     → Went (along first second) P → Went (along second third) Q
     → ((calls later : List C) → P calls → Q later → R (calls ++ later)) → Went (along first third) R

@@ -6,7 +6,7 @@ use Rattle.xray_io.specs.Calls.{Call, Write, append_call, HoldsOfNone, Composes}
 use Rattle.xray_io.specs.Desk.{Entry, Untold, Absent, Holds}
 use Rattle.xray_io.specs.declared.desk_file.DeskFile.{DeskFile}
 
--- the desk that is written
+-- the desk that is written to
 abbrev pub desk_of : {D : Type 0} → DeskFile D → D
 desk_of file = file.desk.now
 
@@ -14,18 +14,18 @@ desk_of file = file.desk.now
 abbrev pub desk_loan : {D : Type 0} → DeskFile D → ℕ
 desk_loan file = file.desk.ghost_name
 
--- the name that is written
+-- the name that is written to
 abbrev pub name_of : {D : Type 0} → DeskFile D → List ℕ
 name_of file = file.name.now
 
--- the bytes of a name, where the desk tells; a name that isn't held has none
+-- the bytes of a name, if the desk reports them; a name that isn't held has none
 abbrev pub bytes_of : Entry → Option (List ℕ)
 bytes_of Untold = None
 bytes_of Absent = Some []
 bytes_of (Holds bytes) = Some bytes
 
--- one name was written, and nothing else changed: it writes the same name of the same desk, a name
--- that was held still is, the other names hold what they held, and no read has failed
+-- Only one name was written to. It is the same name of the same desk. A name that was held still is. The other names
+-- hold what they held, and no read has failed.
 pub record WritesOn {D : Type 0} (held : D → List ℕ → Entry) (read_faults : D → ℕ) (old new : DeskFile D) : Type 0 where
   pub loan : desk_loan new ≡ desk_loan old
   pub name : name_of new ≡ name_of old
@@ -43,7 +43,7 @@ writes_nothing held read_faults file = record {
   reads = refl;
 }
 
--- one name was written, and then again
+-- one name was written to, and then again
 pub writes_both : {D : Type 0} (held : D → List ℕ → Entry) (read_faults : D → ℕ) (first second third : DeskFile D) → WritesOn held read_faults first second → WritesOn held read_faults second third → WritesOn held read_faults first third
 writes_both held read_faults first second third p q = record {
   loan = q.loan ∙ p.loan;
@@ -54,7 +54,7 @@ writes_both held read_faults first second third p q = record {
   reads = q.reads ∙ p.reads;
 }
 
--- one name was written, by these appends
+-- one name was written to, by these appends
 pub record AppendsAlong {D : Type 0} (held : D → List ℕ → Entry) (read_faults : D → ℕ) (along : D → D → List Call → Type 0)
     (old new : DeskFile D) (writes : List Write) : Type 0 where
   pub on : WritesOn held read_faults old new
@@ -64,7 +64,7 @@ pub record AppendsAlong {D : Type 0} (held : D → List ℕ → Entry) (read_fau
 pub appends_nothing : {D : Type 0} (held : D → List ℕ → Entry) (read_faults : D → ℕ) (along : D → D → List Call → Type 0) → HoldsOfNone along → HoldsOfNone (AppendsAlong held read_faults along)
 appends_nothing held read_faults along none file = record { on = writes_nothing held read_faults file; calls = none (desk_of file) }
 
--- one name was written, and then again
+-- one name was written to, and then again
 pub appends_both : {D : Type 0} (held : D → List ℕ → Entry) (read_faults : D → ℕ) (along : D → D → List Call → Type 0) → Composes along → Composes (AppendsAlong held read_faults along)
 appends_both held read_faults along both first second third writes later p q = record {
   on = writes_both held read_faults first second third p.on q.on;

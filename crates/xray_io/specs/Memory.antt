@@ -10,7 +10,7 @@ use Rattle.xray_io.specs.Desk.{Entry, Absent, Holds}
 use Rattle.xray_io.specs.declared.memory.MemDesk.{MemDesk}
 use Rattle.xray_io.specs.declared.memory.MemSink.{MemSink}
 
--- what is held of a name that a map was asked for
+-- what a desk holds of a name, by the answer of its map
 abbrev pub entry_of : Option (Vec ℕ Global) → Entry
 entry_of None = Absent
 entry_of (Some bytes) = Holds bytes.items
@@ -27,7 +27,7 @@ desk_failing desk = desk.calls.failing.items
 abbrev pub desk_calls : MemDesk → ℕ
 desk_calls desk = desk.calls.made
 
--- unless it stands at its last value, the count of calls went up by one for each of these
+-- The count of calls went up by one for each of these calls, unless it has come to its last value.
 abbrev pub Counts : MemDesk → MemDesk → List Call → Type 0
 Counts old new calls = desk_calls new < 2 ^ 64 - 1 → desk_calls new ≡ desk_calls old + length calls
 
@@ -41,7 +41,7 @@ counts_both first second third calls later p q = λ below.
     q below ∙ ap (λ n. n + length later) before ∙ add_assoc (desk_calls first) (length calls) (length later)
     ∙ ap (λ n. desk_calls first + n) (sym (length-append calls later))
 
--- how often a growth was refused
+-- how many writes failed for want of memory
 abbrev pub desk_refused : MemDesk → ℕ
 desk_refused desk = desk.refused
 
@@ -53,7 +53,7 @@ desk_read_faults desk = desk.read_faults
 abbrev pub desk_write_faults : MemDesk → ℕ
 desk_write_faults desk = desk.write_faults
 
--- all that the sink was written
+-- all that was written to the sink
 abbrev pub sink_bytes : MemSink → List ℕ
 sink_bytes sink = sink.bytes.items
 
@@ -69,6 +69,6 @@ sink_calls sink = sink.calls.made
 abbrev pub sink_faults : MemSink → ℕ
 sink_faults sink = sink.faults
 
--- how often a growth was refused
+-- how many writes failed for want of memory
 abbrev pub sink_refused : MemSink → ℕ
 sink_refused sink = sink.refused

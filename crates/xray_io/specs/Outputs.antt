@@ -13,13 +13,13 @@ use Rattle.xray_io.specs.Writes.{Answer, Take, WritesText}
 use Rattle.xray_io.specs.declared.faults.Failed.{Failed}
 use Rattle.xray_io.specs.declared.faults.WriteFault.{WriteFault}
 
--- a name was created, and then this many bytes were put at its end, by appends that this answer came of
+-- a name was created, and then this many bytes were put at its end by appends that led to this answer
 pub record Makes (name : List ℕ) (count : ℕ) (answer : Answer) (calls : List Call) : Type 0 where
   pub writes : List Write
   pub take : Take count answer writes
   pub are : calls ≡ Create name (Ok tt) ∷ map (append_call name) writes
 
--- the name could not be created, and holds what it held
+-- the name couldn't be created, and holds what it held
 pub record CreationFails (name : List ℕ) (old new : Entry) (calls : List Call) : Type 0 where
   pub failed : Failed
   pub are : calls ≡ Create name (Err failed) ∷ []
@@ -33,12 +33,13 @@ pub record AppendFails (name bytes : List ℕ) (old new : Entry) (answer : Answe
   pub holds : new ≡ made_to_hold old sent
   pub makes : Makes name (length sent) answer calls
 
--- what the name holds and which calls were made, by the answer
+-- what the name holds and which calls were made, for each answer
 abbrev pub IsMaking : (name bytes : List ℕ) → (old new : Entry) → Answer → List Call → Type 0
 IsMaking name bytes old new (Ok done) calls = (new ≡ made_to_hold old bytes) × Makes name (length bytes) (Ok done) calls
 IsMaking name bytes old new (Err fault) calls = CreationFails name old new calls ⊎ AppendFails name bytes old new (Err fault) calls
 
--- The name was made to hold these bytes. Nothing else of the desk changed. On Err the last call failed, which was counted.
+-- The name was made to hold these bytes. Nothing else of the desk changed. On Err the last call failed, and was
+-- counted.
 pub record MakesOutput {D : Type 0} (held : D → List ℕ → Entry) (read_faults write_faults : D → ℕ) (along : D → D → List Call → Type 0)
     (old new : D) (name bytes : List ℕ) (answer : Answer) : Type 0 where
   pub went : Went (along old new) (IsMaking name bytes (held old name) (held new name) answer)
@@ -48,8 +49,8 @@ pub record MakesOutput {D : Type 0} (held : D → List ℕ → Entry) (read_faul
   pub fault : OnErr answer (Rose (write_faults old) (write_faults new))
   pub later : write_faults old ≤ write_faults new
 
--- A text was put at the end of a name, and nothing else of the desk changed: what a writer of text does to the desk behind its
--- `DeskFile`.
+-- A text was put at the end of a name, and nothing else of the desk changed. A writer of text does this to the desk of
+-- a `DeskFile`.
 pub record AppendsText {D : Type 0} (held : D → List ℕ → Entry) (read_faults write_faults : D → ℕ) (along : D → D → List Call → Type 0)
     (old new : D) (name text : List ℕ) (answer : Answer) : Type 0 where
   pub writes : WritesText (λ desk. bytes_of (held desk name)) write_faults (λ before after writes. along before after (map (append_call name) writes)) old new text answer
@@ -59,7 +60,7 @@ pub record AppendsText {D : Type 0} (held : D → List ℕ → Entry) (read_faul
 
 -- ---- laws
 
--- what a writer of text does to a `DeskFile`, seen from the desk
+-- what a writer of text does to a `DeskFile`, as it looks from the desk
 pub appends_text : {D : Type 0} {held : D → List ℕ → Entry} {read_faults write_faults : D → ℕ} {along : D → D → List Call → Type 0}
     → (old new : DeskFile D) {text : List ℕ} {answer : Answer}
     → WritesText (λ file. bytes_of (held (desk_of file) (name_of file))) (λ file. write_faults (desk_of file)) (AppendsAlong held read_faults along) old new text answer
@@ -157,7 +158,7 @@ makes_output {held = held} {write_faults = write_faults} both first second third
   later = let P : ℕ → Type 0 = λ n. n ≤ write_faults third in subst P calm text.writes.later;
 }
 
--- a name could not be created
+-- a name couldn't be created
 pub makes_nothing : {D : Type 0} {held : D → List ℕ → Entry} {read_faults write_faults : D → ℕ} {along : D → D → List Call → Type 0}
     → (old new : D) {name bytes : List ℕ} {failed : Failed} {error : WriteFault} → along old new (Create name (Err failed) ∷ [])
     → held new ≡ held old → read_faults new ≡ read_faults old → Rose (write_faults old) (write_faults new) → write_faults old ≤ write_faults new

@@ -5,7 +5,7 @@ use Rattle.std.specs.List.{flat_map}
 use Rattle.xray_io.specs.declared.piece.Piece.{Piece}
 use Rattle.xray_io.specs.declared.piece.Piece.TheVariants.{Bytes, Number, Right, Hex}
 
--- n in lower-case hexadecimal, with zeros (48) in front up to a least number of digits
+-- n in lower-case hexadecimal, with zeros (48) before it up to a least number of digits
 abbrev pub hexadecimal : ℕ → ℕ → List ℕ
 hexadecimal n least = replicate (least - length (digits 16 false n)) 48 ++ digits 16 false n
 
@@ -20,6 +20,6 @@ piece_text (Number n) = decimal n
 piece_text (Right n width) = right_aligned n width
 piece_text (Hex n least) = hexadecimal n least
 
--- pieces, one behind the other
+-- pieces, one after the other
 abbrev pub text_of : List Piece → List ℕ
 text_of pieces = flat_map piece_text pieces

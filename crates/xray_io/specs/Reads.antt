@@ -6,8 +6,8 @@ use Rattle.xray_io.specs.declared.faults.ReadError.{ReadError}
 use Rattle.xray_io.specs.declared.faults.ReadError.TheVariants as errors
 use Rattle.xray_io.specs.declared.faults.ReadFail.{ReadFail}
 
--- reads of this name that each gave bytes, from one byte to another: each begins where the one before it ended, and none asks
--- for a byte past the first `bound`
+-- reads of this name that each gave bytes, from one byte to another: each begins where the one before it ended, and
+-- none asks for a byte past the first `bound`
 abbrev pub Reads : List ℕ → (bound from to : ℕ) → List Call → Type 0
 Reads name bound from to [] = from ≡ to
 Reads name bound from to (Read n at room (Ok got) ∷ calls) =
@@ -31,15 +31,15 @@ ReadsUpToFault name bound calls = (to : ℕ) × (fail : ReadFail) × ReadsUpTo n
 abbrev pub ReadsSome : List ℕ → (bound : ℕ) → List Call → Type 0
 ReadsSome name bound calls = (to : ℕ) × Reads name bound 0 to calls
 
--- The reads that answer a request for the whole of a name: up to one that gives nothing, up to one that fails, or up to the
--- first byte that is too many. Where memory is wanting, they stop at any byte.
+-- The reads that answer a request for the whole of a name. They end with one that gives nothing, with one that fails,
+-- or with the first byte that is too many. If an allocation is refused, they may end after any byte.
 abbrev pub IsReading : List ℕ → (limit : ℕ) → Result (Vec ℕ Global) ReadError → List Call → Type 0
 IsReading name limit (Ok content) calls = ReadsUpTo name (limit + 1) (length content.items) (Ok 0) calls
 IsReading name limit (Err errors.ReadFault) calls = ReadsUpToFault name (limit + 1) calls
 IsReading name limit (Err errors.TooLong) calls = Reads name (limit + 1) 0 (limit + 1) calls
 IsReading name limit (Err errors.NoMemory) calls = ReadsSome name (limit + 1) calls
 
--- One read, from this byte on, into this much room: a part of a reading.
+-- One read, from this byte on, into this much room. It is a part of a reading.
 abbrev pub IsPiece : List ℕ → (from room : ℕ) → Result ℕ ReadError → List Call → Type 0
 IsPiece name from room (Ok got) calls = calls ≡ Read name from room (Ok got) ∷ []
 IsPiece name from room (Err errors.ReadFault) calls = (fail : ReadFail) × (calls ≡ Read name from room (Err fail) ∷ [])

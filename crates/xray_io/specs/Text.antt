@@ -1,4 +1,4 @@
--- What a Text was given, and where it is.
+-- What a Text was given, and what became of it.
 use Rattle.std.specs.Prelude.{◌≡◌, ℕ, ◌+◌, ◌≤◌, List, [], ◌++◌, length, Option, Ok, Err, IsOk, IsErrAnd, refl}
 use Rattle.std.proofs.Common.{sym, ap, subst, ◌∙◌, append_assoc}
 use Rattle.std.proofs.Math.Nat.{add_assoc, le-add_right, le_trans}
@@ -11,7 +11,7 @@ use Rattle.xray_io.specs.declared.waiting.TheConstants.{ROOM}
 use Rattle.xray_io.specs.Sink.{Adds, AddsPrefix}
 use Rattle.xray_io.specs.declared.text.Text.{Text}
 
--- the sink behind it
+-- the sink that it writes to
 abbrev pub sink_of : {S : Type 0} → Text S → S
 sink_of text = text.sink.now
 
@@ -23,8 +23,7 @@ loan_of text = text.sink.ghost_name
 abbrev pub waiting : {S : Type 0} → Text S → List ℕ
 waiting text = text.waiting
 
--- Since its sink was at `start`, the Text was given these bytes: a front was written, the rest
--- waits.
+-- Since its sink was at `start`, the Text was given these bytes. A prefix was written, and the rest waits.
 pub record Gathers {S : Type 0} (written : S → Option (List ℕ)) (start : Option (List ℕ)) (text : Text S) (given : List ℕ) : Type 0 where
   pub front : List ℕ
   pub told : Adds start (written (sink_of text)) front
@@ -34,30 +33,30 @@ pub record Gathers {S : Type 0} (written : S → Option (List ℕ)) (start : Opt
 abbrev pub Gains : {S : Type 0} → (S → Option (List ℕ)) → Text S → Text S → List ℕ → Type 0
 Gains written old new bytes = (start : Option (List ℕ)) (given : List ℕ) → Gathers written start old given → Gathers written start new (given ++ bytes)
 
--- a call failed: of all that the Text was given, and of these bytes, the sink has a front
+-- a call failed: of all that the Text was given, these bytes at the end, a prefix was written
 abbrev pub Breaks : {S : Type 0} → (S → Option (List ℕ)) → Text S → S → List ℕ → Type 0
 Breaks written old sink bytes = (start : Option (List ℕ)) (given : List ℕ) → Gathers written start old given → AddsPrefix start (written sink) (given ++ bytes)
 
--- a text that nothing is done to was given nothing more
+-- a Text that nothing is done to was given nothing more
 abbrev pub GainsNothing : {S : Type 0} → (S → Option (List ℕ)) → Type 0
 GainsNothing {S = S} written = (text : Text S) → Gains written text text []
 
--- what is gained by one call and then by another is gained by both
+-- what one call gains and then another gains is gained by both
 abbrev pub GainsAddUp : {S : Type 0} → (S → Option (List ℕ)) → Type 0
 GainsAddUp {S = S} written = (first second third : Text S) (x y : List ℕ) → Gains written first second x → Gains written second third y → Gains written first third (x ++ y)
 
--- a gain and then a failure, at bytes that others were to follow: a front of the whole is written
+-- bytes are gained, and then a call fails before the last bytes: a prefix of the whole is written
 abbrev pub BreaksOnTheWay : {S : Type 0} → (S → Option (List ℕ)) → Type 0
 BreaksOnTheWay {S = S} written = (first second : Text S) (sink : S) (x y z whole : List ℕ) → Gains written first second x → Breaks written second sink y → (x ++ y) ++ z ≡ whole → Breaks written first sink whole
 
--- these bytes only wait: the sink was not called
+-- these bytes only wait: the sink wasn't called
 pub record Waits {S : Type 0} (old new : Text S) (bytes : List ℕ) (answer : Answer) : Type 0 where
   pub ok : IsOk answer
   pub sink : sink_of new ≡ sink_of old
   pub waits : waiting new ≡ waiting old ++ bytes
 
--- A Text was given these bytes. On Ok the sink was written a prefix of all that waited and of these, and the rest waits; bytes
--- that fit beside those that wait do only that. On Err a write failed, and the sink was written a prefix.
+-- A Text was given these bytes. On Ok a prefix of all that waited and of these was written, and the rest waits. Bytes
+-- that fit beside those that wait only wait. On Err a write failed, and a prefix was written.
 pub record AddsText {S : Type 0} (written : S → Option (List ℕ)) (faults : S → ℕ) (along : S → S → List Write → Type 0)
     (old new : Text S) (bytes : List ℕ) (answer : Answer) : Type 0 where
   pub sends : Sends written faults along (sink_of old) (sink_of new) (waiting old ++ bytes) (waiting new) answer
@@ -66,7 +65,7 @@ pub record AddsText {S : Type 0} (written : S → Option (List ℕ)) (faults : S
 
 -- ---- laws
 
--- a text that nothing is done to was given no bytes
+-- a Text that nothing is done to was given no bytes
 pub adds_nothing : {S : Type 0} {written : S → Option (List ℕ)} {faults : S → ℕ} {along : S → S → List Write → Type 0} → HoldsOfNone along
     → (text : Text S) → AddsText written faults along text text [] (Ok tt)
 adds_nothing {written = written} {faults = faults} {along = along} none text = record {
@@ -77,7 +76,7 @@ adds_nothing {written = written} {faults = faults} {along = along} none text = r
   loan = refl;
 }
 
--- as many bytes as wait, as were given, and as were then given
+-- the bytes that wait, those that were given, and those that were given then, counted in two ways
 sizes : (w x y : List ℕ) → length w + length (x ++ y) ≡ (length w + length x) + length y
 sizes w x y = ap (λ n. length w + n) (length-append x y) ∙ sym (add_assoc (length w) (length x) (length y))
 
@@ -109,7 +108,7 @@ adds_more {written = written} {faults = faults} {along = along} both {first = fi
   loan = q.loan ∙ p.loan;
 }
 
--- a text could not be added, and another was to follow
+-- a text couldn't be added, and another was to follow
 pub adds_stop : {S : Type 0} {written : S → Option (List ℕ)} {faults : S → ℕ} {along : S → S → List Write → Type 0}
     → {first second : Text S} {x : List ℕ} {error : WriteFault} (y : List ℕ) → AddsText written faults along first second x (Err error)
     → AddsText written faults along first second (x ++ y) (Err error)
@@ -121,7 +120,7 @@ adds_stop {written = written} {faults = faults} {along = along} {first = first} 
   loan = p.loan;
 }
 
--- a text was added, another could not be, and more was to follow
+-- a text was added, another couldn't be, and more was to follow
 pub adds_within : {S : Type 0} {written : S → Option (List ℕ)} {faults : S → ℕ} {along : S → S → List Write → Type 0} → Composes along
     → {first second third : Text S} {x y whole : List ℕ} {error : WriteFault} (rest : List ℕ)
     → AddsText written faults along first second x (Ok tt) → AddsText written faults along second third y (Err error) → (x ++ y) ++ rest ≡ whole
@@ -130,7 +129,7 @@ adds_within {written = written} {faults = faults} {along = along} both {first = 
     let P : List ℕ → Type 0 = λ bytes. AddsText written faults along first third bytes (Err error) in
     subst P is (adds_stop rest (adds_more both p q))
 
--- the answer to the caller is the same fault
+-- the caller gets the same fault
 pub adds_failed : {S : Type 0} {written : S → Option (List ℕ)} {faults : S → ℕ} {along : S → S → List Write → Type 0}
     → {first second : Text S} {x : List ℕ} {error : WriteFault} → AddsText written faults along first second x (Err error)
     → (answer : Answer) → IsErrAnd answer (λ e. e ≡ error) → AddsText written faults along first second x answer
@@ -139,7 +138,7 @@ adds_failed {written = written} {faults = faults} {along = along} {first = first
     let P : WriteFault → Type 0 = λ e. AddsText written faults along first second x (Err e) in
     subst P (sym is) p
 
--- what was added to an empty text, and what its end then wrote, is what was written
+-- a text is added to an empty Text, which is then ended: the text is written, with the answer of the end
 pub writes_all : {S : Type 0} {written : S → Option (List ℕ)} {faults : S → ℕ} {along : S → S → List Write → Type 0} → Composes along
     → (start end : S) (first second : Text S) {bytes : List ℕ} {answer : Answer} → sink_of first ≡ start → waiting first ≡ []
     → AddsText written faults along first second bytes (Ok tt) → WritesText written faults along (sink_of second) end (waiting second) answer
@@ -149,7 +148,7 @@ writes_all {S = S} {written = written} {faults = faults} {along = along} both st
     let P : List ℕ → Type 0 = λ w. Sends written faults along (sink_of first) (sink_of second) (w ++ bytes) (waiting second) (Ok tt) in
     subst From is (sends_rest both (subst P empty p.sends) q)
 
--- a text that couldn't be added was not written whole
+-- a text that couldn't be added wasn't written whole
 pub writes_failed : {S : Type 0} {written : S → Option (List ℕ)} {faults : S → ℕ} {along : S → S → List Write → Type 0}
     → (start : S) (first second : Text S) {bytes : List ℕ} {error : WriteFault} → sink_of first ≡ start → waiting first ≡ []
     → AddsText written faults along first second bytes (Err error) → (answer : Answer) → IsErrAnd answer (λ e. e ≡ error)

@@ -35,18 +35,18 @@ pub record LastFailed (writes : List Write) : Type 0 where
 abbrev pub Answer : Type 0
 Answer = Result (Unit {0}) WriteFault
 
--- the writes that this answer may come of: none comes after one that failed
+-- the writes that may lead to this answer: none comes after one that failed
 abbrev pub MayAnswer : Answer → List Write → Type 0
 MayAnswer (Ok done) writes = NoneFailed writes
 MayAnswer (Err fault) writes = LastFailed writes
 
--- these writes took this many bytes together, and the answer came of them
+-- these writes took this many bytes together, and led to this answer
 pub record Take (count : ℕ) (answer : Answer) (writes : List Write) : Type 0 where
   pub bytes : taken writes ≡ count
   pub answered : MayAnswer answer writes
 
--- Of these bytes a sink was written a prefix, `sent`. On Ok, `left` is all that is left of them, and no fault was counted. On Err a
--- write failed, which was counted, and none came after it.
+-- Of these bytes, a prefix was written to a sink: `sent`. On Ok, `left` is the rest, and no fault was counted. On Err a
+-- write failed and was counted, and no write came after it.
 pub record Sends {S : Type 0} (written : S → Option (List ℕ)) (faults : S → ℕ) (along : S → S → List Write → Type 0)
     (old new : S) (bytes left : List ℕ) (answer : Answer) : Type 0 where
   pub sent : List ℕ
@@ -59,7 +59,7 @@ pub record Sends {S : Type 0} (written : S → Option (List ℕ)) (faults : S �
   pub later : faults old ≤ faults new
   pub went : Went (along old new) (Take (length sent) answer)
 
--- On Ok a sink was written exactly this text, and on Err a prefix of it: nothing is left of it.
+-- On Ok exactly this text was written to a sink, and nothing is left of it. On Err a prefix of it was.
 abbrev pub WritesText : {S : Type 0} → (S → Option (List ℕ)) → (S → ℕ) → (S → S → List Write → Type 0)
     → S → S → List ℕ → Answer → Type 0
 WritesText written faults along old new text answer = Sends written faults along old new text [] answer
@@ -171,7 +171,7 @@ sends_rest {written = written} {faults = faults} {along = along} both {first = f
     let To : List ℕ → Type 0 = λ l. Sends written faults along first third l after answer in
     subst To (append-nil bytes) (sends_on both [] p (subst From (sym (append-nil left)) q))
 
--- where a write failed, nothing is said of what is left
+-- if a write failed, nothing is said of what is left
 pub sends_failed : {S : Type 0} {written : S → Option (List ℕ)} {faults : S → ℕ} {along : S → S → List Write → Type 0}
     → {first second : S} {bytes left after : List ℕ} {error : WriteFault} → Sends written faults along first second bytes left (Err error)
     → Sends written faults along first second bytes after (Err error)

@@ -8,7 +8,7 @@ use crate::{Failed, ReadFail};
 
 /// A place that holds bytes under names, as a folder of files does.
 pub trait Desk {
-    /// What the desk tells of a name, by the name's bytes.
+    /// What the desk reports of a name, by the name's bytes.
     ghost held: { Self → List ℕ → Entry };
 
     /// How many reads have failed.
@@ -17,15 +17,16 @@ pub trait Desk {
     /// How many writes have failed.
     ghost write_faults: { Self → ℕ };
 
-    /// These calls, in this order and no others, lead from one state of the desk to another.
+    /// These calls, in this order and no others, lead from the first state of the desk to the
+    /// second.
     ghost along: { Self → Self → List Call → Type 0 };
 
-    /// Reads bytes of `name` from byte `from` (counted from 0) on into the front of `buf`, and
-    /// answers how many. Fewer than `buf` has room for is no sign of the end; none, where `buf`
-    /// isn't empty, is. What `buf` has behind them is of no meaning.
+    /// Reads bytes of `name` into `buf`, from byte `from` on, counted from 0. Answers how many it
+    /// read. They stand at the start of `buf`; the rest of `buf` has no meaning. Fewer bytes than
+    /// `buf` has room for don't mean the end. No bytes mean the end, unless `buf` is empty.
     ///
-    /// `Missing` comes where the desk tells that it doesn't hold the name, and `Failed` where the
-    /// read failed, which is counted.
+    /// `Missing` comes only if the desk reports that it doesn't hold the name. `Failed` means that
+    /// the read failed, and was counted.
     fn read(&mut self, name: &str, from: u64, buf: &mut [u8]) -> Result<usize, ReadFail>
         ensures within { IfOk result (λ n. n ≤ length buf.new) }
         ensures bytes { IfOk result (λ n. (bytes : List ℕ) → held self.old name.now ≡ Holds bytes →
@@ -44,8 +45,8 @@ pub trait Desk {
         ensures calm { OnOk result (read_faults self.new ≡ read_faults self.old) }
         ensures along { along self.old self.new (Read name.now from (length buf.old) result ∷ []) };
 
-    /// Makes `name` hold no bytes, whether the desk held it before or not. `Failed` has changed no
-    /// name, and counted a fault of writing.
+    /// Makes `name` hold no bytes, whether the desk held it before or not. On `Failed` no name has
+    /// changed, and the fault was counted as one of writing.
     fn create(&mut self, name: &str) -> Result<(), Failed>
         ensures created { OnOk result (
             held self.new name.now ≡ empty_entry (held self.old name.now)) }
@@ -58,9 +59,9 @@ pub trait Desk {
         ensures calm { OnOk result (write_faults self.new ≡ write_faults self.old) }
         ensures along { along self.old self.new (Create name.now result ∷ []) };
 
-    /// Writes a front of `bytes` at the end of what `name` holds, and answers how many. None is
-    /// only an answer for no bytes. A name that isn't held is begun. `Failed` has changed no name,
-    /// and counted a fault of writing.
+    /// Writes a prefix of `bytes` at the end of what `name` holds, and answers its length. The
+    /// length is 0 only if `bytes` is empty. A name that isn't held is begun. On `Failed` no name
+    /// has changed, and the fault was counted as one of writing.
     fn append(&mut self, name: &str, bytes: &[u8]) -> Result<usize, Failed>
         ensures within { IfOk result (λ n. n ≤ length bytes.now) }
         ensures added { IfOk result (λ n.
@@ -75,9 +76,10 @@ pub trait Desk {
         ensures calm { OnOk result (write_faults self.new ≡ write_faults self.old) }
         ensures along { along self.old self.new (Append name.now (length bytes.now) result ∷ []) };
 
-    /// No call leads from a state to itself.
+    /// No calls lead from a state to itself.
     ghost along_none: { HoldsOfNone along };
 
-    /// Calls, and then other calls, lead where the other calls lead.
+    /// If some calls lead to a state, and other calls on from there, then all of them in turn lead
+    /// the whole way.
     ghost along_both: { Composes along };
 }

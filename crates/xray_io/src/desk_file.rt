@@ -3,8 +3,8 @@ ghost use Rattle.std.specs.Prelude.{◌≡◌};
 
 use crate::{Desk, Failed, Sink};
 
-/// A sink that writes at the end of what one name of a desk holds. A name that isn't held is begun
-/// by the first write, and holds no bytes until then. The faults are those of the desk's writes.
+/// A sink that writes at the end of what one name of a desk holds. The first write begins a name
+/// that isn't held; until then the name holds no bytes. The faults are those of the desk's writes.
 #[derive(Drop)]
 pub struct DeskFile<'a, D> {
     desk: &'a mut D,
@@ -14,7 +14,7 @@ pub struct DeskFile<'a, D> {
 impl<'a, D: Desk> DeskFile<'a, D> {
     ghost use Rattle.xray_io.specs.DeskFile.{desk_of, desk_loan, name_of};
 
-    /// The end of this name of the desk.
+    /// A sink that writes at the end of this name.
     pub fn new(desk: &'a mut D, name: &'a str) -> Self
         ensures desk { desk_of result ≡ desk.old }
         ensures loan { desk_loan result ≡ desk.entry.ghost_name }

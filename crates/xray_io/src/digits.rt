@@ -2,13 +2,14 @@
 ghost use Rattle.std.specs.Prelude.{◌≡◌, ◌+◌, ◌<◌, false, length, drop};
 ghost use Rattle.std.specs.Fmt.{digit_glyph, digits};
 
-/// How many hexadecimal digits a number of 64 bits has at most.
+/// The most hexadecimal digits that a number of 64 bits has.
 pub const MOST_DIGITS: usize = 16;
 
 /// The digit of 0.
 pub const ZERO: u8 = b'0';
 
-/// Writes the digits of a number at the end of the buffer, and answers where they begin.
+/// Writes the hexadecimal digits of a number at the end of the buffer, and answers the place where
+/// they begin.
 pub fn put_digits(n: u64, buffer: &mut [u8; MOST_DIGITS]) -> usize
     ensures start { result + length (digits 16 false n) ≡ 16 }
     ensures digits { drop result buffer.new ≡ digits 16 false n }

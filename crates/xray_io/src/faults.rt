@@ -1,17 +1,17 @@
-//! What a device and the calls over it may answer in place of their result.
+//! What a device, or a function that calls one, may answer in place of its result.
 ghost use Rattle.std.specs.Prelude.{◌≡◌};
 ghost use Rattle.xray_io.specs.declared.faults.ReadError.TheVariants.{NoMemory};
 
 use std::alloc::{AllocError, AllocFailed};
 
-/// A device did not do what it was asked to, and counted a fault.
+/// A device didn't do what it was asked to do, and counted a fault.
 #[derive(Debug, Clone, Copy, PartialEq, Eq)]
 pub struct Failed;
 
 /// Why a read of a desk gave no bytes.
 #[derive(Debug, Clone, Copy, PartialEq, Eq)]
 pub enum ReadFail {
-    /// The desk tells that it doesn't hold the name. This is no fault.
+    /// The desk reports that it doesn't hold the name. This is no fault.
     Missing,
     /// The read failed, and the desk counted a fault of reading.
     Failed,
@@ -28,11 +28,11 @@ pub struct Wall {
 #[derive(Debug, Clone, Copy, PartialEq, Eq)]
 pub struct NoMemory;
 
-/// A sink failed, and counted a fault. A front of the bytes may have been written.
+/// A sink failed, and counted a fault. A prefix of the bytes may have been written.
 #[derive(Debug, Clone, Copy, PartialEq, Eq)]
 pub struct WriteFault;
 
-/// Why a name could not be read whole.
+/// Why a name couldn't be read whole.
 #[derive(Debug, Clone, Copy, PartialEq, Eq)]
 pub enum ReadError {
     /// A read failed, or the desk doesn't hold the name.

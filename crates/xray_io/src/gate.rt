@@ -1,7 +1,7 @@
-//! Where an order of threads can be set from outside.
+//! Where the order of threads can be set from outside.
 
 /// What a traced thread passes before each of its passings, and the patcher before each of its
-/// stores. A gate may wait or count; it answers nothing and changes no result. Threads share it.
+/// stores. A gate may wait or count. It answers nothing and changes no result. Threads share it.
 pub trait Gate {
     /// Thread `thread` (from 1) is about to make its passing `passing` (from 0) of a sled.
     fn before(&self, thread: u32, passing: u32);

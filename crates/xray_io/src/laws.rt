@@ -3,8 +3,8 @@ ghost use Rattle.xray_io.specs.Text.{GainsNothing, GainsAddUp, BreaksOnTheWay};
 
 use crate::Sink;
 
-/// The steps of a text add up: to what several calls gained, one behind the other, and, where one
-/// of them fails, to a front of what they were all to add. This does nothing: its clauses are laws.
+/// What several calls gain adds up. If one of them fails, a prefix of all that they were to add was
+/// written. The function does nothing: its clauses are laws.
 pub fn text_adds_up<S: Sink>()
     ensures nothing { GainsNothing S.written }
     ensures gains { GainsAddUp S.written }

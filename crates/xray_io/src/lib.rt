@@ -1,6 +1,7 @@
-//! Bytes in and out: a desk of named inputs, a sink that takes bytes, texts of numbers, and the
-//! gate that a traced thread passes. Each device is a trait whose clauses say what it holds and
-//! how often it has failed. There is one of each in memory, and one over the system.
+//! Bytes in and out: a desk of named inputs and outputs, a sink that takes bytes, texts of numbers,
+//! and the gate that a traced thread passes. Each device is a trait whose clauses say what it holds
+//! and how many of its calls have failed. There is a desk and a sink in memory, and a desk and
+//! sinks over the system.
 #![tactic(auto)]
 
 mod desk;

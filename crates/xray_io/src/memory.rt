@@ -1,4 +1,4 @@
-//! A desk and a sink in memory, which fail at the calls that they are told.
+//! A desk and a sink in memory, which fail at chosen calls.
 ghost use Rattle.std.specs.Prelude.{◌≡◌, ◌≢◌, ◌⊎◌, ℕ, ◌+◌, ◌-◌, ◌≤◌, ◌<◌, ◌↔◌, [], ◌∷◌, ◌++◌, List, Option, Some, None, length, take, drop, min, IfOk, IfSome, OnOk, OnErr, IsErr, IsErrOf, IsNone, IsTrue, Contains};
 ghost use Rattle.xray_io.specs.Calls.{Read, Create, Append};
 ghost use Rattle.xray_io.specs.Desk.{Absent, Holds, empty_entry, longer_entry};
@@ -9,7 +9,7 @@ use crate::{Desk, Failed, NoMemory, ReadFail, Sink};
 use std::alloc::Global;
 use std::collections::BTreeMap;
 
-/// The calls of a device, and which of them are to fail, by their numbers from 0.
+/// The calls of a device: how many were made, and the numbers, from 0, of those that are to fail.
 #[derive(Drop)]
 struct Calls {
     failing: Vec<u64>,
@@ -30,7 +30,7 @@ impl Calls {
 }
 
 /// A desk in memory. It fails at the calls of `Desk` whose numbers it was made with. `create` and
-/// `append` also fail where an allocation is refused, which it counts apart.
+/// `append` also fail if an allocation is refused. Such refusals have a count of their own.
 #[derive(Drop)]
 pub struct MemDesk {
     alloc: Global,
@@ -64,7 +64,7 @@ impl MemDesk {
         }
     }
 
-    /// Sets what a name holds. On `NoMemory` the desk holds what it held.
+    /// Sets what a name holds. On `NoMemory` the desk is unchanged.
     pub fn put(&mut self, name: &str, bytes: &[u8]) -> Result<(), NoMemory>
         ensures put { OnOk result (desk_entry self.new name.now ≡ Holds bytes.now) }
         ensures others { (other : List ℕ) → other ≢ name.now →
@@ -82,7 +82,7 @@ impl MemDesk {
         Ok(())
     }
 
-    /// What a name holds, or `None` where the desk doesn't hold it.
+    /// What a name holds, or `None` if the desk doesn't hold it.
     pub fn get(&self, name: &str) -> Option<&[u8]>
         ensures absent { IsNone result ↔ (desk_entry self.now name.now ≡ Absent) }
         ensures held { IfSome result (λ bytes. desk_entry self.now name.now ≡ Holds bytes.now) }
@@ -93,14 +93,14 @@ impl MemDesk {
         }
     }
 
-    /// How often an allocation for a write was refused.
+    /// How many writes failed for want of memory.
     pub fn refused(&self) -> u64
         ensures { result ≡ desk_refused self.now }
     {
         self.refused
     }
 
-    /// Puts bytes at the end of what a name holds, and begins a name that isn't held.
+    /// Puts bytes at the end of what a name holds. A name that isn't held is begun.
     fn add(&mut self, name: &str, bytes: &[u8]) -> Result<(), NoMemory>
         ensures added { OnOk result (
             desk_entry self.new name.now ≡ longer_entry (desk_entry self.old name.now) bytes.now) }
@@ -131,7 +131,7 @@ impl MemDesk {
         Failed
     }
 
-    /// Counts a write that failed since an allocation was refused.
+    /// Counts a write that failed because an allocation was refused.
     fn refuse(&mut self) -> Failed
         ensures counted { self.new ≡ record self.old {
           write_faults = raised self.old.write_faults;
@@ -159,8 +159,8 @@ impl Desk for MemDesk {
 
     ghost along_both = { counts_both };
 
-    /// Fails exactly where this call is to fail, and else reads as much as there is and `buf` has
-    /// room for.
+    /// Fails exactly when this call is to fail. Otherwise it reads as many bytes as there are and
+    /// `buf` has room for.
     fn read(&mut self, name: &str, from: u64, buf: &mut [u8]) -> Result<usize, ReadFail>
         ensures told { IsErrOf result ReadFail.Failed
             ↔ Contains (desk_failing self.old) (desk_calls self.old) }
@@ -203,7 +203,8 @@ impl Desk for MemDesk {
         }
     }
 
-    /// Fails exactly where this call is to fail or an allocation is refused.
+    /// Fails exactly when this call is to fail or an allocation is refused. A call that is to fail
+    /// counts no refusal.
     fn create(&mut self, name: &str) -> Result<(), Failed>
         ensures told { Contains (desk_failing self.old) (desk_calls self.old) → IsErr result }
         ensures not_asked { Contains (desk_failing self.old) (desk_calls self.old) →
@@ -237,7 +238,8 @@ impl Desk for MemDesk {
         }
     }
 
-    /// Fails exactly where this call is to fail or an allocation is refused, and else takes all.
+    /// Fails exactly when this call is to fail or an allocation is refused. Otherwise it takes all
+    /// bytes. A call that is to fail counts no refusal.
     fn append(&mut self, name: &str, bytes: &[u8]) -> Result<usize, Failed>
         ensures all { IfOk result (λ n. n ≡ length bytes.now) }
         ensures told { Contains (desk_failing self.old) (desk_calls self.old) → IsErr result }
@@ -275,8 +277,8 @@ impl Desk for MemDesk {
     }
 }
 
-/// Copies the bytes from a place on to the front of the buffer, as far as they and it go, and
-/// answers how many.
+/// Copies the bytes from a place on to the start of the buffer, as many as there are and the buffer
+/// has room for. Answers how many.
 fn copy_from(bytes: &[u8], from: u64, buf: &mut [u8]) -> usize
     ensures count { result ≡ min (length bytes.now - from) (length buf.old) }
     ensures copied { take result buf.new ≡ take result (drop from bytes.now) }
@@ -290,8 +292,8 @@ fn copy_from(bytes: &[u8], from: u64, buf: &mut [u8]) -> usize
     count
 }
 
-/// A sink in memory. It fails at the calls of `Sink` whose numbers it was made with, and where an
-/// allocation is refused, which it counts apart.
+/// A sink in memory. It fails at the calls of `Sink` whose numbers it was made with, and if an
+/// allocation is refused. Such refusals have a count of their own.
 #[derive(Drop)]
 pub struct MemSink {
     bytes: Vec<u8>,
@@ -303,8 +305,8 @@ pub struct MemSink {
 impl MemSink {
     ghost use Rattle.xray_io.specs.Memory.{sink_bytes, sink_calls, sink_failing, sink_refused, sink_faults};
 
-    /// A sink that was written nothing. `failing` has the numbers, from 0, of the calls of `Sink`
-    /// that are to fail.
+    /// A sink that nothing was written to. `failing` has the numbers, from 0, of the calls of
+    /// `Sink` that are to fail.
     pub fn new(alloc: Global, failing: Vec<u64>) -> Self
         ensures empty { sink_bytes result ≡ [] }
         ensures failing { sink_failing result ≡ failing.items }
@@ -327,7 +329,7 @@ impl MemSink {
         &self.bytes
     }
 
-    /// How often an allocation for a write was refused.
+    /// How many writes failed for want of memory.
     pub fn refused(&self) -> u64
         ensures { result ≡ sink_refused self.now }
     {
@@ -346,7 +348,8 @@ impl Sink for MemSink {
 
     ghost along = { λ _ _ _. Unit {0} };
 
-    /// Fails exactly where this call is to fail or an allocation is refused, and else takes all.
+    /// Fails exactly when this call is to fail or an allocation is refused. Otherwise it takes all
+    /// bytes. A call that is to fail counts no refusal.
     fn write(&mut self, bytes: &[u8]) -> Result<usize, Failed>
         ensures told { Contains (sink_failing self.old) (sink_calls self.old) → IsErr result }
         ensures not_asked { Contains (sink_failing self.old) (sink_calls self.old) →

@@ -5,8 +5,9 @@ use crate::{Desk, DeskFile, WriteFault, write_all};
 
 /// Creates `name`, whether the desk held it before or not, and writes its bytes.
 ///
-/// On `WriteFault` the name holds what it held, if its creation failed, or else a prefix of the
-/// bytes. The desk counted a fault of writing, and was not called after the call that failed.
+/// On `WriteFault`, if the creation failed, the name holds what it held before. Otherwise it holds
+/// a prefix of the bytes. The desk counted a fault of writing. It wasn't called again after the
+/// call that failed.
 pub fn write_output<D: Desk>(desk: &mut D, name: &str, bytes: &[u8]) -> Result<(), WriteFault>
     ensures { MakesOutput D.held D.read_faults D.write_faults D.along
         desk.old desk.new name.now bytes.now result }

@@ -1,15 +1,16 @@
 //! The parts of a text.
 
-/// A part of a text that is printed without taking memory.
+/// A part of a text: bytes, or a number and the way to print it.
 #[derive(Debug, Clone, Copy, PartialEq, Eq)]
 pub enum Piece<'a> {
     /// These bytes.
     Bytes(&'a [u8]),
     /// A number in decimal digits, without leading zeros.
     Number(u128),
-    /// A number in decimal digits, at the right end of `width` places. A longer number stands whole.
+    /// A number in decimal digits, with spaces before it up to `width` places. A longer number is
+    /// printed whole.
     Right { number: u128, width: usize },
-    /// A number in lower-case hexadecimal digits. Where these are fewer than `digits`, zeros stand
-    /// in front of them, so that all are `digits`.
+    /// A number in lower-case hexadecimal digits, with zeros before it up to `digits` digits. A
+    /// longer number is printed whole.
     Hex { number: u64, digits: usize },
 }

@@ -8,20 +8,22 @@ use crate::Failed;
 
 /// A place that takes bytes at its end, as a file that is appended to or a stream does.
 pub trait Sink {
-    /// All that was written, where the sink tells it.
+    /// All that was written, if the sink reports it.
     ghost written: { Self → Option (List ℕ) };
 
     /// How many writes have failed.
     ghost faults: { Self → ℕ };
 
-    /// What stays the same, from one state of the sink to a later one, of what stands behind it.
+    /// What stays the same of all that the sink writes to, from one state of the sink to a later
+    /// one.
     ghost follows: { Self → Self → Type 0 };
 
-    /// These writes, in this order and no others, lead from one state of the sink to another.
+    /// These writes, in this order and no others, lead from the first state of the sink to the
+    /// second.
     ghost along: { Self → Self → List Write → Type 0 };
 
-    /// Writes a front of `bytes` at the end, and answers how many. None is only an answer for no
-    /// bytes. `Failed` has written nothing and counted a fault.
+    /// Writes a prefix of `bytes` at the end, and answers its length. The length is 0 only if
+    /// `bytes` is empty. On `Failed` nothing was written, and the fault was counted.
     fn write(&mut self, bytes: &[u8]) -> Result<usize, Failed>
         ensures within { IfOk result (λ n. n ≤ length bytes.now) }
         ensures taken { IfOk result (λ n.
@@ -34,16 +36,18 @@ pub trait Sink {
         ensures follows { follows self.old self.new }
         ensures along { along self.old self.new (Wrote (length bytes.now) result ∷ []) };
 
-    /// A sink that nothing is done to follows itself.
+    /// Each state follows itself.
     ghost follows_itself: { (sink : Self) → follows sink sink };
 
-    /// What follows a follower follows.
+    /// If a second state follows the first and a third follows the second, then the third follows
+    /// the first.
     ghost follows_along: { (first second third : Self) →
         follows first second → follows second third → follows first third };
 
-    /// No write leads from a state to itself.
+    /// No writes lead from a state to itself.
     ghost along_none: { HoldsOfNone along };
 
-    /// Writes, and then other writes, lead where the other writes lead.
+    /// If some writes lead to a state, and other writes on from there, then all of them in turn
+    /// lead the whole way.
     ghost along_both: { Composes along };
 }

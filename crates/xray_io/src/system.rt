@@ -1,4 +1,4 @@
-//! The edge to the system: files by name, and the standard streams. Their bytes are not told.
+//! The edge to the system: files by name, and the standard streams. They don't report their bytes.
 ghost use Rattle.std.specs.Prelude.{◌≡◌, ◌+◌, ◌-◌, ◌^◌, ◌≤◌, ◌<◌, [], length, take, min, string_bytes, None, IfOk, IfSome, OnOk, OnErr};
 ghost use Rattle.std.specs.Io.KnownBytes.{Appends};
 ghost use Rattle.xray_io.specs.Desk.{Untold};
@@ -10,10 +10,11 @@ use std::io::{Read, Seek, SeekFrom, Write};
 use std::rt::Files;
 use std::{fs, io};
 
-/// The files of the system, by path. Each error is a fault, a missing file too.
+/// The files of the system, by path. Each error is a fault, that of a missing file too.
 ///
-/// A file stays open while reads go on where the last one ended, so that a pipe can be read, and
-/// while writes go on with the name that was written last, so that a pipe can be written.
+/// The file that was read last stays open while reads go on where the last one ended, so that a
+/// pipe can be read. The file that was written last stays open while the same name is written, so
+/// that a pipe can be written.
 #[derive(Drop)]
 pub struct FileDesk<R: Files> {
     rt: R,
@@ -23,7 +24,7 @@ pub struct FileDesk<R: Files> {
     write_faults: u64,
 }
 
-/// A file that was written up to its end.
+/// A file that is open at its end, for writing.
 #[derive(Drop)]
 struct Written<F> {
     name: String,
@@ -65,7 +66,7 @@ impl<R: Files + AllocGlobal> FileDesk<R> {
         Ok(Opened { name, file, place })
     }
 
-    /// The file at this place: the one that was read last, where it is there, or else opened.
+    /// The file that was read last, if it is this one at this place. Otherwise the file is opened.
     fn take_opened(&mut self, name: &str, place: u64) -> io::Result<Opened<R::File>>
         ensures name { IfOk result (λ opened. string_bytes opened.name ≡ name.now) }
         ensures place { IfOk result (λ opened. opened.place ≡ place) }
@@ -102,7 +103,7 @@ impl<R: Files + AllocGlobal> FileDesk<R> {
         Ok(Written { name, file })
     }
 
-    /// Opens a file at its end, and begins one that isn't there.
+    /// Opens a file at its end. A missing file is begun.
     fn open_end(&self, name: &str) -> io::Result<Written<R::File>>
         ensures name { IfOk result (λ written. string_bytes written.name ≡ name.now) }
     {
@@ -114,7 +115,7 @@ impl<R: Files + AllocGlobal> FileDesk<R> {
         Ok(Written { name, file })
     }
 
-    /// The file at its end: the one that was written last, or else opened.
+    /// The file that was written last, if it is this one. Otherwise the file is opened at its end.
     fn take_written(&mut self, name: &str) -> io::Result<Written<R::File>>
         ensures name { IfOk result (λ written. string_bytes written.name ≡ name.now) }
         ensures read_faults { self.new.read_faults ≡ self.old.read_faults }
@@ -261,7 +262,7 @@ impl<P: Print> Sink for ErrSink<P> {
     ghost along_both = { λ _ _ _ _ _ _ _. tt };
 }
 
-/// Writes a front of the bytes. An error is a fault, and so is a write that took none of them.
+/// Writes a prefix of the bytes. An error is a fault, and so is a write that took none of them.
 fn write_some<W: Write>(to: &mut W, bytes: &[u8], faults: &mut u64) -> Result<usize, Failed>
     ensures within { IfOk result (λ n. n ≤ length bytes.now) }
     ensures taken { IfOk result (λ n.

@@ -1,4 +1,5 @@
-//! What no clause says: that calls succeed, the printed digits, and the edge to the system.
+//! What no clause says: that calls succeed, the digits that are printed, and the edge to the
+//! system.
 ghost use Rattle.std.specs.Prelude.{◌^◌, None};
 ghost use Rattle.xray_io.specs.Desk.{Untold};
 
@@ -12,8 +13,8 @@ use std::io::Write;
 use std::test::Fail;
 use std::{fs, io};
 
-/// A desk that gives one byte a read and takes one a write, and looks whether each read goes on
-/// where the last one ended.
+/// A desk that reads and writes one byte a call, and checks that each read begins where the last
+/// one ended.
 #[derive(Drop)]
 struct Trickle {
     desk: MemDesk,
@@ -55,7 +56,7 @@ impl Desk for Trickle {
     }
 }
 
-/// A sink that takes three bytes a write at most.
+/// A sink that takes at most three bytes a write.
 #[derive(Drop)]
 struct Sips {
     sink: MemSink,
@@ -167,7 +168,7 @@ fn short_reads_go_on_and_ask_for_no_byte_twice(rt: HostRuntime) -> Result<(), Fa
             None => assert_eq!(rt; read, Err(ReadError::TooLong)),
         }
         assert!(rt; trickle.in_order);
-        // At the limit one byte more was asked for, and none behind it.
+        // At the limit one byte more was asked for, and none after that.
         assert_eq!(rt; trickle.next, 5, "limit {limit}");
     }
     Ok(())
@@ -191,7 +192,7 @@ fn a_desk_in_memory_fails_where_it_is_told(rt: HostRuntime) -> Result<(), Fail> 
     assert_eq!(rt; desk.read("c", 0, &mut buf), Err(ReadFail::Failed));
     assert_eq!(rt; desk.read("b", 3, &mut buf), Ok(0));
     assert_eq!(rt; desk.refused(), 0);
-    // The first, second and third read of a whole input in their turn.
+    // The first, second and third read of a whole input fail in turn.
     for failing in 0..3 {
         let mut desk = MemDesk::new(alloc, vec![in alloc; failing]?);
         desk.put("a", b"one")?;
@@ -208,7 +209,7 @@ fn a_desk_in_memory_fails_where_it_is_told(rt: HostRuntime) -> Result<(), Fail> 
 #[test]
 fn a_desk_in_memory_is_written_at_the_end_of_a_name(rt: HostRuntime) -> Result<(), Fail> {
     let alloc = rt.alloc();
-    // Reads, creates and appends are numbered together.
+    // Reads, creates and appends share one numbering.
     let mut desk = MemDesk::new(alloc, vec![in alloc; 5, 6]?);
     desk.put("a", b"old")?;
     desk.put("b", b"kept")?;
@@ -312,8 +313,8 @@ fn numbers_are_printed_in_their_digits(rt: HostRuntime) -> Result<(), Fail> {
     Ok(())
 }
 
-/// Parts around the 4,096 bytes that a text gathers: the whole, and what stands after the second
-/// write failed.
+/// Parts around the 4,096 bytes that a text gathers: the whole text, and what was written when the
+/// second write fails.
 #[test]
 fn a_long_text_is_whole_or_a_front_of_it(rt: HostRuntime) -> Result<(), Fail> {
     let alloc = rt.alloc();
@@ -390,7 +391,7 @@ fn files_are_written_by_name(rt: HostRuntime) -> Result<(), Fail> {
     assert_eq!(rt; desk.create(first), Ok(()));
     assert_eq!(rt; read_whole(alloc, &mut desk, first, 9)?.len(), 0);
     assert_eq!(rt; desk.append(first, b"one"), Ok(3));
-    // A name that isn't there is begun, and the other goes on at its end behind it.
+    // A name that isn't there is begun, and another name grows at its end.
     assert_eq!(rt; desk.append(second, b"begun"), Ok(5));
     assert_eq!(rt; desk.append(first, b" two"), Ok(4));
     assert_eq!(rt; desk.append(first, b""), Ok(0));

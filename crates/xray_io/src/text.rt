@@ -10,17 +10,17 @@ use crate::digits::{MOST_DIGITS, ZERO, put_digits};
 use crate::waiting::{ROOM, Waiting};
 use crate::{Piece, Sink, WriteFault, write_all};
 
-/// What stands before a number that is aligned at its right end.
+/// What pads a number on its left.
 const SPACE: u8 = b' ';
 
-/// How many equal bytes one call adds.
+/// The most equal bytes that one call adds.
 const FILLED: usize = 16;
 
-/// Text on its way to a sink. It is gathered in an array, so that the sink gets few writes and no
-/// memory is taken. After the last part, `done` writes what still waits; a `Text` that is
-/// dropped before has written a front of its text alone.
+/// Text on its way to a sink. It is gathered in an array, so that the sink gets few writes. After
+/// the last part, `done` writes what still waits. If a `Text` is dropped before that, only a prefix
+/// of its text was written.
 ///
-/// Once a call has failed, the text has a hole: nothing is said of the calls after it.
+/// Once a call has failed, parts of the text may be missing. No clause says what later calls write.
 #[derive(Drop)]
 pub struct Text<'a, S> {
     sink: &'a mut S,
@@ -59,7 +59,7 @@ impl<'a, S: Sink> Text<'a, S> {
         Ok(())
     }
 
-    /// Writes what waits, where there is no room for this many bytes beside it.
+    /// Writes what waits, unless there is room for this many bytes more.
     fn make_room(&mut self, len: usize) -> Result<(), WriteFault>
         ensures room { OnOk result (ROOM < length (waiting self.new) + len →
             waiting self.new ≡ []) }
@@ -79,7 +79,8 @@ impl<'a, S: Sink> Text<'a, S> {
         Ok(())
     }
 
-    /// Keeps bytes that there is room for, and writes bytes that there never is.
+    /// Keeps the bytes if there is room for them beside those that wait. If they are too long for
+    /// the array, writes them.
     fn put(&mut self, bytes: &[u8]) -> Result<(), WriteFault>
         requires room { ROOM < length (waiting self.old) + length bytes.now →
             waiting self.old ≡ [] }
@@ -146,8 +147,8 @@ impl<'a, S: Sink> Text<'a, S> {
         Ok(())
     }
 
-    /// Adds a number in decimal digits, at the right end of `width` places. A longer number stands
-    /// whole.
+    /// Adds a number in decimal digits, with spaces before it up to `width` places. A longer number
+    /// is added whole.
     pub fn right(&mut self, n: u128, width: usize) -> Result<(), WriteFault>
         ensures gains { OnOk result (Gains S.written self.old self.new (right_aligned n width)) }
         ensures breaks { OnErr result
@@ -165,8 +166,8 @@ impl<'a, S: Sink> Text<'a, S> {
         self.bytes(digits)
     }
 
-    /// Adds a number in lower-case hexadecimal digits. Where these are fewer than `digits`, zeros
-    /// stand in front of them, so that all are `digits`.
+    /// Adds a number in lower-case hexadecimal digits, with zeros before it up to `digits` digits.
+    /// A longer number is added whole.
     pub fn hex(&mut self, n: u64, digits: usize) -> Result<(), WriteFault>
         ensures gains { OnOk result (Gains S.written self.old self.new (hexadecimal n digits)) }
         ensures breaks { OnErr result
@@ -204,7 +205,7 @@ impl<'a, S: Sink> Text<'a, S> {
         }
     }
 
-    /// Adds pieces, one behind the other.
+    /// Adds pieces, one after the other.
     pub fn pieces(&mut self, pieces: &[Piece]) -> Result<(), WriteFault>
         ensures gains { OnOk result (Gains S.written self.old self.new (text_of pieces.now)) }
         ensures breaks { OnErr result
@@ -242,8 +243,8 @@ impl<'a, S: Sink> Text<'a, S> {
     }
 }
 
-/// Writes the text of these pieces. On `WriteFault` a front of it was written, and the sink counted
-/// a fault.
+/// Writes the text of these pieces. On `WriteFault` a prefix of it was written, and the sink
+/// counted a fault.
 pub fn write_pieces<S: Sink>(sink: &mut S, pieces: &[Piece]) -> Result<(), WriteFault>
     ensures all { OnOk result
         (Adds (S.written sink.old) (S.written sink.new) (text_of pieces.now)) }

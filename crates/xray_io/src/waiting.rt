@@ -3,7 +3,7 @@ ghost use Rattle.std.specs.Prelude.{◌≡◌, ◌+◌, ◌≤◌, [], ◌++◌,
 
 use std::marker::Model;
 
-/// How many bytes may wait.
+/// The most bytes that may wait.
 pub const ROOM: usize = 4096;
 
 #[derive(Drop)]
@@ -34,14 +34,14 @@ impl Waiting {
         }
     }
 
-    /// The bytes that wait, the first given first.
+    /// The bytes that wait, in the order in which they were added.
     pub fn as_slice(&self) -> &[u8]
         ensures { result.now ≡ self.now }
     {
         &self.bytes[..self.len]
     }
 
-    /// How many more there is room for.
+    /// How many more bytes may be added.
     pub fn room(&self) -> usize
         ensures { result + length self.now ≡ ROOM }
     {
@@ -58,7 +58,7 @@ impl Waiting {
         self.len = end;
     }
 
-    /// Lets all of them go, once they were written.
+    /// Forgets all bytes, once they were written.
     pub fn clear(&mut self)
         ensures { self.new ≡ [] }
     {

@@ -10,16 +10,15 @@ ghost use Rattle.xray_io.specs.Writes.{WritesText};
 use crate::{Desk, ReadError, Sink, WriteFault};
 use std::alloc::Global;
 
-/// How many bytes are asked for at a time.
+/// The most bytes that one read asks for.
 const PIECE: usize = 65_536;
 
-/// Reads all that `name` holds, which may be `limit` bytes at most. The bytes are asked for once
-/// each, from the first on, and never more than `limit + 1` of them. The memory that it takes
-/// grows with what was read, and not with the limit.
+/// Reads all that `name` holds, at most `limit` bytes. Each read begins where the one before it
+/// ended, and none asks for a byte past the first `limit + 1`.
 ///
-/// `ReadFault` comes where a read failed or the desk doesn't hold the name, `TooLong` where
-/// more than `limit` bytes were there, and `NoMemory` where an allocation was refused. What was
-/// read is lost then.
+/// `ReadFault` means that a read failed or that the desk doesn't hold the name. `TooLong` means
+/// that there were more than `limit` bytes. `NoMemory` means that an allocation was refused. What
+/// was read is lost then.
 pub fn read_whole<D: Desk>(
     alloc: Global,
     desk: &mut D,
@@ -88,8 +87,8 @@ fn read_on<D: Desk>(
     Err(ReadError::TooLong)
 }
 
-/// Reads on behind the bytes that were read, and adds what it got. It answers how many that was:
-/// none is the end.
+/// Reads on from where the bytes so far end, and adds what it got. Answers how many bytes that was.
+/// None is the end.
 #[tactic(auto, using(crate::proofs::Reading::front_more))]
 fn add_piece<D: Desk>(
     desk: &mut D,
@@ -126,7 +125,7 @@ fn add_piece<D: Desk>(
     }
 }
 
-/// Writes all of `bytes`. On `WriteFault` a front of them was written, and the sink counted a
+/// Writes all of `bytes`. On `WriteFault` a prefix of them was written, and the sink counted a
 /// fault.
 #[tactic(auto, using(crate::proofs::Writing::adds_on, crate::proofs::Writing::front_failed))]
 pub fn write_all<S: Sink>(sink: &mut S, bytes: &[u8]) -> Result<(), WriteFault>

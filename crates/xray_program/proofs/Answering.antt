@@ -1,5 +1,5 @@
 -- The contract of a call, from how it ends.
-use Rattle.std.proofs.Common.{◌≡◌, ◌≢◌, ◌⊎◌, ℕ, List, Option, Some, None, inl, inr, refl, sym, subst}
+use Rattle.std.proofs.Common.{◌≡◌, ◌≢◌, ◌⊎◌, ◌∙◌, ℕ, List, Option, Some, None, inl, inr, refl, sym, ap, subst}
 use Rattle.xray_io.specs.Calls.{Call, Went}
 use Rattle.xray_io.specs.Desk.{Entry, Absent}
 use Rattle.xray_io.specs.Faults.{Rose}
@@ -9,9 +9,12 @@ use Rattle.xray_program.specs.Order.{InOrder}
 use Rattle.xray_program.specs.Outcomes.{Outcome, BadLine, Unread, TooLong, Refused, Done, Fell, Ending, With, Unwritten, NoMemory, status_at, line_at, written_by}
 use Rattle.xray_program.specs.Outputs.{FailsWriting}
 use Rattle.command_words.specs.Words.{Command}
-use Rattle.xray_program.specs.Works.{Ends, KeepsOthers, StandsBehind}
+use Rattle.xray_program.specs.Stops.{stop_status}
+use Rattle.xray_program.specs.Works.{Ends, KeepsOthers, SaidFits, StandsBehind}
+use Rattle.xray_program.specs.declared.stop.Stop.{Stop}
+use Rattle.xray_program.specs.declared.stop.Stop.TheVariants as stops
 use Rattle.xray_io.specs.World.{World}
-use Rattle.xray_program.proofs.Headline.{TearsNone, simulated}
+use Rattle.xray_program.proofs.Headline.{CallLaws, simulated}
 use Rattle.xray_program.proofs.Saying.{says_nothing}
 
 -- a number is none of these others
@@ -52,10 +55,10 @@ not_bad outcome of writes e = none (rw e at writes)
     none e = cc
 
 -- how the parts of the contract follow, one for each ending
-by_ending : TearsNone → (Way : List Call → Type 0) (said : Option Command) (before after : World) (ending : Ending)
-    → StandsBehind said before.desk after.desk before.out after.out ending → KeepsOthers (outputs_named said) before.desk after.desk
+by_ending : CallLaws → (Way : List Call → Type 0) (said : Option Command) (before after : World) (ending : Ending)
+    → (status_at ending ≡ 0 → SaidFits said) → StandsBehind said before.desk after.desk before.out after.out ending → KeepsOthers (outputs_named said) before.desk after.desk
     → Went Way (InOrder said before.desk after.desk ending) → Says before.err after.err (line_at ending) → Answered said before after Way (status_at ending)
-by_ending tears Way said before after (With BadLine) (is, nothing) kept order told = record {
+by_ending laws Way said before after (With BadLine) fits (is, nothing) kept order told = record {
   ending = With BadLine;
   status = refl;
   told = told;
@@ -72,7 +75,7 @@ by_ending tears Way said before after (With BadLine) (is, nothing) kept order to
   complete = inl (BadLine, means_bad said before.desk.held is, refl);
   headline = λ e. absurd cc;
 }
-by_ending tears Way said before after (With (Refused n kind refusal)) (meant, nothing) kept order told = record {
+by_ending laws Way said before after (With (Refused n kind refusal)) fits (meant, nothing) kept order told = record {
   ending = With (Refused n kind refusal);
   status = refl;
   told = told;
@@ -89,7 +92,7 @@ by_ending tears Way said before after (With (Refused n kind refusal)) (meant, no
   complete = inl (Refused n kind refusal, meant, refl);
   headline = λ e. absurd cc;
 }
-by_ending tears Way said before after (With (TooLong n)) (meant, nothing) kept order told = record {
+by_ending laws Way said before after (With (TooLong n)) fits (meant, nothing) kept order told = record {
   ending = With (TooLong n);
   status = refl;
   told = told;
@@ -106,7 +109,7 @@ by_ending tears Way said before after (With (TooLong n)) (meant, nothing) kept o
   complete = inl (TooLong n, meant, refl);
   headline = λ e. absurd cc;
 }
-by_ending tears Way said before after (With (Unread n)) ((turn, cause), nothing) kept order told = record {
+by_ending laws Way said before after (With (Unread n)) fits ((turn, cause), nothing) kept order told = record {
   ending = With (Unread n);
   status = refl;
   told = told;
@@ -128,7 +131,7 @@ by_ending tears Way said before after (With (Unread n)) ((turn, cause), nothing)
         → IsAnswer said before after 3
     answers (inl rose) = inr (inr (inl (refl, rose)))
     answers (inr (absent, meant)) = inl (Unread n, meant, refl)
-by_ending tears Way said before after (With (Done outputs text)) (meant, writes) kept order told = record {
+by_ending laws Way said before after (With (Done outputs text)) fits (meant, writes) kept order told = record {
   ending = With (Done outputs text);
   status = refl;
   told = told;
@@ -152,9 +155,9 @@ by_ending tears Way said before after (With (Done outputs text)) (meant, writes)
   untouched = λ e. not_five 0 (λ x. cc) (λ x. cc) (λ x. cc) (λ x. cc) (λ x. cc) e;
   names = kept;
   complete = inl (Done outputs text, meant, refl);
-  headline = λ e. simulated tears said before after outputs text meant writes.whole writes.printed;
+  headline = λ e. simulated laws said before after (fits refl) outputs text meant writes.whole writes.printed;
 }
-by_ending tears Way said before after (With (Fell outputs text trouble)) (meant, writes) kept order told = record {
+by_ending laws Way said before after (With (Fell outputs text trouble)) fits (meant, writes) kept order told = record {
   ending = With (Fell outputs text trouble);
   status = refl;
   told = told;
@@ -180,8 +183,8 @@ by_ending tears Way said before after (With (Fell outputs text trouble)) (meant,
   complete = inl (Fell outputs text trouble, meant, refl);
   headline = λ e. absurd cc;
 }
-by_ending tears Way said before after (Unwritten n) fails kept order told = record {
-  ending = Unwritten n;
+by_ending laws Way said before after (Unwritten n outputs) fits fails kept order told = record {
+  ending = Unwritten n outputs;
   status = refl;
   told = told;
   order = order;
@@ -192,11 +195,11 @@ by_ending tears Way said before after (Unwritten n) fails kept order told = reco
   unread = λ e. absurd cc;
   unwritten = λ e. record {
     name = n;
-    is = refl;
     outcome = fails.outcome;
     meant = fails.comes;
     outputs = fails.outputs;
     text = fails.text;
+    is = ap (λ (o : List (List ℕ × List ℕ)). Unwritten n o) (sym fails.then_so);
     writes = fails.writes;
     failed = fails.failed;
   };
@@ -211,7 +214,7 @@ by_ending tears Way said before after (Unwritten n) fails kept order told = reco
         → Rose before.desk.write_faults after.desk.write_faults ⊎ Rose before.out.faults after.out.faults
     fault (inl (at, silent)) = inl at.fault
     fault (inr at) = inr at.fault
-by_ending tears Way said before after NoMemory nothing kept order told = record {
+by_ending laws Way said before after NoMemory fits nothing kept order told = record {
   ending = NoMemory;
   status = refl;
   told = told;
@@ -230,9 +233,20 @@ by_ending tears Way said before after NoMemory nothing kept order told = record 
 }
 
 -- a call that ended so, and whose line is on err
-pub answered : TearsNone → (Way : List Call → Type 0) (said : Option Command) (before after : World) (answer : ℕ) (line : List ℕ)
-    → Ends said before.desk after.desk before.out after.out Way answer line → Says before.err after.err line → Answered said before after Way answer
-answered tears Way said before after answer line ends says =
+pub answered : CallLaws → (Way : List Call → Type 0) (said : Option Command) (before after : World) (answer : ℕ) (line : List ℕ)
+    → (answer ≡ 0 → SaidFits said) → Ends said before.desk after.desk before.out after.out Way answer line → Says before.err after.err line
+    → Answered said before after Way answer
+answered laws Way said before after answer line fits ends says =
     subst (Answered said before after Way) ends.status
-    (by_ending tears Way said before after ends.ending ends.stands ends.names ends.order
+    (by_ending laws Way said before after ends.ending (λ e. fits (sym ends.status ∙ e)) ends.stands ends.names ends.order
     (subst (λ (l : List ℕ). Says before.err after.err l) (sym ends.told) says))
+
+-- what stopped a call isn't 0
+pub stops_above : (stop : Stop) → stop_status stop ≡ 0 → ⊥
+stops_above stops.BadLine e = cc
+stops_above (stops.Unread n) e = cc
+stops_above (stops.TooLong n) e = cc
+stops_above (stops.Refused n kind words) e = cc
+stops_above (stops.Fell words) e = cc
+stops_above (stops.Unwritten n) e = cc
+stops_above stops.NoMemory e = cc

@@ -31,21 +31,21 @@ pub record Existence : Type 0 where
 -- a command that is decided comes to one thing
 command_alone : Laws → (held : List ℕ → Entry) → TellsAll held → (command : Command) → is_decided command ≡ true
     → IsAlone AnyOutcome (Comes Sound held command)
-command_alone laws held told (Sim i s c options) decided = sim_alone (image_decided laws.verdict laws.accepts) laws.run held i s c (setup_of options) told
+command_alone laws held told (Sim i s c t a options) decided = sim_alone (image_decided laws.verdict laws.accepts) laws.run held i s c t a (setup_of options) told
 command_alone laws held told (Plain i bounds) decided = plain_alone (image_decided laws.verdict laws.accepts) laws.end held i bounds told
 command_alone laws held told (Extract i) decided = extract_alone (image_decided laws.verdict laws.accepts) held i told
 command_alone laws held told (Asm t i threshold) decided = asm_alone held t i threshold told
 
 -- a refusal of any command is all that comes of it
 command_refuses : Laws → (held : List ℕ → Entry) → TellsAll held → (command : Command) → IsAlone IsRefusal (Comes Sound held command)
-command_refuses laws held told (Sim i s c options) = refusal_alone _ (command_alone laws held told (Sim i s c options) refl)
+command_refuses laws held told (Sim i s c t a options) = refusal_alone _ (command_alone laws held told (Sim i s c t a options) refl)
 command_refuses laws held told (Plain i bounds) = refusal_alone _ (command_alone laws held told (Plain i bounds) refl)
 command_refuses laws held told (Extract i) = refusal_alone _ (command_alone laws held told (Extract i) refl)
 command_refuses laws held told (Asm t i threshold) = refusal_alone _ (command_alone laws held told (Asm t i threshold) refl)
 
 -- each command comes to something
 command_some : Existence → (held : List ℕ → Entry) → TellsAll held → HoldsBytes held → (command : Command) → SomeOutcome (Comes Sound held command)
-command_some laws held told holds (Sim i s c options) = sim_some (image_judged laws.verdict laws.accepts) laws.run held i s c (setup_of options) told holds
+command_some laws held told holds (Sim i s c t a options) = sim_some (image_judged laws.verdict laws.accepts) laws.run held i s c t a (setup_of options) told holds
 command_some laws held told holds (Plain i bounds) = plain_some (image_judged laws.verdict laws.accepts) laws.end held i bounds told holds
 command_some laws held told holds (Extract i) = extract_some (image_judged laws.verdict laws.accepts) held i told holds
 command_some laws held told holds (Asm t i threshold) = asm_some held t i threshold told holds

@@ -15,7 +15,7 @@ use Rattle.xray_program.specs.Outcomes.{Outcome, BadLine, Unread, TooLong, Refus
 use Rattle.xray_program.specs.Outputs.{AreWhole, AreUntouched, FailsAt, FailsAtOut, FailsWriting, HoldsPrefix, WritesNothing}
 use Rattle.xray_program.specs.Stops.{answer_of, stop_line, stop_status, told_of}
 use Rattle.xray_program.specs.Takes.{IsStopAtInput, StopsTakings}
-use Rattle.xray_program.specs.Taking.{Sound, ended_by}
+use Rattle.xray_program.specs.Taking.{DeskReads, Sound, AllAccepted, ended_by}
 use Rattle.command_words.specs.Words.{Command, outputs_of}
 use Rattle.xray_program.specs.Works.{AreMakings, Delivers, Ends, Finishes, KeepsOthers, StopsOutputs, Writes}
 use Rattle.xray_io.specs.World.{DeskView, SinkView}
@@ -130,7 +130,7 @@ read_only inputs calls later reads none = subst (ReadsAll inputs) (sym (ap (λ (
 -- a call that ended at an input
 pub ends_at_input : (command : Command) (desk desk_now : DeskView) (out : SinkView) (Way : List Call → Type 0) (result : Result (Unit {0}) Stop) (stop : Stop)
     → IsErrAnd result (λ s. s ≡ stop) → IsStopAtInput (λ reads. Comes reads desk.held command) desk desk_now stop → desk_now.held ≡ desk.held
-    → Went Way (StopsTakings (inputs_of command) stop) → Ends (Some command) desk desk_now out out Way (answer_of result) (told_of result)
+    → Went Way (StopsTakings (λ reads. Comes reads desk.held command) (inputs_of command) stop) → Ends (Some command) desk desk_now out out Way (answer_of result) (told_of result)
 ends_at_input command desk desk_now out Way (Ok done) stop is stands same went = absurd is
 ends_at_input command desk desk_now out Way (Err s) stop is stands same went = rw is (behind stop stands went)
   where
@@ -138,7 +138,7 @@ ends_at_input command desk desk_now out Way (Err s) stop is stands same went = r
     kept name not = ap (λ (h : List ℕ → Entry). h name) same
 
     behind : (stop : Stop) → IsStopAtInput (λ reads. Comes reads desk.held command) desk desk_now stop
-        → Went Way (StopsTakings (inputs_of command) stop) → Ends (Some command) desk desk_now out out Way (stop_status stop) (stop_line stop)
+        → Went Way (StopsTakings (λ reads. Comes reads desk.held command) (inputs_of command) stop) → Ends (Some command) desk desk_now out out Way (stop_status stop) (stop_line stop)
     behind stops.BadLine stands went = absurd stands
     behind (stops.Unread n) stands went = record {
       ending = With (Unread n.now);
@@ -147,7 +147,7 @@ ends_at_input command desk desk_now out Way (Err s) stop is stands same went = r
       stands = (stands, (same, refl));
       names = kept;
       order = went_as Way _ (InOrder (Some command) desk desk_now (With (Unread n.now))) went (λ calls p.
-          let P : List ℕ → Type 0 = λ m. StopsAt (inputs_of command) m (λ limit. ReadsUpToFault m (limit + 1)) calls in subst P (sym p.1) p.2);
+          let P : List ℕ → Type 0 = λ m. StopsAt (inputs_of command) m (λ limit. ReadsUpToFault m (limit + 1)) calls in subst P (sym p.1) p.3);
     }
     behind (stops.TooLong n) stands went = record {
       ending = With (TooLong n.now);
@@ -156,7 +156,7 @@ ends_at_input command desk desk_now out Way (Err s) stop is stands same went = r
       stands = (stands, (same, refl));
       names = kept;
       order = went_as Way _ (InOrder (Some command) desk desk_now (With (TooLong n.now))) went (λ calls p.
-          let P : List ℕ → Type 0 = λ m. StopsAt (inputs_of command) m (λ limit. Reads m (limit + 1) 0 (limit + 1)) calls in subst P (sym p.1) p.2);
+          let P : List ℕ → Type 0 = λ m. StopsAt (inputs_of command) m (λ limit. Reads m (limit + 1) 0 (limit + 1)) calls in subst P (sym p.1) p.3);
     }
     behind (stops.Refused n kind words) stands went = record {
       ending = With (Refused n.now kind.now (words_text words));
@@ -165,7 +165,7 @@ ends_at_input command desk desk_now out Way (Err s) stop is stands same went = r
       stands = (stands, (same, refl));
       names = kept;
       order = went_as Way _ (InOrder (Some command) desk desk_now (With (Refused n.now kind.now (words_text words)))) went (λ calls p.
-          let P : List ℕ → Type 0 = λ m. StopsAt (inputs_of command) m (λ limit. ReadsWhole m limit) calls in inl (subst P (sym p.1) p.2));
+          let P : List ℕ → Type 0 = λ m. StopsAt (inputs_of command) m (λ limit. ReadsWhole m limit) calls in inl (subst P (sym p.1) p.3));
     }
     behind (stops.Fell words) stands went = absurd stands
     behind (stops.Unwritten n) stands went = absurd stands
@@ -175,12 +175,12 @@ ends_at_input command desk desk_now out Way (Err s) stop is stands same went = r
       told = refl;
       stands = (same, refl);
       names = kept;
-      order = went_as Way _ (InOrder (Some command) desk desk_now NoMemory) went (λ calls p. inl (p.0, p.2));
+      order = went_as Way _ (InOrder (Some command) desk desk_now NoMemory) went (λ calls p. inr (inl (p.0, p.2, p.3)));
     }
 
 -- a call that ended with its work
 pub ends_with_work : {S : Type 0} (along : S → S → List Call → Type 0) → Composes along → (first second third : S) (command : Command) (yields : Outcome → Type 0) (desk mid desk_now : DeskView) (out out_now : SinkView)
-    (result : Result (Unit {0}) Stop) → ((outcome : Outcome) → yields outcome → Comes Sound desk.held command outcome)
+    (result : Result (Unit {0}) Stop) → ((reads : DeskReads) (outcome : Outcome) → yields outcome → Comes reads desk.held command outcome)
     → mid.held ≡ desk.held → mid.write_faults ≡ desk.write_faults → Finishes yields mid desk_now out out_now (along second third) result
     → KeepsOthers (outputs_of command) mid desk_now → Went (along first second) (ReadsAll (inputs_of command))
     → Ends (Some command) desk desk_now out out_now (along first third) (answer_of result) (told_of result)
@@ -204,7 +204,7 @@ ends_with_work along both first second third command yields desk mid desk_now ou
       ending = With (Done left.outputs left.text);
       status = refl;
       told = refl;
-      stands = (comes _ left.comes, writes_over left.outputs left.text desk mid desk_now out out_now same left.writes);
+      stands = (comes Sound _ left.comes, writes_over left.outputs left.text desk mid desk_now out out_now same left.writes);
       names = kept;
       order = then_made left.outputs (With (Done left.outputs left.text))
           (λ calls later p q. record { before = calls; last = later; order = refl; reads = p; goes_on = q }) left.then_so;
@@ -216,38 +216,38 @@ ends_with_work along both first second third command yields desk mid desk_now ou
       ending = With (Refused n.now kind.now (words_text words));
       status = refl;
       told = refl;
-      stands = (comes _ yielded, nothing none);
+      stands = (comes Sound _ yielded, nothing none);
       names = kept;
       order = went_on along both first second third (ReadsAll (inputs_of command)) IsNoCall
           (InOrder (Some command) desk desk_now (With (Refused n.now kind.now (words_text words)))) read silent
-          (λ calls later p q. inr (read_only (inputs_of command) calls later p q));
+          (λ calls later p q. inr (comes AllAccepted _ yielded, read_only (inputs_of command) calls later p q));
     }
     by_result (Err (stops.Fell words)) left = record {
       ending = With (Fell left.outputs left.text (words_text words));
       status = refl;
       told = refl;
-      stands = (comes _ left.comes, writes_over left.outputs left.text desk mid desk_now out out_now same left.writes);
+      stands = (comes Sound _ left.comes, writes_over left.outputs left.text desk mid desk_now out out_now same left.writes);
       names = kept;
       order = then_made left.outputs (With (Fell left.outputs left.text (words_text words)))
           (λ calls later p q. record { before = calls; last = later; order = refl; reads = p; goes_on = q }) left.then_so;
     }
     by_result (Err (stops.Unwritten n)) left = record {
-      ending = Unwritten n.now;
+      ending = Unwritten n.now left.outputs;
       status = refl;
       told = refl;
       stands = record {
         outcome = left.outcome;
-        comes = comes left.outcome left.comes;
+        comes = comes Sound left.outcome left.comes;
         outputs = left.outputs;
         text = left.text;
         writes = left.writes;
         failed = fails_over left.outputs left.text desk mid desk_now out out_now n.now same counted left.failed;
-        then_so = tt;
+        then_so = refl;
       };
       names = kept;
       order = went_on along both first second third (ReadsAll (inputs_of command)) (IsUnmade left.outputs mid desk_now n.now)
-          (InOrder (Some command) desk desk_now (Unwritten n.now)) read left.then_so (λ calls later p q.
-          (left.outputs, record { before = calls; last = later; order = refl; reads = p; goes_on = unmade_over left.outputs desk mid desk_now n.now later same q }));
+          (InOrder (Some command) desk desk_now (Unwritten n.now left.outputs)) read left.then_so (λ calls later p q.
+          record { before = calls; last = later; order = refl; reads = p; goes_on = unmade_over left.outputs desk mid desk_now n.now later same q });
     }
     by_result (Err stops.NoMemory) left = record {
       ending = NoMemory;
@@ -256,7 +256,7 @@ ends_with_work along both first second third command yields desk mid desk_now ou
       stands = nothing left.0;
       names = kept;
       order = went_on along both first second third (ReadsAll (inputs_of command)) IsNoCall (InOrder (Some command) desk desk_now NoMemory) read left.1
-          (λ calls later p q. inr (read_only (inputs_of command) calls later p q));
+          (λ calls later p q. inr (inr (read_only (inputs_of command) calls later p q)));
     }
 
 -- words that say no command
@@ -264,26 +264,6 @@ pub bad_line : (said : Option Command) (desk : DeskView) (out : SinkView) (Way :
     → Ends said desk desk out out Way (stop_status stops.BadLine) (stop_line stops.BadLine)
 bad_line said desk out Way is none =
     record { ending = With BadLine; status = refl; told = refl; stands = (is, (refl, refl)); names = λ name not. refl; order = none }
-
--- no input was read
-no_input : (inputs : List (List ℕ × ℕ))
-    → ((name : List ℕ) × StopsAt inputs name (λ limit last. ReadsSome name (limit + 1) last ⊎ ReadsWhole name limit last) [])
-    ⊎ ReadsAll inputs []
-no_input [] = inr refl
-no_input (input ∷ inputs) = inl (
-  input.0,
-  record {
-    earlier = [];
-    limit = input.1;
-    later = inputs;
-    turn = refl;
-    before = [];
-    last = [];
-    order = refl;
-    reads = refl;
-    stops = inl (0, refl);
-  },
-)
 
 -- memory ran out while the words were read
 pub unread_words : (said : Option Command) (desk : DeskView) (out : SinkView) (Way : List Call → Type 0)
@@ -294,6 +274,5 @@ unread_words said desk out Way none = record {
   told = refl;
   stands = (refl, refl);
   names = λ name not. refl;
-  order = went_as Way IsNoCall (InOrder said desk desk NoMemory) none
-      (λ calls p. subst (InOrder said desk desk NoMemory) (sym p) (no_input (option_map_or inputs_of said [])));
+  order = went_as Way IsNoCall (InOrder said desk desk NoMemory) none (λ calls p. inl p);
 }

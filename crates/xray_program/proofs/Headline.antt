@@ -1,16 +1,26 @@
 -- The headline of `sim`, from what it means.
-use Rattle.std.proofs.Common.{◌≡◌, ℕ, List, length, Option, Some, None, option_map, Ok, inl, inr, refl, subst, codes}
-use Rattle.xray_io.specs.Desk.{Entry, Holds}
+use Rattle.std.specs.Prelude.{All}
+use Rattle.std.proofs.lemmas.List.Elements.{All-head, All-tail}
+use Rattle.std.proofs.Common.{◌≡◌, ℕ, List, [], ◌∷◌, length, Option, Some, None, option_map, Ok, inl, inr, refl, subst, codes}
+use Rattle.xray_io.specs.Desk.{Entry, Holds, made_to_hold}
 use Rattle.xray_io.specs.Sink.{Adds}
 use Rattle.machine_step.specs.declared.setup.Setup.{Setup}
 use Rattle.patch_script.specs.Plans.{waiting_line}
+use Rattle.patch_script.specs.declared.command.Command.{Command as PatchCommand}
 use Rattle.patch_script.specs.Refusals.{commands_of}
 use Rattle.step_sim.specs.Along.{TearsNoSled}
 use Rattle.step_sim.specs.FaultWords.{waits_words}
 use Rattle.step_sim.specs.Replay.{AllRunOut, Cast, Moment, scheduled}
-use Rattle.step_sim.specs.Replayed.{cast_with}
+use Rattle.step_sim.specs.Replayed.{IsReplayOf, cast_with, spare_of}
 use Rattle.step_sim.specs.Schedules.{schedule_of}
 use Rattle.step_sim.specs.declared.turns.Turns.{Turns}
+use Rattle.trace_flush.specs.Audit.{audit_text}
+use Rattle.trace_flush.specs.Flush.{IsTraceOf, trace_bytes}
+use Rattle.trace_flush.specs.Lines.{accounts_of}
+use Rattle.traced_run.specs.Fits.{SetupFits}
+use Rattle.traced_run.specs.Losses.{AreLost}
+use Rattle.traced_run.specs.Runs.{IsRun, ThreadRun}
+use Rattle.xray_image.specs.Program.{IsAccepted, Program}
 use Rattle.xray_program.specs.Answers.{IsSimulated}
 use Rattle.xray_program.specs.Commands.{Means}
 use Rattle.xray_program.specs.Inputs.{image_form, script_form, schedule_form}
@@ -19,8 +29,9 @@ use Rattle.xray_program.specs.Outputs.{AreWhole}
 use Rattle.xray_program.specs.Sim.{FollowsSchedule, Replayed, Replays, SimComes}
 use Rattle.xray_program.specs.Setups.{setup_of}
 use Rattle.xray_program.specs.Taking.{Form, Leaves, RefuseIf, Sound, Take}
-use Rattle.xray_program.specs.Traced.{IsTraced, Traces}
+use Rattle.xray_program.specs.Traced.{IsTraced, Traces, written_of}
 use Rattle.command_words.specs.Words.{Command}
+use Rattle.xray_program.specs.Works.{SaidFits}
 use Rattle.xray_io.specs.World.{World}
 
 -- where all is done, an input that is held reads as a value, and the rest is done with it
@@ -57,47 +68,79 @@ abbrev pub TearsNone : Type 0
 TearsNone = (cast : Cast) (threads : ℕ) (text : List ℕ) (schedule : List Turns) (last : Moment) → schedule_of threads text ≡ Ok schedule
     → AllRunOut cast (length cast.passings) 1 (scheduled cast schedule) last → TearsNoSled cast last
 
-simulated_by : TearsNone → (before after : World) (i s c image script schedule : List ℕ) (setup : Setup) (outputs : List (List ℕ × List ℕ))
-    (text : List ℕ) → before.desk.held i ≡ Holds image → before.desk.held s ≡ Holds script → before.desk.held c ≡ Holds schedule
-    → SimComes Sound before.desk.held i s c setup (Done outputs text) → AreWhole outputs before.desk.held after.desk.held
-    → Adds before.out.written after.out.written text → IsTraced (FollowsSchedule schedule setup) image script setup before after
-simulated_by tears before after i s c image script schedule setup outputs text image_held script_held schedule_held comes whole adds =
+-- the trace of a run reads back
+abbrev pub TracesRuns : Type 0
+TracesRuns = (bytes : List ℕ) (program : Program) (setup : Setup) (runs : List ThreadRun) → IsAccepted bytes program → SetupFits setup
+    → IsRun program setup runs → IsTraceOf setup runs (trace_bytes setup runs)
+
+-- a replay loses few segments
+abbrev pub LosesAsQueued : Type 0
+LosesAsQueued = (program : Program) (script : List PatchCommand) (text : List ℕ) (schedule : List Turns) (setup : Setup) (runs : List ThreadRun)
+    → schedule_of setup.threads text ≡ Ok schedule → IsReplayOf program script schedule setup runs → AreLost setup.size (spare_of setup) runs
+
+-- what the crates below say
+pub record CallLaws : Type 0 where
+  pub tears : TearsNone
+  pub loses : LosesAsQueued
+  pub traced : TracesRuns
+
+-- both outputs of a run hold their bytes
+files_hold : (trace audit : List ℕ) (setup : Setup) (runs : List ThreadRun) (outputs : List (List ℕ × List ℕ)) (old new : List ℕ → Entry)
+    → outputs ≡ written_of trace audit setup runs → AreWhole outputs old new
+    → (new trace ≡ made_to_hold (old trace) (trace_bytes setup runs))
+    × (new audit ≡ made_to_hold (old audit) (audit_text setup (accounts_of setup runs)))
+files_hold trace audit setup runs outputs old new are whole =
+    let Made : List ℕ × List ℕ → Type 0 = λ output. new output.0 ≡ made_to_hold (old output.0) output.1 in
+    let both : All Made (written_of trace audit setup runs) = subst (All Made) are whole in
+    let one : List ℕ × List ℕ = (trace, trace_bytes setup runs) in
+    let other : List ℕ × List ℕ = (audit, audit_text setup (accounts_of setup runs)) in
+    (All-head Made one (other ∷ []) both, All-head Made other [] (All-tail Made one (other ∷ []) both))
+
+simulated_by : CallLaws → (before after : World) (i s c t a image script schedule : List ℕ) (setup : Setup) → SetupFits setup
+    → (outputs : List (List ℕ × List ℕ)) (text : List ℕ) → before.desk.held i ≡ Holds image → before.desk.held s ≡ Holds script
+    → before.desk.held c ≡ Holds schedule → SimComes Sound before.desk.held i s c t a setup (Done outputs text)
+    → AreWhole outputs before.desk.held after.desk.held → Adds before.out.written after.out.written text
+    → IsTraced (FollowsSchedule schedule setup) image script t a setup before after
+simulated_by laws before after i s c t a image script schedule setup fits outputs text image_held script_held schedule_held comes whole adds =
     let held = before.desk.held in
     let first = read_on image_form held i
-    (λ program. Take (script_form program setup.threads) Sound held s (λ plan. Take (schedule_form setup.threads) Sound held c (Replays s setup program plan)))
+    (λ program. Take (script_form program setup.threads) Sound held s (λ plan. Take (schedule_form setup.threads) Sound held c (Replays s t a setup program plan)))
     outputs text image image_held comes in
     let second = read_on (script_form first.value setup.threads) held s
-    (λ plan. Take (schedule_form setup.threads) Sound held c (Replays s setup first.value plan)) outputs text script script_held first.next in
-    let third = read_on (schedule_form setup.threads) held c (Replays s setup first.value second.value) outputs text schedule schedule_held second.next in
+    (λ plan. Take (schedule_form setup.threads) Sound held c (Replays s t a setup first.value plan)) outputs text script script_held first.next in
+    let third = read_on (schedule_form setup.threads) held c (Replays s t a setup first.value second.value) outputs text schedule schedule_held second.next in
     let still = unrefused (waiting_line second.value.lines) s (codes "script")
-    (Leaves (Traces (Replayed first.value second.value third.value setup) first.value setup)) outputs text third.next in
-    let traces = left_alike (Traces (Replayed first.value second.value third.value setup) first.value setup) outputs text still.1 in
+    (Leaves (Traces (Replayed first.value second.value third.value setup) first.value setup t a)) outputs text third.next in
+    let traces = left_alike (Traces (Replayed first.value second.value third.value setup) first.value setup t a) outputs text still.1 in
+    let losses = laws.loses first.value (commands_of second.value.lines) schedule third.value setup traces.runs third.reads traces.lawful in
+    let hold = files_hold t a setup traces.runs outputs held after.desk.held traces.outputs_are whole in
+    let Added : List ℕ → Type 0 = λ more. Adds before.out.written after.out.written more in
     record {
       program = first.value;
       accepted = first.reads;
       plan = second.value;
       script_reads = second.reads;
-      outputs = outputs;
-      text = text;
-      traces = record {
-        runs = traces.runs;
-        run = traces.run;
-        lawful = record {
-          turns = third.value;
-          schedule_reads = third.reads;
-          nobody_waits = still.0;
-          replayed = traces.lawful;
-          whole = λ last out. tears (cast_with first.value (commands_of second.value.lines) traces.runs) setup.threads schedule third.value last third.reads out;
-        };
-        outputs_are = traces.outputs_are;
-        text_is = traces.text_is;
+      runs = traces.runs;
+      run = traces.run;
+      lawful = record {
+        turns = third.value;
+        schedule_reads = third.reads;
+        nobody_waits = still.0;
+        replayed = traces.lawful;
+        losses = losses;
+        whole = λ last out. laws.tears (cast_with first.value (commands_of second.value.lines) traces.runs) setup.threads schedule third.value last third.reads out;
       };
-      whole = whole;
-      out = adds;
+      few = losses.few;
+      file = trace_bytes setup traces.runs;
+      traced = laws.traced image first.value setup traces.runs first.reads fits traces.run;
+      trace_holds = hold.0;
+      audit_holds = hold.1;
+      out = subst Added traces.text_is adds;
     }
 
-pub simulated : TearsNone → (said : Option Command) (before after : World) (outputs : List (List ℕ × List ℕ)) (text : List ℕ)
+pub simulated : CallLaws → (said : Option Command) (before after : World) → SaidFits said → (outputs : List (List ℕ × List ℕ)) (text : List ℕ)
     → Means said before.desk.held (Done outputs text) → AreWhole outputs before.desk.held after.desk.held
     → Adds before.out.written after.out.written text → IsSimulated said before after
-simulated tears said before after outputs text meant whole adds i s c image script schedule options says image_held script_held schedule_held =
-    simulated_by tears before after i s c image script schedule (setup_of options) outputs text image_held script_held schedule_held (rw says at meant) whole adds
+simulated laws said before after fits outputs text meant whole adds i s c t a image script schedule options says image_held script_held schedule_held =
+    simulated_by laws before after i s c t a image script schedule (setup_of options) (subst SaidFits says fits) outputs text image_held script_held schedule_held (rw says at meant)
+    whole adds

@@ -11,8 +11,8 @@ pub mod Ordering
 pub mod Outputting
 pub mod PlainLaws
 pub mod PlainThreads
-pub mod ReplayPrints
 pub mod Rows
+pub mod RunWritten
 pub mod Saying
 pub mod SimLaws
 pub mod SimTurns

@@ -1,18 +1,13 @@
 -- The calls of a desk, in their order.
-use Rattle.std.proofs.Common.{◌≡◌, ◌⊎◌, ◌+◌, ◌++◌, ◌∙◌, ℕ, List, [], ◌∷◌, length, Option, Some, None, Result, Ok, Err, inl, inr, refl, sym, ap, subst, append_assoc}
+use Rattle.std.proofs.Common.{◌≡◌, ◌++◌, ◌∙◌, ℕ, List, [], ◌∷◌, Result, Ok, Err, refl, sym, ap, subst, append_assoc}
 use Rattle.std.proofs.lemmas.List.{append-nil}
 use Rattle.std.specs.Prelude.{IsErrAnd}
-use Rattle.std.specs.Prelude.{Vec}
-use Rattle.std.specs.declared.alloc.Global.{Global}
-use Rattle.fault_words.specs.Words.{words_text}
 use Rattle.xray_io.specs.Calls.{Call, Composes, HoldsOfNone, Went, went_on}
-use Rattle.xray_io.specs.Reads.{IsReading, Reads, ReadsSome, ReadsUpToFault}
-use Rattle.xray_io.specs.declared.faults.ReadError.{ReadError}
-use Rattle.xray_io.specs.declared.faults.ReadError.TheVariants as errors
-use Rattle.xray_program.specs.Order.{ReadsAll, ReadsWhole, StopsAt}
+use Rattle.xray_program.specs.Order.{ReadsAll, ReadsWhole}
 use Rattle.xray_io.specs.World.{DeskView}
 use Rattle.xray_program.specs.Takes.{AreTakings, IsNamed, IsTaken, IsTaking, StopsTaking, StopsTakings}
-use Rattle.xray_program.specs.Taking.{Form}
+use Rattle.xray_program.specs.Outcomes.{Outcome, Unread}
+use Rattle.xray_program.specs.Taking.{DeskReads, Faulty, Form}
 use Rattle.xray_program.specs.declared.stop.Stop.{Stop}
 use Rattle.xray_program.specs.declared.stop.Stop.TheVariants as stops
 
@@ -42,12 +37,13 @@ read_on along both first second third inputs name limit went then =
 
 -- one was a stop
 pub stop_on : {S : Type 0} (along : S → S → List Call → Type 0) → Composes along → (first second third : S)
-    (inputs earlier later : List (List ℕ × ℕ)) (name : List ℕ) (limit : ℕ) (stop : Stop) → inputs ≡ earlier ++ (name, limit) ∷ later → IsNamed name stop
+    (inputs earlier later : List (List ℕ × ℕ)) (name : List ℕ) (limit : ℕ) (stop : Stop) (comes : DeskReads → Outcome → Type 0)
+    → inputs ≡ earlier ++ (name, limit) ∷ later → IsNamed name stop → comes Faulty (Unread name)
     → Went (along first second) (ReadsAll earlier) → Went (along second third) (StopsTaking name limit stop)
-    → Went (along first third) (StopsTakings inputs stop)
-stop_on along both first second third inputs earlier later name limit stop turn named went then =
-    went_on along both first second third _ _ (StopsTakings inputs stop) went then (λ calls mine p q.
-    (name, named, record { earlier = earlier; limit = limit; later = later; turn = turn; before = calls; last = mine; order = refl; reads = p; stops = q }))
+    → Went (along first third) (StopsTakings comes inputs stop)
+stop_on along both first second third inputs earlier later name limit stop comes turn named came went then =
+    went_on along both first second third _ _ (StopsTakings comes inputs stop) went then (λ calls mine p q.
+    (name, named, came, record { earlier = earlier; limit = limit; later = later; turn = turn; before = calls; last = mine; order = refl; reads = p; stops = q }))
 
 -- the only input of a command
 named : {X : Type 0} (form : Form X) (name : List ℕ) (before after : DeskView) (stop : Stop) → IsTaken form name before after (Err stop) → IsNamed name stop
@@ -60,25 +56,28 @@ named form name before after (stops.Unwritten n) taken = tt
 named form name before after stops.NoMemory taken = tt
 
 pub one_taking : {X : Type 0} (form : Form X) (name : List ℕ) (before after : DeskView) (Way : List Call → Type 0) (result : Result X Stop)
-    → IsTaken form name before after result → Went Way (IsTaking name form.limit result) → Went Way (AreTakings ((name, form.limit) ∷ []) result)
-one_taking form name before after Way (Ok value) taken went =
+    (comes : DeskReads → Outcome → Type 0) → comes Faulty (Unread name) → IsTaken form name before after result
+    → Went Way (IsTaking name form.limit result) → Went Way (AreTakings comes ((name, form.limit) ∷ []) result)
+one_taking form name before after Way (Ok value) comes came taken went =
     record { calls = went.calls; way = went.way; are = (went.calls, [], sym (append-nil went.calls), went.are, refl) }
-one_taking form name before after Way (Err stop) taken went = record {
+one_taking form name before after Way (Err stop) comes came taken went = record {
   calls = went.calls;
   way = went.way;
   are = (
     name,
     named form name before after stop taken,
+    came,
     record { earlier = []; limit = form.limit; later = []; turn = refl; before = []; last = went.calls; order = refl; reads = refl; stops = went.are },
   );
 }
 
 -- the stop that a `?` hands on, of an input after these
 pub stop_handed : {S X Y : Type 0} (along : S → S → List Call → Type 0) → Composes along → (first second third : S) (form : Form X) (before after : DeskView)
-    (inputs earlier later : List (List ℕ × ℕ)) (name : List ℕ) (result : Result Y Stop) (stop : Stop) → IsErrAnd result (λ s. s ≡ stop)
-    → inputs ≡ earlier ++ (name, form.limit) ∷ later → IsTaken form name before after (Err stop) → Went (along first second) (ReadsAll earlier)
-    → Went (along second third) (StopsTaking name form.limit stop) → Went (along first third) (AreTakings inputs result)
-stop_handed along both first second third form before after inputs earlier later name (Ok value) stop is turn taken went then = absurd is
-stop_handed along both first second third form before after inputs earlier later name (Err s) stop is turn taken went then =
-    subst (λ (t : Stop). Went (along first third) (StopsTakings inputs t)) (sym is)
-    (stop_on along both first second third inputs earlier later name form.limit stop turn (named form name before after stop taken) went then)
+    (inputs earlier later : List (List ℕ × ℕ)) (name : List ℕ) (result : Result Y Stop) (stop : Stop) (comes : DeskReads → Outcome → Type 0)
+    → comes Faulty (Unread name) → IsErrAnd result (λ s. s ≡ stop) → inputs ≡ earlier ++ (name, form.limit) ∷ later
+    → IsTaken form name before after (Err stop) → Went (along first second) (ReadsAll earlier)
+    → Went (along second third) (StopsTaking name form.limit stop) → Went (along first third) (AreTakings comes inputs result)
+stop_handed along both first second third form before after inputs earlier later name (Ok value) stop comes came is turn taken went then = absurd is
+stop_handed along both first second third form before after inputs earlier later name (Err s) stop comes came is turn taken went then =
+    subst (λ (t : Stop). Went (along first third) (StopsTakings comes inputs t)) (sym is)
+    (stop_on along both first second third inputs earlier later name form.limit stop comes turn (named form name before after stop taken) came went then)

@@ -1,7 +1,6 @@
 -- Lines on err.
-use Rattle.std.proofs.Common.{◌≡◌, ◌⊎◌, ◌≤◌, ◌++◌, ◌∙◌, ℕ, zero, suc, List, [], length, take, Option, Some, None, option_map, inl, inr, refl, sym, ap}
+use Rattle.std.proofs.Common.{◌≡◌, ◌++◌, ◌∙◌, ℕ, zero, suc, List, [], take, Option, Some, None, option_map, inl, inr, refl, sym, ap}
 use Rattle.std.proofs.lemmas.List.{append-nil}
-use Rattle.xray_io.specs.Sink.{Adds, AddsPrefix}
 use Rattle.xray_program.specs.Answers.{Says}
 use Rattle.xray_io.specs.World.{SinkView}
 

@@ -1,5 +1,5 @@
 -- `sim`: one thing comes of it, and something in any case.
-use Rattle.std.proofs.Common.{◌≡◌, ◌∙◌, ℕ, List, [], Option, Some, None, option_map, refl, sym, ap, codes}
+use Rattle.std.proofs.Common.{◌≡◌, ◌∙◌, ℕ, List, Option, Some, None, option_map, refl, sym, ap, codes}
 use Rattle.machine_step.specs.declared.setup.Setup.{Setup}
 use Rattle.patch_script.specs.declared.command.Command.{Command}
 use Rattle.patch_script.specs.FaultWords.{script_words}
@@ -17,7 +17,7 @@ use Rattle.xray_program.specs.Inputs.{image_form, script_form, schedule_form}
 use Rattle.xray_program.specs.Outcomes.{Outcome}
 use Rattle.xray_program.specs.Sim.{Replayed, Replays, SimComes}
 use Rattle.xray_program.specs.Taking.{Leaves, Sound, Take}
-use Rattle.xray_program.specs.Traced.{Traces, state_texts}
+use Rattle.xray_program.specs.Traced.{Traces, state_texts, written_of}
 use Rattle.xray_program.proofs.Meanings.{AnyOutcome, HoldsBytes, IsAlone, IsDecided, IsJudged, SomeOutcome, decided_by, judged_by, leaves_alone, refuse_alone, some_leaves, some_refuse, some_take, take_alone}
 
 -- what replays say: a schedule leaves one list of runs; and it leaves runs where nobody waits
@@ -31,38 +31,38 @@ StillRun = (bytes : List ℕ) (program : Program) (script : List Command) (sched
     → (runs : List ThreadRun) × IsReplayOf program script schedule setup runs
 
 -- what comes of a script, and of an image
-abbrev AfterScript : (List ℕ → Entry) → (s c : List ℕ) → Setup → Program → Plan → Outcome → Type 0
-AfterScript held s c setup program plan = Take (schedule_form setup.threads) Sound held c (λ turns. Replays s setup program plan turns)
+abbrev AfterScript : (List ℕ → Entry) → (s c t a : List ℕ) → Setup → Program → Plan → Outcome → Type 0
+AfterScript held s c t a setup program plan = Take (schedule_form setup.threads) Sound held c (λ turns. Replays s t a setup program plan turns)
 
-abbrev AfterImage : (List ℕ → Entry) → (s c : List ℕ) → Setup → Program → Outcome → Type 0
-AfterImage held s c setup program = Take (script_form program setup.threads) Sound held s (λ plan. AfterScript held s c setup program plan)
+abbrev AfterImage : (List ℕ → Entry) → (s c t a : List ℕ) → Setup → Program → Outcome → Type 0
+AfterImage held s c t a setup program = Take (script_form program setup.threads) Sound held s (λ plan. AfterScript held s c t a setup program plan)
 
 -- ---- one thing
 
-one_traced : OneRun → (bytes : List ℕ) (program : Program) (plan : Plan) (turns : List Turns) (setup : Setup) (o p : List (List ℕ × List ℕ))
-    (t u : List ℕ) → IsAccepted bytes program → Traces (Replayed program plan turns setup) program setup o t
-    → Traces (Replayed program plan turns setup) program setup p u → (p ≡ o) × (u ≡ t)
-one_traced one bytes program plan turns setup o p t u accepted x y =
+one_traced : OneRun → (bytes : List ℕ) (program : Program) (plan : Plan) (turns : List Turns) (setup : Setup) (trace audit : List ℕ) (o p : List (List ℕ × List ℕ))
+    (t u : List ℕ) → IsAccepted bytes program → Traces (Replayed program plan turns setup) program setup trace audit o t
+    → Traces (Replayed program plan turns setup) program setup trace audit p u → (p ≡ o) × (u ≡ t)
+one_traced one bytes program plan turns setup trace audit o p t u accepted x y =
     let same = one bytes program (commands_of plan.lines) turns setup x.runs y.runs accepted x.lawful y.lawful in
-    (y.outputs_are ∙ sym x.outputs_are, y.text_is ∙ ap (state_texts 1) (sym same) ∙ sym x.text_is)
+    (y.outputs_are ∙ ap (written_of trace audit setup) (sym same) ∙ sym x.outputs_are, y.text_is ∙ ap (state_texts 1) (sym same) ∙ sym x.text_is)
 
-one_replays : OneRun → (bytes s : List ℕ) (setup : Setup) (program : Program) (plan : Plan) (turns : List Turns) → IsAccepted bytes program
-    → IsAlone AnyOutcome (Replays s setup program plan turns)
-one_replays one bytes s setup program plan turns accepted =
+one_replays : OneRun → (bytes s t a : List ℕ) (setup : Setup) (program : Program) (plan : Plan) (turns : List Turns) → IsAccepted bytes program
+    → IsAlone AnyOutcome (Replays s t a setup program plan turns)
+one_replays one bytes s t a setup program plan turns accepted =
     refuse_alone AnyOutcome (option_map waits_words (waiting_line plan.lines)) s (codes "script")
-    (Leaves (Traces (Replayed program plan turns setup) program setup))
-    (leaves_alone (Traces (Replayed program plan turns setup) program setup)
-    (λ o p t u x y. one_traced one bytes program plan turns setup o p t u accepted x y))
+    (Leaves (Traces (Replayed program plan turns setup) program setup t a))
+    (leaves_alone (Traces (Replayed program plan turns setup) program setup t a)
+    (λ o p v w x y. one_traced one bytes program plan turns setup t a o p v w accepted x y))
 
-pub sim_alone : IsDecided image_form → OneRun → (held : List ℕ → Entry) (i s c : List ℕ) (setup : Setup) → TellsAll held
-    → IsAlone AnyOutcome (SimComes Sound held i s c setup)
-sim_alone is one held i s c setup told =
-    take_alone image_form is AnyOutcome held i (AfterImage held s c setup) (told i) (λ bytes program reads.
+pub sim_alone : IsDecided image_form → OneRun → (held : List ℕ → Entry) (i s c t a : List ℕ) (setup : Setup) → TellsAll held
+    → IsAlone AnyOutcome (SimComes Sound held i s c t a setup)
+sim_alone is one held i s c t a setup told =
+    take_alone image_form is AnyOutcome held i (AfterImage held s c t a setup) (told i) (λ bytes program reads.
     take_alone (script_form program setup.threads) (decided_by (codes "script") 1048576 (plan_of program setup.threads) script_words) AnyOutcome held s
-    (AfterScript held s c setup program) (told s) (λ _ plan _.
+    (AfterScript held s c t a setup program) (told s) (λ _ plan _.
     take_alone (schedule_form setup.threads) (decided_by (codes "schedule") 16777216 (schedule_of setup.threads) schedule_words) AnyOutcome held c
-    (λ turns. Replays s setup program plan turns) (told c) (λ _ turns _.
-    one_replays one bytes s setup program plan turns reads)))
+    (λ turns. Replays s t a setup program plan turns) (told c) (λ _ turns _.
+    one_replays one bytes s t a setup program plan turns reads)))
 
 -- ---- something in any case
 
@@ -74,21 +74,21 @@ nobody (Some line) e = absurd (none e)
     none : Some (waits_words line) ≡ None → ⊥
     none e = cc
 
-some_replays : StillRun → (bytes s : List ℕ) (setup : Setup) (program : Program) (plan : Plan) (turns : List Turns) → IsAccepted bytes program
-    → SomeOutcome (Replays s setup program plan turns)
-some_replays some bytes s setup program plan turns accepted =
+some_replays : StillRun → (bytes s t a : List ℕ) (setup : Setup) (program : Program) (plan : Plan) (turns : List Turns) → IsAccepted bytes program
+    → SomeOutcome (Replays s t a setup program plan turns)
+some_replays some bytes s t a setup program plan turns accepted =
     some_refuse (option_map waits_words (waiting_line plan.lines)) s (codes "script")
-    (Leaves (Traces (Replayed program plan turns setup) program setup)) (λ none.
+    (Leaves (Traces (Replayed program plan turns setup) program setup t a)) (λ none.
     let runs = some bytes program (commands_of plan.lines) turns setup plan.lines accepted refl (nobody (waiting_line plan.lines) none) in
-    some_leaves (Traces (Replayed program plan turns setup) program setup) [] (state_texts 1 runs.0)
+    some_leaves (Traces (Replayed program plan turns setup) program setup t a) (written_of t a setup runs.0) (state_texts 1 runs.0)
     (record { runs = runs.0; run = runs.1.run; lawful = runs.1; outputs_are = refl; text_is = refl }))
 
-pub sim_some : IsJudged image_form → StillRun → (held : List ℕ → Entry) (i s c : List ℕ) (setup : Setup) → TellsAll held
-    → HoldsBytes held → SomeOutcome (SimComes Sound held i s c setup)
-sim_some is some held i s c setup told holds =
-    some_take image_form is held i (AfterImage held s c setup) (told i) holds (λ bytes program reads.
+pub sim_some : IsJudged image_form → StillRun → (held : List ℕ → Entry) (i s c t a : List ℕ) (setup : Setup) → TellsAll held
+    → HoldsBytes held → SomeOutcome (SimComes Sound held i s c t a setup)
+sim_some is some held i s c t a setup told holds =
+    some_take image_form is held i (AfterImage held s c t a setup) (told i) holds (λ bytes program reads.
     some_take (script_form program setup.threads) (judged_by (codes "script") 1048576 (plan_of program setup.threads) script_words) held s
-    (AfterScript held s c setup program) (told s) holds (λ _ plan _.
+    (AfterScript held s c t a setup program) (told s) holds (λ _ plan _.
     some_take (schedule_form setup.threads) (judged_by (codes "schedule") 16777216 (schedule_of setup.threads) schedule_words) held c
-    (λ turns. Replays s setup program plan turns) (told c) holds (λ _ turns _.
-    some_replays some bytes s setup program plan turns reads)))
+    (λ turns. Replays s t a setup program plan turns) (told c) holds (λ _ turns _.
+    some_replays some bytes s t a setup program plan turns reads)))

@@ -1,5 +1,5 @@
 -- `sim`: the turns of its three inputs, and a script that waits.
-use Rattle.std.proofs.Common.{◌≡◌, ◌≢◌, ◌≤◌, ◌↔◌, ◌∙◌, ℕ, List, Option, Some, None, Result, Ok, Err, option_map, refl, sym, ap, subst, codes}
+use Rattle.std.proofs.Common.{◌≡◌, ℕ, List, Option, Some, None, Err, option_map, refl, subst, codes}
 use Rattle.fault_words.specs.Words.{words_text}
 use Rattle.machine_step.specs.declared.setup.Setup.{Setup}
 use Rattle.patch_script.specs.Plans.{Plan, waiting_line}
@@ -13,7 +13,7 @@ use Rattle.xray_io.specs.Desk.{Entry}
 use Rattle.xray_io.specs.World.{DeskView, SinkView}
 use Rattle.xray_program.specs.Inputs.{image_form, script_form, schedule_form}
 use Rattle.xray_program.specs.Order.{IsNoCall}
-use Rattle.xray_program.specs.Outcomes.{Outcome, Refused, Done}
+use Rattle.xray_program.specs.Outcomes.{Outcome, Refused}
 use Rattle.xray_program.specs.Sim.{Replays, SimComes}
 use Rattle.xray_program.specs.Takes.{Gives, IsFaultStop}
 use Rattle.xray_program.specs.Taking.{DeskReads, Form, RefuseIf, Take}
@@ -23,32 +23,32 @@ use Rattle.xray_program.specs.declared.stop.Stop.TheVariants as stops
 use Rattle.xray_program.proofs.Turns.{Leads, leads, leads_on}
 
 -- what comes of the command; of its script and its schedule; and of its schedule
-abbrev pub Comes : (List ℕ → Entry) → (i s c : List ℕ) → Setup → DeskReads → Outcome → Type 0
-Comes held i s c setup reads = SimComes reads held i s c setup
+abbrev pub Comes : (List ℕ → Entry) → (i s c t a : List ℕ) → Setup → DeskReads → Outcome → Type 0
+Comes held i s c t a setup reads = SimComes reads held i s c t a setup
 
-abbrev pub AfterImage : (List ℕ → Entry) → (s c : List ℕ) → Setup → DeskReads → Program → Outcome → Type 0
-AfterImage held s c setup reads program =
+abbrev pub AfterImage : (List ℕ → Entry) → (s c t a : List ℕ) → Setup → DeskReads → Program → Outcome → Type 0
+AfterImage held s c t a setup reads program =
     Take (script_form program setup.threads) reads held s (λ plan.
-    Take (schedule_form setup.threads) reads held c (λ turns. Replays s setup program plan turns))
+    Take (schedule_form setup.threads) reads held c (λ turns. Replays s t a setup program plan turns))
 
-abbrev pub AfterScript : (List ℕ → Entry) → (s c : List ℕ) → Setup → Program → DeskReads → Plan → Outcome → Type 0
-AfterScript held s c setup program reads plan = Take (schedule_form setup.threads) reads held c (λ turns. Replays s setup program plan turns)
+abbrev pub AfterScript : (List ℕ → Entry) → (s c t a : List ℕ) → Setup → Program → DeskReads → Plan → Outcome → Type 0
+AfterScript held s c t a setup program reads plan = Take (schedule_form setup.threads) reads held c (λ turns. Replays s t a setup program plan turns)
 
-abbrev pub AfterSchedule : (s : List ℕ) → Setup → Program → Plan → DeskReads → List Turns → Outcome → Type 0
-AfterSchedule s setup program plan reads turns = Replays s setup program plan turns
+abbrev pub AfterSchedule : (s t a : List ℕ) → Setup → Program → Plan → DeskReads → List Turns → Outcome → Type 0
+AfterSchedule s t a setup program plan reads turns = Replays s t a setup program plan turns
 
 -- how far the inputs lead
-pub to_script : (held : List ℕ → Entry) (i s c : List ℕ) (setup : Setup) (program : Program) → Gives image_form (held i) program
-    → Leads (Comes held i s c setup) (λ reads. Take (script_form program setup.threads) reads held s (AfterScript held s c setup program reads))
-to_script held i s c setup program image =
-    leads_on image_form (Comes held i s c setup) held i (AfterImage held s c setup) program (leads (Comes held i s c setup)) image
+pub to_script : (held : List ℕ → Entry) (i s c t a : List ℕ) (setup : Setup) (program : Program) → Gives image_form (held i) program
+    → Leads (Comes held i s c t a setup) (λ reads. Take (script_form program setup.threads) reads held s (AfterScript held s c t a setup program reads))
+to_script held i s c t a setup program image =
+    leads_on image_form (Comes held i s c t a setup) held i (AfterImage held s c t a setup) program (leads (Comes held i s c t a setup)) image
 
-pub to_schedule : (held : List ℕ → Entry) (i s c : List ℕ) (setup : Setup) (program : Program) (plan : Plan) → Gives image_form (held i) program
+pub to_schedule : (held : List ℕ → Entry) (i s c t a : List ℕ) (setup : Setup) (program : Program) (plan : Plan) → Gives image_form (held i) program
     → Gives (script_form program setup.threads) (held s) plan
-    → Leads (Comes held i s c setup) (λ reads. Take (schedule_form setup.threads) reads held c (AfterSchedule s setup program plan reads))
-to_schedule held i s c setup program plan image script =
-    leads_on (script_form program setup.threads) (Comes held i s c setup) held s (AfterScript held s c setup program) plan
-    (to_script held i s c setup program image) script
+    → Leads (Comes held i s c t a setup) (λ reads. Take (schedule_form setup.threads) reads held c (AfterSchedule s t a setup program plan reads))
+to_schedule held i s c t a setup program plan image script =
+    leads_on (script_form program setup.threads) (Comes held i s c t a setup) held s (AfterScript held s c t a setup program) plan
+    (to_script held i s c t a setup program image) script
 
 -- a value that a desk gave that holds what another held
 pub given_before : {X : Type 0} (form : Form X) (held mid : List ℕ → Entry) (name : List ℕ) (value : X) → mid ≡ held
@@ -56,13 +56,13 @@ pub given_before : {X : Type 0} (form : Form X) (held mid : List ℕ → Entry) 
 given_before form held mid name value same = subst (λ (h : List ℕ → Entry). Gives form (h name) value) same
 
 -- a script that waits is refused, and for want of memory nothing is written
-pub sim_refuses : (s : List ℕ) (setup : Setup) (program : Program) (plan : Plan) (turns : List Turns) (desk : DeskView) (out : SinkView)
+pub sim_refuses : (s t a : List ℕ) (setup : Setup) (program : Program) (plan : Plan) (turns : List Turns) (desk : DeskView) (out : SinkView)
     (Way : List Call → Type 0) → Went Way IsNoCall → (fault : SimFault) (stop : Stop) → ((line : ℕ) → fault ≡ replaying.Waits line → waiting_line plan.lines ≡ Some line)
-    → IsFaultStop s (codes "script") (sim_words fault) stop → Finishes (Replays s setup program plan turns) desk desk out out Way (Err stop)
-sim_refuses s setup program plan turns desk out Way none fault stops.BadLine waits is = is
-sim_refuses s setup program plan turns desk out Way none fault (stops.Unread n) waits is = is
-sim_refuses s setup program plan turns desk out Way none fault (stops.TooLong n) waits is = is
-sim_refuses s setup program plan turns desk out Way none (replaying.Waits line) (stops.Refused n kind words) waits (same, of_kind, is) =
+    → IsFaultStop s (codes "script") (sim_words fault) stop → Finishes (Replays s t a setup program plan turns) desk desk out out Way (Err stop)
+sim_refuses s t a setup program plan turns desk out Way none fault stops.BadLine waits is = is
+sim_refuses s t a setup program plan turns desk out Way none fault (stops.Unread n) waits is = is
+sim_refuses s t a setup program plan turns desk out Way none fault (stops.TooLong n) waits is = is
+sim_refuses s t a setup program plan turns desk out Way none (replaying.Waits line) (stops.Refused n kind words) waits (same, of_kind, is) =
     (rw (waits line refl) refused, (refl, refl), none)
   where
     worded : (a b : List ℕ) → Some a ≡ Some b → b ≡ a
@@ -70,13 +70,13 @@ sim_refuses s setup program plan turns desk out Way none (replaying.Waits line) 
 
     refused : Refused n.now kind.now (words_text words) ≡ Refused s (codes "script") (waits_words line)
     refused = rw (same, of_kind, worded (waits_words line) (words_text words) is) refl
-sim_refuses s setup program plan turns desk out Way none replaying.NoMemory (stops.Refused n kind words) waits (same, of_kind, is) = absurd (never is)
+sim_refuses s t a setup program plan turns desk out Way none replaying.NoMemory (stops.Refused n kind words) waits (same, of_kind, is) = absurd (never is)
   where
     never : None ≡ Some (words_text words) → ⊥
     never e = cc
-sim_refuses s setup program plan turns desk out Way none fault (stops.Fell words) waits is = absurd is
-sim_refuses s setup program plan turns desk out Way none fault (stops.Unwritten n) waits is = absurd is
-sim_refuses s setup program plan turns desk out Way none fault stops.NoMemory waits is = ((refl, refl), none)
+sim_refuses s t a setup program plan turns desk out Way none fault (stops.Fell words) waits is = absurd is
+sim_refuses s t a setup program plan turns desk out Way none fault (stops.Unwritten n) waits is = absurd is
+sim_refuses s t a setup program plan turns desk out Way none fault stops.NoMemory waits is = ((refl, refl), none)
 
 -- where nobody waits, what is left comes
 pub sim_leaves : (s : List ℕ) (line : Option ℕ) (next : Outcome → Type 0) (outcome : Outcome)

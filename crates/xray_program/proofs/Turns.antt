@@ -1,5 +1,5 @@
 -- Inputs in their turn, and what comes of a command by these.
-use Rattle.std.specs.Prelude.{⊤, IsErrAnd}
+use Rattle.std.specs.Prelude.{IsErrAnd}
 use Rattle.std.proofs.Common.{◌≡◌, ◌≢◌, ◌⊎◌, ◌<◌, ◌≤◌, ◌+◌, ◌∙◌, ℕ, List, length, replicate, Option, Some, None, Result, Ok, Err, inl, inr, refl, sym, ap, arith, subst}
 use Rattle.std.proofs.lemmas.List.{length-replicate}
 use Rattle.fault_words.specs.Words.{words_text}
@@ -8,7 +8,7 @@ use Rattle.xray_io.specs.Faults.{Rose}
 use Rattle.xray_io.specs.declared.faults.ReadError.{ReadError}
 use Rattle.xray_io.specs.declared.faults.ReadError.TheVariants as errors
 use Rattle.xray_program.specs.Outcomes.{Outcome, Unread, TooLong, Refused}
-use Rattle.xray_program.specs.Takes.{AreTaken, Gives, IsFaultStop, IsLost, IsMaybeTaken, IsReadStop, IsStopAtInput, IsTaken, IsTooLong, Rejects}
+use Rattle.xray_program.specs.Takes.{AreTaken, Gives, IsFaultStop, IsLost, IsMaybeTaken, IsReadStop, IsStopAtInput, IsTaken, IsTooLong}
 use Rattle.xray_program.specs.Taking.{DeskReads, Sound, Faulty, Form, MayHold, Take, TakeMaybe}
 use Rattle.xray_io.specs.World.{DeskView}
 use Rattle.xray_program.specs.declared.stop.Stop.{Stop}
@@ -80,6 +80,11 @@ pub leads_on : {X : Type 0} (form : Form X) (comes : DeskReads → Outcome → T
 leads_on form comes held name next value leads given reads outcome later =
     leads reads outcome (inr (given.bytes, given.held, inr (given.within, inr (value, given.reads, later))))
 
+-- the turn of an input has come
+pub turn_came : {X : Type 0} (form : Form X) (comes : DeskReads → Outcome → Type 0) (held : List ℕ → Entry) (name : List ℕ)
+    (next : DeskReads → X → Outcome → Type 0) → Leads comes (λ reads. Take form reads held name (next reads)) → comes Faulty (Unread name)
+turn_came form comes held name next leads = leads Faulty (Unread name) (inl (tt, refl))
+
 -- a count that rose has risen since before
 rose_since : (first before now : ℕ) → first ≤ before → Rose before now → Rose first now
 rose_since first before now up rose = omega arith
@@ -122,11 +127,11 @@ handed_on comes yields before after (Err s) stop is stands = rw is stands
 pub last_taken : {X : Type 0} (form : Form X) (comes : DeskReads → Outcome → Type 0) (yields : X → Outcome → Type 0) (before mid after : DeskView)
     (name : List ℕ) (next : DeskReads → X → Outcome → Type 0) (result : Result X Stop)
     → Leads comes (λ reads. Take form reads before.held name (next reads)) → mid.held ≡ before.held → before.read_faults ≤ mid.read_faults
-    → ((value : X) (outcome : Outcome) → yields value outcome → next Sound value outcome)
+    → ((reads : DeskReads) (value : X) (outcome : Outcome) → yields value outcome → next reads value outcome)
     → IsTaken form name mid after result → AreTaken comes yields before after result
-last_taken form comes yields before mid after name next (Ok value) leads same up goes taken = λ outcome is.
+last_taken form comes yields before mid after name next (Ok value) leads same up goes taken = λ reads outcome is.
     let given = subst (λ (h : List ℕ → Entry). Gives form (h name) value) same taken in
-    leads_on form comes before.held name next value leads given Sound outcome (goes value outcome is)
+    leads_on form comes before.held name next value leads given reads outcome (goes reads value outcome is)
 last_taken form comes yields before mid after name next (Err stop) leads same up goes taken =
     stops_at form comes before mid after name next stop leads same up taken
 

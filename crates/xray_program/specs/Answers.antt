@@ -49,11 +49,11 @@ pub record CouldNotRead (said : Option Command) (before after : World) (ending :
 -- it ended at an output, or at out, of an outcome that is meant and writes
 pub record CouldNotWrite (said : Option Command) (before after : World) (ending : Ending) : Type 0 where
   pub name : List ℕ
-  pub is : ending ≡ Unwritten name
   pub outcome : Outcome
   pub meant : Means said before.desk.held outcome
   pub outputs : List (List ℕ × List ℕ)
   pub text : List ℕ
+  pub is : ending ≡ Unwritten name outputs
   pub writes : written_by outcome ≡ Some (outputs, text)
   pub failed : FailsWriting outputs text before.desk after.desk before.out after.out name
 
@@ -72,9 +72,9 @@ IsAnswer said before after status =
 -- `sim` was said, of inputs that the desk holds: what all of the schedule's order leaves is written
 abbrev pub IsSimulated : Option Command → (before after : World) → Type 0
 IsSimulated said before after =
-    (i s c image script schedule : List ℕ) (options : RunOptions) → said ≡ Some (Sim i s c options)
+    (i s c t a image script schedule : List ℕ) (options : RunOptions) → said ≡ Some (Sim i s c t a options)
     → before.desk.held i ≡ Holds image → before.desk.held s ≡ Holds script → before.desk.held c ≡ Holds schedule
-    → IsTraced (FollowsSchedule schedule (setup_of options)) image script (setup_of options) before after
+    → IsTraced (FollowsSchedule schedule (setup_of options)) image script t a (setup_of options) before after
 
 -- The whole contract of a call. Its status and its line on err are those of one ending.
 pub record Answered (said : Option Command) (before after : World) (Way : List Call → Type 0) (answer : ℕ) : Type 0 where

@@ -15,21 +15,21 @@ use Rattle.command_words.specs.Words.{Command, Sim, Plain, Extract, Asm, outputs
 
 -- what comes of it
 abbrev pub Comes : DeskReads → (List ℕ → Entry) → Command → Outcome → Type 0
-Comes reads held (Sim image script schedule options) = SimComes reads held image script schedule (setup_of options)
+Comes reads held (Sim image script schedule trace audit options) = SimComes reads held image script schedule trace audit (setup_of options)
 Comes reads held (Plain image bounds) = PlainComes reads held image bounds
 Comes reads held (Extract image) = ExtractComes reads held image
 Comes reads held (Asm text image threshold) = AsmComes reads held text image threshold
 
 -- whether one thing alone comes of it, over what a desk holds: not so where threads run in an order of their own
 abbrev pub is_decided : Command → Bool
-is_decided (Sim image script schedule options) = true
+is_decided (Sim image script schedule trace audit options) = true
 is_decided (Plain image bounds) = true
 is_decided (Extract image) = true
 is_decided (Asm text image threshold) = true
 
 -- whether it waits for nobody, and starts no thread
 abbrev pub is_still : Command → Bool
-is_still (Sim image script schedule options) = true
+is_still (Sim image script schedule trace audit options) = true
 is_still (Plain image bounds) = true
 is_still (Extract image) = true
 is_still (Asm text image threshold) = true

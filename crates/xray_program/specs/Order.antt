@@ -6,6 +6,8 @@ use Rattle.xray_io.specs.Outputs.{IsMaking, Makes}
 use Rattle.xray_io.specs.Reads.{Reads, ReadsSome, ReadsUpTo, ReadsUpToFault}
 use Rattle.xray_io.specs.World.{DeskView}
 use Rattle.xray_io.specs.declared.faults.WriteFault.{WriteFault}
+use Rattle.xray_program.specs.Commands.{ComesOf, HadItsTurn}
+use Rattle.xray_program.specs.Taking.{AllAccepted}
 use Rattle.xray_program.specs.Outcomes.{BadLine, Unread, TooLong, Refused, Done, Fell, Ending, With, Unwritten, NoMemory}
 use Rattle.command_words.specs.Words.{Command, Sim, Plain, Extract, Asm}
 
@@ -13,7 +15,7 @@ use Rattle.command_words.specs.Words.{Command, Sim, Plain, Extract, Asm}
 
 -- its inputs in the order of the words, each a name and how many bytes it has at the most; one that the words leave out isn't there
 abbrev pub inputs_of : Command → List (List ℕ × ℕ)
-inputs_of (Sim image script schedule options) = (image, 4194304) ∷ (script, 1048576) ∷ (schedule, 16777216) ∷ []
+inputs_of (Sim image script schedule trace audit options) = (image, 4194304) ∷ (script, 1048576) ∷ (schedule, 16777216) ∷ []
 inputs_of (Plain image bounds) = (image, 4194304) ∷ []
 inputs_of (Extract image) = (image, 4194304) ∷ []
 inputs_of (Asm text image threshold) = (text, 4194304) ∷ []
@@ -82,7 +84,8 @@ pub record ReadsThen (inputs : List (List ℕ × ℕ)) (Then : List Call → Typ
   pub reads : ReadsAll inputs before
   pub goes_on : Then last
 
--- The calls of a call that ended so. None is made where the words say no command. A refusal comes of the last input that was read.
+-- The calls of a call that ended so. None is made where the words say no command. A refusal comes of the last input that was read; or it
+-- comes late, though each input was accepted. Memory runs out before any call, or at an input whose turn had come, or later.
 abbrev pub InOrder : Option Command → (desk desk_now : DeskView) → Ending → List Call → Type 0
 InOrder said desk desk_now (With BadLine) calls = calls ≡ []
 InOrder said desk desk_now (With (Unread name)) calls =
@@ -90,13 +93,14 @@ InOrder said desk desk_now (With (Unread name)) calls =
 InOrder said desk desk_now (With (TooLong name)) calls =
     StopsAt (option_map_or inputs_of said []) name (λ limit. Reads name (limit + 1) 0 (limit + 1)) calls
 InOrder said desk desk_now (With (Refused name kind refusal)) calls =
-    StopsAt (option_map_or inputs_of said []) name (λ limit. ReadsWhole name limit) calls ⊎ ReadsAll (option_map_or inputs_of said []) calls
+    StopsAt (option_map_or inputs_of said []) name (λ limit. ReadsWhole name limit) calls
+    ⊎ (ComesOf AllAccepted said desk.held (Refused name kind refusal) × ReadsAll (option_map_or inputs_of said []) calls)
 InOrder said desk desk_now (With (Done outputs text)) calls = ReadsThen (option_map_or inputs_of said []) (MakesAll outputs) calls
 InOrder said desk desk_now (With (Fell outputs text trouble)) calls = ReadsThen (option_map_or inputs_of said []) (MakesAll outputs) calls
-InOrder said desk desk_now (Unwritten name) calls =
-    (outputs : List (List ℕ × List ℕ)) × ReadsThen (option_map_or inputs_of said [])
-    (IsUnmade outputs desk desk_now name) calls
+InOrder said desk desk_now (Unwritten name outputs) calls =
+    ReadsThen (option_map_or inputs_of said []) (IsUnmade outputs desk desk_now name) calls
 InOrder said desk desk_now NoMemory calls =
-    ((name : List ℕ) × StopsAt (option_map_or inputs_of said []) name
+    (calls ≡ [])
+    ⊎ ((name : List ℕ) × HadItsTurn said desk.held name × StopsAt (option_map_or inputs_of said []) name
     (λ limit last. ReadsSome name (limit + 1) last ⊎ ReadsWhole name limit last) calls)
     ⊎ ReadsAll (option_map_or inputs_of said []) calls

@@ -43,20 +43,21 @@ line_of (Unread name) = err_line (name ++ codes ": read fault")
 line_of (TooLong name) = err_line (name ++ codes ": too long")
 line_of (Fell outputs text trouble) = err_line trouble
 
--- how a call ends: with an outcome; at an output that can't be written, or at out, which is named `output`; or for want of memory
+-- how a call ends: with an outcome; at the output of this name, of these outputs, that can't be written, or at out, which is named
+-- `output`; or for want of memory
 pub data Ending : Type 0 where
   With : Outcome → Ending
-  Unwritten : (name : List ℕ) → Ending
+  Unwritten : (name : List ℕ) → (outputs : List (List ℕ × List ℕ)) → Ending
   NoMemory : Ending
 
 -- its status
 abbrev pub status_at : Ending → ℕ
 status_at (With outcome) = status_of outcome
-status_at (Unwritten name) = 4
+status_at (Unwritten name outputs) = 4
 status_at NoMemory = 5
 
 -- its line on err
 abbrev pub line_at : Ending → List ℕ
 line_at (With outcome) = line_of outcome
-line_at (Unwritten name) = err_line (name ++ codes ": write fault")
+line_at (Unwritten name outputs) = err_line (name ++ codes ": write fault")
 line_at NoMemory = err_line (codes "out of memory")

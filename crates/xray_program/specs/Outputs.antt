@@ -2,7 +2,7 @@
 use Rattle.std.specs.Prelude.{◌≡◌, ◌⊎◌, ℕ, List, ◌∷◌, ◌++◌, All, codes}
 use Rattle.xray_io.specs.Desk.{Entry, made_to_hold}
 use Rattle.xray_io.specs.Faults.{Rose}
-use Rattle.xray_io.specs.Sink.{Adds, AddsPrefix}
+use Rattle.xray_io.specs.Sink.{AddsPrefix}
 use Rattle.xray_io.specs.World.{DeskView, SinkView}
 
 -- nothing was written: the desk holds what it held, and out has what it had

@@ -9,8 +9,9 @@ use Rattle.step_sim.specs.declared.turns.Turns.{Turns}
 use Rattle.step_sim.specs.Along.{TearsNoSled}
 use Rattle.step_sim.specs.FaultWords.{waits_words}
 use Rattle.step_sim.specs.Replay.{AllRunOut, Cast, Moment, scheduled}
-use Rattle.step_sim.specs.Replayed.{IsReplayOf, cast_with}
+use Rattle.step_sim.specs.Replayed.{IsReplayOf, cast_with, spare_of}
 use Rattle.step_sim.specs.Schedules.{schedule_of}
+use Rattle.traced_run.specs.Losses.{AreLost}
 use Rattle.traced_run.specs.Runs.{ThreadRun}
 use Rattle.xray_program.specs.Inputs.{image_form, script_form, schedule_form}
 use Rattle.xray_program.specs.Outcomes.{Outcome}
@@ -22,19 +23,19 @@ abbrev pub Replayed : Program → Plan → List Turns → Setup → List ThreadR
 Replayed program plan turns setup = IsReplayOf program (commands_of plan.lines) turns setup
 
 -- What comes of the judged inputs: a script at which a thread or the patcher may wait is refused for the first such line; else the turns
--- are replayed.
-abbrev pub Replays : (script : List ℕ) → Setup → Program → Plan → List Turns → Outcome → Type 0
-Replays script setup program plan turns =
+-- are replayed, and the trace and the audit are written.
+abbrev pub Replays : (script trace audit : List ℕ) → Setup → Program → Plan → List Turns → Outcome → Type 0
+Replays script trace audit setup program plan turns =
     RefuseIf (option_map waits_words (waiting_line plan.lines)) script (codes "script")
-    (Leaves (Traces (Replayed program plan turns setup) program setup))
+    (Leaves (Traces (Replayed program plan turns setup) program setup trace audit))
 
 -- what comes of the command
-abbrev pub SimComes : DeskReads → (List ℕ → Entry) → (image script schedule : List ℕ) → Setup → Outcome → Type 0
-SimComes reads held image script schedule setup =
+abbrev pub SimComes : DeskReads → (List ℕ → Entry) → (image script schedule trace audit : List ℕ) → Setup → Outcome → Type 0
+SimComes reads held image script schedule trace audit setup =
     Take image_form reads held image (λ program.
     Take (script_form program setup.threads) reads held script (λ plan.
     Take (schedule_form setup.threads) reads held schedule (λ turns.
-    Replays script setup program plan turns)))
+    Replays script trace audit setup program plan turns)))
 
 -- no thread decodes a torn sled: after the turns, when all threads have run out, each of their passings has decoded its sled whole
 abbrev pub DecodesWhole : Cast → List Turns → Type 0
@@ -42,10 +43,12 @@ DecodesWhole cast turns =
     (last : Moment) → AllRunOut cast (length cast.passings) 1 (scheduled cast turns) last → TearsNoSled cast last
 
 -- The headline's law for `sim`: the schedule is read for the number of threads, nobody waits in the script, the runs are those that the
--- schedule leaves, with their marks and the numbers of their lost segments, and no thread decodes a torn sled.
+-- schedule leaves, with their marks and the numbers of their lost segments, as many are lost as the queue had no buffers for, and no thread
+-- decodes a torn sled.
 pub record FollowsSchedule (schedule : List ℕ) (setup : Setup) (program : Program) (plan : Plan) (runs : List ThreadRun) : Type 0 where
   pub turns : List Turns
   pub schedule_reads : schedule_of setup.threads schedule ≡ Ok turns
   pub nobody_waits : waiting_line plan.lines ≡ None
   pub replayed : Replayed program plan turns setup runs
+  pub losses : AreLost setup.size (spare_of setup) runs
   pub whole : DecodesWhole (cast_with program (commands_of plan.lines) runs) turns

@@ -1,7 +1,7 @@
 -- What ends a call before all is done: its status and its line on err.
 use Rattle.std.specs.Prelude.{ℕ, List, [], Result, Ok, Err}
 use Rattle.fault_words.specs.Words.{words_text}
-use Rattle.xray_program.specs.Outcomes.{BadLine, Unread, TooLong, Refused, With, Unwritten, NoMemory, err_line, line_of, line_at}
+use Rattle.xray_program.specs.Outcomes.{BadLine, Unread, TooLong, Refused, Unwritten, NoMemory, err_line, line_of, line_at}
 use Rattle.xray_program.specs.declared.stop.Stop.{Stop}
 use Rattle.xray_program.specs.declared.stop.Stop.TheVariants as stops
 
@@ -20,7 +20,7 @@ abbrev pub stop_line : Stop → List ℕ
 stop_line stops.BadLine = line_of BadLine
 stop_line (stops.Refused name kind words) = line_of (Refused name.now kind.now (words_text words))
 stop_line (stops.Unread name) = line_of (Unread name.now)
-stop_line (stops.Unwritten name) = line_at (Unwritten name.now)
+stop_line (stops.Unwritten name) = line_at (Unwritten name.now [])
 stop_line stops.NoMemory = line_at NoMemory
 stop_line (stops.TooLong name) = line_of (TooLong name.now)
 stop_line (stops.Fell trouble) = err_line (words_text trouble)

@@ -65,10 +65,11 @@ IsStopAtInput comes before after (stops.Refused n kind words) = comes Sound (Ref
 IsStopAtInput comes before after stops.NoMemory = ⊤
 IsStopAtInput comes before after stop = ⊥
 
--- the inputs of which this comes were taken one after another, and what comes of their values comes of them; or one of them was a stop
+-- the inputs of which this comes were taken one after another and each was accepted, so that what comes of their values comes of them; or
+-- one of them was a stop
 abbrev pub AreTaken : {X : Type 0} → (comes : DeskReads → Outcome → Type 0) → (yields : X → Outcome → Type 0) → (before after : DeskView)
     → Result X Stop → Type 0
-AreTaken comes yields before after (Ok inputs) = (outcome : Outcome) → yields inputs outcome → comes Sound outcome
+AreTaken comes yields before after (Ok inputs) = (reads : DeskReads) (outcome : Outcome) → yields inputs outcome → comes reads outcome
 AreTaken comes yields before after (Err stop) = IsStopAtInput comes before after stop
 
 -- what an error of reading comes to: an input that can't be read or is too long, or want of memory
@@ -111,12 +112,12 @@ IsNamed name (stops.TooLong n) = n.now ≡ name
 IsNamed name (stops.Refused n kind words) = n.now ≡ name
 IsNamed name stop = ⊤
 
--- the calls of the turns of inputs of which one was a stop: no other was asked for after it
-abbrev pub StopsTakings : List (List ℕ × ℕ) → Stop → List Call → Type 0
-StopsTakings inputs stop calls =
-    (name : List ℕ) × IsNamed name stop × StopsAt inputs name (λ limit. StopsTaking name limit stop) calls
+-- the calls of the turns of inputs, of which this comes, and of which one was a stop: its turn had come, and no other was asked for after it
+abbrev pub StopsTakings : (DeskReads → Outcome → Type 0) → List (List ℕ × ℕ) → Stop → List Call → Type 0
+StopsTakings comes inputs stop calls =
+    (name : List ℕ) × IsNamed name stop × comes Faulty (Unread name) × StopsAt inputs name (λ limit. StopsTaking name limit stop) calls
 
--- the calls of the turns of inputs
-abbrev pub AreTakings : {X : Type 0} → List (List ℕ × ℕ) → Result X Stop → List Call → Type 0
-AreTakings inputs (Ok value) calls = ReadsAll inputs calls
-AreTakings inputs (Err stop) calls = StopsTakings inputs stop calls
+-- the calls of the turns of inputs of which this comes
+abbrev pub AreTakings : {X : Type 0} → (DeskReads → Outcome → Type 0) → List (List ℕ × ℕ) → Result X Stop → List Call → Type 0
+AreTakings comes inputs (Ok value) calls = ReadsAll inputs calls
+AreTakings comes inputs (Err stop) calls = StopsTakings comes inputs stop calls

@@ -11,15 +11,23 @@ pub record Form (X : Type 0) : Type 1 where
   pub Reads : List ℕ → X → Type 0
   pub Refuses : List ℕ → List ℕ → Type 0
 
--- whether reads of the desk fail where the desk holds the name: none does, or any may
+-- How inputs are taken: no read fails where the desk holds the name; or any read may fail; or each input is accepted, so that no turn fails.
 pub data DeskReads : Type 0 where
   Sound : DeskReads
   Faulty : DeskReads
+  AllAccepted : DeskReads
 
 -- a name of which the desk says this can't be read
 abbrev pub IsUnreadable : DeskReads → Entry → Type 0
 IsUnreadable Sound entry = entry ≡ Absent
 IsUnreadable Faulty entry = ⊤
+IsUnreadable AllAccepted entry = ⊥
+
+-- bytes are no input, for this reason; not so where each input is accepted
+abbrev pub IsNoInput : DeskReads → Type 0 → Type 0
+IsNoInput Sound Reason = Reason
+IsNoInput Faulty Reason = Reason
+IsNoInput AllAccepted Reason = ⊥
 
 -- the bytes that a name may hold, by what the desk says of it
 abbrev pub MayHold : Entry → List ℕ → Type 0
@@ -28,17 +36,18 @@ MayHold Absent bytes = ⊥
 MayHold (Holds content) bytes = bytes ≡ content
 
 -- bytes are judged: they are too many; or they are refused; or they read as a value, and what follows is that value's
-abbrev pub Judge : {X : Type 0} → Form X → (name bytes : List ℕ) → (X → Outcome → Type 0) → Outcome → Type 0
-Judge {X} form name bytes next outcome =
-    ((form.limit < length bytes) × (outcome ≡ TooLong name))
-    ⊎ ((length bytes ≤ form.limit) × (((refusal : List ℕ) × form.Refuses bytes refusal × (outcome ≡ Refused name form.kind refusal))
+abbrev pub Judge : {X : Type 0} → Form X → DeskReads → (name bytes : List ℕ) → (X → Outcome → Type 0) → Outcome → Type 0
+Judge {X} form reads name bytes next outcome =
+    IsNoInput reads ((form.limit < length bytes) × (outcome ≡ TooLong name))
+    ⊎ ((length bytes ≤ form.limit)
+    × (IsNoInput reads ((refusal : List ℕ) × form.Refuses bytes refusal × (outcome ≡ Refused name form.kind refusal))
     ⊎ ((value : X) × form.Reads bytes value × next value outcome)))
 
 -- an input is taken in its turn: it can't be read; or the bytes that it holds are judged, and the turn of what follows comes
 abbrev pub Take : {X : Type 0} → Form X → DeskReads → (List ℕ → Entry) → List ℕ → (X → Outcome → Type 0) → Outcome → Type 0
 Take form reads held name next outcome =
     (IsUnreadable reads (held name) × (outcome ≡ Unread name))
-    ⊎ ((bytes : List ℕ) × MayHold (held name) bytes × Judge form name bytes next outcome)
+    ⊎ ((bytes : List ℕ) × MayHold (held name) bytes × Judge form reads name bytes next outcome)
 
 -- an input that the words may leave out: where they name none, none is taken
 abbrev pub TakeMaybe : {X : Type 0} → Form X → DeskReads → (List ℕ → Entry) → Option (List ℕ) → (Option X → Outcome → Type 0) → Outcome → Type 0

@@ -1,36 +1,54 @@
 -- What a command leaves that runs traced threads, whatever makes their runs lawful.
 use Rattle.std.specs.Prelude.{◌≡◌, ◌+◌, ℕ, List, [], ◌∷◌, ◌++◌, Ok}
+use Rattle.xray_io.specs.Desk.{made_to_hold}
 use Rattle.xray_io.specs.Sink.{Adds}
 use Rattle.xray_io.specs.World.{World}
 use Rattle.xray_image.specs.Program.{Program, IsAccepted}
 use Rattle.patch_script.specs.Plans.{Plan, plan_of}
 use Rattle.machine_step.specs.declared.setup.Setup.{Setup}
 use Rattle.machine_step.specs.Texts.{state_text}
+use Rattle.traced_run.specs.Losses.{LosesFew}
 use Rattle.traced_run.specs.Runs.{IsRun, ThreadRun}
-use Rattle.xray_program.specs.Outputs.{AreWhole}
+use Rattle.trace_flush.specs.Audit.{audit_text}
+use Rattle.trace_flush.specs.Flush.{IsTraceOf, trace_bytes}
+use Rattle.trace_flush.specs.Lines.{accounts_of}
 
 -- the state texts of threads, which are numbered from one of a number on, one after another
 abbrev pub state_texts : ℕ → List ThreadRun → List ℕ
 state_texts number [] = []
 state_texts number (run ∷ runs) = state_text number run.end run.last run.marks ++ state_texts (number + 1) runs
 
--- Of lawful runs of the threads all is written that there is: so far there are no outputs; the text is the state texts, thread 1 first.
-pub record Traces (Lawful : List ThreadRun → Type 0) (program : Program) (setup : Setup) (outputs : List (List ℕ × List ℕ)) (text : List ℕ) : Type 0 where
+-- the outputs of a run, each a name and its bytes: the trace, and then the audit
+abbrev pub written_of : (trace audit : List ℕ) → Setup → List ThreadRun → List (List ℕ × List ℕ)
+written_of trace audit setup runs = (trace, trace_bytes setup runs) ∷ (audit, audit_text setup (accounts_of setup runs)) ∷ []
+
+-- Of lawful runs of the threads all is written that there is: the trace and the audit; and as text the state texts, thread 1 first.
+pub record Traces (Lawful : List ThreadRun → Type 0) (program : Program) (setup : Setup) (trace audit : List ℕ)
+    (outputs : List (List ℕ × List ℕ)) (text : List ℕ) : Type 0 where
   pub runs : List ThreadRun
   pub run : IsRun program setup runs
   pub lawful : Lawful runs
-  pub outputs_are : outputs ≡ []
+  pub outputs_are : outputs ≡ written_of trace audit setup runs
   pub text_is : text ≡ state_texts 1 runs
 
--- The headline, for any law of runs: the image file is accepted, the script is read for it and for the number of threads, and all outputs
--- and out have what is written of lawful runs.
-pub record IsTraced (Lawful : Program → Plan → List ThreadRun → Type 0) (image script : List ℕ) (setup : Setup) (before after : World) : Type 0 where
+-- The headline, for any law of runs. The image file is accepted, and the script is read for it and for the number of threads. There are
+-- lawful runs, in which each thread goes as its plain run does and of each that has segments of events the last one is left, such that:
+-- - the trace holds the trace of these runs: a header with the setup's numbers, and for each thread the last whole segments of exactly the
+--   entries and exits that its marks record, and all of them if no segment was lost;
+-- - the audit holds what these runs come to: each thread's end, segments, lost segments and marks;
+-- - out was given the state texts of these runs, thread 1 first.
+pub record IsTraced (Lawful : Program → Plan → List ThreadRun → Type 0) (image script trace audit : List ℕ) (setup : Setup)
+    (before after : World) : Type 0 where
   pub program : Program
   pub accepted : IsAccepted image program
   pub plan : Plan
   pub script_reads : plan_of program setup.threads script ≡ Ok plan
-  pub outputs : List (List ℕ × List ℕ)
-  pub text : List ℕ
-  pub traces : Traces (Lawful program plan) program setup outputs text
-  pub whole : AreWhole outputs before.desk.held after.desk.held
-  pub out : Adds before.out.written after.out.written text
+  pub runs : List ThreadRun
+  pub run : IsRun program setup runs
+  pub lawful : Lawful program plan runs
+  pub few : LosesFew setup.size runs
+  pub file : List ℕ
+  pub traced : IsTraceOf setup runs file
+  pub trace_holds : after.desk.held trace ≡ made_to_hold (before.desk.held trace) file
+  pub audit_holds : after.desk.held audit ≡ made_to_hold (before.desk.held audit) (audit_text setup (accounts_of setup runs))
+  pub out : Adds before.out.written after.out.written (state_texts 1 runs)

@@ -6,7 +6,7 @@ use crate::image_file::ImageFile;
 use crate::input::take;
 use crate::inputs::TextKind;
 use crate::stop::Stop;
-use crate::text::NoText;
+use crate::text::{Bytes, NoText};
 use crate::work::Work;
 use std::alloc::Global;
 use xray_io::{Desk, Sink};
@@ -49,9 +49,10 @@ impl<'a> Work<'a> for Asm<'a> {
         desk: &mut D,
         out: &mut O,
     ) -> Result<(), Stop<'a>> {
+        let text = Bytes { bytes: &file.bytes };
         let output = Output {
             name: self.image,
-            bytes: &file.bytes,
+            text: &text,
         };
         deliver(desk, out, &output, &NoText, None)
     }

@@ -1,5 +1,5 @@
 //! The top call.
-ghost use Rattle.std.specs.Prelude.{◌≡◌, Some};
+ghost use Rattle.std.specs.Prelude.{◌≡◌, OnOk, Some};
 ghost use Rattle.command_words.specs.Items.{texts};
 ghost use Rattle.command_words.specs.Ranges.{HasRanges};
 ghost use Rattle.command_words.specs.Views.{command_view};
@@ -8,19 +8,21 @@ ghost use Rattle.xray_io.specs.World.{desk_view, sink_view};
 ghost use Rattle.xray_program.specs.Answers.{Answered};
 ghost use Rattle.xray_program.specs.Commands.{IsStill};
 ghost use Rattle.xray_program.specs.Stops.{answer_of, told_of};
-ghost use Rattle.xray_program.specs.Works.{Ends};
+ghost use Rattle.xray_program.specs.Works.{Ends, FitsTraces, SaidFits};
 
 use crate::asm::Asm;
 use crate::extract::Extract;
 use crate::plain::Plain;
 use crate::sim::Sim;
 use crate::stop::Stop;
+use crate::traced::TraceFiles;
 use crate::work::perform;
 use command_words::{Command, read_words};
 use std::alloc::Global;
 use std::sync::Wait;
 use std::thread::Threads;
-use step_sim::no_replay_tears_a_sled;
+use step_sim::{a_replay_loses_few, no_replay_tears_a_sled};
+use trace_flush::a_run_is_traced;
 use xray_io::{Desk, Gate, Sink, Wall};
 
 /// Does what `words` say, which don't hold the program's own name, with the files of `desk`, and
@@ -47,8 +49,11 @@ pub fn xray_still<D: Desk, O: Sink, E: Sink>(
         (record { desk = seen desk.new; out = got out.new; err = heard err.new })
         (D.along desk.old desk.new) result }
 {
-    // Says that no thread of a replay decodes a torn sled.
+    // Says that no thread of a replay decodes a torn sled, how many segments a replay loses, and that the
+    // trace of a run reads back.
     no_replay_tears_a_sled();
+    a_replay_loses_few();
+    a_run_is_traced();
     match perform_words(alloc, words, wall, desk, out) {
         Ok(()) => 0,
         Err(stop) => {
@@ -91,10 +96,11 @@ fn perform_words<'a, D: Desk, O: Sink>(
     desk: &mut D,
     out: &mut O,
 ) -> Result<(), Stop<'a>>
-    ensures { let seen = desk_view D.held D.read_faults D.write_faults in
+    ensures ends { let seen = desk_view D.held D.read_faults D.write_faults in
         let got = sink_view O.written O.faults in
         Ends (reading wall (texts words.now)) (seen desk.old) (seen desk.new) (got out.old) (got out.new)
         (D.along desk.old desk.new) (answer_of result) (told_of result) }
+    ensures fits { OnOk result (SaidFits (reading wall (texts words.now))) }
 {
     let Ok(said) = read_words(alloc, wall, words) else {
         return Err(Stop::NoMemory);
@@ -113,16 +119,19 @@ fn perform_command<'a, D: Desk, O: Sink>(
     out: &mut O,
 ) -> Result<(), Stop<'a>>
     requires { HasRanges (command_view command) }
-    ensures { let seen = desk_view D.held D.read_faults D.write_faults in
+    ensures ends { let seen = desk_view D.held D.read_faults D.write_faults in
         let got = sink_view O.written O.faults in
         Ends (Some (command_view command.entry)) (seen desk.old) (seen desk.new) (got out.old) (got out.new)
         (D.along desk.old desk.new) (answer_of result) (told_of result) }
+    ensures fits { OnOk result (FitsTraces (command_view command.entry)) }
 {
     match command {
         Command::Sim {
             image,
             script,
             schedule,
+            trace,
+            audit,
             options,
         } => {
             perform(
@@ -131,6 +140,7 @@ fn perform_command<'a, D: Desk, O: Sink>(
                     image,
                     script,
                     schedule,
+                    files: TraceFiles { trace, audit },
                     options,
                 },
                 desk,

@@ -2,6 +2,7 @@
 ghost use Rattle.std.specs.Prelude.{◌≡◌, ℕ, List, [], ◌∷◌, Contains, Option, option_map, IfErr, OnOk};
 ghost use Rattle.fault_words.specs.Words.{words_text};
 ghost use Rattle.xray_io.specs.Calls.{Went};
+ghost use Rattle.xray_io.specs.Outputs.{AppendsText, MakesOutput};
 ghost use Rattle.xray_io.specs.World.{desk_view, sink_view};
 ghost use Rattle.xray_program.specs.Outputs.{AreWhole};
 ghost use Rattle.xray_program.specs.Works.{AreMakings, Delivers, KeepsOthers, StopsOutputs, names_of};
@@ -9,7 +10,7 @@ ghost use Rattle.xray_program.specs.Works.{AreMakings, Delivers, KeepsOthers, St
 use crate::stop::Stop;
 use crate::text::Printed;
 use fault_words::Words;
-use xray_io::{Desk, Sink, WriteFault, write_output};
+use xray_io::{Desk, DeskFile, Sink, WriteFault};
 
 /// How err names the standard output.
 const OUT: &str = "output";
@@ -19,8 +20,12 @@ pub(crate) trait Outputs<'a> {
     /// Each with its name and its bytes, in the order in which they are written.
     ghost all: { Self → List (List ℕ × List ℕ) };
 
+    /// They are there to be written, and no two have the same name.
+    ghost ready: { Self → Type 0 };
+
     /// Creates and writes each in its turn. Nothing is done after one that failed.
     fn write<D: Desk>(&self, desk: &mut D) -> Result<(), Stop<'a>>
+        requires { ready self.now }
         ensures whole { OnOk result (AreWhole (all self.now) (D.held desk.old) (D.held desk.new)) }
         ensures stops { let seen = desk_view D.held D.read_faults D.write_faults in
             IfErr result (StopsOutputs (all self.now) (seen desk.old) (seen desk.new)) }
@@ -35,9 +40,11 @@ pub(crate) trait Outputs<'a> {
 pub(crate) struct NoOutputs;
 
 impl<'a> Outputs<'a> for NoOutputs {
-    ghost use Rattle.std.specs.Prelude.{[]};
+    ghost use Rattle.std.specs.Prelude.{[], ⊤};
 
     ghost all = { λ _. [] };
+
+    ghost ready = { λ _. ⊤ };
 
     #[tactic(auto, using(crate::proofs::Outputting::none_whole))]
     fn write<D: Desk>(&self, _desk: &mut D) -> Result<(), Stop<'a>> {
@@ -45,26 +52,79 @@ impl<'a> Outputs<'a> for NoOutputs {
     }
 }
 
-/// An output of a command: the name and the bytes.
+/// An output of a command: the name, and what is written to it, a part at a time.
 #[derive(Drop)]
-pub(crate) struct Output<'a, 't> {
+pub(crate) struct Output<'a, 't, P> {
     /// Its name.
     pub(crate) name: &'a str,
-    /// Its bytes.
-    pub(crate) bytes: &'t [u8],
+    /// What is written to it.
+    pub(crate) text: &'t P,
 }
 
-impl<'a> Outputs<'a> for Output<'a, '_> {
+impl<'a, P: Printed> Outputs<'a> for Output<'a, '_, P> {
     ghost use Rattle.std.specs.Prelude.{[], ◌∷◌};
 
-    ghost all = { λ o. (o.name.now, o.bytes.now) ∷ [] };
+    ghost all = { λ o. (o.name.now, P.text o.text.now) ∷ [] };
+
+    ghost ready = { λ o. P.ready o.text.now };
 
     fn write<D: Desk>(&self, desk: &mut D) -> Result<(), Stop<'a>> {
-        match write_output(desk, self.name, self.bytes) {
+        match make(desk, self.name, self.text) {
             Ok(()) => Ok(()),
             Err(WriteFault) => Err(Stop::Unwritten(self.name)),
         }
     }
+}
+
+/// Two outputs of a command, of different names.
+#[derive(Drop)]
+pub(crate) struct TwoOutputs<'a, 't, P, Q> {
+    /// The one that is written first.
+    pub(crate) first: Output<'a, 't, P>,
+    /// The one that is written when the first is whole.
+    pub(crate) second: Output<'a, 't, Q>,
+}
+
+impl<'a, P: Printed, Q: Printed> Outputs<'a> for TwoOutputs<'a, '_, P, Q> {
+    ghost use Rattle.std.specs.Prelude.{◌≢◌, [], ◌∷◌};
+
+    ghost all = { λ o. (o.first.name.now, P.text o.first.text.now)
+        ∷ (o.second.name.now, Q.text o.second.text.now) ∷ [] };
+
+    ghost ready = { λ o. (o.first.name.now ≢ o.second.name.now)
+        × P.ready o.first.text.now × Q.ready o.second.text.now };
+
+    fn write<D: Desk>(&self, desk: &mut D) -> Result<(), Stop<'a>> {
+        match make(desk, self.first.name, self.first.text) {
+            Ok(()) => match make(desk, self.second.name, self.second.text) {
+                Ok(()) => Ok(()),
+                Err(WriteFault) => Err(Stop::Unwritten(self.second.name)),
+            },
+            Err(WriteFault) => Err(Stop::Unwritten(self.first.name)),
+        }
+    }
+}
+
+/// Creates a name, and writes a text to it.
+fn make<P: Printed, D: Desk>(desk: &mut D, name: &str, text: &P) -> Result<(), WriteFault>
+    requires { P.ready text.now }
+    ensures { MakesOutput D.held D.read_faults D.write_faults D.along
+        desk.old desk.new name.now (P.text text.now) result }
+{
+    match desk.create(name) {
+        Ok(()) => append(desk, name, text),
+        Err(_) => Err(WriteFault),
+    }
+}
+
+/// Writes a text at the end of what a name holds.
+fn append<P: Printed, D: Desk>(desk: &mut D, name: &str, text: &P) -> Result<(), WriteFault>
+    requires { P.ready text.now }
+    ensures { AppendsText D.held D.read_faults D.write_faults D.along
+        desk.old desk.new name.now (P.text text.now) result }
+{
+    let mut file = DeskFile::new(desk, name);
+    text.print(&mut file)
 }
 
 /// Creates and writes the outputs, each in its turn, and then writes the text on out. Nothing is done
@@ -76,7 +136,8 @@ pub(crate) fn deliver<'a, W: Outputs<'a>, P: Printed, D: Desk, O: Sink>(
     text: &P,
     trouble: Option<Words<'a>>,
 ) -> Result<(), Stop<'a>>
-    requires { P.ready text.now }
+    requires outputs { W.ready outputs.now }
+    requires text { P.ready text.now }
     ensures delivers { let seen = desk_view D.held D.read_faults D.write_faults in
         let got = sink_view O.written O.faults in
         Delivers (W.all outputs.now) (P.text text.now) (option_map words_text trouble.entry)

@@ -3,8 +3,9 @@
 //! The words are read first, together with the wall time (`command_words`). A command is one module (`sim`,
 //! `plain`, `extract`, `asm`), which implements `Work`: it takes its inputs in the order of the words
 //! (`input`), each of which is read, measured and judged before the next is opened, so the first that
-//! fails decides; then it does its work, and writes its outputs and its text (`delivery`). Last a line on
-//! err says what stopped the call, if something did (`stop`).
+//! fails decides; then it does its work, and writes its outputs and its text (`delivery`); what is written
+//! of traced threads is in `traced`. Last a line on err says what stopped the call, if something did
+//! (`stop`).
 //!
 //! What a command means is one relation, `Comes` of `specs/Commands.antt`. The contract of the call is
 //! one record, `Answered` of `specs/Answers.antt`, over what was said, the world before the call and the
@@ -25,6 +26,7 @@ mod sim;
 mod sim_inputs;
 mod stop;
 mod text;
+mod traced;
 mod work;
 
 pub use call::{xray, xray_still};

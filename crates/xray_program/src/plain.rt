@@ -12,7 +12,7 @@ use crate::stop::Stop;
 use crate::text::Printed;
 use crate::work::Work;
 use command_words::Bounds;
-use machine_step::{PlainEnd, plain_run, write_plain};
+use machine_step::{PlainEnd, Steps, plain_run, write_plain};
 use std::alloc::Global;
 use xray_image::Image;
 use xray_io::{Desk, NoMemory, Sink, WriteFault};
@@ -60,9 +60,10 @@ impl<'a> Work<'a> for Plain<'a> {
 fn run_threads(alloc: Global, image: &Image, bounds: Bounds) -> Result<Vec<PlainEnd>, NoMemory>
     ensures { IfOk result (λ ends. AreEnds image.now bounds bounds.threads ends.items) }
 {
+    let steps = Steps::new(alloc, image)?;
     let mut ends = Vec::new(alloc);
     for thread in 0..bounds.threads {
-        ends.push(plain_run(alloc, image, thread + 1, plain_limits(bounds))?)?;
+        ends.push(plain_run(alloc, &steps, thread + 1, plain_limits(bounds))?)?;
     }
     Ok(ends)
 }

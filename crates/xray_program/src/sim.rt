@@ -1,29 +1,24 @@
 //! `sim`: the replay of a schedule over an image and a script.
-ghost use Rattle.std.specs.Prelude.{◌≡◌};
-ghost use Rattle.std.specs.List.{All, flat_map};
+ghost use Rattle.std.specs.Prelude.{◌≡◌, [], IfOk};
 ghost use Rattle.command_words.specs.Ranges.{AreRunOptions};
-ghost use Rattle.machine_step.specs.Traced.{IsDone};
-ghost use Rattle.xray_io.specs.Writes.{WritesText};
-ghost use Rattle.xray_program.specs.Ends.{thread_text};
 
-use crate::delivery::{NoOutputs, deliver};
 use crate::input::{fault_stop, take};
 use crate::inputs::{ImageKind, ScheduleKind, ScriptKind};
 use crate::setups::setup_of;
 use crate::sim_inputs::SimInputs;
 use crate::stop::Stop;
-use crate::text::Printed;
+use crate::traced::{RunLeft, TraceFiles, deliver_run, room_for};
 use crate::work::Work;
 use command_words::RunOptions;
-use machine_step::{Cpu, write_state};
+use machine_step::Steps;
 use std::alloc::Global;
-use step_sim::simulate;
-use xray_io::{Desk, Sink, WriteFault};
+use step_sim::{SimEnd, SimStart};
+use xray_io::{Desk, Sink};
 
 /// The word for a script in a line on err.
 const SCRIPT: &str = "script";
 
-/// `sim IMAGE SCRIPT SCHEDULE`.
+/// `sim IMAGE SCRIPT SCHEDULE TRACE AUDIT`.
 #[derive(Drop)]
 pub(crate) struct Sim<'a> {
     /// The image file's name.
@@ -32,6 +27,8 @@ pub(crate) struct Sim<'a> {
     pub(crate) script: &'a str,
     /// The name of the schedule.
     pub(crate) schedule: &'a str,
+    /// The names of the trace and the audit, which are the outputs.
+    pub(crate) files: TraceFiles<'a>,
     /// What the replay is made with.
     pub(crate) options: RunOptions,
     ghost ranges: { AreRunOptions options },
@@ -45,9 +42,11 @@ impl<'a> Work<'a> for Sim<'a> {
 
     type Inputs = SimInputs;
 
-    ghost says = { λ s. words.Sim s.image.now s.script.now s.schedule.now s.options };
+    ghost says = { λ s. words.Sim s.image.now s.script.now s.schedule.now
+        s.files.trace.now s.files.audit.now s.options };
 
-    ghost yields = { λ s inputs. Replays s.script.now (setup_of s.options) inputs.image inputs.script inputs.schedule };
+    ghost yields = { λ s inputs. Replays s.script.now s.files.trace.now s.files.audit.now (setup_of s.options)
+        inputs.image inputs.script inputs.schedule };
 
     ghost fits = { λ s inputs. AreReadFor s.options.bounds.threads inputs };
 
@@ -74,46 +73,37 @@ impl<'a> Work<'a> for Sim<'a> {
         desk: &mut D,
         out: &mut O,
     ) -> Result<(), Stop<'a>> {
-        match simulate(
-            alloc,
-            &inputs.image,
-            &inputs.script,
-            &inputs.schedule,
-            &setup_of(self.options),
-        ) {
-            Ok(end) => deliver(desk, out, &NoOutputs, &States { cpus: &end.cpus }, None),
+        let setup = setup_of(self.options);
+        let lines = room_for(alloc, setup.threads)?;
+        let steps = Steps::new(alloc, &inputs.image)?;
+        match SimStart::new(alloc, &steps, &inputs.script, &setup) {
+            Ok(start) => {
+                let left = left_of(start.play(&inputs.schedule));
+                deliver_run(desk, out, &self.files, &setup, left, lines)
+            }
             Err(fault) => Err(fault_stop(self.script, SCRIPT, &fault)),
         }
     }
 }
 
-/// The state texts of threads that have ended, in their order.
-#[derive(Drop)]
-struct States<'t, 'i> {
-    cpus: &'t [Cpu<'i>],
-}
-
-impl Printed for States<'_, '_> {
-    ghost use Rattle.std.specs.List.{All, flat_map};
-    ghost use Rattle.machine_step.specs.Traced.{IsDone};
-    ghost use Rattle.xray_program.specs.Ends.{thread_text};
-
-    ghost text = { λ s. flat_map thread_text s.cpus.now };
-
-    ghost ready = { λ s. All (λ t. IsDone t.want) s.cpus.now };
-
-    fn print<S: Sink>(&self, sink: &mut S) -> Result<(), WriteFault> {
-        write_states(sink, self.cpus)
-    }
-}
-
-/// Writes the state texts of threads that have ended, one after another.
-fn write_states<S: Sink>(sink: &mut S, cpus: &[Cpu]) -> Result<(), WriteFault>
-    requires { All (λ t. IsDone t.want) cpus.now }
-    ensures { WritesText S.written S.faults S.along sink.old sink.new (flat_map thread_text cpus.now) result }
+/// What a replay leaves, as what is written of it.
+fn left_of(end: SimEnd) -> RunLeft
+    ensures cpus { result.cpus.items ≡ end.entry.cpus.items }
+    ensures segments { result.segments.items ≡ end.entry.segments.items }
+    ensures first { result.first.items ≡ end.entry.first.items }
+    ensures buffers { result.buffers.items ≡ end.entry.buffers.items }
 {
-    for cpu in cpus {
-        write_state(cpu.thread(), cpu, sink)?;
+    let SimEnd {
+        cpus,
+        sealed: _,
+        segments,
+        first,
+        buffers,
+    } = end;
+    RunLeft {
+        cpus,
+        segments,
+        first,
+        buffers,
     }
-    Ok(())
 }

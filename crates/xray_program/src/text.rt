@@ -1,4 +1,4 @@
-//! What a command writes on out.
+//! What a command writes on out, or to one of its outputs.
 ghost use Rattle.std.specs.Prelude.{ℕ, List};
 ghost use Rattle.xray_io.specs.Writes.{WritesText};
 
@@ -12,7 +12,7 @@ pub(crate) trait Printed {
     /// It is there to be written.
     ghost ready: { Self → Type 0 };
 
-    /// Writes its text. Where the sink fails, a prefix of it is there.
+    /// Writes its text. If the sink fails, a prefix of it is there.
     fn print<S: Sink>(&self, sink: &mut S) -> Result<(), WriteFault>
         requires { ready self.now }
         ensures { WritesText S.written S.faults S.along sink.old sink.new (text self.now) result };
@@ -31,5 +31,24 @@ impl Printed for NoText {
 
     fn print<S: Sink>(&self, sink: &mut S) -> Result<(), WriteFault> {
         write_all(sink, b"")
+    }
+}
+
+/// Bytes that are there.
+#[derive(Drop)]
+pub(crate) struct Bytes<'t> {
+    /// These bytes.
+    pub(crate) bytes: &'t [u8],
+}
+
+impl Printed for Bytes<'_> {
+    ghost use Rattle.std.specs.Prelude.{⊤};
+
+    ghost text = { λ b. b.bytes.now };
+
+    ghost ready = { λ _. ⊤ };
+
+    fn print<S: Sink>(&self, sink: &mut S) -> Result<(), WriteFault> {
+        write_all(sink, self.bytes)
     }
 }

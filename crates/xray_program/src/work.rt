@@ -40,7 +40,8 @@ pub(crate) trait Work<'a> {
         ensures held { D.held desk.new ≡ D.held desk.old }
         ensures later { D.read_faults desk.old ≤ D.read_faults desk.new }
         ensures writes { D.write_faults desk.new ≡ D.write_faults desk.old }
-        ensures calls { Went (D.along desk.old desk.new) (AreTakings (inputs_of (says self.now)) result) };
+        ensures calls { Went (D.along desk.old desk.new)
+            (AreTakings (λ reads. Comes reads (D.held desk.old) (says self.now)) (inputs_of (says self.now)) result) };
 
     /// Does the work over the inputs, and writes what comes of them.
     fn finish<D: Desk, O: Sink>(

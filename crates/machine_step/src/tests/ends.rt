@@ -1,11 +1,9 @@
 //! An image for each end, and one that calls itself twice.
 
-ghost use Rattle.std.specs.Prelude.{◌<◌, length};
-
 use super::DEFAULT_LIMITS;
-use crate::{End, Limits, plain_run};
+use crate::{End, Limits, Steps, plain_run};
 use std::test::Fail;
-use xray_image::read_image;
+use xray_image::{Image, read_image};
 
 /// The header of an image of one function and no sled: base 0x1000, and the code's length at 16.
 const HEADER: [u8; 64] = [
@@ -17,6 +15,23 @@ const HEADER: [u8; 64] = [
 /// The function `f` at 0x1000.
 const FUNCTION: [u8; 10] = [0x00, 0x10, 0, 0, 0, 0, 0, 0, 1, 0x66];
 
+/// The image of this code alone.
+pub(super) fn image_of(rt: &HostRuntime, code: &[u8]) -> Result<Image, Fail> {
+    let Ok(length) = u32::try_from(code.len()) else {
+        return Err("too much code")?;
+    };
+    let [low, second, third, high] = length.to_le_bytes();
+    let mut header = HEADER;
+    header[16] = low;
+    header[17] = second;
+    header[18] = third;
+    header[19] = high;
+    let mut bytes = header.to_vec(rt.alloc())?;
+    bytes.extend_from_slice(code)?;
+    bytes.extend_from_slice(&FUNCTION)?;
+    Ok(read_image(rt.alloc(), &bytes)?)
+}
+
 /// Whether thread 1 of an image of this code alone ends so.
 fn ends_so(
     rt: &HostRuntime,
@@ -24,20 +39,14 @@ fn ends_so(
     fuel: u64,
     end: End,
     instructions: u64,
-) -> Result<bool, Fail>
-    requires { length code.now < 256 }
-{
-    let mut header = HEADER;
-    header[16] = code.len() as u8;
-    let mut bytes = header.to_vec(rt.alloc())?;
-    bytes.extend_from_slice(code)?;
-    bytes.extend_from_slice(&FUNCTION)?;
-    let image = read_image(rt.alloc(), &bytes)?;
+) -> Result<bool, Fail> {
+    let image = image_of(rt, code)?;
+    let steps = Steps::new(rt.alloc(), &image)?;
     let limits = Limits {
         fuel,
         ..DEFAULT_LIMITS
     };
-    let run = plain_run(rt.alloc(), &image, 1, limits)?;
+    let run = plain_run(rt.alloc(), &steps, 1, limits)?;
     Ok(run.end == end && run.instructions == instructions)
 }
 
@@ -111,7 +120,8 @@ const FIBONACCI: [u8; 326] = [
 #[test]
 fn a_function_that_calls_itself_returns(rt: HostRuntime) -> Result<(), Fail> {
     let image = read_image(rt.alloc(), &FIBONACCI)?;
-    let end = plain_run(rt.alloc(), &image, 1, DEFAULT_LIMITS)?;
+    let steps = Steps::new(rt.alloc(), &image)?;
+    let end = plain_run(rt.alloc(), &steps, 1, DEFAULT_LIMITS)?;
     assert_eq!(rt; end.end, End::Returned);
     assert_eq!(rt; end.instructions, 213_132);
     assert_eq!(rt; end.passings, 43_782);

@@ -1,7 +1,7 @@
 //! Traced threads, load by load.
 
 use super::{DEFAULT_LIMITS, OUTPUTS_AN_A};
-use crate::{Cpu, End, Limits, Want, write_state};
+use crate::{Cpu, End, Limits, Steps, Want, write_state};
 use fdr_record::{Event, Kind};
 use handler_word::Mark;
 use std::test::Fail;
@@ -53,7 +53,8 @@ fn text_of(rt: &HostRuntime, cpu: &Cpu) -> Result<MemSink, Fail> {
 #[test]
 fn a_patched_thread_records_its_passings(rt: HostRuntime) -> Result<(), Fail> {
     let image = read_image(rt.alloc(), &OUTPUTS_AN_A)?;
-    let mut cpu = Cpu::new(rt.alloc(), &image, 1, 1, None, DEFAULT_LIMITS)?;
+    let steps = Steps::new(rt.alloc(), &image)?;
+    let mut cpu = Cpu::new(rt.alloc(), &steps, 1, 1, None, DEFAULT_LIMITS)?;
     assert_eq!(rt; pass(&mut cpu, &ENTRY)?, None);
     assert_eq!(rt; pass(&mut cpu, &[(9, 2)])?, event(Kind::Entry, 0));
     assert_eq!(rt; pass(&mut cpu, &EXIT)?, None);
@@ -69,13 +70,14 @@ fn a_patched_thread_records_its_passings(rt: HostRuntime) -> Result<(), Fail> {
 #[test]
 fn a_held_thread_loads_its_release_word_until_it_is_1(rt: HostRuntime) -> Result<(), Fail> {
     let image = read_image(rt.alloc(), &OUTPUTS_AN_A)?;
+    let steps = Steps::new(rt.alloc(), &image)?;
     let limits = Limits {
         passings: 1,
         ..DEFAULT_LIMITS
     };
     // Two sleds have eight words, the handler the next one, the state the one behind it, and thread
     // 2 its release word behind that of thread 1.
-    let mut cpu = Cpu::new(rt.alloc(), &image, 2, 3, Some(0), limits)?;
+    let mut cpu = Cpu::new(rt.alloc(), &steps, 2, 3, Some(0), limits)?;
     assert_eq!(rt; pass(&mut cpu, &[(11, 0), (11, 0), (11, 1)])?, None);
     // The head of an exit sled may not stand in that of an entry sled.
     if let Want::Load(_) = cpu.want() {
@@ -89,7 +91,8 @@ fn a_held_thread_loads_its_release_word_until_it_is_1(rt: HostRuntime) -> Result
 #[test]
 fn each_value_leads_to_its_mark(rt: HostRuntime) -> Result<(), Fail> {
     let image = read_image(rt.alloc(), &OUTPUTS_AN_A)?;
-    let mut cpu = Cpu::new(rt.alloc(), &image, 1, 1, None, DEFAULT_LIMITS)?;
+    let steps = Steps::new(rt.alloc(), &image)?;
+    let mut cpu = Cpu::new(rt.alloc(), &steps, 1, 1, None, DEFAULT_LIMITS)?;
     pass(&mut cpu, &ENTRY[..4])?;
     pass(&mut cpu, &[(8, 0)])?;
     pass(&mut cpu, &EXIT)?;
@@ -104,7 +107,8 @@ fn each_value_leads_to_its_mark(rt: HostRuntime) -> Result<(), Fail> {
 #[test]
 fn a_thread_that_has_ended_tells_what_it_left(rt: HostRuntime) -> Result<(), Fail> {
     let image = read_image(rt.alloc(), &OUTPUTS_AN_A)?;
-    let mut cpu = Cpu::new(rt.alloc(), &image, 1, 1, None, DEFAULT_LIMITS)?;
+    let steps = Steps::new(rt.alloc(), &image)?;
+    let mut cpu = Cpu::new(rt.alloc(), &steps, 1, 1, None, DEFAULT_LIMITS)?;
     pass(&mut cpu, &[(0, 0x09EB)])?;
     pass(&mut cpu, &[(4, 0xBAC3)])?;
     assert_eq!(rt; cpu.reg(0), 0x41);

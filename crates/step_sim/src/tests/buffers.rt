@@ -2,7 +2,7 @@
 
 use super::replays::{LIMITS, OUTPUTS_AN_A};
 use super::*;
-use machine_step::{Limits, Setup};
+use machine_step::{Limits, Setup, Steps};
 use patch_script::read_script;
 use std::process::Abort;
 use xray_image::read_image;
@@ -48,7 +48,7 @@ const TAIL_CALLS: [u8; 263] = [
 ];
 
 /// The script that traces all, from before the start.
-const TRACED: &[u8] = b"patch\nset_handler\ninit\ngo";
+pub(super) const TRACED: &[u8] = b"patch\nset_handler\ninit\ngo";
 
 /// A replay of an image.
 #[derive(Clone, Copy)]
@@ -131,7 +131,8 @@ fn leaves(
         wall: Wall { secs: 0, micros: 0 },
         frequency: 0,
     };
-    let end = simulate(alloc, &image, &script, &schedule, &setup)?;
+    let steps = Steps::new(alloc, &image)?;
+    let end = SimStart::new(alloc, &steps, &script, &setup)?.play(&schedule);
     assert_eq!(rt; end.sealed.as_slice(), sealed);
     assert_eq!(rt; end.first.as_slice(), first);
     assert_eq!(rt; end.buffers.len(), held.len());

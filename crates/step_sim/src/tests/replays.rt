@@ -2,11 +2,11 @@
 
 use super::*;
 use handler_word::write_runs;
-use machine_step::{Cpu, End, Limits, Setup, Want};
+use machine_step::{Cpu, End, Limits, Setup, Steps, Want};
 use patch_script::read_script;
 use std::process::Abort;
 use text_lines::count_lines;
-use xray_image::{Image, read_image};
+use xray_image::read_image;
 use xray_io::{MemSink, Wall};
 
 /// A function `main` that outputs an A: an entry sled, `mov eax, 0x41`, `out 1, al`, an exit sled.
@@ -43,14 +43,14 @@ pub(super) const LIMITS: Limits = Limits {
 fn replay_of<'a>(
     rt: &impl Abort,
     alloc: Global,
-    image: &'a Image,
+    steps: &'a Steps<'a>,
     script: &[u8],
     schedule: &[u8],
     threads: u32,
 ) -> Result<Result<SimEnd<'a>, SimFault>, Fail> {
     assert!(rt; threads == 1 || threads == 2);
     assert!(rt; count_lines(script) < 100);
-    let script = read_script(alloc, script, image, threads)?;
+    let script = read_script(alloc, script, steps.image(), threads)?;
     let schedule = read_schedule(alloc, schedule, threads)?;
     let setup = Setup {
         threads,
@@ -61,7 +61,10 @@ fn replay_of<'a>(
         wall: Wall { secs: 0, micros: 0 },
         frequency: 0,
     };
-    Ok(simulate(alloc, image, &script, &schedule, &setup))
+    Ok(match SimStart::new(alloc, steps, &script, &setup) {
+        Ok(start) => Ok(start.play(&schedule)),
+        Err(fault) => Err(fault),
+    })
 }
 
 /// The marks of a thread as they are printed.
@@ -75,6 +78,7 @@ fn marks_of(alloc: Global, cpu: &Cpu) -> Result<MemSink, Fail> {
 fn a_schedule_decides_what_a_thread_finds(rt: HostRuntime) -> Result<(), Fail> {
     let alloc = rt.alloc();
     let image = read_image(alloc, &OUTPUTS_AN_A)?;
+    let steps = Steps::new(alloc, &image)?;
     let rows: [(&[u8], &[u8], &[u8]); 8] = [
         (b"go", b"", b".2"),
         (b"patch\nset_handler\ninit\ngo", b"", b"+2"),
@@ -100,7 +104,7 @@ fn a_schedule_decides_what_a_thread_finds(rt: HostRuntime) -> Result<(), Fail> {
         ),
     ];
     for (script, schedule, marks) in rows {
-        let end = replay_of(&rt, alloc, &image, script, schedule, 1)??;
+        let end = replay_of(&rt, alloc, &steps, script, schedule, 1)??;
         assert_eq!(rt; end.cpus.len(), 1);
         let cpu = &end.cpus[0];
         assert_eq!(rt; marks_of(alloc, cpu)?.bytes(), marks);
@@ -116,8 +120,9 @@ fn a_schedule_decides_what_a_thread_finds(rt: HostRuntime) -> Result<(), Fail> {
 fn threads_find_the_same_words_at_their_own_turns(rt: HostRuntime) -> Result<(), Fail> {
     let alloc = rt.alloc();
     let image = read_image(alloc, &OUTPUTS_AN_A)?;
+    let steps = Steps::new(alloc, &image)?;
     let script = b"set_handler\ninit\ngo\npatch";
-    let end = replay_of(&rt, alloc, &image, script, b"t 1 1\np 8", 2)??;
+    let end = replay_of(&rt, alloc, &steps, script, b"t 1 1\np 8", 2)??;
     assert_eq!(rt; end.cpus.len(), 2);
     assert_eq!(rt; marks_of(alloc, &end.cpus[0])?.bytes(), b".1 +1".as_slice());
     assert_eq!(rt; marks_of(alloc, &end.cpus[1])?.bytes(), b"+2".as_slice());
@@ -129,6 +134,7 @@ fn threads_find_the_same_words_at_their_own_turns(rt: HostRuntime) -> Result<(),
 #[test]
 fn a_script_at_which_somebody_may_wait_is_refused(rt: HostRuntime) -> Result<(), Fail> {
     let image = read_image(rt.alloc(), &OUTPUTS_AN_A)?;
+    let steps = Steps::new(rt.alloc(), &image)?;
     let rows: [(&[u8], u32); 2] = [
         (b"hold 1 3\ngo\nawait 1 3\nrelease 1", 1),
         (
@@ -137,7 +143,7 @@ fn a_script_at_which_somebody_may_wait_is_refused(rt: HostRuntime) -> Result<(),
         ),
     ];
     for (script, line) in rows {
-        let replayed = replay_of(&rt, rt.alloc(), &image, script, b"", 1)?;
+        let replayed = replay_of(&rt, rt.alloc(), &steps, script, b"", 1)?;
         assert_eq!(rt; replayed.err(), Some(SimFault::Waits(line)));
     }
     Ok(())

@@ -1,4 +1,5 @@
-//! What each two bytes begin. `tools/two_byte_starts.py` made the table from a list of all encodings.
+//! What each pair of bytes begins. `tools/two_byte_starts.py` made the table from a list of all
+//! encodings.
 
 /// What two bytes begin.
 #[derive(Clone, Copy, Debug, PartialEq, Eq)]
@@ -9,7 +10,7 @@ pub enum Start {
     Second,
     /// The encoding that they begin is longer.
     Short,
-    /// They name rsp, or r10, and a named register is none of them.
+    /// They name rsp or r10, which can't be named.
     Rsp,
     R10,
     /// An instruction of one byte, or of two.
@@ -17,7 +18,8 @@ pub enum Start {
     Two,
 }
 
-/// The last start of each run in ascending order, as a number whose high byte is the first byte.
+/// The last start of each run, in ascending order. A start is a number whose high byte is the first
+/// byte.
 pub const RUNS: [(u16, Start); 53] = [
     (0x0EFF, Start::First),
     (0x0F84, Start::Second),

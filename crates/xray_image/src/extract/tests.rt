@@ -16,14 +16,14 @@ const MAIN_LINES: [&str; 4] = [
     "...\n",
 ];
 
-/// An entry sled, an alignment byte and an exit sled.
+/// An entry sled, an alignment byte, and an exit sled.
 const SLEDDED_CODE: [u8; 23] = [
     0xEB, 0x09, 0x66, 0x0F, 0x1F, 0x84, 0x00, 0x00, 0x02, 0x00, 0x00, 0x90, 0xC3, 0x2E, 0x66, 0x0F,
     0x1F, 0x84, 0x00, 0x00, 0x02, 0x00, 0x00,
 ];
 
-/// Three functions: `a` at 0x1000 and `c` at 0x1018 with two sleds each, and `b` at 0x1017 between
-/// them, a `ret` without a sled.
+/// Three functions. `a` at 0x1000 and `c` at 0x1018 have two sleds each. `b` at 0x1017 between them
+/// is a `ret` without a sled.
 fn three_functions(alloc: Global) -> Result<Vec<u8>, Fail> {
     let mut bytes = Vec::new(alloc);
     bytes.extend_from_slice(b"XRIM")?;

@@ -1,4 +1,4 @@
-//! Images from the bytes of a file.
+//! Reading images from the bytes of a file.
 
 ghost use Rattle.std.specs.Prelude.{◌≡◌, ◌<◌, ◌^◌, ◌⊎◌, ℕ, List, length, map, true, All, Ok, Err, OnOk, IfOk, IfErr};
 ghost use Rattle.std.specs.List.Sorted.{IsNonDecreasingBy};
@@ -23,8 +23,8 @@ use crate::sled_map::{check_distances, check_entries, check_order, read_sleds};
 use crate::unit_index::UnitIndex;
 use std::alloc::{AllocError, Global};
 
-/// Looks at all that has to hold of a file whose units were read, in the order of the refusals: its
-/// functions, the order of the map, its entries, the distances to the trampolines, and the branches.
+/// Checks what a file says of its code, in the order of the refusals: the functions, the order of
+/// the map, its entries, the distances to the trampolines, and the branches.
 fn check_program(
     alloc: Global,
     header: &Header,
@@ -53,7 +53,7 @@ fn check_program(
     Ok(())
 }
 
-/// The functions, with names of their own memory.
+/// The functions, with copies of their names.
 fn named_functions(
     alloc: Global,
     entries: &[FunctionEntry<'_>],
@@ -105,7 +105,7 @@ fn image_of(
     })
 }
 
-/// Reads an image file: its header, its parts and its units, and then looks at what the file says of
+/// Reads an image file: its header, its parts and its units. Then checks what the file says of
 /// them.
 fn read_program(alloc: Global, bytes: &[u8]) -> Result<Image, ImageFault>
     ensures { (result ≡ Err ImageFault.NoMemory) ⊎ ReadsAs bytes.now result }
@@ -118,16 +118,14 @@ fn read_program(alloc: Global, bytes: &[u8]) -> Result<Image, ImageFault>
     Ok(image_of(alloc, &header, &parts, code, index)?)
 }
 
-/// Reads an image file. Where it isn't accepted the answer is the first refusal of the table that
-/// applies, each as `ImageFault` says. `NoMemory` comes only for want of memory. Takes time linear
-/// in the file's length (a look-up in a map for each name), and takes no memory by a count that the
-/// file's length doesn't bear out.
+/// Reads an image file. If it isn't accepted, the answer is the first refusal of the table that
+/// applies; see `ImageFault`. `NoMemory` means that an allocation was refused.
 pub fn read_image(alloc: Global, bytes: &[u8]) -> Result<Image, ImageFault>
     // The answer is what the file reads as, unless memory runs out.
     ensures reads { (result ≡ Err ImageFault.NoMemory) ⊎ ReadsAs bytes.now result }
     ensures exact { (verdict : Verdict) → ReadsAs bytes.now verdict
         → (result ≡ verdict) ⊎ (result ≡ Err ImageFault.NoMemory) }
-    // An image is read exactly of an accepted file.
+    // A file is read as an image exactly when it is accepted, unless memory runs out.
     ensures found { IfOk result (IsAccepted bytes.now) }
     ensures complete { (program : Program) → IsAccepted bytes.now program
         → (result ≡ Ok program) ⊎ (result ≡ Err ImageFault.NoMemory) }

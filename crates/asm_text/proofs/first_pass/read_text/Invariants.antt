@@ -4,7 +4,7 @@ use Rattle.asm_text.specs.Refusals.{read_lines}
 use Rattle.asm_text.specs.FirstPass.{lines_in, IsFirstPass}
 use Rattle.asm_text.proofs.first_pass.read_text.Given as goal
 
--- what is left to read, behind the lines so far, comes to what the text comes to
+-- reading the rest of the text after the lines so far gives what reading the whole text gives
 abbrev pub invariant-loop-line : goal.invariant-loop-line
 invariant-loop-line l = record {
   left : read_lines [] (numbered_lines l.text) ≡ read_lines (lines_in l.pass.entries.items) l.line-iterator;

@@ -5,7 +5,7 @@ use Rattle.asm_text.specs.FirstPass.{lines_in}
 use Rattle.asm_text.specs.Laying.{owner_in, placed_in}
 use Rattle.asm_text.proofs.layout.lay_out.Given as goal
 
--- the lines that are laid out, and those that are left behind them, are all
+-- the lines that are laid out, and then those that are left, are all
 abbrev pub invariant-loop-i : goal.invariant-loop-i
 invariant-loop-i l =
     let left = placed_from (by_threshold l.threshold) l.place (owner_in l.owner) (lines_in (drop l.i l.entries)) in

@@ -3,7 +3,7 @@ use Rattle.fdr_file.specs.Reading.{events_on, with_front}
 use Rattle.fdr_file.specs.Traces.{standings}
 use Rattle.fdr_file.proofs.events.read_events.Given as goal
 
--- the events so far, and those that are read behind them, are all
+-- the events so far, and then those that are still to be read, are all
 abbrev pub invariant-reading : goal.invariant-reading
 invariant-reading l = record {
   within : l.at ≤ length l.block;

@@ -4,7 +4,7 @@ use Rattle.fdr_file.specs.Reading.{blocks_read}
 use Rattle.fdr_file.specs.Traces.{block_length, trace_of}
 use Rattle.fdr_file.proofs.reading.read_trace.Given as goal
 
--- the blocks so far, and those that are read behind them, are all
+-- the blocks so far, and then those that are still to be read, are all
 abbrev pub invariant-reading : goal.invariant-reading
 invariant-reading l = record {
   within : l.at ≤ length l.bytes;

@@ -1,7 +1,7 @@
 use Rattle.std.proofs.Common.{◌≡◌, ◌<◌, ◌≤◌, ◌++◌, ◌-◌, length, drop, replicate}
 use Rattle.handler_word.proofs.runs.run_at.Given as goal
 
--- from the start on there is the same mark up to here
+-- from the start up to here, all marks are the same
 abbrev pub invariant-same : goal.invariant-same
 invariant-same l = record {
   begun : l.start < l.end;

@@ -3,7 +3,7 @@ use Rattle.std.specs.Prelude.{codes}
 use Rattle.std.specs.List.{flat_map}
 use Rattle.std.proofs.Math.ListN.{drop_of_length-le}
 use Rattle.std.proofs.lemmas.Bool.{eqb-false}
-use Rattle.machine_step.specs.Texts.{byte_text, output_line, output_text, line_feed}
+use Rattle.machine_step.specs.Texts.{byte_text, output_text, line_feed}
 use Rattle.xray_io.specs.Text.{AddsText, adds_more, adds_stop, adds_within, adds_failed}
 use Rattle.machine_step.proofs.OutputText.{output_more, output_split}
 use Rattle.machine_step.proofs.plain_text.add_output.Goals as goal

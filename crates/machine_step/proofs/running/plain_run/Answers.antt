@@ -5,7 +5,7 @@ use Rattle.machine_step.proofs.running.plain_run.Goals as goal
 
 pub returns-clause-run : goal.returns-clause-run
 returns-clause-run c =
-    let program = c.args.image.now in
+    let program = c.args.steps.now in
     let left = c.run-end.new.machine in
     let run = subst (λ (m : Machine). RunsFrom program c.args.limits c.args.thread (state_at program.entry m) c.run-end.result left)
     c.in_ok-machine.ensures (c.run-end.ensures c.args.thread) in

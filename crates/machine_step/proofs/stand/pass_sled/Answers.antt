@@ -7,20 +7,20 @@ use Rattle.machine_step.proofs.stand.pass_sled.Goals as goal
 pub at-requires : goal.at-requires
 at-requires c =
     let at = c.requires.at.2 in
-    let within = place_within c.args.image.now.units c.requires.at.1 c.args.place at.placed in
-    omega (arith, c.requires.steps.count)
+    let within = place_within c.args.steps.now.units c.requires.at.1 c.args.place at.placed in
+    omega arith
 
 pub step-requires-clause-place : goal.step-requires-clause-place
 step-requires-clause-place c =
     let at = c.requires.at.2 in
-    let within = place_within c.args.image.now.units c.requires.at.1 c.args.place at.placed in
-    omega (arith, c.requires.steps.count, c.args.steps.now.all.ok, c.args.steps.now.all.small)
+    let within = place_within c.args.steps.now.units c.requires.at.1 c.args.place at.placed in
+    omega (arith, c.at.ensures.small)
 
 pub run_to_sled-requires-clause-placed : goal.run_to_sled-requires-clause-placed
 run_to_sled-requires-clause-placed c =
     let accepted = c.requires.accepted in
-    let by = passes_by c.args.image.now (are_in_order accepted.0 c.args.image.now accepted.1) c.args.limits 0 c.requires.at.1 c.args.place
-    c.requires.at.0 c.args.machine.now c.at.result.now c.requires.within (c.requires.steps.each c.args.place c.at.result.now c.at.ensures)
+    let by = passes_by c.args.steps.now (are_in_order accepted.0 c.args.steps.now accepted.1) c.args.limits 0 c.requires.at.1 c.args.place
+    c.requires.at.0 c.args.machine.now c.at.result.now c.requires.within c.at.ensures.step
     c.requires.at.2 _ c.step.new.self c.in-To.ensures.way c.in-To.ensures.left in
     (by.leads.0, by.leads.1)
 
@@ -28,20 +28,20 @@ pub returns-in-To-clause-passes : goal.returns-in-To-clause-passes
 returns-in-To-clause-passes c =
     let accepted = c.requires.accepted in
     λ address sled at thread.
-    let by = passes_by c.args.image.now (are_in_order accepted.0 c.args.image.now accepted.1) c.args.limits thread address c.args.place
-    sled c.args.machine.now c.at.result.now c.requires.within (c.requires.steps.each c.args.place c.at.result.now c.at.ensures)
+    let by = passes_by c.args.steps.now (are_in_order accepted.0 c.args.steps.now accepted.1) c.args.limits thread address c.args.place
+    sled c.args.machine.now c.at.result.now c.requires.within c.at.ensures.step
     at _ c.step.new.self c.in-To.ensures.way c.in-To.ensures.left in
-    on_to c.args.image.now c.args.limits thread address c.args.place c.in-To.next c.args.machine.now c.step.new.self c.run_to_sled.new.machine
+    on_to c.args.steps.now c.args.limits thread address c.args.place c.in-To.next c.args.machine.now c.step.new.self c.run_to_sled.new.machine
     c.run_to_sled.result by (λ there placed. c.run_to_sled.ensures.runs there placed thread)
 
 pub returns-in-Back-clause-passes : goal.returns-in-Back-clause-passes
 returns-in-Back-clause-passes c =
     let accepted = c.requires.accepted in
     λ address sled at thread.
-    let by = passes_by c.args.image.now (are_in_order accepted.0 c.args.image.now accepted.1) c.args.limits thread address c.args.place
-    sled c.args.machine.now c.at.result.now c.requires.within (c.requires.steps.each c.args.place c.at.result.now c.at.ensures)
+    let by = passes_by c.args.steps.now (are_in_order accepted.0 c.args.steps.now accepted.1) c.args.limits thread address c.args.place
+    sled c.args.machine.now c.at.result.now c.requires.within c.at.ensures.step
     at _ c.step.new.self c.in-Back.ensures.way c.in-Back.ensures.left in
-    on_back c.args.image.now c.args.limits thread address c.args.place c.in-Back.address c.place_of-next.result c.args.machine.now c.step.new.self
+    on_back c.args.steps.now c.args.limits thread address c.args.place c.in-Back.address c.place_of-next.result c.args.machine.now c.step.new.self
     c.run_to_sled-in-Back.new.machine c.run_to_sled-in-Back.result by c.place_of-next.ensures
     (λ there placed. c.run_to_sled-in-Back.ensures.runs there placed thread)
 
@@ -49,7 +49,7 @@ pub returns-in-Ends-clause-passes : goal.returns-in-Ends-clause-passes
 returns-in-Ends-clause-passes c =
     let accepted = c.requires.accepted in
     λ address sled at thread.
-    let by = passes_by c.args.image.now (are_in_order accepted.0 c.args.image.now accepted.1) c.args.limits thread address c.args.place
-    sled c.args.machine.now c.at.result.now c.requires.within (c.requires.steps.each c.args.place c.at.result.now c.at.ensures)
+    let by = passes_by c.args.steps.now (are_in_order accepted.0 c.args.steps.now accepted.1) c.args.limits thread address c.args.place
+    sled c.args.machine.now c.at.result.now c.requires.within c.at.ensures.step
     at _ c.step.new.self c.in-Ends.ensures.way c.in-Ends.ensures.left in
-    on_end c.args.image.now c.args.limits thread address c.args.place c.args.machine.now c.step.new.self c.in-Ends.end by
+    on_end c.args.steps.now c.args.limits thread address c.args.place c.args.machine.now c.step.new.self c.in-Ends.end by

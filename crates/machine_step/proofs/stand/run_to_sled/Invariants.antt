@@ -6,9 +6,9 @@ use Rattle.machine_step.proofs.stand.run_to_sled.Given as goal
 
 abbrev pub invariant-steps : goal.invariant-steps
 invariant-steps l = record {
-  way : OnWay l.image l.limits l.start l.fn.machine l.place l.machine;
+  way : OnWay l.steps l.limits l.start l.fn.machine l.place l.machine;
   within : IsWithin l.limits l.machine;
 }
 
 abbrev pub decreases-steps : goal.decreases-steps
-decreases-steps l = measure l.limits (length l.image.units + 1) l.place l.machine
+decreases-steps l = measure l.limits (length l.steps.units + 1) l.place l.machine

@@ -4,7 +4,7 @@ use Rattle.patch_script.specs.Drafts.{program_of, lines_of, IsDraft}
 use Rattle.patch_script.specs.Refusals.{read_lines}
 use Rattle.patch_script.proofs.reading.read_lines.Given as goal
 
--- what is left to read, behind the commands so far, comes to what the text comes to
+-- reading the rest of the text after the commands so far gives what reading the whole text gives
 abbrev pub invariant-loop-line : goal.invariant-loop-line
 invariant-loop-line l = record {
   left : read_lines l.image l.threads [] (numbered_lines l.text) ≡ read_lines l.image l.threads (lines_of l.draft) l.line-iterator;

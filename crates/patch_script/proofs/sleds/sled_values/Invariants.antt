@@ -1,4 +1,4 @@
--- what there is to know of the first sleds
+-- what the patcher has to know of the first sleds
 use Rattle.std.proofs.Common.{◌≡◌, take, map}
 use Rattle.patch_script.specs.Sleds.{values_of}
 use Rattle.patch_script.proofs.sleds.sled_values.Given as goal

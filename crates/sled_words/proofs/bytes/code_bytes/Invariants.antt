@@ -1,4 +1,4 @@
--- behind the first units, their bytes
+-- the bytes after the first units are those of these units
 use Rattle.std.proofs.Common.{◌≡◌, take}
 use Rattle.std.specs.List.{flat_map}
 use Rattle.sled_words.specs.CodeBytes.{unit_bytes}

@@ -1,4 +1,4 @@
--- behind the first sleds, the words of these sleds
+-- the words after the first sleds are those of these sleds
 use Rattle.std.proofs.Common.{◌≡◌, take}
 use Rattle.std.specs.List.{flat_map}
 use Rattle.sled_words.specs.Parts.{sled_words}

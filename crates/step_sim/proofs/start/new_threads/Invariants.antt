@@ -6,4 +6,4 @@ use Rattle.step_sim.proofs.start.new_threads.Given as goal
 abbrev pub invariant-loop-number : goal.invariant-loop-number
 invariant-loop-number l =
     (length l.cpus.items ≡ l.number)
-    × AllHaveBegun l.image (commands_of l.script.lines) l.setup.threads l.setup.limits l.cpus.items
+    × AllHaveBegun l.steps (commands_of l.script.lines) l.setup.threads l.setup.limits l.cpus.items

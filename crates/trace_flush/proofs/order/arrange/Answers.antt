@@ -1,5 +1,5 @@
 use Rattle.std.proofs.Common.{List, ap, subst, sym, ◌∙◌, rules}
-use Rattle.std.specs.Prelude.{IsPermutation, filter}
+use Rattle.std.specs.Prelude.{All, IsPermutation, IsTrue, filter}
 use Rattle.std.proofs.lemmas.List.Sorted.{IsPermutation-refl}
 use Rattle.std.proofs.lemmas.Fn.{always_returns_same, filter_same}
 use Rattle.fdr_buffer.specs.Filled.{Filled}
@@ -7,6 +7,7 @@ use Rattle.trace_flush.specs.Arranged.{has_event}
 use Rattle.traced_run.specs.Kept.{kept_buffers}
 use Rattle.trace_flush.proofs.KeptOrder.{kept_filled, kept_ordered}
 use Rattle.trace_flush.proofs.OneOrder.{place, in_order, one_order}
+use Rattle.trace_flush.proofs.Traced.{begun_all}
 use Rattle.trace_flush.proofs.order.arrange.Goals as goal
 
 pub returns-clause-kept : goal.returns-clause-kept
@@ -31,3 +32,8 @@ returns-clause-stay c = λ setup runs is.
     let same = ap (filter has_event) is ∙ kept_filled c.segments_hold_all.ensures.some setup runs in
     let P : List Filled → Type 0 = λ buffers. IsPermutation buffers kept in
     returns-clause-run c setup runs (subst P (sym same) (IsPermutation-refl kept))
+
+pub returns-clause-begun : goal.returns-clause-begun
+returns-clause-begun c = λ setup runs is.
+    let P : List Filled → Type 0 = All (λ buffer. IsTrue buffer.begun) in
+    subst P (sym (returns-clause-stay c setup runs is)) (begun_all setup 1 runs)

@@ -1,5 +1,6 @@
-use Rattle.std.proofs.Common.{◌≡◌, ◌<◌, ◌++◌, List, Option, None, refl, sym, subst, arith}
-use Rattle.std.specs.Prelude.{◌↔◌, IsSome}
+use Rattle.std.proofs.Common.{◌≡◌, ◌<◌, ◌++◌, List, Option, Some, None, length, refl, sym, subst, arith}
+use Rattle.std.specs.Prelude.{◌↔◌, IsSome, slice_get}
+use Rattle.xray_image.specs.Program.{Program}
 use Rattle.fdr_record.specs.declared.event.Event.{Event}
 use Rattle.sled_words.specs.Words.{state_word}
 use Rattle.machine_step.specs.declared.end.End.{End}
@@ -29,7 +30,8 @@ pub sled-requires : goal.sled-requires
 sled-requires c =
     let a = c.self.inside in
     let at = loading_at a c.self.invariant c.in-Loading.place c.in-Loading.sled c.in-Loading.stage c.in-Loading.is in
-    sled_within a c.self.invariant c.in-Loading.place c.in-Loading.sled at
+    subst (λ (program : Program). c.in-Loading.sled < length program.sleds) (sym c.image.ensures.program)
+    (sled_within a c.self.invariant c.in-Loading.place c.in-Loading.sled at)
 
 pub add-requires : goal.add-requires
 add-requires c =
@@ -91,8 +93,8 @@ returns-in-Ends-clause-marks c =
     let ending = ending_of a c.in-Loading.place c.in-Loading.sled at c.pass_sled-self-inside.new.machine c.add.new.self c.pass_sled-self-inside.result c.in-Ends.mark
     c.pass_sled-self-inside.ensures.within c.add.ensures.items c.add.ensures.room c.pass_sled-self-inside.ensures.passes in
     subst (λ (t : Traced). MarksAdded t.marks c.add.new.self.items
-    (want_at a.image.now a.thread c.pass_sled-self-inside.new.machine.passings c.pass_sled-self-inside.result)) c.self.view_is
-    (marks_added a.image.now a.thread c.pass_sled-self-inside.new.machine.passings a.marks.items c.add.new.self.items c.in-Ends.mark
+    (want_at a.steps.now a.thread c.pass_sled-self-inside.new.machine.passings c.pass_sled-self-inside.result)) c.self.view_is
+    (marks_added a.steps.now a.thread c.pass_sled-self-inside.new.machine.passings a.marks.items c.add.new.self.items c.in-Ends.mark
     c.add.ensures.items c.pass_sled-self-inside.result
     (between_of a c.in-Loading.place c.in-Loading.sled at c.pass_sled-self-inside.new.machine c.add.new.self c.pass_sled-self-inside.result c.in-Ends.mark ending))
 
@@ -109,7 +111,9 @@ returns-in-Ends-clause-event c =
     subst (λ (t : Traced). (passed : List Passing) (end : End) (last : State) → PlainRun t.program t.limits t.thread passed end last
     → recorded passed c.add.new.self.items ≡ recorded passed t.marks ++ events_in c.event_at-event.result) c.self.view_is
     (clause_events a c.self.invariant c.in-Loading.place c.in-Loading.sled at c.add.new.self.items c.in-Ends.mark c.event_at-event.result c.sled.result
-    c.add.ensures.items c.sled.ensures c.event_at-event.ensures)
+    c.add.ensures.items
+    (subst (λ (program : Program). slice_get program.sleds c.in-Loading.sled ≡ Some c.sled.result) c.image.ensures.program c.sled.ensures)
+    c.event_at-event.ensures)
 
 pub returns-in-Ends-clause-kept : goal.returns-in-Ends-clause-kept
 returns-in-Ends-clause-kept c =

@@ -3,15 +3,13 @@ use Rattle.handler_word.specs.MarkList.{MarkList}
 use Rattle.machine_step.specs.declared.cpu.Cpu.TheInside.{Inside}
 use Rattle.machine_step.specs.declared.machine.Machine.{Machine}
 use Rattle.machine_step.specs.Standing.{RunsBy}
-use Rattle.machine_step.specs.Steps.{IsPlaceOf}
 use Rattle.machine_step.proofs.Beginning.{Begun, fresh_begun, loads_begun, sound_begun}
 use Rattle.machine_step.proofs.cpu.Cpu.new.Goals as goal
 
 -- the fields of the thread that is made
 abbrev made : goal.After-run_to_sled-stand → Inside
 made c = record {
-  image = c.args.image;
-  steps = c.in_ok-steps.steps;
+  steps = c.args.steps;
   limits = c.args.limits;
   thread = c.args.thread;
   threads = c.args.threads;
@@ -23,11 +21,9 @@ made c = record {
 
 begun : (c : goal.After-run_to_sled-stand) → Begun (made c)
 begun c =
-    let placed = subst (λ a. IsPlaceOf c.args.image.now.units a c.place_of-start.result) c.entry.ensures c.place_of-start.ensures in
     record {
-      bytes = c.base.ensures.accepted.0;
-      accepted = c.base.ensures.accepted.1;
-      steps = c.in_ok-steps.ensures;
+      bytes = c.start.ensures.accepted.0;
+      accepted = c.start.ensures.accepted.1;
       within = c.run_to_sled-stand.ensures.within;
       cpus = omega (arith, c.requires.stamps.0);
       migrate = omega (arith, c.requires.stamps.1);
@@ -36,9 +32,9 @@ begun c =
       few = c.requires.threads;
       room = ap (λ (ms : MarkList). ms.room) c.in_ok-marks.ensures;
       unmarked = ap (λ (ms : MarkList). ms.items) c.in_ok-marks.ensures;
-      runs = subst (λ (m : Machine). RunsBy c.args.image.now c.args.limits c.args.thread c.args.image.now.entry m []
+      runs = subst (λ (m : Machine). RunsBy c.args.steps.now c.args.limits c.args.thread c.args.steps.now.entry m []
           c.run_to_sled-stand.result c.run_to_sled-stand.new.machine) c.in_ok-machine.ensures
-          (c.run_to_sled-stand.ensures.runs c.args.image.now.entry placed c.args.thread);
+          (c.run_to_sled-stand.ensures.runs c.args.steps.now.entry c.start.ensures.place c.args.thread);
     }
 
 pub invariant_of-result : goal.invariant_of-result

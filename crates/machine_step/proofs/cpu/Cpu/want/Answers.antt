@@ -1,4 +1,8 @@
-use Rattle.std.proofs.Common.{arith, subst}
+use Rattle.std.proofs.Common.{◌≡◌, ◌∙◌, ap, arith, length, subst, sym}
+use Rattle.xray_image.specs.Program.{Program}
+use Rattle.machine_step.specs.declared.stand.Stand.{Stand}
+use Rattle.machine_step.specs.declared.want.Want.TheVariants.{Load}
+use Rattle.machine_step.specs.Inside.{want_at}
 use Rattle.machine_step.specs.Traced.{IsLoadable, StandsAs, Traced}
 use Rattle.machine_step.proofs.FewSleds.{few_sleds}
 use Rattle.machine_step.proofs.Opening.{loadable_now, loading_at, sled_within, stands_now}
@@ -8,12 +12,25 @@ pub word_at-requires-clause-exists : goal.word_at-requires-clause-exists
 word_at-requires-clause-exists c =
     let within = sled_within c.self.inside c.self.invariant c.in-Loading.place c.in-Loading.sled
     (loading_at c.self.inside c.self.invariant c.in-Loading.place c.in-Loading.sled c.in-Loading.stage c.in-Loading.is) in
-    omega (arith, c.sled_count.ensures.count)
+    let count : c.sled_count.result ≡ length c.self.inside.steps.now.sleds =
+    c.sled_count.ensures.count ∙ ap (λ (program : Program). length program.sleds) c.image.ensures.program in
+    omega arith
 
 pub word_at-requires-clause-few : goal.word_at-requires-clause-few
 word_at-requires-clause-few c =
-    let few = few_sleds c.self.invariant.bytes c.self.inside.image.now c.self.invariant.accepted in
-    omega (arith, c.sled_count.ensures.count)
+    let few = few_sleds c.self.invariant.bytes c.self.inside.steps.now c.self.invariant.accepted in
+    let count : c.sled_count.result ≡ length c.self.inside.steps.now.sleds =
+    c.sled_count.ensures.count ∙ ap (λ (program : Program). length program.sleds) c.image.ensures.program in
+    omega arith
+
+pub returns-in-Loading-clause-want : goal.returns-in-Loading-clause-want
+returns-in-Loading-clause-want c =
+    let a = c.self.inside in
+    let count : c.sled_count.result ≡ length a.steps.now.sleds =
+    c.sled_count.ensures.count ∙ ap (λ (program : Program). length program.sleds) c.image.ensures.program in
+    subst (λ (t : Traced). Load c.word_at.result ≡ t.want) c.self.view_is
+    (subst (λ (s : Stand). Load c.word_at.result ≡ want_at a.steps.now a.thread a.machine.passings s) (sym c.in-Loading.is)
+    (ap Load (c.word_at.ensures a.steps.now (sym count))))
 
 pub returns-in-Gate-clause-stands : goal.returns-in-Gate-clause-stands
 returns-in-Gate-clause-stands c =

@@ -1,16 +1,22 @@
-use Rattle.std.proofs.Common.{◌∙◌, sym}
+use Rattle.std.proofs.Common.{◌∙◌, ap, subst, sym}
+use Rattle.xray_image.specs.Program.{Program}
+use Rattle.sled_words.specs.Words.{word_count}
+use Rattle.patch_script.specs.Micros.{start_of}
 use Rattle.patch_script.specs.Refusals.{commands_of}
+use Rattle.step_sim.specs.Standing.{IsPatcherAt}
 use Rattle.step_sim.proofs.Beginnings.{at_start}
 use Rattle.step_sim.proofs.Bounds.{no_holds}
 use Rattle.step_sim.proofs.start.SimStart.new.Goals as goal
 
 pub invariant_of-result : goal.invariant_of-result
 invariant_of-result c =
-    at_start c.args.image.now (commands_of c.args.script.now.lines) _ (record {
-      accepted = c.base.ensures.accepted;
+    let script = commands_of c.args.script.now.lines in
+    let same = c.image-image.ensures.program in
+    at_start c.args.steps.now script _ (record {
+      accepted = c.image-image.ensures.accepted;
       free = no_holds c.args.script.now.lines (sym c.waits.ensures ∙ c.in_default.is);
-      patcher = c.in_ok-patcher.ensures.at;
-      words = c.in_ok-patcher.ensures.words;
+      patcher = subst (λ (program : Program). IsPatcherAt program script (start_of program script) c.in_ok-patcher.patcher) same c.in_ok-patcher.ensures.at;
+      words = c.in_ok-patcher.ensures.words ∙ ap (λ (program : Program). word_count program c.args.setup.now.threads) same;
       count = c.in_ok-cpus.ensures.count;
       begun = c.in_ok-cpus.ensures.begun;
       pool = c.in_ok-pool.ensures;

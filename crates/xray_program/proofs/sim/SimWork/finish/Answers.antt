@@ -1,48 +1,70 @@
-use Rattle.std.proofs.Common.{[], None, refl}
-use Rattle.std.specs.List.{All, flat_map}
-use Rattle.machine_step.specs.Traced.{IsDone}
+use Rattle.std.proofs.Common.{◌≡◌, ℕ, [], None, refl, sym, ap, subst}
+use Rattle.std.specs.Prelude.{All}
 use Rattle.patch_script.specs.Plans.{waiting_line}
+use Rattle.patch_script.specs.Refusals.{commands_of}
+use Rattle.step_sim.specs.Replayed.{IsSimulated}
+use Rattle.step_sim.specs.Schedules.{AreTurnsOf}
+use Rattle.step_sim.specs.Starts.{Start}
+use Rattle.machine_step.specs.declared.setup.Setup.{Setup}
+use Rattle.xray_image.specs.Program.{Program}
 use Rattle.xray_io.specs.World.{desk_view, sink_view}
-use Rattle.xray_program.specs.Ends.{thread_text}
 use Rattle.xray_program.specs.Setups.{setup_of}
 use Rattle.xray_program.specs.Sim.{Replayed, Replays}
 use Rattle.xray_program.specs.Taking.{Leaves}
-use Rattle.xray_program.specs.Traced.{Traces}
+use Rattle.xray_program.specs.Traced.{Traces, state_texts, written_of}
+use Rattle.xray_program.specs.Works.{Finishes}
 use Rattle.xray_program.proofs.Endings.{finishes}
-use Rattle.xray_program.proofs.ReplayPrints.{replay_ended, replay_printed}
+use Rattle.xray_program.proofs.RunWritten.{leaves_same}
 use Rattle.xray_program.proofs.SimTurns.{sim_leaves, sim_refuses}
 use Rattle.xray_program.proofs.sim.SimWork.finish.Goals as goal
 
-pub deliver-requires : goal.deliver-requires
-deliver-requires g c =
-    let is = rw c.setup_of.ensures at c.in-Ok.ensures.simulated in
-    let ended : All (λ t. IsDone t.want) c.deref.result.now =
-    rw c.deref.ensures.value (replay_ended _ c.args.inputs.now.script c.args.inputs.now.schedule (setup_of c.args.self.now.options) _ _ _ _ _ is) in
-    λ lifetimes. ((refl, tt), ended)
+pub play-requires : goal.play-requires
+play-requires g c =
+    let threads : c.setup_of-setup.result.threads ≡ c.args.self.now.options.bounds.threads = ap (λ (setup : Setup). setup.threads) c.setup_of-setup.ensures in
+    let own = subst (λ (n : ℕ). All (AreTurnsOf n) c.args.inputs.now.schedule) (sym threads) c.requires.turns_of_threads in
+    subst (λ (start : Start). All (AreTurnsOf start.setup.threads) c.args.inputs.now.schedule) (sym c.in-Ok.ensures.start) own
 
 pub returns-in-Ok-clause-finishes : goal.returns-in-Ok-clause-finishes
 returns-in-Ok-clause-finishes g c =
     let seen = desk_view g.D.Desk.held g.D.Desk.read_faults g.D.Desk.write_faults in
     let got = sink_view g.O.Sink.written g.O.Sink.faults in
-    let setup = setup_of c.args.self.now.options in
+    let s = c.args.self.now in
+    let setup = c.setup_of-setup.result in
     let inputs = c.args.inputs.now in
-    let is = rw c.setup_of.ensures at c.in-Ok.ensures.simulated in
-    let text = flat_map thread_text c.deref.result.now in
-    let traces : Traces (Replayed inputs.image inputs.script inputs.schedule setup) inputs.image setup [] text =
-    rw c.deref.ensures.value (replay_printed inputs.image inputs.script inputs.schedule setup _ _ _ _ _ is) in
-    finishes (Replays c.args.self.now.script.now setup inputs.image inputs.script inputs.schedule) [] text None (seen c.args.desk.now)
-    (seen c.deliver.new.desk) (got c.args.out.now) (got c.deliver.new.out)
-    (g.D.Desk.along c.args.desk.now c.deliver.new.desk) c.deliver.result
-    (sim_leaves c.args.self.now.script.now (waiting_line inputs.script.lines)
-    (Leaves (Traces (Replayed inputs.image inputs.script inputs.schedule setup) inputs.image setup)) _
-    (λ line waits. let told = (c.simulate.ensures.waits line).1 waits in cc) ([], text, traces, refl))
-    c.deliver.ensures.delivers
+    let end = c.play.result in
+    let left = c.left_of-left.result in
+    let P : Start → Type 0 = λ start.
+    IsSimulated start.program start.script inputs.schedule start.setup end.cpus.items end.sealed.items end.segments.items end.first.items end.buffers.items in
+    let Q : Program → Type 0 = λ program.
+    IsSimulated program (commands_of inputs.script.lines) inputs.schedule setup end.cpus.items end.sealed.items end.segments.items end.first.items
+    end.buffers.items in
+    let is : IsSimulated inputs.image (commands_of inputs.script.lines) inputs.schedule setup end.cpus.items end.sealed.items end.segments.items end.first.items
+    end.buffers.items = subst Q c.in_ok-steps.ensures.program (subst P c.in-Ok.ensures.start c.play.ensures) in
+    let same = c.left_of-left.ensures in
+    let leaves = leaves_same setup is.runs end.cpus.items left.cpus.items end.segments.items left.segments.items end.first.items left.first.items
+    end.buffers.items left.buffers.items same.cpus same.segments same.first same.buffers is.leaves in
+    let outputs = written_of s.files.trace.now s.files.audit.now setup is.runs in
+    let text = state_texts 1 is.runs in
+    let Are = Traces (Replayed inputs.image inputs.script inputs.schedule setup) inputs.image setup s.files.trace.now s.files.audit.now in
+    let traces : Are outputs text =
+    record { runs = is.runs; run = is.replay.run; lawful = is.replay; outputs_are = refl; text_is = refl } in
+    let Done : Setup → Type 0 = λ with_it.
+    Finishes (Replays s.script.now s.files.trace.now s.files.audit.now with_it inputs.image inputs.script inputs.schedule) (seen c.args.desk.now)
+    (seen c.deliver_run.new.desk) (got c.args.out.now) (got c.deliver_run.new.out) (g.D.Desk.along c.args.desk.now c.deliver_run.new.desk) c.deliver_run.result in
+    subst Done c.setup_of-setup.ensures
+    (finishes (Replays s.script.now s.files.trace.now s.files.audit.now setup inputs.image inputs.script inputs.schedule) outputs text None
+    (seen c.args.desk.now) (seen c.deliver_run.new.desk) (got c.args.out.now) (got c.deliver_run.new.out)
+    (g.D.Desk.along c.args.desk.now c.deliver_run.new.desk) c.deliver_run.result
+    (sim_leaves s.script.now (waiting_line inputs.script.lines) (Leaves Are) _
+    (λ line waits. let told = (c.new-2.ensures.waits line).1 waits in cc) (outputs, text, traces, refl))
+    (c.deliver_run.ensures.delivers is.runs leaves))
 
-pub returns-in-Err-clause-finishes : goal.returns-in-Err-clause-finishes
-returns-in-Err-clause-finishes g c =
+pub returns-clause-finishes : goal.returns-clause-finishes
+returns-clause-finishes g c =
     let seen = desk_view g.D.Desk.held g.D.Desk.read_faults g.D.Desk.write_faults in
     let got = sink_view g.O.Sink.written g.O.Sink.faults in
+    let s = c.args.self.now in
     let inputs = c.args.inputs.now in
-    sim_refuses c.args.self.now.script.now (setup_of c.args.self.now.options) inputs.image inputs.script inputs.schedule (seen c.args.desk.now) (got c.args.out.now)
+    sim_refuses s.script.now s.files.trace.now s.files.audit.now (setup_of s.options) inputs.image inputs.script inputs.schedule (seen c.args.desk.now) (got c.args.out.now)
     (g.D.Desk.along c.args.desk.now c.args.desk.now) (record { calls = []; way = g.met.D.Desk.along_none c.args.desk.now; are = refl })
-    c.in-Err.fault c.fault_stop.result (λ line is. (c.simulate.ensures.waits line).0 (cc)) c.fault_stop.ensures
+    c.in-Err.fault c.fault_stop.result (λ line is. (c.new-2.ensures.waits line).0 (cc)) c.fault_stop.ensures

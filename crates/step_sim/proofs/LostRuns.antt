@@ -1,0 +1,241 @@
+-- What a replay loses: no more segments than the queue has no buffers for.
+use Rattle.std.proofs.Common.{◌≡◌, ◌⊎◌, ℕ, zero, suc, ◌+◌, ◌-◌, ◌<◌, ◌≤◌, List, [], ◌∷◌, ◌++◌, Bool, true, false, Option, Some, inl, inr, refl, sym, subst, ap, ◌∙◌, arith, length, map, fold, drop, take}
+use Rattle.std.specs.Prelude.{◌&&◌, ◌==◌, if◌then◌else◌, nat_lt, replicate, slice_get}
+use Rattle.std.specs.List.{All, enumerate_from}
+use Rattle.std.proofs.lemmas.Bool.{cases_eq}
+use Rattle.std.proofs.lemmas.Bool.Decides.{nat_tests}
+use Rattle.std.proofs.lemmas.List.{append-nil, length-map}
+use Rattle.std.proofs.lemmas.List.Elements.{All-head, All-tail, recursion_from_All}
+use Rattle.xray_image.specs.Program.{Program}
+use Rattle.patch_script.specs.declared.command.Command.{Command}
+use Rattle.patch_script.specs.Micros.{hold_of}
+use Rattle.handler_word.specs.declared.mark.Mark.{Mark}
+use Rattle.fdr_buffer.specs.Segments.{segments}
+use Rattle.machine_step.specs.declared.setup.Setup.{Setup}
+use Rattle.machine_step.specs.Events.{recorded}
+use Rattle.machine_step.specs.Loads.{Load, marks_of}
+use Rattle.machine_step.specs.PlainStep.{Passing}
+use Rattle.machine_step.specs.Traced.{sleds_of}
+use Rattle.traced_run.specs.Kept.{segment_count}
+use Rattle.traced_run.specs.Losses.{AreLost}
+use Rattle.traced_run.specs.Runs.{ThreadRun}
+use Rattle.step_sim.specs.declared.turns.Turns.{Turns}
+use Rattle.step_sim.specs.declared.turns.Turns.TheVariants.{Thread, Patcher}
+use Rattle.step_sim.specs.Holding.{below}
+use Rattle.step_sim.specs.Pool.{AllPooledRunOut, Fresh, Item, Pooled, Pooling, Segment, Stock, first_pooled, pooled_line, pooled_lines, pooled_step, pooled_turn, queued, segments_among, serials_of, stock_behind}
+use Rattle.step_sim.specs.Recorded.{numbers_from, pooling_of, segments_at}
+use Rattle.step_sim.specs.Replay.{Cast, Moment, marks_at, of_thread, thread_turn, turns}
+use Rattle.step_sim.specs.Replayed.{IsReplayOf, cast_with, passed_of, pooling_with, spare_of}
+use Rattle.step_sim.specs.Schedules.{AreTurnsOf}
+use Rattle.step_sim.proofs.Counting.{fresh_serials}
+use Rattle.step_sim.proofs.EndedRuns.{enumerated_map, of_thread_at}
+use Rattle.step_sim.proofs.MoreLoads.{IsSameOrNext, no_marks, turn_segments}
+use Rattle.step_sim.proofs.PoolLemmas.{same_items, serial_other, serial_own, serials_of-append, stock_stays}
+use Rattle.step_sim.proofs.ReplayAlong.{no_loads, of_thread_is}
+use Rattle.step_sim.proofs.StockRuns.{first_is, lines_are, losses_of, runs_are}
+use Rattle.step_sim.proofs.TurnLemmas.{turn_other}
+
+-- ---- what a replay keeps
+
+-- In the queue, and among what was taken from it, stand of each thread all segments but the last, in order.
+abbrev AreInOrder : Pooling → Pooled → Type 0
+AreInOrder pooling x =
+    (t : ℕ) → 0 < t → serials_of t (x.stock.taken ++ x.stock.queue) ≡ below (pooling.segment_count t x.moment - 1)
+
+-- at first there is none
+none_yet : (cast : Cast) (passed : List (List Passing)) (size t : ℕ) → length (segments_at cast passed size t (first_pooled cast (pooling_of cast passed size 0)).moment) ≡ 0
+none_yet cast passed size t =
+    let loads : of_thread (first_pooled cast (pooling_of cast passed size 0)).moment.loads t ≡ [] =
+    of_thread_is _ t ∙ no_loads cast.passings (t - 1) in
+    ap (λ (ls : List Load). length (segments size (recorded (of_thread passed t) (marks_of cast.program t (hold_of t cast.script) (of_thread cast.passings t) ls)))) loads
+    ∙ ap (λ (ms : List Mark). length (segments size (recorded (of_thread passed t) ms))) (no_marks cast.program t (hold_of t cast.script) 0 (of_thread cast.passings t))
+    ∙ none_recorded (of_thread passed t)
+  where
+    none_recorded : (ps : List Passing) → length (segments size (recorded ps [])) ≡ 0
+    none_recorded [] = refl
+    none_recorded (p ∷ ps) = refl
+
+first_ordered : (cast : Cast) (passed : List (List Passing)) (size spare : ℕ)
+    → AreInOrder (pooling_of cast passed size spare) (first_pooled cast (pooling_of cast passed size spare))
+first_ordered cast passed size spare t some =
+    let fresh : serials_of t (replicate spare Fresh) ≡ [] =
+    ap (serials_of t) (sym (append-nil (replicate spare Fresh))) ∙ fresh_serials spare t [] in
+    fresh ∙ ap (λ n. below (n - 1)) (sym (none_yet cast passed size t))
+
+-- a segment goes to the queue
+goes_test : (before : ℕ) → 0 < before → (nat_lt 0 before && (before + 1 == before + 1)) ≡ true
+goes_test before some = grind (arith, nat_tests)
+
+stock_goes : (thread before after : ℕ) (stock : Stock) → 0 < before → after ≡ before + 1
+    → stock_behind thread before after stock ≡ queued (Segment thread (before - 1)) stock
+stock_goes thread before after stock some e = rw (e, goes_test before some) refl
+
+queued_serials : (t thread serial : ℕ) (stock : Stock)
+    → serials_of t ((queued (Segment thread serial) stock).taken ++ (queued (Segment thread serial) stock).queue)
+    ≡ serials_of t (stock.taken ++ stock.queue) ++ serials_of t (Segment thread serial ∷ [])
+queued_serials t thread serial stock =
+    ap (serials_of t) (same_items stock.taken stock.queue (Segment thread serial))
+    ∙ serials_of-append t (stock.taken ++ stock.queue) (Segment thread serial ∷ [])
+
+-- the serials of a thread in a stock
+abbrev in_stock : ℕ → Stock → List ℕ
+in_stock t stock = serials_of t (stock.taken ++ stock.queue)
+
+-- another thread's turn leaves them
+other_serials : (t thread before after : ℕ) (stock : Stock) → (t ≡ thread → ⊥)
+    → in_stock t (stock_behind thread before after stock) ≡ in_stock t stock
+other_serials t thread before after stock apart = by_test (nat_lt 0 before && (after == before + 1))
+  where
+    by_test : (b : Bool) → in_stock t (if b then queued (Segment thread (before - 1)) stock else stock) ≡ in_stock t stock
+    by_test true =
+        queued_serials t thread (before - 1) stock
+        ∙ ap (λ (ns : List ℕ). in_stock t stock ++ ns) (serial_other thread t (before - 1) (λ same. apart (sym same))) ∙ append-nil (in_stock t stock)
+    by_test false = refl
+
+-- its own adds the one that was open
+own_serials : (thread before after : ℕ) (stock : Stock) → IsSameOrNext before after → in_stock thread stock ≡ below (before - 1)
+    → in_stock thread (stock_behind thread before after stock) ≡ below (after - 1)
+own_serials thread before after stock (inl same) is =
+    ap (in_stock thread) (stock_stays thread before after stock (inr same)) ∙ is ∙ ap (λ n. below (n - 1)) (sym same)
+own_serials thread zero after stock (inr next) is =
+    let one : after - 1 ≡ zero = omega (arith, next) in
+    ap (in_stock thread) (stock_stays thread zero after stock (inl refl)) ∙ is ∙ ap below (sym one)
+own_serials thread (suc n) after stock (inr next) is =
+    let some : 0 < suc n = omega arith in
+    let back : suc n - 1 ≡ n = omega arith in
+    let count : after - 1 ≡ suc n = omega (arith, next) in
+    ap (in_stock thread) (stock_goes thread (suc n) after stock some next) ∙ queued_serials thread thread (suc n - 1) stock
+    ∙ ap (λ (ns : List ℕ). ns ++ serials_of thread (Segment thread (suc n - 1) ∷ [])) is
+    ∙ ap (λ (ns : List ℕ). below (suc n - 1) ++ ns) (serial_own thread (suc n - 1))
+    ∙ ap (λ k. below k ++ k ∷ []) back ∙ ap below (sym count)
+
+turn_ordered : (cast : Cast) (passed : List (List Passing)) (size spare thread : ℕ) (x : Pooled) → 0 < thread
+    → AreInOrder (pooling_of cast passed size spare) x
+    → AreInOrder (pooling_of cast passed size spare) (pooled_turn cast (pooling_of cast passed size spare) thread x)
+turn_ordered cast passed size spare thread x some is t some_t = elim (cases_eq t thread) [
+  | inl same ↦
+      subst (λ (k : ℕ). in_stock k (stock_behind thread (segs thread x.moment) (segs thread after) x.stock) ≡ below (segs k after - 1)) (sym same)
+      (own_serials thread (segs thread x.moment) (segs thread after) x.stock (turn_segments cast passed size thread x.moment) (is thread some))
+  | inr apart ↦
+      other_serials t thread (segs thread x.moment) (segs thread after) x.stock apart ∙ is t some_t
+      ∙ ap (λ (ls : List Load). below (length (segments size (recorded (of_thread passed t)
+      (marks_of cast.program t (hold_of t cast.script) (of_thread cast.passings t) ls))) - 1)) (sym (turn_other cast thread t x.moment some some_t apart))
+]
+  where
+    segs : ℕ → Moment → ℕ
+    segs k m = length (segments_at cast passed size k m)
+
+    after : Moment
+    after = thread_turn cast thread x.moment
+
+-- ---- all turns
+
+turns_ordered : (pooling : Pooling) (n : ℕ) (turn : Pooled → Pooled) → ((x : Pooled) → AreInOrder pooling x → AreInOrder pooling (turn x))
+    → (x : Pooled) → AreInOrder pooling x → AreInOrder pooling (turns n turn x)
+turns_ordered pooling zero turn keeps x is = is
+turns_ordered pooling (suc n) turn keeps x is = turns_ordered pooling n turn keeps (turn x) (keeps x is)
+
+line_ordered : (cast : Cast) (passed : List (List Passing)) (size spare threads : ℕ) (line : Turns) (x : Pooled) → AreTurnsOf threads line
+    → AreInOrder (pooling_of cast passed size spare) x
+    → AreInOrder (pooling_of cast passed size spare) (pooled_line cast (pooling_of cast passed size spare) x line)
+line_ordered cast passed size spare threads (Thread thread count) x of is =
+    turns_ordered (pooling_of cast passed size spare) count (pooled_turn cast (pooling_of cast passed size spare) thread)
+    (λ y. turn_ordered cast passed size spare thread y of.0) x is
+line_ordered cast passed size spare threads (Patcher count) x of is =
+    turns_ordered (pooling_of cast passed size spare) count (pooled_step cast) (λ y there. there) x is
+
+lines_ordered : (cast : Cast) (passed : List (List Passing)) (size spare threads : ℕ) (lines : List Turns) (x : Pooled) → All (AreTurnsOf threads) lines
+    → AreInOrder (pooling_of cast passed size spare) x
+    → AreInOrder (pooling_of cast passed size spare) (fold (pooled_line cast (pooling_of cast passed size spare)) x lines)
+lines_ordered cast passed size spare threads [] x of is = is
+lines_ordered cast passed size spare threads (line ∷ lines) x of is =
+    lines_ordered cast passed size spare threads lines (pooled_line cast (pooling_of cast passed size spare) x line) (All-tail (AreTurnsOf threads) line lines of)
+    (line_ordered cast passed size spare threads line x (All-head (AreTurnsOf threads) line lines of) is)
+
+out_ordered : (cast : Cast) (passed : List (List Passing)) (size spare n thread : ℕ) (x y : Pooled) → 0 < thread
+    → AllPooledRunOut cast (pooling_of cast passed size spare) n thread x y → AreInOrder (pooling_of cast passed size spare) x
+    → AreInOrder (pooling_of cast passed size spare) y
+out_ordered cast passed size spare zero thread x y some e is = subst (AreInOrder (pooling_of cast passed size spare)) (sym e) is
+out_ordered cast passed size spare (suc n) thread x y some (mid, (count, made, ends), rest) is =
+    out_ordered cast passed size spare n (thread + 1) mid y (omega arith) rest
+    (subst (AreInOrder (pooling_of cast passed size spare)) (sym made)
+    (turns_ordered (pooling_of cast passed size spare) count (pooled_turn cast (pooling_of cast passed size spare) thread)
+    (λ z. turn_ordered cast passed size spare thread z some) x is))
+
+-- ---- runs by their numbers
+
+some_run : (run other : ThreadRun) → ◌≡◌ {A = Option ThreadRun} (Some run) (Some other) → run ≡ other
+some_run run other e = cc
+
+no_run : (j : ℕ) (run : ThreadRun) → slice_get [] j ≡ Some run → ⊥
+no_run zero run e = cc
+no_run (suc j) run e = cc
+
+-- what is read of the runs is what is told of their numbers
+run_at : {Y : Type 0} (f : ThreadRun → Y) (F : ℕ → Y) (runs : List ThreadRun) (first n : ℕ) → map f runs ≡ map F (numbers_from first n)
+    → (j : ℕ) (run : ThreadRun) → slice_get runs j ≡ Some run → f run ≡ F (first + j)
+run_at f F [] first n same j run found = absurd (no_run j run found)
+run_at f F (r ∷ runs) first zero same j run found = absurd cc
+run_at {Y = Y} f F (r ∷ runs) first (suc n) same zero run found =
+    let here : first ≡ first + zero = omega arith in
+    let head : f r ≡ F first = cc in
+    ap f (sym (some_run r run found)) ∙ head ∙ ap F here
+run_at {Y = Y} f F (r ∷ runs) first (suc n) same (suc j) run found =
+    let there : first + 1 + j ≡ first + suc j = omega arith in
+    let tail : map f runs ≡ map F (numbers_from (first + 1) n) = cc in
+    run_at f F runs (first + 1) n tail j run found ∙ ap F there
+
+passed_at : (runs : List ThreadRun) (j : ℕ) (run : ThreadRun) → slice_get runs j ≡ Some run → slice_get (passed_of runs) j ≡ Some run.passed
+passed_at [] j run found = absurd (no_run j run found)
+passed_at (r ∷ runs) zero run found = ap (λ (o : ThreadRun). Some o.passed) (some_run r run found)
+passed_at (r ∷ runs) (suc j) run found = passed_at runs j run found
+
+-- ---- the whole
+
+pub replay_loses : (program : Program) (script : List Command) (schedule : List Turns) (setup : Setup) (runs : List ThreadRun)
+    → All (AreTurnsOf setup.threads) schedule → IsReplayOf program script schedule setup runs → AreLost setup.size (spare_of setup) runs
+replay_loses program script schedule setup runs of is =
+    losses_of setup.size (spare_of setup) setup.threads runs is.last.stock segs is.run.count lost_is count_is order
+    (runs_are cast pooling setup.threads (spare_of setup) (length cast.passings) 1 (pooled_lines cast pooling schedule) is.last (omega arith)
+    (omega (arith, long)) is.replay
+    (lines_are cast pooling setup.threads (spare_of setup) schedule (first_pooled cast pooling) (recursion_from_All (AreTurnsOf setup.threads) schedule of)
+    (first_is setup.threads (spare_of setup))))
+  where
+    cast : Cast
+    cast = cast_with program script runs
+
+    passed : List (List Passing)
+    passed = passed_of runs
+
+    pooling : Pooling
+    pooling = pooling_with program script setup runs
+
+    segs : ℕ → ℕ
+    segs t = length (segments_at cast passed setup.size t is.last.moment)
+
+    marks_in : ℕ → List Mark
+    marks_in t = marks_of program t (hold_of t script) (of_thread cast.passings t) (of_thread is.last.moment.loads t)
+
+    long : length cast.passings ≡ setup.threads
+    long = length-map passed sleds_of ∙ length-map runs (λ (run : ThreadRun). run.passed) ∙ is.run.count
+
+    lost_is : (j : ℕ) (run : ThreadRun) → slice_get runs j ≡ Some run → run.lost ≡ segments_among (1 + j) is.last.stock.taken
+    lost_is j run found = run_at (λ r. r.lost) (λ thread. segments_among thread is.last.stock.taken) runs 1 setup.threads is.lost j run found
+
+    marks_told : map (λ (run : ThreadRun). run.marks) runs ≡ map marks_in (numbers_from 1 setup.threads)
+    marks_told =
+        is.marks ∙ enumerated_map _ marks_in cast.passings 1 setup.threads long
+        (λ j sleds found. ap (λ (xs : List ℕ). marks_of program (1 + j) (hold_of (1 + j) script) xs (of_thread is.last.moment.loads (1 + j)))
+        (sym (of_thread_at cast.passings j sleds found)))
+
+    count_is : (j : ℕ) (run : ThreadRun) → slice_get runs j ≡ Some run → segment_count setup.size run ≡ segs (1 + j)
+    count_is j run found =
+        ap (λ (ps : List Passing). length (segments setup.size (recorded ps run.marks))) (sym (of_thread_at passed j run.passed (passed_at runs j run found)))
+        ∙ ap (λ (ms : List Mark). length (segments setup.size (recorded (of_thread passed (1 + j)) ms)))
+        (run_at (λ r. r.marks) marks_in runs 1 setup.threads marks_told j run found)
+
+    order : (t : ℕ) → 0 < t → serials_of t (is.last.stock.taken ++ is.last.stock.queue) ≡ below (segs t - 1)
+    order =
+        out_ordered cast passed setup.size (spare_of setup) (length cast.passings) 1 (pooled_lines cast pooling schedule) is.last (omega arith) is.replay
+        (lines_ordered cast passed setup.size (spare_of setup) setup.threads schedule (first_pooled cast pooling) of
+        (first_ordered cast passed setup.size (spare_of setup)))

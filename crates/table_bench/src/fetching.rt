@@ -1,0 +1,117 @@
+//! Threads that fetch the words of a table.
+
+ghost use Rattle.std.specs.Prelude.{◌≡◌, ◌+◌, ◌<◌, ◌≤◌, All, IfOk};
+ghost use Rattle.std.specs.Thread.{IsSync};
+ghost use Rattle.sled_rule.specs.Plans.{start_in};
+ghost use Rattle.sled_rule.specs.Seats.{patch_view, script_of, work_view, IsPatcherOf, IsWorkerOf};
+ghost use Rattle.table_bench.specs.Fetchers.{IsFresh};
+
+use sled_patch::run_script;
+use sled_rule::{CodeTable, PatchSeat, WorkSeat};
+use std::alloc::{AllocError, Global};
+use std::sync::Wait;
+use std::thread::{self, Threads};
+use xray_io::OpenGate;
+
+/// A thread that fetches.
+#[derive(Drop)]
+pub struct Fetcher {
+    seat: WorkSeat,
+    /// Each bit that was 1 in a value that the thread found.
+    pub found: u64,
+}
+
+/// A fetcher for each thread, in order.
+pub fn seats_of_all(
+    alloc: Global,
+    table: &CodeTable,
+    patcher: &mut PatchSeat,
+    threads: u32,
+) -> Result<Vec<Fetcher>, AllocError>
+    requires own { IsPatcherOf table.now patcher.old }
+    requires starts { (patch_view patcher.old).place ≡ start_in (script_of table.now) }
+    requires none { (patch_view patcher.old).given ≡ 0 }
+    requires few { threads ≤ (script_of table.now).threads }
+    ensures own { IsPatcherOf table.now patcher.new }
+    ensures fresh { IfOk result (λ fetchers. All (IsFresh table.now) fetchers.items) }
+{
+    let mut fetchers = Vec::with_capacity(alloc, threads as usize)?;
+    'seats: for given in 0..threads {
+        let seat = table.split(patcher);
+        fetchers.push(Fetcher { seat, found: 0 })?;
+    }
+    Ok(fetchers)
+}
+
+/// Lets all threads fetch for some rounds while the patcher makes all micro steps of the script.
+pub fn fetch_beside<R: Threads + Wait + Sync>(
+    rt: &R,
+    table: &CodeTable,
+    patcher: PatchSeat,
+    fetchers: &mut [Fetcher],
+    rounds: u32,
+) -> PatchSeat
+    requires own { IsPatcherOf table.now patcher }
+    requires fresh { All (IsFresh table.now) fetchers.old }
+    ensures own { IsPatcherOf table.now result }
+{
+    let (patcher, ()) = thread::join(
+        rt,
+        || patch(rt, table, patcher),
+        || -> ()
+            requires shared { IsSync R.row }
+            requires fresh { All (IsFresh table.now) fetchers.now }
+        { fetch_all(rt, table, fetchers, rounds) },
+    );
+    patcher
+}
+
+/// Makes all micro steps of the script.
+fn patch<R: Wait>(rt: &R, table: &CodeTable, mut patcher: PatchSeat) -> PatchSeat
+    requires own { IsPatcherOf table.now patcher }
+    ensures own { IsPatcherOf table.now result }
+{
+    run_script(rt, table, &mut patcher, &OpenGate);
+    patcher
+}
+
+/// Lets all threads fetch side by side.
+fn fetch_all<R: Threads + Sync>(rt: &R, table: &CodeTable, fetchers: &mut [Fetcher], rounds: u32)
+    requires fresh { All (IsFresh table.now) fetchers.old }
+{
+    thread::for_each_mut(
+        rt,
+        fetchers,
+        MOST_AT_ONCE,
+        &|_, fetcher| {
+            fetch_rounds(table, fetcher, rounds);
+        },
+    );
+}
+
+/// As many as there may be threads.
+const MOST_AT_ONCE: usize = 16;
+
+/// Fetches all words again and again, and counts each round as a passing.
+fn fetch_rounds(table: &CodeTable, fetcher: &mut Fetcher, rounds: u32)
+    requires { IsFresh table.now fetcher.old }
+{
+    'rounds: for round in 0..rounds {
+        fetcher.found |= fetch_each(table, &mut fetcher.seat);
+        table.passed(&mut fetcher.seat);
+    }
+    table.ended(&mut fetcher.seat);
+}
+
+/// Fetches each word before the progress words, and answers the bits of all values.
+fn fetch_each(table: &CodeTable, seat: &mut WorkSeat) -> u64
+    requires own { IsWorkerOf table.now seat.old }
+    ensures own { IsWorkerOf table.now seat.new }
+    ensures count { (work_view seat.new).count ≡ (work_view seat.old).count }
+{
+    let mut found = 0;
+    'words: for word in 0..table.code_word_count() {
+        found |= table.fetch(seat, word);
+    }
+    found
+}

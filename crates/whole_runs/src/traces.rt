@@ -1,0 +1,567 @@
+//! `sim`: the trace and the audit of worked rows, byte by byte, and what stands of them when a call of the desk fails.
+use crate::asm::{CALL, ODD_EXIT, STRAIGHT_LINE, TAIL_JUMP};
+use crate::desks::Trickle;
+use crate::runs::{IMAGE, desk_of, run_words};
+use crate::sim::{LIVE, SIM, TRACED};
+use std::process::Abort;
+use std::sync::Wait;
+use std::test::Fail;
+use std::thread::Threads;
+
+/// What `sim` is asked for, and what it leaves. The bytes of the traces were worked by hand, record by record.
+struct Row<'r> {
+    /// The assembler text of the image.
+    text: &'r str,
+    /// The words after the names of the files.
+    options: &'r [&'r str],
+    script: &'r str,
+    schedule: &'r str,
+    trace: &'r [u8],
+    audit: &'r str,
+}
+
+const ROWS: [Row; 17] = [
+    // A call is recorded.
+    Row {
+        text: STRAIGHT_LINE,
+        options: &[],
+        script: TRACED,
+        schedule: "",
+        trace: &[
+            0x03, 0, 0x01, 0, 0x03, 0, 0, 0, 0, 0, 0, 0, 0, 0, 0, 0, //
+            0, 0x40, 0, 0, 0, 0, 0, 0, 0, 0, 0, 0, 0, 0, 0, 0, //
+            0x0F, 0x50, 0, 0, 0, 0, 0, 0, 0, 0, 0, 0, 0, 0, 0, 0, //
+            0x01, 0x01, 0, 0, 0, 0, 0, 0, 0, 0, 0, 0, 0, 0, 0, 0, //
+            0x09, 0, 0, 0, 0, 0, 0, 0, 0, 0, 0, 0, 0, 0, 0, 0, //
+            0x13, 0x01, 0, 0, 0, 0, 0, 0, 0, 0, 0, 0, 0, 0, 0, 0, //
+            0x05, 0, 0, 0, 0, 0, 0, 0, 0, 0, 0, 0, 0, 0, 0, 0, //
+            0x10, 0, 0, 0, 0, 0, 0, 0, //
+            0x12, 0, 0, 0, 0x02, 0, 0, 0, //
+        ],
+        audit: "xray-audit 1\n\
+            threads=1 buffer-size=16384 buffer-max=100 \
+            fuel=10000000 passings=1048576 tick=1 tsc=0 cpus=1 migrate=1048576 \
+            pid=1 wall=0.0 frequency=0\n\
+            thread 1 returned passings 2 recorded 2 segments 1 first 0\n\
+            marks +2\n\
+            recycled 0\n",
+    },
+    // Nothing is recorded without patching.
+    Row {
+        text: STRAIGHT_LINE,
+        options: &[],
+        script: "go",
+        schedule: "",
+        trace: &[
+            0x03, 0, 0x01, 0, 0x03, 0, 0, 0, 0, 0, 0, 0, 0, 0, 0, 0, //
+            0, 0x40, 0, 0, 0, 0, 0, 0, 0, 0, 0, 0, 0, 0, 0, 0, //
+        ],
+        audit: "xray-audit 1\n\
+            threads=1 buffer-size=16384 buffer-max=100 \
+            fuel=10000000 passings=1048576 tick=1 tsc=0 cpus=1 migrate=1048576 \
+            pid=1 wall=0.0 frequency=0\n\
+            thread 1 returned passings 2 recorded 0 segments 0 first 0\n\
+            marks .2\n\
+            recycled 0\n",
+    },
+    // A passing that has begun is recorded, although its sled is unpatched meanwhile.
+    Row {
+        text: STRAIGHT_LINE,
+        options: &[],
+        script: "patch\nset_handler\ninit\ngo\nunpatch",
+        schedule: "t 1 1\np 2",
+        trace: &[
+            0x03, 0, 0x01, 0, 0x03, 0, 0, 0, 0, 0, 0, 0, 0, 0, 0, 0, //
+            0, 0x40, 0, 0, 0, 0, 0, 0, 0, 0, 0, 0, 0, 0, 0, 0, //
+            0x0F, 0x48, 0, 0, 0, 0, 0, 0, 0, 0, 0, 0, 0, 0, 0, 0, //
+            0x01, 0x01, 0, 0, 0, 0, 0, 0, 0, 0, 0, 0, 0, 0, 0, 0, //
+            0x09, 0, 0, 0, 0, 0, 0, 0, 0, 0, 0, 0, 0, 0, 0, 0, //
+            0x13, 0x01, 0, 0, 0, 0, 0, 0, 0, 0, 0, 0, 0, 0, 0, 0, //
+            0x05, 0, 0, 0, 0, 0, 0, 0, 0, 0, 0, 0, 0, 0, 0, 0, //
+            0x10, 0, 0, 0, 0, 0, 0, 0, //
+        ],
+        audit: "xray-audit 1\n\
+            threads=1 buffer-size=16384 buffer-max=100 \
+            fuel=10000000 passings=1048576 tick=1 tsc=0 cpus=1 migrate=1048576 \
+            pid=1 wall=0.0 frequency=0\n\
+            thread 1 returned passings 2 recorded 1 segments 1 first 0\n\
+            marks +1 .1\n\
+            recycled 0\n",
+    },
+    // A sled of which all but the head is stored is unpatched.
+    Row {
+        text: STRAIGHT_LINE,
+        options: &[],
+        script: LIVE,
+        schedule: "p 3\nt 1 1",
+        trace: &[
+            0x03, 0, 0x01, 0, 0x03, 0, 0, 0, 0, 0, 0, 0, 0, 0, 0, 0, //
+            0, 0x40, 0, 0, 0, 0, 0, 0, 0, 0, 0, 0, 0, 0, 0, 0, //
+        ],
+        audit: "xray-audit 1\n\
+            threads=1 buffer-size=16384 buffer-max=100 \
+            fuel=10000000 passings=1048576 tick=1 tsc=0 cpus=1 migrate=1048576 \
+            pid=1 wall=0.0 frequency=0\n\
+            thread 1 returned passings 2 recorded 0 segments 0 first 0\n\
+            marks .2\n\
+            recycled 0\n",
+    },
+    // An exit is recorded without its entry.
+    Row {
+        text: STRAIGHT_LINE,
+        options: &[],
+        script: LIVE,
+        schedule: "p 3\nt 1 1\np 5",
+        trace: &[
+            0x03, 0, 0x01, 0, 0x03, 0, 0, 0, 0, 0, 0, 0, 0, 0, 0, 0, //
+            0, 0x40, 0, 0, 0, 0, 0, 0, 0, 0, 0, 0, 0, 0, 0, 0, //
+            0x0F, 0x48, 0, 0, 0, 0, 0, 0, 0, 0, 0, 0, 0, 0, 0, 0, //
+            0x01, 0x01, 0, 0, 0, 0, 0, 0, 0, 0, 0, 0, 0, 0, 0, 0, //
+            0x09, 0, 0, 0, 0, 0, 0, 0, 0, 0, 0, 0, 0, 0, 0, 0, //
+            0x13, 0x01, 0, 0, 0, 0, 0, 0, 0, 0, 0, 0, 0, 0, 0, 0, //
+            0x05, 0, 0, 0x02, 0, 0, 0, 0, 0, 0, 0, 0, 0, 0, 0, 0, //
+            0x12, 0, 0, 0, 0, 0, 0, 0, //
+        ],
+        audit: "xray-audit 1\n\
+            threads=1 buffer-size=16384 buffer-max=100 \
+            fuel=10000000 passings=1048576 tick=1 tsc=0 cpus=1 migrate=1048576 \
+            pid=1 wall=0.0 frequency=0\n\
+            thread 1 returned passings 2 recorded 1 segments 1 first 0\n\
+            marks .1 +1\n\
+            recycled 0\n",
+    },
+    // Nothing is recorded without a handler.
+    Row {
+        text: STRAIGHT_LINE,
+        options: &[],
+        script: "patch\ninit\ngo",
+        schedule: "",
+        trace: &[
+            0x03, 0, 0x01, 0, 0x03, 0, 0, 0, 0, 0, 0, 0, 0, 0, 0, 0, //
+            0, 0x40, 0, 0, 0, 0, 0, 0, 0, 0, 0, 0, 0, 0, 0, 0, //
+        ],
+        audit: "xray-audit 1\n\
+            threads=1 buffer-size=16384 buffer-max=100 \
+            fuel=10000000 passings=1048576 tick=1 tsc=0 cpus=1 migrate=1048576 \
+            pid=1 wall=0.0 frequency=0\n\
+            thread 1 returned passings 2 recorded 0 segments 0 first 0\n\
+            marks n2\n\
+            recycled 0\n",
+    },
+    // Nothing is recorded in a log that is finalized.
+    Row {
+        text: STRAIGHT_LINE,
+        options: &[],
+        script: "patch\nset_handler\ninit\nfinalize\ngo",
+        schedule: "",
+        trace: &[
+            0x03, 0, 0x01, 0, 0x03, 0, 0, 0, 0, 0, 0, 0, 0, 0, 0, 0, //
+            0, 0x40, 0, 0, 0, 0, 0, 0, 0, 0, 0, 0, 0, 0, 0, 0, //
+        ],
+        audit: "xray-audit 1\n\
+            threads=1 buffer-size=16384 buffer-max=100 \
+            fuel=10000000 passings=1048576 tick=1 tsc=0 cpus=1 migrate=1048576 \
+            pid=1 wall=0.0 frequency=0\n\
+            thread 1 returned passings 2 recorded 0 segments 0 first 0\n\
+            marks f2\n\
+            recycled 0\n",
+    },
+    // A delta has 32 bits.
+    Row {
+        text: ODD_EXIT,
+        options: &["--tick", "4294967295"],
+        script: TRACED,
+        schedule: "",
+        trace: &[
+            0x03, 0, 0x01, 0, 0x03, 0, 0, 0, 0, 0, 0, 0, 0, 0, 0, 0, //
+            0, 0x40, 0, 0, 0, 0, 0, 0, 0, 0, 0, 0, 0, 0, 0, 0, //
+            0x0F, 0x50, 0, 0, 0, 0, 0, 0, 0, 0, 0, 0, 0, 0, 0, 0, //
+            0x01, 0x01, 0, 0, 0, 0, 0, 0, 0, 0, 0, 0, 0, 0, 0, 0, //
+            0x09, 0, 0, 0, 0, 0, 0, 0, 0, 0, 0, 0, 0, 0, 0, 0, //
+            0x13, 0x01, 0, 0, 0, 0, 0, 0, 0, 0, 0, 0, 0, 0, 0, 0, //
+            0x05, 0, 0, 0, 0, 0, 0, 0, 0, 0, 0, 0, 0, 0, 0, 0, //
+            0x10, 0, 0, 0, 0, 0, 0, 0, //
+            0x12, 0, 0, 0, 0xFF, 0xFF, 0xFF, 0xFF, //
+        ],
+        audit: "xray-audit 1\n\
+            threads=1 buffer-size=16384 buffer-max=100 \
+            fuel=10000000 passings=1048576 tick=4294967295 tsc=0 cpus=1 migrate=1048576 \
+            pid=1 wall=0.0 frequency=0\n\
+            thread 1 returned passings 2 recorded 2 segments 1 first 0\n\
+            marks +2\n\
+            recycled 0\n",
+    },
+    // A counter that is further on gets a TSCWrap record.
+    Row {
+        text: ODD_EXIT,
+        options: &["--tick=4294967296"],
+        script: TRACED,
+        schedule: "",
+        trace: &[
+            0x03, 0, 0x01, 0, 0x03, 0, 0, 0, 0, 0, 0, 0, 0, 0, 0, 0, //
+            0, 0x40, 0, 0, 0, 0, 0, 0, 0, 0, 0, 0, 0, 0, 0, 0, //
+            0x0F, 0x60, 0, 0, 0, 0, 0, 0, 0, 0, 0, 0, 0, 0, 0, 0, //
+            0x01, 0x01, 0, 0, 0, 0, 0, 0, 0, 0, 0, 0, 0, 0, 0, 0, //
+            0x09, 0, 0, 0, 0, 0, 0, 0, 0, 0, 0, 0, 0, 0, 0, 0, //
+            0x13, 0x01, 0, 0, 0, 0, 0, 0, 0, 0, 0, 0, 0, 0, 0, 0, //
+            0x05, 0, 0, 0, 0, 0, 0, 0, 0, 0, 0, 0, 0, 0, 0, 0, //
+            0x10, 0, 0, 0, 0, 0, 0, 0, //
+            0x07, 0, 0, 0, 0, 0x01, 0, 0, 0, 0, 0, 0, 0, 0, 0, 0, //
+            0x12, 0, 0, 0, 0, 0, 0, 0, //
+        ],
+        audit: "xray-audit 1\n\
+            threads=1 buffer-size=16384 buffer-max=100 \
+            fuel=10000000 passings=1048576 tick=4294967296 tsc=0 cpus=1 migrate=1048576 \
+            pid=1 wall=0.0 frequency=0\n\
+            thread 1 returned passings 2 recorded 2 segments 1 first 0\n\
+            marks +2\n\
+            recycled 0\n",
+    },
+    // A counter that wraps gets a TSCWrap record.
+    Row {
+        text: ODD_EXIT,
+        options: &["--tsc", "18446744073709551615"],
+        script: TRACED,
+        schedule: "",
+        trace: &[
+            0x03, 0, 0x01, 0, 0x03, 0, 0, 0, 0, 0, 0, 0, 0, 0, 0, 0, //
+            0, 0x40, 0, 0, 0, 0, 0, 0, 0, 0, 0, 0, 0, 0, 0, 0, //
+            0x0F, 0x60, 0, 0, 0, 0, 0, 0, 0, 0, 0, 0, 0, 0, 0, 0, //
+            0x01, 0x01, 0, 0, 0, 0, 0, 0, 0, 0, 0, 0, 0, 0, 0, 0, //
+            0x09, 0, 0, 0, 0, 0, 0, 0, 0, 0, 0, 0, 0, 0, 0, 0, //
+            0x13, 0x01, 0, 0, 0, 0, 0, 0, 0, 0, 0, 0, 0, 0, 0, 0, //
+            0x05, 0, 0, 0xFF, 0xFF, 0xFF, 0xFF, 0xFF, 0xFF, 0xFF, 0xFF, 0, 0, 0, 0, 0, //
+            0x10, 0, 0, 0, 0, 0, 0, 0, //
+            0x07, 0, 0, 0, 0, 0, 0, 0, 0, 0, 0, 0, 0, 0, 0, 0, //
+            0x12, 0, 0, 0, 0, 0, 0, 0, //
+        ],
+        audit: "xray-audit 1\n\
+            threads=1 buffer-size=16384 buffer-max=100 \
+            fuel=10000000 passings=1048576 tick=1 tsc=18446744073709551615 cpus=1 migrate=1048576 \
+            pid=1 wall=0.0 frequency=0\n\
+            thread 1 returned passings 2 recorded 2 segments 1 first 0\n\
+            marks +2\n\
+            recycled 0\n",
+    },
+    // A buffer of 72 bytes has room for one event.
+    Row {
+        text: STRAIGHT_LINE,
+        options: &["--buffer-size", "72"],
+        script: TRACED,
+        schedule: "",
+        trace: &[
+            0x03, 0, 0x01, 0, 0x03, 0, 0, 0, 0, 0, 0, 0, 0, 0, 0, 0, //
+            0x48, 0, 0, 0, 0, 0, 0, 0, 0, 0, 0, 0, 0, 0, 0, 0, //
+            0x0F, 0x48, 0, 0, 0, 0, 0, 0, 0, 0, 0, 0, 0, 0, 0, 0, //
+            0x01, 0x01, 0, 0, 0, 0, 0, 0, 0, 0, 0, 0, 0, 0, 0, 0, //
+            0x09, 0, 0, 0, 0, 0, 0, 0, 0, 0, 0, 0, 0, 0, 0, 0, //
+            0x13, 0x01, 0, 0, 0, 0, 0, 0, 0, 0, 0, 0, 0, 0, 0, 0, //
+            0x05, 0, 0, 0, 0, 0, 0, 0, 0, 0, 0, 0, 0, 0, 0, 0, //
+            0x10, 0, 0, 0, 0, 0, 0, 0, //
+            0x0F, 0x48, 0, 0, 0, 0, 0, 0, 0, 0, 0, 0, 0, 0, 0, 0, //
+            0x01, 0x01, 0, 0, 0, 0, 0, 0, 0, 0, 0, 0, 0, 0, 0, 0, //
+            0x09, 0, 0, 0, 0, 0, 0, 0, 0, 0, 0, 0, 0, 0, 0, 0, //
+            0x13, 0x01, 0, 0, 0, 0, 0, 0, 0, 0, 0, 0, 0, 0, 0, 0, //
+            0x05, 0, 0, 0x02, 0, 0, 0, 0, 0, 0, 0, 0, 0, 0, 0, 0, //
+            0x12, 0, 0, 0, 0, 0, 0, 0, //
+        ],
+        audit: "xray-audit 1\n\
+            threads=1 buffer-size=72 buffer-max=100 \
+            fuel=10000000 passings=1048576 tick=1 tsc=0 cpus=1 migrate=1048576 \
+            pid=1 wall=0.0 frequency=0\n\
+            thread 1 returned passings 2 recorded 2 segments 2 first 0\n\
+            marks +2\n\
+            recycled 0\n",
+    },
+    // So has one of 79 bytes.
+    Row {
+        text: STRAIGHT_LINE,
+        options: &["--buffer-size=79"],
+        script: TRACED,
+        schedule: "",
+        trace: &[
+            0x03, 0, 0x01, 0, 0x03, 0, 0, 0, 0, 0, 0, 0, 0, 0, 0, 0, //
+            0x4F, 0, 0, 0, 0, 0, 0, 0, 0, 0, 0, 0, 0, 0, 0, 0, //
+            0x0F, 0x48, 0, 0, 0, 0, 0, 0, 0, 0, 0, 0, 0, 0, 0, 0, //
+            0x01, 0x01, 0, 0, 0, 0, 0, 0, 0, 0, 0, 0, 0, 0, 0, 0, //
+            0x09, 0, 0, 0, 0, 0, 0, 0, 0, 0, 0, 0, 0, 0, 0, 0, //
+            0x13, 0x01, 0, 0, 0, 0, 0, 0, 0, 0, 0, 0, 0, 0, 0, 0, //
+            0x05, 0, 0, 0, 0, 0, 0, 0, 0, 0, 0, 0, 0, 0, 0, 0, //
+            0x10, 0, 0, 0, 0, 0, 0, 0, //
+            0x0F, 0x48, 0, 0, 0, 0, 0, 0, 0, 0, 0, 0, 0, 0, 0, 0, //
+            0x01, 0x01, 0, 0, 0, 0, 0, 0, 0, 0, 0, 0, 0, 0, 0, 0, //
+            0x09, 0, 0, 0, 0, 0, 0, 0, 0, 0, 0, 0, 0, 0, 0, 0, //
+            0x13, 0x01, 0, 0, 0, 0, 0, 0, 0, 0, 0, 0, 0, 0, 0, 0, //
+            0x05, 0, 0, 0x02, 0, 0, 0, 0, 0, 0, 0, 0, 0, 0, 0, 0, //
+            0x12, 0, 0, 0, 0, 0, 0, 0, //
+        ],
+        audit: "xray-audit 1\n\
+            threads=1 buffer-size=79 buffer-max=100 \
+            fuel=10000000 passings=1048576 tick=1 tsc=0 cpus=1 migrate=1048576 \
+            pid=1 wall=0.0 frequency=0\n\
+            thread 1 returned passings 2 recorded 2 segments 2 first 0\n\
+            marks +2\n\
+            recycled 0\n",
+    },
+    // One of 80 bytes has room for two.
+    Row {
+        text: STRAIGHT_LINE,
+        options: &["--buffer-size", "80"],
+        script: TRACED,
+        schedule: "",
+        trace: &[
+            0x03, 0, 0x01, 0, 0x03, 0, 0, 0, 0, 0, 0, 0, 0, 0, 0, 0, //
+            0x50, 0, 0, 0, 0, 0, 0, 0, 0, 0, 0, 0, 0, 0, 0, 0, //
+            0x0F, 0x50, 0, 0, 0, 0, 0, 0, 0, 0, 0, 0, 0, 0, 0, 0, //
+            0x01, 0x01, 0, 0, 0, 0, 0, 0, 0, 0, 0, 0, 0, 0, 0, 0, //
+            0x09, 0, 0, 0, 0, 0, 0, 0, 0, 0, 0, 0, 0, 0, 0, 0, //
+            0x13, 0x01, 0, 0, 0, 0, 0, 0, 0, 0, 0, 0, 0, 0, 0, 0, //
+            0x05, 0, 0, 0, 0, 0, 0, 0, 0, 0, 0, 0, 0, 0, 0, 0, //
+            0x10, 0, 0, 0, 0, 0, 0, 0, //
+            0x12, 0, 0, 0, 0x02, 0, 0, 0, //
+        ],
+        audit: "xray-audit 1\n\
+            threads=1 buffer-size=80 buffer-max=100 \
+            fuel=10000000 passings=1048576 tick=1 tsc=0 cpus=1 migrate=1048576 \
+            pid=1 wall=0.0 frequency=0\n\
+            thread 1 returned passings 2 recorded 2 segments 1 first 0\n\
+            marks +2\n\
+            recycled 0\n",
+    },
+    // Threads take each other's oldest segments.
+    Row {
+        text: CALL,
+        options: &["--threads", "2", "--buffer-size", "72", "--buffer-max", "3"],
+        script: TRACED,
+        schedule: "",
+        trace: &[
+            0x03, 0, 0x01, 0, 0x03, 0, 0, 0, 0, 0, 0, 0, 0, 0, 0, 0, //
+            0x48, 0, 0, 0, 0, 0, 0, 0, 0, 0, 0, 0, 0, 0, 0, 0, //
+            0x0F, 0x48, 0, 0, 0, 0, 0, 0, 0, 0, 0, 0, 0, 0, 0, 0, //
+            0x01, 0x01, 0, 0, 0, 0, 0, 0, 0, 0, 0, 0, 0, 0, 0, 0, //
+            0x09, 0, 0, 0, 0, 0, 0, 0, 0, 0, 0, 0, 0, 0, 0, 0, //
+            0x13, 0x01, 0, 0, 0, 0, 0, 0, 0, 0, 0, 0, 0, 0, 0, 0, //
+            0x05, 0, 0, 0x02, 0, 0, 0, 0, 0, 0, 0, 0, 0, 0, 0, 0, //
+            0x12, 0, 0, 0, 0, 0, 0, 0, //
+            0x0F, 0x48, 0, 0, 0, 0, 0, 0, 0, 0, 0, 0, 0, 0, 0, 0, //
+            0x01, 0x02, 0, 0, 0, 0, 0, 0, 0, 0, 0, 0, 0, 0, 0, 0, //
+            0x09, 0, 0, 0, 0, 0, 0, 0, 0, 0, 0, 0, 0, 0, 0, 0, //
+            0x13, 0x01, 0, 0, 0, 0, 0, 0, 0, 0, 0, 0, 0, 0, 0, 0, //
+            0x05, 0, 0, 0x01, 0, 0, 0, 0, 0, 0, 0, 0, 0, 0, 0, 0, //
+            0x22, 0, 0, 0, 0, 0, 0, 0, //
+            0x0F, 0x48, 0, 0, 0, 0, 0, 0, 0, 0, 0, 0, 0, 0, 0, 0, //
+            0x01, 0x02, 0, 0, 0, 0, 0, 0, 0, 0, 0, 0, 0, 0, 0, 0, //
+            0x09, 0, 0, 0, 0, 0, 0, 0, 0, 0, 0, 0, 0, 0, 0, 0, //
+            0x13, 0x01, 0, 0, 0, 0, 0, 0, 0, 0, 0, 0, 0, 0, 0, 0, //
+            0x05, 0, 0, 0x02, 0, 0, 0, 0, 0, 0, 0, 0, 0, 0, 0, 0, //
+            0x12, 0, 0, 0, 0, 0, 0, 0, //
+        ],
+        audit: "xray-audit 1\n\
+            threads=2 buffer-size=72 buffer-max=3 \
+            fuel=10000000 passings=1048576 tick=1 tsc=0 cpus=1 migrate=1048576 \
+            pid=1 wall=0.0 frequency=0\n\
+            thread 1 returned passings 4 recorded 4 segments 4 first 3\n\
+            marks +4\n\
+            thread 2 returned passings 4 recorded 4 segments 4 first 2\n\
+            marks +4\n\
+            recycled 5\n",
+    },
+    // A thread that moves to another CPU says so.
+    Row {
+        text: STRAIGHT_LINE,
+        options: &["--cpus", "2", "--migrate", "1"],
+        script: TRACED,
+        schedule: "",
+        trace: &[
+            0x03, 0, 0x01, 0, 0x03, 0, 0, 0, 0, 0, 0, 0, 0, 0, 0, 0, //
+            0, 0x40, 0, 0, 0, 0, 0, 0, 0, 0, 0, 0, 0, 0, 0, 0, //
+            0x0F, 0x60, 0, 0, 0, 0, 0, 0, 0, 0, 0, 0, 0, 0, 0, 0, //
+            0x01, 0x01, 0, 0, 0, 0, 0, 0, 0, 0, 0, 0, 0, 0, 0, 0, //
+            0x09, 0, 0, 0, 0, 0, 0, 0, 0, 0, 0, 0, 0, 0, 0, 0, //
+            0x13, 0x01, 0, 0, 0, 0, 0, 0, 0, 0, 0, 0, 0, 0, 0, 0, //
+            0x05, 0x01, 0, 0, 0, 0, 0, 0, 0, 0, 0, 0, 0, 0, 0, 0, //
+            0x10, 0, 0, 0, 0, 0, 0, 0, //
+            0x05, 0, 0, 0x02, 0, 0, 0, 0, 0, 0, 0, 0, 0, 0, 0, 0, //
+            0x12, 0, 0, 0, 0, 0, 0, 0, //
+        ],
+        audit: "xray-audit 1\n\
+            threads=1 buffer-size=16384 buffer-max=100 \
+            fuel=10000000 passings=1048576 tick=1 tsc=0 cpus=2 migrate=1 \
+            pid=1 wall=0.0 frequency=0\n\
+            thread 1 returned passings 2 recorded 2 segments 1 first 0\n\
+            marks +2\n\
+            recycled 0\n",
+    },
+    // A tail jump is a tail exit.
+    Row {
+        text: TAIL_JUMP,
+        options: &[],
+        script: TRACED,
+        schedule: "",
+        trace: &[
+            0x03, 0, 0x01, 0, 0x03, 0, 0, 0, 0, 0, 0, 0, 0, 0, 0, 0, //
+            0, 0x40, 0, 0, 0, 0, 0, 0, 0, 0, 0, 0, 0, 0, 0, 0, //
+            0x0F, 0x60, 0, 0, 0, 0, 0, 0, 0, 0, 0, 0, 0, 0, 0, 0, //
+            0x01, 0x01, 0, 0, 0, 0, 0, 0, 0, 0, 0, 0, 0, 0, 0, 0, //
+            0x09, 0, 0, 0, 0, 0, 0, 0, 0, 0, 0, 0, 0, 0, 0, 0, //
+            0x13, 0x01, 0, 0, 0, 0, 0, 0, 0, 0, 0, 0, 0, 0, 0, 0, //
+            0x05, 0, 0, 0, 0, 0, 0, 0, 0, 0, 0, 0, 0, 0, 0, 0, //
+            0x10, 0, 0, 0, 0, 0, 0, 0, //
+            0x14, 0, 0, 0, 0, 0, 0, 0, //
+            0x20, 0, 0, 0, 0x01, 0, 0, 0, //
+            0x22, 0, 0, 0, 0, 0, 0, 0, //
+        ],
+        audit: "xray-audit 1\n\
+            threads=1 buffer-size=16384 buffer-max=100 \
+            fuel=10000000 passings=1048576 tick=1 tsc=0 cpus=1 migrate=1048576 \
+            pid=1 wall=0.0 frequency=0\n\
+            thread 1 returned passings 4 recorded 4 segments 1 first 0\n\
+            marks +4\n\
+            recycled 0\n",
+    },
+    // The numbers of the words stand in the header, in the preamble and in the audit.
+    Row {
+        text: STRAIGHT_LINE,
+        options: &[
+            "--frequency",
+            "18446744073709551615",
+            "--pid",
+            "2147483647",
+            "--wall",
+            "18446744073709551615",
+        ],
+        script: TRACED,
+        schedule: "",
+        trace: &[
+            0x03, 0, 0x01, 0, 0x03, 0, 0, 0, 0xFF, 0xFF, 0xFF, 0xFF, 0xFF, 0xFF, 0xFF, 0xFF, //
+            0, 0x40, 0, 0, 0, 0, 0, 0, 0, 0, 0, 0, 0, 0, 0, 0, //
+            0x0F, 0x50, 0, 0, 0, 0, 0, 0, 0, 0, 0, 0, 0, 0, 0, 0, //
+            0x01, 0x01, 0, 0, 0, 0, 0, 0, 0, 0, 0, 0, 0, 0, 0, 0, //
+            0x09, 0xFF, 0xFF, 0xFF, 0xFF, 0xFF, 0xFF, 0xFF, 0xFF, 0, 0, 0, 0, 0, 0, 0, //
+            0x13, 0xFF, 0xFF, 0xFF, 0x7F, 0, 0, 0, 0, 0, 0, 0, 0, 0, 0, 0, //
+            0x05, 0, 0, 0, 0, 0, 0, 0, 0, 0, 0, 0, 0, 0, 0, 0, //
+            0x10, 0, 0, 0, 0, 0, 0, 0, //
+            0x12, 0, 0, 0, 0x02, 0, 0, 0, //
+        ],
+        audit: "xray-audit 1\n\
+            threads=1 buffer-size=16384 buffer-max=100 \
+            fuel=10000000 passings=1048576 tick=1 tsc=0 cpus=1 migrate=1048576 \
+            pid=2147483647 wall=18446744073709551615.0 frequency=18446744073709551615\n\
+            thread 1 returned passings 2 recorded 2 segments 1 first 0\n\
+            marks +2\n\
+            recycled 0\n",
+    },
+];
+
+/// Assembles the image of a row, and checks what its replay leaves.
+fn assert_leaves<R: Abort + Threads + Wait + Sync + AllocGlobal>(
+    rt: &R,
+    row: &Row,
+) -> Result<(), Fail> {
+    let alloc = rt.alloc();
+    let mut desk = desk_of(alloc, &[], b"", row.script, row.schedule)?;
+    desk.put("x", row.text.as_bytes())?;
+    assert_eq!(rt;
+        run_words(rt, &["asm", "x", "i"], &mut desk, &[], &[])?.status,
+        0
+    );
+    let mut words = Vec::from_slice(alloc, &SIM)?;
+    words.extend_from_slice(row.options)?;
+    let run = run_words(rt, &words, &mut desk, &[], &[])?;
+    assert_eq!(rt; run.err.as_str(), "", "{}", row.audit);
+    assert_eq!(rt; run.status, 0, "{}", row.audit);
+    assert_eq!(rt;
+        desk.get("t").ok_or("no trace")?,
+        row.trace,
+        "{}",
+        row.audit
+    );
+    assert_eq!(rt;
+        std::str::from_utf8(desk.get("a").ok_or("no audit")?)?,
+        row.audit
+    );
+    Ok(())
+}
+
+#[test]
+fn a_replay_leaves_its_trace_and_its_audit(rt: HostRuntime) -> Result<(), Fail> {
+    for row in &ROWS {
+        assert_leaves(&rt, row)?;
+    }
+    Ok(())
+}
+
+/// The ends of the ranges of buffers, and a trace of at most 67,108,864 bytes.
+#[test]
+fn buffers_have_their_ranges(rt: HostRuntime) -> Result<(), Fail> {
+    for (options, status) in [
+        (["--buffer-size", "71", "--buffer-max", "1"], 1),
+        (["--buffer-size", "72", "--buffer-max", "1"], 0),
+        (["--buffer-size", "1048576", "--buffer-max", "1"], 0),
+        (["--buffer-size", "1048577", "--buffer-max", "1"], 1),
+        (["--buffer-size", "72", "--buffer-max", "1024"], 0),
+        (["--buffer-size", "72", "--buffer-max", "1025"], 1),
+        (["--buffer-max", "0", "--threads", "1"], 1),
+        (["--buffer-max", "3", "--threads", "4"], 1),
+        (["--buffer-max", "4", "--threads", "4"], 0),
+        // 224 buffers of 299,577 bytes, with 16 bytes of extents each, and a header of 32 bytes.
+        (["--buffer-max", "224", "--buffer-size", "299577"], 0),
+        (["--buffer-max", "224", "--buffer-size", "299578"], 1),
+    ] {
+        let [option, value, other, number] = options;
+        let mut desk = desk_of(rt.alloc(), &[], &IMAGE, TRACED, "")?;
+        let words = ["sim", "i", "s", "c", "t", "a", option, value, other, number];
+        let run = run_words(&rt, &words, &mut desk, &[], &[])?;
+        assert_eq!(rt; run.status, status, "{value} {number}");
+        assert_eq!(rt; desk.get("t").is_some(), status == 0, "{value} {number}");
+    }
+    Ok(())
+}
+
+/// The desk's calls are two reads of each input, the creation and the append of the trace, and those of the audit.
+#[test]
+fn a_call_of_the_desk_that_fails_leaves_later_outputs_untouched(
+    rt: HostRuntime,
+) -> Result<(), Fail> {
+    const OLD: &[u8] = b"old";
+    let trace = ROWS[0].trace;
+    let audit = ROWS[0].audit.as_bytes();
+    for (failing, out_failing, line, left, told) in [
+        (&[6][..], &[][..], "xray: t: write fault\n", OLD, OLD),
+        (&[7], &[], "xray: t: write fault\n", b"", OLD),
+        (&[8], &[], "xray: a: write fault\n", trace, OLD),
+        (&[9], &[], "xray: a: write fault\n", trace, b""),
+        (&[], &[0], "xray: output: write fault\n", trace, audit),
+    ] {
+        let mut desk = desk_of(rt.alloc(), failing, &IMAGE, TRACED, "p 1")?;
+        desk.put("t", OLD)?;
+        desk.put("a", OLD)?;
+        let run = run_words(&rt, &SIM, &mut desk, out_failing, &[])?;
+        assert_eq!(rt; run.err.as_str(), line);
+        assert_eq!(rt; run.status, 4, "{line}");
+        assert_eq!(rt; run.out.as_str(), "", "{line}");
+        assert_eq!(rt; desk.get("t").ok_or("no trace")?, left, "{line}");
+        assert_eq!(rt; desk.get("a").ok_or("no audit")?, told, "{line}");
+        assert_eq!(rt;
+            desk.get("i").ok_or("no image")?,
+            IMAGE.as_slice(),
+            "{line}"
+        );
+    }
+    Ok(())
+}
+
+/// The second append of one byte fails: the trace is a prefix, and the audit isn't begun.
+#[test]
+fn a_trace_that_fails_in_the_middle_is_a_prefix(rt: HostRuntime) -> Result<(), Fail> {
+    // A read for each byte of the three inputs, and one that finds the end of each.
+    let reads = (IMAGE.len() + 1 + TRACED.len() + 1 + 1) as u64;
+    let desk = desk_of(rt.alloc(), &[reads + 2], &IMAGE, TRACED, "")?;
+    let mut trickle = Trickle::new(desk);
+    let run = run_words(&rt, &SIM, &mut trickle, &[], &[])?;
+    assert_eq!(rt; run.err.as_str(), "xray: t: write fault\n");
+    assert_eq!(rt; run.status, 4);
+    assert_eq!(rt; trickle.get("t").ok_or("no trace")?, &ROWS[0].trace[..1]);
+    assert!(rt; trickle.get("a").is_none());
+    Ok(())
+}

@@ -1,0 +1,133 @@
+-- What is written of what a run leaves.
+use Rattle.std.proofs.Common.{◌≡◌, ◌<◌, ◌+◌, ◌++◌, ◌∙◌, ℕ, zero, suc, List, [], ◌∷◌, length, Some, refl, sym, ap, arith, subst}
+use Rattle.std.specs.List.{All, flat_map, slice_get}
+use Rattle.std.proofs.lemmas.List.{length-map}
+use Rattle.std.proofs.lemmas.List.Elements.{All-cons, All-nil}
+use Rattle.std.proofs.lemmas.Option.{slice_get_within}
+use Rattle.fdr_buffer.specs.Filled.{Filled}
+use Rattle.machine_step.specs.declared.setup.Setup.{Setup}
+use Rattle.machine_step.specs.Texts.{state_text}
+use Rattle.machine_step.specs.Traced.{IsDone, Traced}
+use Rattle.fdr_file.specs.Files.{file_bytes}
+use Rattle.trace_flush.specs.Audit.{Account, accounts, audit_text}
+use Rattle.trace_flush.specs.Flush.{header_of, trace_bytes}
+use Rattle.trace_flush.specs.Lines.{accounts_of, lines_of}
+use Rattle.trace_flush.specs.declared.line.AuditLine.{AuditLine}
+use Rattle.traced_run.specs.Kept.{kept_buffers, segment_count}
+use Rattle.traced_run.specs.Left.{HasRun, Leaves}
+use Rattle.traced_run.specs.Runs.{ThreadRun}
+use Rattle.xray_program.specs.Ends.{thread_text}
+use Rattle.xray_program.specs.Traced.{state_texts, written_of}
+
+-- the text of a thread that has run is its state text
+thread_printed : (number : ℕ) (run : ThreadRun) (t : Traced) → HasRun number run t → thread_text t ≡ state_text number run.end run.last run.marks
+thread_printed number run t has =
+    rw (has.done, has.thread, sym has.registers, sym has.zero_flag, sym has.output, sym has.instructions, sym has.passings, sym has.marks) refl
+
+-- the threads, numbered from one of a number on, have run so
+abbrev HaveRun : ℕ → List ThreadRun → List Traced → Type 0
+HaveRun number runs ts = (i : ℕ) (run : ThreadRun) (t : Traced) → slice_get runs i ≡ Some run → slice_get ts i ≡ Some t → HasRun (number + i) run t
+
+all_printed : (number : ℕ) (runs : List ThreadRun) (ts : List Traced) → length ts ≡ length runs → HaveRun number runs ts
+    → flat_map thread_text ts ≡ state_texts number runs
+all_printed number [] [] same have = refl
+all_printed number [] (t ∷ ts) same have = absurd (omega (arith, same))
+all_printed number (run ∷ runs) [] same have = absurd (omega (arith, same))
+all_printed number (run ∷ runs) (t ∷ ts) same have =
+    let first : number + zero ≡ number = omega arith in
+    ap (λ (text : List ℕ). text ++ flat_map thread_text ts)
+    (thread_printed number run t (subst (λ (n : ℕ). HasRun n run t) first (have zero run t refl refl)))
+    ∙ ap (λ (text : List ℕ). state_text number run.end run.last run.marks ++ text)
+    (all_printed (number + 1) runs ts (omega (arith, same)) (λ i r u found at. subst (λ (n : ℕ). HasRun n r u) (later i) (have (suc i) r u found at)))
+  where
+    later : (i : ℕ) → number + suc i ≡ number + 1 + i
+    later i = omega arith
+
+-- threads that a run leaves have run
+have_run : (setup : Setup) (runs : List ThreadRun) (ts : List Traced) (segments first : List ℕ) (buffers : List Filled)
+    → Leaves setup runs ts segments first buffers → HaveRun 1 runs ts
+have_run setup runs ts segments first buffers leaves i run t found at =
+    let flipped : i + 1 ≡ 1 + i = omega arith in
+    subst (λ (n : ℕ). HasRun n run t) flipped (leaves.cpus_are i run t found at)
+
+pub run_printed : (setup : Setup) (runs : List ThreadRun) (ts : List Traced) (segments first : List ℕ) (buffers : List Filled)
+    → Leaves setup runs ts segments first buffers → flat_map thread_text ts ≡ state_texts 1 runs
+run_printed setup runs ts segments first buffers leaves =
+    all_printed 1 runs ts leaves.count (have_run setup runs ts segments first buffers leaves)
+
+-- each of its threads has ended
+run_at : (runs : List ThreadRun) (i : ℕ) → i < length runs → (run : ThreadRun) × (slice_get runs i ≡ Some run)
+run_at [] i within = absurd (omega (arith, within))
+run_at (run ∷ runs) zero within = (run, refl)
+run_at (run ∷ runs) (suc i) within = run_at runs i (omega (arith, within))
+
+each_one : (P : Traced → Type 0) (ts : List Traced) → ((i : ℕ) (t : Traced) → slice_get ts i ≡ Some t → P t) → All P ts
+each_one P [] each = All-nil P
+each_one P (t ∷ ts) each = All-cons P t ts (each zero t refl) (each_one P ts (λ i u at. each (suc i) u at))
+
+pub run_ended : (setup : Setup) (runs : List ThreadRun) (ts : List Traced) (segments first : List ℕ) (buffers : List Filled)
+    → Leaves setup runs ts segments first buffers → All (λ t. IsDone t.want) ts
+run_ended setup runs ts segments first buffers leaves =
+    each_one (λ t. IsDone t.want) ts (λ i t at.
+    let found = run_at runs i (subst (λ (n : ℕ). i < n) leaves.count (slice_get_within ts i t at)) in
+    let has = leaves.cpus_are i found.0 t found.1 at in
+    rw has.done tt)
+
+-- each has a count of segments, and one of lost segments
+pub segment_counts : (setup : Setup) (runs : List ThreadRun) (ts : List Traced) (segments first : List ℕ) (buffers : List Filled)
+    → Leaves setup runs ts segments first buffers → length segments ≡ length ts
+segment_counts setup runs ts segments first buffers leaves =
+    ap length leaves.segments_are ∙ length-map runs (segment_count setup.size) ∙ sym leaves.count
+
+pub lost_counts : (setup : Setup) (runs : List ThreadRun) (ts : List Traced) (segments first : List ℕ) (buffers : List Filled)
+    → Leaves setup runs ts segments first buffers → length first ≡ length ts
+lost_counts setup runs ts segments first buffers leaves =
+    ap length leaves.first_are ∙ length-map runs (λ (run : ThreadRun). run.lost) ∙ sym leaves.count
+
+-- and so each has a line
+pub lines_count : (ts : List Traced) (segments first : List ℕ) → length segments ≡ length ts → length first ≡ length ts
+    → length (lines_of ts segments first) ≡ length ts
+lines_count [] segments first p q = refl
+lines_count (t ∷ ts) [] first p q = absurd (omega (arith, p))
+lines_count (t ∷ ts) (n ∷ segments) [] p q = absurd (omega (arith, q))
+lines_count (t ∷ ts) (n ∷ segments) (m ∷ first) p q = ap suc (lines_count ts segments first (omega (arith, p)) (omega (arith, q)))
+
+-- ---- all that is written
+
+-- the audit of what a run leaves
+abbrev pub AuditsRuns : Type 0
+AuditsRuns = (setup : Setup) (runs : List ThreadRun) (cpus : List Traced) (segments first : List ℕ) (buffers : List Filled)
+    → Leaves setup runs cpus segments first buffers → accounts (lines_of cpus segments first) cpus ≡ accounts_of setup runs
+
+-- lines that are added to none are all
+pub only_lines : (lines old : List AuditLine) (ts us : List Traced) (segments ns first ms : List ℕ) → lines ≡ old ++ lines_of us ns ms → old ≡ []
+    → us ≡ ts → ns ≡ segments → ms ≡ first → lines ≡ lines_of ts segments first
+only_lines lines old ts us segments ns first ms is none same_threads same_segments same_first =
+    is ∙ ap (λ (l : List AuditLine). l ++ lines_of us ns ms) none ∙ ap (λ (l : List Traced). lines_of l ns ms) same_threads
+    ∙ ap (λ (l : List ℕ). lines_of ts l ms) same_segments ∙ ap (lines_of ts segments) same_first
+
+-- what is written of the threads, of their lines and of the buffers in order is what is written of the run
+pub run_written : AuditsRuns → (trace audit : List ℕ) (setup : Setup) (runs : List ThreadRun) (cpus : List Traced) (segments first : List ℕ)
+    (buffers : List Filled) → Leaves setup runs cpus segments first buffers → (ts : List Traced) (lines : List AuditLine) (kept : List Filled)
+    → ts ≡ cpus → lines ≡ lines_of cpus segments first → kept ≡ kept_buffers setup runs → (P : List (List ℕ × List ℕ) → List ℕ → Type 0)
+    → P ((trace, file_bytes (header_of setup) kept) ∷ (audit, audit_text setup (accounts lines ts)) ∷ []) (flat_map thread_text ts)
+    → P (written_of trace audit setup runs) (state_texts 1 runs)
+run_written law trace audit setup runs cpus segments first buffers leaves ts lines kept same_threads same_lines same_buffers P holds =
+    let accounted : accounts lines ts ≡ accounts_of setup runs =
+    ap (λ (l : List AuditLine). accounts l ts) same_lines ∙ ap (accounts (lines_of cpus segments first)) same_threads
+    ∙ law setup runs cpus segments first buffers leaves in
+    let printed : flat_map thread_text ts ≡ state_texts 1 runs =
+    ap (flat_map thread_text) same_threads ∙ run_printed setup runs cpus segments first buffers leaves in
+    let Q : List Filled → Type 0 = λ l. P ((trace, file_bytes (header_of setup) l) ∷ (audit, audit_text setup (accounts lines ts)) ∷ []) (flat_map thread_text ts) in
+    let R : List Account → Type 0 = λ l. P ((trace, trace_bytes setup runs) ∷ (audit, audit_text setup l) ∷ []) (flat_map thread_text ts) in
+    let S : List ℕ → Type 0 = λ l. P (written_of trace audit setup runs) l in
+    subst S printed (subst R accounted (subst Q same_buffers holds))
+
+-- what a run leaves, in other hands
+pub leaves_same : (setup : Setup) (runs : List ThreadRun) (ts us : List Traced) (segments ns first ms : List ℕ) (buffers kept : List Filled)
+    → us ≡ ts → ns ≡ segments → ms ≡ first → kept ≡ buffers → Leaves setup runs ts segments first buffers → Leaves setup runs us ns ms kept
+leaves_same setup runs ts us segments ns first ms buffers kept same_threads same_segments same_first same_buffers leaves =
+    subst (Leaves setup runs us ns ms) (sym same_buffers)
+    (subst (λ (l : List ℕ). Leaves setup runs us ns l buffers) (sym same_first)
+    (subst (λ (l : List ℕ). Leaves setup runs us l first buffers) (sym same_segments)
+    (subst (λ (l : List Traced). Leaves setup runs l segments first buffers) (sym same_threads) leaves)))

@@ -1,0 +1,210 @@
+//! What is written of traced threads that have ended, whatever ran them: the trace, the audit, and the
+//! state texts.
+ghost use Rattle.std.specs.Prelude.{◌≡◌, ◌≢◌, ◌≤◌, [], ◌∷◌, IfOk, IsTrue, List, None, length, vec_capacity};
+ghost use Rattle.std.specs.List.{All, flat_map};
+ghost use Rattle.fdr_file.specs.Files.{file_bytes};
+ghost use Rattle.machine_step.specs.Traced.{IsDone};
+ghost use Rattle.trace_flush.specs.Audit.{accounts, audit_text};
+ghost use Rattle.trace_flush.specs.Flush.{header_of};
+ghost use Rattle.traced_run.specs.Left.{Leaves};
+ghost use Rattle.traced_run.specs.Runs.{ThreadRun};
+ghost use Rattle.xray_io.specs.World.{desk_view, sink_view};
+ghost use Rattle.xray_io.specs.Writes.{WritesText};
+ghost use Rattle.xray_program.specs.Ends.{thread_text};
+ghost use Rattle.xray_program.specs.Traced.{state_texts, written_of};
+ghost use Rattle.xray_program.specs.Works.{Delivers, KeepsOthers};
+
+use crate::delivery::{Output, TwoOutputs, deliver};
+use crate::stop::Stop;
+use crate::text::Printed;
+use fdr_buffer::Buffer;
+use fdr_file::{Header, write_file};
+use machine_step::{Cpu, Setup, write_state};
+use std::alloc::Global;
+use trace_flush::{
+    AuditLine, a_run_is_audited, add_audit_lines, arrange, trace_header, write_audit,
+};
+use xray_io::{Desk, NoMemory, Sink, WriteFault};
+
+/// The outputs of a command that runs traced threads.
+#[derive(Clone, Copy)]
+pub(crate) struct TraceFiles<'a> {
+    /// The name of the trace file.
+    pub(crate) trace: &'a str,
+    /// The name of the audit.
+    pub(crate) audit: &'a str,
+    ghost apart: { trace.now ≢ audit.now },
+}
+
+/// What traced threads leave that have ended.
+#[derive(Drop)]
+pub(crate) struct RunLeft<'i> {
+    /// The threads, thread 1 first.
+    pub(crate) cpus: Vec<Cpu<'i>>,
+    /// Into how many segments the events of each thread were cut.
+    pub(crate) segments: Vec<u32>,
+    /// How many of these are lost.
+    pub(crate) first: Vec<u32>,
+    /// The buffers of those that are left.
+    pub(crate) buffers: Vec<Buffer>,
+}
+
+/// Room for so many lines of an audit, before the threads start.
+pub(crate) fn room_for(alloc: Global, threads: u32) -> Result<Vec<AuditLine>, NoMemory>
+    ensures none { IfOk result (λ lines. lines.items ≡ []) }
+    ensures room { IfOk result (λ lines. vec_capacity lines ≡ threads) }
+{
+    let lines = Vec::with_capacity(alloc, threads as usize)?;
+    Ok(lines)
+}
+
+/// Writes what is left of a run: the trace, then the audit, and then the state texts on out. Takes no
+/// memory: `lines` is empty, with room for one line per thread.
+pub(crate) fn deliver_run<'a, D: Desk, O: Sink>(
+    desk: &mut D,
+    out: &mut O,
+    files: &TraceFiles<'a>,
+    setup: &Setup,
+    left: RunLeft,
+    mut lines: Vec<AuditLine>,
+) -> Result<(), Stop<'a>>
+    requires left { (runs : List ThreadRun) × Leaves setup.now runs
+        left.cpus.items left.segments.items left.first.items left.buffers.items }
+    requires none { lines.items ≡ [] }
+    requires room { length left.cpus.items ≤ vec_capacity lines }
+    ensures delivers { let seen = desk_view D.held D.read_faults D.write_faults in
+        let got = sink_view O.written O.faults in
+        (runs : List ThreadRun) → Leaves setup.now runs left.entry.cpus.items
+        left.entry.segments.items left.entry.first.items left.entry.buffers.items
+        → Delivers (written_of files.now.trace.now files.now.audit.now setup.now runs) (state_texts 1 runs) None
+        (seen desk.old) (seen desk.new) (got out.old) (got out.new) (D.along desk.old desk.new) result }
+    ensures others { let seen = desk_view D.held D.read_faults D.write_faults in
+        KeepsOthers (files.now.trace.now ∷ files.now.audit.now ∷ []) (seen desk.old) (seen desk.new) }
+{
+    let RunLeft {
+        cpus,
+        segments,
+        first,
+        mut buffers,
+    } = left;
+    // Says that the audit of these lines is that of the run.
+    a_run_is_audited();
+    arrange(&mut buffers);
+    add_audit_lines(&cpus, &segments, &first, &mut lines);
+    deliver_texts(desk, out, files, setup, &cpus, &lines, &buffers)
+}
+
+/// Writes the trace of these buffers, then the audit of these lines, and then the state texts on out.
+fn deliver_texts<'a, D: Desk, O: Sink>(
+    desk: &mut D,
+    out: &mut O,
+    files: &TraceFiles<'a>,
+    setup: &Setup,
+    cpus: &[Cpu],
+    lines: &[AuditLine],
+    buffers: &[Buffer],
+) -> Result<(), Stop<'a>>
+    requires begun { All (λ buffer. IsTrue buffer.begun) buffers.now }
+    requires count { length lines.now ≡ length cpus.now }
+    requires done { All (λ cpu. IsDone cpu.want) cpus.now }
+    ensures delivers { let seen = desk_view D.held D.read_faults D.write_faults in
+        let got = sink_view O.written O.faults in
+        Delivers ((files.now.trace.now, file_bytes (header_of setup.now) buffers.now)
+        ∷ (files.now.audit.now, audit_text setup.now (accounts lines.now cpus.now)) ∷ [])
+        (flat_map thread_text cpus.now) None
+        (seen desk.old) (seen desk.new) (got out.old) (got out.new) (D.along desk.old desk.new) result }
+    ensures others { let seen = desk_view D.held D.read_faults D.write_faults in
+        KeepsOthers (files.now.trace.now ∷ files.now.audit.now ∷ []) (seen desk.old) (seen desk.new) }
+{
+    let header = trace_header(setup);
+    let trace = TraceText {
+        header: &header,
+        buffers,
+    };
+    let audit = AuditText { setup, lines, cpus };
+    let outputs = TwoOutputs {
+        first: Output {
+            name: files.trace,
+            text: &trace,
+        },
+        second: Output {
+            name: files.audit,
+            text: &audit,
+        },
+    };
+    let states = States { cpus };
+    deliver(desk, out, &outputs, &states, None)
+}
+
+/// The bytes of a trace file.
+#[derive(Drop)]
+struct TraceText<'t> {
+    header: &'t Header,
+    buffers: &'t [Buffer],
+}
+
+impl Printed for TraceText<'_> {
+    ghost use Rattle.std.specs.Prelude.{◌≡◌, All, IsTrue};
+    ghost use Rattle.fdr_file.specs.Files.{file_bytes};
+
+    ghost text = { λ t. file_bytes t.header.now t.buffers.now };
+
+    ghost ready = { λ t. (t.header.now.version ≡ 3) × All (λ buffer. IsTrue buffer.begun) t.buffers.now };
+
+    fn print<S: Sink>(&self, sink: &mut S) -> Result<(), WriteFault> {
+        write_file(self.header, self.buffers, sink)
+    }
+}
+
+/// The text of an audit.
+#[derive(Drop)]
+struct AuditText<'t, 'i> {
+    setup: &'t Setup,
+    lines: &'t [AuditLine],
+    cpus: &'t [Cpu<'i>],
+}
+
+impl Printed for AuditText<'_, '_> {
+    ghost use Rattle.std.specs.Prelude.{◌≡◌, All, length};
+    ghost use Rattle.machine_step.specs.Traced.{IsDone};
+    ghost use Rattle.trace_flush.specs.Audit.{accounts, audit_text};
+
+    ghost text = { λ t. audit_text t.setup.now (accounts t.lines.now t.cpus.now) };
+
+    ghost ready = { λ t. (length t.lines.now ≡ length t.cpus.now) × All (λ cpu. IsDone cpu.want) t.cpus.now };
+
+    fn print<S: Sink>(&self, sink: &mut S) -> Result<(), WriteFault> {
+        write_audit(self.setup, self.lines, self.cpus, sink)
+    }
+}
+
+/// The state texts of threads that have ended, in their order.
+#[derive(Drop)]
+struct States<'t, 'i> {
+    cpus: &'t [Cpu<'i>],
+}
+
+impl Printed for States<'_, '_> {
+    ghost use Rattle.std.specs.List.{All, flat_map};
+    ghost use Rattle.machine_step.specs.Traced.{IsDone};
+    ghost use Rattle.xray_program.specs.Ends.{thread_text};
+
+    ghost text = { λ s. flat_map thread_text s.cpus.now };
+
+    ghost ready = { λ s. All (λ t. IsDone t.want) s.cpus.now };
+
+    fn print<S: Sink>(&self, sink: &mut S) -> Result<(), WriteFault> {
+        write_states(sink, self.cpus)
+    }
+}
+
+/// Writes the state texts of threads that have ended, one after another.
+fn write_states<S: Sink>(sink: &mut S, cpus: &[Cpu]) -> Result<(), WriteFault>
+    requires { All (λ t. IsDone t.want) cpus.now }
+    ensures { WritesText S.written S.faults S.along sink.old sink.new (flat_map thread_text cpus.now) result }
+{
+    for cpu in cpus {
+        write_state(cpu.thread(), cpu, sink)?;
+    }
+    Ok(())
+}
