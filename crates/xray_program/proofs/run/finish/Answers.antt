@@ -1,14 +1,16 @@
-use Rattle.std.proofs.Common.{◌≡◌, None, refl, subst}
+use Rattle.std.proofs.Common.{◌≡◌, [], None, refl, subst}
 use Rattle.machine_step.specs.declared.setup.Setup.{Setup}
 use Rattle.patch_script.specs.Refusals.{commands_of}
 use Rattle.thread_run.specs.Runs.{HaveRunBeside}
 use Rattle.xray_image.specs.Program.{Program}
 use Rattle.xray_io.specs.World.{desk_view, sink_view}
 use Rattle.xray_program.specs.Run.{FollowsPlan, RunsBeside}
+use Rattle.xray_program.specs.RunInputs.{comes_of}
 use Rattle.xray_program.specs.Setups.{setup_of}
 use Rattle.xray_program.specs.Traced.{Traces, state_texts, written_of}
 use Rattle.xray_program.specs.Works.{Finishes}
-use Rattle.xray_program.proofs.Endings.{finishes}
+use Rattle.xray_program.specs.declared.stop.Stop.TheVariants as stops
+use Rattle.xray_program.proofs.Endings.{finishes, refuses}
 use Rattle.xray_program.proofs.RunWritten.{leaves_same}
 use Rattle.xray_program.proofs.run.finish.Goals as goal
 
@@ -43,3 +45,21 @@ returns-clause-finishes g c =
     (g.D.Desk.along c.args.desk.now c.deliver_run.new.desk) c.deliver_run.result
     (outputs, text, traces, refl)
     (c.deliver_run.ensures.delivers is.runs leaves))
+
+pub returns-in_err-lines-clause-finishes : goal.returns-in_err-lines-clause-finishes
+returns-in_err-lines-clause-finishes g c =
+    refuses (comes_of c.args.command.now c.args.inputs) (desk_view g.D.Desk.held g.D.Desk.read_faults g.D.Desk.write_faults c.args.desk.now)
+    (sink_view g.O.Sink.written g.O.Sink.faults c.args.out.now) (g.D.Desk.along c.args.desk.now c.args.desk.now) stops.NoMemory c.from_residual.result c.from_residual.ensures.1
+    ((refl, refl), record { calls = []; way = g.met.D.Desk.along_none c.args.desk.now; are = refl })
+
+pub returns-in_err-steps-clause-finishes : goal.returns-in_err-steps-clause-finishes
+returns-in_err-steps-clause-finishes g c =
+    refuses (comes_of c.args.command.now c.args.inputs) (desk_view g.D.Desk.held g.D.Desk.read_faults g.D.Desk.write_faults c.args.desk.now)
+    (sink_view g.O.Sink.written g.O.Sink.faults c.args.out.now) (g.D.Desk.along c.args.desk.now c.args.desk.now) stops.NoMemory c.from_residual-in_err-steps.result c.from_residual-in_err-steps.ensures.1
+    ((refl, refl), record { calls = []; way = g.met.D.Desk.along_none c.args.desk.now; are = refl })
+
+pub returns-in_err-end-clause-finishes : goal.returns-in_err-end-clause-finishes
+returns-in_err-end-clause-finishes g c =
+    refuses (comes_of c.args.command.now c.args.inputs) (desk_view g.D.Desk.held g.D.Desk.read_faults g.D.Desk.write_faults c.args.desk.now)
+    (sink_view g.O.Sink.written g.O.Sink.faults c.args.out.now) (g.D.Desk.along c.args.desk.now c.args.desk.now) stops.NoMemory c.from_residual-in_err-end.result c.from_residual-in_err-end.ensures.1
+    ((refl, refl), record { calls = []; way = g.met.D.Desk.along_none c.args.desk.now; are = refl })
