@@ -1,14 +1,16 @@
 -- The names of outputs. No other file has the name of an output.
 use Rattle.std.proofs.Common.{◌≡◌, ◌≢◌, ◌∙◌, ◌&&◌, ◌==◌, ◌<◌, ◌≤◌, ℕ, Bool, true, false, true≢false}
-use Rattle.std.proofs.Common.{List, [], ◌∷◌, length, map, count_by, slice_index_or, Option, Some, None}
+use Rattle.std.proofs.Common.{List, [], ◌∷◌, ◌++◌, cond, length, map, count_by, slice_index_or, Option, Some, None}
 use Rattle.std.proofs.Common.{Bor, refl, sym, arith}
 use Rattle.std.specs.Prelude.{if◌then◌else◌}
 use Rattle.std.specs.Str.{bytes_eq}
+use Rattle.std.proofs.lemmas.Bool.{ne_eqb}
+use Rattle.std.proofs.lemmas.List.Sums.{sum_by-append}
 use Rattle.std.proofs.lemmas.Slice.Eq.{bytes_eq-Decides}
 use Rattle.command_words.specs.Items.{Item, files_of}
 use Rattle.command_words.specs.Lines.{Line, is_cut, line_by, line_of, outputs_differ}
 use Rattle.command_words.specs.Rows.{CommandRow}
-use Rattle.command_words.specs.Tables.{sim_row}
+use Rattle.command_words.specs.Tables.{run_row, sim_row}
 use Rattle.command_words.proofs.Texts.{and_parts, same_text}
 
 -- in a line that words say, no output has the name of another file
@@ -24,31 +26,23 @@ differ_in row items line is = go (is_cut row items) (outputs_differ row.files (f
     go true false e h = cc
     go false d e h = cc
 
--- two of five pass
-two_pass : {X : Type 0} (p : X → Bool) (a b c d e : X) → p d ≡ true → p e ≡ true
-    → (count_by p (a ∷ b ∷ c ∷ d ∷ e ∷ []) == 1) ≡ false
-two_pass p a b c d e x y = go (p a) (p b) (p c) refl refl refl
-  where
-    go : (i j k : Bool) → p a ≡ i → p b ≡ j → p c ≡ k → (count_by p (a ∷ b ∷ c ∷ d ∷ e ∷ []) == 1) ≡ false
-    go true true true f g h = rw (f, g, h, x, y) refl
-    go true true false f g h = rw (f, g, h, x, y) refl
-    go true false true f g h = rw (f, g, h, x, y) refl
-    go true false false f g h = rw (f, g, h, x, y) refl
-    go false true true f g h = rw (f, g, h, x, y) refl
-    go false true false f g h = rw (f, g, h, x, y) refl
-    go false false true f g h = rw (f, g, h, x, y) refl
-    go false false false f g h = rw (f, g, h, x, y) refl
+-- the last two of some texts pass
+both_counted : {X : Type 0} (p : X → Bool) (xs : List X) (d e : X) → p d ≡ true → p e ≡ true
+    → 2 ≤ count_by p (xs ++ d ∷ e ∷ [])
+both_counted p xs d e x y =
+    let both : count_by p (d ∷ e ∷ []) ≡ 2 = rw (x, y) refl in
+    let counted = sum_by-append (λ z. cond (p z) 1 0) xs (d ∷ e ∷ []) in
+    omega (arith, counted, both)
 
--- so the two outputs of `sim` have different names
-names_differ : (image script schedule trace audit : List ℕ)
-    → outputs_differ sim_row.files (image ∷ script ∷ schedule ∷ trace ∷ audit ∷ []) ≡ true → trace ≢ audit
-names_differ i s c t a differ same =
-    let others : Bool = count_by (bytes_eq a) (i ∷ s ∷ c ∷ t ∷ a ∷ []) == 1 in
-    let once = and_parts (count_by (bytes_eq t) (i ∷ s ∷ c ∷ t ∷ a ∷ []) == 1) (others && true) differ in
-    let counted = two_pass (bytes_eq t) i s c t a (same_text t) ((bytes_eq-Decides t a).1 same) in
-    true≢false (sym once.0 ∙ counted)
+-- so an output and the one after it have different names
+apart : (names : List (List ℕ)) (one other : List ℕ) → (count_by (bytes_eq one) (names ++ one ∷ other ∷ []) == 1) ≡ true
+    → one ≢ other
+apart names one other once same =
+    let counted = both_counted (bytes_eq one) names one other (same_text one) ((bytes_eq-Decides one other).1 same) in
+    let not_once = ne_eqb (count_by (bytes_eq one) (names ++ one ∷ other ∷ [])) 1 (λ is. omega (arith, counted, is)) in
+    true≢false (sym once ∙ not_once)
 
--- by the places of a line's names
+-- the two outputs of `sim`, by the places of a line's names
 pub differ_at : (names : List (Bor (List ℕ))) (none : Bor (List ℕ)) → 5 ≤ length names → length names < 6
     → outputs_differ sim_row.files (map (λ name. name.now) names) ≡ true
     → (slice_index_or names 3 none).now ≢ (slice_index_or names 4 none).now
@@ -57,5 +51,18 @@ differ_at (i ∷ []) none least most differ = absurd (omega (arith, least))
 differ_at (i ∷ s ∷ []) none least most differ = absurd (omega (arith, least))
 differ_at (i ∷ s ∷ c ∷ []) none least most differ = absurd (omega (arith, least))
 differ_at (i ∷ s ∷ c ∷ t ∷ []) none least most differ = absurd (omega (arith, least))
-differ_at (i ∷ s ∷ c ∷ t ∷ a ∷ []) none least most differ = names_differ i.now s.now c.now t.now a.now differ
+differ_at (i ∷ s ∷ c ∷ t ∷ a ∷ []) none least most differ =
+    apart (i.now ∷ s.now ∷ c.now ∷ []) t.now a.now (and_parts _ _ differ).0
 differ_at (i ∷ s ∷ c ∷ t ∷ a ∷ b ∷ names) none least most differ = absurd (omega (arith, most))
+
+-- and those of `run`
+pub run_differ : (names : List (Bor (List ℕ))) (none : Bor (List ℕ)) → 4 ≤ length names → length names < 5
+    → outputs_differ run_row.files (map (λ name. name.now) names) ≡ true
+    → (slice_index_or names 2 none).now ≢ (slice_index_or names 3 none).now
+run_differ [] none least most differ = absurd (omega (arith, least))
+run_differ (i ∷ []) none least most differ = absurd (omega (arith, least))
+run_differ (i ∷ s ∷ []) none least most differ = absurd (omega (arith, least))
+run_differ (i ∷ s ∷ t ∷ []) none least most differ = absurd (omega (arith, least))
+run_differ (i ∷ s ∷ t ∷ a ∷ []) none least most differ =
+    apart (i.now ∷ s.now ∷ []) t.now a.now (and_parts _ _ differ).0
+run_differ (i ∷ s ∷ t ∷ a ∷ b ∷ names) none least most differ = absurd (omega (arith, most))

@@ -5,7 +5,7 @@ use Rattle.command_words.specs.declared.run_options.Bounds.{Bounds}
 use Rattle.command_words.specs.declared.run_options.Buffers.{Buffers}
 use Rattle.command_words.specs.declared.run_options.RunOptions.{RunOptions}
 use Rattle.command_words.specs.declared.run_options.Stamps.{Stamps}
-use Rattle.command_words.specs.Words.{Command, Sim, Plain, Extract, Asm, Account, Stack, Convert}
+use Rattle.command_words.specs.Words.{Command, Sim, Run, Plain, Extract, Asm, Account, Stack, Convert}
 
 -- there may be this many threads: at least one, and at most 16
 abbrev pub IsThreadCount : ℕ → Type 0
@@ -40,6 +40,7 @@ pub record AreRunOptions (options : RunOptions) : Type 0 where
 -- all that a command holds is in its range, and no two outputs have the same name
 abbrev pub HasRanges : Command → Type 0
 HasRanges (Sim image script schedule trace audit options) = AreRunOptions options × (trace ≢ audit)
+HasRanges (Run image script trace audit options) = AreRunOptions options × (trace ≢ audit)
 HasRanges (Plain image bounds) = AreBounds bounds
 HasRanges (Extract image) = Unit {0}
 HasRanges (Asm text image threshold) = threshold ≤ 4294967295

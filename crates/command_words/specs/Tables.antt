@@ -130,6 +130,14 @@ sim_row = record {
   options = run_options;
 }
 
+abbrev pub run_row : CommandRow
+run_row = record {
+  word = codes "run";
+  files = record { label = codes "image"; role = Input } ∷ record { label = codes "script"; role = Input }
+      ∷ record { label = codes "trace"; role = Output } ∷ record { label = codes "audit"; role = Output } ∷ [];
+  options = run_options;
+}
+
 -- the files of the commands that report on a trace
 abbrev pub report_files : List FileRow
 report_files =

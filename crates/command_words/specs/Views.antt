@@ -12,7 +12,7 @@ use Rattle.command_words.specs.declared.words.Command.TheVariants as command_of
 use Rattle.command_words.specs.Lines.{Line}
 use Rattle.command_words.specs.Numbers.{Values, Number, Listed}
 use Rattle.command_words.specs.Rows.{CommandRow, FileRow, OptionRow}
-use Rattle.command_words.specs.Words.{Command, Sim, Plain, Extract, Asm, Account, Stack, Convert}
+use Rattle.command_words.specs.Words.{Command, Sim, Run, Plain, Extract, Asm, Account, Stack, Convert}
 
 abbrev pub values_view : values.Values → Values
 values_view (values_of.Number least most) = Number least most
@@ -36,6 +36,7 @@ files_view files = (files.trace.now, option_map (λ image. image.now) files.imag
 abbrev pub command_view : command.Command → Command
 command_view (command_of.Sim image script schedule trace audit options) =
     Sim image.now script.now schedule.now trace.now audit.now options
+command_view (command_of.Run image script trace audit options) = Run image.now script.now trace.now audit.now options
 command_view (command_of.Plain image bounds) = Plain image.now bounds
 command_view (command_of.Extract image) = Extract image.now
 command_view (command_of.Asm text image threshold) = Asm text.now image.now threshold

@@ -7,7 +7,8 @@ use Rattle.command_words.specs.Items.{items_of}
 use Rattle.command_words.specs.Lines.{Line, line_of, number_in, value_in}
 use Rattle.command_words.specs.Numbers.{number_of}
 use Rattle.command_words.specs.Reports.{account_options_in, choice_in, report_files_in, stack_formats}
-use Rattle.command_words.specs.Tables.{account_row, asm_row, convert_row, extract_row, plain_row, sim_row, stack_row}
+use Rattle.command_words.specs.Tables.{account_row, asm_row, convert_row, extract_row, plain_row, run_row, sim_row}
+use Rattle.command_words.specs.Tables.{stack_row}
 use Rattle.command_words.specs.Tables.{convert_format_option, stack_format_option}
 use Rattle.command_words.specs.Tables.{threads_option, fuel_option, passings_option, buffer_size_option, buffer_max_option, threshold_option}
 use Rattle.command_words.specs.Tables.{tick_option, tsc_option, frequency_option, cpus_option, migrate_option, pid_option, wall_option}
@@ -20,6 +21,7 @@ use Rattle.command_words.specs.declared.run_options.Stamps.{Stamps}
 
 pub data Command : Type 0 where
   Sim : (image script schedule trace audit : List ℕ) → (options : RunOptions) → Command
+  Run : (image script trace audit : List ℕ) → (options : RunOptions) → Command
   Plain : (image : List ℕ) → (bounds : Bounds) → Command
   Extract : (image : List ℕ) → Command
   Asm : (text image : List ℕ) → (threshold : ℕ) → Command
@@ -89,6 +91,13 @@ sim_in wall line = of_parts line.files (run_options_in wall line)
         Some (Sim image script schedule trace audit options)
     of_parts _ _ = None
 
+abbrev pub run_in : Wall → Line → Option Command
+run_in wall line = of_parts line.files (run_options_in wall line)
+  where
+    of_parts : List (List ℕ) → Option RunOptions → Option Command
+    of_parts (image ∷ script ∷ trace ∷ audit ∷ []) (Some options) = Some (Run image script trace audit options)
+    of_parts _ _ = None
+
 abbrev pub plain_in : Line → Option Command
 plain_in line = of_parts line.files (bounds_in line)
   where
@@ -140,6 +149,7 @@ reading wall (word ∷ words) =
     if bytes_eq word plain_row.word then option_and_then plain_in (line_of plain_row items)
     else if bytes_eq word extract_row.word then option_and_then extract_in (line_of extract_row items)
     else if bytes_eq word sim_row.word then option_and_then (sim_in wall) (line_of sim_row items)
+    else if bytes_eq word run_row.word then option_and_then (run_in wall) (line_of run_row items)
     else if bytes_eq word asm_row.word then option_and_then asm_in (line_of asm_row items)
     else if bytes_eq word account_row.word then option_and_then account_in (line_of account_row items)
     else if bytes_eq word stack_row.word then option_and_then stack_in (line_of stack_row items)
@@ -151,6 +161,7 @@ reading wall (word ∷ words) =
 -- the names of a command's outputs
 abbrev pub outputs_of : Command → List (List ℕ)
 outputs_of (Sim image script schedule trace audit options) = trace ∷ audit ∷ []
+outputs_of (Run image script trace audit options) = trace ∷ audit ∷ []
 outputs_of (Plain image bounds) = []
 outputs_of (Extract image) = []
 outputs_of (Asm text image threshold) = image ∷ []

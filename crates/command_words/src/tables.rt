@@ -291,3 +291,24 @@ pub(crate) const SIM: CommandRow = CommandRow {
         WALL,
     ],
 };
+
+/// `run IMAGE SCRIPT TRACE AUDIT`: runs threads over an image while a script patches it, and writes the trace
+/// and the audit of the run.
+pub(crate) const RUN: CommandRow = CommandRow {
+    word: "run",
+    files: &[IMAGE, SCRIPT, MADE_TRACE, AUDIT],
+    options: &[
+        THREADS,
+        FUEL,
+        PASSINGS,
+        BUFFER_SIZE,
+        BUFFER_MAX,
+        TICK,
+        TSC,
+        FREQUENCY,
+        CPUS,
+        MIGRATE,
+        PID,
+        WALL,
+    ],
+};

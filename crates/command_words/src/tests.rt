@@ -91,6 +91,10 @@ sim|i|s|c|t|a|--cpus=0 => none
 sim|i|s|c|t|a|--migrate=1048577 => none
 sim|i|s|c|t|a|--pid=2147483648 => none
 sim|i|s|c|t|a|--wall=18446744073709551616 => none
+run|i|s|t|a|--wall=7|--threads|2 => run [i] [s] [t] [a] 2 10000000 1048576 16384 100 1 0 0 1 1048576 1 7.0
+run|i|s|c|t|a => none
+run|i|s|t|t => none
+run|i|s|s|a => none
 account|t => account [t] None FuncId Ascending None Text
 account|t|t|--sort|funcid => account [t] Some(\"t\") FuncId Ascending None Text
 account|--sort=sum|t|i|--sortorder=desc|--top=0|--format|csv => account [t] Some(\"i\") Sum Descending Some(0) Csv
@@ -167,6 +171,19 @@ fn shown(alloc: Global, words: &[String]) -> Result<String, AllocError> {
             format!(in alloc; "convert [{trace}] {image:?}")
         }
         Some(
+            Command::Run {
+                image,
+                script,
+                trace,
+                audit,
+                options,
+            },
+        ) => {
+            let options = shown_options(alloc, options)?;
+            let options = options.as_str();
+            format!(in alloc; "run [{image}] [{script}] [{trace}] [{audit}] {options}")
+        }
+        Some(
             Command::Sim {
                 image,
                 script,
@@ -216,7 +233,7 @@ fn command_lines_say_what_stands_here(rt: HostRuntime) -> Result<(), Fail> {
             rows = rows.wrapping_add(1);
         }
     }
-    assert_eq!(rt; rows, 93);
+    assert_eq!(rt; rows, 97);
     Ok(())
 }
 

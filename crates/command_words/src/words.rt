@@ -4,10 +4,10 @@ ghost use Rattle.command_words.specs.Items.{items_of, texts};
 ghost use Rattle.command_words.specs.Lines.{line_of, outputs_differ};
 ghost use Rattle.command_words.specs.Ranges.{HasRanges};
 ghost use Rattle.command_words.specs.Tables.{account_row, asm_row, convert_row, extract_row, plain_row};
-ghost use Rattle.command_words.specs.Tables.{sim_row, stack_row};
+ghost use Rattle.command_words.specs.Tables.{run_row, sim_row, stack_row};
 ghost use Rattle.command_words.specs.Views.{command_view, line_view};
 ghost use Rattle.command_words.specs.Words.{account_in, asm_in, convert_in, extract_in, plain_in};
-ghost use Rattle.command_words.specs.Words.{reading, sim_in, stack_in};
+ghost use Rattle.command_words.specs.Words.{reading, run_in, sim_in, stack_in};
 
 use crate::cutting::cut_line;
 use crate::line::Line;
@@ -15,7 +15,9 @@ use crate::report_options::{
     AccountOptions, ReportFiles, StackFormat, account_options_in, report_files_in, stack_format_in,
 };
 use crate::run_options::{Bounds, RunOptions, bounds_in, run_options_in};
-use crate::tables::{ACCOUNT, ASM, CONVERT, CONVERT_FORMAT, EXTRACT, PLAIN, SIM, STACK, THRESHOLD};
+use crate::tables::{
+    ACCOUNT, ASM, CONVERT, CONVERT_FORMAT, EXTRACT, PLAIN, RUN, SIM, STACK, THRESHOLD,
+};
 use std::alloc::{AllocError, Global};
 use xray_io::Wall;
 
@@ -35,6 +37,19 @@ pub enum Command<'a> {
         /// The audit of the run, an output with another name.
         audit: &'a str,
         /// What the replay is made with.
+        options: RunOptions,
+    },
+    /// Runs threads over an image while a script patches it.
+    Run {
+        /// The image file.
+        image: &'a str,
+        /// The script of the patcher.
+        script: &'a str,
+        /// The trace of the events, which is an output.
+        trace: &'a str,
+        /// The audit of the run, which is an output of another name.
+        audit: &'a str,
+        /// What the run is made with.
         options: RunOptions,
     },
     /// Runs an image on each thread, with its sleds only counted.
@@ -108,6 +123,8 @@ pub fn read_words<'a>(
         read_extract(alloc, rest)
     } else if word == SIM.word {
         read_sim(alloc, wall, rest)
+    } else if word == RUN.word {
+        read_run(alloc, wall, rest)
     } else if word == ASM.word {
         read_asm(alloc, rest)
     } else if word == ACCOUNT.word {
@@ -157,6 +174,22 @@ fn read_sim<'a>(
 {
     match cut_line(alloc, &SIM, words)? {
         Some(line) => Ok(sim_in(wall, &line)),
+        None => Ok(None),
+    }
+}
+
+/// `run IMAGE SCRIPT TRACE AUDIT`.
+fn read_run<'a>(
+    alloc: Global,
+    wall: Wall,
+    words: &'a [String],
+) -> Result<Option<Command<'a>>, AllocError>
+    ensures reads { IfOk result (λ said. option_map command_view said
+        ≡ option_and_then (run_in wall) (line_of run_row (items_of (texts words.entry.now)))) }
+    ensures ranges { IfOk result (λ said. IfSome (option_map command_view said) HasRanges) }
+{
+    match cut_line(alloc, &RUN, words)? {
+        Some(line) => Ok(run_in(wall, &line)),
         None => Ok(None),
     }
 }
@@ -223,6 +256,25 @@ fn sim_in<'a>(wall: Wall, line: &Line<'a>) -> Option<Command<'a>>
         image,
         script,
         schedule,
+        trace,
+        audit,
+        options,
+    })
+}
+
+/// The run that a line of `run` says.
+fn run_in<'a>(wall: Wall, line: &Line<'a>) -> Option<Command<'a>>
+    requires { outputs_differ run_row.files (line_view line.now).files ≡ true }
+    ensures reads { option_map command_view result ≡ run_in wall (line_view line.now) }
+    ensures ranges { IfSome (option_map command_view result) HasRanges }
+{
+    let [image, script, trace, audit] = line.files.as_slice() else {
+        return None;
+    };
+    let options = run_options_in(wall, line)?;
+    Some(Command::Run {
+        image,
+        script,
         trace,
         audit,
         options,

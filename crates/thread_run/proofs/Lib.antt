@@ -7,3 +7,4 @@ pub mod Each
 pub mod Queues
 pub mod LastBuffers
 pub mod Notes
+pub mod RunLemmas

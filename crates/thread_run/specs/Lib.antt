@@ -3,3 +3,5 @@ pub mod Following
 pub mod Workers
 pub mod Buffers
 pub mod Rings
+pub mod Runs
+pub mod Rooms

@@ -19,6 +19,10 @@ thread_in ring = ring.thread
 abbrev pub stamp_in : RingRecorder → Stamp
 stamp_in ring = record { size = ring.hand.size; wall = ring.wall; pid = ring.pid }
 
+-- into how many segments its events were cut
+abbrev pub segments_begun : RingRecorder → ℕ
+segments_begun ring = ring.segments
+
 -- the segments of events in its buffers' size
 abbrev pub segments_in : RingRecorder → List Event → List (List Event)
 segments_in ring events = segments ring.hand.size events

@@ -9,12 +9,14 @@ mod recorder;
 mod ring;
 mod running;
 mod thread;
+mod whole;
 mod work;
 mod worker;
 
 pub use recorder::RingRecorder;
 pub use running::run_threads;
 pub use thread::new_cpu;
+pub use whole::{RunEnd, run};
 pub use worker::{Turn, Worker};
 
 #[cfg(test)]

@@ -31,7 +31,7 @@ pub struct RingRecorder {
 
 impl RingRecorder {
     ghost use Rattle.traced_run.specs.Kept.{buffers_behind, stamp_of};
-    ghost use Rattle.thread_run.specs.Rings.{buffers_in, segments_in, stamp_in, thread_in, CutsAnew, StandsFor, StandsForMore};
+    ghost use Rattle.thread_run.specs.Rings.{buffers_in, segments_begun, segments_in, stamp_in, thread_in, CutsAnew, StandsFor, StandsForMore};
 
     /// The ring of a thread, with an equal share of all buffers, rounded down. None of them is
     /// begun. `NoMemory` means that an allocation was refused.
@@ -80,7 +80,8 @@ impl RingRecorder {
 
     /// How many segments the events were cut into.
     pub fn segments(&self) -> u32
-        ensures { (events : List Event) → StandsFor self.now events
+        ensures begun { result ≡ segments_begun self.now }
+        ensures count { (events : List Event) → StandsFor self.now events
             → result ≡ length (segments_in self.now events) }
     {
         self.segments
@@ -88,7 +89,8 @@ impl RingRecorder {
 
     /// How many of the segments are lost. The ring has room for as many segments as it has buffers.
     pub fn lost(&self) -> u32
-        ensures { (events : List Event) → StandsFor self.now events
+        ensures begun { result ≡ segments_begun self.now - length (buffers_in self.now) }
+        ensures count { (events : List Event) → StandsFor self.now events
             → result ≡ length (segments_in self.now events) - length (buffers_in self.now) }
     {
         let sealed = self.sealed.len();
@@ -100,6 +102,7 @@ impl RingRecorder {
     /// have room for them.
     pub fn collect(self, kept: &mut Vec<Buffer>)
         requires room { vec_len kept.old + length (buffers_in self) ≤ vec_capacity kept.old }
+        ensures begun { kept.new.items ≡ kept.old.items ++ filter is_begun (buffers_in self) }
         ensures kept { (events : List Event) → StandsFor self events
             → kept.new.items ≡ kept.old.items ++ buffers_behind (stamp_in self)
             (length (segments_in self events) - length (buffers_in self)) (thread_in self) (segments_in self events) }

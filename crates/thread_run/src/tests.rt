@@ -1,25 +1,19 @@
 //! Threads that run while a script patches their sleds.
 
-ghost use Rattle.std.specs.Prelude.{◌≡◌, ◌≤◌, ◌+◌, IfOk};
-ghost use Rattle.sled_rule.specs.Plans.{start_in};
-ghost use Rattle.sled_rule.specs.Seats.{patch_view, script_of, IsPatcherOf};
-ghost use Rattle.thread_run.specs.Rings.{StandsFor};
-ghost use Rattle.thread_run.specs.Workers.{IsGoing};
+ghost use Rattle.std.specs.Prelude.{◌≡◌, ◌≤◌};
 
-use crate::{RingRecorder, Worker, new_cpu, run_threads};
+use crate::{RunEnd, run};
 use handler_word::write_runs;
 use machine_step::{Limits, Setup, Steps};
 use patch_script::read_script;
-use sled_patch::run_prefix;
-use sled_rule::{CodeTable, PatchSeat};
-use std::alloc::Global;
+use sled_rule::CodeTable;
 use std::process::Abort;
 use std::sync::Wait;
 use std::sync::atomic::{AtomicU64, Ordering};
 use std::test::Fail;
 use std::thread::{Threads, yield_now};
 use text_lines::count_lines;
-use xray_image::{Image, read_image};
+use xray_image::read_image;
 use xray_io::{Gate, MemSink, OpenGate, Wall, write_all};
 
 /// A function `main` that prints an A: an entry sled, `mov eax, 0x41`, `out 1, al`, an exit sled.
@@ -56,6 +50,51 @@ const CALLS: [u8; 266] = [
     0, 0, 0, 0, 0, 0, 0, 0, 0, 0,
 ];
 
+/// `main` calls `fib` with 20, which calls itself with 19 and 18. There is a sled at its entry, and
+/// one at each of its three exits.
+const FIBONACCI: [u8; 326] = [
+    // base 0x1000, 109 bytes of code, 2 functions, 4 map entries
+    0x58, 0x52, 0x49, 0x4D, 1, 0, 0, 0, 0, 0x10, 0, 0, 0, 0, 0, 0, 0x6D, 0, 0, 0, 2, 0, 0, 0, 4, 0,
+    0, 0, 0, 0, 0, 0, 0, 0x10, 0x20, 0, 0, 0, 0, 0, 0x10, 0x10, 0x20, 0, 0, 0, 0, 0, 0x20, 0x10,
+    0x20, 0, 0, 0, 0, 0, 0x30, 0x10, 0x20, 0, 0, 0, 0, 0,
+    // main: mov edi, 20; call fib; ret; an alignment byte
+    0xBF, 0x14, 0, 0, 0, 0xE8, 2, 0, 0, 0, 0xC3, 0x90,
+    // fib: an entry sled
+    0xEB, 9, 0x66, 0x0F, 0x1F, 0x84, 0, 0, 2, 0, 0,
+    // mov ecx, 0; add rdi, rcx; jnz positive
+    0xB9, 0, 0, 0, 0, 0x48, 1, 0xCF, 0x0F, 0x85, 0x0C, 0, 0, 0,
+    // an alignment byte; an exit sled
+    0x90, 0xC3, 0x2E, 0x66, 0x0F, 0x1F, 0x84, 0, 0, 2, 0, 0,
+    // positive: mov ecx, 1; sub rdi, rcx; jnz large
+    0xB9, 1, 0, 0, 0, 0x48, 0x29, 0xCF, 0x0F, 0x85, 0x0E, 0, 0, 0,
+    // add rax, rcx
+    0x48, 1, 0xC8,
+    // an exit sled
+    0xC3, 0x2E, 0x66, 0x0F, 0x1F, 0x84, 0, 0, 2, 0, 0,
+    // large: push rdi; call fib
+    0x57, 0xE8, 0xB9, 0xFF, 0xFF, 0xFF,
+    // pop rdi; mov ecx, 1; sub rdi, rcx; call fib
+    0x5F, 0xB9, 1, 0, 0, 0, 0x48, 0x29, 0xCF, 0xE8, 0xAB, 0xFF, 0xFF, 0xFF,
+    // an alignment byte; an exit sled
+    0x90, 0xC3, 0x2E, 0x66, 0x0F, 0x1F, 0x84, 0, 0, 2, 0, 0,
+    // main at 0x1000
+    0, 0x10, 0, 0, 0, 0, 0, 0, 4, 0x6D, 0x61, 0x69, 0x6E,
+    // fib at 0x100C
+    0x0C, 0x10, 0, 0, 0, 0, 0, 0, 3, 0x66, 0x69, 0x62,
+    // the map: an entry sled
+    0x0C, 0x10, 0, 0, 0, 0, 0, 0, 0x0C, 0x10, 0, 0, 0, 0, 0, 0, 0, 1, 0, 0, 0, 0, 0, 0, 0, 0, 0, 0,
+    0, 0, 0, 0,
+    // an exit sled
+    0x26, 0x10, 0, 0, 0, 0, 0, 0, 0x0C, 0x10, 0, 0, 0, 0, 0, 0, 1, 1, 0, 0, 0, 0, 0, 0, 0, 0, 0, 0,
+    0, 0, 0, 0,
+    // an exit sled
+    0x42, 0x10, 0, 0, 0, 0, 0, 0, 0x0C, 0x10, 0, 0, 0, 0, 0, 0, 1, 1, 0, 0, 0, 0, 0, 0, 0, 0, 0, 0,
+    0, 0, 0, 0,
+    // an exit sled
+    0x62, 0x10, 0, 0, 0, 0, 0, 0, 0x0C, 0x10, 0, 0, 0, 0, 0, 0, 1, 1, 0, 0, 0, 0, 0, 0, 0, 0, 0, 0,
+    0, 0, 0, 0,
+];
+
 /// The limits of the threads.
 const LIMITS: Limits = Limits {
     fuel: 10_000_000,
@@ -66,17 +105,17 @@ const LIMITS: Limits = Limits {
     migrate: 1_048_576,
 };
 
-/// A setup with `threads` threads and the default buffers.
-fn setup_of(threads: u32) -> Setup
+/// A setup for this many threads and buffers, of the default size.
+fn setup_of(threads: u32, max: u32) -> Setup
     ensures threads { result.threads ≡ threads }
     ensures size { (72 ≤ result.size) × (result.size ≤ 1048576) }
-    ensures max { result.max ≡ 64 }
+    ensures max { result.max ≡ max }
     ensures stamps { (1 ≤ result.limits.cpus) × (1 ≤ result.limits.migrate) }
 {
     Setup {
         threads,
         size: 16_384,
-        max: 64,
+        max,
         limits: LIMITS,
         pid: 1,
         wall: Wall { secs: 0, micros: 0 },
@@ -84,151 +123,79 @@ fn setup_of(threads: u32) -> Setup
     }
 }
 
-/// What the threads of a run leave: their marks as printed, in the order of the threads, and the
-/// bytes of the buffers that they keep.
+/// What a run leaves, as the tests look at it.
 #[derive(Drop)]
 struct Outcome {
+    /// The marks as printed, in the order of the threads.
     marks: MemSink,
+    /// The bytes of the buffers that are kept.
     bytes: MemSink,
+    /// How many buffers these are.
+    blocks: usize,
+    /// How many segments are lost.
+    lost: u32,
 }
 
-/// A table before the start of its threads.
-fn begin<R: Abort + AllocGlobal>(
-    rt: &R,
-    image: &Image,
+/// Runs the threads of an image beside a script.
+fn run_file<T: Threads + Wait + Sync + Abort + AllocGlobal, G: Gate + Sync>(
+    rt: &T,
+    file: &[u8],
     text: &[u8],
-    threads: u32,
-) -> Result<(CodeTable, PatchSeat), Fail>
-    requires { threads ≤ 16 }
-    ensures own { IfOk result (λ t. IsPatcherOf t.0 t.1) }
-    ensures image { IfOk result (λ t. (script_of t.0).program ≡ image.now) }
-    ensures threads { IfOk result (λ t. (script_of t.0).threads ≡ threads) }
-    ensures starts { IfOk result (λ t. (patch_view t.1).place ≡ start_in (script_of t.0)) }
-    ensures none { IfOk result (λ t. (patch_view t.1).given ≡ 0) }
-{
-    assert!(rt; count_lines(text) < 100);
-    assert!(rt; threads > 0);
-    let script = read_script(rt.alloc(), text, image, threads)?;
-    let (table, mut seat) = CodeTable::new(rt.alloc(), image, script, threads)?;
-    run_prefix(&table, &mut seat);
-    Ok((table, seat))
-}
-
-/// A worker of the next thread.
-fn next_worker<'s, 't>(
-    alloc: Global,
-    steps: &'s Steps<'s>,
-    table: &'t CodeTable,
-    seat: &mut PatchSeat,
     setup: &Setup,
-    number: u32,
-) -> Result<Worker<'s, 't, RingRecorder>, Fail>
-    requires own { IsPatcherOf table.now seat.old }
-    requires starts { (patch_view seat.old).place ≡ start_in (script_of table.now) }
-    requires program { (script_of table.now).program ≡ steps.now }
-    requires threads { (script_of table.now).threads ≡ setup.now.threads }
-    requires few { setup.now.threads ≤ 16 }
-    requires next { number ≡ (patch_view seat.old).given + 1 }
-    requires last { number ≤ setup.now.threads }
-    requires size { (72 ≤ setup.now.size) × (setup.now.size ≤ 1048576) }
-    requires max { setup.now.threads ≤ setup.now.max }
+    gate: &G,
+) -> Result<Outcome, Fail>
     requires stamps { (1 ≤ setup.now.limits.cpus) × (1 ≤ setup.now.limits.migrate) }
-    ensures own { IsPatcherOf table.now seat.new }
-    ensures going { IfOk result (IsGoing StandsFor) }
-    ensures place { IfOk result (λ _. (patch_view seat.new).place ≡ (patch_view seat.old).place) }
-    ensures given { IfOk result (λ _. (patch_view seat.new).given ≡ number) }
+    requires size { (72 ≤ setup.now.size) × (setup.now.size ≤ 1048576) }
 {
-    let cpu = new_cpu(
-        alloc,
-        steps,
-        table.script(),
-        setup.threads,
-        number,
-        setup.limits,
-    )?;
-    let recorder = RingRecorder::new(alloc, setup, number)?;
-    Ok(Worker::start(cpu, table, seat, recorder))
-}
-
-/// Runs two threads of an image beside a script.
-fn run_two<T: Threads + Wait + Sync + Abort + AllocGlobal, G: Gate + Sync>(
-    rt: &T,
-    file: &[u8],
-    text: &[u8],
-    gate: &G,
-) -> Result<Outcome, Fail> {
     let image = read_image(rt.alloc(), file)?;
     let steps = Steps::new(rt.alloc(), &image)?;
-    run_two_of(rt, &steps, text, gate)
+    let end = run_steps(rt, &steps, text, setup, gate)?;
+    outcome_of(rt, &end)
 }
 
-/// Runs two threads of an image's steps beside a script.
-fn run_two_of<'s, T: Threads + Wait + Sync + Abort + AllocGlobal, G: Gate + Sync>(
+/// Runs the threads of an image's steps beside a script.
+fn run_steps<'s, T: Threads + Wait + Sync + Abort + AllocGlobal, G: Gate + Sync>(
     rt: &T,
     steps: &'s Steps<'s>,
     text: &[u8],
+    setup: &Setup,
     gate: &G,
-) -> Result<Outcome, Fail> {
+) -> Result<RunEnd<'s>, Fail>
+    requires stamps { (1 ≤ setup.now.limits.cpus) × (1 ≤ setup.now.limits.migrate) }
+    requires size { (72 ≤ setup.now.size) × (setup.now.size ≤ 1048576) }
+{
     let alloc = rt.alloc();
-    let setup = setup_of(2);
-    let (table, mut seat) = begin(rt, steps.image(), text, 2)?;
-    let first = next_worker(alloc, steps, &table, &mut seat, &setup, 1)?;
-    let second = next_worker(alloc, steps, &table, &mut seat, &setup, 2)?;
-    let mut workers = Vec::with_capacity(alloc, 2)?;
-    workers.push(first)?;
-    workers.push(second)?;
-    run_threads(rt, &table, &mut seat, &mut workers, gate);
-    left_by(rt, workers)
+    assert!(rt; count_lines(text) < 100);
+    assert!(rt; setup.threads >= 1 && setup.threads <= 16);
+    assert!(rt; setup.threads <= setup.max);
+    let script = read_script(alloc, text, steps.image(), setup.threads)?;
+    let (table, mut seat) = CodeTable::new(alloc, steps.image(), script, setup.threads)?;
+    let end = run(rt, alloc, steps, &table, &mut seat, setup, gate)?;
+    Ok(end)
 }
 
-/// Runs one thread of an image beside a script.
-fn run_one<T: Threads + Wait + Sync + Abort + AllocGlobal, G: Gate + Sync>(
-    rt: &T,
-    file: &[u8],
-    text: &[u8],
-    gate: &G,
-) -> Result<Outcome, Fail> {
-    let image = read_image(rt.alloc(), file)?;
-    let steps = Steps::new(rt.alloc(), &image)?;
-    run_one_of(rt, &steps, text, gate)
-}
-
-/// Runs one thread of an image's steps beside a script.
-fn run_one_of<'s, T: Threads + Wait + Sync + Abort + AllocGlobal, G: Gate + Sync>(
-    rt: &T,
-    steps: &'s Steps<'s>,
-    text: &[u8],
-    gate: &G,
-) -> Result<Outcome, Fail> {
-    let alloc = rt.alloc();
-    let setup = setup_of(1);
-    let (table, mut seat) = begin(rt, steps.image(), text, 1)?;
-    let first = next_worker(alloc, steps, &table, &mut seat, &setup, 1)?;
-    let mut workers = Vec::with_capacity(alloc, 1)?;
-    workers.push(first)?;
-    run_threads(rt, &table, &mut seat, &mut workers, gate);
-    left_by(rt, workers)
-}
-
-/// What the workers leave.
-fn left_by<R: Abort + AllocGlobal>(
-    rt: &R,
-    workers: Vec<Worker<'_, '_, RingRecorder>>,
-) -> Result<Outcome, Fail> {
+/// What the tests look at.
+fn outcome_of<R: Abort + AllocGlobal>(rt: &R, end: &RunEnd) -> Result<Outcome, Fail> {
     let alloc = rt.alloc();
     let mut marks = MemSink::new(alloc, Vec::new(alloc));
     let mut bytes = MemSink::new(alloc, Vec::new(alloc));
-    for worker in workers {
-        let (cpu, _seat, recorder) = worker.parts();
+    for cpu in &end.cpus {
         write_runs(cpu.marks(), &mut marks)?;
-        let mut kept = Vec::with_capacity(alloc, 64)?;
-        assert!(rt; recorder.buffers() <= 64);
-        recorder.collect(&mut kept);
-        for buffer in &kept {
-            write_all(&mut bytes, buffer.bytes())?;
-        }
     }
-    Ok(Outcome { marks, bytes })
+    for buffer in &end.buffers {
+        write_all(&mut bytes, buffer.bytes())?;
+    }
+    let mut lost = 0u32;
+    for first in &end.first {
+        assert!(rt; *first < 1000 && lost < 100_000);
+        lost += *first;
+    }
+    Ok(Outcome {
+        marks,
+        bytes,
+        blocks: end.buffers.len(),
+        lost,
+    })
 }
 
 /// How often a gate looks for what it waits for before it gives up.
@@ -327,7 +294,7 @@ impl Gate for Relay {
 #[test]
 fn a_held_thread_passes_its_sleds_once_they_are_patched(rt: HostRuntime) -> Result<(), Fail> {
     let script = b"set_handler\ninit\nhold 1 2\ngo\nawait 1 2\npatch\nrelease 1\n";
-    let left = run_one(&rt, &CALLS, script, &OpenGate)?;
+    let left = run_file(&rt, &CALLS, script, &setup_of(1, 64), &OpenGate)?;
     assert_eq!(rt; left.marks.bytes(), b".2 +2".as_slice());
     let records = [
         5, 0, 0, 1, 0, 0, 0, 0, 0, 0, 0, 0, 0, 0, 0, 0, 0x22, 0, 0, 0, 0, 0, 0, 0, 0x12, 0, 0, 0,
@@ -335,6 +302,24 @@ fn a_held_thread_passes_its_sleds_once_they_are_patched(rt: HostRuntime) -> Resu
     ];
     assert!(rt; left.bytes.bytes().len() == 80);
     assert_eq!(rt; &left.bytes.bytes()[48..], records.as_slice());
+    Ok(())
+}
+
+/// The bytes of a trace file with these buffers: each has 16 more, and the header 32.
+fn trace_len(rt: &impl Abort, left: &Outcome) -> usize {
+    assert!(rt; left.blocks < 1000 && left.bytes.bytes().len() < 100_000_000);
+    left.bytes.bytes().len() + 16 * left.blocks + 32
+}
+
+#[test]
+fn four_threads_keep_all_segments_or_the_last_ones(rt: HostRuntime) -> Result<(), Fail> {
+    let script = b"patch\nset_handler\ninit\ngo\n";
+    for (max, lost, len) in [(128, 0, 1_408_096), (64, 24, 1_014_496)] {
+        let left = run_file(&rt, &FIBONACCI, script, &setup_of(4, max), &OpenGate)?;
+        assert_eq!(rt; left.marks.bytes(), b"+43782+43782+43782+43782".as_slice());
+        assert_eq!(rt; left.lost, lost);
+        assert_eq!(rt; trace_len(&rt, &left), len);
+    }
     Ok(())
 }
 
@@ -346,7 +331,7 @@ fn two_threads_run_beside_each_other(rt: HostRuntime) -> Result<(), Fail> {
         late: Sign::new(),
     };
     let script = b"patch\nset_handler\ninit\ngo\n";
-    let left = run_two(&rt, &OUTPUTS_AN_A, script, &meeting)?;
+    let left = run_file(&rt, &OUTPUTS_AN_A, script, &setup_of(2, 64), &meeting)?;
     assert!(rt; !meeting.late.is_given());
     assert_eq!(rt; left.marks.bytes(), b"+2+2".as_slice());
     Ok(())
@@ -360,7 +345,8 @@ fn a_thread_runs_beside_the_patcher(rt: HostRuntime) -> Result<(), Fail> {
         at_passing_3: Sign::new(),
         late: Sign::new(),
     };
-    let left = run_one(&rt, &CALLS, b"set_handler\ninit\ngo\npatch\n", &relay)?;
+    let script = b"set_handler\ninit\ngo\npatch\n";
+    let left = run_file(&rt, &CALLS, script, &setup_of(1, 64), &relay)?;
     assert!(rt; !relay.late.is_given());
     assert_eq!(rt; left.marks.bytes(), b".1 +1 .1 +1".as_slice());
     let records = [

@@ -13,6 +13,8 @@ mod first_run;
 #[cfg(test)]
 mod plain;
 #[cfg(test)]
+mod run;
+#[cfg(test)]
 mod runs;
 #[cfg(test)]
 mod sim;

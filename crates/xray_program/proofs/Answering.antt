@@ -14,7 +14,7 @@ use Rattle.xray_program.specs.Works.{Ends, KeepsOthers, SaidFits, StandsBehind}
 use Rattle.xray_program.specs.declared.stop.Stop.{Stop}
 use Rattle.xray_program.specs.declared.stop.Stop.TheVariants as stops
 use Rattle.xray_io.specs.World.{World}
-use Rattle.xray_program.proofs.Headline.{CallLaws, simulated}
+use Rattle.xray_program.proofs.Headline.{CallLaws, beside, simulated}
 use Rattle.xray_program.proofs.Saying.{says_nothing}
 
 -- a number is none of these others
@@ -155,7 +155,10 @@ by_ending laws Way said before after (With (Done outputs text)) fits (meant, wri
   untouched = λ e. not_five 0 (λ x. cc) (λ x. cc) (λ x. cc) (λ x. cc) (λ x. cc) e;
   names = kept;
   complete = inl (Done outputs text, meant, refl);
-  headline = λ e. simulated laws said before after (fits refl) outputs text meant writes.whole writes.printed;
+  headline = λ e. (
+    simulated laws said before after (fits refl) outputs text meant writes.whole writes.printed,
+    beside laws said before after (fits refl) outputs text meant writes.whole writes.printed,
+  );
 }
 by_ending laws Way said before after (With (Fell outputs text trouble)) fits (meant, writes) kept order told = record {
   ending = With (Fell outputs text trouble);

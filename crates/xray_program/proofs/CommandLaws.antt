@@ -2,11 +2,11 @@
 -- command has a line.
 use Rattle.std.proofs.Common.{◌≡◌, ◌∙◌, ℕ, List, Option, Some, None, true, refl, sym}
 use Rattle.xray_io.specs.Desk.{Entry}
-use Rattle.xray_program.specs.Commands.{Comes, IsDecided, Means, TellsAll, is_decided}
+use Rattle.xray_program.specs.Commands.{Comes, IsDecided, IsStill, Means, TellsAll, is_decided, is_still}
 use Rattle.xray_program.specs.Outcomes.{Outcome, BadLine, written_by}
 use Rattle.xray_program.specs.Setups.{setup_of}
 use Rattle.xray_program.specs.Taking.{Sound}
-use Rattle.command_words.specs.Words.{Command, Sim, Plain, Extract, Asm, Account, Stack, Convert}
+use Rattle.command_words.specs.Words.{Command, Sim, Run, Plain, Extract, Asm, Account, Stack, Convert}
 use Rattle.xray_program.proofs.AccountLaws.{account_alone, account_some}
 use Rattle.xray_program.proofs.AsmLaws.{asm_alone, asm_some}
 use Rattle.xray_program.proofs.ConvertLaws.{convert_alone, convert_some}
@@ -14,6 +14,7 @@ use Rattle.xray_program.proofs.ExtractLaws.{extract_alone, extract_some}
 use Rattle.xray_program.proofs.Images.{Accepts, OneVerdict, SomeVerdict, image_decided, image_judged}
 use Rattle.xray_program.proofs.Meanings.{AnyOutcome, HoldsBytes, IsAlone, IsRefusal, SomeOutcome, refusal_alone}
 use Rattle.xray_program.proofs.PlainLaws.{OneEnd, SomeEnd, plain_alone, plain_some}
+use Rattle.xray_program.proofs.RunLaws.{run_refuses}
 use Rattle.xray_program.proofs.SimLaws.{OneRun, StillRun, sim_alone, sim_some}
 use Rattle.xray_program.proofs.StackLaws.{stack_alone, stack_some}
 
@@ -36,6 +37,7 @@ pub record Existence : Type 0 where
 command_alone : Laws → (held : List ℕ → Entry) → TellsAll held → (command : Command) → is_decided command ≡ true
     → IsAlone AnyOutcome (Comes Sound held command)
 command_alone laws held told (Sim i s c t a options) decided = sim_alone (image_decided laws.verdict laws.accepts) laws.run held i s c t a (setup_of options) told
+command_alone laws held told (Run i s t a options) decided = absurd cc
 command_alone laws held told (Plain i bounds) decided = plain_alone (image_decided laws.verdict laws.accepts) laws.end held i bounds told
 command_alone laws held told (Extract i) decided = extract_alone (image_decided laws.verdict laws.accepts) held i told
 command_alone laws held told (Asm t i threshold) decided = asm_alone held t i threshold told
@@ -46,6 +48,7 @@ command_alone laws held told (Convert t i) decided = convert_alone (image_decide
 -- if a refusal comes of a command, nothing else does
 command_refuses : Laws → (held : List ℕ → Entry) → TellsAll held → (command : Command) → IsAlone IsRefusal (Comes Sound held command)
 command_refuses laws held told (Sim i s c t a options) = refusal_alone _ (command_alone laws held told (Sim i s c t a options) refl)
+command_refuses laws held told (Run i s t a options) = run_refuses (image_decided laws.verdict laws.accepts) held i s t a (setup_of options) told
 command_refuses laws held told (Plain i bounds) = refusal_alone _ (command_alone laws held told (Plain i bounds) refl)
 command_refuses laws held told (Extract i) = refusal_alone _ (command_alone laws held told (Extract i) refl)
 command_refuses laws held told (Asm t i threshold) = refusal_alone _ (command_alone laws held told (Asm t i threshold) refl)
@@ -53,15 +56,16 @@ command_refuses laws held told (Account t i options) = refusal_alone _ (command_
 command_refuses laws held told (Stack t i format) = refusal_alone _ (command_alone laws held told (Stack t i format) refl)
 command_refuses laws held told (Convert t i) = refusal_alone _ (command_alone laws held told (Convert t i) refl)
 
--- each command comes to something
-command_some : Existence → (held : List ℕ → Entry) → TellsAll held → HoldsBytes held → (command : Command) → SomeOutcome (Comes Sound held command)
-command_some laws held told holds (Sim i s c t a options) = sim_some (image_judged laws.verdict laws.accepts) laws.run held i s c t a (setup_of options) told holds
-command_some laws held told holds (Plain i bounds) = plain_some (image_judged laws.verdict laws.accepts) laws.end held i bounds told holds
-command_some laws held told holds (Extract i) = extract_some (image_judged laws.verdict laws.accepts) held i told holds
-command_some laws held told holds (Asm t i threshold) = asm_some held t i threshold told holds
-command_some laws held told holds (Account t i options) = account_some (image_judged laws.verdict laws.accepts) held t i options told holds
-command_some laws held told holds (Stack t i format) = stack_some (image_judged laws.verdict laws.accepts) held t i format told holds
-command_some laws held told holds (Convert t i) = convert_some (image_judged laws.verdict laws.accepts) held t i told holds
+-- each command that waits for nobody comes to something
+command_some : Existence → (held : List ℕ → Entry) → TellsAll held → HoldsBytes held → (command : Command) → is_still command ≡ true → SomeOutcome (Comes Sound held command)
+command_some laws held told holds (Sim i s c t a options) still = sim_some (image_judged laws.verdict laws.accepts) laws.run held i s c t a (setup_of options) told holds
+command_some laws held told holds (Run i s t a options) still = absurd cc
+command_some laws held told holds (Plain i bounds) still = plain_some (image_judged laws.verdict laws.accepts) laws.end held i bounds told holds
+command_some laws held told holds (Extract i) still = extract_some (image_judged laws.verdict laws.accepts) held i told holds
+command_some laws held told holds (Asm t i threshold) still = asm_some held t i threshold told holds
+command_some laws held told holds (Account t i options) still = account_some (image_judged laws.verdict laws.accepts) held t i options told holds
+command_some laws held told holds (Stack t i format) still = stack_some (image_judged laws.verdict laws.accepts) held t i format told holds
+command_some laws held told holds (Convert t i) still = convert_some (image_judged laws.verdict laws.accepts) held t i told holds
 
 -- ---- words
 
@@ -75,7 +79,7 @@ pub refusal_means : Laws → (said : Option Command) (held : List ℕ → Entry)
 refusal_means laws None held refusal other told none x y = y ∙ sym x
 refusal_means laws (Some command) held refusal other told none x y = command_refuses laws held told command refusal other none x y
 
-pub some_means : Existence → (said : Option Command) (held : List ℕ → Entry) → TellsAll held → HoldsBytes held
+pub some_means : Existence → (said : Option Command) (held : List ℕ → Entry) → TellsAll held → IsStill said → HoldsBytes held
     → (outcome : Outcome) × Means said held outcome
-some_means laws None held told holds = (BadLine, refl)
-some_means laws (Some command) held told holds = command_some laws held told holds command
+some_means laws None held told still holds = (BadLine, refl)
+some_means laws (Some command) held told still holds = command_some laws held told holds command still

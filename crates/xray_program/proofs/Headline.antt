@@ -1,7 +1,7 @@
--- The headline of `sim`, from what it means.
+-- The headline of `sim` and of `run`, from what they mean.
 use Rattle.std.specs.Prelude.{All}
 use Rattle.std.proofs.lemmas.List.Elements.{All-head, All-tail}
-use Rattle.std.proofs.Common.{◌≡◌, ℕ, List, [], ◌∷◌, length, Option, Some, None, option_map, Ok, inl, inr, refl, subst, codes}
+use Rattle.std.proofs.Common.{◌≡◌, ◌≤◌, ℕ, List, [], ◌∷◌, length, Option, Some, None, option_map, Ok, inl, inr, refl, subst, codes}
 use Rattle.xray_io.specs.Desk.{Entry, Holds, made_to_hold}
 use Rattle.xray_io.specs.Sink.{Adds}
 use Rattle.machine_step.specs.declared.setup.Setup.{Setup}
@@ -21,11 +21,12 @@ use Rattle.traced_run.specs.Fits.{SetupFits}
 use Rattle.traced_run.specs.Losses.{AreLost}
 use Rattle.traced_run.specs.Runs.{IsRun, ThreadRun}
 use Rattle.xray_image.specs.Program.{IsAccepted, Program}
-use Rattle.xray_program.specs.Answers.{IsSimulated}
+use Rattle.xray_program.specs.Answers.{IsRunBeside, IsSimulated}
 use Rattle.xray_program.specs.Commands.{Means}
 use Rattle.xray_program.specs.Inputs.{image_form, script_form, schedule_form}
 use Rattle.xray_program.specs.Outcomes.{Outcome, Done}
 use Rattle.xray_program.specs.Outputs.{AreWhole}
+use Rattle.xray_program.specs.Run.{FollowsPlan, RunComes, RunsBeside}
 use Rattle.xray_program.specs.Sim.{FollowsSchedule, Replayed, Replays, SimComes}
 use Rattle.xray_program.specs.Setups.{setup_of}
 use Rattle.xray_program.specs.Taking.{Form, Leaves, RefuseIf, Sound, Take}
@@ -33,6 +34,7 @@ use Rattle.xray_program.specs.Traced.{IsTraced, Traces, written_of}
 use Rattle.command_words.specs.Words.{Command}
 use Rattle.xray_program.specs.Works.{SaidFits}
 use Rattle.xray_io.specs.World.{World}
+use Rattle.xray_program.proofs.RunLaws.{loses_few}
 
 -- if all is done, an input that is held reads as a value, and the rest is done with it
 record Read {X : Type 0} (Reads : List ℕ → X → Type 0) (bytes : List ℕ) (Next : X → Type 0) : Type 0 where
@@ -143,4 +145,46 @@ pub simulated : CallLaws → (said : Option Command) (before after : World) → 
     → Adds before.out.written after.out.written text → IsSimulated said before after
 simulated laws said before after fits outputs text meant whole adds i s c t a image script schedule options says image_held script_held schedule_held =
     simulated_by laws before after i s c t a image script schedule (setup_of options) (subst SaidFits says fits) outputs text image_held script_held schedule_held (rw says at meant)
+    whole adds
+
+-- ---- `run`
+
+beside_by : TracesRuns → (before after : World) (i s t a image script : List ℕ) (setup : Setup) → SetupFits setup
+    → 1 ≤ setup.threads → setup.threads ≤ setup.max
+    → (outputs : List (List ℕ × List ℕ)) (text : List ℕ) → before.desk.held i ≡ Holds image → before.desk.held s ≡ Holds script
+    → RunComes Sound before.desk.held i s t a setup (Done outputs text)
+    → AreWhole outputs before.desk.held after.desk.held → Adds before.out.written after.out.written text
+    → IsTraced (FollowsPlan setup) image script t a setup before after
+beside_by reads_back before after i s t a image script setup fits some enough outputs text image_held script_held comes whole adds =
+    let held = before.desk.held in
+    let first = read_on image_form held i
+    (λ program. Take (script_form program setup.threads) Sound held s (λ plan. RunsBeside t a setup program plan))
+    outputs text image image_held comes in
+    let second = read_on (script_form first.value setup.threads) held s
+    (λ plan. RunsBeside t a setup first.value plan) outputs text script script_held first.next in
+    let traces = left_alike (Traces (FollowsPlan setup first.value second.value) first.value setup t a) outputs text second.next in
+    let hold = files_hold t a setup traces.runs outputs held after.desk.held traces.outputs_are whole in
+    let Added : List ℕ → Type 0 = λ more. Adds before.out.written after.out.written more in
+    record {
+      program = first.value;
+      accepted = first.reads;
+      plan = second.value;
+      script_reads = second.reads;
+      runs = traces.runs;
+      run = traces.run;
+      lawful = traces.lawful;
+      few = loses_few setup some enough traces.runs traces.lawful.lost;
+      file = trace_bytes setup traces.runs;
+      traced = reads_back image first.value setup traces.runs first.reads fits traces.run;
+      trace_holds = hold.0;
+      audit_holds = hold.1;
+      out = subst Added traces.text_is adds;
+    }
+
+pub beside : CallLaws → (said : Option Command) (before after : World) → SaidFits said → (outputs : List (List ℕ × List ℕ)) (text : List ℕ)
+    → Means said before.desk.held (Done outputs text) → AreWhole outputs before.desk.held after.desk.held
+    → Adds before.out.written after.out.written text → IsRunBeside said before after
+beside laws said before after fits outputs text meant whole adds i s t a image script options says image_held script_held =
+    let has = subst SaidFits says fits in
+    beside_by laws.traced before after i s t a image script (setup_of options) has.0 has.1 has.2 outputs text image_held script_held (rw says at meant)
     whole adds

@@ -15,6 +15,8 @@ pub mod PlainLaws
 pub mod PlainThreads
 pub mod Reports
 pub mod Rows
+pub mod RunLaws
+pub mod RunTurns
 pub mod RunWritten
 pub mod Saying
 pub mod SimLaws

@@ -9,10 +9,11 @@ use Rattle.xray_program.specs.Commands.{Means, HadItsTurn, outputs_named}
 use Rattle.xray_program.specs.Order.{InOrder}
 use Rattle.xray_program.specs.Outcomes.{Outcome, Unread, Ending, With, Unwritten, NoMemory, status_of, status_at, line_at, written_by}
 use Rattle.xray_program.specs.Outputs.{AreWhole, FailsWriting, WritesNothing}
+use Rattle.xray_program.specs.Run.{FollowsPlan}
 use Rattle.xray_program.specs.Setups.{setup_of}
 use Rattle.xray_program.specs.Sim.{FollowsSchedule}
 use Rattle.xray_program.specs.Traced.{IsTraced}
-use Rattle.command_words.specs.Words.{Command, Sim}
+use Rattle.command_words.specs.Words.{Command, Sim, Run}
 use Rattle.xray_io.specs.World.{SinkView, World}
 
 -- a sink got exactly this line, or a prefix of it and its faults rose
@@ -76,6 +77,13 @@ IsSimulated said before after =
     → before.desk.held i ≡ Holds image → before.desk.held s ≡ Holds script → before.desk.held c ≡ Holds schedule
     → IsTraced (FollowsSchedule schedule (setup_of options)) image script t a (setup_of options) before after
 
+-- `run` was said, with inputs that the desk holds, and all that threads leave beside the script was written
+abbrev pub IsRunBeside : Option Command → (before after : World) → Type 0
+IsRunBeside said before after =
+    (i s t a image script : List ℕ) (options : RunOptions) → said ≡ Some (Run i s t a options)
+    → before.desk.held i ≡ Holds image → before.desk.held s ≡ Holds script
+    → IsTraced (FollowsPlan (setup_of options)) image script t a (setup_of options) before after
+
 -- The whole contract of a call. Its status and its line on err are those of one ending.
 pub record Answered (said : Option Command) (before after : World) (Way : List Call → Type 0) (answer : ℕ) : Type 0 where
   pub ending : Ending
@@ -99,5 +107,5 @@ pub record Answered (said : Option Command) (before after : World) (Way : List C
   pub order : Went Way (InOrder said before.desk after.desk ending)
   -- what is meant comes, unless memory runs out or a fault is counted
   pub complete : IsAnswer said before after answer
-  -- the headline
-  pub headline : answer ≡ 0 → IsSimulated said before after
+  -- the headline, of `sim` and of `run`
+  pub headline : answer ≡ 0 → IsSimulated said before after × IsRunBeside said before after

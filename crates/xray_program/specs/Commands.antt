@@ -1,5 +1,5 @@
 -- What words mean: what comes of the command that they say, and of what the desk holds.
-use Rattle.std.specs.Prelude.{◌≡◌, ◌≢◌, ℕ, List, [], Bool, true, MatchOption, Option}
+use Rattle.std.specs.Prelude.{◌≡◌, ◌≢◌, ℕ, List, [], Bool, true, false, MatchOption, Option}
 use Rattle.std.specs.Option.{option_map_or}
 use Rattle.xray_io.specs.Desk.{Entry, Untold}
 use Rattle.xray_program.specs.Account.{AccountComes}
@@ -8,17 +8,19 @@ use Rattle.xray_program.specs.Convert.{ConvertComes}
 use Rattle.xray_program.specs.Extract.{ExtractComes}
 use Rattle.xray_program.specs.Outcomes.{Outcome, BadLine, Unread}
 use Rattle.xray_program.specs.Plain.{PlainComes}
+use Rattle.xray_program.specs.Run.{RunComes}
 use Rattle.xray_program.specs.Setups.{setup_of}
 use Rattle.xray_program.specs.Sim.{SimComes}
 use Rattle.xray_program.specs.Stack.{StackComes}
 use Rattle.xray_program.specs.Taking.{DeskReads, Sound, Faulty}
-use Rattle.command_words.specs.Words.{Command, Sim, Plain, Extract, Asm, Account, Stack, Convert, outputs_of}
+use Rattle.command_words.specs.Words.{Command, Sim, Run, Plain, Extract, Asm, Account, Stack, Convert, outputs_of}
 
 -- ---- a line for each command
 
 -- what comes of it
 abbrev pub Comes : DeskReads → (List ℕ → Entry) → Command → Outcome → Type 0
 Comes reads held (Sim image script schedule trace audit options) = SimComes reads held image script schedule trace audit (setup_of options)
+Comes reads held (Run image script trace audit options) = RunComes reads held image script trace audit (setup_of options)
 Comes reads held (Plain image bounds) = PlainComes reads held image bounds
 Comes reads held (Extract image) = ExtractComes reads held image
 Comes reads held (Asm text image threshold) = AsmComes reads held text image threshold
@@ -29,6 +31,7 @@ Comes reads held (Convert trace image) = ConvertComes reads held trace image
 -- whether only one outcome comes of it, over what a desk holds; that isn't so if threads run in an order of their own
 abbrev pub is_decided : Command → Bool
 is_decided (Sim image script schedule trace audit options) = true
+is_decided (Run image script trace audit options) = false
 is_decided (Plain image bounds) = true
 is_decided (Extract image) = true
 is_decided (Asm text image threshold) = true
@@ -39,6 +42,7 @@ is_decided (Convert trace image) = true
 -- whether it waits for nobody, and starts no thread
 abbrev pub is_still : Command → Bool
 is_still (Sim image script schedule trace audit options) = true
+is_still (Run image script trace audit options) = false
 is_still (Plain image bounds) = true
 is_still (Extract image) = true
 is_still (Asm text image threshold) = true

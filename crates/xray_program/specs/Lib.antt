@@ -8,6 +8,7 @@ pub mod Asm
 pub mod Extract
 pub mod Plain
 pub mod Sim
+pub mod Run
 pub mod Reports
 pub mod Account
 pub mod Stack
@@ -21,3 +22,4 @@ pub mod ReportTakes
 pub mod Works
 pub mod Ends
 pub mod SimInputs
+pub mod RunInputs

@@ -10,7 +10,7 @@ use Rattle.xray_program.specs.Reports.{report_inputs}
 use Rattle.xray_program.specs.Commands.{ComesOf, HadItsTurn}
 use Rattle.xray_program.specs.Taking.{AllAccepted}
 use Rattle.xray_program.specs.Outcomes.{BadLine, Unread, TooLong, Refused, Done, Fell, Ending, With, Unwritten, NoMemory}
-use Rattle.command_words.specs.Words.{Command, Sim, Plain, Extract, Asm, Account, Stack, Convert}
+use Rattle.command_words.specs.Words.{Command, Sim, Run, Plain, Extract, Asm, Account, Stack, Convert}
 
 -- ---- a line for each command
 
@@ -18,6 +18,7 @@ use Rattle.command_words.specs.Words.{Command, Sim, Plain, Extract, Asm, Account
 -- leave out isn't listed
 abbrev pub inputs_of : Command → List (List ℕ × ℕ)
 inputs_of (Sim image script schedule trace audit options) = (image, 4194304) ∷ (script, 1048576) ∷ (schedule, 16777216) ∷ []
+inputs_of (Run image script trace audit options) = (image, 4194304) ∷ (script, 1048576) ∷ []
 inputs_of (Plain image bounds) = (image, 4194304) ∷ []
 inputs_of (Extract image) = (image, 4194304) ∷ []
 inputs_of (Asm text image threshold) = (text, 4194304) ∷ []

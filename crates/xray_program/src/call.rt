@@ -15,6 +15,8 @@ use crate::asm::Asm;
 use crate::convert::Convert;
 use crate::extract::Extract;
 use crate::plain::Plain;
+use crate::run::perform_run;
+use crate::run_inputs::Run;
 use crate::sim::Sim;
 use crate::stack::Stack;
 use crate::stop::Stop;
@@ -70,18 +72,18 @@ pub fn xray_still<D: Desk, O: Sink, E: Sink>(
 }
 
 /// Does what `words` say, with the files of `desk`. `words` don't hold the program's own name.
-/// Answers the program's status, as `xray_still` does. Commands that start threads start them
-/// through `rt`, and their threads and patcher pass `gate`. All other commands, and so all that
-/// there are here, are `xray_still`.
+/// Answers the program's status, as `xray_still` does. `run` starts its threads through `rt`, and
+/// they and the patcher pass `gate`. No clause says that the call of `run` returns. All other
+/// commands are those of `xray_still`.
 pub fn xray<T: Threads + Wait + Sync, D: Desk, O: Sink, E: Sink, G: Gate + Sync>(
-    _rt: &T,
+    rt: &T,
     alloc: Global,
     words: &[String],
     wall: Wall,
     desk: &mut D,
     out: &mut O,
     err: &mut E,
-    _gate: &G,
+    gate: &G,
 ) -> u8
     ensures { let seen = desk_view D.held D.read_faults D.write_faults in
         let got = sink_view O.written O.faults in
@@ -91,10 +93,87 @@ pub fn xray<T: Threads + Wait + Sync, D: Desk, O: Sink, E: Sink, G: Gate + Sync>
         (record { desk = seen desk.new; out = got out.new; err = heard err.new })
         (D.along desk.old desk.new) result }
 {
-    xray_still(alloc, words, wall, desk, out, err)
+    // Called for their contracts, as in `xray_still`.
+    no_replay_tears_a_sled();
+    a_replay_loses_few();
+    a_run_is_traced();
+    match perform_any_words(rt, alloc, words, wall, desk, out, gate) {
+        Ok(()) => 0,
+        Err(stop) => {
+            stop.report(err);
+            stop.status()
+        }
+    }
 }
 
-/// Does what the words say, and leaves err as it is.
+/// Does what any words say, and leaves err as it is.
+fn perform_any_words<'a, T: Threads + Wait + Sync, D: Desk, O: Sink, G: Gate + Sync>(
+    rt: &T,
+    alloc: Global,
+    words: &'a [String],
+    wall: Wall,
+    desk: &mut D,
+    out: &mut O,
+    gate: &G,
+) -> Result<(), Stop<'a>>
+    ensures ends { let seen = desk_view D.held D.read_faults D.write_faults in
+        let got = sink_view O.written O.faults in
+        Ends (reading wall (texts words.now)) (seen desk.old) (seen desk.new) (got out.old) (got out.new)
+        (D.along desk.old desk.new) (answer_of result) (told_of result) }
+    ensures fits { OnOk result (SaidFits (reading wall (texts words.now))) }
+{
+    let Ok(any) = read_words(alloc, wall, words) else {
+        return Err(Stop::NoMemory);
+    };
+    match any {
+        Some(command) => perform_any(rt, alloc, command, desk, out, gate),
+        None => Err(Stop::BadLine),
+    }
+}
+
+/// Does what any command says.
+fn perform_any<'a, T: Threads + Wait + Sync, D: Desk, O: Sink, G: Gate + Sync>(
+    rt: &T,
+    alloc: Global,
+    command: Command<'a>,
+    desk: &mut D,
+    out: &mut O,
+    gate: &G,
+) -> Result<(), Stop<'a>>
+    requires { HasRanges (command_view command) }
+    ensures ends { let seen = desk_view D.held D.read_faults D.write_faults in
+        let got = sink_view O.written O.faults in
+        Ends (Some (command_view command.entry)) (seen desk.old) (seen desk.new) (got out.old) (got out.new)
+        (D.along desk.old desk.new) (answer_of result) (told_of result) }
+    ensures fits { OnOk result (FitsTraces (command_view command.entry)) }
+{
+    match command {
+        Command::Run {
+            image,
+            script,
+            trace,
+            audit,
+            options,
+        } => {
+            perform_run(
+                rt,
+                alloc,
+                &Run {
+                    image,
+                    script,
+                    files: TraceFiles { trace, audit },
+                    options,
+                },
+                desk,
+                out,
+                gate,
+            )
+        }
+        other => perform_command(alloc, other, desk, out),
+    }
+}
+
+/// Does what the words say, which wait for nobody, and leaves err as it is.
 fn perform_words<'a, D: Desk, O: Sink>(
     alloc: Global,
     words: &'a [String],
@@ -102,6 +181,7 @@ fn perform_words<'a, D: Desk, O: Sink>(
     desk: &mut D,
     out: &mut O,
 ) -> Result<(), Stop<'a>>
+    requires still { IsStill (reading wall (texts words.now)) }
     ensures ends { let seen = desk_view D.held D.read_faults D.write_faults in
         let got = sink_view O.written O.faults in
         Ends (reading wall (texts words.now)) (seen desk.old) (seen desk.new) (got out.old) (got out.new)
@@ -117,14 +197,15 @@ fn perform_words<'a, D: Desk, O: Sink>(
     }
 }
 
-/// Does what a command says. Each command has a line.
+/// Does what a command says that waits for nobody. Each command has a line.
 fn perform_command<'a, D: Desk, O: Sink>(
     alloc: Global,
     command: Command<'a>,
     desk: &mut D,
     out: &mut O,
 ) -> Result<(), Stop<'a>>
-    requires { HasRanges (command_view command) }
+    requires ranges { HasRanges (command_view command) }
+    requires still { IsStill (Some (command_view command)) }
     ensures ends { let seen = desk_view D.held D.read_faults D.write_faults in
         let got = sink_view O.written O.faults in
         Ends (Some (command_view command.entry)) (seen desk.old) (seen desk.new) (got out.old) (got out.new)
@@ -153,6 +234,7 @@ fn perform_command<'a, D: Desk, O: Sink>(
                 out,
             )
         }
+        Command::Run { .. } => unreachable!(),
         Command::Plain { image, bounds } => perform(alloc, &Plain { image, bounds }, desk, out),
         Command::Extract { image } => perform(alloc, &Extract { image }, desk, out),
         Command::Asm {

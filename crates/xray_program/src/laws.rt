@@ -1,7 +1,7 @@
 //! Laws of what the program means. Each law is the contract of a function that does nothing.
 ghost use Rattle.std.specs.Prelude.{◌≡◌, ◌<◌, ℕ, List, Option, None, All};
 ghost use Rattle.xray_io.specs.Desk.{Entry, Holds};
-ghost use Rattle.xray_program.specs.Commands.{IsDecided, Means, TellsAll};
+ghost use Rattle.xray_program.specs.Commands.{IsDecided, IsStill, Means, TellsAll};
 ghost use Rattle.xray_program.specs.Outcomes.{Outcome, written_by};
 ghost use Rattle.command_words.specs.Words.{Command};
 
@@ -32,10 +32,10 @@ pub fn refusal_is_the_only_meaning()
     one_run();
 }
 
-/// Words mean something over a desk that reports every name, whatever the words are and whatever
-/// bytes the names hold.
+/// Unless words say `run`, they mean something over a desk that reports every name, whatever bytes
+/// the names hold.
 pub fn some_meaning()
-    ensures { (said : Option Command) (held : List ℕ → Entry) → TellsAll held
+    ensures { (said : Option Command) (held : List ℕ → Entry) → TellsAll held → IsStill said
         → ((name bytes : List ℕ) → held name ≡ Holds bytes → All (λ b. b < 256) bytes)
         → (outcome : Outcome) × Means said held outcome }
 {

@@ -1,7 +1,7 @@
 //! The top call: all that the program does, from the words of its command line to what it writes.
 //!
 //! The words are read first, together with the wall time (`command_words`). A command is one module
-//! (`sim`, `plain`, `extract`, `asm`, `account`, `stack`, `convert`), which implements `Work`. It
+//! (`sim`, `run`, `plain`, `extract`, `asm`, `account`, `stack`, `convert`), which implements `Work`. It
 //! takes its inputs in the order of the words (`input`). Each is read, measured and judged before
 //! the next is opened, so the first that fails decides. Then it does its work, and writes its
 //! outputs and its text (`delivery`). What is written of traced threads is in `traced`. Last, if
@@ -26,6 +26,8 @@ mod inputs;
 mod laws;
 mod plain;
 mod report_inputs;
+mod run;
+mod run_inputs;
 mod setups;
 mod sim;
 mod sim_inputs;

@@ -2,7 +2,7 @@ use Rattle.xray_program.proofs.CommandLaws.{some_means}
 use Rattle.xray_program.proofs.laws.some_meaning.Goals as goal
 
 pub returns : goal.returns
-returns c said held told holds =
+returns c said held told still holds =
     some_means
     (record { verdict = c.some_verdict.ensures; accepts = c.one_verdict.ensures.accepted; end = c.some_end.ensures; run = c.some_run.ensures.still })
-    said held told holds
+    said held told still holds

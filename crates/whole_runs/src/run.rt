@@ -1,0 +1,111 @@
+//! `run`: threads beside a script, and what is left of them.
+use crate::asm::{CALL, FIBONACCI};
+use crate::runs::{Run, run_words};
+use crate::sim::TRACED;
+use std::alloc::Global;
+use std::process::Abort;
+use std::sync::Wait;
+use std::test::Fail;
+use std::thread::Threads;
+use xray_io::MemDesk;
+
+/// The words of a run whose trace has a wall time of 0.
+const RUN: [&str; 7] = ["run", "i", "s", "t", "a", "--wall", "0"];
+
+/// The thread is held at its third passing until the sleds are patched.
+const HELD: &str = "set_handler\ninit\nhold 1 2\ngo\nawait 1 2\npatch\nrelease 1\n";
+
+/// A desk that holds a text as `x`, its image as `i`, and a script as `s`.
+fn desk_with<R: Abort + Threads + Wait + Sync + AllocGlobal>(
+    rt: &R,
+    text: &str,
+    script: &str,
+) -> Result<MemDesk, Fail> {
+    let alloc = rt.alloc();
+    let mut desk = MemDesk::new(alloc, Vec::new(alloc));
+    desk.put("x", text.as_bytes())?;
+    desk.put("s", script.as_bytes())?;
+    let made = run_words(rt, &["asm", "x", "i"], &mut desk, &[], &[])?;
+    assert_eq!(rt; made.status, 0);
+    Ok(desk)
+}
+
+/// The words of a run, and options after them.
+fn words_with<'w>(alloc: Global, options: &[&'w str]) -> Result<Vec<&'w str>, Fail> {
+    let mut words: Vec<&'w str> = Vec::new(alloc);
+    for word in RUN {
+        words.push(word)?;
+    }
+    for word in options {
+        words.push(*word)?;
+    }
+    Ok(words)
+}
+
+/// A line of a text.
+fn has_line(text: &str, line: &str) -> bool {
+    for one in text.lines() {
+        if one == line {
+            return true;
+        }
+    }
+    false
+}
+
+/// Checks that four threads of the recursion leave a trace of this length, and this many lost segments.
+fn assert_recursion<R: Abort + Threads + Wait + Sync + AllocGlobal>(
+    rt: &R,
+    options: &[&str],
+    len: usize,
+    recycled: &str,
+) -> Result<(), Fail> {
+    let mut desk = desk_with(rt, FIBONACCI, TRACED)?;
+    let words = words_with(rt.alloc(), options)?;
+    let run: Run = run_words(rt, &words, &mut desk, &[], &[])?;
+    assert_eq!(rt; run.err.as_str(), "");
+    assert_eq!(rt; run.status, 0);
+    assert_eq!(rt; desk.get("t").ok_or("no trace")?.len(), len);
+    let audit = std::str::from_utf8(desk.get("a").ok_or("no audit")?)?;
+    assert!(rt; has_line(audit, recycled), "{audit}");
+    assert!(rt; has_line(run.out.as_str(), "thread 4 returned instructions 213132 passings 43782"));
+    Ok(())
+}
+
+#[test]
+fn four_threads_keep_all_segments_or_the_last_ones(rt: HostRuntime) -> Result<(), Fail> {
+    assert_recursion(&rt, &["--threads", "4"], 1_408_096, "recycled 0")?;
+    assert_recursion(
+        &rt,
+        &["--threads", "4", "--buffer-max", "64"],
+        1_014_496,
+        "recycled 24",
+    )
+}
+
+#[test]
+fn a_held_thread_has_the_same_marks_and_bytes_in_every_run(rt: HostRuntime) -> Result<(), Fail> {
+    for _ in 0..20 {
+        let mut desk = desk_with(&rt, CALL, HELD)?;
+        let run = run_words(&rt, &RUN, &mut desk, &[], &[])?;
+        assert_eq!(rt; run.err.as_str(), "");
+        assert_eq!(rt; run.status, 0);
+        assert!(rt; has_line(run.out.as_str(), "marks .2 +2"), "{}", run.out);
+        let trace = desk.get("t").ok_or("no trace")?;
+        assert_eq!(rt; trace.len(), 128);
+        assert_eq!(rt;
+            &trace[96..128],
+            b"\x05\0\0\x01\0\0\0\0\0\0\0\0\0\0\0\0\x22\0\0\0\0\0\0\0\x12\0\0\0\x01\0\0\0".as_slice()
+        );
+    }
+    Ok(())
+}
+
+#[test]
+fn a_script_that_waits_is_refused_under_sim_alone(rt: HostRuntime) -> Result<(), Fail> {
+    let mut desk = desk_with(&rt, CALL, HELD)?;
+    desk.put("c", b"")?;
+    let run = run_words(&rt, &["sim", "i", "s", "c", "t", "a"], &mut desk, &[], &[])?;
+    assert_eq!(rt; run.status, 2);
+    assert_eq!(rt; run.err.as_str(), "xray: s: script Waits 3\n");
+    Ok(())
+}

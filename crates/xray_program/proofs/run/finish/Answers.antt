@@ -1,0 +1,65 @@
+use Rattle.std.proofs.Common.{◌≡◌, [], None, refl, subst}
+use Rattle.machine_step.specs.declared.setup.Setup.{Setup}
+use Rattle.patch_script.specs.Refusals.{commands_of}
+use Rattle.thread_run.specs.Runs.{HaveRunBeside}
+use Rattle.xray_image.specs.Program.{Program}
+use Rattle.xray_io.specs.World.{desk_view, sink_view}
+use Rattle.xray_program.specs.Run.{FollowsPlan, RunsBeside}
+use Rattle.xray_program.specs.RunInputs.{comes_of}
+use Rattle.xray_program.specs.Setups.{setup_of}
+use Rattle.xray_program.specs.Traced.{Traces, state_texts, written_of}
+use Rattle.xray_program.specs.Works.{Finishes}
+use Rattle.xray_program.specs.declared.stop.Stop.TheVariants as stops
+use Rattle.xray_program.proofs.Endings.{finishes, refuses}
+use Rattle.xray_program.proofs.RunWritten.{leaves_same}
+use Rattle.xray_program.proofs.run.finish.Goals as goal
+
+pub returns-clause-finishes : goal.returns-clause-finishes
+returns-clause-finishes g c =
+    let seen = desk_view g.D.Desk.held g.D.Desk.read_faults g.D.Desk.write_faults in
+    let got = sink_view g.O.Sink.written g.O.Sink.faults in
+    let s = c.args.command.now in
+    let setup = c.setup_of-setup.result in
+    let inputs = c.args.inputs in
+    let end = c.in_ok-end.end in
+    let left = c.left_of.result in
+    let Q : Program → Type 0 = λ program.
+    HaveRunBeside program (commands_of inputs.script.lines) setup end.cpus.items end.segments.items end.first.items end.buffers.items in
+    let is : Q inputs.image = subst Q c.in_ok-steps.ensures.program c.in_ok-end.ensures.left in
+    let same = c.left_of.ensures in
+    let leaves = leaves_same setup is.runs end.cpus.items left.cpus.items end.segments.items left.segments.items end.first.items left.first.items
+    end.buffers.items left.buffers.items same.cpus same.segments same.first same.buffers is.leaves in
+    let trace = s.files.trace.now in
+    let audit = s.files.audit.now in
+    let outputs = written_of trace audit setup is.runs in
+    let text = state_texts 1 is.runs in
+    let Are = Traces (FollowsPlan setup inputs.image inputs.script) inputs.image setup trace audit in
+    let traces : Are outputs text =
+    record { runs = is.runs; run = is.run; lawful = is.lawful; outputs_are = refl; text_is = refl } in
+    let Done : Setup → Type 0 = λ with_it.
+    Finishes (RunsBeside trace audit with_it inputs.image inputs.script) (seen c.args.desk.now)
+    (seen c.deliver_run.new.desk) (got c.args.out.now) (got c.deliver_run.new.out) (g.D.Desk.along c.args.desk.now c.deliver_run.new.desk) c.deliver_run.result in
+    subst Done c.setup_of-setup.ensures
+    (finishes (RunsBeside trace audit setup inputs.image inputs.script) outputs text None
+    (seen c.args.desk.now) (seen c.deliver_run.new.desk) (got c.args.out.now) (got c.deliver_run.new.out)
+    (g.D.Desk.along c.args.desk.now c.deliver_run.new.desk) c.deliver_run.result
+    (outputs, text, traces, refl)
+    (c.deliver_run.ensures.delivers is.runs leaves))
+
+pub returns-in_err-lines-clause-finishes : goal.returns-in_err-lines-clause-finishes
+returns-in_err-lines-clause-finishes g c =
+    refuses (comes_of c.args.command.now c.args.inputs) (desk_view g.D.Desk.held g.D.Desk.read_faults g.D.Desk.write_faults c.args.desk.now)
+    (sink_view g.O.Sink.written g.O.Sink.faults c.args.out.now) (g.D.Desk.along c.args.desk.now c.args.desk.now) stops.NoMemory c.from_residual.result c.from_residual.ensures.1
+    ((refl, refl), record { calls = []; way = g.met.D.Desk.along_none c.args.desk.now; are = refl })
+
+pub returns-in_err-steps-clause-finishes : goal.returns-in_err-steps-clause-finishes
+returns-in_err-steps-clause-finishes g c =
+    refuses (comes_of c.args.command.now c.args.inputs) (desk_view g.D.Desk.held g.D.Desk.read_faults g.D.Desk.write_faults c.args.desk.now)
+    (sink_view g.O.Sink.written g.O.Sink.faults c.args.out.now) (g.D.Desk.along c.args.desk.now c.args.desk.now) stops.NoMemory c.from_residual-in_err-steps.result c.from_residual-in_err-steps.ensures.1
+    ((refl, refl), record { calls = []; way = g.met.D.Desk.along_none c.args.desk.now; are = refl })
+
+pub returns-in_err-end-clause-finishes : goal.returns-in_err-end-clause-finishes
+returns-in_err-end-clause-finishes g c =
+    refuses (comes_of c.args.command.now c.args.inputs) (desk_view g.D.Desk.held g.D.Desk.read_faults g.D.Desk.write_faults c.args.desk.now)
+    (sink_view g.O.Sink.written g.O.Sink.faults c.args.out.now) (g.D.Desk.along c.args.desk.now c.args.desk.now) stops.NoMemory c.from_residual-in_err-end.result c.from_residual-in_err-end.ensures.1
+    ((refl, refl), record { calls = []; way = g.met.D.Desk.along_none c.args.desk.now; are = refl })

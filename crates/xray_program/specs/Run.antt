@@ -1,0 +1,29 @@
+-- `run`: threads that run over an image while a script patches their sleds.
+use Rattle.std.specs.Prelude.{ℕ, List}
+use Rattle.xray_io.specs.Desk.{Entry}
+use Rattle.xray_image.specs.Program.{Program}
+use Rattle.patch_script.specs.Plans.{Plan}
+use Rattle.patch_script.specs.Refusals.{commands_of}
+use Rattle.machine_step.specs.declared.setup.Setup.{Setup}
+use Rattle.thread_run.specs.Runs.{FollowsScript}
+use Rattle.traced_run.specs.Runs.{ThreadRun}
+use Rattle.xray_program.specs.Inputs.{image_form, script_form}
+use Rattle.xray_program.specs.Outcomes.{Outcome}
+use Rattle.xray_program.specs.Taking.{DeskReads, Take, Leaves}
+use Rattle.xray_program.specs.Traced.{Traces}
+
+-- The law of `run`. Runs are lawful if threads can make them beside the script: the marks of each thread follow the
+-- script, and each has lost the segments that its ring had no buffers for.
+abbrev pub FollowsPlan : Setup → Program → Plan → List ThreadRun → Type 0
+FollowsPlan setup program plan = FollowsScript program (commands_of plan.lines) setup
+
+-- what comes of the judged inputs: the trace and the audit of some lawful runs are written
+abbrev pub RunsBeside : (trace audit : List ℕ) → Setup → Program → Plan → Outcome → Type 0
+RunsBeside trace audit setup program plan = Leaves (Traces (FollowsPlan setup program plan) program setup trace audit)
+
+-- what comes of the command
+abbrev pub RunComes : DeskReads → (List ℕ → Entry) → (image script trace audit : List ℕ) → Setup → Outcome → Type 0
+RunComes reads held image script trace audit setup =
+    Take image_form reads held image (λ program.
+    Take (script_form program setup.threads) reads held script (λ plan.
+    RunsBeside trace audit setup program plan))

@@ -1,0 +1,145 @@
+//! `run`: threads that run over an image while a script patches their sleds.
+ghost use Rattle.std.specs.Prelude.{◌≡◌, ◌≤◌, ◌∷◌, [], IfOk, List, Some};
+ghost use Rattle.command_words.specs.Words.{outputs_of};
+ghost use Rattle.patch_script.specs.Refusals.{commands_of};
+ghost use Rattle.thread_run.specs.Runs.{HaveRunBeside};
+ghost use Rattle.xray_io.specs.Calls.{Went};
+ghost use Rattle.xray_io.specs.World.{desk_view, sink_view};
+ghost use Rattle.xray_program.specs.Commands.{Comes};
+ghost use Rattle.xray_program.specs.Order.{inputs_of};
+ghost use Rattle.xray_program.specs.RunInputs.{comes_of, said_by, IsReadFor};
+ghost use Rattle.xray_program.specs.Stops.{answer_of, told_of};
+ghost use Rattle.xray_program.specs.Takes.{AreTaken, AreTakings};
+ghost use Rattle.xray_program.specs.Works.{Ends, Finishes, KeepsOthers};
+
+use crate::input::take;
+use crate::inputs::{ImageKind, ScriptKind};
+use crate::run_inputs::{Run, RunInputs};
+use crate::setups::setup_of;
+use crate::stop::Stop;
+use crate::traced::{RunLeft, deliver_run, room_for};
+use machine_step::{Setup, Steps};
+use patch_script::Script;
+use sled_rule::CodeTable;
+use std::alloc::Global;
+use std::sync::Wait;
+use std::thread::Threads;
+use thread_run::{RunEnd, run};
+use xray_io::{Desk, Gate, NoMemory, Sink};
+
+/// Does all of `run`, and leaves err as it is. The threads start through `rt`. They and the patcher
+/// pass `gate`. No clause says that the call returns: threads may wait for the patcher.
+pub(crate) fn perform_run<'a, T: Threads + Wait + Sync, D: Desk, O: Sink, G: Gate + Sync>(
+    rt: &T,
+    alloc: Global,
+    command: &Run<'a>,
+    desk: &mut D,
+    out: &mut O,
+    gate: &G,
+) -> Result<(), Stop<'a>>
+    ensures { let seen = desk_view D.held D.read_faults D.write_faults in
+        let got = sink_view O.written O.faults in
+        Ends (Some (said_by command.now)) (seen desk.old) (seen desk.new) (got out.old) (got out.new)
+        (D.along desk.old desk.new) (answer_of result) (told_of result) }
+{
+    let inputs = take_inputs(alloc, command, desk)?;
+    finish(rt, alloc, command, inputs, desk, out, gate)
+}
+
+/// Takes the image and then the script. The first that fails decides.
+fn take_inputs<'a, D: Desk>(
+    alloc: Global,
+    command: &Run<'a>,
+    desk: &mut D,
+) -> Result<RunInputs, Stop<'a>>
+    ensures taken { let seen = desk_view D.held D.read_faults D.write_faults in
+        AreTaken (λ reads. Comes reads (D.held desk.old) (said_by command.now)) (comes_of command.now)
+        (seen desk.old) (seen desk.new) result }
+    ensures fits { IfOk result (IsReadFor command.now.options.bounds.threads) }
+    ensures held { D.held desk.new ≡ D.held desk.old }
+    ensures later { D.read_faults desk.old ≤ D.read_faults desk.new }
+    ensures writes { D.write_faults desk.new ≡ D.write_faults desk.old }
+    ensures calls { Went (D.along desk.old desk.new)
+        (AreTakings (λ reads. Comes reads (D.held desk.old) (said_by command.now)) (inputs_of (said_by command.now)) result) }
+{
+    let threads = command.options.bounds.threads;
+    let image = take(alloc, desk, command.image, &ImageKind)?;
+    let kind = ScriptKind {
+        image: &image,
+        threads,
+    };
+    let script = take(alloc, desk, command.script, &kind)?;
+    Ok(RunInputs { image, script })
+}
+
+/// Runs the threads beside the script, and writes what comes of it. All memory is asked for before
+/// the first thread starts.
+fn finish<'a, T: Threads + Wait + Sync, D: Desk, O: Sink, G: Gate + Sync>(
+    rt: &T,
+    alloc: Global,
+    command: &Run<'a>,
+    inputs: RunInputs,
+    desk: &mut D,
+    out: &mut O,
+    gate: &G,
+) -> Result<(), Stop<'a>>
+    requires { IsReadFor command.now.options.bounds.threads inputs }
+    ensures finishes { let seen = desk_view D.held D.read_faults D.write_faults in
+        let got = sink_view O.written O.faults in
+        Finishes (comes_of command.now inputs) (seen desk.old) (seen desk.new) (got out.old) (got out.new)
+        (D.along desk.old desk.new) result }
+    ensures others { let seen = desk_view D.held D.read_faults D.write_faults in
+        KeepsOthers (outputs_of (said_by command.now)) (seen desk.old) (seen desk.new) }
+{
+    let RunInputs { image, script } = inputs;
+    let setup = setup_of(command.options);
+    let lines = room_for(alloc, setup.threads)?;
+    let steps = Steps::new(alloc, &image)?;
+    let end = run_beside(rt, alloc, &steps, script, &setup, gate)?;
+    deliver_run(desk, out, &command.files, &setup, left_of(end), lines)
+}
+
+/// Runs all threads over an image's steps, and a script beside them.
+fn run_beside<'s, T: Threads + Wait + Sync, G: Gate + Sync>(
+    rt: &T,
+    alloc: Global,
+    steps: &'s Steps<'s>,
+    script: Script,
+    setup: &Setup,
+    gate: &G,
+) -> Result<RunEnd<'s>, NoMemory>
+    requires program { script.program ≡ steps.now }
+    requires threads { script.threads ≡ setup.now.threads }
+    requires some { 1 ≤ setup.now.threads }
+    requires few { setup.now.threads ≤ 16 }
+    requires stamps { (1 ≤ setup.now.limits.cpus) × (1 ≤ setup.now.limits.migrate) }
+    requires sizes { (72 ≤ setup.now.size) × (setup.now.size ≤ 1048576) }
+    requires enough { setup.now.threads ≤ setup.now.max }
+    ensures left { IfOk result (λ end. HaveRunBeside steps.now (commands_of script.lines) setup.now
+        end.cpus.items end.segments.items end.first.items end.buffers.items) }
+{
+    let (table, mut seat) = CodeTable::new(alloc, steps.image(), script, setup.threads)?;
+    let end = run(rt, alloc, steps, &table, &mut seat, setup, gate)?;
+    Ok(end)
+}
+
+/// What threads leave, for what is written of them.
+fn left_of(end: RunEnd) -> RunLeft
+    ensures cpus { result.cpus.items ≡ end.entry.cpus.items }
+    ensures segments { result.segments.items ≡ end.entry.segments.items }
+    ensures first { result.first.items ≡ end.entry.first.items }
+    ensures buffers { result.buffers.items ≡ end.entry.buffers.items }
+{
+    let RunEnd {
+        cpus,
+        segments,
+        first,
+        buffers,
+    } = end;
+    RunLeft {
+        cpus,
+        segments,
+        first,
+        buffers,
+    }
+}
