@@ -20,7 +20,7 @@ import tempfile
 ROOT = next(folder for folder in pathlib.Path(__file__).resolve().parents if (folder / "crates.txt").is_file())
 TOURS = ["README.md", "docs/TOUR.md"]
 MANUALS = ["docs/COMMANDS.md", *sorted(f"docs/formats/{page.name}" for page in (ROOT / "docs/formats").glob("*.md"))]
-EXAMPLES = ["first-run", "asm", "live-patching"]
+EXAMPLES = ["first-run", "asm", "live-patching", "reports"]
 # What the shell prints after each command, on a line of its own.
 MARK = "---- console_blocks: done ----"
 
