@@ -103,7 +103,7 @@ fn an_account_is_printed_as_its_words_ask(rt: HostRuntime) -> Result<(), Fail> {
 const CSV_OF_FIBONACCI: &str = "funcid,count,min,med,90p,99p,max,sum,entries,exits,function\n\
     1,87564,3,7,142,1719,213128,11532192,0,0,fib\n";
 
-/// Four threads make 43,782 passings each. With buffers for all of their events each call is a pair.
+/// Four threads make 43,782 passings each. With buffers for all of their events, each call is a pair.
 #[test]
 fn four_threads_of_a_recursive_function_are_accounted(rt: HostRuntime) -> Result<(), Fail> {
     let mut desk = trace_desk(rt.alloc(), b"", b"")?;
@@ -136,7 +136,7 @@ fn four_threads_of_a_recursive_function_are_accounted(rt: HostRuntime) -> Result
     Ok(())
 }
 
-/// How many bytes the longest name has.
+/// The length of the longest name in bytes.
 const LONGEST_NAME: usize = 255;
 
 #[test]

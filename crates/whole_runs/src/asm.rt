@@ -1,4 +1,4 @@
-//! `asm`, and what the other commands make of the images that it writes.
+//! `asm`, and what the other commands do with the images that it writes.
 use crate::desks::Trickle;
 use crate::plain::SLED_MAP;
 use crate::runs::{IMAGE, Run, SCHEDULE, SCRIPT, STATE, run_words};
@@ -9,7 +9,7 @@ use std::test::Fail;
 use std::thread::Threads;
 use xray_io::MemDesk;
 
-/// A move, an output and a return: the text of the image that the other tests have as bytes.
+/// A move, an output and a return. The other tests have the image of this text as bytes.
 pub const STRAIGHT_LINE: &str = "base 0x1000\nfn main always\nmov eax, 65\nout 1\nret\n";
 
 /// An exit sled that needs its alignment byte.
@@ -21,16 +21,17 @@ pub const CALL: &str = "base 0x1000\nfn main always\ncall f\nret\nfn f always\nr
 /// A tail jump to the next function.
 pub const TAIL_JUMP: &str = "base 0x1000\nfn a always\ntailjmp b\nfn b always\nret\n";
 
-/// A recursive function behind one without sleds.
+/// A recursive function after one without sleds.
 pub const FIBONACCI: &str = "base 0x1000\nentry main\nfn main never\nmov edi, 20\ncall fib\nret\n\
     fn fib always\nmov ecx, 0\nadd rdi, rcx\njnz nz\nret\nnz:\nmov ecx, 1\nsub rdi, rcx\n\
     jnz big\nadd rax, rcx\nret\nbig:\npush rdi\ncall fib\npop rdi\nmov ecx, 1\nsub rdi, rcx\n\
     call fib\nret\n";
 
-/// Where the code stands in a file.
+/// The place of the code in a file.
 const CODE: usize = 64;
 
-/// The code of each text. The bytes are those of the processor's manual, and sleds and places are worked by hand.
+/// The code of each text. The bytes are those of the processor's manual; sleds and places are
+/// worked by hand.
 const ODD_EXIT_CODE: &[u8] = &[
     0xEB, 0x09, 0x66, 0x0F, 0x1F, 0x84, 0x00, 0x00, 0x02, 0x00, 0x00, 0xE6, 0x00, 0x90, //
     0xC3, 0x2E, 0x66, 0x0F, 0x1F, 0x84, 0x00, 0x00, 0x02, 0x00, 0x00, //
@@ -65,17 +66,17 @@ const FIBONACCI_CODE: &[u8] = &[
     0xC3, 0x2E, 0x66, 0x0F, 0x1F, 0x84, 0x00, 0x00, 0x02, 0x00, 0x00, //
 ];
 
-/// What thread 1 leaves of an odd exit, but for its marks.
+/// What thread 1 leaves of an odd exit, except its marks.
 const ODD_EXIT_END: &str = "thread 1 returned instructions 2 passings 2\n\
     rax=0 rcx=0 rdx=0 rbx=0 rbp=0 rsi=0 rdi=1 r8=0 r9=0 r11=0 r12=0 r13=0 r14=0 r15=0 zf=0\n\
     output 00\n";
 
-/// What thread 1 leaves of the call, but for its marks.
+/// What thread 1 leaves of the call, except its marks.
 pub const CALL_END: &str = "thread 1 returned instructions 3 passings 4\n\
     rax=0 rcx=0 rdx=0 rbx=0 rbp=0 rsi=0 rdi=1 r8=0 r9=0 r11=0 r12=0 r13=0 r14=0 r15=0 zf=0\n\
     output -\n";
 
-/// What thread 1 leaves of the tail jump, but for its marks.
+/// What thread 1 leaves of the tail jump, except its marks.
 pub const TAIL_JUMP_END: &str = "thread 1 returned instructions 2 passings 4\n\
     rax=0 rcx=0 rdx=0 rbx=0 rbp=0 rsi=0 rdi=1 r8=0 r9=0 r11=0 r12=0 r13=0 r14=0 r15=0 zf=0\n\
     output -\n";
@@ -125,7 +126,7 @@ const FIBONACCI_MAP: &str = "---\n\
     always-instrument: true, function-name: 'fib' }\n\
     ...\n";
 
-/// A desk that holds a text as `t`, and an image of old as `i`.
+/// A desk that holds a text as `t`, and an older image as `i`.
 fn text_desk(alloc: Global, failing: &[u64], text: &[u8]) -> Result<MemDesk, Fail> {
     let mut desk = MemDesk::new(alloc, Vec::from_slice(alloc, failing)?);
     desk.put("t", text)?;
@@ -133,7 +134,7 @@ fn text_desk(alloc: Global, failing: &[u64], text: &[u8]) -> Result<MemDesk, Fai
     Ok(desk)
 }
 
-/// What the name of the image holds before.
+/// What the image's name holds before.
 const OLD: &[u8] = b"old";
 
 /// Checks that words are done over a desk, with this text on out.
@@ -235,8 +236,8 @@ fn a_refused_text_leaves_the_image_that_was_there(rt: HostRuntime) -> Result<(),
     Ok(())
 }
 
-/// The desk's calls are those that read the text byte by byte and find its end, the image's
-/// creation, and those that write it byte by byte.
+/// The desk's calls read the text byte by byte and find its end, create the image, and write it
+/// byte by byte.
 #[test]
 fn a_call_of_the_desk_that_fails_leaves_a_front_of_the_image(rt: HostRuntime) -> Result<(), Fail> {
     let end = STRAIGHT_LINE.len() as u64;

@@ -1,4 +1,4 @@
-//! `stack` and `convert`: their texts, their options, and a trace whose calls go too deep.
+//! `stack` and `convert`: their texts, their options, and a trace with calls that go too deep.
 use crate::runs::{IMAGE, run_words};
 use crate::trace_bytes::{CPU, ENTRY, HEADER, ONE_CALL, PREAMBLE, RECURSION, file};
 use std::alloc::Global;

@@ -1,0 +1,6 @@
+use Rattle.buffer_queue.proofs.Openings.{stocks}
+use Rattle.buffer_queue.proofs.Turns.{has_room}
+use Rattle.buffer_queue.proofs.stocking.stock.Goals as goal
+
+pub push_as-requires-clause-rule : goal.push_as-requires-clause-rule
+push_as-requires-clause-rule g c = (stocks _ _ _ _ c.requires.may, has_room _ _ c.requires.may.live c.requires.may.rests)
