@@ -84,24 +84,46 @@ fn pass(cpu: &mut Cpu, sled: &[(u32, u64)], rest: &[(u32, u64)]) -> Result<(), F
     Ok(())
 }
 
-/// Adds a thread that has passed both sleds. It loaded these words before those of the entry sled
-/// and of the exit sled.
-fn add_thread<'a>(
-    cpus: &mut Vec<Cpu<'a>>,
+/// A thread that has passed both sleds. It loaded these words before those of the entry sled and of
+/// the exit sled.
+fn passed_thread<'a>(
+    alloc: Global,
     steps: &'a Steps<'a>,
     thread: u32,
     limits: Limits,
     entry: &[(u32, u64)],
     exit: &[(u32, u64)],
-) -> Result<(), Fail> {
+) -> Result<Cpu<'a>, Fail> {
     if thread == 0 || thread > THREADS || limits.cpus == 0 || limits.migrate == 0 {
         Err("no such thread")?;
     }
-    let mut cpu = Cpu::new(*cpus.allocator(), steps, thread, THREADS, None, limits)?;
+    let mut cpu = Cpu::new(alloc, steps, thread, THREADS, None, limits)?;
     pass(&mut cpu, &ENTRY, entry)?;
     pass(&mut cpu, &EXIT, exit)?;
-    cpus.push(cpu)?;
-    Ok(())
+    Ok(cpu)
+}
+
+/// Thread 1 of two, which has passed both sleds and recorded that.
+fn one_thread<'a>(
+    alloc: Global,
+    steps: &'a Steps<'a>,
+    limits: Limits,
+) -> Result<Vec<Cpu<'a>>, Fail> {
+    let mut cpus = Vec::new(alloc);
+    cpus.push(passed_thread(alloc, steps, 1, limits, &RECORDS, &RECORDS)?)?;
+    Ok(cpus)
+}
+
+/// Two threads that have passed both sleds: the first one recorded its entry, the other one nothing.
+fn two_threads<'a>(
+    alloc: Global,
+    steps: &'a Steps<'a>,
+    limits: Limits,
+) -> Result<Vec<Cpu<'a>>, Fail> {
+    let mut cpus = Vec::new(alloc);
+    cpus.push(passed_thread(alloc, steps, 1, limits, &RECORDS, &HAS_ENDED)?)?;
+    cpus.push(passed_thread(alloc, steps, 2, limits, &NO_HANDLER, &HAS_ENDED)?)?;
+    Ok(cpus)
 }
 
 /// Writes the audit of threads. All of them have ended, and each has a line.
@@ -125,15 +147,7 @@ fn the_audit_of_a_thread_that_records_all(rt: HostRuntime) -> Result<(), Fail> {
     let alloc = rt.alloc();
     let image = image_of(alloc)?;
     let steps = Steps::new(alloc, &image)?;
-    let mut cpus = Vec::new(alloc);
-    add_thread(
-        &mut cpus,
-        &steps,
-        1,
-        DEFAULT_SETUP.limits,
-        &RECORDS,
-        &RECORDS,
-    )?;
+    let cpus = one_thread(alloc, &steps, DEFAULT_SETUP.limits)?;
     let line = AuditLine {
         thread: 1,
         end: End::Returned,
@@ -178,9 +192,7 @@ fn the_audit_of_two_threads_that_lost_segments(rt: HostRuntime) -> Result<(), Fa
         },
         frequency: 2_400_000_000,
     };
-    let mut cpus = Vec::new(alloc);
-    add_thread(&mut cpus, &steps, 1, limits, &RECORDS, &HAS_ENDED)?;
-    add_thread(&mut cpus, &steps, 2, limits, &NO_HANDLER, &HAS_ENDED)?;
+    let cpus = two_threads(alloc, &steps, limits)?;
     let lines = [
         AuditLine {
             thread: 1,
