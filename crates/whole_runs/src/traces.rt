@@ -504,8 +504,7 @@ fn assert_leaves<R: Abort + Threads + Wait + Sync + AllocGlobal>(
         run_words(rt, &["asm", "x", "i"], &mut desk, &[], &[])?.status,
         0
     );
-    let mut words = Vec::from_slice(alloc, &SIM)?;
-    words.extend_from_slice(row.options)?;
+    let words = words_with(alloc, &SIM, row.options)?;
     let run = run_words(rt, &words, &mut desk, &[], &[])?;
     assert_eq!(rt; run.err.as_str(), "", "{}", row.audit);
     assert_eq!(rt; run.status, 0, "{}", row.audit);
