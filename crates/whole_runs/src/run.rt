@@ -67,7 +67,12 @@ fn assert_recursion<R: Abort + Threads + Wait + Sync + AllocGlobal>(
     assert_eq!(rt; desk.get("t").ok_or("no trace")?.len(), len);
     let audit = std::str::from_utf8(desk.get("a").ok_or("no audit")?)?;
     assert!(rt; has_line(audit, recycled), "{audit}");
-    assert!(rt; has_line(run.out.as_str(), "thread 4 returned instructions 213132 passings 43782"));
+    assert!(rt;
+        has_line(
+            run.out.as_str(),
+            "thread 4 returned instructions 213132 passings 43782"
+        )
+    );
     Ok(())
 }
 
