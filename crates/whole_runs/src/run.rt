@@ -96,7 +96,7 @@ fn a_held_thread_has_the_same_marks_and_bytes_in_every_run(rt: HostRuntime) -> R
         assert_eq!(rt; run.status, 0);
         assert!(rt; has_line(run.out.as_str(), "marks .2 +2"), "{}", run.out);
         let trace = desk.get("t").ok_or("no trace")?;
-        assert_eq!(rt; trace.len(), 128);
+        assert!(rt; trace.len() == 128);
         assert_eq!(rt;
             &trace[96..128],
             b"\x05\0\0\x01\0\0\0\0\0\0\0\0\0\0\0\0\x22\0\0\0\0\0\0\0\x12\0\0\0\x01\0\0\0".as_slice()
