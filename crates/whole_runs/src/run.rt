@@ -1,8 +1,7 @@
 //! `run`: threads beside a script, and what is left of them.
 use crate::asm::{CALL, FIBONACCI};
-use crate::runs::{Run, run_words};
+use crate::runs::{Run, run_words, words_with};
 use crate::sim::TRACED;
-use std::alloc::Global;
 use std::process::Abort;
 use std::sync::Wait;
 use std::test::Fail;
@@ -30,18 +29,6 @@ fn desk_with<R: Abort + Threads + Wait + Sync + AllocGlobal>(
     Ok(desk)
 }
 
-/// The words of a run, and options after them.
-fn words_with<'w>(alloc: Global, options: &[&'w str]) -> Result<Vec<&'w str>, Fail> {
-    let mut words: Vec<&'w str> = Vec::new(alloc);
-    for word in RUN {
-        words.push(word)?;
-    }
-    for word in options {
-        words.push(*word)?;
-    }
-    Ok(words)
-}
-
 /// A line of a text.
 fn has_line(text: &str, line: &str) -> bool {
     for one in text.lines() {
@@ -60,7 +47,7 @@ fn assert_recursion<R: Abort + Threads + Wait + Sync + AllocGlobal>(
     recycled: &str,
 ) -> Result<(), Fail> {
     let mut desk = desk_with(rt, FIBONACCI, TRACED)?;
-    let words = words_with(rt.alloc(), options)?;
+    let words = words_with(rt.alloc(), &RUN, options)?;
     let run: Run = run_words(rt, &words, &mut desk, &[], &[])?;
     assert_eq!(rt; run.err.as_str(), "");
     assert_eq!(rt; run.status, 0);

@@ -46,6 +46,22 @@ pub struct Run {
     pub err: String,
 }
 
+/// The words of a command, and options after them.
+pub fn words_with<'w>(
+    alloc: Global,
+    command: &[&'static str],
+    options: &[&'w str],
+) -> Result<Vec<&'w str>, Fail> {
+    let mut words: Vec<&'w str> = Vec::new(alloc);
+    for word in command {
+        words.push(*word)?;
+    }
+    for word in options {
+        words.push(*word)?;
+    }
+    Ok(words)
+}
+
 /// A desk that holds the three inputs as `i`, `s` and `c`.
 pub fn desk_of(
     alloc: Global,

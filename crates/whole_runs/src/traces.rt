@@ -2,7 +2,7 @@
 //! of the desk fails.
 use crate::asm::{CALL, ODD_EXIT, STRAIGHT_LINE, TAIL_JUMP};
 use crate::desks::Trickle;
-use crate::runs::{IMAGE, desk_of, run_words};
+use crate::runs::{IMAGE, desk_of, run_words, words_with};
 use crate::sim::{LIVE, SIM, TRACED};
 use std::process::Abort;
 use std::sync::Wait;
