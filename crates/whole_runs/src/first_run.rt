@@ -114,20 +114,37 @@ fn a_read_that_fails_names_the_input_whose_turn_it_was(rt: HostRuntime) -> Resul
     Ok(())
 }
 
+/// A replay of these words ends with a read fault, and with this line on err.
+fn assert_unread<R: Abort + Threads + Wait + Sync + AllocGlobal>(
+    rt: &R,
+    words: &[&str],
+    line: &str,
+) -> Result<(), Fail> {
+    let mut desk = desk_of(rt.alloc(), &[], &IMAGE, SCRIPT, SCHEDULE)?;
+    let run = run_words(rt, words, &mut desk, &[], &[])?;
+    assert_eq!(rt; run.status, 3);
+    assert_eq!(rt; run.out.as_str(), "");
+    assert_eq!(rt; run.err.as_str(), line);
+    Ok(())
+}
+
 #[test]
 fn a_name_that_is_not_held_is_a_read_fault(rt: HostRuntime) -> Result<(), Fail> {
-    for (words, line) in [
-        (["sim", "x", "s", "c", "t", "a"], "xray: x: read fault\n"),
-        (["sim", "i", "y", "z", "t", "a"], "xray: y: read fault\n"),
-        (["sim", "i", "s", "z", "t", "a"], "xray: z: read fault\n"),
-    ] {
-        let mut desk = desk_of(rt.alloc(), &[], &IMAGE, SCRIPT, SCHEDULE)?;
-        let run = run_words(&rt, &words, &mut desk, &[], &[])?;
-        assert_eq!(rt; run.status, 3, "{line}");
-        assert_eq!(rt; run.out.as_str(), "", "{line}");
-        assert_eq!(rt; run.err.as_str(), line);
-    }
-    Ok(())
+    assert_unread(
+        &rt,
+        &["sim", "x", "s", "c", "t", "a"],
+        "xray: x: read fault\n",
+    )?;
+    assert_unread(
+        &rt,
+        &["sim", "i", "y", "z", "t", "a"],
+        "xray: y: read fault\n",
+    )?;
+    assert_unread(
+        &rt,
+        &["sim", "i", "s", "z", "t", "a"],
+        "xray: z: read fault\n",
+    )
 }
 
 #[test]

@@ -556,36 +556,44 @@ fn buffers_have_their_ranges(rt: HostRuntime) -> Result<(), Fail> {
     Ok(())
 }
 
+/// What the outputs hold before a replay.
+const OLD: &[u8] = b"old";
+
+/// A replay over a desk and an out that fail at these calls ends with this line on err. It leaves
+/// these bytes as the trace and as the audit.
+fn assert_fails<R: Abort + Threads + Wait + Sync + AllocGlobal>(
+    rt: &R,
+    failing: &[u64],
+    out_failing: &[u64],
+    line: &str,
+    trace: &[u8],
+    audit: &[u8],
+) -> Result<(), Fail> {
+    let mut desk = desk_of(rt.alloc(), failing, &IMAGE, TRACED, "p 1")?;
+    desk.put("t", OLD)?;
+    desk.put("a", OLD)?;
+    let run = run_words(rt, &REPLAY, &mut desk, out_failing, &[])?;
+    assert_eq!(rt; run.err.as_str(), line);
+    assert_eq!(rt; run.status, 4);
+    assert_eq!(rt; run.out.as_str(), "");
+    assert_eq!(rt; desk.get("t").ok_or("no trace")?, trace);
+    assert_eq!(rt; desk.get("a").ok_or("no audit")?, audit);
+    assert_eq!(rt; desk.get("i").ok_or("no image")?, IMAGE.as_slice());
+    Ok(())
+}
+
 /// The desk's calls are two reads of each input, the creation and the append of the trace, and those of the audit.
 #[test]
 fn a_call_of_the_desk_that_fails_leaves_later_outputs_untouched(
     rt: HostRuntime,
 ) -> Result<(), Fail> {
-    const OLD: &[u8] = b"old";
     let trace = ROWS[0].trace;
     let audit = ROWS[0].audit.as_bytes();
-    for (failing, out_failing, line, left, told) in [
-        (&[6][..], &[][..], "xray: t: write fault\n", OLD, OLD),
-        (&[7], &[], "xray: t: write fault\n", b"", OLD),
-        (&[8], &[], "xray: a: write fault\n", trace, OLD),
-        (&[9], &[], "xray: a: write fault\n", trace, b""),
-        (&[], &[0], "xray: output: write fault\n", trace, audit),
-    ] {
-        let mut desk = desk_of(rt.alloc(), failing, &IMAGE, TRACED, "p 1")?;
-        desk.put("t", OLD)?;
-        desk.put("a", OLD)?;
-        let run = run_words(&rt, &REPLAY, &mut desk, out_failing, &[])?;
-        assert_eq!(rt; run.err.as_str(), line);
-        assert_eq!(rt; run.status, 4, "{line}");
-        assert_eq!(rt; run.out.as_str(), "", "{line}");
-        assert_eq!(rt; desk.get("t").ok_or("no trace")?, left, "{line}");
-        assert_eq!(rt; desk.get("a").ok_or("no audit")?, told, "{line}");
-        assert_eq!(rt;
-            desk.get("i").ok_or("no image")?,
-            IMAGE.as_slice(),
-            "{line}"
-        );
-    }
+    assert_fails(&rt, &[6], &[], "xray: t: write fault\n", OLD, OLD)?;
+    assert_fails(&rt, &[7], &[], "xray: t: write fault\n", b"", OLD)?;
+    assert_fails(&rt, &[8], &[], "xray: a: write fault\n", trace, OLD)?;
+    assert_fails(&rt, &[9], &[], "xray: a: write fault\n", trace, b"")?;
+    assert_fails(&rt, &[], &[0], "xray: output: write fault\n", trace, audit)?;
     Ok(())
 }
 
