@@ -3,7 +3,7 @@
 
 usage: crates/whole_runs/tools/random_runs.py [PROGRAM] [--with COMMANDS] [--lines] [--runs N] [--seed N] [--jobs N]
     PROGRAM: the built program, crates/xray/out/xray if left out
-    --with: which of sim, account, stack and convert PROGRAM has, joined by commas, none if left out; without sim a replay has
+    --with: which of sim, account, stack and convert PROGRAM has, joined by commas, all if left out; without sim a replay has
         three files and writes no trace
     --lines: random command lines over sound files alone (random_lines.py)
     --runs: how many runs, 1000 if left out
@@ -199,7 +199,7 @@ def compared(xray, folder, number, cases):
 def arguments():
     parser = argparse.ArgumentParser(description="Compares the program with a model of it on random inputs.")
     parser.add_argument("program", nargs="?", type=pathlib.Path, default=ROOT / "crates/xray/out/xray", metavar="PROGRAM")
-    parser.add_argument("--with", dest="commands", default="", metavar="COMMANDS")
+    parser.add_argument("--with", dest="commands", default="sim,account,stack,convert", metavar="COMMANDS")
     parser.add_argument("--lines", action="store_true")
     parser.add_argument("--runs", type=int, default=1000, metavar="N")
     parser.add_argument("--seed", type=int, default=1, metavar="N")
