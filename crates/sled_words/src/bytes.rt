@@ -1,7 +1,8 @@
 //! The bytes of the code while its sleds change.
 
 ghost use Rattle.std.specs.Prelude.{◌≡◌, ◌<◌, ◌≤◌, ◌+◌, ◌*◌, ◌^◌, ◌++◌, length, IfOk, OnOk};
-ghost use Rattle.sled_words.specs.CodeBytes.{code_bytes as bytes_of_code, part_bytes, part_size, sled_bytes, unit_bytes, HasWords};
+ghost use Rattle.sled_words.specs.CodeBytes.{code_bytes as bytes_of_code, part_bytes, part_size, sled_bytes, unit_bytes};
+ghost use Rattle.sled_words.specs.private.UnitWords.{HasWords};
 
 use crate::Part;
 use crate::layout::word_of;

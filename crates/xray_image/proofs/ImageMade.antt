@@ -17,7 +17,7 @@ use Rattle.xray_image.specs.declared.sled.Sled.{Sled}
 use Rattle.xray_image.specs.declared.unit.Unit.{Unit}
 use Rattle.xray_image.specs.Units.{SledPlace}
 use Rattle.xray_image.specs.Container.{Function, MapEntry}
-use Rattle.xray_image.specs.Ids.{AreNumbersOf}
+use Rattle.xray_image.specs.private.Numbering.{AreNumbersOf}
 use Rattle.xray_image.specs.ImageView.{named_function}
 use Rattle.xray_image.specs.Judging.{IsJudged}
 use Rattle.xray_image.specs.Program.{Program, is_name_byte, distinct, sled_of}

@@ -5,7 +5,8 @@ use Rattle.xray_image.specs.declared.image.Image.TheInside.{Inside}
 use Rattle.xray_image.specs.declared.image.Function.{Function as Named}
 use Rattle.xray_image.specs.Container.{Function}
 use Rattle.xray_image.specs.Program.{Program, IsAccepted, addresses}
-use Rattle.xray_image.specs.Ids.{sledded_functions, AreNumbersOf}
+use Rattle.xray_image.specs.Ids.{sledded_functions}
+use Rattle.xray_image.specs.private.Numbering.{AreNumbersOf}
 use Rattle.xray_image.specs.Index.{IsIndexOf}
 use Rattle.xray_image.specs.UnitTable.{units_in, IsSoundTable}
 use Rattle.xray_image.specs.Views.{trampolines_of}

@@ -15,3 +15,4 @@ pub mod Judging
 pub mod UnitTable
 pub mod RunningSums
 pub mod FaultWords
+pub mod private

@@ -2,7 +2,8 @@
 
 ghost use Rattle.std.specs.Prelude.{◌≡◌, ◌<◌, ◌^◌, ◌↔◌, ℕ, List, ◌++◌, length, drop, MatchOption, IfSome, IsSome, IsTrue, IfOk, IfErr, OnErr};
 ghost use Rattle.subset_decode.specs.Encoding.{Begins};
-ghost use Rattle.xray_image.specs.Units.{Piece, piece_bytes, nop_bytes, what_of, sleds_in, IsPiece, IsSled};
+ghost use Rattle.xray_image.specs.Units.{Piece, piece_bytes, nop_bytes, what_of, sleds_in, IsPiece};
+ghost use Rattle.xray_image.specs.private.SledPieces.{IsSled};
 ghost use Rattle.xray_image.specs.Table.{BeginsAsSled, StandsAt};
 ghost use Rattle.xray_image.specs.UnitTable.{what_at};
 ghost use Rattle.xray_image.specs.Views.{piece_of, IsNoUnit};
