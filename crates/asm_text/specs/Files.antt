@@ -6,6 +6,7 @@ use Rattle.asm_text.specs.Views.{statement_said}
 use Rattle.asm_text.specs.Statements.{Statement, Base, Entry, Func, Label, Does}
 use Rattle.std.specs.List.{flat_map}
 use Rattle.xray_image.specs.Units.{piece_bytes}
+use Rattle.xray_image.specs.Limits.{highest_base, most_code, most_functions, most_sleds}
 use Rattle.asm_text.specs.declared.laid_text.LaidText.{LaidText}
 use Rattle.asm_text.specs.declared.header.Header.{Header}
 use Rattle.asm_text.specs.Layout.{Placed, function_in, entry_in, functions, map_entries, pieces, base_of, entry_of}
@@ -56,10 +57,10 @@ image_laid all =
 pub record IsWritable (text : LaidText) : Type 0 where
   pub laid : IsLaidText text
   pub names : AreShortNames text.lines.items
-  pub base : base_of (lines_of (all_in text)) ≤ 0x7FFF00000000
-  pub code : length (flat_map piece_bytes (pieces (all_in text))) ≤ 1048576
-  pub functions : length (functions 0 (all_in text)) ≤ 1024
-  pub entries : length (map_entries 0 (all_in text)) ≤ 4096
+  pub base : base_of (lines_of (all_in text)) ≤ highest_base
+  pub code : length (flat_map piece_bytes (pieces (all_in text))) ≤ most_code
+  pub functions : length (functions 0 (all_in text)) ≤ most_functions
+  pub entries : length (map_entries 0 (all_in text)) ≤ most_sleds
 
 -- the header has the counts of what the lines make
 pub record IsHeaderOf (all : List Placed) (code_length : ℕ) (h : Header) : Type 0 where

@@ -2,6 +2,7 @@
 use Rattle.std.specs.Prelude.{◌≡◌, ℕ, suc, option_map, ◌+◌, ◌≤◌, ◌||◌, Bool, true, false, List, [], ◌∷◌, ◌++◌, map, sum_by, count_by, nat_lt, is_some, if◌then◌else◌, Option, Some, None, Result, Ok, Err, ◌⊎◌}
 use Rattle.std.specs.List.{list_any}
 use Rattle.std.specs.Str.{bytes_eq}
+use Rattle.xray_image.specs.Limits.{most_code, most_functions, most_sleds}
 use Rattle.asm_text.specs.declared.fault.AsmFault.{AsmFault}
 use Rattle.asm_text.specs.declared.fault.AsmFault.TheVariants as faults
 use Rattle.asm_text.specs.declared.totals.Standing.{Standing}
@@ -61,13 +62,13 @@ pub record Follows (old : Totals) (statement : Statement) (new : Totals) : Type 
 
 -- a limit is exceeded
 abbrev pub totals_exceed : Totals → Bool
-totals_exceed t = nat_lt 1024 t.functions || nat_lt 1048576 t.code || nat_lt 4096 t.sleds
+totals_exceed t = nat_lt most_functions t.functions || nat_lt most_code t.code || nat_lt most_sleds t.sleds
 
 -- no limit is exceeded
 pub record IsWithin (t : Totals) : Type 0 where
-  pub functions : t.functions ≤ 1024
-  pub code : t.code ≤ 1048576
-  pub sleds : t.sleds ≤ 4096
+  pub functions : t.functions ≤ most_functions
+  pub code : t.code ≤ most_code
+  pub sleds : t.sleds ≤ most_sleds
 
 -- the lines of the entries
 abbrev pub line_in : Entry → ℕ × Statement

@@ -1,6 +1,7 @@
 -- What is true of every statement of a text that was read.
 use Rattle.std.specs.Prelude.{◌≡◌, ◌≤◌, ◌%◌, length, [], ◌∷◌, ⊤}
 use Rattle.subset_decode.specs.Encoding.{IsNamed}
+use Rattle.xray_image.specs.Limits.{highest_base}
 use Rattle.asm_text.specs.Statements.{Operation, Plain, Go, TailJump, Return, Statement, Base, Entry, Func, Label, Does}
 use Rattle.asm_text.specs.Layout.{Lines}
 
@@ -13,7 +14,7 @@ OperationFits Return = ⊤
 
 -- a function's name fits its field, the base is in range, and instructions are of the subset
 abbrev pub Fits : Statement → Type 0
-Fits (Base address) = (address % 16 ≡ 0) × (address ≤ 0x7FFF00000000)
+Fits (Base address) = (address % 16 ≡ 0) × (address ≤ highest_base)
 Fits (Entry name) = ⊤
 Fits (Func name choice) = length name ≤ 255
 Fits (Label name) = ⊤

@@ -2,6 +2,7 @@
 use Rattle.std.specs.Prelude.{◌≡◌, ℕ, ◌≤◌, List, [], ◌∷◌, map, Option, Some, None, All}
 use Rattle.std.specs.List.{flat_map}
 use Rattle.xray_image.specs.Units.{piece_bytes}
+use Rattle.xray_image.specs.Limits.{most_code}
 use Rattle.asm_text.specs.declared.layout.Owner.{Owner as CodeOwner}
 use Rattle.asm_text.specs.declared.layout.Laid.{Laid}
 use Rattle.asm_text.specs.declared.name_table.NameTable.{NameTable}
@@ -36,7 +37,7 @@ lines_of lines = map (λ p. (p.line, p.statement)) lines
 pub record ArePlaces (all : List Placed) (table : NameTable) (next : List (Option ℕ)) : Type 0 where
   pub names : IsNames (lines_of all) table
   pub targets : next ≡ next_places all
-  pub within : (name : List ℕ) (place : ℕ) → place_of name all ≡ Some place → place ≤ 1048576
+  pub within : (name : List ℕ) (place : ℕ) → place_of name all ≡ Some place → place ≤ most_code
 
 -- the bytes of parts; branches count from the place after them
 abbrev pub parts_bytes : List Placed → ℕ → List Part → List ℕ
@@ -44,4 +45,4 @@ parts_bytes all behind parts = flat_map piece_bytes (map (piece_of all behind) p
 
 -- each line begins within the code
 abbrev pub AreWithin : List Placed → Type 0
-AreWithin lines = All (λ p. p.place ≤ 1048576) lines
+AreWithin lines = All (λ p. p.place ≤ most_code) lines

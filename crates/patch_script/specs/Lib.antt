@@ -1,3 +1,4 @@
+pub mod Limits
 pub mod Micros
 pub mod CodeAt
 pub mod Bounds

@@ -3,6 +3,7 @@ use Rattle.std.specs.Prelude.{◌≡◌, ◌<◌, ◌≤◌, ◌+◌, ◌*◌, �
 use Rattle.std.specs.List.{flat_map}
 use Rattle.std.specs.List.Sorted.{IsNonDecreasingBy}
 use Rattle.xray_image.specs.Program.{Program}
+use Rattle.xray_image.specs.Limits.{most_sleds}
 use Rattle.xray_image.specs.Ids.{id_count}
 use Rattle.sled_words.specs.Words.{handler_word}
 use Rattle.patch_script.specs.declared.command.Command.{Command}
@@ -13,6 +14,7 @@ use Rattle.patch_script.specs.FirstPatches.{AreFirst}
 use Rattle.patch_script.specs.Micros.{start_of, total_of, patches, numbers}
 use Rattle.patch_script.specs.Plans.{waiting_line}
 use Rattle.patch_script.specs.Refusals.{Lines, commands_of, names_no_function, names_no_thread}
+use Rattle.patch_script.specs.Limits.{most_commands}
 use Rattle.patch_script.specs.Sleds.{values_of, HasSleds}
 
 -- how many micro steps a command has, by the number of sleds that it patches or unpatches
@@ -56,7 +58,7 @@ patched_before placed number = patched_by placed.image.value (take number (comma
 
 -- what is kept belongs to the image
 pub record IsOfImage (program : Program) (placed : PlacedCommands) : Type 0 where
-  pub few : length program.sleds ≤ 4096
+  pub few : length program.sleds ≤ most_sleds
   pub in_order : IsNonDecreasingBy (λ sled. sled.id) program.sleds
   pub sleds : placed.sleds.items ≡ map (values_of program.trampolines) program.sleds
   pub handler : placed.handler_word ≡ handler_word program
@@ -71,13 +73,13 @@ pub record ArePlaced (placed : PlacedCommands) : Type 0 where
   pub waits : placed.waits ≡ waiting_line (lines_in placed)
   pub first : AreFirst (id_count placed.image.value) (commands_of (lines_in placed)) placed.first_patches
   pub few : placed.total ≤ 16384 * length (lines_in placed)
-  pub room : length (lines_in placed) ≤ 1024
+  pub room : length (lines_in placed) ≤ most_commands
 
 -- A command that may be added. Its function and its thread exist, and there are fewer than 1,024 commands so far.
 pub record MayFollow (placed : PlacedCommands) (command : Command) : Type 0 where
   pub function : names_no_function placed.image.value command ≡ false
   pub thread : names_no_thread 16 command ≡ false
-  pub room : length (lines_in placed) < 1024
+  pub room : length (lines_in placed) < most_commands
 
 -- the micro step at a place belongs to the command with this number
 pub record IsAt (placed : PlacedCommands) (place number : ℕ) : Type 0 where

@@ -1,6 +1,7 @@
 //! A script that was read, and what it says.
 
 ghost use Rattle.std.specs.Prelude.{◌≡◌, ◌<◌, ◌≤◌, ◌↔◌, ℕ};
+ghost use Rattle.patch_script.specs.Limits.{most_micros};
 ghost use Rattle.patch_script.specs.Micros.{start_of, total_of, micro_at, hold_of};
 ghost use Rattle.patch_script.specs.Refusals.{commands_of};
 ghost use Rattle.patch_script.specs.Plans.{IsRead, IsOrderly, IsStore, IsWithin, waiting_line};
@@ -67,7 +68,7 @@ impl Script {
     /// How many micro steps there are, at most 16,777,216.
     pub fn total(&self) -> u64
         ensures total { result ≡ total_of self.now.program (commands_of self.now.lines) }
-        ensures few { result ≤ 16777216 }
+        ensures few { result ≤ most_micros }
     {
         self.placed.total
     }

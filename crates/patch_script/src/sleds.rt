@@ -3,6 +3,7 @@
 ghost use Rattle.std.specs.Prelude.{◌≡◌, ◌<◌, ◌≤◌, ◌^◌, ◌-◌, length, map, IfOk, slice_get, Some};
 ghost use Rattle.std.specs.List.Sorted.{IsNonDecreasingBy};
 ghost use Rattle.xray_image.specs.declared.sled.Sled.{Sled};
+ghost use Rattle.xray_image.specs.Limits.{most_sleds};
 ghost use Rattle.patch_script.specs.Micros.{head_left};
 ghost use Rattle.patch_script.specs.Sleds.{values_of};
 
@@ -77,7 +78,7 @@ impl SledValues {
 pub(crate) fn sled_values(alloc: Global, image: &Image) -> Result<Vec<SledValues>, AllocError>
     ensures sleds { IfOk result (λ sleds. sleds.items
         ≡ map (values_of image.now.trampolines) image.now.sleds) }
-    ensures few { length image.now.sleds ≤ 4096 }
+    ensures few { length image.now.sleds ≤ most_sleds }
     ensures in_order { IsNonDecreasingBy (λ sled. sled.id) image.now.sleds }
 {
     let count = image.sled_count();

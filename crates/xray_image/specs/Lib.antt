@@ -1,6 +1,7 @@
 pub mod Units
 pub mod Container
 pub mod Kinds
+pub mod Limits
 pub mod Header
 pub mod Program
 pub mod Reading
