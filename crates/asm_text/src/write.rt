@@ -6,9 +6,9 @@ ghost use Rattle.std.specs.Str.{bytes_eq};
 ghost use Rattle.xray_image.specs.Limits.{most_code, most_functions, most_sleds};
 ghost use Rattle.asm_text.specs.Layout.{functions, map_entries, base_of, entry_of, entry_in_line};
 ghost use Rattle.asm_text.specs.Writing.{file_bytes};
-ghost use Rattle.asm_text.specs.Laying.{placed_in, lines_of};
-ghost use Rattle.asm_text.specs.LaidTexts.{all_in};
-ghost use Rattle.asm_text.specs.Files.{image_laid, IsWritable, IsHeaderOf};
+ghost use Rattle.asm_text.specs.private.Laying.{placed_in, lines_of};
+ghost use Rattle.asm_text.specs.private.LaidTexts.{all_in};
+ghost use Rattle.asm_text.specs.private.Files.{image_laid, IsWritable, IsHeaderOf};
 
 use crate::code::push_code;
 use crate::file::{kind_of, push_functions, push_map};

@@ -8,8 +8,4 @@ pub mod Traced
 pub mod Whole
 pub mod Texts
 pub mod EndedText
-pub mod Machine
-pub mod Steps
-pub mod Stages
-pub mod Standing
-pub mod Inside
+pub mod private

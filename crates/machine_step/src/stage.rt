@@ -1,6 +1,6 @@
 //! One passing of a sled, load by load.
 ghost use Rattle.std.specs.Prelude.{◌≡◌, ◌≤◌, ◌<◌, ◌+◌, length};
-ghost use Rattle.machine_step.specs.Stages.{behind_load, first_stage, word_at};
+ghost use Rattle.machine_step.specs.private.Stages.{behind_load, first_stage, word_at};
 ghost use Rattle.xray_image.specs.Limits.{most_sleds};
 ghost use Rattle.xray_image.specs.Program.{Program};
 

@@ -13,12 +13,12 @@ use Rattle.patch_script.specs.declared.first_patches.FirstPatches.{FirstPatches}
 use Rattle.patch_script.specs.declared.placed.Placed.{Placed}
 use Rattle.patch_script.specs.declared.placed.PlacedCommands.{PlacedCommands}
 use Rattle.patch_script.specs.declared.sleds.SledRange.{SledRange}
-use Rattle.patch_script.specs.FirstPatches.{AreFirst, AddsFirst}
+use Rattle.patch_script.specs.private.FirstPatches.{AreFirst, AddsFirst}
 use Rattle.patch_script.specs.Micros.{total_of, start_of}
-use Rattle.patch_script.specs.Placing.{step_count, line_in, lines_in, NamesFewThreads, IsPlaced, ArePlaced, MayFollow}
+use Rattle.patch_script.specs.private.Placing.{step_count, line_in, lines_in, NamesFewThreads, IsPlaced, ArePlaced, MayFollow}
 use Rattle.patch_script.specs.Plans.{is_waiting, waiting_line}
 use Rattle.patch_script.specs.Refusals.{commands_of, has_go, names_no_thread}
-use Rattle.patch_script.specs.Sleds.{sleds_named, HasSleds}
+use Rattle.patch_script.specs.private.Sleds.{sleds_named, HasSleds}
 use Rattle.patch_script.proofs.Firsts.{first_more}
 use Rattle.patch_script.proofs.Lists.{slice_get-append_left, slice_get-append_right}
 use Rattle.patch_script.proofs.Places.{as_many, take_all}

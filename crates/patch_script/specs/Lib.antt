@@ -8,11 +8,5 @@ pub mod StoredWords
 pub mod Language
 pub mod Refusals
 pub mod Plans
-pub mod Operands
-pub mod Sleds
-pub mod FirstPatches
-pub mod Standing
-pub mod Placing
-pub mod Scripts
-pub mod Drafts
 pub mod FaultWords
+pub mod private

@@ -8,7 +8,7 @@ ghost use Rattle.xray_image.specs.Ids.{id_count};
 ghost use Rattle.patch_script.specs.Limits.{most_commands};
 ghost use Rattle.patch_script.specs.Refusals.{is_beyond, names_no_function, names_no_thread, with_line, read_lines};
 ghost use Rattle.patch_script.specs.Plans.{plan_of};
-ghost use Rattle.patch_script.specs.Drafts.{program_of, lines_of, IsDraft, MayFollow, Judges, HasLines, Takes, Reads};
+ghost use Rattle.patch_script.specs.private.Drafts.{program_of, lines_of, IsDraft, MayFollow, Judges, HasLines, Takes, Reads};
 
 use crate::command::Command;
 use crate::fault::ScriptFault;

@@ -29,7 +29,7 @@ impl Model for Script {
 
     ghost Value = { Plan };
 
-    ghost use Rattle.patch_script.specs.Scripts.{plan_in, IsSound};
+    ghost use Rattle.patch_script.specs.private.Scripts.{plan_in, IsSound};
 
     ghost view = { plan_in };
 
@@ -37,7 +37,7 @@ impl Model for Script {
 }
 
 impl Script {
-    ghost use Rattle.patch_script.specs.Drafts.{IsWhole, plan_of_draft};
+    ghost use Rattle.patch_script.specs.private.Drafts.{IsWhole, plan_of_draft};
 
     /// The script of a whole text.
     pub(crate) fn of_draft(draft: Draft) -> Script

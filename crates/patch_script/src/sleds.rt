@@ -5,7 +5,7 @@ ghost use Rattle.std.specs.List.Sorted.{IsNonDecreasingBy};
 ghost use Rattle.xray_image.specs.declared.sled.Sled.{Sled};
 ghost use Rattle.xray_image.specs.Limits.{most_sleds};
 ghost use Rattle.patch_script.specs.Micros.{head_left};
-ghost use Rattle.patch_script.specs.Sleds.{values_of};
+ghost use Rattle.patch_script.specs.private.Sleds.{values_of};
 
 use sled_words::{JUMP_HEAD, PATCHED_HEAD, Part, part_value};
 use std::alloc::{AllocError, Global};
@@ -30,7 +30,7 @@ pub(crate) struct SledValues {
 }
 
 impl SledValues {
-    ghost use Rattle.patch_script.specs.Sleds.{value_in};
+    ghost use Rattle.patch_script.specs.private.Sleds.{value_in};
 
     /// What the patcher has to know of the sled of this number.
     fn new(image: &Image, number: u32) -> SledValues
@@ -97,7 +97,7 @@ pub(crate) struct SledRange {
 }
 
 impl SledRange {
-    ghost use Rattle.patch_script.specs.Sleds.{HasId, no_sleds};
+    ghost use Rattle.patch_script.specs.private.Sleds.{HasId, no_sleds};
 
     /// No sleds.
     pub(crate) fn none() -> SledRange

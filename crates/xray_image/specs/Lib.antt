@@ -4,16 +4,9 @@ pub mod Kinds
 pub mod Limits
 pub mod Header
 pub mod Program
-pub mod Reading
-pub mod Views
-pub mod Index
 pub mod Layout
-pub mod ImageView
 pub mod Table
 pub mod Ids
 pub mod Extract
-pub mod Judging
-pub mod UnitTable
-pub mod RunningSums
 pub mod FaultWords
 pub mod private

@@ -4,7 +4,7 @@ ghost use Rattle.std.specs.Prelude.{◌≡◌, ◌<◌, ◌≤◌, ◌↔◌, Li
 ghost use Rattle.std.specs.List.Sorted.{IsNonDecreasingBy};
 ghost use Rattle.std.specs.Option.{option_map};
 ghost use Rattle.xray_image.specs.Program.{is_name_byte};
-ghost use Rattle.xray_image.specs.ImageView.{named_function};
+ghost use Rattle.xray_image.specs.private.ImageView.{named_function};
 
 mod reading;
 
@@ -54,7 +54,7 @@ impl Model for Image {
 
     ghost Value = { Program };
 
-    ghost use Rattle.xray_image.specs.ImageView.{program_in, IsSound};
+    ghost use Rattle.xray_image.specs.private.ImageView.{program_in, IsSound};
 
     ghost view = { program_in };
 

@@ -1,5 +1,5 @@
 use Rattle.std.proofs.Common.{arith}
-use Rattle.xray_image.specs.ImageView.{program_in}
+use Rattle.xray_image.specs.private.ImageView.{program_in}
 use Rattle.xray_image.proofs.Acceptance.{sled_total}
 use Rattle.xray_image.proofs.image.Image.sled_count.Goals as goal
 

@@ -2,7 +2,7 @@ use Rattle.std.proofs.Common.{◌≤◌, arith, length, subst}
 use Rattle.std.specs.List.Sorted.{IsNonDecreasingBy}
 use Rattle.xray_image.specs.Limits.{most_sleds}
 use Rattle.xray_image.specs.Program.{Program}
-use Rattle.xray_image.specs.ImageView.{program_in}
+use Rattle.xray_image.specs.private.ImageView.{program_in}
 use Rattle.xray_image.specs.Layout.{SledsStand}
 use Rattle.xray_image.proofs.Acceptance.{sled_total, sleds_stand}
 use Rattle.xray_image.proofs.SideBySide.{ids_in_order}

@@ -6,10 +6,10 @@ use Rattle.patch_script.specs.declared.command.Command.{Command}
 use Rattle.patch_script.specs.declared.fault.ScriptFault.{ScriptFault}
 use Rattle.patch_script.specs.declared.fault.ScriptFault.TheVariants as faults
 use Rattle.patch_script.specs.declared.reading.Draft.{Draft}
-use Rattle.patch_script.specs.Placing.{ArePlaced, lines_in}
+use Rattle.patch_script.specs.private.Placing.{ArePlaced, lines_in}
 use Rattle.patch_script.specs.Plans.{Plan, IsRead}
 use Rattle.patch_script.specs.Refusals.{Lines, commands_of, IsAdmitted, judged}
-use Rattle.patch_script.specs.Standing.{IsStanding}
+use Rattle.patch_script.specs.private.Standing.{IsStanding}
 
 abbrev pub program_of : Draft → Program
 program_of draft = draft.placed.image.value

@@ -8,8 +8,8 @@ use Rattle.machine_step.specs.declared.stand.Stand.{Stand}
 use Rattle.machine_step.specs.declared.stand.Stand.TheVariants.{Gate, Loading, Ended}
 use Rattle.machine_step.specs.PlainStep.{Passing, RunsTo}
 use Rattle.machine_step.specs.Course.{Reaches}
-use Rattle.machine_step.specs.Machine.{state_at}
-use Rattle.machine_step.specs.Steps.{IsPlaceOf, IsStepAt, sled_at}
+use Rattle.machine_step.specs.private.Machine.{state_at}
+use Rattle.machine_step.specs.private.Steps.{IsPlaceOf, IsStepAt, sled_at}
 
 -- the sled of a step, if it has one and a passing is left for it
 abbrev pub due_sled : Limits → Machine → Step → Option ℕ

@@ -13,9 +13,9 @@ use Rattle.asm_text.specs.declared.first_pass.Entry.{Entry}
 use Rattle.asm_text.specs.declared.first_pass.FirstPass.{FirstPass}
 use Rattle.asm_text.specs.Statements.{Statement, Base, Entry as EntryLine, Func, Label, Does}
 use Rattle.asm_text.specs.Layout.{Lines, unless_never, is_function, is_instruction, base_in, entry_in_line, defines, widths, sleds_of, parts_of, all_parts, owner_of}
-use Rattle.asm_text.specs.NameTables.{line_named}
+use Rattle.asm_text.specs.private.NameTables.{line_named}
 use Rattle.asm_text.specs.Refusals.{has_function, is_bare, exceeds_limits, repeats}
-use Rattle.asm_text.specs.Views.{statement_said}
+use Rattle.asm_text.specs.private.Views.{statement_said}
 
 -- a function has begun
 abbrev pub has_begun : Standing → Bool

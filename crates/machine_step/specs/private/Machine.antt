@@ -9,7 +9,7 @@ use Rattle.machine_step.specs.declared.step.Way.{Way}
 use Rattle.machine_step.specs.declared.step.Way.TheVariants as ways
 use Rattle.machine_step.specs.declared.machine.Machine.{Machine}
 use Rattle.xray_image.specs.Program.{Program}
-use Rattle.machine_step.specs.Steps.{wants_fuel}
+use Rattle.machine_step.specs.private.Steps.{wants_fuel}
 use Rattle.machine_step.specs.PlainStep.{State, Passing, RunsTo, stack_limit, output_limit}
 
 -- the state of a machine at an address

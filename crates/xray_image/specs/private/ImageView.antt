@@ -7,9 +7,9 @@ use Rattle.xray_image.specs.Container.{Function}
 use Rattle.xray_image.specs.Program.{Program, IsAccepted, addresses}
 use Rattle.xray_image.specs.Ids.{sledded_functions}
 use Rattle.xray_image.specs.private.Numbering.{AreNumbersOf}
-use Rattle.xray_image.specs.Index.{IsIndexOf}
-use Rattle.xray_image.specs.UnitTable.{units_in, IsSoundTable}
-use Rattle.xray_image.specs.Views.{trampolines_of}
+use Rattle.xray_image.specs.private.Index.{IsIndexOf}
+use Rattle.xray_image.specs.private.UnitTable.{units_in, IsSoundTable}
+use Rattle.xray_image.specs.private.Views.{trampolines_of}
 
 abbrev pub named_function : Named → Function
 named_function f = record { start = f.start; name = string_bytes f.name }

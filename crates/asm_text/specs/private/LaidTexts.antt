@@ -4,7 +4,7 @@ use Rattle.xray_image.specs.Limits.{most_code}
 use Rattle.asm_text.specs.declared.laid_text.LaidText.{LaidText}
 use Rattle.asm_text.specs.declared.layout.Laid.{Laid}
 use Rattle.asm_text.specs.Layout.{Placed}
-use Rattle.asm_text.specs.Laying.{placed_in, ArePlaces}
+use Rattle.asm_text.specs.private.Laying.{placed_in, ArePlaces}
 
 -- the lines of the text
 abbrev pub all_in : LaidText → List Placed

@@ -1,7 +1,7 @@
 -- What the fields of marks say, and what is true of them.
 use Rattle.std.specs.Prelude.{◌≡◌, ◌≤◌, ◌+◌, ◌/◌, vec_capacity}
 use Rattle.handler_word.specs.declared.marks.Marks.TheInside.{Inside}
-use Rattle.handler_word.specs.Bits.{marks_from, IsFilledTo}
+use Rattle.handler_word.specs.private.Bits.{marks_from, IsFilledTo}
 use Rattle.handler_word.specs.MarkList.{MarkList, recorded_count}
 
 -- the marks that the fields say

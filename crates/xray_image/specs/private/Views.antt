@@ -19,7 +19,7 @@ use Rattle.xray_image.specs.Table.{BeginsAsSled}
 use Rattle.xray_image.specs.Units.{SledPlace, Piece, Instruction, JumpSled, ReturnSled, Align}
 use Rattle.xray_image.specs.declared.parts.MapLine.{MapLine}
 use Rattle.xray_image.specs.declared.parts.FileParts.{FileParts}
-use Rattle.xray_image.specs.UnitTable.{units_in, IsSoundTable}
+use Rattle.xray_image.specs.private.UnitTable.{units_in, IsSoundTable}
 use Rattle.xray_image.specs.Container.{Function, MapEntry, Parts, version, base_address, code_length, function_count, entry_count, entry_index, number8_at}
 
 abbrev pub trampolines_of : Addresses → Trampolines

@@ -12,10 +12,10 @@ use Rattle.machine_step.specs.declared.want.Want.{Want}
 use Rattle.machine_step.specs.declared.want.Want.TheVariants as wants
 use Rattle.machine_step.specs.PlainStep.{Passing, PlainRun}
 use Rattle.machine_step.specs.Course.{ComesTo}
-use Rattle.machine_step.specs.Machine.{state_at, IsWithin}
-use Rattle.machine_step.specs.Stages.{word_at}
-use Rattle.machine_step.specs.Standing.{IsAtSled}
-use Rattle.machine_step.specs.Steps.{AreStepsOf}
+use Rattle.machine_step.specs.private.Machine.{state_at, IsWithin}
+use Rattle.machine_step.specs.private.Stages.{word_at}
+use Rattle.machine_step.specs.private.Standing.{IsAtSled}
+use Rattle.machine_step.specs.private.Steps.{AreStepsOf}
 use Rattle.machine_step.specs.Traced.{Traced}
 
 -- the program that a table of steps belongs to

@@ -1,9 +1,9 @@
 -- What a script's fields say, and what is true of them.
 use Rattle.patch_script.specs.declared.script.Script.TheInside.{Inside}
-use Rattle.patch_script.specs.Placing.{ArePlaced, lines_in}
+use Rattle.patch_script.specs.private.Placing.{ArePlaced, lines_in}
 use Rattle.patch_script.specs.Plans.{Plan, IsRead}
 use Rattle.patch_script.specs.Refusals.{commands_of}
-use Rattle.patch_script.specs.Standing.{AreHolds}
+use Rattle.patch_script.specs.private.Standing.{AreHolds}
 
 -- the script that the fields say
 abbrev pub plan_in : Inside → Plan

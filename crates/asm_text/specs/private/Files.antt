@@ -2,7 +2,7 @@
 use Rattle.std.specs.Prelude.{◌≡◌, ◌≤◌, ◌<◌, ℕ, List, [], length, slice_index_or, Option, Some, None, ⊤}
 use Rattle.xray_image.specs.Container.{Function, MapEntry}
 use Rattle.asm_text.specs.declared.layout.Laid.{Laid}
-use Rattle.asm_text.specs.Views.{statement_said}
+use Rattle.asm_text.specs.private.Views.{statement_said}
 use Rattle.asm_text.specs.Statements.{Statement, Base, Entry, Func, Label, Does}
 use Rattle.std.specs.List.{flat_map}
 use Rattle.xray_image.specs.Units.{piece_bytes}
@@ -10,8 +10,8 @@ use Rattle.xray_image.specs.Limits.{highest_base, most_code, most_functions, mos
 use Rattle.asm_text.specs.declared.laid_text.LaidText.{LaidText}
 use Rattle.asm_text.specs.declared.header.Header.{Header}
 use Rattle.asm_text.specs.Layout.{Placed, function_in, entry_in, functions, map_entries, pieces, base_of, entry_of}
-use Rattle.asm_text.specs.Laying.{lines_of}
-use Rattle.asm_text.specs.LaidTexts.{all_in, IsLaidText}
+use Rattle.asm_text.specs.private.Laying.{lines_of}
+use Rattle.asm_text.specs.private.LaidTexts.{all_in, IsLaidText}
 use Rattle.asm_text.specs.Writing.{File, function_bytes, entry_bytes}
 
 -- a function's name fits its field

@@ -8,7 +8,7 @@ use Rattle.xray_image.specs.declared.unit.What.{What}
 use Rattle.xray_image.specs.declared.unit.What.TheVariants as whats
 use Rattle.xray_image.specs.declared.unit.Unit.{Unit}
 use Rattle.xray_image.specs.declared.unit.UnitTable.{UnitTable}
-use Rattle.xray_image.specs.RunningSums.{sums_in, IsSound}
+use Rattle.xray_image.specs.private.RunningSums.{sums_in, IsSound}
 
 -- bytes begin as a sled
 abbrev pub starts_sled : List ℕ → Bool

@@ -10,12 +10,12 @@ use Rattle.patch_script.specs.declared.command.Command.{Command}
 use Rattle.patch_script.specs.declared.command.Command.TheVariants as commands
 use Rattle.patch_script.specs.declared.placed.Placed.{Placed}
 use Rattle.patch_script.specs.declared.placed.PlacedCommands.{PlacedCommands}
-use Rattle.patch_script.specs.FirstPatches.{AreFirst}
+use Rattle.patch_script.specs.private.FirstPatches.{AreFirst}
 use Rattle.patch_script.specs.Micros.{start_of, total_of, patches, numbers}
 use Rattle.patch_script.specs.Plans.{waiting_line}
 use Rattle.patch_script.specs.Refusals.{Lines, commands_of, names_no_function, names_no_thread}
 use Rattle.patch_script.specs.Limits.{most_commands}
-use Rattle.patch_script.specs.Sleds.{values_of, HasSleds}
+use Rattle.patch_script.specs.private.Sleds.{values_of, HasSleds}
 
 -- how many micro steps a command has, by the number of sleds that it patches or unpatches
 abbrev pub step_count : Command → ℕ → ℕ

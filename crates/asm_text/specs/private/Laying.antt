@@ -7,8 +7,8 @@ use Rattle.asm_text.specs.declared.layout.Owner.{Owner as CodeOwner}
 use Rattle.asm_text.specs.declared.layout.Laid.{Laid}
 use Rattle.asm_text.specs.declared.name_table.NameTable.{NameTable}
 use Rattle.asm_text.specs.Layout.{Lines, Owner, Placed, Part, piece_of, next_place, place_of}
-use Rattle.asm_text.specs.FirstPass.{IsNames}
-use Rattle.asm_text.specs.Views.{statement_said}
+use Rattle.asm_text.specs.private.FirstPass.{IsNames}
+use Rattle.asm_text.specs.private.Views.{statement_said}
 
 abbrev pub owner_in : CodeOwner → Owner
 owner_in owner = record { traced = owner.traced; always = owner.always; start = owner.start }
