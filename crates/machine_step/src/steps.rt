@@ -41,8 +41,7 @@ impl<'i> Steps<'i> {
     pub fn new(alloc: Global, image: &'i Image) -> Result<Steps<'i>, NoMemory>
         ensures program { IfOk result (λ steps. steps ≡ image.now) }
     {
-        // Called for its contract: some accepted file holds the image.
-        image.base();
+        image.each_was_accepted();
         let all = all_steps(alloc, image)?;
         Ok(Steps { image, all })
     }

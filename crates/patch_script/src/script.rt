@@ -73,6 +73,15 @@ impl Script {
         self.placed.total
     }
 
+    /// A law: a script has at most 16,777,216 micro steps. The call does nothing.
+    #[inline(always)]
+    pub fn micro_steps_are_few(&self)
+        ensures { total_of self.now.program (commands_of self.now.lines) ≤ most_micros }
+    {
+        // Reading a field brings in what holds of each script.
+        let _total = self.placed.total;
+    }
+
     /// The micro step of this number, counted from 0. The answer is `End` exactly when there are no
     /// more micro steps than that.
     pub fn micro(&self, p: u64) -> Micro

@@ -81,6 +81,7 @@ pub(crate) fn sled_values(alloc: Global, image: &Image) -> Result<Vec<SledValues
     ensures few { length image.now.sleds ≤ most_sleds }
     ensures in_order { IsNonDecreasingBy (λ sled. sled.id) image.now.sleds }
 {
+    image.sleds_stand_in_units();
     let count = image.sled_count();
     let mut sleds = Vec::with_capacity(alloc, count as usize)?;
     for number in 0..count {
