@@ -79,7 +79,7 @@ impl Command {
 }
 
 impl PlacedCommands {
-    ghost use Rattle.patch_script.specs.private.Placing.{ArePlaced, MayFollow, lines_in, IsAt, step_count, patched_before};
+    ghost use Rattle.patch_script.specs.private.Placing.{ArePlaced, MayBePlaced, lines_in, IsAt, step_count, patched_before};
 
     /// No commands.
     pub(crate) fn new(alloc: Global, image: &Image) -> Result<PlacedCommands, AllocError>
@@ -125,7 +125,7 @@ impl PlacedCommands {
         going: bool,
     ) -> Result<(), AllocError>
         requires sound { ArePlaced self.old }
-        requires follows { MayFollow self.old command }
+        requires follows { MayBePlaced self.old command }
         requires going { going ≡ has_go (commands_of (lines_in self.old)) }
         ensures sound { OnOk result (ArePlaced self.new) }
         ensures image { OnOk result (self.new.image.value ≡ self.old.image.value) }

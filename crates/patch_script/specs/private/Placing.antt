@@ -76,7 +76,7 @@ pub record ArePlaced (placed : PlacedCommands) : Type 0 where
   pub room : length (lines_in placed) ≤ most_commands
 
 -- A command that may be added. Its function and its thread exist, and there are fewer than 1,024 commands so far.
-pub record MayFollow (placed : PlacedCommands) (command : Command) : Type 0 where
+pub record MayBePlaced (placed : PlacedCommands) (command : Command) : Type 0 where
   pub function : names_no_function placed.image.value command ≡ false
   pub thread : names_no_thread 16 command ≡ false
   pub room : length (lines_in placed) < most_commands
