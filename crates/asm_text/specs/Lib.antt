@@ -16,3 +16,4 @@ pub mod Laying
 pub mod LaidTexts
 pub mod Files
 pub mod FaultWords
+pub mod WrittenTexts

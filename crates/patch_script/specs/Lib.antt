@@ -15,3 +15,4 @@ pub mod Placing
 pub mod Scripts
 pub mod Drafts
 pub mod FaultWords
+pub mod WrittenScripts
