@@ -22,4 +22,5 @@ pub mod SomeEnd
 pub mod Stepping
 pub mod AlongCode
 pub mod Wholeness
+pub mod SomeMarks
 mod WholeRows

@@ -1,14 +1,16 @@
 //! Laws of the plain machine and of its loads. Each law is the contract of a function that does
 //! nothing.
-ghost use Rattle.std.specs.Prelude.{◌≡◌, ℕ, List, Option, Some, All};
+ghost use Rattle.std.specs.Prelude.{◌≡◌, ◌<◌, ℕ, List, Option, Some, All};
 ghost use Rattle.xray_image.specs.Program.{Program, IsAccepted};
 ghost use Rattle.sled_words.specs.Allowed.{IsAllowed};
-ghost use Rattle.sled_words.specs.ChangingCode.{KeepsSleds};
+ghost use Rattle.sled_words.specs.ChangingCode.{KeepsSleds, LetsEnd};
+ghost use Rattle.handler_word.specs.declared.mark.Mark.{Mark};
 ghost use Rattle.machine_step.specs.declared.limits.Limits.{Limits};
 ghost use Rattle.machine_step.specs.declared.end.End.{End};
 ghost use Rattle.machine_step.specs.PlainStep.{State, Passing, PlainRun};
-ghost use Rattle.machine_step.specs.Follows.{Follows};
+ghost use Rattle.machine_step.specs.Follows.{Follows, MarksFollow};
 ghost use Rattle.machine_step.specs.Loads.{AreWanted, Load, next_load};
+ghost use Rattle.machine_step.specs.Traced.{sleds_of};
 ghost use Rattle.machine_step.specs.Whole.{AreWhole};
 
 /// A thread of an accepted image reaches only one end. All its plain runs have the same passings,
@@ -63,4 +65,14 @@ pub fn allowed_loads_are_whole()
         → AreWanted program thread hold sleds loads
         → All (λ load. IsAllowed program thread load.word load.value) loads
         → AreWhole program thread hold sleds loads }
+{}
+
+/// If changing code lets a thread come to its end, some marks of all its passings follow the code.
+/// They are those of a thread that makes each load as late as it may.
+pub fn some_marks_follow()
+    ensures { (program : Program) (limits : Limits) (thread : ℕ) (passed : List Passing) (end : End) (last : State)
+        (code : ℕ → ℕ → ℕ) (start total : ℕ) (bound : ℕ → ℕ) (hold : Option ℕ)
+        → 0 < thread → PlainRun program limits thread passed end last
+        → LetsEnd program thread hold code start total bound
+        → (marks : List Mark) × MarksFollow program code start bound thread hold (sleds_of passed) marks total }
 {}

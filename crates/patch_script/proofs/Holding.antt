@@ -39,11 +39,11 @@ holds_then : (a b : Bool) → (not a || b) ≡ false → a ≡ true
 holds_then true b h = refl
 holds_then false b h = cc
 
-option_or-none : (o : Option ℕ) → option_or o None ≡ o
+pub option_or-none : (o : Option ℕ) → option_or o None ≡ o
 option_or-none None = refl
 option_or-none (Some n) = refl
 
-option_or_assoc : (a b c : Option ℕ) → option_or a (option_or b c) ≡ option_or (option_or a b) c
+pub option_or_assoc : (a b c : Option ℕ) → option_or a (option_or b c) ≡ option_or (option_or a b) c
 option_or_assoc None b c = refl
 option_or_assoc (Some n) b c = refl
 
@@ -147,7 +147,7 @@ standing_more before command old new is more hold log = record {
 
 -- ---- holds for good
 
-held_found : (thread : ℕ) (script part : List Command) (passing : ℕ) → hold_of thread part ≡ Some passing → is_released thread script ≡ false
+pub held_found : (thread : ℕ) (script part : List Command) (passing : ℕ) → hold_of thread part ≡ Some passing → is_released thread script ≡ false
     → list_any (holds_for_good script) part ≡ true
 held_found thread script [] passing at free = cc
 held_found thread script (commands.Hold held before ∷ cs) passing at free = elim (cases_Bool (held == thread)) [

@@ -18,4 +18,5 @@ pub mod Finishing
 pub mod Orderly
 pub mod Within
 pub mod Before
+pub mod Ending
 mod Rows
