@@ -8,5 +8,5 @@ mod laws;
 
 pub use laws::{
     a_run_fits_its_buffers, a_run_without_losses_is_whole, lost_segments_are_the_oldest,
-    passings_fit,
+    passings_fit, some_losses_are_of_a_queue,
 };
