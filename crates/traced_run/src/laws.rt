@@ -10,7 +10,7 @@ ghost use Rattle.machine_step.specs.declared.setup.Setup.{Setup};
 ghost use Rattle.machine_step.specs.PlainStep.{Passing, PlainRun, State};
 ghost use Rattle.traced_run.specs.Fits.{PassingFits, SetupFits};
 ghost use Rattle.traced_run.specs.Kept.{kept_buffers, kept_of, segments_of};
-ghost use Rattle.traced_run.specs.Losses.{recycled_of};
+ghost use Rattle.traced_run.specs.Losses.{AreLost, recycled_of, without_losses};
 ghost use Rattle.traced_run.specs.Runs.{IsRun, ThreadRun, events_of};
 
 use fdr_buffer::{a_body_has_room, segments_hold_all};
@@ -60,3 +60,10 @@ pub fn a_run_fits_its_buffers()
     segments_hold_all();
     a_body_has_room();
 }
+
+/// However many spare buffers the threads of a run share, some losses of theirs are those of a queue
+/// with these buffers.
+pub fn some_losses_are_of_a_queue()
+    ensures { (size spare : ℕ) (runs : List ThreadRun)
+        → (others : List ThreadRun) × (without_losses others ≡ without_losses runs) × AreLost size spare others }
+{}
