@@ -16,6 +16,7 @@ pub mod PlainThreads
 pub mod Reports
 pub mod Rows
 pub mod RunLaws
+pub mod RunLoads
 pub mod RunTurns
 pub mod RunWritten
 pub mod Saying

@@ -9,7 +9,7 @@ use Rattle.xray_program.specs.Commands.{Means, HadItsTurn, outputs_named}
 use Rattle.xray_program.specs.Order.{InOrder}
 use Rattle.xray_program.specs.Outcomes.{Outcome, Unread, Ending, With, Unwritten, NoMemory, status_of, status_at, line_at, written_by}
 use Rattle.xray_program.specs.Outputs.{AreWhole, FailsWriting, WritesNothing}
-use Rattle.xray_program.specs.Run.{FollowsPlan}
+use Rattle.xray_program.specs.Run.{LoadsFollowPlan}
 use Rattle.xray_program.specs.Setups.{setup_of}
 use Rattle.xray_program.specs.Sim.{FollowsSchedule}
 use Rattle.xray_program.specs.Traced.{IsTraced}
@@ -82,7 +82,7 @@ abbrev pub IsRunBeside : Option Command → (before after : World) → Type 0
 IsRunBeside said before after =
     (i s t a image script : List ℕ) (options : RunOptions) → said ≡ Some (Run i s t a options)
     → before.desk.held i ≡ Holds image → before.desk.held s ≡ Holds script
-    → IsTraced (FollowsPlan (setup_of options)) image script t a (setup_of options) before after
+    → IsTraced (LoadsFollowPlan (setup_of options)) image script t a (setup_of options) before after
 
 -- The whole contract of a call. Its status and its line on err are those of one ending.
 pub record Answered (said : Option Command) (before after : World) (Way : List Call → Type 0) (answer : ℕ) : Type 0 where
