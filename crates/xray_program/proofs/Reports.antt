@@ -190,7 +190,7 @@ pub report_alone : IsDecided image_form → (Sort : Outcome → Type 0) (held : 
     → IsAlone Sort (TakeReport Sound held trace image next)
 report_alone is Sort held trace image next told one =
     take_alone trace_form (decided_by (codes "trace") 67108864 trace_of trace_words) Sort held trace
-    (λ t. TakeMaybe image_form Sound held image (λ program. next t program)) (told trace) (λ _ t _.
+    (λ t. TakeMaybe image_form 1 Sound held image (λ program. next t program)) (told trace) (λ _ t _.
     maybe_alone image_form is Sort held image (λ program. next t program) told (one t None) (λ _ program _. one t (Some program)))
 
 pub report_some : IsJudged image_form → (held : List ℕ → Entry) (trace : List ℕ) (image : Option (List ℕ))
@@ -198,5 +198,5 @@ pub report_some : IsJudged image_form → (held : List ℕ → Entry) (trace : L
     → ((t : Trace) (program : Option Program) → SomeOutcome (next t program)) → SomeOutcome (TakeReport Sound held trace image next)
 report_some is held trace image next told holds some =
     some_take trace_form (judged_by (codes "trace") 67108864 trace_of trace_words) held trace
-    (λ t. TakeMaybe image_form Sound held image (λ program. next t program)) (told trace) holds (λ _ t _.
+    (λ t. TakeMaybe image_form 1 Sound held image (λ program. next t program)) (told trace) holds (λ _ t _.
     some_maybe image_form is held image (λ program. next t program) told holds (some t None) (λ _ program _. some t (Some program)))
