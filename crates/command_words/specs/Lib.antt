@@ -1,4 +1,5 @@
 pub mod Clapped
+pub mod Files
 pub mod Items
 pub mod Lines
 pub mod Numbers
