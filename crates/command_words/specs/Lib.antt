@@ -1,4 +1,3 @@
-pub mod Clapped
 pub mod Files
 pub mod Items
 pub mod Lines
@@ -9,3 +8,4 @@ pub mod Rows
 pub mod Tables
 pub mod Views
 pub mod Words
+pub mod private
