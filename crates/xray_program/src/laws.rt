@@ -1,7 +1,9 @@
 //! Laws of what the program means. Each law is the contract of a function that does nothing.
-ghost use Rattle.std.specs.Prelude.{◌≡◌, ◌<◌, ℕ, List, Option, None, All};
+ghost use Rattle.std.specs.Prelude.{◌≡◌, ◌<◌, ℕ, List, Option, None, All, map};
+ghost use Rattle.command_words.specs.Files.{inputs_in, names_of, row_of};
 ghost use Rattle.xray_io.specs.Desk.{Entry, Holds};
 ghost use Rattle.xray_program.specs.Commands.{IsDecided, IsStill, Means, TellsAll};
+ghost use Rattle.xray_program.specs.Order.{inputs_of};
 ghost use Rattle.xray_program.specs.Outcomes.{Outcome, written_by};
 ghost use Rattle.command_words.specs.Words.{Command};
 
@@ -43,4 +45,12 @@ pub fn some_meaning()
     some_verdict();
     some_end();
     some_run();
+}
+
+/// The inputs of a command, whose turns come one after another, are the files that its row in the
+/// table of commands says are read, in the order of their names.
+pub fn inputs_follow_the_rows()
+    ensures { (command : Command) → map (λ input. input.0) (inputs_of command)
+        ≡ inputs_in (row_of command).files (names_of command) }
+{
 }
