@@ -3,12 +3,14 @@ use Rattle.std.specs.Prelude.{◌≡◌, ◌+◌, ◌-◌, ◌/◌, ℕ, List, S
 use Rattle.xray_image.specs.Program.{Program}
 use Rattle.patch_script.specs.declared.command.Command.{Command}
 use Rattle.patch_script.specs.Plans.{Plan}
+use Rattle.buffer_queue.specs.Left.{spare_of}
 use Rattle.fdr_buffer.specs.Filled.{Filled}
 use Rattle.machine_step.specs.declared.setup.Setup.{Setup}
 use Rattle.machine_step.specs.Traced.{Traced, sleds_of}
 use Rattle.sled_rule.specs.Seats.{script_of}
 use Rattle.traced_run.specs.Kept.{segment_count, stamp_of}
 use Rattle.traced_run.specs.Left.{Leaves}
+use Rattle.traced_run.specs.Losses.{AreLost}
 use Rattle.traced_run.specs.Runs.{IsRun, ThreadRun}
 use Rattle.thread_run.specs.declared.recorder.RingRecorder.{RingRecorder}
 use Rattle.thread_run.specs.declared.worker.Worker.{Worker}
@@ -16,16 +18,12 @@ use Rattle.thread_run.specs.Following.{MarksFollowScript}
 use Rattle.thread_run.specs.Rings.{buffers_in, stamp_in, thread_in}
 use Rattle.thread_run.specs.Workers.{cpu_of, recorder_of, table_of}
 
--- how many buffers the ring of a thread has
-abbrev pub share_of : Setup → ℕ
-share_of setup = setup.max / setup.threads
-
--- Runs that threads can make beside a script: the marks of each follow the script, and each has lost the segments that its ring had no
--- buffers for.
+-- Runs that threads can make beside a script, with one pool of buffers for all of them. The marks of each thread follow the script. As
+-- many segments are lost as the pool had no spare buffers for. Whose they are isn't fixed, but each thread keeps its last one.
 pub record FollowsScript (program : Program) (script : List Command) (setup : Setup) (runs : List ThreadRun) : Type 0 where
   pub follow : (i : ℕ) (run : ThreadRun) → slice_get runs i ≡ Some run
       → MarksFollowScript program script (i + 1) (sleds_of run.passed) run.marks
-  pub lost : (i : ℕ) (run : ThreadRun) → slice_get runs i ≡ Some run → run.lost ≡ segment_count setup.size run - share_of setup
+  pub losses : AreLost setup.size (spare_of setup) runs
 
 -- threads have run beside a script, and these are what their runs leave
 pub record HaveRunBeside (program : Program) (script : List Command) (setup : Setup) (cpus : List Traced) (segments first : List ℕ)
