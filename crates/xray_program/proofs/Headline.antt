@@ -34,7 +34,6 @@ use Rattle.xray_program.specs.Traced.{IsTraced, Traces, written_of}
 use Rattle.command_words.specs.Words.{Command}
 use Rattle.xray_program.specs.Works.{SaidFits}
 use Rattle.xray_io.specs.World.{World}
-use Rattle.xray_program.proofs.RunLaws.{loses_few}
 
 -- if all is done, an input that is held reads as a value, and the rest is done with it
 record Read {X : Type 0} (Reads : List ℕ → X → Type 0) (bytes : List ℕ) (Next : X → Type 0) : Type 0 where
@@ -132,7 +131,7 @@ simulated_by laws before after i s c t a image script schedule setup fits output
         losses = losses;
         whole = λ last out. laws.tears (cast_with first.value (commands_of second.value.lines) traces.runs) setup.threads schedule third.value last third.reads out;
       };
-      few = losses.few;
+      losses = losses;
       file = trace_bytes setup traces.runs;
       traced = laws.traced image first.value setup traces.runs first.reads fits traces.run;
       trace_holds = hold.0;
@@ -150,12 +149,11 @@ simulated laws said before after fits outputs text meant whole adds i s c t a im
 -- ---- `run`
 
 beside_by : TracesRuns → (before after : World) (i s t a image script : List ℕ) (setup : Setup) → SetupFits setup
-    → 1 ≤ setup.threads → setup.threads ≤ setup.max
     → (outputs : List (List ℕ × List ℕ)) (text : List ℕ) → before.desk.held i ≡ Holds image → before.desk.held s ≡ Holds script
     → RunComes Sound before.desk.held i s t a setup (Done outputs text)
     → AreWhole outputs before.desk.held after.desk.held → Adds before.out.written after.out.written text
     → IsTraced (FollowsPlan setup) image script t a setup before after
-beside_by reads_back before after i s t a image script setup fits some enough outputs text image_held script_held comes whole adds =
+beside_by reads_back before after i s t a image script setup fits outputs text image_held script_held comes whole adds =
     let held = before.desk.held in
     let first = read_on image_form held i
     (λ program. Take (script_form program setup.threads) Sound held s (λ plan. RunsBeside t a setup program plan))
@@ -173,7 +171,7 @@ beside_by reads_back before after i s t a image script setup fits some enough ou
       runs = traces.runs;
       run = traces.run;
       lawful = traces.lawful;
-      few = loses_few setup some enough traces.runs traces.lawful.lost;
+      losses = traces.lawful.losses;
       file = trace_bytes setup traces.runs;
       traced = reads_back image first.value setup traces.runs first.reads fits traces.run;
       trace_holds = hold.0;
@@ -185,6 +183,5 @@ pub beside : CallLaws → (said : Option Command) (before after : World) → Sai
     → Means said before.desk.held (Done outputs text) → AreWhole outputs before.desk.held after.desk.held
     → Adds before.out.written after.out.written text → IsRunBeside said before after
 beside laws said before after fits outputs text meant whole adds i s t a image script options says image_held script_held =
-    let has = subst SaidFits says fits in
-    beside_by laws.traced before after i s t a image script (setup_of options) has.0 has.1 has.2 outputs text image_held script_held (rw says at meant)
+    beside_by laws.traced before after i s t a image script (setup_of options) (subst SaidFits says fits) outputs text image_held script_held (rw says at meant)
     whole adds
