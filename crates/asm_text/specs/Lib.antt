@@ -8,11 +8,6 @@ pub mod Refusals
 pub mod Writing
 pub mod Assembling
 pub mod Programs
-pub mod Views
-pub mod NameTables
-pub mod Fits
-pub mod FirstPass
-pub mod Laying
-pub mod LaidTexts
-pub mod Files
 pub mod FaultWords
+pub mod private
+pub mod WrittenTexts

@@ -18,4 +18,6 @@ pub mod Finishing
 pub mod Orderly
 pub mod Within
 pub mod Before
+pub mod Ending
+pub mod WrittenLemmas
 mod Rows

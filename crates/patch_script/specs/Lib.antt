@@ -1,3 +1,4 @@
+pub mod Limits
 pub mod Micros
 pub mod CodeAt
 pub mod Bounds
@@ -7,11 +8,6 @@ pub mod StoredWords
 pub mod Language
 pub mod Refusals
 pub mod Plans
-pub mod Operands
-pub mod Sleds
-pub mod FirstPatches
-pub mod Standing
-pub mod Placing
-pub mod Scripts
-pub mod Drafts
 pub mod FaultWords
+pub mod private
+pub mod WrittenScripts

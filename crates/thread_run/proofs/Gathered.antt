@@ -16,7 +16,7 @@ use Rattle.xray_image.specs.Program.{Program}
 use Rattle.thread_run.specs.declared.whole.Gathered.{Gathered}
 use Rattle.thread_run.specs.declared.worker.Worker.{Worker}
 use Rattle.thread_run.specs.Recordings.{Recording, StandsFor, segments_begun}
-use Rattle.thread_run.specs.Rooms.{HaveRunPooled, IsGathered}
+use Rattle.thread_run.specs.private.Rooms.{HaveRunPooled, IsGathered}
 use Rattle.thread_run.specs.Runs.{AreWorkersOfRun, HaveRunBeside, lost_beside}
 use Rattle.thread_run.specs.Workers.{HasEnded, cpu_of, recorder_of}
 use Rattle.thread_run.proofs.Pooled.{hands_of}

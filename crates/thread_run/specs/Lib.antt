@@ -3,4 +3,4 @@ pub mod Following
 pub mod Workers
 pub mod Recordings
 pub mod Runs
-pub mod Rooms
+pub mod private

@@ -9,7 +9,7 @@ ghost use Rattle.sled_rule.specs.Plans.{start_in};
 ghost use Rattle.sled_rule.specs.Seats.{patch_view, script_of, IsPatcherOf};
 ghost use Rattle.sled_rule.specs.Views.{first_patch};
 ghost use Rattle.thread_run.specs.Recordings.{StandsFor};
-ghost use Rattle.thread_run.specs.Rooms.{HaveRunPooled, IsGathered, IsRoom};
+ghost use Rattle.thread_run.specs.private.Rooms.{HaveRunPooled, IsGathered, IsRoom};
 ghost use Rattle.thread_run.specs.Runs.{lost_beside, AreWorkersOfRun, HaveRunBeside};
 ghost use Rattle.thread_run.specs.Workers.{IsGoing};
 

@@ -4,7 +4,7 @@ use Rattle.machine_step.specs.declared.setup.Setup.{Setup}
 use Rattle.sled_rule.specs.Seats.{script_of}
 use Rattle.thread_run.specs.declared.worker.Worker.{Worker}
 use Rattle.thread_run.specs.Recordings.{Recording, StandsFor}
-use Rattle.thread_run.specs.Rooms.{IsGathered}
+use Rattle.thread_run.specs.private.Rooms.{IsGathered}
 use Rattle.thread_run.specs.Runs.{AreWorkersOfRun}
 use Rattle.thread_run.specs.Workers.{IsGoing}
 use Rattle.thread_run.proofs.RunLemmas.{all_are, all_run_out, written_back}
