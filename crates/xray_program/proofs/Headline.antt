@@ -42,7 +42,6 @@ use Rattle.xray_program.specs.Traced.{IsTraced, Traces, written_of}
 use Rattle.command_words.specs.Words.{Command}
 use Rattle.xray_program.specs.private.Works.{SaidFits}
 use Rattle.xray_io.specs.World.{World}
-use Rattle.xray_program.proofs.RunLaws.{loses_few}
 use Rattle.xray_program.proofs.RunLoads.{leave_all}
 
 -- if all is done, an input that is held reads as a value, and the rest is done with it
@@ -161,11 +160,10 @@ simulated_by laws before after i s c t a image script schedule setup fits output
         nobody_waits = still.0;
         replayed = traces.lawful;
         loads_are = λ number. refl;
-        losses = losses;
         oldest = laws.oldest first.value (commands_of second.value.lines) schedule third.value setup traces.runs third.reads traces.lawful;
       };
       whole = laws.tears first.value (commands_of second.value.lines) schedule third.value setup traces.runs third.reads traces.lawful;
-      few = losses.few;
+      losses = losses;
       file = trace_bytes setup traces.runs;
       traced = laws.traced image first.value setup traces.runs first.reads fits traces.run;
       trace_holds = hold.0;
@@ -183,12 +181,11 @@ simulated laws said before after fits outputs text meant whole adds i s c t a im
 -- ---- `run`
 
 beside_by : CallLaws → (before after : World) (i s t a image script : List ℕ) (setup : Setup) → SetupFits setup
-    → 1 ≤ setup.threads → setup.threads ≤ setup.max
     → (outputs : List (List ℕ × List ℕ)) (text : List ℕ) → before.desk.held i ≡ Holds image → before.desk.held s ≡ Holds script
     → RunComes Sound before.desk.held i s t a setup (Done outputs text)
     → AreWhole outputs before.desk.held after.desk.held → Adds before.out.written after.out.written text
     → IsTraced (LoadsFollowPlan setup) image script t a setup before after
-beside_by laws before after i s t a image script setup fits some enough outputs text image_held script_held comes whole adds =
+beside_by laws before after i s t a image script setup fits outputs text image_held script_held comes whole adds =
     let held = before.desk.held in
     let first = read_on image_form held i
     (λ program. Take (script_form program setup.threads) 1 Sound held s (λ plan. RunsBeside t a setup program plan))
@@ -218,7 +215,7 @@ beside_by laws before after i s t a image script setup fits some enough outputs 
         marks = (made.are i run found).leave;
         whole = laws.follows first.value _ _ _ (i + 1) _ _ _ _ (laws.keeps first.value commands (i + 1)) (made.are i run found).follow;
       };
-      few = loses_few setup some enough traces.runs traces.lawful.lost;
+      losses = traces.lawful.losses;
       file = trace_bytes setup traces.runs;
       traced = laws.traced image first.value setup traces.runs first.reads fits traces.run;
       trace_holds = hold.0;
@@ -230,6 +227,5 @@ pub beside : CallLaws → (said : Option Command) (before after : World) → Sai
     → Means said before.desk.held (Done outputs text) → AreWhole outputs before.desk.held after.desk.held
     → Adds before.out.written after.out.written text → IsRunBeside said before after
 beside laws said before after fits outputs text meant whole adds i s t a image script options says image_held script_held =
-    let has = subst SaidFits says fits in
-    beside_by laws before after i s t a image script (setup_of options) has.0 has.1 has.2 outputs text image_held script_held (rw says at meant)
+    beside_by laws before after i s t a image script (setup_of options) (subst SaidFits says fits) outputs text image_held script_held (rw says at meant)
     whole adds

@@ -9,9 +9,8 @@ use Rattle.machine_step.specs.Loads.{Load}
 use Rattle.step_sim.specs.declared.turns.Turns.{Turns}
 use Rattle.step_sim.specs.FaultWords.{waits_words}
 use Rattle.step_sim.specs.Replay.{of_thread}
-use Rattle.step_sim.specs.Replayed.{IsReplayOf, LoseOldest, spare_of}
+use Rattle.step_sim.specs.Replayed.{IsReplayOf, LoseOldest}
 use Rattle.step_sim.specs.Schedules.{schedule_of}
-use Rattle.traced_run.specs.Losses.{AreLost}
 use Rattle.traced_run.specs.Runs.{ThreadRun}
 use Rattle.xray_program.specs.Inputs.{image_form, script_form, schedule_form}
 use Rattle.xray_program.specs.Outcomes.{Outcome}
@@ -39,8 +38,8 @@ SimComes reads held image script schedule trace audit setup =
 
 -- The headline's law for `sim`. The schedule is read for the number of threads, and nothing waits in the script. The
 -- runs are those that the schedule leaves, with their marks and the numbers of their lost segments. The loads of each
--- thread are those that it has made when the replay leaves these runs. As many segments are lost as the queue had no
--- buffers for, and those that were taken from it are each thread's oldest.
+-- thread are those that it has made when the replay leaves these runs. The segments whose buffers were taken from the
+-- queue are each thread's oldest.
 pub record FollowsSchedule (schedule : List ℕ) (setup : Setup) (program : Program) (plan : Plan) (runs : List ThreadRun)
     (loads : ℕ → List Load) : Type 0 where
   pub turns : List Turns
@@ -48,5 +47,4 @@ pub record FollowsSchedule (schedule : List ℕ) (setup : Setup) (program : Prog
   pub nobody_waits : waiting_line plan.lines ≡ None
   pub replayed : Replayed program plan turns setup runs
   pub loads_are : (number : ℕ) → loads number ≡ of_thread replayed.last.moment.loads number
-  pub losses : AreLost setup.size (spare_of setup) runs
   pub oldest : LoseOldest setup.size runs replayed.last.stock
