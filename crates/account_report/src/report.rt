@@ -11,6 +11,7 @@ use crate::row::AccountRow;
 use crate::scan::tallies;
 use crate::tally::Tally;
 use fdr_file::Trace;
+use stack_rebuild::{each_exit_ends_one_call, each_pair_is_a_whole_call};
 use std::alloc::Global;
 use std::collections::HashMap;
 use xray_io::NoMemory;
@@ -22,6 +23,8 @@ pub fn account(alloc: Global, trace: &Trace) -> Result<Vec<AccountRow>, NoMemory
     // As `order_rows` asks for.
     ensures distinct { IfOk result (λ rows. IsDistinct nat_eq (map (λ row. row.func) rows.items)) }
 {
+    each_exit_ends_one_call();
+    each_pair_is_a_whole_call();
     let mut rows = rows_of(alloc, tallies(alloc, trace)?)?;
     rows.sort_unstable_by_key(|row| row.func);
     Ok(rows)

@@ -30,3 +30,5 @@ pub mod FunctionsLaw
 pub mod BranchesLaw
 pub mod ProgramLaw
 pub mod SledNames
+pub mod WrittenLemmas
+pub mod WrittenIds

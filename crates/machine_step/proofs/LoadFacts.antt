@@ -21,10 +21,10 @@ use Rattle.machine_step.specs.declared.stand.Stand.{Stand}
 use Rattle.machine_step.specs.declared.stand.Stand.TheVariants.{Gate, Loading, Ended}
 use Rattle.machine_step.specs.declared.want.Want.TheVariants as wants
 use Rattle.machine_step.specs.Events.{event_of, events_in, recorded}
-use Rattle.machine_step.specs.Inside.{traced, want_at, IsAtPassing, IsSound, StandsSo}
-use Rattle.machine_step.specs.Machine.{state_at}
+use Rattle.machine_step.specs.private.Inside.{traced, want_at, IsAtPassing, IsSound, StandsSo}
+use Rattle.machine_step.specs.private.Machine.{state_at}
 use Rattle.machine_step.specs.PlainStep.{State, Passing, PlainRun, passing_at}
-use Rattle.machine_step.specs.Stages.{word_at, behind_load}
+use Rattle.machine_step.specs.private.Stages.{word_at, behind_load}
 use Rattle.machine_step.specs.Traced.{IsKept, MarksAdded, loads_left, steps_left}
 use Rattle.machine_step.proofs.Giving.{IsBetween, passed_on}
 use Rattle.machine_step.proofs.Opening.{loading_at, standing}

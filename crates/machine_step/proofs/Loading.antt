@@ -10,7 +10,7 @@ use Rattle.machine_step.specs.declared.stage.Stage.TheVariants as stages
 use Rattle.machine_step.specs.declared.stage.Next.{Next}
 use Rattle.machine_step.specs.declared.stage.Next.TheVariants.{Loads, Ends}
 use Rattle.machine_step.specs.Loads.{Load, Reading, Wants, Marked, from_start, from_release, from_head, from_id, from_opcode, from_offset, from_handler, from_state, is_held_at, marks_from, next_from}
-use Rattle.machine_step.specs.Stages.{word_at, stage_by, first_stage, behind_load}
+use Rattle.machine_step.specs.private.Stages.{word_at, stage_by, first_stage, behind_load}
 
 -- ---- one passing
 

@@ -21,7 +21,7 @@ use Rattle.machine_step.specs.declared.want.Want.TheVariants as wants
 use Rattle.machine_step.specs.Follows.{Follows, MarksFollow, none as no_loads, later as up_to, loaded as one_more}
 use Rattle.machine_step.specs.Loads.{Load, Marked, Reading, Wants, from_start, is_held_at, marks_from, marks_of, next_from, next_load}
 use Rattle.machine_step.specs.PlainStep.{Ends, Next as Onward, Passing, PlainRun, PlainStep, RunsTo, State, UnitStep, behind_passing, passing_at}
-use Rattle.machine_step.specs.Stages.{behind_load, word_at}
+use Rattle.machine_step.specs.private.Stages.{behind_load, word_at}
 use Rattle.machine_step.specs.Traced.{sleds_of, steps_left}
 use Rattle.machine_step.proofs.LoadFacts.{left_at, next_left, some_left, steps_left_at}
 use Rattle.machine_step.proofs.Loading.{Adds, InPassing, in_passing, marks_step, next_step, no_marks}

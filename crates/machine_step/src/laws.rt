@@ -10,7 +10,9 @@ ghost use Rattle.machine_step.specs.declared.end.End.{End};
 ghost use Rattle.machine_step.specs.PlainStep.{State, Passing, PlainRun};
 ghost use Rattle.machine_step.specs.Follows.{Follows, MarksFollow};
 ghost use Rattle.machine_step.specs.Loads.{AreWanted, Load, next_load};
-ghost use Rattle.machine_step.specs.Traced.{sleds_of};
+ghost use Rattle.machine_step.specs.Ended.{EndsAsPlain};
+ghost use Rattle.machine_step.specs.Traced.{HasLoaded, StandsAs, Traced, sleds_of};
+ghost use Rattle.machine_step.specs.declared.want.Want.TheVariants.{Done};
 ghost use Rattle.machine_step.specs.Whole.{AreWhole};
 
 /// A thread of an accepted image reaches only one end. All its plain runs have the same passings,
@@ -75,4 +77,14 @@ pub fn some_marks_follow()
         → 0 < thread → PlainRun program limits thread passed end last
         → LetsEnd program thread hold code start total bound
         → (marks : List Mark) × MarksFollow program code start bound thread hold (sleds_of passed) marks total }
+{}
+
+/// A traced thread ends as its plain run does, whatever values its loads gave. This is the one law
+/// on a `Cpu` for a caller with an order of loads of its own. What the thread was given, and where
+/// it stands, are clauses of `Cpu::new`, `opened`, `give` and `want`. That it comes to an end is the
+/// clause `nearer` of `opened` and `give`.
+pub fn a_traced_thread_ends_as_its_plain_run()
+    ensures { (bytes : List ℕ) (t : Traced) (passed : List Passing) (loads : List Load) (end : End)
+        → IsAccepted bytes t.program → HasLoaded t passed loads → t.want ≡ Done end → StandsAs t t.want
+        → (last : State) × EndsAsPlain t passed end last loads }
 {}

@@ -12,7 +12,7 @@ use Rattle.patch_script.specs.declared.micro.Micro.{Micro}
 use Rattle.patch_script.specs.declared.micro.Micro.TheVariants.{Store, Await, End}
 use Rattle.patch_script.specs.Micros.{Numbered, all_sleds, sleds_of, unpatch_sled, steps_of, micros_behind, micros, micro_at, start_of, is_go}
 use Rattle.patch_script.specs.Plans.{Plan, IsOrderly, IsStore}
-use Rattle.patch_script.specs.Placing.{patched_by}
+use Rattle.patch_script.specs.private.Placing.{patched_by}
 use Rattle.patch_script.specs.Refusals.{commands_of, has_go, is_misplaced}
 use Rattle.patch_script.proofs.Lists.{list_any-last, slice_get-append_left}
 use Rattle.patch_script.proofs.Steps.{stays, front-cons, whole_front, micros_behind-append}

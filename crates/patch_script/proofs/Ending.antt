@@ -23,7 +23,7 @@ use Rattle.patch_script.specs.declared.micro.Micro.TheVariants.{Store, Await, En
 use Rattle.patch_script.specs.Bounds.{awaits_passing, bound_of}
 use Rattle.patch_script.specs.CodeAt.{code_at}
 use Rattle.patch_script.specs.Micros.{Numbered, all_sleds, sleds_of, hold_by, hold_of, is_go, unpatch_sled, steps_of, micros_behind, micros, micro_at, start_of, total_of}
-use Rattle.patch_script.specs.Placing.{patched_by}
+use Rattle.patch_script.specs.private.Placing.{patched_by}
 use Rattle.patch_script.specs.Plans.{Plan, IsOrderly, plan_of}
 use Rattle.patch_script.specs.Refusals.{Lines, commands_of, has_go, holds_for_good, is_released, releases, IsAdmitted}
 use Rattle.patch_script.proofs.Awaiting.{bound_awaited, bound_reached, bound_within}

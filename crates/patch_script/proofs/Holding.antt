@@ -15,7 +15,7 @@ use Rattle.patch_script.specs.declared.standing.Log.TheVariants.{Uninitialized, 
 use Rattle.patch_script.specs.declared.standing.Standing.{Standing}
 use Rattle.patch_script.specs.Micros.{is_go, hold_by, hold_of}
 use Rattle.patch_script.specs.Refusals.{releases, is_released, is_init, is_finalize, breaks_hold, breaks_log, holds_for_good}
-use Rattle.patch_script.specs.Standing.{hold_in, passing_of, was_released, is_held, any_held, was_initialized, was_finalized, released_of, hold_after, log_after, Follows, AreHolds, IsStanding}
+use Rattle.patch_script.specs.private.Standing.{hold_in, passing_of, was_released, is_held, any_held, was_initialized, was_finalized, released_of, hold_after, log_after, Follows, AreHolds, IsStanding}
 use Rattle.patch_script.proofs.Lists.{list_any-last}
 
 or_false : (a : Bool) → (a || false) ≡ a

@@ -21,6 +21,7 @@ mod sleds;
 mod standing;
 #[cfg(test)]
 mod tests;
+mod written;
 
 pub use command::Command;
 pub use fault::ScriptFault;
@@ -31,3 +32,4 @@ pub use laws::{
 pub use micro::Micro;
 pub use reading::read_script;
 pub use script::Script;
+pub use written::a_written_script_is_read;

@@ -4,6 +4,7 @@ pub mod Calls
 pub mod Counts
 pub mod FaultWords
 pub mod Histories
+pub mod PairLaws
 pub mod PathNumbers
 pub mod PathTree
 pub mod Rows

@@ -1,7 +1,6 @@
 -- What is kept of paths and open calls while the events of a thread are taken, for the contracts of private functions.
 use Rattle.std.specs.Prelude.{◌≡◌, ◌<◌, ◌+◌, ◌-◌, ◌++◌, ℕ, List, [], ◌∷◌, length, reverse, sum_by, count_by, if◌then◌else◌, slice_index_or, All}
 use Rattle.fdr_record.specs.declared.event.Event.{Event}
-use Rattle.fdr_record.specs.declared.event.Kind.TheVariants.{Entry}
 use Rattle.stack_rebuild.specs.declared.call.Call.{Call}
 use Rattle.stack_rebuild.specs.declared.path_sums.Tally.{Tally}
 use Rattle.stack_rebuild.specs.declared.thread_stack.Frame.{Frame}
@@ -91,7 +90,3 @@ pub record Follows (calls : Standing) (frames : List Frame) (paths : List (List 
 -- what stands for a frame that isn't there
 abbrev pub no_frame : Frame
 no_frame = record { path = 0; spent = 0 }
-
--- what stands for an event that isn't there
-abbrev pub no_event : Event
-no_event = record { cpu = 0; func = 0; kind = Entry; tsc = 0 }

@@ -56,7 +56,7 @@ impl PathSums {
     {
         let mut tallies = Vec::new(alloc);
         tallies.push(Tally::none())?;
-        let paths = PathNumbers::new(alloc);
+        let paths = PathNumbers::new(alloc)?;
         Ok(PathSums { paths, tallies })
     }
 

@@ -13,7 +13,8 @@ use Rattle.machine_step.specs.PlainStep.{Passing, PlainRun, State}
 use Rattle.machine_step.specs.Traced.{HasLoaded, IsKept, IsSameThread, Traced, sleds_of}
 use Rattle.step_sim.specs.declared.patcher.Patcher.{Patcher}
 use Rattle.step_sim.specs.declared.pool.Pool.{Pool}
-use Rattle.step_sim.specs.Replay.{Cast, Moment, of_thread, thread_turn, turns, wanted_by}
+use Rattle.step_sim.specs.Plays.{turns}
+use Rattle.step_sim.specs.Replay.{Cast, Moment, of_thread, thread_turn, wanted_by}
 use Rattle.step_sim.specs.Standing.{IsThreadAt, Play, Rests, StandAt}
 use Rattle.step_sim.proofs.Bounds.{marks_alike, run_alike}
 use Rattle.step_sim.proofs.OneThread.{KeepsLoads, ended_turn, none_wanted, rest_wants_none, same_again, same_then}

@@ -1,3 +1,4 @@
+pub mod Plays
 pub mod Replay
 pub mod Pool
 pub mod Recorded

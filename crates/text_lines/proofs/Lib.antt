@@ -2,4 +2,5 @@ pub mod Places
 pub mod LineLemmas
 pub mod WordLemmas
 pub mod NumberLemmas
+pub mod WrittenLemmas
 mod Rows

@@ -6,12 +6,14 @@
 //! bytes 0x20 to 0x7E.
 #![tactic(auto)]
 
+mod laws;
 mod numerals;
 #[cfg(test)]
 mod tests;
 mod text;
 mod tokens;
 
+pub use laws::{a_written_number_is_itself, a_written_text_is_its_words};
 pub use numerals::{parse_digits, parse_number};
 pub use text::{Line, Lines, count_lines};
 pub use tokens::Words;

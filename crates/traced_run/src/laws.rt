@@ -15,9 +15,11 @@ ghost use Rattle.traced_run.specs.Runs.{IsRun, ThreadRun, events_of};
 
 use fdr_buffer::{a_body_has_room, segments_hold_all};
 
-/// The segments of a thread that are lost are its oldest. Their events, and then those of the
-/// segments that are left, are all events that the thread's marks record.
-pub fn lost_segments_are_the_oldest()
+/// No event of a thread falls between its segments. The events of as many of the first segments as
+/// are lost, and then those of the segments that are left, are all events that its marks record.
+/// That the first ones are those that are lost is said where a run is made: of a replay it is the
+/// law `lost_segments_are_the_oldest` of `step_sim`.
+pub fn lost_and_left_segments_hold_all()
     ensures { (size : ℕ) (run : ThreadRun)
         → flat_map (λ s. s) (take run.lost (segments_of size run)) ++ flat_map (λ s. s) (kept_of size run)
         ≡ events_of run }

@@ -1,0 +1,48 @@
+-- Assembler texts as they are written of words.
+use Rattle.std.specs.Prelude.{◌≡◌, ◌≤◌, ℕ, Bool, true, false, List, ◌∷◌, ◌++◌, length, count_by, Some, Ok}
+use Rattle.std.specs.List.{AllZip, enumerate_from, list_all}
+use Rattle.text_lines.specs.Written.{are_written_words, written_text}
+use Rattle.xray_image.specs.Ids.{id_count}
+use Rattle.asm_text.specs.Statements.{Statement, Base, Entry, Func, Label, Does}
+use Rattle.asm_text.specs.Language.{statement_of}
+use Rattle.asm_text.specs.Layout.{Lines, is_always, is_function}
+use Rattle.asm_text.specs.Refusals.{ends_early, is_misplaced, is_out_of_range, is_unresolved, names_reserved, repeats}
+use Rattle.asm_text.specs.Assembling.{said_by}
+use Rattle.asm_text.specs.Programs.{program_said}
+
+-- words that can be written, and that say this
+pub record Says (words : List (List ℕ)) (statement : Statement) : Type 0 where
+  pub written : are_written_words words ≡ true
+  pub said : statement_of words ≡ Some statement
+
+-- a statement may follow these lines, and all its operands are in range
+pub record MayFollow (before : Lines) (statement : Statement) : Type 0 where
+  pub place : is_misplaced before statement ≡ false
+  pub registers : names_reserved statement ≡ false
+  pub range : is_out_of_range statement ≡ false
+  pub name : repeats before statement ≡ false
+
+-- each line may follow those before it, each name is defined, and the last function has an instruction line
+pub record IsOrderly (said : Lines) : Type 0 where
+  pub follows : (before : Lines) (line : ℕ × Statement) (behind : Lines) → said ≡ before ++ line ∷ behind → MayFollow before line.1
+  pub resolved : (before : Lines) (line : ℕ × Statement) (behind : Lines) → said ≡ before ++ line ∷ behind → is_unresolved said line.1 behind ≡ false
+  pub ends : ends_early said ≡ false
+
+-- At most 1,024 lines in order say what is written in them. So few lines exceed no limit.
+abbrev pub WrittenTextsRead : Type 0
+WrittenTextsRead = (all : List (List (List ℕ))) (statements : List Statement) → AllZip Says all statements
+    → IsOrderly (enumerate_from 1 statements) → length statements ≤ 1024
+    → said_by (written_text all) ≡ Ok (enumerate_from 1 statements)
+
+-- a function, if the line begins one, says always
+abbrev pub is_always_function : Statement → Bool
+is_always_function (Base address) = true
+is_always_function (Entry name) = true
+is_always_function (Func name choice) = is_always choice
+is_always_function (Label name) = true
+is_always_function (Does operation) = true
+
+-- if each function says always, then each has an id
+abbrev pub AllHaveIds : Type 0
+AllHaveIds = (threshold : ℕ) (said : Lines) → list_all (λ line. is_always_function line.1) said ≡ true
+    → id_count (program_said threshold said) ≡ count_by (λ line. is_function line.1) said
