@@ -14,7 +14,7 @@ use Rattle.xray_program.proofs.ExtractLaws.{extract_alone, extract_some}
 use Rattle.xray_program.proofs.Images.{Accepts, OneVerdict, SomeVerdict, image_decided, image_judged}
 use Rattle.xray_program.proofs.Meanings.{AnyOutcome, HoldsBytes, IsAlone, IsRefusal, SomeOutcome, refusal_alone}
 use Rattle.xray_program.proofs.PlainLaws.{OneEnd, SomeEnd, plain_alone, plain_some}
-use Rattle.xray_program.proofs.RunExists.{ScriptLetsEnd, SomeMarks, some_runs}
+use Rattle.xray_program.proofs.RunExists.{ScriptLetsEnd, SomeLosses, SomeMarks, some_runs}
 use Rattle.xray_program.proofs.RunLaws.{run_refuses, run_some}
 use Rattle.xray_program.proofs.SimLaws.{OneRun, StillRun, sim_alone, sim_some}
 use Rattle.xray_program.proofs.StackLaws.{stack_alone, stack_some}
@@ -33,6 +33,7 @@ pub record Existence : Type 0 where
   pub run : StillRun
   pub lets : ScriptLetsEnd
   pub marks : SomeMarks
+  pub losses : SomeLosses
 
 -- ---- a line for each command
 
@@ -62,7 +63,7 @@ command_refuses laws held told (Convert t i) = refusal_alone _ (command_alone la
 -- each command comes to something
 command_some : Existence → (held : List ℕ → Entry) → TellsAll held → HoldsBytes held → (command : Command) → SomeOutcome (Comes Sound held command)
 command_some laws held told holds (Sim i s c t a options) = sim_some (image_judged laws.verdict laws.accepts) laws.run held i s c t a (setup_of options) told holds
-command_some laws held told holds (Run i s t a options) = run_some (image_judged laws.verdict laws.accepts) (some_runs laws.end laws.lets laws.marks) held i s t a (setup_of options) told holds
+command_some laws held told holds (Run i s t a options) = run_some (image_judged laws.verdict laws.accepts) (some_runs laws.end laws.lets laws.marks laws.losses) held i s t a (setup_of options) told holds
 command_some laws held told holds (Plain i bounds) = plain_some (image_judged laws.verdict laws.accepts) laws.end held i bounds told holds
 command_some laws held told holds (Extract i) = extract_some (image_judged laws.verdict laws.accepts) held i told holds
 command_some laws held told holds (Asm t i threshold) = asm_some held t i threshold told holds

@@ -1,5 +1,5 @@
 -- There are lawful runs beside each script that is read.
-use Rattle.std.proofs.Common.{◌≡◌, ℕ, zero, suc, ◌+◌, ◌-◌, ◌<◌, List, [], ◌∷◌, length, Option, Some, None, Ok, refl, sym, ap, subst, ◌∙◌, arith}
+use Rattle.std.proofs.Common.{◌≡◌, ℕ, zero, suc, ◌+◌, ◌<◌, List, [], ◌∷◌, length, Option, Some, None, Ok, refl, sym, ap, subst, ◌∙◌, arith}
 use Rattle.std.specs.Prelude.{map, option_map, slice_get}
 use Rattle.std.proofs.lemmas.List.{length-map}
 use Rattle.std.proofs.lemmas.Option.{slice_get-map}
@@ -18,11 +18,10 @@ use Rattle.machine_step.specs.declared.setup.Setup.{Setup}
 use Rattle.machine_step.specs.Follows.{MarksFollow}
 use Rattle.machine_step.specs.PlainStep.{Passing, PlainRun, State}
 use Rattle.machine_step.specs.Traced.{sleds_of}
-use Rattle.traced_run.specs.Kept.{segment_count}
-use Rattle.traced_run.specs.Losses.{without_loss, without_losses}
+use Rattle.traced_run.specs.Losses.{AreLost, without_loss, without_losses}
 use Rattle.traced_run.specs.Runs.{IsRun, ThreadRun}
 use Rattle.thread_run.specs.Following.{MarksFollowScript}
-use Rattle.thread_run.specs.Runs.{FollowsScript, share_of}
+use Rattle.buffer_queue.specs.Left.{spare_of}
 use Rattle.xray_program.specs.Run.{FollowsPlan}
 use Rattle.xray_program.proofs.PlainLaws.{SomeEnd}
 
@@ -40,6 +39,11 @@ SomeMarks = (program : Program) (limits : Limits) (thread : ℕ) (passed : List 
     (start total : ℕ) (bound : ℕ → ℕ) (hold : Option ℕ) → 0 < thread → PlainRun program limits thread passed end last
     → LetsEnd program thread hold code start total bound
     → (marks : List Mark) × MarksFollow program code start bound thread hold (sleds_of passed) marks total
+
+-- some losses of runs are those of one queue
+abbrev pub SomeLosses : Type 0
+SomeLosses = (size spare : ℕ) (runs : List ThreadRun)
+    → (others : List ThreadRun) × (without_losses others ≡ without_losses runs) × AreLost size spare others
 
 -- each script that is read has lawful runs
 abbrev pub SomeRuns : Type 0
@@ -120,37 +124,18 @@ but_for_losses program script setup runs others same are i other found =
 same_count : (runs others : List ThreadRun) → without_losses others ≡ without_losses runs → length others ≡ length runs
 same_count runs others same = sym (length-map others without_loss) ∙ (ap length same ∙ length-map runs without_loss)
 
--- each thread has lost the segments that are more than its share
-abbrev beyond : ℕ → ℕ → ThreadRun → ThreadRun
-beyond size share run = record run { lost = segment_count size run - share }
-
-kept_alike : (size share : ℕ) (runs : List ThreadRun) → without_losses (map (beyond size share) runs) ≡ without_losses runs
-kept_alike size share [] = refl
-kept_alike size share (run ∷ runs) = ap (λ (all : List ThreadRun). without_loss run ∷ all) (kept_alike size share runs)
-
-lost_beyond : (size share : ℕ) (runs : List ThreadRun) (i : ℕ) (run : ThreadRun) → slice_get (map (beyond size share) runs) i ≡ Some run
-    → run.lost ≡ segment_count size run - share
-lost_beyond size share [] i run found = absurd (no_run i run found)
-lost_beyond size share (old ∷ runs) zero run found =
-    subst (λ (r : ThreadRun). r.lost ≡ segment_count size r - share) (same_run (beyond size share old) run found) refl
-lost_beyond size share (old ∷ runs) (suc i) run found = lost_beyond size share runs i run found
-
 -- ---- the whole
 
-pub some_runs : SomeEnd → ScriptLetsEnd → SomeMarks → SomeRuns
-some_runs ends lets marks bytes text program plan setup accepted reads =
+pub some_runs : SomeEnd → ScriptLetsEnd → SomeMarks → SomeLosses → SomeRuns
+some_runs ends lets marks losses bytes text program plan setup accepted reads =
     let script = commands_of plan.lines in
     let made = all_beside program script setup 1 setup.threads (omega arith)
     (λ thread some. one_beside ends lets marks bytes text program plan setup thread accepted reads some) in
-    let runs : List ThreadRun = map (beyond setup.size (share_of setup)) made.0 in
-    let alike = kept_alike setup.size (share_of setup) made.0 in
-    let are = but_for_losses program script setup made.0 runs alike made.2 in (
-      runs,
-      record { count = same_count made.0 runs alike ∙ made.1; plain = λ i run found. (at script runs are i run found).plain },
-      record {
-        follow = λ i run found. (at script runs are i run found).follow;
-        lost = lost_beyond setup.size (share_of setup) made.0;
-      },
+    let lost = losses setup.size (spare_of setup) made.0 in
+    let are = but_for_losses program script setup made.0 lost.0 lost.1 made.2 in (
+      lost.0,
+      record { count = same_count made.0 lost.0 lost.1 ∙ made.1; plain = λ i run found. (at script lost.0 are i run found).plain },
+      record { follow = λ i run found. (at script lost.0 are i run found).follow; losses = lost.2 },
     )
   where
     at : (script : List Command) (runs : List ThreadRun) → AreBeside program script setup 1 runs → (i : ℕ) (run : ThreadRun)

@@ -1,15 +1,8 @@
--- `run`: nothing else comes of it if a refusal does, something comes of it in any case, and few segments are lost.
-use Rattle.std.proofs.Common.{◌≡◌, ◌<◌, ◌≤◌, ◌-◌, ◌/◌, ℕ, zero, suc, List, [], ◌∷◌, Some, refl, arith, codes}
-use Rattle.std.specs.List.{All, slice_get}
-use Rattle.std.proofs.Math.Nat.{div-eq-sub-div}
-use Rattle.std.proofs.lemmas.List.Elements.{All-cons, All-nil}
+-- `run`: nothing else comes of it if a refusal does, and something comes of it in any case.
+use Rattle.std.proofs.Common.{ℕ, List, refl, codes}
 use Rattle.machine_step.specs.declared.setup.Setup.{Setup}
 use Rattle.patch_script.specs.FaultWords.{script_words}
 use Rattle.patch_script.specs.Plans.{Plan, plan_of}
-use Rattle.thread_run.specs.Runs.{share_of}
-use Rattle.traced_run.specs.Kept.{segment_count}
-use Rattle.traced_run.specs.Losses.{LosesFew}
-use Rattle.traced_run.specs.Runs.{ThreadRun}
 use Rattle.xray_image.specs.Program.{Program}
 use Rattle.xray_io.specs.Desk.{Entry}
 use Rattle.xray_program.specs.Commands.{TellsAll}
@@ -46,36 +39,3 @@ run_some is some held i s t a setup told holds =
     let runs = some bytes text program plan setup reads said in
     some_leaves (Traces (FollowsPlan setup program plan) program setup t a) (written_of t a setup runs.0) (state_texts 1 runs.0)
     (record { runs = runs.0; run = runs.1; lawful = runs.2; outputs_are = refl; text_is = refl })))
-
--- ---- losses
-
--- if there is a buffer for each thread, each has one
-shares : (setup : Setup) → 1 ≤ setup.threads → setup.threads ≤ setup.max → 1 ≤ share_of setup
-shares setup some enough =
-    let positive : zero < setup.threads = omega (arith, some) in
-    omega (arith, div-eq-sub-div positive enough)
-
--- each of some runs has lost the segments that are more than a share
-abbrev LoseBeyond : (size share : ℕ) → List ThreadRun → Type 0
-LoseBeyond size share runs = (i : ℕ) (run : ThreadRun) → slice_get runs i ≡ Some run → run.lost ≡ segment_count size run - share
-
-few_below : (size share : ℕ) → 1 ≤ share → (runs : List ThreadRun) → LoseBeyond size share runs
-    → All (λ run. 0 < segment_count size run → run.lost < segment_count size run) runs
-few_below size share some [] lost = All-nil (λ (run : ThreadRun). 0 < segment_count size run → run.lost < segment_count size run)
-few_below size share some (run ∷ runs) lost =
-    All-cons (λ (run : ThreadRun). 0 < segment_count size run → run.lost < segment_count size run) run runs
-    (λ has. omega (arith, has, some, lost zero run refl)) (few_below size share some runs (λ i r found. lost (suc i) r found))
-
-none_lost : (size share : ℕ) → (runs : List ThreadRun) → LoseBeyond size share runs
-    → All (λ run. segment_count size run ≡ 0 → run.lost ≡ 0) runs
-none_lost size share [] lost = All-nil (λ (run : ThreadRun). segment_count size run ≡ 0 → run.lost ≡ 0)
-none_lost size share (run ∷ runs) lost =
-    All-cons (λ (run : ThreadRun). segment_count size run ≡ 0 → run.lost ≡ 0) run runs
-    (λ has. omega (arith, has, lost zero run refl)) (none_lost size share runs (λ i r found. lost (suc i) r found))
-
-pub loses_few : (setup : Setup) → 1 ≤ setup.threads → setup.threads ≤ setup.max → (runs : List ThreadRun)
-    → LoseBeyond setup.size (share_of setup) runs → LosesFew setup.size runs
-loses_few setup some enough runs lost = record {
-  below = few_below setup.size (share_of setup) (shares setup some enough) runs lost;
-  none = none_lost setup.size (share_of setup) runs lost;
-}

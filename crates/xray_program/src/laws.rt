@@ -8,6 +8,7 @@ ghost use Rattle.command_words.specs.Words.{Command};
 use machine_step::{one_end, some_end, some_marks_follow};
 use patch_script::each_script_lets_threads_end;
 use step_sim::{one_run, some_run};
+use traced_run::some_losses_are_of_a_queue;
 use xray_image::{one_verdict, some_verdict};
 
 /// If a command decides its outcome, its words mean only one thing over a desk that reports every
@@ -47,4 +48,5 @@ pub fn some_meaning()
     some_run();
     each_script_lets_threads_end();
     some_marks_follow();
+    some_losses_are_of_a_queue();
 }

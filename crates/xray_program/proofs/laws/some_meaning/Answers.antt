@@ -11,5 +11,6 @@ returns c said held told holds =
       run = c.some_run.ensures.still;
       lets = c.each_script_lets_threads_end.ensures;
       marks = c.some_marks_follow.ensures;
+      losses = c.some_losses_are_of_a_queue.ensures;
     })
     said held told holds
