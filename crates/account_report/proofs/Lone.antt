@@ -20,7 +20,7 @@ use Rattle.stack_rebuild.specs.Calls.{from_innermost, open_calls, pair_at, pair_
 use Rattle.stack_rebuild.specs.Histories.{Logged, of_thread}
 use Rattle.stack_rebuild.specs.PairLaws.{IsWholeCall, event_at, no_event}
 use Rattle.account_report.specs.Account.{count_placed, durations_of, enters, is_entry_in_pair, is_entry_of, is_exit_in_pair, is_exit_of, leaves, lone_entries, lone_exits}
-use Rattle.account_report.specs.Tallies.{durations_in}
+use Rattle.account_report.specs.private.Tallies.{durations_in}
 use Rattle.account_report.proofs.Tallying.{durations_of-cons, pair_after}
 
 -- ---- tests of numbers

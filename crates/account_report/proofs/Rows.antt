@@ -15,7 +15,7 @@ use Rattle.stack_rebuild.specs.Histories.{Logged}
 use Rattle.account_report.specs.declared.row.AccountRow.{AccountRow}
 use Rattle.account_report.specs.Account.{durations_of, functions_in, is_entry_of, is_exit_of, lone_entries, lone_exits, row_from, row_of}
 use Rattle.account_report.specs.Ascending.{ascending}
-use Rattle.account_report.specs.Tallies.{Tallied, has_event, row_of_entry, tally_of}
+use Rattle.account_report.specs.private.Tallies.{Tallied, has_event, row_of_entry, tally_of}
 use Rattle.account_report.proofs.Lone.{Laws, each_entry, each_exit}
 use Rattle.account_report.proofs.Rising.{length-ascending, count, count-cons, count-each_once, distinct-each_once, rises-each_once, rises_from_sorted, same_rising}
 

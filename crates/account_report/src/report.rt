@@ -5,7 +5,7 @@ ghost use Rattle.std.specs.HashMap.{IsUnique};
 ghost use Rattle.std.specs.List.{IsDistinct};
 ghost use Rattle.account_report.specs.Account.{account_of};
 ghost use Rattle.account_report.specs.AccountText.{latencies_of};
-ghost use Rattle.account_report.specs.Tallies.{row_of_entry};
+ghost use Rattle.account_report.specs.private.Tallies.{row_of_entry};
 
 use crate::row::AccountRow;
 use crate::scan::tallies;

@@ -1,7 +1,7 @@
 //! Numbers for paths.
 
 ghost use Rattle.std.specs.Prelude.{◌≡◌, ◌<◌, ◌++◌, ℕ, [], ◌∷◌, length, IfOk, IfSome, IsTrue};
-ghost use Rattle.stack_rebuild.specs.PathNumbers.{AreApart, HasNumber, path_at, path_by};
+ghost use Rattle.stack_rebuild.specs.private.PathNumbers.{AreApart, HasNumber, path_at, path_by};
 
 use std::alloc::{AllocError, Global};
 use std::collections::HashMap;
@@ -52,7 +52,7 @@ impl Model for PathNumbers {
 
     ghost Value = { List (List ℕ) };
 
-    ghost use Rattle.stack_rebuild.specs.PathTree.{paths_in, IsTree};
+    ghost use Rattle.stack_rebuild.specs.private.PathTree.{paths_in, IsTree};
 
     ghost view = { paths_in };
 

@@ -2,8 +2,8 @@
 
 ghost use Rattle.std.specs.Prelude.{◌≡◌, ◌<◌, ◌++◌, length, map, IfOk, IfErr, OnOk, None};
 ghost use Rattle.std.specs.Ordering.{is_lt};
-ghost use Rattle.stack_rebuild.specs.Rows.{row_before, row_by, rows_at, rows_below};
-ghost use Rattle.stack_rebuild.specs.Scanning.{AreSums};
+ghost use Rattle.stack_rebuild.specs.private.Rows.{row_before, row_by, rows_at, rows_below};
+ghost use Rattle.stack_rebuild.specs.private.Scanning.{AreSums};
 ghost use Rattle.stack_rebuild.specs.Stacks.{IsDeepFault, all_timed, deep_in, most_open, stack_of, told};
 
 use crate::path_sums::{PathSums, Tally};

@@ -14,9 +14,9 @@ use Rattle.step_sim.specs.declared.turns.Turns.TheVariants as turns_of
 use Rattle.step_sim.specs.Plays.{turns}
 use Rattle.step_sim.specs.Replay.{Cast, Moment, line_turns, of_thread, thread_turn}
 use Rattle.step_sim.specs.Pool.{AllPooledRunOut, Pooled, PooledRunsOut, Stock, pooled_rules, pooled_step}
-use Rattle.step_sim.specs.Standing.{AllStandAt, StandAt}
-use Rattle.step_sim.specs.Holding.{PoolHolds}
-use Rattle.step_sim.specs.Recording.{AllRecord, AllRecordAt, PoolAt, RecordAt, Recording, Records, histories, line_in, pooling_in, turn_in}
+use Rattle.step_sim.specs.private.Standing.{AllStandAt, StandAt}
+use Rattle.step_sim.specs.private.Holding.{PoolHolds}
+use Rattle.step_sim.specs.private.Recording.{AllRecord, AllRecordAt, PoolAt, RecordAt, Recording, Records, histories, line_in, pooling_in, turn_in}
 use Rattle.step_sim.proofs.AllThreads.{stand_of, turns_moved}
 use Rattle.step_sim.proofs.OneRecorded.{holds_same}
 use Rattle.step_sim.proofs.Plays.{one_more_out}

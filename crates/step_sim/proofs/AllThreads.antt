@@ -16,7 +16,7 @@ use Rattle.step_sim.specs.declared.turns.Turns.TheVariants as turns_of
 use Rattle.step_sim.specs.Along.{IsAlong}
 use Rattle.step_sim.specs.Plays.{turns}
 use Rattle.step_sim.specs.Replay.{AllRunOut, Cast, Moment, RunsOut, line_turns, moment_rules, of_thread, patcher_turn, thread_turn}
-use Rattle.step_sim.specs.Standing.{AllPlay, AllStandAt, IsPatcherAt, IsThreadAt, Play, Rests, StandAt}
+use Rattle.step_sim.specs.private.Standing.{AllPlay, AllStandAt, IsPatcherAt, IsThreadAt, Play, Rests, StandAt}
 use Rattle.step_sim.proofs.Plays.{one_more_out}
 use Rattle.step_sim.proofs.ReplayAlong.{patcher_keeps, turns_keep}
 use Rattle.step_sim.proofs.TurnLemmas.{patcher_turns, turns_length, turns_other}

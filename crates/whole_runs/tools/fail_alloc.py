@@ -7,9 +7,12 @@ usage: crates/whole_runs/tools/fail_alloc.py [PROGRAM] [--with COMMANDS] [--most
     --most: how many allocations of a run are tried, 5,000 if left out
 
 Each command is run on the files of examples/. Its Nth allocation is refused, for N from 1 until a run makes fewer. It is
-refused alone, and in a second run together with all that come after it. Both times the status has to be 5, with its line on
-standard error and nothing on standard output, and no file may have been created. The run that no refusal hits has to be the
-same as one without the tool. Each difference is reported, and then the status is 1.
+refused alone, and in a second run together with all that come after it. A run may then
+- end with status 5 and its line on standard error, with nothing on standard output and no file created;
+- be the same as without a refusal, if the program can do without that memory;
+- end with status 3 or 4 and report a fault of a file, if the memory was wanted to open it: the program counts each error of
+  the system as a fault. Nothing is then on standard output, and outputs that were created before hold all that they should.
+Anything else is reported, and then the status is 1. The run that no refusal hits has to be the same as one without the tool.
 
 The allocations are those of the C library's functions, in all threads of the program. A library that is preloaded counts
 them, so this needs a C compiler, `cc`.
@@ -18,6 +21,7 @@ import argparse
 import dataclasses
 import os
 import pathlib
+import re
 import shutil
 import subprocess
 import sys
@@ -36,6 +40,8 @@ COMMANDS = {
     "convert": "convert calls.trace",
 }
 OUT_OF_MEMORY = (5, b"", b"xray: out of memory\n", {})
+# What a run reports on standard error if it couldn't read or write a file, by its status.
+FAULT = {3: re.compile(rb"xray: [^\n]*: read fault\n"), 4: re.compile(rb"xray: [^\n]*: write fault\n")}
 
 # Refuses the allocation of the number in REFUSE, and with AND_AFTER all after it. Then it writes a byte to the descriptor TOLD.
 REFUSER = r"""
@@ -124,22 +130,38 @@ def seen(program, words, inputs, folder, library=None, refusal=None):
     return was_refused, (done.returncode, done.stdout, done.stderr, made)
 
 
+def outcome(comes, alone):
+    """Which of the three things a run with a refusal does, or None."""
+    status, out, err, made = comes
+    if comes == OUT_OF_MEMORY:
+        return "out of memory"
+    if comes == alone:
+        return "the same"
+    whole = all(made[name] == alone[3].get(name) for name in made)
+    if out == b"" and whole and FAULT.get(status, re.compile(b"(?!)")).fullmatch(err):
+        return "a fault of a file"
+    return None
+
+
 def differences(name, seen_with, most):
-    """The lines that report where a command's runs do something else, and how many allocations were refused."""
-    lines = []
+    """The lines that report where a command's runs do something else, and how often each other thing happened."""
+    lines, counts = [], dict.fromkeys(["out of memory", "the same", "a fault of a file"], 0)
     _, alone = seen_with(None)
     if alone[0] != 0:
-        return [f"{name}: status {alone[0]} with enough memory: {alone[2]!r}"], 0
+        return [f"{name}: status {alone[0]} with enough memory: {alone[2]!r}"], counts
     for number in range(1, most + 1):
         for and_after in [False, True]:
             was_refused, comes = seen_with(Refusal(number, and_after))
             if not was_refused:
-                return lines + ([f"{name}: differs with the tool alone"] if comes != alone else []), number - 1
-            if comes != OUT_OF_MEMORY:
-                status, out, err, made = comes
-                which = f"allocation {number}" + (" and all after it" if and_after else "")
-                lines.append(f"{name}: {which}: status {status}, out {len(out)} bytes, err {err!r}, made {sorted(made)}")
-    return lines + [f"{name}: stopped at {most} allocations"], most
+                return lines + ([f"{name}: differs with the tool alone"] if comes != alone else []), counts
+            found = outcome(comes, alone)
+            if found is not None:
+                counts[found] += 1
+                continue
+            status, out, err, made = comes
+            which = f"allocation {number}" + (" and all after it" if and_after else "")
+            lines.append(f"{name}: {which}: status {status}, out {len(out)} bytes, err {err!r}, made {sorted(made)}")
+    return lines + [f"{name}: stopped at {most} allocations"], counts
 
 
 def main():
@@ -158,9 +180,9 @@ def main():
             def seen_with(refusal, line=COMMANDS[name]):
                 return seen(program, line, inputs, folder / "run", library, refusal)
 
-            lines, count = differences(name, seen_with, said.most)
+            lines, counts = differences(name, seen_with, said.most)
             found += lines
-            print(f"{name}: {count} allocations refused, {len(lines)} differences")
+            print(f"{name}:", ", ".join(f"{what} {count}" for what, count in counts.items()) + f", differences {len(lines)}")
     for line in found:
         print(line)
     sys.exit(1 if found else 0)

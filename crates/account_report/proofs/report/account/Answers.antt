@@ -6,7 +6,7 @@ use Rattle.std.specs.List.Sorted.{IsNonDecreasingBy}
 use Rattle.std.proofs.lemmas.List.Sorted.{IsNonDecreasingBy-from_sort_by_key}
 use Rattle.stack_rebuild.specs.Histories.{history_of}
 use Rattle.account_report.specs.declared.row.AccountRow.{AccountRow}
-use Rattle.account_report.specs.Tallies.{Tallied, no_tally, tally_of}
+use Rattle.account_report.specs.private.Tallies.{Tallied, no_tally, tally_of}
 use Rattle.account_report.proofs.Rows.{own_rows, rows_sorted}
 use Rattle.account_report.proofs.report.account.Goals as goal
 

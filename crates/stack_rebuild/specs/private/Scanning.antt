@@ -6,7 +6,7 @@ use Rattle.stack_rebuild.specs.declared.path_sums.Tally.{Tally}
 use Rattle.stack_rebuild.specs.declared.thread_stack.Frame.{Frame}
 use Rattle.stack_rebuild.specs.Calls.{Standing, open_calls, standing_after}
 use Rattle.stack_rebuild.specs.Stacks.{Timed, has_path, path_of, spent_in, timed_in}
-use Rattle.stack_rebuild.specs.PathNumbers.{AreApart, path_at}
+use Rattle.stack_rebuild.specs.private.PathNumbers.{AreApart, path_at}
 
 -- what pairs say of a path
 abbrev pub tally_of : List Timed → List ℕ → Tally

@@ -1,7 +1,7 @@
 -- What the fields of numbered paths say.
 use Rattle.std.specs.Prelude.{List, reverse, ℕ}
 use Rattle.stack_rebuild.specs.declared.path_numbers.PathNumbers.TheInside.{Inside}
-use Rattle.stack_rebuild.specs.PathNumbers.{AreNumbered, paths_after}
+use Rattle.stack_rebuild.specs.private.PathNumbers.{AreNumbered, paths_after}
 
 -- the paths
 abbrev pub paths_in : Inside → List (List ℕ)

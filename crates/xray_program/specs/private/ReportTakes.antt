@@ -7,7 +7,7 @@ use Rattle.xray_io.specs.World.{DeskView}
 use Rattle.xray_program.specs.Inputs.{image_form, trace_form}
 use Rattle.xray_program.specs.Outcomes.{Outcome}
 use Rattle.xray_program.specs.Reports.{TakeReport}
-use Rattle.xray_program.specs.Takes.{Gives, IsMaybeTaken, IsTaken}
+use Rattle.xray_program.specs.private.Takes.{Gives, IsMaybeTaken, IsTaken}
 use Rattle.xray_program.specs.Taking.{DeskReads}
 use Rattle.xray_program.specs.declared.report_inputs.ReportInputs.{ReportInputs}
 use Rattle.xray_program.specs.declared.stop.Stop.{Stop}

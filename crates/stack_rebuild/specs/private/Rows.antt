@@ -3,8 +3,8 @@ use Rattle.std.specs.Prelude.{◌++◌, Bool, ℕ, zero, suc, List, [], ◌∷�
 use Rattle.std.specs.Ordering.{is_lt}
 use Rattle.stack_rebuild.specs.declared.path_sums.Tally.{Tally}
 use Rattle.stack_rebuild.specs.declared.stack_row.StackRow.{StackRow}
-use Rattle.stack_rebuild.specs.PathNumbers.{path_at}
-use Rattle.stack_rebuild.specs.Scanning.{no_tally}
+use Rattle.stack_rebuild.specs.private.PathNumbers.{path_at}
+use Rattle.stack_rebuild.specs.private.Scanning.{no_tally}
 use Rattle.stack_rebuild.specs.Stacks.{PathRow, path_cmp}
 
 -- the row of a path with a tally

@@ -2,7 +2,7 @@
 use Rattle.std.specs.Prelude.{reverse}
 use Rattle.stack_rebuild.specs.declared.calls.ThreadCalls.TheInside.{Inside}
 use Rattle.stack_rebuild.specs.Calls.{Standing}
-use Rattle.stack_rebuild.specs.Counts.{AreCountsOf}
+use Rattle.stack_rebuild.specs.private.Counts.{AreCountsOf}
 
 -- where the thread is
 abbrev pub standing_in : Inside → Standing

@@ -13,8 +13,8 @@ use Rattle.step_sim.specs.Replay.{Cast, Moment, of_thread}
 use Rattle.step_sim.specs.Pool.{Pooled, Pooling, Stock, pooled_line, pooled_turn, stock_behind}
 use Rattle.traced_run.specs.Kept.{Stamp}
 use Rattle.step_sim.specs.Recorded.{events_at, pooling_of}
-use Rattle.step_sim.specs.Standing.{AllStandAt, StandAt}
-use Rattle.step_sim.specs.Holding.{Histories, PoolHolds, segments_in}
+use Rattle.step_sim.specs.private.Standing.{AllStandAt, StandAt}
+use Rattle.step_sim.specs.private.Holding.{Histories, PoolHolds, segments_in}
 
 -- what a replay with buffers is played with
 pub record Recording : Type 0 where

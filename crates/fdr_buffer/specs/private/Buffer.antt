@@ -6,7 +6,7 @@ use Rattle.fdr_buffer.specs.declared.buffer.Buffer.TheInside.{Inside}
 use Rattle.fdr_buffer.specs.Segments.{preamble_length, EventFits}
 use Rattle.fdr_buffer.specs.Filled.{Filled, used_bytes, last_of}
 use Rattle.fdr_buffer.specs.Fits.{PreambleFits}
-use Rattle.fdr_buffer.specs.Telling.{events_in}
+use Rattle.fdr_buffer.specs.private.Telling.{events_in}
 
 -- the buffer with these events
 abbrev pub filled_with : Inside → List Event → Filled
