@@ -15,6 +15,7 @@ pub mod PlainLaws
 pub mod PlainThreads
 pub mod Reports
 pub mod Rows
+pub mod RunExists
 pub mod RunLaws
 pub mod RunLoads
 pub mod RunTurns

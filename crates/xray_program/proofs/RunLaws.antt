@@ -1,5 +1,5 @@
--- `run`: nothing else comes of it if a refusal does.
-use Rattle.std.proofs.Common.{ℕ, List, codes}
+-- `run`: nothing else comes of it if a refusal does, and something comes of it in any case.
+use Rattle.std.proofs.Common.{ℕ, List, refl, codes}
 use Rattle.machine_step.specs.declared.setup.Setup.{Setup}
 use Rattle.patch_script.specs.FaultWords.{script_words}
 use Rattle.patch_script.specs.Plans.{Plan, plan_of}
@@ -10,8 +10,9 @@ use Rattle.xray_program.specs.Inputs.{image_form, script_form}
 use Rattle.xray_program.specs.Outcomes.{Outcome}
 use Rattle.xray_program.specs.Run.{FollowsPlan, RunComes, RunsBeside}
 use Rattle.xray_program.specs.Taking.{Sound, Take}
-use Rattle.xray_program.specs.Traced.{Traces}
-use Rattle.xray_program.proofs.Meanings.{IsAlone, IsDecided, IsRefusal, decided_by, leaves_no_refusal, take_alone}
+use Rattle.xray_program.specs.Traced.{Traces, state_texts, written_of}
+use Rattle.xray_program.proofs.Meanings.{HoldsBytes, IsAlone, IsDecided, IsJudged, IsRefusal, SomeOutcome, decided_by, judged_by, leaves_no_refusal, some_leaves, some_take, take_alone}
+use Rattle.xray_program.proofs.RunExists.{SomeRuns}
 
 -- what comes of an image
 abbrev AfterImage : (List ℕ → Entry) → (s t a : List ℕ) → Setup → Program → Outcome → Type 0
@@ -24,3 +25,15 @@ run_refuses is held i s t a setup told =
     take_alone (script_form program setup.threads) (decided_by (codes "script") 1048576 (plan_of program setup.threads) script_words) IsRefusal held s
     (λ plan. RunsBeside t a setup program plan) (told s) (λ _ plan _.
     leaves_no_refusal (Traces (FollowsPlan setup program plan) program setup t a)))
+
+-- ---- something in any case
+
+pub run_some : IsJudged image_form → SomeRuns → (held : List ℕ → Entry) (i s t a : List ℕ) (setup : Setup) → TellsAll held → HoldsBytes held
+    → SomeOutcome (RunComes Sound held i s t a setup)
+run_some is some held i s t a setup told holds =
+    some_take image_form is held i (AfterImage held s t a setup) (told i) holds (λ bytes program reads.
+    some_take (script_form program setup.threads) (judged_by (codes "script") 1048576 (plan_of program setup.threads) script_words) held s
+    (λ plan. RunsBeside t a setup program plan) (told s) holds (λ text plan said.
+    let runs = some bytes text program plan setup reads said in
+    some_leaves (Traces (FollowsPlan setup program plan) program setup t a) (written_of t a setup runs.0) (state_texts 1 runs.0)
+    (record { runs = runs.0; run = runs.1; lawful = runs.2; outputs_are = refl; text_is = refl })))
