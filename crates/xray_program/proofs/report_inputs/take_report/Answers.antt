@@ -58,4 +58,4 @@ returns-clause-calls g c =
     let one = read_on along both c.args.desk.now c.args.desk.now c.take.new.desk [] c.args.trace.now 67108864
     (no_reads along g.met.D.Desk.along_none c.args.desk.now) c.in_ok-trace.ensures.calls in
     both_read along both c.args.desk.now c.take.new.desk c.take_maybe.new.desk (seen c.take.new.desk) (seen c.take_maybe.new.desk) (g.D.Desk.held c.args.desk.now)
-    c.args.trace.now image c.in_ok-trace.trace c.in_ok-image.image c.take.ensures.held c.in_ok-trace.ensures.taken c.in_ok-image.ensures.taken one c.in_ok-image.ensures.calls _
+    c.args.trace.now image c.in_ok-trace.trace c.in_ok-image.image c.take.ensures.held c.in_ok-trace.ensures.taken c.in_ok-image.ensures.taken one c.in_ok-image.ensures.calls
