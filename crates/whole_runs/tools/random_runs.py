@@ -2,14 +2,13 @@
 """Compares `xray` with a model of it on random inputs and command lines, and says where they differ.
 
 usage: crates/whole_runs/tools/random_runs.py [PROGRAM] [--with COMMANDS] [--of COMMAND] [--lines] [--loops]
-           [--buffers NAME] [--runs N] [--seed N] [--jobs N]
+           [--runs N] [--seed N] [--jobs N]
     PROGRAM: the built program, crates/xray/out/xray if left out
     --with: which of sim, run, account, stack and convert PROGRAM has, joined by commas, all if left out; without sim a
         replay has three files and writes no trace
     --of: this command alone
     --lines: random command lines over sound files alone (random_lines.py)
     --loops: runs of long loops that are patched all the time (random_loops.py)
-    --buffers: how the threads of `run` share buffers, rings or pool; rings if left out
     --runs: how many runs, 1000 if left out
     --seed: what all is drawn by, 1 if left out
     --jobs: how many runs at a time, 2 if left out
@@ -43,7 +42,6 @@ import subprocess
 import sys
 import tempfile
 import time
-from collections.abc import Callable
 
 sys.dont_write_bytecode = True  # the modules stand in the repository, and their compiled forms don't
 import run_model  # noqa: E402
@@ -116,7 +114,7 @@ def world_of(case, shows):
     """What a run of a case finds."""
     named = {name.decode(): content for name, content in case.files.items()}
     unwritable = frozenset(name.decode() for name in case.unwritable)
-    return model.World(named, unwritable, case.is_output_full, shows.wall, shows.threads, shows.may_lose)
+    return model.World(named, unwritable, case.is_output_full, shows.wall, shows.threads)
 
 
 def files_expected(case, expects):
@@ -159,18 +157,17 @@ def came(xray, folder, case):
 
 @dataclasses.dataclass(frozen=True)
 class Shows:
-    """What a run shows that nothing states: its wall time, and what its threads show. `may_lose` judges the losses."""
+    """What a run shows that nothing states: its wall time, and what its threads show."""
 
     wall: tuple
     threads: list | None
-    may_lose: Callable
 
 
-def shown_in(files, begin, may_lose):
+def shown_in(files, begin):
     """What the audit of a run that began at this time shows, if there is one."""
     audits = [content for content in files.values() if content.startswith(b"xray-audit 1\n")]
     audit = audits[0] if audits else b""
-    return Shows(wall_in(audit, begin, time.time() + 1), run_model.shown_by(audit), may_lose)
+    return Shows(wall_in(audit, begin, time.time() + 1), run_model.shown_by(audit))
 
 
 def wall_in(audit, begin, end):
@@ -232,12 +229,12 @@ def reported(xray, folder, trace, forms):
     return differs, len(commands)
 
 
-def judged(xray, folder, case, forms, may_lose):
+def judged(xray, folder, case, forms):
     """The result of a run in a folder."""
     begin = int(time.time())
     comes, files = came(xray, folder, case)
     try:
-        expects = model.outcome(case.words, world_of(case, shown_in(files, begin, may_lose)), assemble, forms)
+        expects = model.outcome(case.words, world_of(case, shown_in(files, begin)), assemble, forms)
     except run_model.Unlawful as unlawful:
         return Result("unlawful", [f"the run may not show this: {unlawful}"])
     differs = outcome_differences(expects, comes)
@@ -255,12 +252,12 @@ def judged(xray, folder, case, forms, may_lose):
     return Result(answer_of(expects), differs, ends, marks, reports, recycled)
 
 
-def compared(xray, folder, number, cases, may_lose):
+def compared(xray, folder, number, cases):
     """The result of a run by its number; without a difference, no file is left."""
     case = cases.get(number)
     here = folder / str(number)
     here.mkdir()
-    result = judged(xray, here, case, cases.forms, may_lose)
+    result = judged(xray, here, case, cases.forms)
     if result.differs:
         result.differs.insert(0, f"differs: {here}: {case.words!r}" + (" > /dev/full" if case.is_output_full else ""))
     else:
@@ -270,12 +267,12 @@ def compared(xray, folder, number, cases, may_lose):
 
 def arguments():
     parser = argparse.ArgumentParser(description="Compares the program with a model of it on random inputs.")
-    parser.add_argument("program", nargs="?", type=pathlib.Path, default=ROOT / "crates/xray/out/xray", metavar="PROGRAM")
+    built = ROOT / "crates/xray/out/xray"
+    parser.add_argument("program", nargs="?", type=pathlib.Path, default=built, metavar="PROGRAM")
     parser.add_argument("--with", dest="commands", default=",".join(model.LATER), metavar="COMMANDS")
     parser.add_argument("--of", dest="command", metavar="COMMAND")
     parser.add_argument("--lines", action="store_true")
     parser.add_argument("--loops", action="store_true")
-    parser.add_argument("--buffers", choices=run_model.LOSSES, default="rings")
     parser.add_argument("--runs", type=int, default=1000, metavar="N")
     parser.add_argument("--seed", type=int, default=1, metavar="N")
     parser.add_argument("--jobs", type=int, default=2, metavar="N")
@@ -327,12 +324,12 @@ class Summary:
 
 def main():
     given = arguments()
-    program, cases, may_lose = given.program.resolve(), cases_of(given), run_model.LOSSES[given.buffers]
+    program, cases = given.program.resolve(), cases_of(given)
     folder = pathlib.Path(tempfile.mkdtemp(prefix="random_runs."))
     summary = Summary()
     with concurrent.futures.ThreadPoolExecutor(given.jobs) as pool:
         numbers = range(1, given.runs + 1)
-        for result in pool.map(lambda number: compared(program, folder, number, cases, may_lose), numbers):
+        for result in pool.map(lambda number: compared(program, folder, number, cases), numbers):
             summary.add(result)
             if result.differs:
                 print("\n    ".join(result.differs))

@@ -45,12 +45,18 @@ def live_commands(draw, ids, threads):
     """Commands for threads that run by themselves: some are held, and the patcher waits for some."""
     before, behind = commands(draw, ids)
     numbers = range(1, threads + 1)
-    for thread in draw.sample(numbers, draw.choice([0, 0, 1, min(2, threads), threads])):
-        before.insert(draw.randint(0, len(before)), ["hold", str(thread), str(draw.choice([0, 1, 2, 3, 5, 20, 4_294_967_295]))])
+    holds = {thread: draw.choice([0, 1, 2, 3, 5, 20, 4_294_967_295]) for thread in numbers}
+    held = draw.sample(numbers, draw.choice([0, 0, 1, min(2, threads), threads]))
+    for thread in held:
+        before.insert(draw.randint(0, len(before)), ["hold", str(thread), str(holds[thread])])
         behind.insert(draw.randint(0, len(behind)), ["release", str(thread)])
     for _ in range(draw.choice([0, 1, 2, 4, 8])):
+        at, thread = draw.randint(0, len(behind)), draw.choice(numbers)
         count = draw.choice([0, 1, 2, 3, 4, 6, 10, 30, 100, 1000])
-        behind.insert(draw.randint(0, len(behind)), ["await", str(draw.choice(numbers)), str(count)])
+        if ["release", str(thread)] in behind[at:] and draw.random() < 0.95:
+            # A thread that is held doesn't make more passings than these.
+            count = min(count, holds[thread])
+        behind.insert(at, ["await", str(thread), str(count)])
     return [*before, ["go"], *behind]
 
 

@@ -149,20 +149,15 @@ class Course:
 # ---- Losses
 
 
-def ring_losses(options, segments, lost):
-    """Each thread has a ring of its own, which keeps its last segments."""
-    room = options["buffer-max"] // options["threads"]
-    return lost == [max(0, count - room) for count in segments]
+def may_lose(options, segments, lost):
+    """Whether threads with so many segments may lose so many of them.
 
-
-def pool_losses(options, segments, lost):
-    """All threads share one pool. Each keeps its last segment, and none is lost while a buffer is unused."""
+    All threads share one pool of buffers. Each keeps its last segment, and no segment is lost while a buffer is unused.
+    """
     sealed = [max(0, count - 1) for count in segments]
     spare = options["buffer-max"] - options["threads"]
     return all(one <= most for one, most in zip(lost, sealed)) and sum(lost) == max(0, sum(sealed) - spare)
 
-
-LOSSES = {"rings": ring_losses, "pool": pool_losses}
 
 # ---- Runs
 
@@ -189,7 +184,7 @@ class Segments(Buffers):
         self.threads[thread - 1].add(event)
 
 
-def ran(image, commands, options, shown, may_lose):
+def ran(image, commands, options, shown):
     """The threads of a run at their ends, and the segments of what they recorded, if the run may show this."""
     threads = range(1, options["threads"] + 1)
     if len(shown) != len(threads):

@@ -1,10 +1,9 @@
 #!/usr/bin/env python3
 """Runs `xray run` again and again on examples that were worked by hand, and says where a run differs from them.
 
-usage: crates/whole_runs/tools/worked_threads.py [PROGRAM] [--times N] [--buffers NAME]
+usage: crates/whole_runs/tools/worked_threads.py [PROGRAM] [--times N]
     PROGRAM: the built program, crates/xray/out/xray if left out
     --times: how often each example is run, 100 if left out
-    --buffers: how the threads share buffers, rings or pool; rings if left out
 
 Threads of the system run in another order each time. The scripts of most examples order them by holds and awaits, so
 that each run has to leave the same bytes. A program that ran its threads one after the other, or that patched before or
@@ -23,7 +22,6 @@ import tempfile
 
 sys.dont_write_bytecode = True  # the modules stand in the repository, and their compiled forms don't
 from random_images import ROOT  # noqa: E402
-from run_model import LOSSES  # noqa: E402
 from worked_runs import CALL, REGISTERS, STRAIGHT_LINE, TRACED, lines  # noqa: E402
 from worked_traces import (  # noqa: E402
     CSV_HEAD, FIBONACCI, SETUP, Programmed, Row, Run, audited, block, header, run_differences,
@@ -167,27 +165,27 @@ def recursion(options, recycled, size, *reports):
     return beside(shows, *reports, file=FIBONACCI, options=options, has=tuple(has), sizes={"t": size})
 
 
-def wrapped(options, buffers, recycled, kept):
-    """Threads that fill four buffers each, of one event. `recycled` and `kept` say what is lost and left."""
-    has = (f"recycled {recycled[buffers]}",)
-    size = len(header()) + kept[buffers] * (16 + 72)
+def wrapped(options, recycled, kept):
+    """Threads that fill four buffers each, of one event, of which so many are lost and so many left."""
+    size = len(header()) + kept * (16 + 72)
+    has = (f"recycled {recycled}",)
     return beside("buffers are used again", options=f"--buffer-size 72 {options}", has=has, sizes={"t": size})
 
 
-def unordered(buffers):
-    return [
-        recursion("", 0, 1_408_096, Run("account t i --format csv", FIBONACCI_ACCOUNT)),
-        # Of 64 buffers each thread has sixteen, or four are in hands and 60 take what is sealed: 84 segments.
-        recursion("--buffer-max 64", 24, 1_014_496),
-        # One buffer each, or one that is spare for the six that are sealed.
-        wrapped("--threads 2 --buffer-max 3", buffers, {"rings": 6, "pool": 5}, {"rings": 2, "pool": 3}),
-        wrapped("--threads 1 --buffer-max 2", buffers, {"rings": 2, "pool": 2}, {"rings": 2, "pool": 2}),
-        # No buffer is spare: each thread takes its own again, or one that another has just sealed.
-        wrapped("--threads 4 --buffer-max 4", buffers, {"rings": 12, "pool": 12}, {"rings": 4, "pool": 4}),
-        wrapped("--threads 16 --buffer-max 17", buffers, {"rings": 48, "pool": 47}, {"rings": 16, "pool": 17}),
-        wrapped("--threads 16 --buffer-max 64", buffers, {"rings": 0, "pool": 0}, {"rings": 64, "pool": 64}),
-    ]
-
+UNORDERED = [
+    recursion("", 0, 1_408_096, Run("account t i --format csv", FIBONACCI_ACCOUNT)),
+    # Four buffers are in hands, and of the 84 segments that are sealed the other 60 buffers keep 60.
+    recursion("--buffer-max 64", 24, 1_014_496),
+    # Each thread seals three segments, and one buffer is spare.
+    wrapped("--threads 2 --buffer-max 3", 5, 3),
+    wrapped("--threads 1 --buffer-max 2", 2, 2),
+    # No buffer is spare: each thread takes its own again, or one that another has just sealed.
+    wrapped("--threads 4 --buffer-max 4", 12, 4),
+    wrapped("--threads 16 --buffer-max 16", 48, 16),
+    wrapped("--threads 16 --buffer-max 17", 47, 17),
+    wrapped("--threads 16 --buffer-max 63", 1, 63),
+    wrapped("--threads 16 --buffer-max 64", 0, 64),
+]
 
 # ---- Words that say no command, and inputs that are refused
 
@@ -338,10 +336,9 @@ def main():
     built = ROOT / "crates/xray/out/xray"
     parser.add_argument("program", nargs="?", type=pathlib.Path, default=built, metavar="PROGRAM")
     parser.add_argument("--times", type=int, default=100, metavar="N")
-    parser.add_argument("--buffers", choices=LOSSES, default="rings")
     given = parser.parse_args()
     program = given.program.resolve()
-    again = [*ORDERED, sixteen_holds(), *unordered(given.buffers)]
+    again = [*ORDERED, sixteen_holds(), *UNORDERED]
     differ = [line for row in REFUSED for line in row_differences(program, row)]
     for row in again:
         for time in range(1, given.times + 1):

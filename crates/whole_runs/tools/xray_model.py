@@ -9,7 +9,6 @@ hand.
 """
 import dataclasses
 import re
-from collections.abc import Callable
 
 import run_model
 from image_model import Refused, image_of, sled_map_text
@@ -162,7 +161,7 @@ def check_buffers(threads, size, most):
 class World:
     """What a run of the program finds: the bytes of names that can be read, what can't be written, and the wall time.
 
-    For `run` it also finds what its threads show, and the rule by which segments are lost.
+    For `run` it also finds what its threads show.
     """
 
     files: dict
@@ -170,7 +169,6 @@ class World:
     is_output_full: bool = False
     wall: tuple = (0, 0)
     shown: list | None = None
-    may_lose: Callable = run_model.ring_losses
 
 
 @dataclasses.dataclass(frozen=True)
@@ -255,7 +253,7 @@ def run_beside(world, names, options):
     commands = taken_script(world, script_name, image, options["threads"])
     if world.shown is None:
         return Traced("?", None, None)
-    return traced(world, options, *run_model.ran(image, commands, options, world.shown, world.may_lose))
+    return traced(world, options, *run_model.ran(image, commands, options, world.shown))
 
 
 def traced(world, options, ended, buffers):
