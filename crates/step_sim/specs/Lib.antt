@@ -11,3 +11,4 @@ pub mod Standing
 pub mod Starts
 pub mod Starting
 pub mod FaultWords
+pub mod WrittenSchedules
