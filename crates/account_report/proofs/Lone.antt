@@ -1,10 +1,14 @@
 -- Each pair has one entry and one exit of its function. The others aren't in a pair.
-use Rattle.std.proofs.Common.{◌≡◌, ◌+◌, ◌<◌, ◌≤◌, ◌∙◌, ℕ, suc, Bool, true, false, not, cond, ◌&&◌, ◌||◌, List, [], ◌∷◌, length, count_by, refl, ap, sym, subst, arith, nat_eq, Option, Some, None}
-use Rattle.std.specs.List.{list_any}
+use Rattle.std.proofs.Common.{◌≡◌, ◌≢◌, ◌+◌, ◌++◌, ◌<◌, ◌≤◌, ◌∙◌, ℕ, suc, Bool, true, false, not, cond, ◌&&◌, ◌||◌, List, [], ◌∷◌, length, reverse, count_by, refl, ap, sym, subst, arith, nat_eq, Option, Some, None}
+use Rattle.std.specs.Prelude.{All}
+use Rattle.std.specs.List.{AllPairs, list_any}
 use Rattle.std.specs.Option.{option_to_list}
+use Rattle.std.proofs.Math.ListN.{get_or-append}
+use Rattle.std.proofs.Math.Seq.{get_or-append_seam}
 use Rattle.std.proofs.lemmas.Bool.{eqb-true, eq-eqb}
 use Rattle.std.proofs.lemmas.Bool.Decides.{nat_tests}
-use Rattle.std.proofs.lemmas.List.{length-append}
+use Rattle.std.proofs.lemmas.List.{length-append, length-reverse, reverse-append, reverse-reverse}
+use Rattle.std.proofs.lemmas.List.Elements.{All-head, All-tail}
 use Rattle.std.proofs.lemmas.List.Folds.{list_any-append}
 use Rattle.std.proofs.lemmas.List.Sums.{sum_by-cons}
 use Rattle.fdr_record.specs.declared.event.Event.{Event}
@@ -12,10 +16,11 @@ use Rattle.fdr_record.specs.declared.event.Kind.{Kind}
 use Rattle.fdr_record.specs.declared.event.Kind.TheVariants.{Entry, Exit, TailExit}
 use Rattle.stack_rebuild.specs.declared.call.Call.{Call}
 use Rattle.stack_rebuild.specs.declared.call.Pair.{Pair}
-use Rattle.stack_rebuild.specs.Calls.{from_innermost, left_open, open_after_kind, open_calls, pair_at, pair_at_kind, pair_of_call, pairs_in}
+use Rattle.stack_rebuild.specs.Calls.{from_innermost, open_calls, pair_at, pair_at_kind, pair_of_call, pairs_in, pairs_of}
 use Rattle.stack_rebuild.specs.Histories.{Logged, of_thread}
+use Rattle.stack_rebuild.specs.PairLaws.{IsWholeCall, event_at, no_event}
 use Rattle.account_report.specs.Account.{count_placed, durations_of, enters, is_entry_in_pair, is_entry_of, is_exit_in_pair, is_exit_of, leaves, lone_entries, lone_exits}
-use Rattle.account_report.specs.Tallies.{durations_in}
+use Rattle.account_report.specs.private.Tallies.{durations_in}
 use Rattle.account_report.proofs.Tallying.{durations_of-cons, pair_after}
 
 -- ---- tests of numbers
@@ -40,73 +45,11 @@ abbrev entry_at : ℕ → List Event → ℕ → Bool
 entry_at func [] k = false
 entry_at func (e ∷ es) k = cond (nat_eq (length es) k) (nat_eq e.func func && enters e.kind) (entry_at func es k)
 
--- Open calls, from the innermost to the outermost. Each began before a position. Their entries aren't in a pair, and
--- are those that they name.
-abbrev OpenBelow : List Event → ℕ → List Call → Type 0
-OpenBelow es bound [] = Unit {0}
-OpenBelow es bound (c ∷ outer) =
-    (c.entry < bound) × (has_entry (pairs_in es) c.entry ≡ false) × ((func : ℕ) → entry_at func es c.entry ≡ nat_eq c.func func) × OpenBelow es c.entry outer
-
-open_later : (es : List Event) (bound later : ℕ) (calls : List Call) → bound ≤ later → OpenBelow es bound calls → OpenBelow es later calls
-open_later es bound later [] up standing = tt
-open_later es bound later (c ∷ outer) up standing = (omega (arith, standing.0, up), standing.1, standing.2, standing.3)
-
--- they stay open after another event that makes no pair with them
-still_open : (e : Event) (es : List Event) (bound : ℕ) (calls : List Call) → bound ≤ length es
-    → ((i : ℕ) → i < bound → has_entry (pairs_in (e ∷ es)) i ≡ has_entry (pairs_in es) i)
-    → OpenBelow es bound calls → OpenBelow (e ∷ es) bound calls
-still_open e es bound [] within same standing = tt
-still_open e es bound (c ∷ outer) within same standing = (
-  standing.0,
-  same c.entry standing.0 ∙ standing.1,
-  λ func. ap (λ (b : Bool). cond b (nat_eq e.func func && enters e.kind) (entry_at func es c.entry)) (apart_too c.entry (length es) (omega (arith, standing.0, within)))
-      ∙ standing.2 func,
-  still_open e es c.entry outer (omega (arith, standing.0, within)) (λ i below. same i (omega (arith, below, standing.0))) standing.3,
-)
-
--- the call that an exit ends is open, and so are those outside it
-pub record Ended (es : List Event) (bound func : ℕ) (c : Call) (outer : List Call) : Type 0 where
-  pub below : c.entry < bound
-  pub free : has_entry (pairs_in es) c.entry ≡ false
-  pub entry : (other : ℕ) → entry_at other es c.entry ≡ nat_eq func other
-  pub outside : OpenBelow es c.entry outer
-
-ended : (es : List Event) (bound func : ℕ) (calls : List Call) (c : Call) (outer : List Call) → from_innermost func calls ≡ c ∷ outer
-    → OpenBelow es bound calls → Ended es bound func c outer
-ended es bound func [] c outer is standing = absurd (never is)
-  where
-    never : (let none : List Call = [] in none ≡ c ∷ outer) → ⊥
-    never e = cc
-ended es bound func (call ∷ rest) c outer is standing = by_first (nat_eq call.func func) refl is (λ e. ended es call.entry func rest c outer e standing.3)
-  where
-    first_is : (a b : Call) (x y : List Call) → a ∷ x ≡ b ∷ y → a ≡ b
-    first_is a b x y e = cc
-
-    rest_is : (a b : Call) (x y : List Call) → a ∷ x ≡ b ∷ y → x ≡ y
-    rest_is a b x y e = cc
-
-    here : Ended es bound call.func call rest
-    here = record { below = standing.0; free = standing.1; entry = standing.2; outside = standing.3 }
-
-    later : Ended es call.entry func c outer → Ended es bound func c outer
-    later d = record { below = omega (arith, d.below, standing.0); free = d.free; entry = d.entry; outside = d.outside }
-
-    by_first : (b : Bool) → nat_eq call.func func ≡ b → cond b (call ∷ rest) (from_innermost func rest) ≡ c ∷ outer
-        → (from_innermost func rest ≡ c ∷ outer → Ended es call.entry func c outer) → Ended es bound func c outer
-    by_first true same e rest_ended =
-        subst (λ (x : Call). Ended es bound func x outer) (first_is call c rest outer e)
-        (subst (λ (xs : List Call). Ended es bound func call xs) (rest_is call c rest outer e)
-        (subst (λ (f : ℕ). Ended es bound f call rest) (eqb-true call.func func same) here))
-    by_first false same e rest_ended = later (rest_ended e)
-
 -- what a pair of an event is made of
-pub record Made (e : Event) (at : ℕ) (calls : List Call) (pair : Pair) : Type 0 where
+pub record Made (e : Event) (at : ℕ) (pair : Pair) : Type 0 where
   pub enters_not : enters e.kind ≡ false
   pub leaves_so : leaves e.kind ≡ true
-  pub call : Call
-  pub outer : List Call
-  pub found : from_innermost e.func calls ≡ call ∷ outer
-  pub entry : pair.entry ≡ call.entry
+  pub func : pair.func ≡ e.func
   pub exit : pair.exit ≡ at
 
 some_is : (a b : Pair) → Some a ≡ Some b → a ≡ b
@@ -115,26 +58,22 @@ some_is a b e = cc
 none_is_not : (a : Pair) → (let none : Option Pair = None in none ≡ Some a) → ⊥
 none_is_not a e = cc
 
-made : (e : Event) (at : ℕ) (calls : List Call) (pair : Pair) → pair_at e at calls ≡ Some pair → Made e at calls pair
+made : (e : Event) (at : ℕ) (calls : List Call) (pair : Pair) → pair_at e at calls ≡ Some pair → Made e at pair
 made e at calls pair is = by_kind e.kind refl is
   where
-    by_found : (enters e.kind ≡ false) → (leaves e.kind ≡ true) → (found : List Call) → from_innermost e.func calls ≡ found
-        → pair_of_call e at found ≡ Some pair → Made e at calls pair
-    by_found enters_none so [] found p = absurd (none_is_not pair p)
-    by_found enters_none so (c ∷ outer) found p = record {
+    by_found : (enters e.kind ≡ false) → (leaves e.kind ≡ true) → (found : List Call) → pair_of_call e at found ≡ Some pair → Made e at pair
+    by_found enters_none so [] p = absurd (none_is_not pair p)
+    by_found enters_none so (c ∷ outer) p = record {
       enters_not = enters_none;
       leaves_so = so;
-      call = c;
-      outer = outer;
-      found = found;
-      entry = ap (λ (q : Pair). q.entry) (sym (some_is _ pair p));
+      func = ap (λ (q : Pair). q.func) (sym (some_is _ pair p));
       exit = ap (λ (q : Pair). q.exit) (sym (some_is _ pair p));
     }
 
-    by_kind : (k : Kind) → e.kind ≡ k → pair_at_kind k e at calls ≡ Some pair → Made e at calls pair
+    by_kind : (k : Kind) → e.kind ≡ k → pair_at_kind k e at calls ≡ Some pair → Made e at pair
     by_kind Entry k p = absurd (none_is_not pair p)
-    by_kind Exit k p = by_found (ap enters k) (ap leaves k) (from_innermost e.func calls) refl p
-    by_kind TailExit k p = by_found (ap enters k) (ap leaves k) (from_innermost e.func calls) refl p
+    by_kind Exit k p = by_found (ap enters k) (ap leaves k) (from_innermost e.func calls) p
+    by_kind TailExit k p = by_found (ap enters k) (ap leaves k) (from_innermost e.func calls) p
 
 -- the entries of pairs after one more event
 has_entry-more : (e : Event) (es : List Event) (i : ℕ)
@@ -160,94 +99,101 @@ paired e es i pair some =
     ∙ (ap (λ (p : Option Pair). has_entry (pairs_in es) i || has_entry (option_to_list p) i) some
     ∙ ap (λ (b : Bool). has_entry (pairs_in es) i || b) (or_false (nat_eq pair.entry i)))
 
--- ---- what is true after each history of a thread
+-- ---- what the laws of pairs say of a history
 
-pub record Stands (es : List Event) : Type 0 where
-  pub standing : OpenBelow es (length es) (open_calls es)
-  pub past : (i : ℕ) → length es ≤ i → has_entry (pairs_in es) i ≡ false
+pub record Laws : Type 0 where
+  pub apart : (events : List Event) → AllPairs (λ pair later. pair.entry ≢ later.entry) (pairs_of events)
+  pub whole : (events : List Event) → All (IsWholeCall events) (pairs_of events)
 
-stands_on : (e : Event) (es : List Event) → Stands es → Stands (e ∷ es)
-stands_on e es before = by_pair (pair_at e (length es) (open_calls es)) refl
+in_order : (es : List Event) → pairs_of (reverse es) ≡ pairs_in es
+in_order es = ap pairs_in (reverse-reverse es)
+
+last_made : (e : Event) (es : List Event) (pair : Pair) → pair_at e (length es) (open_calls es) ≡ Some pair
+    → pairs_of (reverse (e ∷ es)) ≡ pairs_in es ++ pair ∷ []
+last_made e es pair some = in_order (e ∷ es) ∙ ap (λ (p : Option Pair). pairs_in es ++ option_to_list p) some
+
+whole_made : Laws → (e : Event) (es : List Event) (pair : Pair) → pair_at e (length es) (open_calls es) ≡ Some pair
+    → IsWholeCall (reverse (e ∷ es)) pair
+whole_made laws e es pair some =
+    let all = subst (All (IsWholeCall (reverse (e ∷ es)))) (last_made e es pair some) (laws.whole (reverse (e ∷ es))) in
+    subst (IsWholeCall (reverse (e ∷ es))) (get_or-append_seam (pairs_in es) pair [] pair)
+    (all (length (pairs_in es)) pair (omega (arith, length-append (pairs_in es) (pair ∷ []))))
+
+differs : (n m : ℕ) → n ≢ m → nat_eq n m ≡ false
+differs n m other = by_test (nat_eq n m) refl
   where
-    at : ℕ
-    at = length es
+    by_test : (b : Bool) → nat_eq n m ≡ b → nat_eq n m ≡ false
+    by_test true is = absurd (other (eqb-true n m is))
+    by_test false is = is
 
-    calls : List Call
-    calls = open_calls es
+no_entry : (pairs : List Pair) (i : ℕ) → All (λ pair. pair.entry ≢ i) pairs → has_entry pairs i ≡ false
+no_entry [] i all = refl
+no_entry (pair ∷ pairs) i all =
+    or_both (nat_eq pair.entry i) (has_entry pairs i) (differs pair.entry i (All-head (λ p. p.entry ≢ i) pair pairs all))
+    (no_entry pairs i (All-tail (λ p. p.entry ≢ i) pair pairs all))
 
-    -- an event that makes no pair opens a call, or changes nothing
-    no_pair : pair_at e at calls ≡ None → OpenBelow (e ∷ es) (suc at) (open_after_kind e.kind e at calls)
-    no_pair none = by_kind e.kind refl none
-      where
-        kept : OpenBelow (e ∷ es) at calls
-        kept = still_open e es at calls (omega arith) (λ i below. unpaired e es i none) before.standing
+-- the entry of an event's pair is in no earlier pair
+entry_free : Laws → (e : Event) (es : List Event) (pair : Pair) → pair_at e (length es) (open_calls es) ≡ Some pair
+    → has_entry (pairs_in es) pair.entry ≡ false
+entry_free laws e es pair some =
+    let all = subst (AllPairs (λ p later. p.entry ≢ later.entry)) (last_made e es pair some) (laws.apart (reverse (e ∷ es))) in
+    no_entry (pairs_in es) pair.entry (λ k d low same.
+    all k (length (pairs_in es)) d low (omega (arith, length-append (pairs_in es) (pair ∷ [])))
+    (ap (λ (p : Pair). p.entry) (get_or-append (pairs_in es) (pair ∷ []) d k low)
+    ∙ (same ∙ sym (ap (λ (p : Pair). p.entry) (get_or-append_seam (pairs_in es) pair [] d)))))
 
-        opened : e.kind ≡ Entry → OpenBelow (e ∷ es) (suc at) (record { entry = at; func = e.func; tsc = e.tsc } ∷ calls)
-        opened k = (
-          omega arith,
-          unpaired e es at none ∙ before.past at (omega arith),
-          λ func. ap (λ (b : Bool). cond b (nat_eq e.func func && enters e.kind) (entry_at func es at)) (eq-eqb at at refl)
-              ∙ (ap (λ (x : Kind). nat_eq e.func func && enters x) k ∙ and_true (nat_eq e.func func)),
-          kept,
-        )
-          where
-            and_true : (b : Bool) → (b && true) ≡ b
-            and_true true = refl
-            and_true false = refl
+-- the entries of pairs are positions before the end of a history
+entry_past : Laws → (es : List Event) (i : ℕ) → length es ≤ i → has_entry (pairs_in es) i ≡ false
+entry_past laws es i past =
+    let all = subst (All (IsWholeCall (reverse es))) (in_order es) (laws.whole (reverse es)) in
+    no_entry (pairs_in es) i (λ k d low same. absurd (omega (arith, (all k d low).rises, (all k d low).within, length-reverse es, past, same)))
 
-        nothing : (found : List Call) → pair_of_call e at found ≡ None → OpenBelow (e ∷ es) (suc at) (left_open calls found)
-        nothing [] p = open_later (e ∷ es) at (suc at) calls (omega arith) kept
-        nothing (c ∷ outer) p = absurd (none_is_not _ (sym p))
+below_last : (n k : ℕ) → k < suc n → nat_eq n k ≡ false → k < n
+below_last n k low other = grind (arith, nat_tests)
 
-        by_kind : (k : Kind) → e.kind ≡ k → pair_at_kind k e at calls ≡ None → OpenBelow (e ∷ es) (suc at) (open_after_kind k e at calls)
-        by_kind Entry k p = opened k
-        by_kind Exit k p = nothing (from_innermost e.func calls) p
-        by_kind TailExit k p = nothing (from_innermost e.func calls) p
+and_so : (b : Bool) → (b && true) ≡ b
+and_so true = refl
+and_so false = refl
 
-    -- an exit that makes a pair leaves the calls outside the one that it ends
-    one_pair : (pair : Pair) → pair_at e at calls ≡ Some pair → OpenBelow (e ∷ es) (suc at) (open_after_kind e.kind e at calls)
-    one_pair pair some = by_kind e.kind refl
-      where
-        m : Made e at calls pair
-        m = made e at calls pair some
+event_before : (e : Event) (es : List Event) (k : ℕ) → k < length es → event_at (reverse (e ∷ es)) k ≡ event_at (reverse es) k
+event_before e es k below =
+    ap (λ (events : List Event). event_at events k) (reverse-append (e ∷ []) es)
+    ∙ get_or-append (reverse es) (e ∷ []) no_event k (omega (arith, below, length-reverse es))
 
-        d : Ended es at e.func m.call m.outer
-        d = ended es at e.func calls m.call m.outer m.found before.standing
+event_last : (e : Event) (es : List Event) → event_at (reverse (e ∷ es)) (length es) ≡ e
+event_last e es =
+    ap (λ (events : List Event). event_at events (length es)) (reverse-append (e ∷ []) es)
+    ∙ (ap (event_at (reverse es ++ e ∷ [])) (sym (length-reverse es)) ∙ get_or-append_seam (reverse es) e [] no_event)
 
-        same : (i : ℕ) → i < m.call.entry → has_entry (pairs_in (e ∷ es)) i ≡ has_entry (pairs_in es) i
-        same i below =
-            paired e es i pair some
-            ∙ (ap (λ (b : Bool). has_entry (pairs_in es) i || b) (apart_too i pair.entry (omega (arith, below, m.entry))) ∙ or_false (has_entry (pairs_in es) i))
+-- an entry at a position is one of its own function
+entry_at_is : (func : ℕ) (es : List Event) (k : ℕ) → k < length es → (event_at (reverse es) k).kind ≡ Entry
+    → entry_at func es k ≡ nat_eq (event_at (reverse es) k).func func
+entry_at_is func [] k low is = absurd (omega (arith, low))
+entry_at_is func (e ∷ es) k low is = by_place (nat_eq (length es) k) refl (entry_at_is func es k)
+  where
+    by_place : (b : Bool) → nat_eq (length es) k ≡ b
+        → (k < length es → (event_at (reverse es) k).kind ≡ Entry → entry_at func es k ≡ nat_eq (event_at (reverse es) k).func func)
+        → cond b (nat_eq e.func func && enters e.kind) (entry_at func es k) ≡ nat_eq (event_at (reverse (e ∷ es)) k).func func
+    by_place true same before =
+        let here : event_at (reverse (e ∷ es)) k ≡ e = ap (event_at (reverse (e ∷ es))) (sym (eqb-true (length es) k same)) ∙ event_last e es in
+        let kind : e.kind ≡ Entry = sym (ap (λ (x : Event). x.kind) here) ∙ is in
+        ap (λ (x : Kind). nat_eq e.func func && enters x) kind
+        ∙ (and_so (nat_eq e.func func) ∙ ap (λ (x : Event). nat_eq x.func func) (sym here))
+    by_place false other before =
+        let below : k < length es = below_last (length es) k low other in
+        let kept = event_before e es k below in
+        before below (sym (ap (λ (x : Event). x.kind) kept) ∙ is) ∙ ap (λ (x : Event). nat_eq x.func func) (sym kept)
 
-        left : OpenBelow (e ∷ es) (suc at) m.outer
-        left = open_later (e ∷ es) m.call.entry (suc at) m.outer (omega (arith, d.below)) (still_open e es m.call.entry m.outer (omega (arith, d.below)) same d.outside)
-
-        exits : OpenBelow (e ∷ es) (suc at) (left_open calls (from_innermost e.func calls))
-        exits = subst (λ (found : List Call). OpenBelow (e ∷ es) (suc at) (left_open calls found)) (sym m.found) left
-
-        by_kind : (k : Kind) → e.kind ≡ k → OpenBelow (e ∷ es) (suc at) (open_after_kind k e at calls)
-        by_kind Entry k = absurd (never (sym (ap enters k) ∙ m.enters_not))
-          where
-            never : true ≡ false → ⊥
-            never x = cc
-        by_kind Exit k = exits
-        by_kind TailExit k = exits
-
-    by_pair : (p : Option Pair) → pair_at e at calls ≡ p → Stands (e ∷ es)
-    by_pair None none = record { standing = no_pair none; past = λ i past. unpaired e es i none ∙ before.past i (omega (arith, past)) }
-    by_pair (Some pair) some =
-        let m = made e at calls pair some in
-        let d = ended es at e.func calls m.call m.outer m.found before.standing in
-        record {
-          standing = one_pair pair some;
-          past = λ i past. paired e es i pair some
-              ∙ or_both (has_entry (pairs_in es) i) (nat_eq pair.entry i) (before.past i (omega (arith, past)))
-              (apart pair.entry i (omega (arith, past, d.below, m.entry)));
-        }
-
-stands : (es : List Event) → Stands es
-stands [] = record { standing = tt; past = λ i past. refl }
-stands (e ∷ es) = stands_on e es (stands es)
+-- the entry of an event's pair is one of the event's function
+entry_own : Laws → (e : Event) (es : List Event) (pair : Pair) → pair_at e (length es) (open_calls es) ≡ Some pair → (func : ℕ)
+    → entry_at func es pair.entry ≡ nat_eq e.func func
+entry_own laws e es pair some func =
+    let w = whole_made laws e es pair some in
+    let m = made e (length es) (open_calls es) pair some in
+    let below : pair.entry < length es = omega (arith, w.rises, m.exit) in
+    let kept = event_before e es pair.entry below in
+    entry_at_is func es pair.entry below (sym (ap (λ (x : Event). x.kind) kept) ∙ w.enters)
+    ∙ (ap (λ (x : Event). nat_eq x.func func) (sym kept) ∙ ap (λ (f : ℕ). nat_eq f func) (w.entered ∙ m.func))
 
 -- the exits of pairs are positions before the end of a history
 exit_past : (es : List Event) (i : ℕ) → length es ≤ i → has_exit (pairs_in es) i ≡ false
@@ -462,9 +408,9 @@ no_durations func l h none =
     ∙ omega arith))
 
 -- each entry of a function is in one pair, or in none
-pub each_entry : (func : ℕ) (h : List Logged) → lone_entries h func + length (durations_of func h) ≡ count_by (is_entry_of func) h
-each_entry func [] = refl
-each_entry func (l ∷ h) = by_pair (pair_after l h) refl (each_entry func h)
+pub each_entry : Laws → (func : ℕ) (h : List Logged) → lone_entries h func + length (durations_of func h) ≡ count_by (is_entry_of func) h
+each_entry laws func [] = refl
+each_entry laws func (l ∷ h) = by_pair (pair_after l h) refl (each_entry laws func h)
   where
     own : List Event
     own = of_thread l.thread h
@@ -480,24 +426,20 @@ each_entry func (l ∷ h) = by_pair (pair_after l h) refl (each_entry func h)
     by_pair None none before =
         let rest : count_placed (free_entry func new) h ≡ lone_entries h func =
         agree (free_entry func new) (free_entry func old) h (λ x i below. ap (λ (b : Bool). is_entry_of func x && not b) (no_entry_more l h none x.thread i)) in
-        let free : new l.thread (length own) ≡ false = no_entry_more l h none l.thread (length own) ∙ (stands own).past (length own) (omega arith) in
+        let free : new l.thread (length own) ≡ false = no_entry_more l h none l.thread (length own) ∙ entry_past laws own (length own) (omega arith) in
         let head : cond (free_entry func new l (length own)) 1 0 ≡ cond (is_entry_of func l) 1 0 =
         ap {B = ℕ} (λ (b : Bool). cond (is_entry_of func l && not b) 1 0) free ∙ ap {B = ℕ} (λ (b : Bool). cond b 1 0) (and_so (is_entry_of func l)) in
         omega (arith, rest, head, no_durations func l h none, sum_by-cons (λ x. cond (is_entry_of func x) 1 0) l h, before)
-      where
-        and_so : (b : Bool) → (b && true) ≡ b
-        and_so true = refl
-        and_so false = refl
     by_pair (Some pair) some before =
         let m = made l.event (length own) (open_calls own) pair some in
-        let d = ended own (length own) l.event.func (open_calls own) m.call m.outer m.found (stands own).standing in
-        let was : old l.thread pair.entry ≡ false = ap (λ (i : ℕ). has_entry (pairs_in own) i) m.entry ∙ d.free in
-        let rest = one_taken func l.thread pair.entry old new (entry_in_pair l h pair some) was h (omega (arith, d.below, m.entry)) in
+        let w = whole_made laws l.event own pair some in
+        let was : old l.thread pair.entry ≡ false = entry_free laws l.event own pair some in
+        let rest = one_taken func l.thread pair.entry old new (entry_in_pair l h pair some) was h (omega (arith, w.rises, m.exit)) in
         let at : cond (entry_at func own pair.entry) 1 0 ≡ cond (nat_eq l.event.func func) 1 0 =
-        ap {B = ℕ} (λ (b : Bool). cond b 1 0) (ap (λ (i : ℕ). entry_at func own i) m.entry ∙ d.entry func) in
-        let no_entry : is_entry_of func l ≡ false = ap (λ (b : Bool). nat_eq l.event.func func && b) m.enters_not ∙ and_none (nat_eq l.event.func func) in
+        ap {B = ℕ} (λ (b : Bool). cond b 1 0) (entry_own laws l.event own pair some func) in
+        let no_entry_of : is_entry_of func l ≡ false = ap (λ (b : Bool). nat_eq l.event.func func && b) m.enters_not ∙ and_none (nat_eq l.event.func func) in
         let head : cond (free_entry func new l (length own)) 1 0 ≡ 0 =
-        ap {B = ℕ} (λ (b : Bool). cond (b && not (new l.thread (length own))) 1 0) no_entry in
+        ap {B = ℕ} (λ (b : Bool). cond (b && not (new l.thread (length own))) 1 0) no_entry_of in
         omega (
           arith,
           rest,
@@ -505,7 +447,7 @@ each_entry func (l ∷ h) = by_pair (pair_after l h) refl (each_entry func h)
           head,
           more_durations func l h pair some,
           sum_by-cons (λ x. cond (is_entry_of func x) 1 0) l h,
-          ap {B = ℕ} (λ (b : Bool). cond b 1 0) no_entry,
+          ap {B = ℕ} (λ (b : Bool). cond b 1 0) no_entry_of,
           before,
         )
 
@@ -567,10 +509,6 @@ each_exit func (l ∷ h) = by_pair (pair_after l h) refl (each_exit func h)
         let head : cond (free_exit func new l (length own)) 1 0 ≡ cond (is_exit_of func l) 1 0 =
         ap {B = ℕ} (λ (b : Bool). cond (is_exit_of func l && not b) 1 0) free ∙ ap {B = ℕ} (λ (b : Bool). cond b 1 0) (and_so (is_exit_of func l)) in
         omega (arith, rest, head, no_durations func l h none, sum_by-cons (λ x. cond (is_exit_of func x) 1 0) l h, before)
-      where
-        and_so : (b : Bool) → (b && true) ≡ b
-        and_so true = refl
-        and_so false = refl
     by_pair (Some pair) some before =
         let m = made l.event (length own) (open_calls own) pair some in
         let taken : new l.thread (length own) ≡ true =
@@ -581,7 +519,3 @@ each_exit func (l ∷ h) = by_pair (pair_after l h) refl (each_exit func h)
         let exits : cond (is_exit_of func l) 1 0 ≡ cond (nat_eq l.event.func func) 1 0 =
         ap {B = ℕ} (λ (b : Bool). cond (nat_eq l.event.func func && b) 1 0) m.leaves_so ∙ ap {B = ℕ} (λ (b : Bool). cond b 1 0) (and_so (nat_eq l.event.func func)) in
         omega (arith, rest, head, exits, more_durations func l h pair some, sum_by-cons (λ x. cond (is_exit_of func x) 1 0) l h, before)
-      where
-        and_so : (b : Bool) → (b && true) ≡ b
-        and_so true = refl
-        and_so false = refl

@@ -15,19 +15,19 @@ use Rattle.stack_rebuild.specs.Histories.{Logged}
 use Rattle.account_report.specs.declared.row.AccountRow.{AccountRow}
 use Rattle.account_report.specs.Account.{durations_of, functions_in, is_entry_of, is_exit_of, lone_entries, lone_exits, row_from, row_of}
 use Rattle.account_report.specs.Ascending.{ascending}
-use Rattle.account_report.specs.Tallies.{Tallied, has_event, row_of_entry, tally_of}
-use Rattle.account_report.proofs.Lone.{each_entry, each_exit}
+use Rattle.account_report.specs.private.Tallies.{Tallied, has_event, row_of_entry, tally_of}
+use Rattle.account_report.proofs.Lone.{Laws, each_entry, each_exit}
 use Rattle.account_report.proofs.Rising.{length-ascending, count, count-cons, count-each_once, distinct-each_once, rises-each_once, rises_from_sorted, same_rising}
 
 abbrev Entries : Type 0
 Entries = List (ℕ × Tallied)
 
 -- the row of an entry
-entry_told : (history : List Logged) (func : ℕ) (tally : Tallied) → tally ≡ tally_of history func → row_of_entry (func, tally) ≡ row_of history func
-entry_told history func tally told =
+entry_told : Laws → (history : List Logged) (func : ℕ) (tally : Tallied) → tally ≡ tally_of history func → row_of_entry (func, tally) ≡ row_of history func
+entry_told laws history func tally told =
     let durations = ascending (durations_of func history) in
     let many = length-ascending (durations_of func history) in
-    let entries : count_by (is_entry_of func) history - length durations ≡ lone_entries history func = omega (arith, many, each_entry func history) in
+    let entries : count_by (is_entry_of func) history - length durations ≡ lone_entries history func = omega (arith, many, each_entry laws func history) in
     let exits : count_by (is_exit_of func) history - length durations ≡ lone_exits history func = omega (arith, many, each_exit func history) in
     ap (λ (t : Tallied). row_of_entry (func, t)) told
     ∙ (ap (λ (n : ℕ). row_from func durations n (count_by (is_exit_of func) history - length durations)) entries
@@ -45,13 +45,13 @@ found_behind k v e es distinct found = by_first (nat_eq k e.0) refl
     by_first true is = let none : lookup (nat_eq k) es ≡ None = lookup-none (nat_eq k) es (none_past_head nat_eq_equiv k e es distinct is) in cc
     by_first false is = found
 
-pub entries_told : (history : List Logged) (es : Entries) → IsDistinct nat_eq (keys_of es)
+pub entries_told : Laws → (history : List Logged) (es : Entries) → IsDistinct nat_eq (keys_of es)
     → ((k : ℕ) (v : Tallied) → lookup (nat_eq k) es ≡ Some v → v ≡ tally_of history k) → map row_of_entry es ≡ map (row_of history) (keys_of es)
-entries_told history [] distinct told = refl
-entries_told history ((func, tally) ∷ es) distinct told =
-    let first : row_of_entry (func, tally) ≡ row_of history func = entry_told history func tally (told func tally (found_here func tally es)) in
+entries_told laws history [] distinct told = refl
+entries_told laws history ((func, tally) ∷ es) distinct told =
+    let first : row_of_entry (func, tally) ≡ row_of history func = entry_told laws history func tally (told func tally (found_here func tally es)) in
     let behind : map row_of_entry es ≡ map (row_of history) (keys_of es) =
-    entries_told history es (IsDistinct-tail nat_eq func (keys_of es) distinct) (λ k v found. told k v (found_behind k v (func, tally) es distinct found)) in
+    entries_told laws history es (IsDistinct-tail nat_eq func (keys_of es) distinct) (λ k v found. told k v (found_behind k v (func, tally) es distinct found)) in
     ap (λ (row : AccountRow). row ∷ map row_of_entry es) first ∙ ap (λ (rows : List AccountRow). row_of history func ∷ rows) behind
 
 -- each function of a table is there once
@@ -104,15 +104,15 @@ functions_again history [] = refl
 functions_again history (f ∷ funcs) = ap (λ (fs : List ℕ). f ∷ fs) (functions_again history funcs)
 
 -- the rows of a table, sorted by their functions, are the account
-pub rows_sorted : (history : List Logged) (es : Entries) (rows : List AccountRow) → IsDistinct nat_eq (keys_of es)
+pub rows_sorted : Laws → (history : List Logged) (es : Entries) (rows : List AccountRow) → IsDistinct nat_eq (keys_of es)
     → ((k : ℕ) (v : Tallied) → lookup (nat_eq k) es ≡ Some v → v ≡ tally_of history k)
     → ((k : ℕ) → is_some (lookup (nat_eq k) es) ≡ has_event history k)
     → IsPermutation (map row_of_entry es) rows → IsNonDecreasingBy (λ (r : AccountRow). r.func) rows
     → rows ≡ map (row_of history) (functions_in history)
-rows_sorted history es rows distinct told present same up =
+rows_sorted laws history es rows distinct told present same up =
     let func : AccountRow → ℕ = λ r. r.func in
     let listed : IsPermutation (map (row_of history) (keys_of es)) rows =
-    subst (λ (rs : List AccountRow). IsPermutation rs rows) (entries_told history es distinct told) same in
+    subst (λ (rs : List AccountRow). IsPermutation rs rows) (entries_told laws history es distinct told) same in
     let own = All-permutation (λ (r : AccountRow). r ≡ row_of history r.func) _ rows listed (each_its_own history (keys_of es)) in
     let keys : IsPermutation (keys_of es) (map func rows) =
     subst (λ (fs : List ℕ). IsPermutation fs (map func rows)) (functions_again history (keys_of es)) (IsPermutation-map func _ rows listed) in

@@ -8,7 +8,7 @@ use Rattle.fdr_record.specs.declared.event.Event.{Event}
 use Rattle.fdr_file.specs.declared.trace.Block.{Block}
 use Rattle.stack_rebuild.specs.Calls.{Standing, standing_after}
 use Rattle.stack_rebuild.specs.Histories.{Logged, all_events, logged, of_thread}
-use Rattle.account_report.specs.Tallies.{AreStanding, Table, going_on, standing_in}
+use Rattle.account_report.specs.private.Tallies.{AreStanding, Table, going_on, standing_in}
 
 of_thread-append : (thread : ℕ) (ls later : List Logged) → of_thread thread (ls ++ later) ≡ of_thread thread ls ++ of_thread thread later
 of_thread-append thread [] later = refl

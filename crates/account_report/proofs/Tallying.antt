@@ -15,7 +15,7 @@ use Rattle.stack_rebuild.specs.declared.call.Pair.{Pair}
 use Rattle.stack_rebuild.specs.Calls.{Standing, from_innermost, open_calls, pair_at, pair_at_kind, pair_of_call, standing_after, next_standing}
 use Rattle.stack_rebuild.specs.Histories.{Logged, logged, of_thread, all_pairs}
 use Rattle.account_report.specs.Account.{durations_of, enters, leaves, is_entry_of, is_exit_of}
-use Rattle.account_report.specs.Tallies.{Reached, Table, Tallied, durations_in, going_on, tally_in, tally_of, with_event}
+use Rattle.account_report.specs.private.Tallies.{Reached, Table, Tallied, durations_in, going_on, tally_in, tally_of, with_event}
 
 -- the pair that an event makes after a history
 abbrev pub pair_after : Logged → List Logged → Option Pair

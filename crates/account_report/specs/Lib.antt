@@ -2,4 +2,4 @@ pub mod Account
 pub mod AccountText
 pub mod Ascending
 pub mod Ordered
-pub mod Tallies
+pub mod private

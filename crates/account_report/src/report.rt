@@ -5,12 +5,13 @@ ghost use Rattle.std.specs.HashMap.{IsUnique};
 ghost use Rattle.std.specs.List.{IsDistinct};
 ghost use Rattle.account_report.specs.Account.{account_of};
 ghost use Rattle.account_report.specs.AccountText.{latencies_of};
-ghost use Rattle.account_report.specs.Tallies.{row_of_entry};
+ghost use Rattle.account_report.specs.private.Tallies.{row_of_entry};
 
 use crate::row::AccountRow;
 use crate::scan::tallies;
 use crate::tally::Tally;
 use fdr_file::Trace;
+use stack_rebuild::{each_exit_ends_one_call, each_pair_is_a_whole_call};
 use std::alloc::Global;
 use std::collections::HashMap;
 use xray_io::NoMemory;
@@ -22,6 +23,8 @@ pub fn account(alloc: Global, trace: &Trace) -> Result<Vec<AccountRow>, NoMemory
     // As `order_rows` asks for.
     ensures distinct { IfOk result (λ rows. IsDistinct nat_eq (map (λ row. row.func) rows.items)) }
 {
+    each_exit_ends_one_call();
+    each_pair_is_a_whole_call();
     let mut rows = rows_of(alloc, tallies(alloc, trace)?)?;
     rows.sort_unstable_by_key(|row| row.func);
     Ok(rows)

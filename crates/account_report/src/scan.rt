@@ -2,7 +2,7 @@
 
 ghost use Rattle.std.specs.Prelude.{◌≡◌, ℕ, List, OnOk, IfOk};
 ghost use Rattle.stack_rebuild.specs.Histories.{Logged, history_of};
-ghost use Rattle.account_report.specs.Tallies.{AreStanding, AreTallies, Reached, going_on, standing_in};
+ghost use Rattle.account_report.specs.private.Tallies.{AreStanding, AreTallies, Reached, going_on, standing_in};
 
 use crate::tally::{Tally, add_event};
 use fdr_file::{Block, Trace};

@@ -3,7 +3,7 @@
 ghost use Rattle.std.specs.Prelude.{◌≡◌, ◌-◌, ◌==◌, ◌||◌, ℕ, length, nat_eq, is_some, if◌then◌else◌, OnOk, slice_index};
 ghost use Rattle.std.specs.HashMap.{get};
 ghost use Rattle.account_report.specs.Account.{row_from};
-ghost use Rattle.account_report.specs.Tallies.{durations_in, no_tally, row_with, tally_in, with_event};
+ghost use Rattle.account_report.specs.private.Tallies.{durations_in, no_tally, row_with, tally_in, with_event};
 
 use crate::row::AccountRow;
 use fdr_record::{Event, Kind};
@@ -22,7 +22,7 @@ pub(crate) struct Tally {
 }
 
 impl Model for Tally {
-    ghost use Rattle.account_report.specs.Tallies.{Tallied};
+    ghost use Rattle.account_report.specs.private.Tallies.{Tallied};
 
     ghost Value = { Tallied };
 

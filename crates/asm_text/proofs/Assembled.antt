@@ -7,8 +7,8 @@ use Rattle.asm_text.specs.Layout.{Lines, Placed, by_threshold, placed, no_owner}
 use Rattle.asm_text.specs.Refusals.{read_lines, ends_early, resolved}
 use Rattle.asm_text.specs.Writing.{file_bytes}
 use Rattle.asm_text.specs.Assembling.{assembled, said_by, image_of}
-use Rattle.asm_text.specs.Laying.{lines_of}
-use Rattle.asm_text.specs.Files.{image_laid}
+use Rattle.asm_text.specs.private.Laying.{lines_of}
+use Rattle.asm_text.specs.private.Files.{image_laid}
 use Rattle.asm_text.proofs.Placing.{lines_of-placed}
 
 -- the lines of a text that was laid out

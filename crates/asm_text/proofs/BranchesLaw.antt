@@ -17,7 +17,7 @@ use Rattle.asm_text.specs.declared.statement.Branch.{Branch}
 use Rattle.asm_text.specs.declared.statement.Branch.TheVariants as branches
 use Rattle.asm_text.specs.Statements.{Operation, Plain, Go, TailJump, Return, Statement, Base, Entry, Func, Label, Does}
 use Rattle.asm_text.specs.Layout.{Lines, Fixed, Jump, Placed, Owner, Choosing, by_threshold, is_function, is_instruction, defines, owner_of, no_owner, parts_of, aligned, placed_from, placed, widths, branch_width, sled_shift, piece_of, own_place, next_place, place_of, line_pieces, pieces, base_of}
-use Rattle.asm_text.specs.Laying.{earlier, lines_of}
+use Rattle.asm_text.specs.private.Laying.{earlier, lines_of}
 use Rattle.asm_text.specs.Refusals.{is_defined, is_missing, name_in, is_unresolved}
 use Rattle.asm_text.specs.Assembling.{said_by}
 use Rattle.asm_text.proofs.Fitting.{NamesNoPlace, IsShort}

@@ -4,7 +4,7 @@ use Rattle.std.specs.Prelude.{Result, Ok, Err, OnOk}
 use Rattle.xray_image.specs.Units.{Piece, piece_bytes, Align}
 use Rattle.asm_text.specs.declared.statement.Branch.{Branch}
 use Rattle.asm_text.specs.Layout.{Placed, Fixed, Jump, aligned, piece_of}
-use Rattle.asm_text.specs.Laying.{parts_bytes}
+use Rattle.asm_text.specs.private.Laying.{parts_bytes}
 
 -- a sled with its alignment
 pub sled_alone : (all : List Placed) (behind place : ℕ) (sled : Piece)

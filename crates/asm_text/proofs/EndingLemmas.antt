@@ -11,11 +11,11 @@ use Rattle.asm_text.specs.declared.layout.Laid.{Laid}
 use Rattle.asm_text.specs.declared.name_table.NameTable.{NameTable}
 use Rattle.asm_text.specs.Statements.{Statement}
 use Rattle.asm_text.specs.Layout.{Lines, Placed, defines, is_function, is_instruction, own_place, next_place, place_of}
-use Rattle.asm_text.specs.NameTables.{line_named}
-use Rattle.asm_text.specs.FirstPass.{IsNames, defined_at}
+use Rattle.asm_text.specs.private.NameTables.{line_named}
+use Rattle.asm_text.specs.private.FirstPass.{IsNames, defined_at}
 use Rattle.asm_text.specs.Refusals.{is_defined, is_unresolved, resolved}
-use Rattle.asm_text.specs.Views.{statement_said}
-use Rattle.asm_text.specs.Laying.{line_placed, placed_in, lines_of, next_places, earlier, ArePlaces}
+use Rattle.asm_text.specs.private.Views.{statement_said}
+use Rattle.asm_text.specs.private.Laying.{line_placed, placed_in, lines_of, next_places, earlier, ArePlaces}
 use Rattle.asm_text.proofs.TargetLemmas.{next_place-cons}
 use Rattle.asm_text.proofs.NameTableLemmas.{is_defined-at}
 

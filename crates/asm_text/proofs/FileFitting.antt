@@ -5,7 +5,7 @@ use Rattle.std.specs.List.{flat_map, cons_option, AllByRecursion}
 use Rattle.std.proofs.lemmas.List.Sums.{sum_by-append}
 use Rattle.xray_image.specs.Container.{Function, MapEntry}
 use Rattle.asm_text.specs.Statements.{Statement, Base, Entry, Func, Label, Does}
-use Rattle.asm_text.specs.Fits.{Fits, AllFit}
+use Rattle.asm_text.specs.private.Fits.{Fits, AllFit}
 use Rattle.asm_text.specs.Layout.{Lines, Placed, Owner, Choosing, owner_of, no_owner, parts_of, parts_at, placed_from, placed, widths, width, sled_kind, functions, function_in, map_entries}
 use Rattle.asm_text.proofs.Owners.{start_to}
 use Rattle.asm_text.proofs.ReadBack.{FunctionFits, EntryFits}

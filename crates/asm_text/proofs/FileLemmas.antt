@@ -4,7 +4,7 @@ use Rattle.std.specs.List.{flat_map, cons_option}
 use Rattle.xray_image.specs.Container.{Function, MapEntry}
 use Rattle.asm_text.specs.Layout.{Placed, function_in, entry_in, functions, map_entries}
 use Rattle.asm_text.specs.Writing.{function_bytes, entry_bytes}
-use Rattle.asm_text.specs.Files.{bytes_of_function, bytes_of_entry, function_line_bytes, sled_line_bytes}
+use Rattle.asm_text.specs.private.Files.{bytes_of_function, bytes_of_entry, function_line_bytes, sled_line_bytes}
 
 function_first : (o : Option Function) (fs : List Function) → flat_map function_bytes (cons_option o fs) ≡ bytes_of_function o ++ flat_map function_bytes fs
 function_first None fs = refl

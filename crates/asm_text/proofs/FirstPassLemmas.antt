@@ -7,7 +7,7 @@ use Rattle.asm_text.specs.declared.totals.Totals.{Totals}
 use Rattle.asm_text.specs.Statements.{Statement}
 use Rattle.asm_text.specs.Layout.{Lines}
 use Rattle.asm_text.specs.Refusals.{repeats, exceeds_limits}
-use Rattle.asm_text.specs.FirstPass.{IsTotals, IsWithin, totals_exceed, taken}
+use Rattle.asm_text.specs.private.FirstPass.{IsTotals, IsWithin, totals_exceed, taken}
 
 totals_exceed-is : (lines : Lines) (t : Totals) → IsTotals lines t → totals_exceed t ≡ exceeds_limits lines
 totals_exceed-is lines t is = rw (is.functions, is.code, is.sleds) refl

@@ -25,10 +25,10 @@ use Rattle.asm_text.specs.Statements.{Operation, Plain, Go, TailJump, Return, St
 use Rattle.asm_text.specs.Language.{says, label_of, line_of, keyword_of, statement_of, choice_of}
 use Rattle.asm_text.specs.declared.layout.Laid.{Laid}
 use Rattle.asm_text.specs.Layout.{Lines, base_in, base_of}
-use Rattle.asm_text.specs.Views.{statement_said}
-use Rattle.asm_text.specs.Laying.{lines_of, placed_in}
-use Rattle.asm_text.specs.Files.{HasShortName}
-use Rattle.asm_text.specs.Fits.{Fits, OperationFits, AllFit}
+use Rattle.asm_text.specs.private.Views.{statement_said}
+use Rattle.asm_text.specs.private.Laying.{lines_of, placed_in}
+use Rattle.asm_text.specs.private.Files.{HasShortName}
+use Rattle.asm_text.specs.private.Fits.{Fits, OperationFits, AllFit}
 use Rattle.asm_text.specs.Refusals.{judged, spoken, with_words, with_line, read_lines, is_misplaced, names_reserved, operation_reserves, operation_exceeds, is_wide, is_out_of_range, repeats, exceeds_limits, ◌>>=◌}
 
 -- none of the instructions that go to no name is a branch

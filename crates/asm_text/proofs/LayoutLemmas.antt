@@ -6,7 +6,7 @@ use Rattle.std.proofs.lemmas.Grind.{flat_map-append}
 use Rattle.asm_text.specs.declared.statement.Choice.TheVariants.{ByLength, Always, Never}
 use Rattle.asm_text.specs.Statements.{Statement, Base, Entry, Func, Label, Does}
 use Rattle.asm_text.specs.Layout.{Lines, Owner, Placed, unless_never, owner_of, no_owner, parts_of, parts_at, placed_from, placed, all_parts, width, widths}
-use Rattle.asm_text.specs.FirstPass.{traced_after, traced_by}
+use Rattle.asm_text.specs.private.FirstPass.{traced_after, traced_by}
 
 -- where the lines end, and the function that the last one belongs to
 abbrev pub end_of : ℕ → Owner → Lines → ℕ

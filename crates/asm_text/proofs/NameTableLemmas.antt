@@ -6,9 +6,9 @@ use Rattle.std.proofs.lemmas.Slice.Eq.{bytes_eq-Decides}
 use Rattle.asm_text.specs.declared.name_table.NameTable.{NameTable}
 use Rattle.asm_text.specs.Statements.{Statement, Base, Entry, Func, Label, Does}
 use Rattle.asm_text.specs.Layout.{Lines, defines}
-use Rattle.asm_text.specs.NameTables.{line_named}
+use Rattle.asm_text.specs.private.NameTables.{line_named}
 use Rattle.asm_text.specs.Refusals.{is_defined, repeats}
-use Rattle.asm_text.specs.FirstPass.{defined_at, name_defined, is_named, IsNames}
+use Rattle.asm_text.specs.private.FirstPass.{defined_at, name_defined, is_named, IsNames}
 
 -- whether a name, if there is one, is defined
 abbrev pub is_taken : Option (List ℕ) → Lines → Bool

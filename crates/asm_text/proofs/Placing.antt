@@ -13,7 +13,7 @@ use Rattle.asm_text.specs.declared.statement.Branch.TheVariants as branches
 use Rattle.asm_text.specs.declared.layout.Laid.{Laid}
 use Rattle.asm_text.specs.Statements.{Plain, Go, TailJump, Return, Statement, Base, Entry, Func, Label, Does}
 use Rattle.asm_text.specs.Layout.{Lines, Part, Fixed, Jump, Placed, Owner, Choosing, owner_of, instruction_lines, function_at, parts_of, parts_at, placed_from, width, widths, sleds_of, sled_shift, own_place, next_place, place_of, defines, is_function, is_instruction, branch_to, branch_width, piece_of, line_pieces, pieces, functions, function_in, map_entries, entry_in, sled_kind}
-use Rattle.asm_text.specs.Laying.{earlier, line_placed, placed_in, lines_of}
+use Rattle.asm_text.specs.private.Laying.{earlier, line_placed, placed_in, lines_of}
 use Rattle.asm_text.proofs.TargetLemmas.{next_place-cons}
 use Rattle.asm_text.proofs.WidthLemmas.{widths_aligned, sleds_aligned, sleds_aligned_branch}
 

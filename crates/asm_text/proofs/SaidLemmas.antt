@@ -10,7 +10,7 @@ use Rattle.asm_text.specs.declared.fault.AsmFault.TheVariants as faults
 use Rattle.asm_text.specs.Statements.{Statement}
 use Rattle.asm_text.specs.Language.{statement_of}
 use Rattle.asm_text.specs.Layout.{Lines, is_function, unless_never, all_parts, widths, sleds_of}
-use Rattle.asm_text.specs.Fits.{AllFit}
+use Rattle.asm_text.specs.private.Fits.{AllFit}
 use Rattle.asm_text.specs.Refusals.{judged, spoken, with_words, with_line, read_lines, is_misplaced, names_reserved, is_out_of_range, repeats, exceeds_limits, ends_early, is_unresolved, resolved, ended, ◌>>=◌}
 use Rattle.asm_text.specs.Assembling.{said_by}
 use Rattle.asm_text.proofs.Fitting.{Good, read_good}

@@ -6,7 +6,7 @@ use Rattle.std.proofs.Math.Seq.{take-suc}
 use Rattle.std.proofs.lemmas.List.{length-map, get_or-map, reverse-append, take_all}
 use Rattle.asm_text.specs.declared.layout.Laid.{Laid}
 use Rattle.asm_text.specs.Layout.{Placed, own_place, next_place}
-use Rattle.asm_text.specs.Laying.{earlier, next_places, placed_in, line_placed}
+use Rattle.asm_text.specs.private.Laying.{earlier, next_places, placed_in, line_placed}
 
 -- the places of the next lines, if `next` is the place after them
 abbrev pub next_before : Option ℕ → List Placed → List (Option ℕ)

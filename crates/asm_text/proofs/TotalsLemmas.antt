@@ -7,7 +7,7 @@ use Rattle.std.proofs.lemmas.List.Folds.{list_any-append}
 use Rattle.asm_text.specs.declared.totals.Totals.{Totals}
 use Rattle.asm_text.specs.Statements.{Statement}
 use Rattle.asm_text.specs.Layout.{Lines, is_function, is_instruction, base_in, entry_in_line, unless_never, all_parts, parts_of, width, widths, sleds_of}
-use Rattle.asm_text.specs.FirstPass.{IsTotals, Follows, traced_after}
+use Rattle.asm_text.specs.private.FirstPass.{IsTotals, Follows, traced_after}
 use Rattle.asm_text.proofs.LayoutLemmas.{all_parts-more, traced_by-more}
 
 any_last : (p : ℕ × Statement → Bool) (lines : Lines) (number : ℕ) (statement : Statement) → list_any p (lines ++ (number, statement) ∷ []) ≡ (list_any p lines || p (number, statement))

@@ -9,7 +9,7 @@ use Rattle.xray_image.specs.Units.{Piece, Instruction, JumpSled, ReturnSled, Ali
 use Rattle.asm_text.specs.declared.statement.Branch.{Branch}
 use Rattle.asm_text.specs.declared.statement.Branch.TheVariants as branches
 use Rattle.asm_text.specs.Statements.{Operation, Plain, Go, TailJump, Return, Statement, Base, Entry, Func, Label, Does}
-use Rattle.asm_text.specs.Fits.{Fits, OperationFits, AllFit}
+use Rattle.asm_text.specs.private.Fits.{Fits, OperationFits, AllFit}
 use Rattle.asm_text.specs.Layout.{Lines, Part, Fixed, Jump, Placed, Owner, Choosing, owner_of, no_owner, parts_of, parts_at, plain_parts, traced_parts, aligned, placed_from, placed, all_parts, width, widths, sled_shift, branch_to, piece_of, line_pieces, pieces, place_of}
 use Rattle.asm_text.proofs.Placing.{AllLie, all_lie, name_within}
 

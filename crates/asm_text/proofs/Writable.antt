@@ -6,11 +6,11 @@ use Rattle.xray_image.specs.Units.{piece_bytes}
 use Rattle.asm_text.specs.declared.laid_text.LaidText.{LaidText}
 use Rattle.asm_text.specs.declared.totals.Totals.{Totals}
 use Rattle.asm_text.specs.Layout.{Lines, by_threshold, placed, no_owner, widths, sleds_of, all_parts, functions, map_entries, base_of, pieces}
-use Rattle.asm_text.specs.Fits.{AllFit}
-use Rattle.asm_text.specs.FirstPass.{IsTotals, IsWithin, IsNames}
-use Rattle.asm_text.specs.Laying.{lines_of, next_places}
-use Rattle.asm_text.specs.LaidTexts.{all_in}
-use Rattle.asm_text.specs.Files.{IsWritable}
+use Rattle.asm_text.specs.private.Fits.{AllFit}
+use Rattle.asm_text.specs.private.FirstPass.{IsTotals, IsWithin, IsNames}
+use Rattle.asm_text.specs.private.Laying.{lines_of, next_places}
+use Rattle.asm_text.specs.private.LaidTexts.{all_in}
+use Rattle.asm_text.specs.private.Files.{IsWritable}
 use Rattle.asm_text.proofs.Monotone.{no_more}
 use Rattle.asm_text.proofs.Placing.{AllLie, lines_of-placed, all_lie, laid_lie, name_within, code_length, functions_count, sleds_count}
 use Rattle.asm_text.proofs.Fitting.{base_fits, names_fit}

@@ -6,12 +6,12 @@ use Rattle.std.specs.Str.{bytes_eq}
 use Rattle.xray_image.specs.Container.{Function, MapEntry}
 use Rattle.asm_text.specs.Statements.{Statement, Base, Entry, Func, Label, Does}
 use Rattle.asm_text.specs.Layout.{Placed, functions, map_entries, function_in, entry_in, entry_in_line, base_of, sled_kind, pieces, number_of_function}
-use Rattle.asm_text.specs.Laying.{lines_of}
+use Rattle.asm_text.specs.private.Laying.{lines_of}
 use Rattle.xray_image.specs.Units.{piece_bytes}
 use Rattle.std.specs.List.{flat_map}
 use Rattle.asm_text.specs.declared.header.Header.{Header}
 use Rattle.asm_text.specs.Writing.{header_of, function_bytes, entry_bytes, file_bytes}
-use Rattle.asm_text.specs.Files.{IsHeaderOf, image_laid}
+use Rattle.asm_text.specs.private.Files.{IsHeaderOf, image_laid}
 
 -- one more function and map entry at the start, counted and searched, whatever the base is
 length_cons : {X : Type 0} (o : Option X) (xs : List X) → length (cons_option o xs) ≡ cond (is_some o) 1 0 + length xs

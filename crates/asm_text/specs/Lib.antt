@@ -8,12 +8,9 @@ pub mod Refusals
 pub mod Writing
 pub mod Assembling
 pub mod Programs
-pub mod Views
-pub mod NameTables
-pub mod Fits
-pub mod FirstPass
-pub mod Laying
-pub mod LaidTexts
-pub mod Files
 pub mod FaultWords
+<<<<<<< HEAD
+pub mod private
+=======
 pub mod WrittenTexts
+>>>>>>> ddaee04b382f5b0e3f1fe1f4dffc7a35d3a00036

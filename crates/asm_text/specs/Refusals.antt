@@ -5,6 +5,7 @@ use Rattle.std.specs.List.{list_any}
 use Rattle.subset_decode.specs.declared.instr.Instr.{Instr}
 use Rattle.subset_decode.specs.declared.instr.Instr.TheVariants.{Mov, Add, Sub, Push, Pop, Call, Jmp, Jnz, Ret, Out}
 use Rattle.subset_decode.specs.Encoding.{reserved_register}
+use Rattle.xray_image.specs.Limits.{highest_base, most_code, most_functions, most_sleds}
 use Rattle.text_lines.specs.Words.{is_clean, words_of}
 use Rattle.asm_text.specs.declared.fault.AsmFault.{AsmFault}
 use Rattle.asm_text.specs.declared.fault.AsmFault.TheVariants.{Syntax, Register, Range, Repeat, Limit, Label as Unresolved}
@@ -64,9 +65,9 @@ operation_exceeds (Go branch name) = false
 operation_exceeds (TailJump name) = false
 operation_exceeds Return = false
 
--- a base that isn't a multiple of 16 or is above 0x7FFF00000000, or a number that doesn't fit its field
+-- a base that isn't a multiple of 16 or is above the highest, or a number that doesn't fit its field
 abbrev pub is_out_of_range : Statement → Bool
-is_out_of_range (Base address) = not (address % 16 == 0) || nat_lt 0x7FFF00000000 address
+is_out_of_range (Base address) = not (address % 16 == 0) || nat_lt highest_base address
 is_out_of_range (Entry name) = false
 is_out_of_range (Func name choice) = false
 is_out_of_range (Label name) = false
@@ -83,13 +84,12 @@ repeats before (Func name choice) = is_defined name before
 repeats before (Label name) = is_defined name before
 repeats before (Does operation) = false
 
--- more than 1,024 functions, 1,048,576 bytes of code or 4,096 sleds, if each function that doesn't say never is
--- instrumented
+-- more functions, code or sleds than an image file may have, if each function that doesn't say never is instrumented
 abbrev pub exceeds_limits : Lines → Bool
 exceeds_limits lines =
-    nat_lt 1024 (count_by (λ line. is_function line.1) lines)
-    || nat_lt 1048576 (widths (all_parts unless_never lines))
-    || nat_lt 4096 (sum_by sleds_of (all_parts unless_never lines))
+    nat_lt most_functions (count_by (λ line. is_function line.1) lines)
+    || nat_lt most_code (widths (all_parts unless_never lines))
+    || nat_lt most_sleds (sum_by sleds_of (all_parts unless_never lines))
 
 -- the lines with one more, or the first row that refuses it
 abbrev pub judged : Lines → ℕ → Statement → Result Lines AsmFault

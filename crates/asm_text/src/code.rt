@@ -5,9 +5,9 @@ ghost use Rattle.std.specs.List.{flat_map};
 ghost use Rattle.subset_decode.specs.Encoding.{spelling};
 ghost use Rattle.xray_image.specs.Units.{nop_bytes, piece_bytes};
 ghost use Rattle.asm_text.specs.Layout.{sled_shift, branch_to, pieces, line_pieces, piece_of, plain_parts, traced_parts, Jump};
-ghost use Rattle.asm_text.specs.Views.{operation_checked};
-ghost use Rattle.asm_text.specs.Laying.{line_placed, parts_bytes};
-ghost use Rattle.asm_text.specs.LaidTexts.{all_in, IsLaidText};
+ghost use Rattle.asm_text.specs.private.Views.{operation_checked};
+ghost use Rattle.asm_text.specs.private.Laying.{line_placed, parts_bytes};
+ghost use Rattle.asm_text.specs.private.LaidTexts.{all_in, IsLaidText};
 
 use crate::fields::push_u32;
 use crate::laid_text::LaidText;

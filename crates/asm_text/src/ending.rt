@@ -4,8 +4,8 @@ ghost use Rattle.std.specs.Prelude.{◌≡◌, ◌∷◌, List, MatchResult, Ok,
 ghost use Rattle.std.specs.List.{list_any};
 ghost use Rattle.asm_text.specs.Layout.{Placed, names_function, next_place};
 ghost use Rattle.asm_text.specs.Refusals.{is_unresolved, resolved};
-ghost use Rattle.asm_text.specs.FirstPass.{IsNames};
-ghost use Rattle.asm_text.specs.Laying.{line_placed, placed_in, lines_of, ArePlaces};
+ghost use Rattle.asm_text.specs.private.FirstPass.{IsNames};
+ghost use Rattle.asm_text.specs.private.Laying.{line_placed, placed_in, lines_of, ArePlaces};
 
 use crate::fault::AsmFault;
 use crate::layout::Laid;

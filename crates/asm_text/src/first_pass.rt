@@ -5,10 +5,10 @@ ghost use Rattle.std.specs.Str.Lines.{lines};
 ghost use Rattle.text_lines.specs.Lines.{numbered_lines};
 ghost use Rattle.asm_text.specs.Refusals.{repeats, with_line, read_lines};
 ghost use Rattle.asm_text.specs.Layout.{Lines as Said};
-ghost use Rattle.asm_text.specs.NameTables.{line_named};
-ghost use Rattle.asm_text.specs.Views.{statement_said};
-ghost use Rattle.asm_text.specs.Fits.{AllFit};
-ghost use Rattle.asm_text.specs.FirstPass.{lines_in, IsFirstPass, IsNames, Takes, Admits, Reads, is_named};
+ghost use Rattle.asm_text.specs.private.NameTables.{line_named};
+ghost use Rattle.asm_text.specs.private.Views.{statement_said};
+ghost use Rattle.asm_text.specs.private.Fits.{AllFit};
+ghost use Rattle.asm_text.specs.private.FirstPass.{lines_in, IsFirstPass, IsNames, Takes, Admits, Reads, is_named};
 
 use crate::fault::AsmFault;
 use crate::line::read_line;

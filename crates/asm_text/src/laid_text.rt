@@ -20,7 +20,7 @@ pub(crate) struct LaidText<'a> {
 }
 
 impl LaidText<'_> {
-    ghost use Rattle.asm_text.specs.LaidTexts.{all_in, IsLaidText};
+    ghost use Rattle.asm_text.specs.private.LaidTexts.{all_in, IsLaidText};
 
     /// The place that a name stands for, or 0 if it stands for none.
     pub(crate) fn target_of(&self, name: &[u8]) -> u32
@@ -36,10 +36,10 @@ impl LaidText<'_> {
 }
 
 impl<'a> LaidText<'a> {
-    ghost use Rattle.asm_text.specs.Fits.{AllFit};
-    ghost use Rattle.asm_text.specs.FirstPass.{lines_in, IsFirstPass};
-    ghost use Rattle.asm_text.specs.LaidTexts.{all_in};
-    ghost use Rattle.asm_text.specs.Files.{IsWritable};
+    ghost use Rattle.asm_text.specs.private.Fits.{AllFit};
+    ghost use Rattle.asm_text.specs.private.FirstPass.{lines_in, IsFirstPass};
+    ghost use Rattle.asm_text.specs.private.LaidTexts.{all_in};
+    ghost use Rattle.asm_text.specs.private.Files.{IsWritable};
 
     /// Lays out the lines that were read.
     pub(crate) fn new(

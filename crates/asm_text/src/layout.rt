@@ -2,9 +2,9 @@
 
 ghost use Rattle.std.specs.Prelude.{◌≡◌, ◌≤◌, IfOk};
 ghost use Rattle.asm_text.specs.Layout.{widths, all_parts, by_threshold, placed, owner_of, instruction_lines};
-ghost use Rattle.asm_text.specs.FirstPass.{lines_in};
-ghost use Rattle.asm_text.specs.Views.{statement_said};
-ghost use Rattle.asm_text.specs.Laying.{owner_in, placed_in};
+ghost use Rattle.asm_text.specs.private.FirstPass.{lines_in};
+ghost use Rattle.asm_text.specs.private.Views.{statement_said};
+ghost use Rattle.asm_text.specs.private.Laying.{owner_in, placed_in};
 
 use crate::first_pass::Entry;
 use crate::statement::{Choice, Statement};

@@ -5,7 +5,7 @@ ghost use Rattle.asm_text.specs.Names.{name_of};
 ghost use Rattle.asm_text.specs.Registers.{register64, before_comma};
 ghost use Rattle.asm_text.specs.Statements.{Go, Does};
 ghost use Rattle.asm_text.specs.Language.{says, label_of};
-ghost use Rattle.asm_text.specs.Views.{statement_spoken, AreOperands, LineGives};
+ghost use Rattle.asm_text.specs.private.Views.{statement_spoken, AreOperands, LineGives};
 
 use crate::fault::AsmFault;
 use crate::keyword::{Keyword, choice_of, keyword_of};

@@ -14,7 +14,7 @@ pub(crate) struct NameTable<'a> {
 
 impl<'a> NameTable<'a> {
     ghost use Rattle.std.specs.Str.{bytes_eq};
-    ghost use Rattle.asm_text.specs.NameTables.{line_named};
+    ghost use Rattle.asm_text.specs.private.NameTables.{line_named};
 
     /// No names.
     pub(crate) fn new(alloc: Global) -> Self

@@ -2,7 +2,7 @@
 
 ghost use Rattle.std.specs.Prelude.{◌≡◌, true, false, MatchResult};
 ghost use Rattle.subset_decode.specs.Registers.{is_reserved};
-ghost use Rattle.asm_text.specs.Views.{register_number, statement_said, statement_spoken, operation_checked, operation_written, operation_of, statement_of_spoken, Tells};
+ghost use Rattle.asm_text.specs.private.Views.{register_number, statement_said, statement_spoken, operation_checked, operation_written, operation_of, statement_of_spoken, Tells};
 
 use crate::fault::AsmFault;
 use crate::registers::{Register, RegisterWord};

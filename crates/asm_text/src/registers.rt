@@ -26,7 +26,7 @@ impl Model for RegisterWord {
 
 impl RegisterWord {
     ghost use Rattle.subset_decode.specs.Registers.{is_reserved};
-    ghost use Rattle.asm_text.specs.Views.{register_number};
+    ghost use Rattle.asm_text.specs.private.Views.{register_number};
 
     /// The register, if instructions can name it.
     pub(crate) fn register(self) -> Option<Register>
@@ -84,7 +84,7 @@ fn named(number: u8) -> Reg
 }
 
 impl Register {
-    ghost use Rattle.asm_text.specs.Views.{register_number};
+    ghost use Rattle.asm_text.specs.private.Views.{register_number};
 
     /// The register as part of an instruction.
     pub(crate) fn reg(self) -> Reg

@@ -81,7 +81,7 @@ pub(crate) enum Plain {
 }
 
 impl Plain {
-    ghost use Rattle.asm_text.specs.Views.{plain_instr};
+    ghost use Rattle.asm_text.specs.private.Views.{plain_instr};
 
     /// The instruction.
     pub(crate) fn instr(&self) -> Instr
@@ -137,7 +137,7 @@ pub(crate) enum Statement<'a> {
 
 impl<'a> Operation<'a> {
     ghost use Rattle.asm_text.specs.Refusals.{name_in};
-    ghost use Rattle.asm_text.specs.Views.{operation_checked};
+    ghost use Rattle.asm_text.specs.private.Views.{operation_checked};
 
     /// The name that the operation goes to.
     pub(crate) fn target_name(&self) -> Option<&'a [u8]>
@@ -153,8 +153,8 @@ impl<'a> Operation<'a> {
 
 impl<'a> Statement<'a> {
     ghost use Rattle.asm_text.specs.Layout.{names_function};
-    ghost use Rattle.asm_text.specs.Views.{statement_said};
-    ghost use Rattle.asm_text.specs.FirstPass.{name_defined};
+    ghost use Rattle.asm_text.specs.private.Views.{statement_said};
+    ghost use Rattle.asm_text.specs.private.FirstPass.{name_defined};
 
     /// The name that the statement defines, for a function or a label.
     pub(crate) fn defined_name(&self) -> Option<&'a [u8]>

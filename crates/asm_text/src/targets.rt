@@ -2,7 +2,7 @@
 
 ghost use Rattle.std.specs.Prelude.{◌≡◌, List, IfOk};
 ghost use Rattle.asm_text.specs.Layout.{Placed, own_place, place_of};
-ghost use Rattle.asm_text.specs.Laying.{line_placed, placed_in, next_places, earlier, ArePlaces};
+ghost use Rattle.asm_text.specs.private.Laying.{line_placed, placed_in, next_places, earlier, ArePlaces};
 
 use crate::layout::Laid;
 use crate::name_table::NameTable;

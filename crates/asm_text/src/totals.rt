@@ -2,7 +2,7 @@
 
 ghost use Rattle.std.specs.Prelude.{◌≡◌, ◌||◌, true, false, if◌then◌else◌};
 ghost use Rattle.asm_text.specs.Layout.{is_function, is_instruction};
-ghost use Rattle.asm_text.specs.Views.{statement_said};
+ghost use Rattle.asm_text.specs.private.Views.{statement_said};
 
 use crate::statement::{Choice, Spoken, Statement};
 use crate::width::{line_sleds, line_width};
@@ -20,7 +20,7 @@ enum Standing {
 }
 
 impl Standing {
-    ghost use Rattle.asm_text.specs.FirstPass.{has_begun, lacks_lines};
+    ghost use Rattle.asm_text.specs.private.FirstPass.{has_begun, lacks_lines};
 
     /// Whether a function has begun.
     fn has_begun(self) -> bool
@@ -83,8 +83,8 @@ impl Totals {
     ghost use Rattle.std.specs.Prelude.{[]};
     ghost use Rattle.asm_text.specs.Refusals.{is_misplaced, ends_early};
     ghost use Rattle.asm_text.specs.Layout.{Lines};
-    ghost use Rattle.asm_text.specs.FirstPass.{traced_after, Follows, IsTotals, IsWithin, totals_exceed};
-    ghost use Rattle.asm_text.specs.Views.{statement_spoken};
+    ghost use Rattle.asm_text.specs.private.FirstPass.{traced_after, Follows, IsTotals, IsWithin, totals_exceed};
+    ghost use Rattle.asm_text.specs.private.Views.{statement_spoken};
 
     /// The totals of no lines.
     pub(crate) fn new() -> Totals

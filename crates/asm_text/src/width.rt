@@ -2,7 +2,7 @@
 
 ghost use Rattle.std.specs.Prelude.{◌≡◌, ◌≤◌, ◌+◌, ◌%◌, ℕ, sum_by};
 ghost use Rattle.asm_text.specs.Layout.{widths, sleds_of, parts_of, traced_parts, plain_parts, branch_width};
-ghost use Rattle.asm_text.specs.Views.{statement_said, operation_checked};
+ghost use Rattle.asm_text.specs.private.Views.{statement_said, operation_checked};
 
 use crate::statement::{Branch, Operation, Statement};
 use subset_decode::{CONDITIONAL_LENGTH, LONGEST, NEAR_LENGTH, RETURN_LENGTH, encode};

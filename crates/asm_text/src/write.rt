@@ -3,11 +3,12 @@
 ghost use Rattle.std.specs.Prelude.{◌≡◌, ◌≤◌, ◌<◌, IfOk, length, option_copied, slice_get};
 ghost use Rattle.std.specs.List.{position_or_len, filter_map};
 ghost use Rattle.std.specs.Str.{bytes_eq};
+ghost use Rattle.xray_image.specs.Limits.{most_code, most_functions, most_sleds};
 ghost use Rattle.asm_text.specs.Layout.{functions, map_entries, base_of, entry_of, entry_in_line};
 ghost use Rattle.asm_text.specs.Writing.{file_bytes};
-ghost use Rattle.asm_text.specs.Laying.{placed_in, lines_of};
-ghost use Rattle.asm_text.specs.LaidTexts.{all_in};
-ghost use Rattle.asm_text.specs.Files.{image_laid, IsWritable, IsHeaderOf};
+ghost use Rattle.asm_text.specs.private.Laying.{placed_in, lines_of};
+ghost use Rattle.asm_text.specs.private.LaidTexts.{all_in};
+ghost use Rattle.asm_text.specs.private.Files.{image_laid, IsWritable, IsHeaderOf};
 
 use crate::code::push_code;
 use crate::file::{kind_of, push_functions, push_map};
@@ -47,7 +48,7 @@ fn entry_name<'a>(lines: &[Laid<'a>]) -> Option<&'a [u8]>
 
 /// How many functions there are.
 fn count_functions(lines: &[Laid]) -> u32
-    requires { length (functions 0 (placed_in lines.now)) ≤ 1024 }
+    requires { length (functions 0 (placed_in lines.now)) ≤ most_functions }
     ensures { result ≡ length (functions 0 (placed_in lines.now)) }
 {
     let mut count = 0;
@@ -61,7 +62,7 @@ fn count_functions(lines: &[Laid]) -> u32
 
 /// How many sleds there are.
 fn count_sleds(lines: &[Laid]) -> u32
-    requires { length (map_entries 0 (placed_in lines.now)) ≤ 4096 }
+    requires { length (map_entries 0 (placed_in lines.now)) ≤ most_sleds }
     ensures { result ≡ length (map_entries 0 (placed_in lines.now)) }
 {
     let mut count = 0;
@@ -75,7 +76,7 @@ fn count_sleds(lines: &[Laid]) -> u32
 
 /// The number of the function with this name, from 0.
 fn function_number(lines: &[Laid], name: &[u8]) -> u32
-    requires { length (functions 0 (placed_in lines.now)) ≤ 1024 }
+    requires { length (functions 0 (placed_in lines.now)) ≤ most_functions }
     ensures { result ≡ position_or_len (λ f. bytes_eq f.name name.now)
         (functions 0 (placed_in lines.now)) }
 {
@@ -93,7 +94,7 @@ fn function_number(lines: &[Laid], name: &[u8]) -> u32
 
 /// The number of the entry function. It is the first function if the text names none.
 fn entry_of(lines: &[Laid]) -> u32
-    requires { length (functions 0 (placed_in lines.now)) ≤ 1024 }
+    requires { length (functions 0 (placed_in lines.now)) ≤ most_functions }
     ensures { result ≡ entry_of (lines_of (placed_in lines.now))
         (functions 0 (placed_in lines.now)) }
 {
@@ -106,7 +107,7 @@ fn entry_of(lines: &[Laid]) -> u32
 /// What the header counts.
 fn header_of(text: &LaidText, code: &[u8]) -> Header
     requires writable { IsWritable text.now }
-    requires code { length code.now ≤ 1048576 }
+    requires code { length code.now ≤ most_code }
     ensures { IsHeaderOf (all_in text.now) (length code.now) result }
 {
     Header {

@@ -11,7 +11,7 @@ use Rattle.machine_step.specs.declared.setup.Setup.{Setup}
 use Rattle.buffer_queue.specs.declared.view.View.{View}
 use Rattle.buffer_queue.specs.Views.{draining, spent, taking_in}
 use Rattle.buffer_queue.specs.Left.{IsLeft, IsUsed, row_at}
-use Rattle.buffer_queue.specs.Steps.{MayDrain, MayTakeIn}
+use Rattle.buffer_queue.specs.private.Steps.{MayDrain, MayTakeIn}
 use Rattle.buffer_queue.specs.Rule.{Fits, KeepsOpen, KeepsPool, PoolState, one_if, turning}
 use Rattle.buffer_queue.proofs.Places.{in_range, all_set, turning_set, turning_none, is_open, fits_live, fits_still}
 use Rattle.buffer_queue.proofs.Counts.{counts}

@@ -9,7 +9,7 @@ use Rattle.machine_step.specs.declared.setup.Setup.{Setup}
 use Rattle.buffer_queue.specs.declared.view.View.{View}
 use Rattle.buffer_queue.specs.Views.{giving, head_view, new_view, opener, spent, stocking}
 use Rattle.buffer_queue.specs.Left.{row_at}
-use Rattle.buffer_queue.specs.Steps.{MayGive, MayStock}
+use Rattle.buffer_queue.specs.private.Steps.{MayGive, MayStock}
 use Rattle.buffer_queue.specs.Rule.{Fits, IsCounted, IsUnopened, KeepsOpen, KeepsPool, PoolState, turning}
 use Rattle.buffer_queue.proofs.Places.{all_set, turning_set, turning_push, is_open, fits_live, fits_still, replicate_push, row_at_longer, at_new}
 use Rattle.buffer_queue.proofs.Turns.{settled}

@@ -11,7 +11,7 @@ use Rattle.machine_step.specs.declared.setup.Setup.{Setup}
 use Rattle.buffer_queue.specs.declared.view.View.{View}
 use Rattle.buffer_queue.specs.Views.{putting, taking}
 use Rattle.buffer_queue.specs.Left.{IsSuffix, IsUsed, of_thread, row_at}
-use Rattle.buffer_queue.specs.Steps.{IsStocked, MayPut}
+use Rattle.buffer_queue.specs.private.Steps.{IsStocked, MayPut}
 use Rattle.buffer_queue.specs.Rule.{Fits, IsCounted, KeepsOpen, KeepsPool, PoolState, one_if}
 use Rattle.buffer_queue.proofs.Places.{in_range, all_set, turning_set, turning_room, turning_some, is_open, fits_live, fits_still, of_same, of_other, of_push, counted_push}
 

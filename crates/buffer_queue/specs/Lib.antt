@@ -1,5 +1,5 @@
 pub mod Views
 pub mod Left
 pub mod Rule
-pub mod Steps
 pub mod Passes
+pub mod private

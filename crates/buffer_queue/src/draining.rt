@@ -4,7 +4,7 @@ ghost use Rattle.std.specs.Prelude.{◌≡◌, ◌<◌, ◌≤◌, ◌+◌, [], 
 ghost use Rattle.crossbeam_queue.specs.Passes.{view, IsPassOf, IsSamePass};
 ghost use Rattle.buffer_queue.specs.Left.{AddsLeft};
 ghost use Rattle.buffer_queue.specs.Passes.{pool_is, sealed_of, AreOf};
-ghost use Rattle.buffer_queue.specs.Steps.{MayDrain};
+ghost use Rattle.buffer_queue.specs.private.Steps.{MayDrain};
 ghost use Rattle.buffer_queue.specs.Views.{draining, taking_in};
 
 use crate::law::{Drains, HasDrained, Queue, TakesIn};

@@ -3,7 +3,7 @@
 ghost use Rattle.std.specs.Prelude.{◌≡◌, ◌<◌, ◌≤◌, ◌+◌, ◌-◌, IfOk};
 ghost use Rattle.crossbeam_queue.specs.Passes.{view, IsPassOf, IsSamePass, ruled_capacity};
 ghost use Rattle.buffer_queue.specs.Passes.{new_pass, pass_is, pool_is, AreNew};
-ghost use Rattle.buffer_queue.specs.Steps.{MayGive, MayStock};
+ghost use Rattle.buffer_queue.specs.private.Steps.{MayGive, MayStock};
 ghost use Rattle.buffer_queue.specs.Views.{giving, head_view, new_view, opener, stocking};
 
 use crate::law::{Gives, Opening, Opens, Queue, Stocks};

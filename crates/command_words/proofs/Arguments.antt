@@ -12,7 +12,7 @@ use Rattle.clap.specs.Simple.{Shape, new_shape}
 use Rattle.clap.specs.declared.builder.action.ArgAction.TheVariants.{Set}
 use Rattle.clap.specs.declared.builder.value_parser.ValueParser.TheVariants as parser
 use Rattle.clap.specs.declared.parser.matches.ValueSource.TheVariants.{CommandLine}
-use Rattle.command_words.specs.Clapped.{after}
+use Rattle.command_words.specs.private.Clapped.{after}
 use Rattle.command_words.specs.Items.{Item, File, Given, Bare}
 
 -- a command with these arguments, as clap builds it: it has no help, no version and no subcommand

@@ -12,7 +12,7 @@ use Rattle.clap.specs.Faults.{is_simple_and_free}
 use Rattle.clap.specs.Walk.{Row, Rule, Text, arg_by_id, arg_by_index, arg_by_long, has_long, is_early_multiple, nothing_held, rows_after}
 use Rattle.clap.specs.Simple.{App, Shape, built, filled, filled_from, with_index, with_rule, on_top}
 use Rattle.clap.proofs.FaultLemmas.{leaf_fault}
-use Rattle.command_words.specs.Clapped.{after, app_by, bare_app, clap_rows, file_rule, option_rule}
+use Rattle.command_words.specs.private.Clapped.{after, app_by, bare_app, clap_rows, file_rule, option_rule}
 use Rattle.command_words.specs.Items.{items_of}
 use Rattle.command_words.specs.Rows.{CommandRow, FileRow, OptionRow, are_distinct, is_row, labels_of, option_names}
 use Rattle.command_words.proofs.Arguments.{Each, IsOne, leaf, run}

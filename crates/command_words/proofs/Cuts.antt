@@ -5,7 +5,7 @@ use Rattle.std.specs.Prelude.{if◌then◌else◌, option_and_then, option_map, 
 use Rattle.std.specs.Str.{bytes_eq}
 use Rattle.clap.specs.Takes.{is_given}
 use Rattle.clap.specs.Walk.{Row, Rule, Text, first_of}
-use Rattle.command_words.specs.Clapped.{app_by, clap_rows, given_in, line_in, names_in}
+use Rattle.command_words.specs.private.Clapped.{app_by, clap_rows, given_in, line_in, names_in}
 use Rattle.command_words.specs.Items.{Item, File, Given, Bare, dashed, files_of, items_of, values_of}
 use Rattle.command_words.specs.Lines.{Line, comes_once, fit, given_by, have_only, is_cut, line_by, line_of, outputs_differ}
 use Rattle.command_words.specs.Rows.{CommandRow, FileRow, OptionRow, are_distinct, is_optional, is_row, labels_of, option_names}

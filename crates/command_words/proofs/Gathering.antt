@@ -11,7 +11,7 @@ use Rattle.clap.proofs.WalkLemmas.{first_value-rows}
 use Rattle.clap.specs.Matches.{first_value, found_of}
 use Rattle.clap.specs.Walk.{Row, Text, first_of}
 use Rattle.clap.specs.declared.parser.matches.ArgMatches.{ArgMatches}
-use Rattle.command_words.specs.Clapped.{given_in, names_in, rows_in}
+use Rattle.command_words.specs.private.Clapped.{given_in, names_in, rows_in}
 use Rattle.command_words.specs.Lines.{outputs_in}
 use Rattle.command_words.specs.Rows as rows
 use Rattle.command_words.specs.Rows.{is_written}

@@ -9,7 +9,7 @@ use Rattle.clap.specs.Walk.{Row, Rule, Text, has_row, nothing_held, rows_after, 
 use Rattle.clap.specs.Faults.{default_fault, defaults_fault, level_fault, settle_fault, walk_fault}
 use Rattle.clap.specs.Takes.{is_given}
 use Rattle.clap.specs.declared.error.kind.ErrorKind.TheVariants.{MissingRequiredArgument}
-use Rattle.command_words.specs.Clapped.{after}
+use Rattle.command_words.specs.private.Clapped.{after}
 use Rattle.command_words.specs.Items.{items_of}
 use Rattle.command_words.proofs.Arguments.{Each, IsOne, leaf, run}
 use Rattle.command_words.proofs.WordShapes.{IsText}

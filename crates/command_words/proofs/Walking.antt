@@ -14,7 +14,7 @@ use Rattle.clap.specs.Faults.{long_fault, other_fault, positional_fault, settle_
 use Rattle.clap.specs.declared.error.kind.ErrorKind.{ErrorKind}
 use Rattle.clap.specs.declared.error.kind.ErrorKind.TheVariants.{InvalidValue, UnknownArgument}
 use Rattle.clap.specs.Lexer.{usize_max}
-use Rattle.command_words.specs.Clapped.{after}
+use Rattle.command_words.specs.private.Clapped.{after}
 use Rattle.command_words.specs.Items.{Item, File, Given, Bare, is_name, is_equals, items_after}
 use Rattle.command_words.proofs.Arguments.{Each, IsOne, after_else, arg_by_option, found_each, leaf, run, run_none, use_is, used_by, used_one}
 use Rattle.command_words.proofs.WordShapes.{IsText, Shaped, named, dashes, long, short, before_cons, after_cons, before_none, first_char, shaped}

@@ -1,4 +1,3 @@
-pub mod Clapped
 pub mod Items
 pub mod Lines
 pub mod Numbers
@@ -8,3 +7,4 @@ pub mod Rows
 pub mod Tables
 pub mod Views
 pub mod Words
+pub mod private

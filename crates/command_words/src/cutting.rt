@@ -3,7 +3,7 @@ ghost use Rattle.std.specs.Prelude.{◌≡◌, IfOk, count_by, fold, map, option
 ghost use Rattle.std.specs.Str.{bytes_eq};
 ghost use Rattle.clap.specs.Faults.{is_simple_and_free};
 ghost use Rattle.clap.specs.Simple.{app_of, with_rule};
-ghost use Rattle.command_words.specs.Clapped.{app_by, bare_app, clap_rows, file_rule, given_in, line_in, names_in, option_rule, rows_in};
+ghost use Rattle.command_words.specs.private.Clapped.{app_by, bare_app, clap_rows, file_rule, given_in, line_in, names_in, option_rule, rows_in};
 ghost use Rattle.command_words.specs.Items.{items_of, texts};
 ghost use Rattle.command_words.specs.Lines.{line_of, outputs_differ};
 ghost use Rattle.command_words.specs.Rows.{is_row};

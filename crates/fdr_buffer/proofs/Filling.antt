@@ -12,11 +12,11 @@ use Rattle.fdr_record.specs.Records.{record_bytes}
 use Rattle.fdr_buffer.specs.declared.buffer.Buffer.TheInside.{Inside}
 use Rattle.fdr_buffer.specs.Segments.{bytes_of, is_out_of_reach, records_of, records_behind, segment_bytes, preamble, body, has_room, EventFits}
 use Rattle.fdr_buffer.specs.declared.lead.Lead.{Lead}
-use Rattle.fdr_buffer.specs.Leads.{lead_records}
+use Rattle.fdr_buffer.specs.private.Leads.{lead_records}
 use Rattle.fdr_buffer.specs.Filled.{Filled, empty_buffer, used_bytes, last_of}
 use Rattle.fdr_buffer.specs.Fits.{BufferFits, PreambleFits}
-use Rattle.fdr_buffer.specs.Telling.{events_in}
-use Rattle.fdr_buffer.specs.Buffer.{filled_with, events_told, filled_in, Holds, IsFilled}
+use Rattle.fdr_buffer.specs.private.Telling.{events_in}
+use Rattle.fdr_buffer.specs.private.Buffer.{filled_with, events_told, filled_in, Holds, IsFilled}
 use Rattle.fdr_buffer.proofs.Records.{last_of-push, segment_bytes-push}
 use Rattle.fdr_buffer.proofs.Telling.{segment_told, nothing_told}
 

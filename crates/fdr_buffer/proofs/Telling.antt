@@ -12,7 +12,7 @@ use Rattle.fdr_record.specs.declared.event.Event.{Event}
 use Rattle.fdr_record.specs.declared.rec.Rec.TheVariants.{NewCpu, TscWrap, Function}
 use Rattle.fdr_record.specs.Records.{action_of, head_of, record_bytes}
 use Rattle.fdr_buffer.specs.Segments.{function_record, is_out_of_reach, records_on_new_cpu, records_on_same_cpu, records_of, records_behind, bytes_of, segment_bytes, EventFits}
-use Rattle.fdr_buffer.specs.Telling.{kind_told, events_behind, events_in}
+use Rattle.fdr_buffer.specs.private.Telling.{kind_told, events_behind, events_in}
 
 behind_both : (cpu cpu' tsc tsc' : ℕ) (rest : List ℕ) → cpu ≡ cpu' → tsc ≡ tsc' → events_behind 0 cpu tsc rest ≡ events_behind 0 cpu' tsc' rest
 behind_both cpu cpu' tsc tsc' rest e f = rw (e, f) refl

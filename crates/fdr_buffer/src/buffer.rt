@@ -44,7 +44,7 @@ impl Model for Buffer {
 
     ghost Value = { Filled };
 
-    ghost use Rattle.fdr_buffer.specs.Buffer.{filled_in, IsFilled};
+    ghost use Rattle.fdr_buffer.specs.private.Buffer.{filled_in, IsFilled};
 
     ghost view = { filled_in };
 

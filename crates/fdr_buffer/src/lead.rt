@@ -2,7 +2,7 @@
 
 ghost use Rattle.std.specs.Prelude.{◌≡◌, ◌<◌, ◌^◌, length};
 ghost use Rattle.fdr_buffer.specs.Segments.{bytes_of, records_of};
-ghost use Rattle.fdr_buffer.specs.Leads.{lead_records};
+ghost use Rattle.fdr_buffer.specs.private.Leads.{lead_records};
 
 use fdr_record::{Event, FUNCTION_BYTES, METADATA_BYTES};
 

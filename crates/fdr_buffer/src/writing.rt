@@ -2,7 +2,7 @@
 
 ghost use Rattle.std.specs.Prelude.{◌≡◌, ◌≤◌, ◌<◌, ◌+◌, ◌^◌, [], ◌++◌, length, take};
 ghost use Rattle.fdr_buffer.specs.Segments.{body, bytes_of, function_record, preamble_length};
-ghost use Rattle.fdr_buffer.specs.Leads.{lead_records};
+ghost use Rattle.fdr_buffer.specs.private.Leads.{lead_records};
 ghost use Rattle.fdr_record.specs.Records.{length_of, record_bytes, IdFits};
 
 use crate::lead::Lead;

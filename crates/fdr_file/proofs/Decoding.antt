@@ -14,7 +14,7 @@ use Rattle.fdr_record.specs.Records.{action_of, head_of, told_by, length_of, Fie
 use Rattle.fdr_record.specs.Refusals.{Refuses}
 use Rattle.fdr_record.specs.Reading.{function_at, kind_read, metadata_at}
 use Rattle.fdr_file.specs.Traces.{record_in, record_length}
-use Rattle.fdr_file.specs.Reading.{TakenAt}
+use Rattle.fdr_file.specs.private.Reading.{TakenAt}
 use Rattle.std.specs.Prelude.{IfOk, IfErr}
 
 -- bytes that begin with a record: its bytes with a meaning, and the rest

@@ -1,7 +1,7 @@
 //! One block of a file.
 
 ghost use Rattle.std.specs.Prelude.{◌≡◌, ◌≤◌, ◌<◌, ◌+◌, length, drop, IfOk};
-ghost use Rattle.fdr_file.specs.Reading.{Gives, Reads, body_on, end_on, left_at};
+ghost use Rattle.fdr_file.specs.private.Reading.{Gives, Reads, body_on, end_on, left_at};
 ghost use Rattle.fdr_file.specs.Traces.{block_faults, block_in, block_length, decided};
 
 use crate::events::read_events;

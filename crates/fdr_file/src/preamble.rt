@@ -1,7 +1,7 @@
 //! The preamble of a block.
 
 ghost use Rattle.std.specs.Prelude.{◌≤◌, ◌<◌, length, IfOk};
-ghost use Rattle.fdr_file.specs.Reading.{Reads, left_at, named_on, preamble_on};
+ghost use Rattle.fdr_file.specs.private.Reading.{Reads, left_at, named_on, preamble_on};
 ghost use Rattle.fdr_file.specs.Traces.{pid_named, thread_named, wall_named};
 
 use crate::TraceFault;

@@ -1,7 +1,7 @@
 //! Records in the bytes of a file and of a block.
 
 ghost use Rattle.std.specs.Prelude.{◌≤◌, ◌<◌, length, IfOk};
-ghost use Rattle.fdr_file.specs.Reading.{Reads, TakenAt, left_at, record_on};
+ghost use Rattle.fdr_file.specs.private.Reading.{Reads, TakenAt, left_at, record_on};
 
 use crate::TraceFault;
 use fdr_record::{Rec, RecFault, take_rec};

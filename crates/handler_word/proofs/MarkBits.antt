@@ -6,7 +6,7 @@ use Rattle.std.proofs.lemmas.List.{get_or_append_left, length-set}
 use Rattle.std.proofs.lemmas.Bool.Decides.{eqb_tells}
 use Rattle.std.proofs.lemmas.Nat.{or_comm, or_shifted}
 use Rattle.std.proofs.Math.Seq.{get_or-append_seam}
-use Rattle.handler_word.specs.Bits.{mark_of, bits_of, marks_from, IsFilledTo}
+use Rattle.handler_word.specs.private.Bits.{mark_of, bits_of, marks_from, IsFilledTo}
 use Rattle.handler_word.specs.MarkList.{MarkList}
 
 length-marks_from : (bytes : List ℕ) (n count : ℕ) → length (marks_from bytes n count) ≡ count

@@ -16,7 +16,7 @@ pub enum Mark {
 }
 
 impl Mark {
-    ghost use Rattle.handler_word.specs.Bits.{mark_of};
+    ghost use Rattle.handler_word.specs.private.Bits.{mark_of};
     ghost use Rattle.handler_word.specs.MarkList.{is_recorded};
 
     /// Whether the passing recorded an event.

@@ -1,7 +1,7 @@
 //! The marks of a thread.
 
 ghost use Rattle.std.specs.Prelude.{◌≡◌, ◌<◌, ◌≤◌, ◌↔◌, ◌+◌, ◌/◌, [], ◌∷◌, ◌++◌, length, slice_get, vec_capacity, Some, IsTrue, IfOk};
-ghost use Rattle.handler_word.specs.Bits.{mark_of, marks_from, IsFilledTo};
+ghost use Rattle.handler_word.specs.private.Bits.{mark_of, marks_from, IsFilledTo};
 ghost use Rattle.handler_word.specs.MarkList.{recorded_count};
 
 use crate::Mark;
@@ -37,7 +37,7 @@ impl Model for Marks {
 
     ghost Value = { MarkList };
 
-    ghost use Rattle.handler_word.specs.Marks.{marks_in, IsPacked};
+    ghost use Rattle.handler_word.specs.private.Marks.{marks_in, IsPacked};
 
     ghost view = { marks_in };
 

@@ -12,7 +12,7 @@ use Rattle.xray_image.specs.Layout.{width_of}
 use Rattle.xray_image.specs.Units.{Piece, Instruction, JumpSled, ReturnSled, Align, piece_bytes, sleds_in, what_of, units_from, places_from}
 use Rattle.xray_image.specs.Program.{Program, IsAccepted, sled_of}
 use Rattle.machine_step.specs.declared.step.Step.{Step}
-use Rattle.machine_step.specs.Steps.{IsPlaceOf, IsStepAt}
+use Rattle.machine_step.specs.private.Steps.{IsPlaceOf, IsStepAt}
 use Rattle.machine_step.proofs.OneUnit.{has_byte}
 use Rattle.machine_step.proofs.Places.{place_more}
 use Rattle.machine_step.proofs.Stepping.{AreInOrder}

@@ -8,10 +8,10 @@ use Rattle.machine_step.specs.declared.end.End.{End}
 use Rattle.machine_step.specs.declared.stand.Stand.{Stand}
 use Rattle.machine_step.specs.declared.stand.Stand.TheVariants.{Gate, Loading, Ended}
 use Rattle.machine_step.specs.PlainStep.{State, Passing, PlainRun, opening, passing_at}
-use Rattle.machine_step.specs.Inside.{traced, want_at, IsSound, StandsSo}
+use Rattle.machine_step.specs.private.Inside.{traced, want_at, IsSound, StandsSo}
 use Rattle.machine_step.specs.Loads.{Load, next_from}
-use Rattle.machine_step.specs.Machine.{state_at, first_machine, IsWithin}
-use Rattle.machine_step.specs.Standing.{RunsBy}
+use Rattle.machine_step.specs.private.Machine.{state_at, first_machine, IsWithin}
+use Rattle.machine_step.specs.private.Standing.{RunsBy}
 use Rattle.machine_step.specs.Traced.{HasLoaded, IsFresh, IsLoad, sleds_of, wanted_behind}
 use Rattle.machine_step.proofs.Accepted.{are_in_order}
 use Rattle.machine_step.proofs.Giving.{IsBetween, is_between, wants_at}

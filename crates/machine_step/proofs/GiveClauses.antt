@@ -17,12 +17,12 @@ use Rattle.machine_step.specs.declared.stage.Stage.TheVariants as stages
 use Rattle.machine_step.specs.declared.stand.Stand.{Stand}
 use Rattle.machine_step.specs.declared.stand.Stand.TheVariants.{Loading}
 use Rattle.machine_step.specs.Events.{event_of, events_in, recorded}
-use Rattle.machine_step.specs.Inside.{traced, want_at, IsAtPassing, IsSound, IsStageOf, StandsSo}
+use Rattle.machine_step.specs.private.Inside.{traced, want_at, IsAtPassing, IsSound, IsStageOf, StandsSo}
 use Rattle.machine_step.specs.Loads.{Load}
-use Rattle.machine_step.specs.Machine.{state_at, IsWithin}
+use Rattle.machine_step.specs.private.Machine.{state_at, IsWithin}
 use Rattle.machine_step.specs.PlainStep.{State, Passing, PlainRun, passing_at}
-use Rattle.machine_step.specs.Stages.{word_at, behind_load}
-use Rattle.machine_step.specs.Standing.{IsAtSled, PassesTo}
+use Rattle.machine_step.specs.private.Stages.{word_at, behind_load}
+use Rattle.machine_step.specs.private.Standing.{IsAtSled, PassesTo}
 use Rattle.machine_step.specs.Traced.{Allows, HasLoaded, load_of}
 use Rattle.machine_step.proofs.Giving.{Ending, IsBetween, passed_on, goes_on_loads, ends_loads, is_between}
 use Rattle.machine_step.proofs.LoadFacts.{events_more}

@@ -17,11 +17,11 @@ use Rattle.machine_step.specs.declared.stage.Stage.{Stage}
 use Rattle.machine_step.specs.declared.stand.Stand.{Stand}
 use Rattle.machine_step.specs.declared.stand.Stand.TheVariants.{Gate, Loading, Ended}
 use Rattle.machine_step.specs.PlainStep.{State, Passing, PlainRun, opening, passing_at}
-use Rattle.machine_step.specs.Inside.{traced, want_at, IsAtPassing, IsSound, StandsSo}
+use Rattle.machine_step.specs.private.Inside.{traced, want_at, IsAtPassing, IsSound, StandsSo}
 use Rattle.machine_step.specs.Loads.{Load, marks_of, next_from}
-use Rattle.machine_step.specs.Machine.{state_at, IsWithin}
-use Rattle.machine_step.specs.Stages.{word_at, first_stage, behind_load}
-use Rattle.machine_step.specs.Standing.{RunsBy}
+use Rattle.machine_step.specs.private.Machine.{state_at, IsWithin}
+use Rattle.machine_step.specs.private.Stages.{word_at, first_stage, behind_load}
+use Rattle.machine_step.specs.private.Standing.{RunsBy}
 use Rattle.machine_step.specs.Traced.{Traced, HasLoaded, IsWant, sleds_of, wanted_behind}
 use Rattle.machine_step.proofs.Accepted.{are_in_order}
 use Rattle.machine_step.proofs.OneUnit.{accepted_units}

@@ -22,4 +22,6 @@ pub mod SomeEnd
 pub mod Stepping
 pub mod AlongCode
 pub mod Wholeness
+pub mod Endings
+pub mod SomeMarks
 mod WholeRows

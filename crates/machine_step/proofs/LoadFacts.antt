@@ -21,10 +21,10 @@ use Rattle.machine_step.specs.declared.stand.Stand.{Stand}
 use Rattle.machine_step.specs.declared.stand.Stand.TheVariants.{Gate, Loading, Ended}
 use Rattle.machine_step.specs.declared.want.Want.TheVariants as wants
 use Rattle.machine_step.specs.Events.{event_of, events_in, recorded}
-use Rattle.machine_step.specs.Inside.{traced, want_at, IsAtPassing, IsSound, StandsSo}
-use Rattle.machine_step.specs.Machine.{state_at}
+use Rattle.machine_step.specs.private.Inside.{traced, want_at, IsAtPassing, IsSound, StandsSo}
+use Rattle.machine_step.specs.private.Machine.{state_at}
 use Rattle.machine_step.specs.PlainStep.{State, Passing, PlainRun, passing_at}
-use Rattle.machine_step.specs.Stages.{word_at, behind_load}
+use Rattle.machine_step.specs.private.Stages.{word_at, behind_load}
 use Rattle.machine_step.specs.Traced.{IsKept, MarksAdded, loads_left, steps_left}
 use Rattle.machine_step.proofs.Giving.{IsBetween, passed_on}
 use Rattle.machine_step.proofs.Opening.{loading_at, standing}
@@ -217,7 +217,7 @@ kept_not a sound place k at_stage value mark is behind kept =
 -- ---- how far it is from its end
 
 -- by the stage of its passing
-abbrev left_at : Program → ℕ → ℕ → Stage → ℕ
+abbrev pub left_at : Program → ℕ → ℕ → Stage → ℕ
 left_at program thread k stages.Release = state_word program + 2
 left_at program thread k stages.Head = state_word program + 1 - word_at program thread k stages.Head
 left_at program thread k stages.Id = state_word program + 1 - word_at program thread k stages.Id
@@ -234,7 +234,7 @@ high_word : (program : Program) (word : ℕ) (b : Bool) → state_word program <
 high_word program word true high is = let low = leb-true word (state_word program) is in absurd (omega arith)
 high_word program word false high is = rw is refl
 
-steps_left_at : (program : Program) (thread k : ℕ) (at_stage : Stage) → k < length program.sleds → 0 < thread
+pub steps_left_at : (program : Program) (thread k : ℕ) (at_stage : Stage) → k < length program.sleds → 0 < thread
     → steps_left program (wants.Load (word_at program thread k at_stage)) ≡ left_at program thread k at_stage
 steps_left_at program thread k stages.Release within some =
     high_word program (release_word program thread) (nat_le (release_word program thread) (state_word program)) (omega arith) refl
@@ -246,7 +246,7 @@ steps_left_at program thread k stages.Handler within some = low_word program (wo
 steps_left_at program thread k stages.State within some = low_word program (word_at program thread k stages.State) (omega arith)
 
 -- a load that goes on comes to a nearer stage, unless it is a release word of 0
-next_left : (program : Program) (thread k : ℕ) (at_stage next : Stage) (value : ℕ) → k < length program.sleds → 0 < thread
+pub next_left : (program : Program) (thread k : ℕ) (at_stage next : Stage) (value : ℕ) → k < length program.sleds → 0 < thread
     → behind_load at_stage value ≡ Loads next → ((at_stage ≡ stages.Release) × (value ≡ 0) → ⊥)
     → left_at program thread k next < left_at program thread k at_stage
 next_left program thread k stages.Release next value within some behind free = by_value (value == 0) refl behind
@@ -295,7 +295,7 @@ nearer_on a sound place k at_stage next value is behind free =
     omega arith
 
 -- each stage has a load before it
-some_left : (program : Program) (thread k : ℕ) (at_stage : Stage) → k < length program.sleds → 0 < left_at program thread k at_stage
+pub some_left : (program : Program) (thread k : ℕ) (at_stage : Stage) → k < length program.sleds → 0 < left_at program thread k at_stage
 some_left program thread k stages.Release within = omega arith
 some_left program thread k stages.Head within = omega arith
 some_left program thread k stages.Id within = omega arith

@@ -10,7 +10,7 @@ use Rattle.machine_step.specs.declared.stage.Stage.TheVariants as stages
 use Rattle.machine_step.specs.declared.stage.Next.{Next}
 use Rattle.machine_step.specs.declared.stage.Next.TheVariants.{Loads, Ends}
 use Rattle.machine_step.specs.Loads.{Load, Reading, Wants, Marked, from_start, from_release, from_head, from_id, from_opcode, from_offset, from_handler, from_state, is_held_at, marks_from, next_from}
-use Rattle.machine_step.specs.Stages.{word_at, stage_by, first_stage, behind_load}
+use Rattle.machine_step.specs.private.Stages.{word_at, stage_by, first_stage, behind_load}
 
 -- ---- one passing
 
@@ -59,9 +59,28 @@ stage_wants program thread k stages.Offset = refl
 stage_wants program thread k stages.Handler = refl
 stage_wants program thread k stages.State = refl
 
+-- a passing loads a release word only at its beginning
+release_behind : (from : Stage) (value : ℕ) → behind_load from value ≡ Loads stages.Release → from ≡ stages.Release
+release_behind stages.Release value is = refl
+release_behind stages.Head value is = absurd (loads_or_ends (value == patched_head) is)
+  where
+    loads_or_ends : (b : Bool) → (if b then Loads stages.Id else Ends marks.Skipped) ≡ Loads stages.Release → ⊥
+    loads_or_ends true is = cc
+    loads_or_ends false is = cc
+release_behind stages.Id value is = absurd cc
+release_behind stages.Opcode value is = absurd cc
+release_behind stages.Offset value is = absurd cc
+release_behind stages.Handler value is = absurd (ends_or_loads (value == 0) is)
+  where
+    ends_or_loads : (b : Bool) → (if b then Ends marks.NoHandler else Loads stages.State) ≡ Loads stages.Release → ⊥
+    ends_or_loads true is = cc
+    ends_or_loads false is = cc
+release_behind stages.State value is = absurd cc
+
 -- if loads bring a passing to a word, they bring it to a stage
 record OpenAt (program : Program) (thread k : ℕ) (from : Stage) (loads : List Load) (word : ℕ) : Type 0 where
   at : Stage
+  begins : at ≡ stages.Release → from ≡ stages.Release
   word_is : word ≡ word_at program thread k at
   on : (more : List Load) → from_stage program thread k from (loads ++ more) ≡ from_stage program thread k at more
 
@@ -73,6 +92,7 @@ open_on program thread k from load loads word later (Loads stage) behind is =
     let found = later stage is in
     record {
       at = found.at;
+      begins = λ release. release_behind from load.value (behind ∙ ap Loads (found.begins release));
       word_is = found.word_is;
       on = λ more. stage_reads program thread k from load (loads ++ more)
           ∙ (ap (λ (n : Next). read_on program thread k n (loads ++ more)) behind ∙ found.on more);
@@ -83,7 +103,7 @@ open_at : (program : Program) (thread k : ℕ) (from : Stage) (loads : List Load
     → from_stage program thread k from loads ≡ Wants word → OpenAt program thread k from loads word
 open_at program thread k from [] word is =
     let wants = stage_wants program thread k from in
-    record { at = from; word_is = cc; on = λ more. refl }
+    record { at = from; begins = λ release. release; word_is = cc; on = λ more. refl }
 open_at program thread k from (load ∷ loads) word is =
     open_on program thread k from load loads word (λ stage wants. open_at program thread k stage loads word wants)
     (behind_load from load.value) refl (sym (stage_reads program thread k from load loads) ∙ is)
@@ -191,10 +211,16 @@ pub record InPassing (program : Program) (thread : ℕ) (hold : Option ℕ) (num
   pub passed : sleds ≡ before ++ sled ∷ rest
   pub count : length before ≡ length (marks_from program thread hold number sleds loads)
   pub at : Stage
+  pub held : at ≡ stages.Release → is_held_at hold (number + length (marks_from program thread hold number sleds loads)) ≡ true
   pub word_is : word ≡ word_at program thread sled at
   pub adds : (load : Load) → Adds program thread hold number sled rest
       (marks_from program thread hold number sleds loads) (marks_from program thread hold number sleds (loads ++ load ∷ []))
       (next_from program thread hold number sleds (loads ++ load ∷ [])) (behind_load at load.value)
+
+-- a passing begins with the release word if the thread is held
+held_if : (held : Bool) → stage_by held ≡ stages.Release → held ≡ true
+held_if true is = refl
+held_if false is = absurd cc
 
 in_first : (program : Program) (thread : ℕ) (hold : Option ℕ) (number k : ℕ) (sleds : List ℕ) (loads : List Load) (word : ℕ)
     → from_start program thread (is_held_at hold number) k loads ≡ Wants word
@@ -210,6 +236,9 @@ in_first program thread hold number k sleds loads word is =
       passed = refl;
       count = sym (ap length none);
       at = found.at;
+      held = λ release.
+          let here : number ≡ number + length (marks_from program thread hold number (k ∷ sleds) loads) = omega (arith, ap length none) in
+          subst (λ (n : ℕ). is_held_at hold n ≡ true) here (held_if held (found.begins release));
       word_is = found.word_is;
       adds = λ load. subst (λ (ms : List Mark). Adds program thread hold number k sleds ms
           (marks_from program thread hold number (k ∷ sleds) (loads ++ load ∷ [])) (next_from program thread hold number (k ∷ sleds) (loads ++ load ∷ []))
@@ -233,6 +262,10 @@ in_later program thread hold number k sleds loads word mark behind is later =
       passed = ap (λ ks. k ∷ ks) later.passed;
       count = ap suc later.count ∙ sym (ap length all);
       at = later.at;
+      held = λ release.
+          let there : number + 1 + length (marks_from program thread hold (number + 1) sleds behind)
+          ≡ number + length (marks_from program thread hold number (k ∷ sleds) loads) = omega (arith, ap length all) in
+          subst (λ (n : ℕ). is_held_at hold n ≡ true) there (later.held release);
       word_is = later.word_is;
       adds = λ load.
           let more = starts program thread k held (loads ++ load ∷ []) ∙ closed_at program thread k (stage_by held) loads mark behind (load ∷ [])

@@ -12,9 +12,9 @@ use Rattle.machine_step.specs.declared.stage.Stage.TheVariants as stages
 use Rattle.machine_step.specs.declared.stand.Stand.{Stand}
 use Rattle.machine_step.specs.declared.stand.Stand.TheVariants.{Gate, Loading, Ended}
 use Rattle.machine_step.specs.PlainStep.{Passing}
-use Rattle.machine_step.specs.Inside.{traced, want_at, IsAtPassing, IsSound, IsStageOf, StandsSo}
+use Rattle.machine_step.specs.private.Inside.{traced, want_at, IsAtPassing, IsSound, IsStageOf, StandsSo}
 use Rattle.machine_step.specs.Loads.{Load}
-use Rattle.machine_step.specs.Stages.{AllowsAt, word_at, first_stage, stage_by}
+use Rattle.machine_step.specs.private.Stages.{AllowsAt, word_at, first_stage, stage_by}
 use Rattle.machine_step.specs.Traced.{Allows, HasLoaded, IsLoadable, IsWant, StandsAs, wanted_behind}
 use Rattle.machine_step.proofs.Tracing.{before_of, begins_at, stands_before, stands_past}
 use Rattle.machine_step.proofs.WordsAt.{allowed_at, allows_at}

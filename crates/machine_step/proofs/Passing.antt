@@ -16,9 +16,9 @@ use Rattle.machine_step.specs.declared.machine.Machine.{Machine}
 use Rattle.machine_step.specs.declared.stand.Stand.{Stand}
 use Rattle.machine_step.specs.declared.stand.Stand.TheVariants.{Gate, Loading, Ended}
 use Rattle.machine_step.specs.PlainStep.{Goes, Next, Passing, PlainStep, passing_at}
-use Rattle.machine_step.specs.Machine.{state_at, IsWithin, stepping}
-use Rattle.machine_step.specs.Standing.{due_sled, IsAtSled, RunsBy}
-use Rattle.machine_step.specs.Steps.{IsPlaceOf, IsStepOf, IsStepAt, sled_at}
+use Rattle.machine_step.specs.private.Machine.{state_at, IsWithin, stepping}
+use Rattle.machine_step.specs.private.Standing.{due_sled, IsAtSled, RunsBy}
+use Rattle.machine_step.specs.private.Steps.{IsPlaceOf, IsStepOf, IsStepAt, sled_at}
 use Rattle.machine_step.proofs.Stepping.{AreInOrder, LeadsBy, instruction_at_none, sled_at_some}
 use Rattle.machine_step.proofs.ToSled.{at_passing}
 

@@ -6,7 +6,7 @@ use Rattle.std.proofs.lemmas.List.{length-map}
 use Rattle.std.proofs.lemmas.Option.{slice_get_within}
 use Rattle.xray_image.specs.declared.unit.Unit.{Unit}
 use Rattle.xray_image.specs.Program.{addresses}
-use Rattle.machine_step.specs.Steps.{IsPlaceOf}
+use Rattle.machine_step.specs.private.Steps.{IsPlaceOf}
 
 -- a unit that was found is among the units
 pub found_contains : (units : List Unit) (i : ℕ) (u : Unit) → slice_get units i ≡ Some u → Contains units u

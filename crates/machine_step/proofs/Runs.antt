@@ -9,8 +9,8 @@ use Rattle.machine_step.specs.declared.step.Way.{Way}
 use Rattle.machine_step.specs.declared.step.Way.TheVariants.{To, Back, Ends as Stops}
 use Rattle.machine_step.specs.declared.machine.Machine.{Machine}
 use Rattle.machine_step.specs.PlainStep.{State, Next, Goes, Ends, Passing, PlainStep}
-use Rattle.machine_step.specs.Machine.{state_at, IsWithin, RunsFrom, stepping}
-use Rattle.machine_step.specs.Steps.{IsPlaceOf, IsStepAt}
+use Rattle.machine_step.specs.private.Machine.{state_at, IsWithin, RunsFrom, stepping}
+use Rattle.machine_step.specs.private.Steps.{IsPlaceOf, IsStepAt}
 use Rattle.machine_step.proofs.Places.{place_within}
 use Rattle.machine_step.proofs.Stepping.{left_of, Nearer, LeadsBy, AreInOrder, step_at_place}
 

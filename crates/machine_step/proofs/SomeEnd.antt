@@ -19,8 +19,8 @@ use Rattle.machine_step.specs.declared.step.Way.{Way}
 use Rattle.machine_step.specs.declared.step.Way.TheVariants.{To, Back, Ends as Stops}
 use Rattle.machine_step.specs.declared.machine.Machine.{Machine}
 use Rattle.machine_step.specs.PlainStep.{State, Passing, PlainRun, branched, stack_limit, output_limit}
-use Rattle.machine_step.specs.Machine.{Taken, state_at, first_machine, IsWithin, RunsFrom, ending, going, staying, leaving, pushing, popping, returning, putting, passing, acting, stepping}
-use Rattle.machine_step.specs.Steps.{IsStepOfInstruction, IsStepOf, IsStepAt, step_of_sled}
+use Rattle.machine_step.specs.private.Machine.{Taken, state_at, first_machine, IsWithin, RunsFrom, ending, going, staying, leaving, pushing, popping, returning, putting, passing, acting, stepping}
+use Rattle.machine_step.specs.private.Steps.{IsStepOfInstruction, IsStepOf, IsStepAt, step_of_sled}
 use Rattle.machine_step.proofs.Accepted.{are_in_order, has_sled}
 use Rattle.machine_step.proofs.Places.{has_place}
 use Rattle.machine_step.proofs.Runs.{Stands, measure, goes_on, goes_back, ends_there, stands_within, measure_falls}

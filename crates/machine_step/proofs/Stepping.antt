@@ -22,8 +22,8 @@ use Rattle.machine_step.specs.declared.step.Way.{Way}
 use Rattle.machine_step.specs.declared.step.Way.TheVariants.{To, Back, Ends as Stops}
 use Rattle.machine_step.specs.declared.machine.Machine.{Machine}
 use Rattle.machine_step.specs.PlainStep.{State, Next, Goes, Ends, Passing, PlainStep, UnitStep, does, pushed, popped, returns, fuelled, branched, passing_at, behind_passing, stack_limit, output_limit}
-use Rattle.machine_step.specs.Machine.{state_at, IsWithin, Taken, ending, staying, pushing, popping, returning, putting, leaving, stepping}
-use Rattle.machine_step.specs.Steps.{IsPlaceOf, IsStepOfInstruction, IsStepOf, IsStepAt, step_of_sled, sled_at}
+use Rattle.machine_step.specs.private.Machine.{state_at, IsWithin, Taken, ending, staying, pushing, popping, returning, putting, leaving, stepping}
+use Rattle.machine_step.specs.private.Steps.{IsPlaceOf, IsStepOfInstruction, IsStepOf, IsStepAt, step_of_sled, sled_at}
 use Rattle.machine_step.proofs.OneEnd.{Passes}
 use Rattle.machine_step.proofs.Places.{found_contains, contains_address, found_address}
 

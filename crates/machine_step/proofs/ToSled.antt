@@ -11,9 +11,9 @@ use Rattle.machine_step.specs.declared.step.Way.TheVariants.{To, Back, Ends as S
 use Rattle.machine_step.specs.declared.machine.Machine.{Machine}
 use Rattle.machine_step.specs.PlainStep.{State, Next, Goes, Ends, Passing, PlainStep, RunsTo, passing_at}
 use Rattle.machine_step.specs.Course.{Reaches}
-use Rattle.machine_step.specs.Machine.{state_at, IsWithin, stepping}
-use Rattle.machine_step.specs.Standing.{due_sled}
-use Rattle.machine_step.specs.Steps.{IsPlaceOf, IsStepAt, sled_at}
+use Rattle.machine_step.specs.private.Machine.{state_at, IsWithin, stepping}
+use Rattle.machine_step.specs.private.Standing.{due_sled}
+use Rattle.machine_step.specs.private.Steps.{IsPlaceOf, IsStepAt, sled_at}
 use Rattle.machine_step.proofs.OnCourse.{reaches_more, runs_behind}
 use Rattle.machine_step.proofs.Places.{place_within}
 use Rattle.machine_step.proofs.Runs.{measure, measure_falls}

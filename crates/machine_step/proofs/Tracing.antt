@@ -8,10 +8,10 @@ use Rattle.machine_step.specs.declared.end.End.{End}
 use Rattle.machine_step.specs.declared.cpu.Cpu.TheInside.{Inside}
 use Rattle.machine_step.specs.PlainStep.{State, Passing, PlainRun, passing_at}
 use Rattle.machine_step.specs.Course.{ComesTo}
-use Rattle.machine_step.specs.Inside.{traced, IsAtPassing, IsPastEnd, IsSound}
+use Rattle.machine_step.specs.private.Inside.{traced, IsAtPassing, IsPastEnd, IsSound}
 use Rattle.machine_step.specs.Loads.{is_held_at}
-use Rattle.machine_step.specs.Machine.{state_at}
-use Rattle.machine_step.specs.Stages.{word_at, first_stage, stage_by}
+use Rattle.machine_step.specs.private.Machine.{state_at}
+use Rattle.machine_step.specs.private.Stages.{word_at, first_stage, stage_by}
 use Rattle.machine_step.specs.Traced.{IsBeforePassing, IsAtEnd, BeginsPassing, sleds_of, first_word}
 use Rattle.machine_step.specs.Traced.{state_at as traced_at}
 use Rattle.machine_step.proofs.Accepted.{are_in_order}

@@ -10,7 +10,7 @@ use Rattle.sled_words.specs.Words.{word_of, handler_word, state_word, release_wo
 use Rattle.sled_words.specs.Allowed.{IsAllowed, IsAllowedPart}
 use Rattle.machine_step.specs.declared.stage.Stage.{Stage}
 use Rattle.machine_step.specs.declared.stage.Stage.TheVariants as stages
-use Rattle.machine_step.specs.Stages.{word_at, AllowsAt}
+use Rattle.machine_step.specs.private.Stages.{word_at, AllowsAt}
 
 -- the word of a passing determines its stage
 pub same_stage : (program : Program) (thread k : ℕ) (a b : Stage) → k < length program.sleds → 0 < thread

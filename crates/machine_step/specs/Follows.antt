@@ -19,11 +19,12 @@ pub data Follows (program : Program) (code : ℕ → ℕ → ℕ) (start : ℕ) 
       → place ≤ bound (length (marks_of program thread hold sleds loads))
       → Follows program code start bound thread hold sleds (loads ++ record { word = word; value = code place word } ∷ []) place
 
--- The marks follow the script up to a place: they are the marks of loads that follow it. None of these loads is of a
--- release word that still held the thread.
+-- The marks follow the script up to a place: each passing has one, and they are the marks of loads that follow the
+-- script. None of these loads is of a release word that still held the thread.
 pub record MarksFollow (program : Program) (code : ℕ → ℕ → ℕ) (start : ℕ) (bound : ℕ → ℕ) (thread : ℕ) (hold : Option ℕ) (sleds : List ℕ)
     (marks : List Mark) (place : ℕ) : Type 0 where
   pub loads : List Load
   pub follow : Follows program code start bound thread hold sleds loads place
   pub leave : marks ≡ marks_of program thread hold sleds loads
   pub released : All (λ load. load.word ≡ release_word program thread → load.value ≢ 0) loads
+  pub each : length marks ≡ length sleds

@@ -6,10 +6,7 @@ pub mod Follows
 pub mod Events
 pub mod Traced
 pub mod Whole
+pub mod Ended
 pub mod Texts
 pub mod EndedText
-pub mod Machine
-pub mod Steps
-pub mod Stages
-pub mod Standing
-pub mod Inside
+pub mod private

@@ -2,7 +2,7 @@
 ghost use Rattle.std.specs.Prelude.{◌≡◌, ◌<◌, ◌↔◌, length, slice_get, Some, IsTrue};
 ghost use Rattle.sled_words.specs.Allowed.{IsUnpatchedHead};
 ghost use Rattle.xray_image.specs.declared.sled.Sled.{Sled};
-ghost use Rattle.machine_step.specs.Stages.{AllowsAt};
+ghost use Rattle.machine_step.specs.private.Stages.{AllowsAt};
 
 use crate::stage::Stage;
 use sled_words::{JUMP_HEAD, PATCHED_HEAD, Part, part_value};

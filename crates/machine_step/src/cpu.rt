@@ -48,7 +48,7 @@ impl<'a> Model for Cpu<'a> {
 
     ghost Value = { Traced };
 
-    ghost use Rattle.machine_step.specs.Inside.{traced, IsSound};
+    ghost use Rattle.machine_step.specs.private.Inside.{traced, IsSound};
 
     ghost view = { traced };
 

@@ -1,14 +1,18 @@
 //! Laws of the plain machine and of its loads. Each law is the contract of a function that does
 //! nothing.
-ghost use Rattle.std.specs.Prelude.{◌≡◌, ℕ, List, Option, Some, All};
+ghost use Rattle.std.specs.Prelude.{◌≡◌, ◌<◌, ℕ, List, Option, Some, All};
 ghost use Rattle.xray_image.specs.Program.{Program, IsAccepted};
 ghost use Rattle.sled_words.specs.Allowed.{IsAllowed};
-ghost use Rattle.sled_words.specs.ChangingCode.{KeepsSleds};
+ghost use Rattle.sled_words.specs.ChangingCode.{KeepsSleds, LetsEnd};
+ghost use Rattle.handler_word.specs.declared.mark.Mark.{Mark};
 ghost use Rattle.machine_step.specs.declared.limits.Limits.{Limits};
 ghost use Rattle.machine_step.specs.declared.end.End.{End};
 ghost use Rattle.machine_step.specs.PlainStep.{State, Passing, PlainRun};
-ghost use Rattle.machine_step.specs.Follows.{Follows};
+ghost use Rattle.machine_step.specs.Follows.{Follows, MarksFollow};
 ghost use Rattle.machine_step.specs.Loads.{AreWanted, Load, next_load};
+ghost use Rattle.machine_step.specs.Ended.{EndsAsPlain};
+ghost use Rattle.machine_step.specs.Traced.{HasLoaded, StandsAs, Traced, sleds_of};
+ghost use Rattle.machine_step.specs.declared.want.Want.TheVariants.{Done};
 ghost use Rattle.machine_step.specs.Whole.{AreWhole};
 
 /// A thread of an accepted image reaches only one end. All its plain runs have the same passings,
@@ -63,4 +67,24 @@ pub fn allowed_loads_are_whole()
         → AreWanted program thread hold sleds loads
         → All (λ load. IsAllowed program thread load.word load.value) loads
         → AreWhole program thread hold sleds loads }
+{}
+
+/// If changing code lets a thread come to its end, some marks of all its passings follow the code.
+/// They are those of a thread that makes each load as late as it may.
+pub fn some_marks_follow()
+    ensures { (program : Program) (limits : Limits) (thread : ℕ) (passed : List Passing) (end : End) (last : State)
+        (code : ℕ → ℕ → ℕ) (start total : ℕ) (bound : ℕ → ℕ) (hold : Option ℕ)
+        → 0 < thread → PlainRun program limits thread passed end last
+        → LetsEnd program thread hold code start total bound
+        → (marks : List Mark) × MarksFollow program code start bound thread hold (sleds_of passed) marks total }
+{}
+
+/// A traced thread ends as its plain run does, whatever values its loads gave. This is the one law
+/// on a `Cpu` for a caller with an order of loads of its own. What the thread was given, and where
+/// it stands, are clauses of `Cpu::new`, `opened`, `give` and `want`. That it comes to an end is the
+/// clause `nearer` of `opened` and `give`.
+pub fn a_traced_thread_ends_as_its_plain_run()
+    ensures { (bytes : List ℕ) (t : Traced) (passed : List Passing) (loads : List Load) (end : End)
+        → IsAccepted bytes t.program → HasLoaded t passed loads → t.want ≡ Done end → StandsAs t t.want
+        → (last : State) × EndsAsPlain t passed end last loads }
 {}

@@ -1,8 +1,8 @@
 //! A thread between two steps, and what a step does to it.
 
 ghost use Rattle.std.specs.Prelude.{◌≡◌, ◌<◌, ◌+◌, ◌^◌, ◌==◌, ◌&&◌, false, [], IfOk};
-ghost use Rattle.machine_step.specs.Machine.{first_machine, IsWithin, loading, computing, pushing, popping, returning, putting, going, staying, leaving, passing, acting, stepping};
-ghost use Rattle.machine_step.specs.Steps.{wants_fuel};
+ghost use Rattle.machine_step.specs.private.Machine.{first_machine, IsWithin, loading, computing, pushing, popping, returning, putting, going, staying, leaving, passing, acting, stepping};
+ghost use Rattle.machine_step.specs.private.Steps.{wants_fuel};
 
 use crate::end::End;
 use crate::limits::Limits;

@@ -2,7 +2,7 @@
 
 ghost use Rattle.std.specs.Prelude.{◌≡◌, ℕ, length, slice_index, IfOk};
 ghost use Rattle.machine_step.specs.PlainEnd.{IsPlainEnd};
-ghost use Rattle.machine_step.specs.Machine.{state_at, IsWithin, RunsFrom};
+ghost use Rattle.machine_step.specs.private.Machine.{state_at, IsWithin, RunsFrom};
 
 use crate::end::End;
 use crate::limits::Limits;

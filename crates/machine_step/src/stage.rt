@@ -1,6 +1,7 @@
 //! One passing of a sled, load by load.
 ghost use Rattle.std.specs.Prelude.{◌≡◌, ◌≤◌, ◌<◌, ◌+◌, length};
-ghost use Rattle.machine_step.specs.Stages.{behind_load, first_stage, word_at};
+ghost use Rattle.machine_step.specs.private.Stages.{behind_load, first_stage, word_at};
+ghost use Rattle.xray_image.specs.Limits.{most_sleds};
 ghost use Rattle.xray_image.specs.Program.{Program};
 
 use handler_word::Mark;
@@ -54,7 +55,7 @@ pub(crate) fn first_stage(hold: Option<u32>, passing: u32) -> Stage
 /// sleds.
 pub(crate) fn word_at(stage: Stage, sled: u32, sleds: u32, thread: u32) -> u32
     requires exists { sled < sleds }
-    requires few { sleds ≤ 4096 }
+    requires few { sleds ≤ most_sleds }
     requires thread { thread ≤ 16 }
     ensures { (program : Program) → length program.sleds ≡ sleds → result ≡ word_at program thread sled stage }
 {

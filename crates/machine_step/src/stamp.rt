@@ -2,7 +2,7 @@
 ghost use Rattle.std.specs.Prelude.{◌≡◌, ◌≤◌, ◌+◌, ◌*◌, ◌/◌, ◌%◌, ◌^◌, ℕ, Some, None, if◌then◌else◌};
 ghost use Rattle.handler_word.specs.MarkList.{is_recorded};
 ghost use Rattle.machine_step.specs.Events.{event_kind, event_of};
-ghost use Rattle.machine_step.specs.Machine.{state_at};
+ghost use Rattle.machine_step.specs.private.Machine.{state_at};
 ghost use Rattle.machine_step.specs.PlainStep.{passing_at};
 
 use crate::limits::Limits;

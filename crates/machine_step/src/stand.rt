@@ -2,9 +2,9 @@
 
 ghost use Rattle.std.specs.Prelude.{◌≡◌, ◌<◌, ℕ, List};
 ghost use Rattle.xray_image.specs.Program.{IsAccepted};
-ghost use Rattle.machine_step.specs.Machine.{IsWithin};
-ghost use Rattle.machine_step.specs.Standing.{IsAtSled, PassesTo, RunsOnTo, due_sled};
-ghost use Rattle.machine_step.specs.Steps.{IsPlaceOf};
+ghost use Rattle.machine_step.specs.private.Machine.{IsWithin};
+ghost use Rattle.machine_step.specs.private.Standing.{IsAtSled, PassesTo, RunsOnTo, due_sled};
+ghost use Rattle.machine_step.specs.private.Steps.{IsPlaceOf};
 
 use crate::end::End;
 use crate::limits::Limits;

@@ -1,7 +1,7 @@
 //! The units of an image in the form that the machine runs.
 
 ghost use Rattle.std.specs.Prelude.{◌≡◌};
-ghost use Rattle.machine_step.specs.Steps.{sled_at, wants_fuel};
+ghost use Rattle.machine_step.specs.private.Steps.{sled_at, wants_fuel};
 
 use crate::end::End;
 use subset_decode::Reg;

@@ -4,7 +4,7 @@ ghost use Rattle.std.specs.Prelude.{◌≡◌, ◌<◌, ◌≤◌, ◌+◌, ◌^
 ghost use Rattle.subset_decode.specs.Encoding.{spelling, IsNamed};
 ghost use Rattle.xray_image.specs.Program.{IsAccepted};
 ghost use Rattle.machine_step.specs.PlainStep.{branched};
-ghost use Rattle.machine_step.specs.Steps.{IsPlaceOf, IsStepOfInstruction, step_of_sled, IsStepOf, IsStepAt, AreStepsOf};
+ghost use Rattle.machine_step.specs.private.Steps.{IsPlaceOf, IsStepOfInstruction, step_of_sled, IsStepOf, IsStepAt, AreStepsOf};
 
 use crate::step::Step;
 use std::alloc::{AllocError, Global};
@@ -29,7 +29,7 @@ impl<'i> Model for Steps<'i> {
 
     ghost Value = { Program };
 
-    ghost use Rattle.machine_step.specs.Inside.{program_run, IsTable};
+    ghost use Rattle.machine_step.specs.private.Inside.{program_run, IsTable};
 
     ghost view = { program_run };
 
@@ -41,8 +41,7 @@ impl<'i> Steps<'i> {
     pub fn new(alloc: Global, image: &'i Image) -> Result<Steps<'i>, NoMemory>
         ensures program { IfOk result (λ steps. steps ≡ image.now) }
     {
-        // Called for its contract: some accepted file holds the image.
-        image.base();
+        image.each_was_accepted();
         let all = all_steps(alloc, image)?;
         Ok(Steps { image, all })
     }

@@ -13,12 +13,12 @@ use Rattle.patch_script.specs.declared.first_patches.FirstPatches.{FirstPatches}
 use Rattle.patch_script.specs.declared.placed.Placed.{Placed}
 use Rattle.patch_script.specs.declared.placed.PlacedCommands.{PlacedCommands}
 use Rattle.patch_script.specs.declared.sleds.SledRange.{SledRange}
-use Rattle.patch_script.specs.FirstPatches.{AreFirst, AddsFirst}
+use Rattle.patch_script.specs.private.FirstPatches.{AreFirst, AddsFirst}
 use Rattle.patch_script.specs.Micros.{total_of, start_of}
-use Rattle.patch_script.specs.Placing.{step_count, line_in, lines_in, NamesFewThreads, IsPlaced, ArePlaced, MayFollow}
+use Rattle.patch_script.specs.private.Placing.{step_count, line_in, lines_in, NamesFewThreads, IsPlaced, ArePlaced, MayBePlaced}
 use Rattle.patch_script.specs.Plans.{is_waiting, waiting_line}
 use Rattle.patch_script.specs.Refusals.{commands_of, has_go, names_no_thread}
-use Rattle.patch_script.specs.Sleds.{sleds_named, HasSleds}
+use Rattle.patch_script.specs.private.Sleds.{sleds_named, HasSleds}
 use Rattle.patch_script.proofs.Firsts.{first_more}
 use Rattle.patch_script.proofs.Lists.{slice_get-append_left, slice_get-append_right}
 use Rattle.patch_script.proofs.Places.{as_many, take_all}
@@ -37,7 +37,7 @@ few_threads (commands.Release thread) fits = grind arith
 few_threads command fits = tt
 
 module _ (old : PlacedCommands) (line : ℕ) (command : Command) (range : SledRange) (going : Bool)
-    (are : ArePlaced old) (follows : MayFollow old command) (has : HasSleds old.image.value command range) (going_is : going ≡ has_go (commands_of (lines_in old)))
+    (are : ArePlaced old) (follows : MayBePlaced old command) (has : HasSleds old.image.value command range) (going_is : going ≡ has_go (commands_of (lines_in old)))
     (items : Vec Placed Global) (first : FirstPatches) (total start : ℕ) (waits : Option ℕ)
     (items_are : items.items ≡ old.commands.items ++ record { line = line; command = command; sleds = range; before = old.total } ∷ [])
     (first_is : AddsFirst old.first_patches command (length old.commands.items) first)

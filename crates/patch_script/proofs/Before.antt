@@ -12,13 +12,13 @@ use Rattle.patch_script.specs.declared.micro.Micro.{Micro}
 use Rattle.patch_script.specs.declared.micro.Micro.TheVariants.{Store, Await, End}
 use Rattle.patch_script.specs.Micros.{Numbered, all_sleds, sleds_of, unpatch_sled, steps_of, micros_behind, micros, micro_at, start_of, is_go}
 use Rattle.patch_script.specs.Plans.{Plan, IsOrderly, IsStore}
-use Rattle.patch_script.specs.Placing.{patched_by}
+use Rattle.patch_script.specs.private.Placing.{patched_by}
 use Rattle.patch_script.specs.Refusals.{commands_of, has_go, is_misplaced}
 use Rattle.patch_script.proofs.Lists.{list_any-last, slice_get-append_left}
 use Rattle.patch_script.proofs.Steps.{stays, front-cons, whole_front, micros_behind-append}
 use Rattle.patch_script.proofs.Within.{neither, patched_none, unpatched_none, script_none, found_none, is_bad_sled}
 
-abbrev awaits : Command → Bool
+abbrev pub awaits : Command → Bool
 awaits (commands.Await thread count) = true
 awaits _ = false
 
@@ -33,7 +33,7 @@ stands_behind : (before : List Command) (command : Command) → has_go before �
 stands_behind before (commands.Await thread count) none fits = absurd (let some : not (has_go before) ≡ true = ap not none in cc)
 stands_behind before command none fits = refl
 
-no_await : (before rest : List Command) → has_go before ≡ false → ((i : ℕ) (c : Command) → slice_get rest i ≡ Some c → is_misplaced (before ++ take i rest) c ≡ false)
+pub no_await : (before rest : List Command) → has_go before ≡ false → ((i : ℕ) (c : Command) → slice_get rest i ≡ Some c → is_misplaced (before ++ take i rest) c ≡ false)
     → list_any awaits (take_while stays rest) ≡ false
 no_await before [] none fits = refl
 no_await before (x ∷ xs) none fits = elim (cases_Bool (is_go x)) [

@@ -10,9 +10,9 @@ use Rattle.xray_image.specs.Program.{Program}
 use Rattle.patch_script.specs.declared.command.Command.{Command}
 use Rattle.patch_script.specs.declared.command.Command.TheVariants as commands
 use Rattle.patch_script.specs.declared.first_patches.FirstPatches.{FirstPatches}
-use Rattle.patch_script.specs.FirstPatches.{patches_all, patches_function, first_number, AreFirst, or_number, AddsFirst, is_before}
+use Rattle.patch_script.specs.private.FirstPatches.{patches_all, patches_function, first_number, AreFirst, or_number, AddsFirst, is_before}
 use Rattle.patch_script.specs.Micros.{all_sleds, sleds_of, patches, numbers}
-use Rattle.patch_script.specs.Placing.{patched_by}
+use Rattle.patch_script.specs.private.Placing.{patched_by}
 
 -- ---- one command more
 

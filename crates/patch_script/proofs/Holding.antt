@@ -15,7 +15,7 @@ use Rattle.patch_script.specs.declared.standing.Log.TheVariants.{Uninitialized, 
 use Rattle.patch_script.specs.declared.standing.Standing.{Standing}
 use Rattle.patch_script.specs.Micros.{is_go, hold_by, hold_of}
 use Rattle.patch_script.specs.Refusals.{releases, is_released, is_init, is_finalize, breaks_hold, breaks_log, holds_for_good}
-use Rattle.patch_script.specs.Standing.{hold_in, passing_of, was_released, is_held, any_held, was_initialized, was_finalized, released_of, hold_after, log_after, Follows, AreHolds, IsStanding}
+use Rattle.patch_script.specs.private.Standing.{hold_in, passing_of, was_released, is_held, any_held, was_initialized, was_finalized, released_of, hold_after, log_after, Follows, AreHolds, IsStanding}
 use Rattle.patch_script.proofs.Lists.{list_any-last}
 
 or_false : (a : Bool) → (a || false) ≡ a
@@ -39,11 +39,11 @@ holds_then : (a b : Bool) → (not a || b) ≡ false → a ≡ true
 holds_then true b h = refl
 holds_then false b h = cc
 
-option_or-none : (o : Option ℕ) → option_or o None ≡ o
+pub option_or-none : (o : Option ℕ) → option_or o None ≡ o
 option_or-none None = refl
 option_or-none (Some n) = refl
 
-option_or_assoc : (a b c : Option ℕ) → option_or a (option_or b c) ≡ option_or (option_or a b) c
+pub option_or_assoc : (a b c : Option ℕ) → option_or a (option_or b c) ≡ option_or (option_or a b) c
 option_or_assoc None b c = refl
 option_or_assoc (Some n) b c = refl
 
@@ -147,7 +147,7 @@ standing_more before command old new is more hold log = record {
 
 -- ---- holds for good
 
-held_found : (thread : ℕ) (script part : List Command) (passing : ℕ) → hold_of thread part ≡ Some passing → is_released thread script ≡ false
+pub held_found : (thread : ℕ) (script part : List Command) (passing : ℕ) → hold_of thread part ≡ Some passing → is_released thread script ≡ false
     → list_any (holds_for_good script) part ≡ true
 held_found thread script [] passing at free = cc
 held_found thread script (commands.Hold held before ∷ cs) passing at free = elim (cases_Bool (held == thread)) [

@@ -132,3 +132,11 @@ orderly program threads text plan e =
     let of_lines : IsOrderly (record { program = program; threads = threads; lines = parts.0 }) = record { admitted = read.0; goes = end.0; released = end.1; few = read.1 } in
     let made : Plan = record { program = program; threads = threads; lines = whole.0 } in
     subst IsOrderly (same_Ok made plan whole.2) (subst (λ (ls : Lines). IsOrderly (record { program = program; threads = threads; lines = ls })) end.2 of_lines)
+
+-- it is a script for this program
+pub said_for : (program : Program) (threads : ℕ) (text : List ℕ) (plan : Plan) → plan_of program threads text ≡ Ok plan → plan.program ≡ program
+said_for program threads text plan e =
+    let number = length (lines text) + 1 in
+    let whole = bind_ok (read_lines program threads [] (numbered_lines text) >>= (λ said. ended number said)) (λ said. Ok (record { program = program; threads = threads; lines = said })) plan e in
+    let made : Plan = record { program = program; threads = threads; lines = whole.0 } in
+    ap (λ (p : Plan). p.program) (sym (same_Ok made plan whole.2))

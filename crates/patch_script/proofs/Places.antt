@@ -17,11 +17,11 @@ use Rattle.patch_script.specs.declared.placed.Placed.{Placed}
 use Rattle.patch_script.specs.declared.placed.PlacedCommands.{PlacedCommands}
 use Rattle.patch_script.specs.declared.sleds.SledRange.{SledRange}
 use Rattle.patch_script.specs.declared.sleds.SledValues.{SledValues}
-use Rattle.patch_script.specs.FirstPatches.{is_before, first_in, first_number, patches_all, patches_function}
+use Rattle.patch_script.specs.private.FirstPatches.{is_before, first_in, first_number, patches_all, patches_function}
 use Rattle.patch_script.specs.Micros.{all_sleds, sleds_of, patch_sled, unpatch_sled, steps_of, micros, micro_at, total_of}
-use Rattle.patch_script.specs.Placing.{step_count, line_in, lines_in, patched_before, ArePlaced, IsAt}
+use Rattle.patch_script.specs.private.Placing.{step_count, line_in, lines_in, patched_before, ArePlaced, IsAt}
 use Rattle.patch_script.specs.Refusals.{commands_of}
-use Rattle.patch_script.specs.Sleds.{values_of, HasId, sleds_named, in_range, HasSleds}
+use Rattle.patch_script.specs.private.Sleds.{values_of, HasId, sleds_named, in_range, HasSleds}
 use Rattle.patch_script.proofs.Firsts.{is_before-first, patched_before-is}
 use Rattle.patch_script.proofs.Lists.{take_one_more}
 use Rattle.patch_script.proofs.Ranges.{range_length, function_range, patching_at, unpatching_at}

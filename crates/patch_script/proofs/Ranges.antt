@@ -13,7 +13,7 @@ use Rattle.patch_script.specs.declared.micro.Micro.{Micro}
 use Rattle.patch_script.specs.declared.sleds.SledRange.{SledRange}
 use Rattle.patch_script.specs.declared.sleds.SledValues.{SledValues}
 use Rattle.patch_script.specs.Micros.{Numbered, all_sleds, sleds_of, patch_sled, unpatch_sled}
-use Rattle.patch_script.specs.Sleds.{values_of, HasId, in_range}
+use Rattle.patch_script.specs.private.Sleds.{values_of, HasId, in_range}
 use Rattle.patch_script.proofs.Lists.{filter_range, slice_get-fours}
 
 slice_get-take : {X : Type 0} (n : ℕ) (xs : List X) (k : ℕ) → k < n → slice_get (take n xs) k ≡ slice_get xs k

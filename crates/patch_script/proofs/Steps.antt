@@ -12,9 +12,9 @@ use Rattle.patch_script.specs.declared.command.Command.TheVariants as commands
 use Rattle.patch_script.specs.declared.micro.Micro.{Micro}
 use Rattle.patch_script.specs.Micros.{Numbered, all_sleds, sleds_of, patches, numbers, patch_sled, unpatch_sled, steps_of, micros_behind, micros, total_of, start_of, is_go}
 use Rattle.patch_script.specs.Plans.{is_waiting, waiting_line}
-use Rattle.patch_script.specs.Placing.{patched_by, step_count}
+use Rattle.patch_script.specs.private.Placing.{patched_by, step_count}
 use Rattle.patch_script.specs.Refusals.{Lines, has_go}
-use Rattle.patch_script.specs.Sleds.{sleds_named}
+use Rattle.patch_script.specs.private.Sleds.{sleds_named}
 use Rattle.patch_script.proofs.Lists.{four_each, split_at, slice_get-append_left, slice_get-append_right}
 
 pub micros_behind-append : (program : Program) (earlier : List ℕ) (xs ys : List Command)

@@ -17,7 +17,7 @@ use Rattle.patch_script.specs.Micros.{Numbered, all_sleds, sleds_of, patches, nu
 use Rattle.patch_script.specs.Plans.{Plan, IsOrderly, IsWithin}
 use Rattle.patch_script.specs.Refusals.{commands_of, is_beyond, names_no_thread}
 
-or_parts : (a b : Bool) → (a || b) ≡ false → (a ≡ false) × (b ≡ false)
+pub or_parts : (a b : Bool) → (a || b) ≡ false → (a ≡ false) × (b ≡ false)
 or_parts true b h = cc
 or_parts false b h = (refl, h)
 
@@ -101,10 +101,10 @@ module _ (program : Program) (threads : ℕ) where
       let parts = or_parts (nat_le (length program.sleds) k) (list_any (λ s. nat_le (length program.sleds) s.0) ss) none in
       neither (is_astray (unpatch_sled earlier (k, s))) (list_any (λ s. is_astray (unpatch_sled earlier s)) ss) (near k 0 parts.0 (omega arith)) (heads_near earlier ss parts.1)
 
-  all_near : list_any (λ s. nat_le (length program.sleds) s.0) (all_sleds program) ≡ false
+  pub all_near : list_any (λ s. nat_le (length program.sleds) s.0) (all_sleds program) ≡ false
   all_near = numbered_near 0 program.sleds (omega arith)
 
-  some_near : (id : ℕ) → list_any (λ s. nat_le (length program.sleds) s.0) (sleds_of program id) ≡ false
+  pub some_near : (id : ℕ) → list_any (λ s. nat_le (length program.sleds) s.0) (sleds_of program id) ≡ false
   some_near id = filter_none (λ s. nat_le (length program.sleds) s.0) (λ s. s.1.id == id) (all_sleds program) all_near
 
   behind_sleds : (word : ℕ) → word < code_word_count program threads → (nat_le (code_word_count program threads) word || false) ≡ false

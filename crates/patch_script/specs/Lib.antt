@@ -1,3 +1,4 @@
+pub mod Limits
 pub mod Micros
 pub mod CodeAt
 pub mod Bounds
@@ -7,12 +8,9 @@ pub mod StoredWords
 pub mod Language
 pub mod Refusals
 pub mod Plans
-pub mod Operands
-pub mod Sleds
-pub mod FirstPatches
-pub mod Standing
-pub mod Placing
-pub mod Scripts
-pub mod Drafts
 pub mod FaultWords
+<<<<<<< HEAD
+pub mod private
+=======
 pub mod WrittenScripts
+>>>>>>> ddaee04b382f5b0e3f1fe1f4dffc7a35d3a00036

@@ -8,7 +8,7 @@ use Rattle.xray_image.specs.declared.sled.SledKind.TheVariants.{Entry, Exit, Tai
 use Rattle.xray_image.specs.Program.{Program}
 use Rattle.sled_words.specs.declared.part.Part.TheVariants.{Head, Id, Opcode, Offset}
 use Rattle.sled_words.specs.Words.{word_of, handler_word, state_word, release_word}
-use Rattle.sled_words.specs.Parts.{patched}
+use Rattle.sled_words.specs.Parts.{jump_head, patched, return_head}
 use Rattle.patch_script.specs.declared.command.Command.{Command}
 use Rattle.patch_script.specs.declared.command.Command.TheVariants as commands
 use Rattle.patch_script.specs.declared.micro.Micro.{Micro}
@@ -41,12 +41,16 @@ patch_sled program (k, sled) =
     ∷ Store (word_of k Head) (patched program.trampolines sled Head)
     ∷ []
 
+-- the head of an exit sled that was patched and unpatched: a return that keeps the high byte of the patched head
+abbrev pub return_over_patch : ℕ
+return_over_patch = 0xBAC3
+
 -- the head that unpatching leaves: a jump over the sled, or a return that keeps the high byte that was there
 abbrev pub head_left : SledKind → Bool → ℕ
-head_left Entry was_patched = 0x09EB
-head_left Tail was_patched = 0x09EB
-head_left Exit true = 0xBAC3
-head_left Exit false = 0x2EC3
+head_left Entry was_patched = jump_head
+head_left Tail was_patched = jump_head
+head_left Exit true = return_over_patch
+head_left Exit false = return_head
 
 -- Unpatching a sled stores only its head. The sleds that earlier commands patched are known by their numbers.
 abbrev pub unpatch_sled : List ℕ → Numbered → Micro

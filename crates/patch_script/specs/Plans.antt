@@ -10,6 +10,7 @@ use Rattle.patch_script.specs.declared.command.Command.TheVariants as commands
 use Rattle.patch_script.specs.declared.fault.ScriptFault.{ScriptFault}
 use Rattle.patch_script.specs.declared.micro.Micro.{Micro}
 use Rattle.patch_script.specs.declared.micro.Micro.TheVariants.{Store, Await, End}
+use Rattle.patch_script.specs.Limits.{most_commands}
 use Rattle.patch_script.specs.Refusals.{Lines, commands_of, has_go, holds_for_good, IsAdmitted, read_lines, ended, ◌>>=◌}
 
 -- what contracts see of a `Script`: its commands with their lines, and the program and threads that they are for
@@ -49,7 +50,7 @@ pub record IsOrderly (plan : Plan) : Type 0 where
       → IsAdmitted plan.program plan.threads (take i (commands_of plan.lines)) line.1
   pub goes : has_go (commands_of plan.lines) ≡ true
   pub released : list_any (holds_for_good (commands_of plan.lines)) (commands_of plan.lines) ≡ false
-  pub few : length plan.lines ≤ 1024
+  pub few : length plan.lines ≤ most_commands
 
 -- The word that a micro step stores in comes before the progress words. The thread that it waits for is one of the
 -- script's.

@@ -11,6 +11,7 @@ use Rattle.patch_script.specs.declared.command.Command.TheVariants as commands
 use Rattle.patch_script.specs.declared.fault.ScriptFault.{ScriptFault}
 use Rattle.patch_script.specs.declared.fault.ScriptFault.TheVariants.{Limit, Syntax, Function, Thread, Go, Hold, Log, SelfWait}
 use Rattle.patch_script.specs.Micros.{is_go, hold_of}
+use Rattle.patch_script.specs.Limits.{most_commands}
 use Rattle.patch_script.specs.Language.{command_of}
 
 -- the commands of a script, each with the number of its line
@@ -119,7 +120,7 @@ command_in line = if is_clean line then command_of (words_of line) else None
 abbrev pub with_line : Program → ℕ → Lines → ℕ × List ℕ → Result Lines ScriptFault
 with_line program threads before (number, line) =
     if length (words_of line) == 0 then Ok before
-    else if nat_le 1024 (length before) then Err (Limit number)
+    else if nat_le most_commands (length before) then Err (Limit number)
     else spoken program threads before number (command_in line)
 
 infixl 10 ◌>>=◌

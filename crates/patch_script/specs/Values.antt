@@ -7,14 +7,15 @@ use Rattle.xray_image.specs.Program.{Program, Trampolines}
 use Rattle.sled_words.specs.declared.part.Part.{Part}
 use Rattle.sled_words.specs.declared.part.Part.TheVariants.{Head, Id, Opcode, Offset}
 use Rattle.sled_words.specs.Words.{word_of, handler_word, state_word, release_word}
-use Rattle.sled_words.specs.Parts.{patched, unpatched}
+use Rattle.sled_words.specs.Parts.{jump_head, patched, patched_head, return_head, unpatched}
+use Rattle.patch_script.specs.Micros.{return_over_patch}
 
 -- the heads that a sled may have: the patched one, a jump over the sled, or in an exit sled a return as the file has it
 -- or as unpatching leaves it
 abbrev pub IsHead : SledKind → ℕ → Type 0
-IsHead Entry head = (head ≡ 0xBA41) ⊎ (head ≡ 0x09EB)
-IsHead Tail head = (head ≡ 0xBA41) ⊎ (head ≡ 0x09EB)
-IsHead Exit head = (head ≡ 0xBA41) ⊎ ((head ≡ 0x2EC3) ⊎ (head ≡ 0xBAC3))
+IsHead Entry head = (head ≡ patched_head) ⊎ (head ≡ jump_head)
+IsHead Tail head = (head ≡ patched_head) ⊎ (head ≡ jump_head)
+IsHead Exit head = (head ≡ patched_head) ⊎ ((head ≡ return_head) ⊎ (head ≡ return_over_patch))
 
 -- the values that a part of a sled may have: a head, or what the file has, or what patching stores
 abbrev pub IsPartValue : Trampolines → Sled → Part → ℕ → Type 0

@@ -1,7 +1,7 @@
 //! Which sleds were patched by earlier commands.
 
 ghost use Rattle.std.specs.Prelude.{◌≡◌, ◌||◌, [], IfOk};
-ghost use Rattle.patch_script.specs.FirstPatches.{is_before};
+ghost use Rattle.patch_script.specs.private.FirstPatches.{is_before};
 
 use crate::command::Command;
 use std::alloc::{AllocError, Global};
@@ -26,7 +26,7 @@ fn is_before(command: Option<u32>, number: u32) -> bool
 }
 
 impl FirstPatches {
-    ghost use Rattle.patch_script.specs.FirstPatches.{first_in, AreFirst, AddsFirst, HasRoom};
+    ghost use Rattle.patch_script.specs.private.FirstPatches.{first_in, AreFirst, AddsFirst, HasRoom};
 
     /// No commands yet, for an image with this many function ids.
     pub(crate) fn new(alloc: Global, ids: u32) -> Result<FirstPatches, AllocError>

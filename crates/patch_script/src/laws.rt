@@ -1,15 +1,17 @@
 //! Laws of the definitions. Each law is the contract of a function that does nothing.
 
-ghost use Rattle.std.specs.Prelude.{◌≡◌, ◌<◌, ◌≤◌, ◌+◌, ℕ, List, Some, slice_get, unwrap_or};
+ghost use Rattle.std.specs.Prelude.{◌≡◌, ◌<◌, ◌≤◌, ◌+◌, ℕ, List, Ok, Some, slice_get, unwrap_or};
 ghost use Rattle.xray_image.specs.declared.sled.Sled.{Sled};
 ghost use Rattle.xray_image.specs.Program.{Program};
-ghost use Rattle.sled_words.specs.ChangingCode.{KeepsSleds};
+ghost use Rattle.sled_words.specs.ChangingCode.{KeepsSleds, LetsEnd};
 ghost use Rattle.sled_words.specs.Parts.{initial_words};
 ghost use Rattle.patch_script.specs.declared.command.Command.{Command};
 ghost use Rattle.patch_script.specs.Bounds.{bound_of};
 ghost use Rattle.patch_script.specs.CodeAt.{code_at, stored_in};
-ghost use Rattle.patch_script.specs.Micros.{micro_at, total_of};
+ghost use Rattle.patch_script.specs.Micros.{hold_of, micro_at, start_of, total_of};
 ghost use Rattle.patch_script.specs.Patched.{HasPatchedHead, HasPatchedParts};
+ghost use Rattle.patch_script.specs.Plans.{Plan, plan_of};
+ghost use Rattle.patch_script.specs.Refusals.{commands_of};
 ghost use Rattle.patch_script.specs.StoredWords.{AreCodeAt, stored};
 ghost use Rattle.patch_script.specs.Values.{IsCodeValue};
 
@@ -65,4 +67,14 @@ pub fn awaits_bound_passings()
         → place ≤ total_of program script
         → ((i count : ℕ) → i < place → micro_at program script i ≡ Micro.Await thread count → count ≤ passing)
         → place ≤ bound_of program script thread passing }
+{}
+
+/// Each script that is read lets each of its threads come to its end. It awaits passings only after
+/// `go`. If it holds a thread, it releases it before it awaits the passing before which it holds it.
+pub fn each_script_lets_threads_end()
+    ensures { (program : Program) (threads : ℕ) (text : List ℕ) (plan : Plan) (thread : ℕ)
+        → 0 < thread → plan_of program threads text ≡ Ok plan
+        → LetsEnd program thread (hold_of thread (commands_of plan.lines))
+        (code_at program (commands_of plan.lines)) (start_of program (commands_of plan.lines))
+        (total_of program (commands_of plan.lines)) (bound_of program (commands_of plan.lines) thread) }
 {}

@@ -27,7 +27,7 @@ pub use command::Command;
 pub use fault::ScriptFault;
 pub use laws::{
     a_patched_head_has_patched_parts, awaits_bound_passings, each_script_keeps_sleds,
-    each_word_has_a_code_value, stores_give_the_code,
+    each_script_lets_threads_end, each_word_has_a_code_value, stores_give_the_code,
 };
 pub use micro::Micro;
 pub use reading::read_script;

@@ -4,7 +4,7 @@ ghost use Rattle.std.specs.Prelude.{◌≡◌, ◌==◌, ◌∷◌, [], not, len
 ghost use Rattle.text_lines.specs.Words.{words_of};
 ghost use Rattle.patch_script.specs.Language.{says, command_of};
 ghost use Rattle.patch_script.specs.Refusals.{command_in};
-ghost use Rattle.patch_script.specs.Operands.{AreOperands};
+ghost use Rattle.patch_script.specs.private.Operands.{AreOperands};
 
 use crate::command::Command;
 use crate::keyword::{Keyword, keyword_of};

@@ -5,7 +5,7 @@ ghost use Rattle.xray_image.specs.declared.sled.Sled.{Sled};
 ghost use Rattle.patch_script.specs.Micros.{micro_at, steps_of, patch_sled, unpatch_sled};
 ghost use Rattle.patch_script.specs.Plans.{is_waiting};
 ghost use Rattle.patch_script.specs.Refusals.{commands_of, has_go};
-ghost use Rattle.patch_script.specs.Sleds.{HasSleds};
+ghost use Rattle.patch_script.specs.private.Sleds.{HasSleds};
 
 use crate::command::Command;
 use crate::first_patches::FirstPatches;
@@ -50,7 +50,7 @@ pub(crate) struct PlacedCommands {
 }
 
 impl Command {
-    ghost use Rattle.patch_script.specs.Placing.{step_count};
+    ghost use Rattle.patch_script.specs.private.Placing.{step_count};
 
     /// How many micro steps a command has. `sleds` is the number of sleds that it patches or
     /// unpatches.
@@ -79,7 +79,7 @@ impl Command {
 }
 
 impl PlacedCommands {
-    ghost use Rattle.patch_script.specs.Placing.{ArePlaced, MayFollow, lines_in, IsAt, step_count, patched_before};
+    ghost use Rattle.patch_script.specs.private.Placing.{ArePlaced, MayBePlaced, lines_in, IsAt, step_count, patched_before};
 
     /// No commands.
     pub(crate) fn new(alloc: Global, image: &Image) -> Result<PlacedCommands, AllocError>
@@ -125,7 +125,7 @@ impl PlacedCommands {
         going: bool,
     ) -> Result<(), AllocError>
         requires sound { ArePlaced self.old }
-        requires follows { MayFollow self.old command }
+        requires follows { MayBePlaced self.old command }
         requires going { going ≡ has_go (commands_of (lines_in self.old)) }
         ensures sound { OnOk result (ArePlaced self.new) }
         ensures image { OnOk result (self.new.image.value ≡ self.old.image.value) }

@@ -5,9 +5,10 @@ ghost use Rattle.std.specs.Str.Lines.{lines};
 ghost use Rattle.text_lines.specs.Lines.{numbered_lines};
 ghost use Rattle.xray_image.specs.Program.{Program};
 ghost use Rattle.xray_image.specs.Ids.{id_count};
+ghost use Rattle.patch_script.specs.Limits.{most_commands};
 ghost use Rattle.patch_script.specs.Refusals.{is_beyond, names_no_function, names_no_thread, with_line, read_lines};
 ghost use Rattle.patch_script.specs.Plans.{plan_of};
-ghost use Rattle.patch_script.specs.Drafts.{program_of, lines_of, IsDraft, MayFollow, Judges, HasLines, Takes, Reads};
+ghost use Rattle.patch_script.specs.private.Drafts.{program_of, lines_of, IsDraft, MayFollow, Judges, HasLines, Takes, Reads};
 
 use crate::command::Command;
 use crate::fault::ScriptFault;
@@ -110,7 +111,7 @@ impl Draft {
     fn push(&mut self, line: u32, command: Command) -> Result<(), AllocError>
         requires sound { IsDraft self.old }
         requires admitted { MayFollow self.old command }
-        requires room { length (lines_of self.old) < 1024 }
+        requires room { length (lines_of self.old) < most_commands }
         ensures { OnOk result (HasLines self.old (lines_of self.old ++ (line, command) ∷ []) self.new) }
     {
         self.placed.push(line, command, self.standing.going)?;

@@ -1,6 +1,7 @@
 //! A script that was read, and what it says.
 
 ghost use Rattle.std.specs.Prelude.{◌≡◌, ◌<◌, ◌≤◌, ◌↔◌, ℕ};
+ghost use Rattle.patch_script.specs.Limits.{most_micros};
 ghost use Rattle.patch_script.specs.Micros.{start_of, total_of, micro_at, hold_of};
 ghost use Rattle.patch_script.specs.Refusals.{commands_of};
 ghost use Rattle.patch_script.specs.Plans.{IsRead, IsOrderly, IsStore, IsWithin, waiting_line};
@@ -28,7 +29,7 @@ impl Model for Script {
 
     ghost Value = { Plan };
 
-    ghost use Rattle.patch_script.specs.Scripts.{plan_in, IsSound};
+    ghost use Rattle.patch_script.specs.private.Scripts.{plan_in, IsSound};
 
     ghost view = { plan_in };
 
@@ -36,7 +37,7 @@ impl Model for Script {
 }
 
 impl Script {
-    ghost use Rattle.patch_script.specs.Drafts.{IsWhole, plan_of_draft};
+    ghost use Rattle.patch_script.specs.private.Drafts.{IsWhole, plan_of_draft};
 
     /// The script of a whole text.
     pub(crate) fn of_draft(draft: Draft) -> Script
@@ -67,9 +68,18 @@ impl Script {
     /// How many micro steps there are, at most 16,777,216.
     pub fn total(&self) -> u64
         ensures total { result ≡ total_of self.now.program (commands_of self.now.lines) }
-        ensures few { result ≤ 16777216 }
+        ensures few { result ≤ most_micros }
     {
         self.placed.total
+    }
+
+    /// A law: a script has at most 16,777,216 micro steps. The call does nothing.
+    #[inline(always)]
+    pub fn micro_steps_are_few(&self)
+        ensures { total_of self.now.program (commands_of self.now.lines) ≤ most_micros }
+    {
+        // Reading a field brings in what holds of each script.
+        let _total = self.placed.total;
     }
 
     /// The micro step of this number, counted from 0. The answer is `End` exactly when there are no

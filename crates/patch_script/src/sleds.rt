@@ -3,8 +3,9 @@
 ghost use Rattle.std.specs.Prelude.{◌≡◌, ◌<◌, ◌≤◌, ◌^◌, ◌-◌, length, map, IfOk, slice_get, Some};
 ghost use Rattle.std.specs.List.Sorted.{IsNonDecreasingBy};
 ghost use Rattle.xray_image.specs.declared.sled.Sled.{Sled};
+ghost use Rattle.xray_image.specs.Limits.{most_sleds};
 ghost use Rattle.patch_script.specs.Micros.{head_left};
-ghost use Rattle.patch_script.specs.Sleds.{values_of};
+ghost use Rattle.patch_script.specs.private.Sleds.{values_of};
 
 use sled_words::{JUMP_HEAD, PATCHED_HEAD, Part, part_value};
 use std::alloc::{AllocError, Global};
@@ -29,7 +30,7 @@ pub(crate) struct SledValues {
 }
 
 impl SledValues {
-    ghost use Rattle.patch_script.specs.Sleds.{value_in};
+    ghost use Rattle.patch_script.specs.private.Sleds.{value_in};
 
     /// What the patcher has to know of the sled of this number.
     fn new(image: &Image, number: u32) -> SledValues
@@ -77,9 +78,10 @@ impl SledValues {
 pub(crate) fn sled_values(alloc: Global, image: &Image) -> Result<Vec<SledValues>, AllocError>
     ensures sleds { IfOk result (λ sleds. sleds.items
         ≡ map (values_of image.now.trampolines) image.now.sleds) }
-    ensures few { length image.now.sleds ≤ 4096 }
+    ensures few { length image.now.sleds ≤ most_sleds }
     ensures in_order { IsNonDecreasingBy (λ sled. sled.id) image.now.sleds }
 {
+    image.sleds_stand_in_units();
     let count = image.sled_count();
     let mut sleds = Vec::with_capacity(alloc, count as usize)?;
     for number in 0..count {
@@ -96,7 +98,7 @@ pub(crate) struct SledRange {
 }
 
 impl SledRange {
-    ghost use Rattle.patch_script.specs.Sleds.{HasId, no_sleds};
+    ghost use Rattle.patch_script.specs.private.Sleds.{HasId, no_sleds};
 
     /// No sleds.
     pub(crate) fn none() -> SledRange

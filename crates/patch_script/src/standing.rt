@@ -28,7 +28,7 @@ pub(crate) struct Holds {
 }
 
 impl Holds {
-    ghost use Rattle.patch_script.specs.Standing.{hold_in, with_hold, released_of, passing_of, any_held};
+    ghost use Rattle.patch_script.specs.private.Standing.{hold_in, with_hold, released_of, passing_of, any_held};
 
     /// No thread is held.
     fn new() -> Holds
@@ -113,7 +113,7 @@ pub(crate) struct Standing {
 }
 
 impl Standing {
-    ghost use Rattle.patch_script.specs.Standing.{IsStanding, Follows};
+    ghost use Rattle.patch_script.specs.private.Standing.{IsStanding, Follows};
 
     /// The state before all commands.
     pub(crate) fn new() -> Standing

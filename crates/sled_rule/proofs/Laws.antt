@@ -3,6 +3,7 @@ use Rattle.std.proofs.Common.{◌≡◌, ℕ, zero, suc, ◌+◌, ◌<◌, ◌�
 use Rattle.std.specs.Prelude.{◌↔◌, ◌⊎◌, slice_get, slice_index}
 use Rattle.xray_image.specs.Program.{Program}
 use Rattle.sled_words.specs.Parts.{initial_words}
+use Rattle.patch_script.specs.Limits.{most_micros}
 use Rattle.patch_script.specs.declared.command.Command.{Command}
 use Rattle.patch_script.specs.declared.micro.Micro.{Micro}
 use Rattle.patch_script.specs.declared.micro.Micro.TheVariants.{Store, Await, End}
@@ -52,9 +53,9 @@ pub start_is : (plan : Plan) (start : ℕ) → start ≡ start_of plan.program (
 unfolding start_in
 start_is plan start is = sym is
 
-pub total_is : (plan : Plan) (total : ℕ) → total ≡ total_of plan.program (commands_of plan.lines) → total_in plan ≡ total
+pub few_in : (plan : Plan) → total_of plan.program (commands_of plan.lines) ≤ most_micros → total_in plan ≤ most_micros
 unfolding total_in
-total_is plan total is = sym is
+few_in plan few = few
 
 -- ---- a store or an await is within the script
 

@@ -17,7 +17,8 @@ use Rattle.sled_rule.specs.declared.views.View.{View}
 use Rattle.sled_rule.specs.declared.views.View.TheVariants.{Patch}
 use Rattle.sled_rule.specs.Plans.{code_in, micro_in, code_words}
 use Rattle.sled_rule.specs.Rule.{progress, progress_slot, IsCore, KeepsCode}
-use Rattle.sled_rule.specs.Steps.{patch_of, patched, looked, confirmed}
+use Rattle.sled_rule.specs.Steps.{patch_of}
+use Rattle.sled_rule.specs.private.Plays.{patched, looked, confirmed}
 use Rattle.sled_rule.specs.Views.{advanced, knowing, looked_at}
 use Rattle.sled_rule.proofs.Laws.{CodeNext, code_stored, code_awaited, store_within, await_within}
 use Rattle.sled_rule.proofs.Keeps.{IsLater, still, moves, loads, known_patch, progress_else}

@@ -12,7 +12,8 @@ use Rattle.sled_rule.specs.declared.views.View.{View}
 use Rattle.sled_rule.specs.declared.views.View.TheVariants.{Work}
 use Rattle.sled_rule.specs.Plans.{code_in, bound_in, start_in, code_words}
 use Rattle.sled_rule.specs.Rule.{progress_slot, IsCore, IsWork, KeepsCode}
-use Rattle.sled_rule.specs.Steps.{work_of, IsFetched, fetched, counted}
+use Rattle.sled_rule.specs.Steps.{work_of, IsFetched}
+use Rattle.sled_rule.specs.private.Plays.{fetched, counted}
 use Rattle.sled_rule.specs.Views.{loading, counting}
 use Rattle.sled_rule.proofs.Laws.{BoundReached}
 use Rattle.sled_rule.proofs.Keeps.{IsLater, still, moves, loads, known_work, progress_else, progress_here, progress_grows, rises_more}

@@ -4,3 +4,4 @@ pub mod Rule
 pub mod Steps
 pub mod Following
 pub mod Seats
+pub mod private

@@ -34,8 +34,7 @@ impl CodeTable {
         ensures view { IfOk result (λ made. patch_view made.1 ≡ first_patch script) }
     {
         stores_give_the_code();
-        // Called for its contract: there are few micro steps.
-        script.total();
+        script.micro_steps_are_few();
         let code_len = 4 * image.sled_count() as usize + 2 + threads as usize;
         let words = opening_words(alloc, image, threads, code_len)?;
         let (table, seat) = Table::of_words(alloc, &words, &script)?;
@@ -73,8 +72,7 @@ fn opening_words(
     ensures { IfOk result (λ words. words.items
         ≡ words_before image.now threads ++ replicate (8 + 7 * threads) 0) }
 {
-    // Called for its contract: there are few sleds.
-    image.sled_count();
+    image.sleds_stand_in_units();
     let mut words = initial_words(alloc, image, threads)?;
     words.resize(code_len + LINE * (threads as usize + 1), 0)?;
     Ok(words)

@@ -1,6 +1,6 @@
 //! The kinds of steps. Each says what its seat learns.
 
-ghost use Rattle.sled_rule.specs.Steps.{fetched, counted, patched, looked, confirmed};
+ghost use Rattle.sled_rule.specs.private.Plays.{fetched, counted, patched, looked, confirmed};
 
 use crate::views::View;
 use atomic_table::{Join, Play, Split};

@@ -1,6 +1,7 @@
 //! The table, how it begins, and how it ends.
 
 ghost use Rattle.std.specs.Prelude.{◌≡◌, ◌+◌, ◌*◌, ◌<◌, ◌≤◌};
+ghost use Rattle.patch_script.specs.Limits.{most_micros};
 ghost use Rattle.sled_rule.specs.Plans.{code_words, total_in};
 ghost use Rattle.sled_rule.specs.Rule.{slot_count};
 
@@ -30,7 +31,7 @@ pub struct CodeTable {
     ghost few_threads: { threads ≤ 16 },
     ghost counted: { code_len ≡ code_words script },
     ghost few_words: { code_len ≤ 16402 },
-    ghost few_steps: { total_in script ≤ 16777216 },
+    ghost few_steps: { total_in script ≤ most_micros },
     ghost no_slots: { table.shared.table_id.slots ≡ 0 },
     ghost sized: { table.shared.table_id.words ≡ slot_count script },
 }

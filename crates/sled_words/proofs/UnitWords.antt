@@ -7,7 +7,7 @@ use Rattle.xray_image.specs.declared.unit.Unit.{Unit}
 use Rattle.xray_image.specs.declared.unit.What.{What}
 use Rattle.xray_image.specs.declared.unit.What.TheVariants as whats
 use Rattle.xray_image.specs.Layout.{SledsStand}
-use Rattle.sled_words.specs.CodeBytes.{HasWords}
+use Rattle.sled_words.specs.private.UnitWords.{HasWords}
 
 found_within : (sleds : List Sled) (k : ℕ) (P : Sled → Type 0) (found : Option Sled) → slice_get sleds k ≡ found → IsSomeAnd found P → k < length sleds
 found_within sleds k P None is some = absurd some

@@ -7,12 +7,12 @@ use Rattle.xray_image.specs.Program.{Program, Trampolines}
 use Rattle.sled_words.specs.declared.part.Part.{Part}
 use Rattle.sled_words.specs.declared.part.Part.TheVariants.{Head, Id, Opcode, Offset}
 use Rattle.sled_words.specs.Words.{word_of, handler_word, state_word, release_word}
-use Rattle.sled_words.specs.Parts.{patched_head, patched}
+use Rattle.sled_words.specs.Parts.{jump_head, patched_head, patched}
 
 -- the head of a sled that isn't patched: a jump over the sled, or the byte C3 of a return and any second byte
 abbrev pub IsUnpatchedHead : SledKind → ℕ → Type 0
-IsUnpatchedHead Entry head = head ≡ 0x09EB
-IsUnpatchedHead Tail head = head ≡ 0x09EB
+IsUnpatchedHead Entry head = head ≡ jump_head
+IsUnpatchedHead Tail head = head ≡ jump_head
 IsUnpatchedHead Exit head = (head < 2 ^ 16) × (head % 256 ≡ 0xC3)
 
 -- what a passing may load from a part of a sled: a head, and after a patched head what patching stores

@@ -1,5 +1,5 @@
 -- The bytes of the code while its sleds change.
-use Rattle.std.specs.Prelude.{◌<◌, ◌*◌, ◌+◌, ◌^◌, ℕ, List, [], ◌∷◌, ◌++◌, length, slice_index, take}
+use Rattle.std.specs.Prelude.{◌+◌, ℕ, List, [], ◌∷◌, ◌++◌, slice_index, take}
 use Rattle.std.specs.Int.{to_le_bytes, w64}
 use Rattle.std.specs.List.{flat_map}
 use Rattle.subset_decode.specs.Encoding.{spelling}
@@ -34,9 +34,3 @@ unit_bytes words whats.Pad = 0x90 ∷ []
 -- the bytes of the code, unit after unit
 abbrev pub code_bytes : Program → List ℕ → List ℕ
 code_bytes program words = flat_map (λ unit. unit_bytes words unit.what) program.units
-
--- if a unit is a sled, its words are among the words
-abbrev pub HasWords : List ℕ → What → Type 0
-HasWords words (whats.Plain instr) = Unit {0}
-HasWords words (whats.Sled sled) = (sled < 2 ^ 30) × (4 * sled + 3 < length words)
-HasWords words whats.Pad = Unit {0}

@@ -3,3 +3,4 @@ pub mod Parts
 pub mod Allowed
 pub mod ChangingCode
 pub mod CodeBytes
+pub mod private

@@ -9,11 +9,19 @@ use Rattle.xray_image.specs.Program.{Program, Trampolines, trampoline_of}
 use Rattle.sled_words.specs.declared.part.Part.{Part}
 use Rattle.sled_words.specs.declared.part.Part.TheVariants.{Head, Id, Opcode, Offset}
 
+-- the head of an entry or tail sled that isn't patched: a short jump over the sled
+abbrev pub jump_head : ℕ
+jump_head = 0x09EB
+
+-- the head of an exit sled that was never patched: a return, and the byte 2E
+abbrev pub return_head : ℕ
+return_head = 0x2EC3
+
 -- the head of a sled that was never patched: a jump over the sled, or a return
 abbrev pub unpatched_head : SledKind → ℕ
-unpatched_head Entry = 0x09EB
-unpatched_head Exit = 0x2EC3
-unpatched_head Tail = 0x09EB
+unpatched_head Entry = jump_head
+unpatched_head Exit = return_head
+unpatched_head Tail = jump_head
 
 -- the head of a patched sled: the first two bytes of mov r10d, id
 abbrev pub patched_head : ℕ

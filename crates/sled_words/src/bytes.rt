@@ -1,7 +1,8 @@
 //! The bytes of the code while its sleds change.
 
 ghost use Rattle.std.specs.Prelude.{◌≡◌, ◌<◌, ◌≤◌, ◌+◌, ◌*◌, ◌^◌, ◌++◌, length, IfOk, OnOk};
-ghost use Rattle.sled_words.specs.CodeBytes.{code_bytes as bytes_of_code, part_bytes, part_size, sled_bytes, unit_bytes, HasWords};
+ghost use Rattle.sled_words.specs.CodeBytes.{code_bytes as bytes_of_code, part_bytes, part_size, sled_bytes, unit_bytes};
+ghost use Rattle.sled_words.specs.private.UnitWords.{HasWords};
 
 use crate::Part;
 use crate::layout::word_of;
@@ -22,8 +23,7 @@ pub fn code_bytes(alloc: Global, image: &Image, words: &[u64]) -> Result<Vec<u8>
     ensures { IfOk result (λ bytes. bytes.items ≡ bytes_of_code image.now words.now) }
 {
     let mut bytes = Vec::with_capacity(alloc, image.code().len())?;
-    // Called for its contract: the sleds that units name exist.
-    image.sled_count();
+    image.sleds_stand_in_units();
     for i in 0..image.unit_count() {
         push_unit(&mut bytes, image.unit(i).what, words)?;
     }

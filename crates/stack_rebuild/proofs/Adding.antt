@@ -10,9 +10,9 @@ use Rattle.stack_rebuild.specs.declared.path_sums.Tally.{Tally}
 use Rattle.stack_rebuild.specs.declared.stack_row.StackFault.{StackFault}
 use Rattle.stack_rebuild.specs.declared.stack_row.StackFault.TheVariants.{Deep, NoMemory}
 use Rattle.stack_rebuild.specs.declared.thread_blocks.ThreadBlocks.{ThreadBlocks}
-use Rattle.stack_rebuild.specs.ByThread.{AreThreads, IsFaultOf, events_at}
+use Rattle.stack_rebuild.specs.private.ByThread.{AreThreads, IsFaultOf, events_at}
 use Rattle.stack_rebuild.specs.Histories.{events_of}
-use Rattle.stack_rebuild.specs.Scanning.{AreSums}
+use Rattle.stack_rebuild.specs.private.Scanning.{AreSums}
 use Rattle.stack_rebuild.specs.Stacks.{IsDeepFault, Timed, all_timed, deep_in, first_of, gets_deep, threads_of, timed_in}
 
 abbrev names : List ThreadBlocks → List ℕ

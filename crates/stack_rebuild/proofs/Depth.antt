@@ -6,7 +6,7 @@ use Rattle.std.proofs.lemmas.List.{append-nil, reverse-append, take-append-drop,
 use Rattle.std.proofs.lemmas.List.Concat.{flat_map-append}
 use Rattle.fdr_record.specs.declared.event.Event.{Event}
 use Rattle.fdr_file.specs.declared.trace.Block.{Block}
-use Rattle.stack_rebuild.specs.ByThread.{events_at, no_block}
+use Rattle.stack_rebuild.specs.private.ByThread.{events_at, no_block}
 use Rattle.stack_rebuild.specs.Calls.{Standing, next_standing, open_calls, standing_after}
 use Rattle.stack_rebuild.specs.Stacks.{gets_deep}
 

@@ -17,8 +17,8 @@ use Rattle.stack_rebuild.specs.declared.path_sums.Tally.{Tally}
 use Rattle.stack_rebuild.specs.declared.thread_stack.Frame.{Frame}
 use Rattle.stack_rebuild.specs.Calls.{Standing, cycles_between, from_innermost, left_open, next_standing, open_after, open_after_kind, open_calls, pair_at, pair_of_call, standing_after}
 use Rattle.stack_rebuild.specs.Stacks.{Timed, is_innermost, path_of, spent_in, timed_in}
-use Rattle.stack_rebuild.specs.PathNumbers.{path_at}
-use Rattle.stack_rebuild.specs.Scanning.{AreFrames, AreSums, AreWithin, Follows, IsFrame, Keeps, Opens, spending, top_of, with_spent}
+use Rattle.stack_rebuild.specs.private.PathNumbers.{path_at}
+use Rattle.stack_rebuild.specs.private.Scanning.{AreFrames, AreSums, AreWithin, Follows, IsFrame, Keeps, Opens, spending, top_of, with_spent}
 use Rattle.stack_rebuild.proofs.Nesting.{AllBefore, IsNested, Nested, ended_by, func_ended, nested_ended, nested_history, one_more, pair_by}
 use Rattle.stack_rebuild.proofs.Spending.{adds, made, path_of-cons, spent_at_end, spent_more, timed_more}
 

@@ -5,6 +5,7 @@ pub mod Frames
 pub mod Lines
 pub mod Nesting
 pub mod Opening
+pub mod Pairing
 pub mod Results
 pub mod RowsOf
 pub mod Spending

@@ -4,7 +4,7 @@ use Rattle.std.proofs.lemmas.List.Sorted.{sum_by-IsPermutation, IsPermutation-re
 use Rattle.std.proofs.lemmas.List.Sums.{sum_by-cons}
 use Rattle.stack_rebuild.specs.declared.call.Call.{Call}
 use Rattle.stack_rebuild.specs.Calls.{from_innermost}
-use Rattle.stack_rebuild.specs.Counts.{is_of}
+use Rattle.stack_rebuild.specs.private.Counts.{is_of}
 
 -- 1 for a call of the function, and 0 for any other
 abbrev one_of : ℕ → Call → ℕ

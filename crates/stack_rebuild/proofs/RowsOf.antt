@@ -18,9 +18,9 @@ use Rattle.std.proofs.lemmas.Map.Keys.{IsDistinct-head, IsDistinct-IsPermutation
 use Rattle.stack_rebuild.specs.declared.path_sums.Tally.{Tally}
 use Rattle.stack_rebuild.specs.declared.stack_row.StackRow.{StackRow}
 use Rattle.stack_rebuild.specs.Ascending.{each_once}
-use Rattle.stack_rebuild.specs.PathNumbers.{path_at}
-use Rattle.stack_rebuild.specs.Rows.{row_before, row_by, rows_at, rows_below}
-use Rattle.stack_rebuild.specs.Scanning.{AllNumbered, AreSums, no_tally, tally_of}
+use Rattle.stack_rebuild.specs.private.PathNumbers.{path_at}
+use Rattle.stack_rebuild.specs.private.Rows.{row_before, row_by, rows_at, rows_below}
+use Rattle.stack_rebuild.specs.private.Scanning.{AllNumbered, AreSums, no_tally, tally_of}
 use Rattle.stack_rebuild.specs.Stacks.{PathRow, Timed, has_path, path_cmp, row_of, told}
 use Rattle.stack_rebuild.proofs.Ascents.{IsIn, Strict, in-map, in_permutation, is_each_once, less_not_greater, map-in}
 use Rattle.stack_rebuild.proofs.Sums.{has_own, has_path-same, path_cmp_equal, path_cmp_same}

@@ -19,7 +19,7 @@ use Rattle.std.proofs.lemmas.Map.Views.{All-found}
 use Rattle.fdr_record.specs.declared.event.Event.{Event}
 use Rattle.fdr_file.specs.declared.trace.Block.{Block}
 use Rattle.stack_rebuild.specs.declared.thread_blocks.ThreadBlocks.{ThreadBlocks}
-use Rattle.stack_rebuild.specs.ByThread.{ArePlaces, AreThreads, Places, events_at, no_block, places_in, thread_of}
+use Rattle.stack_rebuild.specs.private.ByThread.{ArePlaces, AreThreads, Places, events_at, no_block, places_in, thread_of}
 use Rattle.stack_rebuild.specs.Histories.{events_of}
 use Rattle.stack_rebuild.proofs.Ascents.{IsIn, is_each_once, strict_from_sorted}
 use Rattle.stack_rebuild.proofs.Sums.{nat_cmp_same}

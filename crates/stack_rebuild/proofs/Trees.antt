@@ -5,7 +5,7 @@ use Rattle.std.proofs.Math.Seq.{get_or-append_seam, take-append_seam}
 use Rattle.std.proofs.lemmas.Bool.{eqb-true, eq-eqb}
 use Rattle.std.proofs.lemmas.List.{append_cancel_right, reverse-append, reverse-reverse}
 use Rattle.stack_rebuild.specs.declared.path_numbers.Step.{Step}
-use Rattle.stack_rebuild.specs.PathNumbers.{AreApart, AreNumbered, Climbs, HasNumber, Numbers, is_step, number_in, path_at, path_by, paths_after}
+use Rattle.stack_rebuild.specs.private.PathNumbers.{AreApart, AreNumbered, Climbs, HasNumber, Numbers, is_step, number_in, path_at, path_by, paths_after}
 
 -- what holds at each place of a list, and for one more item, holds at each place of both
 pub each_more : {X : Type 0} (Q : ℕ → X → Type 0) (xs : List X) (x : X) → ((i : ℕ) (d : X) → i < length xs → Q i (get_or xs i d)) → Q (length xs) x
@@ -181,15 +181,19 @@ absent_path V steps numbers s view tree low none =
             let told : number_in numbers s ≡ Some (i + 1) = ap (number_in numbers) (sym same_step) ∙ tree.told i s (omega (arith, tree.count)) in
             some_none (i + 1) (sym told ∙ none)
 
--- the number that the table has for a step is that of its path
-pub number_told : (V : List (List ℕ)) (steps : List Step) (numbers : Numbers) (s : Step) (n : ℕ) → paths_after (reverse steps) ≡ V
-    → AreNumbered (paths_after (reverse steps)) steps numbers → number_in numbers s ≡ Some n → HasNumber (path_by V s) n V V
-number_told V steps numbers s n view tree told = subst (λ (paths : List (List ℕ)). HasNumber (path_by paths s) n paths paths) view
+-- the place of a step among the steps gives the number of its path
+pub number_at : (V : List (List ℕ)) (steps : List Step) (numbers : Numbers) (s : Step) (n : ℕ) → paths_after (reverse steps) ≡ V
+    → AreNumbered (paths_after (reverse steps)) steps numbers → (0 < n) × (n ≤ length steps) × (get_or steps (n - 1) s ≡ s) → HasNumber (path_by V s) n V V
+number_at V steps numbers s n view tree own = subst (λ (paths : List (List ℕ)). HasNumber (path_by paths s) n paths paths) view
     (let P = paths_after (reverse steps) in
-    let own = tree.found s n told in
     let low : n - 1 < length steps = omega (arith, own.0, own.1) in
     let back : n - 1 + 1 ≡ n = omega (arith, own.0) in record {
       is = ap (path_at P) (sym back) ∙ ((tree.climbs (n - 1) s low).is ∙ ap (path_by P) own.2);
       within = omega (arith, own.1, tree.count);
       grows = inl refl;
     })
+
+-- the number that the table has for a step is that of its path
+pub number_told : (V : List (List ℕ)) (steps : List Step) (numbers : Numbers) (s : Step) (n : ℕ) → paths_after (reverse steps) ≡ V
+    → AreNumbered (paths_after (reverse steps)) steps numbers → number_in numbers s ≡ Some n → HasNumber (path_by V s) n V V
+number_told V steps numbers s n view tree told = number_at V steps numbers s n view tree (tree.found s n told)

@@ -1,13 +1,8 @@
 pub mod Ascending
-pub mod ByThread
 pub mod Calls
-pub mod Counts
 pub mod FaultWords
 pub mod Histories
-pub mod PathNumbers
-pub mod PathTree
-pub mod Rows
-pub mod Scanning
+pub mod PairLaws
 pub mod StackText
 pub mod Stacks
-pub mod ThreadCalls
+pub mod private

@@ -90,6 +90,10 @@ stack_of trace = let pairs = all_timed trace.blocks in map (row_of pairs) (each_
 abbrev pub told : StackRow → PathRow
 told row = record { path = row.path.items; count = row.count; sum = row.sum; own = row.own }
 
+-- how many calls of a thread may be open at once
+abbrev pub most_open : ℕ
+most_open = 4096
+
 -- whether after some event of a history more calls are open than a limit
 abbrev pub gets_deep : ℕ → List Event → Bool
 gets_deep limit [] = false

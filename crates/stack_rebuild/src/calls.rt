@@ -2,7 +2,7 @@
 
 ghost use Rattle.std.specs.Prelude.{◌≡◌, ◌<◌, ◌++◌, [], ◌∷◌, reverse, length, MatchOption, IfOk, OnOk, IsTrue, count_by};
 ghost use Rattle.stack_rebuild.specs.Calls.{cycles_between, from_innermost, pair_at, standing_after, next_standing};
-ghost use Rattle.stack_rebuild.specs.Counts.{AreCountsOf, is_of};
+ghost use Rattle.stack_rebuild.specs.private.Counts.{AreCountsOf, is_of};
 
 use crate::call::{Call, Pair};
 use crate::counts::{count_down, count_of, count_up};
@@ -33,7 +33,7 @@ impl Model for ThreadCalls {
 
     ghost Value = { Standing };
 
-    ghost use Rattle.stack_rebuild.specs.ThreadCalls.{standing_in, IsCounted};
+    ghost use Rattle.stack_rebuild.specs.private.ThreadCalls.{standing_in, IsCounted};
 
     ghost view = { standing_in };
 

@@ -1,7 +1,7 @@
 //! How many calls of each function are open.
 
 ghost use Rattle.std.specs.Prelude.{◌≡◌, ◌<◌, ◌+◌, ◌^◌, ◌==◌, ℕ, if◌then◌else◌, OnOk, OnErr};
-ghost use Rattle.stack_rebuild.specs.Counts.{count_in};
+ghost use Rattle.stack_rebuild.specs.private.Counts.{count_in};
 
 use std::alloc::AllocError;
 use std::collections::HashMap;

@@ -4,6 +4,7 @@
 mod call;
 mod calls;
 mod counts;
+mod laws;
 mod matching;
 mod path_numbers;
 mod path_sums;
@@ -17,6 +18,7 @@ mod thread_stack;
 
 pub use call::{Call, Pair};
 pub use calls::ThreadCalls;
+pub use laws::{each_exit_ends_one_call, each_pair_is_a_whole_call};
 pub use matching::{pairs, thread_events};
 pub use scan::MOST_OPEN;
 pub use stack_row::{StackFault, StackRow};

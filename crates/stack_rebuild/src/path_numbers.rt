@@ -1,12 +1,16 @@
 //! Numbers for paths.
 
-ghost use Rattle.std.specs.Prelude.{◌≡◌, ◌<◌, ◌++◌, ℕ, [], ◌∷◌, length, IfOk};
-ghost use Rattle.stack_rebuild.specs.PathNumbers.{AreApart, HasNumber, path_at, path_by};
+ghost use Rattle.std.specs.Prelude.{◌≡◌, ◌<◌, ◌++◌, ℕ, [], ◌∷◌, length, IfOk, IfSome, IsTrue};
+ghost use Rattle.stack_rebuild.specs.private.PathNumbers.{AreApart, HasNumber, path_at, path_by};
 
-use std::alloc::Global;
+use std::alloc::{AllocError, Global};
 use std::collections::HashMap;
 use std::marker::Model;
+use std::mem;
 use xray_io::NoMemory;
+
+/// How many of the paths that go on from a path are looked at before the table is asked.
+const MOST_LOOKS: usize = 4;
 
 /// A step from one path to a longer one: the number of the path, and the function that it goes on
 /// with.
@@ -18,6 +22,18 @@ pub(crate) struct Step {
     func: u32,
 }
 
+/// Where a path stands in the tree. This only saves time: each number is compared with the step
+/// that is looked for.
+#[derive(Clone, Copy, Debug)]
+struct Links {
+    /// The number of the latest path that goes on from this one, or 0.
+    child: usize,
+    /// The number of the path that had come before with the same parent, or 0.
+    sibling: usize,
+    /// How many functions the path has.
+    depth: usize,
+}
+
 /// The paths so far, each with a number. The empty path has number 0. In contracts they are a list.
 ///
 /// They form a tree. A path is its last function, and the number of the path before that.
@@ -27,6 +43,8 @@ pub(crate) struct PathNumbers {
     steps: Vec<Step>,
     /// The numbers of the paths by their steps.
     numbers: HashMap<Step, usize>,
+    /// The links of the paths, from number 0 on.
+    links: Vec<Links>,
 }
 
 impl Model for PathNumbers {
@@ -34,7 +52,7 @@ impl Model for PathNumbers {
 
     ghost Value = { List (List ℕ) };
 
-    ghost use Rattle.stack_rebuild.specs.PathTree.{paths_in, IsTree};
+    ghost use Rattle.stack_rebuild.specs.private.PathTree.{paths_in, IsTree};
 
     ghost view = { paths_in };
 
@@ -43,13 +61,20 @@ impl Model for PathNumbers {
 
 impl PathNumbers {
     /// Only the empty path.
-    pub(crate) fn new(alloc: Global) -> PathNumbers
-        ensures { result ≡ [] ∷ [] }
+    pub(crate) fn new(alloc: Global) -> Result<PathNumbers, NoMemory>
+        ensures { IfOk result (λ paths. paths ≡ [] ∷ []) }
     {
-        PathNumbers {
+        let mut links = Vec::new(alloc);
+        links.push(Links {
+            child: 0,
+            sibling: 0,
+            depth: 0,
+        })?;
+        Ok(PathNumbers {
             steps: Vec::new(alloc),
             numbers: HashMap::new(alloc),
-        }
+            links,
+        })
     }
 
     /// No two numbers have the same path.
@@ -67,6 +92,56 @@ impl PathNumbers {
             HasNumber (path_at self.old parent ++ func ∷ []) n self.old self.new) }
     {
         let step = Step { parent, func };
+        match self.among_latest(step) {
+            Some(number) => Ok(number),
+            None => self.number_of_step(step),
+        }
+    }
+
+    /// The number of a step's path, if it is among the latest ones that go on from its parent.
+    fn among_latest(&self, step: Step) -> Option<usize>
+        ensures { IfSome result (λ n. HasNumber (path_by self.now step) n self.now self.now) }
+    {
+        let mut number = self.links_of(step.parent).child;
+        'looking: for _ in 0..MOST_LOOKS {
+            if self.is_path_of(number, step) {
+                return Some(number);
+            }
+            number = self.links_of(number).sibling;
+        }
+        None
+    }
+
+    /// Whether the path with this number is that of a step.
+    fn is_path_of(&self, number: usize, step: Step) -> bool
+        ensures { IsTrue result → HasNumber (path_by self.now step) number self.now self.now }
+    {
+        if number == 0 {
+            return false;
+        }
+        match self.steps.get(number - 1) {
+            Some(found) => *found == step,
+            None => false,
+        }
+    }
+
+    /// The links of the path with this number. If there is no such path, they lead nowhere.
+    fn links_of(&self, number: usize) -> Links {
+        match self.links.get(number) {
+            Some(links) => *links,
+            None => Links {
+                child: 0,
+                sibling: 0,
+                depth: 0,
+            },
+        }
+    }
+
+    /// The number of a step's path.
+    fn number_of_step(&mut self, step: Step) -> Result<usize, NoMemory>
+        requires { step.parent < length self.old }
+        ensures { IfOk result (λ n. HasNumber (path_by self.old step) n self.old self.new) }
+    {
         match self.numbers.get(&step) {
             Some(number) => Ok(*number),
             None => self.add(step),
@@ -81,6 +156,7 @@ impl PathNumbers {
         ensures { IfOk result (λ n.
             HasNumber (path_by self.old step) n self.old self.new) }
     {
+        link(&mut self.links, step.parent)?;
         self.steps.push(step)?;
         let number = self.steps.len();
         match self.numbers.insert(step, number) {
@@ -97,7 +173,7 @@ impl PathNumbers {
         requires { number < length self.now }
         ensures { IfOk result (λ path. path.items ≡ path_at self.now number) }
     {
-        let mut path = Vec::new(alloc);
+        let mut path = Vec::with_capacity(alloc, self.links_of(number).depth)?;
         let mut number = number;
         'climbing: while number > 0 {
             let step = self.steps[number - 1];
@@ -107,4 +183,18 @@ impl PathNumbers {
         path.reverse();
         Ok(path)
     }
+}
+
+/// Gives links to the next path, and puts it first among those that go on from its parent.
+fn link(links: &mut Vec<Links>, parent: usize) -> Result<(), AllocError> {
+    let number = links.len();
+    if let Some(parent) = links.get_mut(parent) {
+        let next = Links {
+            child: 0,
+            sibling: mem::replace(&mut parent.child, number),
+            depth: parent.depth.saturating_add(1),
+        };
+        links.push(next)?;
+    }
+    Ok(())
 }

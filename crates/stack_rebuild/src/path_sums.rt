@@ -1,8 +1,8 @@
 //! The sums over the pairs of each path.
 
 ghost use Rattle.std.specs.Prelude.{◌≡◌, ◌<◌, ◌++◌, List, [], ◌∷◌, length, IfOk, OnOk};
-ghost use Rattle.stack_rebuild.specs.PathNumbers.{HasNumber, path_at};
-ghost use Rattle.stack_rebuild.specs.Scanning.{AreSums, no_tally, with_pair};
+ghost use Rattle.stack_rebuild.specs.private.PathNumbers.{HasNumber, path_at};
+ghost use Rattle.stack_rebuild.specs.private.Scanning.{AreSums, no_tally, with_pair};
 ghost use Rattle.stack_rebuild.specs.Stacks.{Timed};
 
 use crate::path_numbers::PathNumbers;
@@ -56,7 +56,7 @@ impl PathSums {
     {
         let mut tallies = Vec::new(alloc);
         tallies.push(Tally::none())?;
-        let paths = PathNumbers::new(alloc);
+        let paths = PathNumbers::new(alloc)?;
         Ok(PathSums { paths, tallies })
     }
 

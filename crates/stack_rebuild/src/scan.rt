@@ -2,9 +2,9 @@
 
 ghost use Rattle.std.specs.Prelude.{◌≡◌, ◌<◌, ◌++◌, true, false, List, length, reverse, IfOk, IfErr, OnOk, slice_index_or};
 ghost use Rattle.fdr_record.specs.declared.event.Event.{Event};
-ghost use Rattle.stack_rebuild.specs.ByThread.{IsFaultOf, events_at, no_block};
+ghost use Rattle.stack_rebuild.specs.private.ByThread.{IsFaultOf, events_at, no_block};
 ghost use Rattle.stack_rebuild.specs.Calls.{standing_after};
-ghost use Rattle.stack_rebuild.specs.Scanning.{AreSums, AreWithin, Follows};
+ghost use Rattle.stack_rebuild.specs.private.Scanning.{AreSums, AreWithin, Follows};
 ghost use Rattle.stack_rebuild.specs.Stacks.{Timed, gets_deep, timed_in};
 
 use crate::path_sums::PathSums;

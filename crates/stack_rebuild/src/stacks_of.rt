@@ -2,9 +2,9 @@
 
 ghost use Rattle.std.specs.Prelude.{◌≡◌, ◌<◌, ◌++◌, length, map, IfOk, IfErr, OnOk, None};
 ghost use Rattle.std.specs.Ordering.{is_lt};
-ghost use Rattle.stack_rebuild.specs.Rows.{row_before, row_by, rows_at, rows_below};
-ghost use Rattle.stack_rebuild.specs.Scanning.{AreSums};
-ghost use Rattle.stack_rebuild.specs.Stacks.{IsDeepFault, all_timed, deep_in, stack_of, told};
+ghost use Rattle.stack_rebuild.specs.private.Rows.{row_before, row_by, rows_at, rows_below};
+ghost use Rattle.stack_rebuild.specs.private.Scanning.{AreSums};
+ghost use Rattle.stack_rebuild.specs.Stacks.{IsDeepFault, all_timed, deep_in, most_open, stack_of, told};
 
 use crate::path_sums::{PathSums, Tally};
 use crate::scan::{MOST_OPEN, add_thread};
@@ -20,9 +20,9 @@ use xray_io::NoMemory;
 /// there may be none.
 pub fn stacks(alloc: Global, trace: &Trace) -> Result<Vec<StackRow>, StackFault>
     ensures rows { IfOk result (λ rows. map told rows.items ≡ stack_of trace.now) }
-    ensures shallow { OnOk result (deep_in MOST_OPEN trace.now.blocks ≡ None) }
+    ensures shallow { OnOk result (deep_in most_open trace.now.blocks ≡ None) }
     ensures deep { IfErr result (λ fault.
-        IsDeepFault fault (deep_in MOST_OPEN trace.now.blocks)) }
+        IsDeepFault fault (deep_in most_open trace.now.blocks)) }
 {
     let sums = sums_of(alloc, trace.blocks.as_slice())?;
     let mut rows = rows_of(alloc, &sums)?;

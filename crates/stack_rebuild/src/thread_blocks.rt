@@ -3,7 +3,7 @@
 ghost use Rattle.std.specs.Prelude.{◌≡◌, ◌++◌, ◌==◌, ◌||◌, ℕ, [], ◌∷◌, is_some, if◌then◌else◌, map, IfOk, OnOk};
 ghost use Rattle.std.specs.BTreeMap.{IsOrdered, get};
 ghost use Rattle.std.specs.Ordering.{nat_cmp};
-ghost use Rattle.stack_rebuild.specs.ByThread.{ArePlaces, AreThreads, places_in, thread_of};
+ghost use Rattle.stack_rebuild.specs.private.ByThread.{ArePlaces, AreThreads, places_in, thread_of};
 
 use fdr_file::Block;
 use std::alloc::Global;

@@ -11,13 +11,15 @@ use Rattle.step_sim.specs.declared.patcher.Patcher.{Patcher}
 use Rattle.step_sim.specs.declared.pool.Pool.{Pool}
 use Rattle.step_sim.specs.declared.turns.Turns.{Turns}
 use Rattle.step_sim.specs.declared.turns.Turns.TheVariants as turns_of
-use Rattle.step_sim.specs.Replay.{Cast, Moment, line_turns, of_thread, thread_turn, turns}
-use Rattle.step_sim.specs.Pool.{AllPooledRunOut, Pooled, PooledRunsOut, Pooling, Stock, pooled_step}
-use Rattle.step_sim.specs.Standing.{AllStandAt, StandAt}
-use Rattle.step_sim.specs.Holding.{PoolHolds}
-use Rattle.step_sim.specs.Recording.{AllRecord, AllRecordAt, PoolAt, RecordAt, Recording, Records, histories, line_in, pooling_in, turn_in}
+use Rattle.step_sim.specs.Plays.{turns}
+use Rattle.step_sim.specs.Replay.{Cast, Moment, line_turns, of_thread, thread_turn}
+use Rattle.step_sim.specs.Pool.{AllPooledRunOut, Pooled, PooledRunsOut, Stock, pooled_rules, pooled_step}
+use Rattle.step_sim.specs.private.Standing.{AllStandAt, StandAt}
+use Rattle.step_sim.specs.private.Holding.{PoolHolds}
+use Rattle.step_sim.specs.private.Recording.{AllRecord, AllRecordAt, PoolAt, RecordAt, Recording, Records, histories, line_in, pooling_in, turn_in}
 use Rattle.step_sim.proofs.AllThreads.{stand_of, turns_moved}
 use Rattle.step_sim.proofs.OneRecorded.{holds_same}
+use Rattle.step_sim.proofs.Plays.{one_more_out}
 use Rattle.step_sim.proofs.PooledReplay.{line_moment, thread_moment}
 
 -- ---- each of them
@@ -122,22 +124,6 @@ all_record_on lines p q ts us a b leads (r, pooled, at) = (r, fold (line_in r) p
 
 -- ---- running out
 
--- one more thread runs out
-run_out_more : (cast : Cast) (pooling : Pooling) (n thread : ℕ) (before mid after : Pooled) → AllPooledRunOut cast pooling n thread before mid
-    → PooledRunsOut cast pooling (thread + n) mid after → AllPooledRunOut cast pooling (n + 1) thread before after
-run_out_more cast pooling zero thread before mid after e run =
-    let here : thread + zero ≡ thread = omega arith in (
-      after,
-      subst (λ (k : ℕ). PooledRunsOut cast pooling k before after) here
-          (subst (λ (x : Pooled). PooledRunsOut cast pooling (thread + zero) x after) e run),
-      refl,
-    )
-run_out_more cast pooling (suc n) thread before mid after (first, runs, rest) run =
-    let here : thread + suc n ≡ thread + 1 + n = omega arith in
-    let count : suc n + 1 ≡ suc (n + 1) = omega arith in
-    subst (λ (k : ℕ). AllPooledRunOut cast pooling k thread before after) (sym count)
-    (first, runs, run_out_more cast pooling n (thread + 1) first mid after rest (subst (λ (k : ℕ). PooledRunsOut cast pooling k mid after) here run))
-
 -- the first threads have run out
 abbrev pub RunRecords : ℕ → Patcher → List Traced → Pool → List Traced → Pool → Type 0
 RunRecords n p ts pool us pool' =
@@ -166,7 +152,7 @@ one_records n p ts us old new a b c runs found same run r pooled at =
     let e : out.0 ≡ turns count (turn_in r (n + 1)) here.0 =
     out.1.1 ∙ ap (λ (k : ℕ). turns count (turn_in r k) here.0) number in (
       out.0,
-      run_out_more r.cast (pooling_in r) n 1 pooled here.0 out.0 here.1 own,
+      one_more_out (pooled_rules r.cast (pooling_in r)) n 1 pooled here.0 out.0 here.1 own,
       subst (λ (x : Pooled). AllRecordAt r x p (slice_set us n new) c) (sym e) all,
     )
 

@@ -14,10 +14,12 @@ use Rattle.step_sim.specs.declared.patcher.Patcher.{Patcher}
 use Rattle.step_sim.specs.declared.turns.Turns.{Turns}
 use Rattle.step_sim.specs.declared.turns.Turns.TheVariants as turns_of
 use Rattle.step_sim.specs.Along.{IsAlong}
-use Rattle.step_sim.specs.Replay.{AllRunOut, Cast, Moment, RunsOut, line_turns, of_thread, patcher_turn, thread_turn, turns}
-use Rattle.step_sim.specs.Standing.{AllPlay, AllStandAt, IsPatcherAt, IsThreadAt, Play, Rests, StandAt}
+use Rattle.step_sim.specs.Plays.{turns}
+use Rattle.step_sim.specs.Replay.{AllRunOut, Cast, Moment, RunsOut, line_turns, moment_rules, of_thread, patcher_turn, thread_turn}
+use Rattle.step_sim.specs.private.Standing.{AllPlay, AllStandAt, IsPatcherAt, IsThreadAt, Play, Rests, StandAt}
+use Rattle.step_sim.proofs.Plays.{one_more_out}
 use Rattle.step_sim.proofs.ReplayAlong.{patcher_keeps, turns_keep}
-use Rattle.step_sim.proofs.TurnLemmas.{patcher_turns, run_out_more, turns_length, turns_other}
+use Rattle.step_sim.proofs.TurnLemmas.{patcher_turns, turns_length, turns_other}
 use Rattle.step_sim.proofs.OneThread.{same_again, thread_moved}
 
 -- ---- lists
@@ -194,7 +196,7 @@ one_runs_out n p ts us old new runs found same run cast threads limits m at =
     let all = turns_moved cast threads limits here.0 p us n count old new stands found same there in
     let e : out.0 ≡ turns count (thread_turn cast (n + 1)) here.0 =
     out.1.1 ∙ ap (λ (k : ℕ). turns count (thread_turn cast k) here.0) number in
-    (out.0, run_out_more cast n 1 m here.0 out.0 here.1 own, subst (λ (x : Moment). AllStandAt cast threads limits x p (slice_set us n new)) (sym e) all)
+    (out.0, one_more_out (moment_rules cast) n 1 m here.0 out.0 here.1 own, subst (λ (x : Moment). AllStandAt cast threads limits x p (slice_set us n new)) (sym e) all)
 
 pub run_on : (n : ℕ) (p : Patcher) (ts us : List Traced) → RunOut n p ts us → AllPlay p ts → AllPlay p us
 run_on n p ts us runs (cast, threads, limits, m, at) =

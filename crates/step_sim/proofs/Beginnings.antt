@@ -7,11 +7,11 @@ use Rattle.patch_script.specs.Refusals.{commands_of}
 use Rattle.machine_step.specs.declared.setup.Setup.{Setup}
 use Rattle.machine_step.specs.Traced.{sleds_of}
 use Rattle.step_sim.specs.declared.start.SimStart.TheInside.{Inside}
-use Rattle.step_sim.specs.Recording.{AllRecord}
+use Rattle.step_sim.specs.private.Recording.{AllRecord}
 use Rattle.step_sim.specs.Replay.{first_moment}
 use Rattle.step_sim.specs.Replayed.{cast_of}
-use Rattle.step_sim.specs.Standing.{AllPlay, IsPatcherAt}
-use Rattle.step_sim.specs.Starting.{HoldsStart, IsAtStart, start_in}
+use Rattle.step_sim.specs.private.Standing.{AllPlay, IsPatcherAt}
+use Rattle.step_sim.specs.private.Starting.{HoldsStart, IsAtStart, start_in}
 use Rattle.step_sim.specs.Starts.{Start}
 use Rattle.step_sim.proofs.Recordings.{Begun, SmallIds, begins_recording, first_of, recording}
 

@@ -22,7 +22,7 @@ use Rattle.machine_step.specs.Traced.{HasLoaded, IsThreadOf, Traced, sleds_of}
 use Rattle.step_sim.specs.declared.patcher.Patcher.{Patcher}
 use Rattle.step_sim.specs.Replay.{Cast, Moment, first_moment, of_thread}
 use Rattle.step_sim.specs.Replayed.{cast_of}
-use Rattle.step_sim.specs.Standing.{AllHaveBegun, AllStandAt, HasBegun, IsPatcherAt}
+use Rattle.step_sim.specs.private.Standing.{AllHaveBegun, AllStandAt, HasBegun, IsPatcherAt}
 use Rattle.step_sim.proofs.ReplayAlong.{first_along, no_loads, of_thread_is}
 
 -- ---- holds

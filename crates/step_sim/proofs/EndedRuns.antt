@@ -15,9 +15,9 @@ use Rattle.step_sim.specs.declared.patcher.Patcher.{Patcher}
 use Rattle.step_sim.specs.declared.pool.Pool.{Pool}
 use Rattle.step_sim.specs.Pool.{Pooled, segments_among}
 use Rattle.step_sim.specs.Recorded.{numbers_from}
-use Rattle.step_sim.specs.Recording.{AllRecordAt, Recording}
+use Rattle.step_sim.specs.private.Recording.{AllRecordAt, Recording}
 use Rattle.step_sim.specs.Replay.{of_thread}
-use Rattle.step_sim.specs.Standing.{Rests}
+use Rattle.step_sim.specs.private.Standing.{Rests}
 use Rattle.step_sim.proofs.Bounds.{OneEnd, marks_alike, run_alike}
 
 -- ---- one thread

@@ -1,4 +1,5 @@
 mod Rows
+pub mod Plays
 pub mod ReplayAlong
 mod ScheduleRows
 pub mod OneReplay
@@ -22,6 +23,7 @@ pub mod EndedRuns
 pub mod MoreLoads
 pub mod StockRuns
 pub mod LostRuns
+pub mod WholeRuns
 pub mod Beginnings
 pub mod Simulated
 pub mod OneRun

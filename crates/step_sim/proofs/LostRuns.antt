@@ -1,4 +1,4 @@
--- What a replay loses: as many segments as the queue has no buffers for.
+-- What a replay loses: as many segments as the queue has no buffers for, and each thread's oldest.
 use Rattle.std.proofs.Common.{◌≡◌, ◌⊎◌, ℕ, zero, suc, ◌+◌, ◌-◌, ◌<◌, ◌≤◌, List, [], ◌∷◌, ◌++◌, Bool, true, false, Option, Some, inl, inr, refl, sym, subst, ap, ◌∙◌, arith, length, map, fold, drop, take}
 use Rattle.std.specs.Prelude.{◌&&◌, ◌==◌, if◌then◌else◌, nat_lt, replicate, slice_get}
 use Rattle.std.specs.List.{All, enumerate_from}
@@ -21,11 +21,12 @@ use Rattle.traced_run.specs.Losses.{AreLost}
 use Rattle.traced_run.specs.Runs.{ThreadRun}
 use Rattle.step_sim.specs.declared.turns.Turns.{Turns}
 use Rattle.step_sim.specs.declared.turns.Turns.TheVariants.{Thread, Patcher}
-use Rattle.step_sim.specs.Holding.{below}
+use Rattle.step_sim.specs.private.Holding.{below}
 use Rattle.step_sim.specs.Pool.{AllPooledRunOut, Fresh, Item, Pooled, Pooling, Segment, Stock, first_pooled, pooled_line, pooled_lines, pooled_step, pooled_turn, queued, segments_among, serials_of, stock_behind}
 use Rattle.step_sim.specs.Recorded.{numbers_from, pooling_of, segments_at}
-use Rattle.step_sim.specs.Replay.{Cast, Moment, marks_at, of_thread, thread_turn, turns}
-use Rattle.step_sim.specs.Replayed.{IsReplayOf, cast_with, passed_of, pooling_with, spare_of}
+use Rattle.step_sim.specs.Plays.{turns}
+use Rattle.step_sim.specs.Replay.{Cast, Moment, marks_at, of_thread, thread_turn}
+use Rattle.step_sim.specs.Replayed.{IsReplayOf, LoseOldest, cast_with, passed_of, pooling_with, spare_of}
 use Rattle.step_sim.specs.Schedules.{AreTurnsOf}
 use Rattle.step_sim.proofs.Counting.{fresh_serials}
 use Rattle.step_sim.proofs.EndedRuns.{enumerated_map, of_thread_at}
@@ -192,14 +193,40 @@ passed_at (r ∷ runs) (suc j) run found = passed_at runs j run found
 
 -- ---- the whole
 
-pub replay_loses : (program : Program) (script : List Command) (schedule : List Turns) (setup : Setup) (runs : List ThreadRun)
-    → All (AreTurnsOf setup.threads) schedule → IsReplayOf program script schedule setup runs → AreLost setup.size (spare_of setup) runs
-replay_loses program script schedule setup runs of is =
-    losses_of setup.size (spare_of setup) setup.threads runs is.last.stock segs is.run.count lost_is count_is order
-    (runs_are cast pooling setup.threads (spare_of setup) (length cast.passings) 1 (pooled_lines cast pooling schedule) is.last (omega arith)
-    (omega (arith, long)) is.replay
-    (lines_are cast pooling setup.threads (spare_of setup) schedule (first_pooled cast pooling) (recursion_from_All (AreTurnsOf setup.threads) schedule of)
-    (first_is setup.threads (spare_of setup))))
+-- the marks of each run are those of the loads at the last moment
+pub marks_of_run : (program : Program) (script : List Command) (schedule : List Turns) (setup : Setup) (runs : List ThreadRun)
+    (is : IsReplayOf program script schedule setup runs) (j : ℕ) (run : ThreadRun) → slice_get runs j ≡ Some run
+    → run.marks ≡ marks_of program (1 + j) (hold_of (1 + j) script) (of_thread (cast_with program script runs).passings (1 + j))
+    (of_thread is.last.moment.loads (1 + j))
+marks_of_run program script schedule setup runs is j run found = run_at (λ r. r.marks) marks_in runs 1 setup.threads marks_told j run found
+  where
+    cast : Cast
+    cast = cast_with program script runs
+
+    marks_in : ℕ → List Mark
+    marks_in t = marks_of program t (hold_of t script) (of_thread cast.passings t) (of_thread is.last.moment.loads t)
+
+    long : length cast.passings ≡ setup.threads
+    long = length-map (passed_of runs) sleds_of ∙ length-map runs (λ (run : ThreadRun). run.passed) ∙ is.run.count
+
+    marks_told : map (λ (run : ThreadRun). run.marks) runs ≡ map marks_in (numbers_from 1 setup.threads)
+    marks_told =
+        is.marks ∙ enumerated_map _ marks_in cast.passings 1 setup.threads long
+        (λ j sleds found. ap (λ (xs : List ℕ). marks_of program (1 + j) (hold_of (1 + j) script) xs (of_thread is.last.moment.loads (1 + j)))
+        (sym (of_thread_at cast.passings j sleds found)))
+
+-- what a replay keeps of each run
+record IsKept (program : Program) (script : List Command) (schedule : List Turns) (setup : Setup) (runs : List ThreadRun)
+    (is : IsReplayOf program script schedule setup runs) : Type 0 where
+  lost_is : (j : ℕ) (run : ThreadRun) → slice_get runs j ≡ Some run → run.lost ≡ segments_among (1 + j) is.last.stock.taken
+  count_is : (j : ℕ) (run : ThreadRun) → slice_get runs j ≡ Some run
+      → segment_count setup.size run ≡ length (segments_at (cast_with program script runs) (passed_of runs) setup.size (1 + j) is.last.moment)
+  order : AreInOrder (pooling_with program script setup runs) is.last
+
+kept_of_replay : (program : Program) (script : List Command) (schedule : List Turns) (setup : Setup) (runs : List ThreadRun)
+    → All (AreTurnsOf setup.threads) schedule → (is : IsReplayOf program script schedule setup runs)
+    → IsKept program script schedule setup runs is
+kept_of_replay program script schedule setup runs of is = record { lost_is = lost_is; count_is = count_is; order = order }
   where
     cast : Cast
     cast = cast_with program script runs
@@ -213,29 +240,105 @@ replay_loses program script schedule setup runs of is =
     segs : ℕ → ℕ
     segs t = length (segments_at cast passed setup.size t is.last.moment)
 
-    marks_in : ℕ → List Mark
-    marks_in t = marks_of program t (hold_of t script) (of_thread cast.passings t) (of_thread is.last.moment.loads t)
-
-    long : length cast.passings ≡ setup.threads
-    long = length-map passed sleds_of ∙ length-map runs (λ (run : ThreadRun). run.passed) ∙ is.run.count
-
     lost_is : (j : ℕ) (run : ThreadRun) → slice_get runs j ≡ Some run → run.lost ≡ segments_among (1 + j) is.last.stock.taken
     lost_is j run found = run_at (λ r. r.lost) (λ thread. segments_among thread is.last.stock.taken) runs 1 setup.threads is.lost j run found
-
-    marks_told : map (λ (run : ThreadRun). run.marks) runs ≡ map marks_in (numbers_from 1 setup.threads)
-    marks_told =
-        is.marks ∙ enumerated_map _ marks_in cast.passings 1 setup.threads long
-        (λ j sleds found. ap (λ (xs : List ℕ). marks_of program (1 + j) (hold_of (1 + j) script) xs (of_thread is.last.moment.loads (1 + j)))
-        (sym (of_thread_at cast.passings j sleds found)))
 
     count_is : (j : ℕ) (run : ThreadRun) → slice_get runs j ≡ Some run → segment_count setup.size run ≡ segs (1 + j)
     count_is j run found =
         ap (λ (ps : List Passing). length (segments setup.size (recorded ps run.marks))) (sym (of_thread_at passed j run.passed (passed_at runs j run found)))
         ∙ ap (λ (ms : List Mark). length (segments setup.size (recorded (of_thread passed (1 + j)) ms)))
-        (run_at (λ r. r.marks) marks_in runs 1 setup.threads marks_told j run found)
+        (marks_of_run program script schedule setup runs is j run found)
 
-    order : (t : ℕ) → 0 < t → serials_of t (is.last.stock.taken ++ is.last.stock.queue) ≡ below (segs t - 1)
+    order : AreInOrder pooling is.last
     order =
         out_ordered cast passed setup.size (spare_of setup) (length cast.passings) 1 (pooled_lines cast pooling schedule) is.last (omega arith) is.replay
         (lines_ordered cast passed setup.size (spare_of setup) setup.threads schedule (first_pooled cast pooling) of
         (first_ordered cast passed setup.size (spare_of setup)))
+
+pub replay_loses : (program : Program) (script : List Command) (schedule : List Turns) (setup : Setup) (runs : List ThreadRun)
+    → All (AreTurnsOf setup.threads) schedule → IsReplayOf program script schedule setup runs → AreLost setup.size (spare_of setup) runs
+replay_loses program script schedule setup runs of is =
+    let kept = kept_of_replay program script schedule setup runs of is in
+    losses_of setup.size (spare_of setup) setup.threads runs is.last.stock segs is.run.count kept.lost_is kept.count_is kept.order
+    (runs_are cast pooling setup.threads (spare_of setup) (length cast.passings) 1 (pooled_lines cast pooling schedule) is.last (omega arith)
+    (omega (arith, long)) is.replay
+    (lines_are cast pooling setup.threads (spare_of setup) schedule (first_pooled cast pooling) (recursion_from_All (AreTurnsOf setup.threads) schedule of)
+    (first_is setup.threads (spare_of setup))))
+  where
+    cast : Cast
+    cast = cast_with program script runs
+
+    pooling : Pooling
+    pooling = pooling_with program script setup runs
+
+    segs : ℕ → ℕ
+    segs t = length (segments_at cast (passed_of runs) setup.size t is.last.moment)
+
+    long : length cast.passings ≡ setup.threads
+    long = length-map (passed_of runs) sleds_of ∙ length-map runs (λ (run : ThreadRun). run.passed) ∙ is.run.count
+
+-- ---- the oldest
+
+-- one more number
+numbers_more : (first n : ℕ) → numbers_from first (n + 1) ≡ numbers_from first n ++ (first + n) ∷ []
+numbers_more first zero = let e : first ≡ first + zero = omega arith in ap (λ (k : ℕ). k ∷ []) e
+numbers_more first (suc n) =
+    let count : suc n + 1 ≡ suc (n + 1) = omega arith in
+    let last : first + 1 + n ≡ first + suc n = omega arith in
+    ap (numbers_from first) count
+    ∙ ap (λ (ns : List ℕ). first ∷ ns) (numbers_more (first + 1) n ∙ ap (λ (k : ℕ). numbers_from (first + 1) n ++ k ∷ []) last)
+
+below_is : (n : ℕ) → below n ≡ numbers_from 0 n
+below_is zero = refl
+below_is (suc n) =
+    let count : n + 1 ≡ suc n = omega arith in
+    let last : n ≡ 0 + n = omega arith in
+    ap (λ (ns : List ℕ). ns ++ n ∷ []) (below_is n) ∙ ap (λ (k : ℕ). numbers_from 0 n ++ k ∷ []) last ∙ sym (numbers_more 0 n)
+    ∙ ap (numbers_from 0) count
+
+-- both parts of numbers that follow one another do so
+parts_follow : (xs ys : List ℕ) (first n : ℕ) → xs ++ ys ≡ numbers_from first n
+    → (xs ≡ numbers_from first (length xs)) × (ys ≡ numbers_from (first + length xs) (n - length xs))
+parts_follow [] ys first n is =
+    let here : first ≡ first + 0 = omega arith in
+    let all : n ≡ n - 0 = omega arith in
+    (refl, is ∙ ap (λ (k : ℕ). numbers_from k n) here ∙ ap (numbers_from (first + 0)) all)
+parts_follow (x ∷ xs) ys first zero is = absurd cc
+parts_follow (x ∷ xs) ys first (suc n) is =
+    let head : x ≡ first = cc in
+    let tail : xs ++ ys ≡ numbers_from (first + 1) n = cc in
+    let rest = parts_follow xs ys (first + 1) n tail in
+    let start : first + 1 + length xs ≡ first + suc (length xs) = omega arith in
+    let count : n - length xs ≡ suc n - suc (length xs) = omega arith in (
+      ap (λ (k : ℕ). k ∷ xs) head ∙ ap (λ (ks : List ℕ). first ∷ ks) rest.0,
+      rest.1 ∙ ap (λ (k : ℕ). numbers_from k (n - length xs)) start ∙ ap (numbers_from (first + suc (length xs))) count,
+    )
+
+pub replay_loses_oldest : (program : Program) (script : List Command) (schedule : List Turns) (setup : Setup) (runs : List ThreadRun)
+    → All (AreTurnsOf setup.threads) schedule → (is : IsReplayOf program script schedule setup runs) → LoseOldest setup.size runs is.last.stock
+replay_loses_oldest program script schedule setup runs of is = record {
+  taken = λ j run found.
+      let number : j + 1 ≡ 1 + j = omega arith in
+      ap (λ (t : ℕ). serials_of t is.last.stock.taken) number ∙ (parts j).0 ∙ ap (numbers_from 0) (sym (kept.lost_is j run found));
+  left = λ j run found.
+      let number : j + 1 ≡ 1 + j = omega arith in
+      ap (λ (t : ℕ). serials_of t is.last.stock.queue) number ∙ (parts j).1
+      ∙ ap (λ (k : ℕ). numbers_from k (segs (1 + j) - 1 - k)) (sym (kept.lost_is j run found))
+      ∙ ap (λ (n : ℕ). numbers_from run.lost (n - 1 - run.lost)) (sym (kept.count_is j run found));
+}
+  where
+    kept : IsKept program script schedule setup runs is
+    kept = kept_of_replay program script schedule setup runs of is
+
+    segs : ℕ → ℕ
+    segs t = length (segments_at (cast_with program script runs) (passed_of runs) setup.size t is.last.moment)
+
+    parts : (j : ℕ) → (serials_of (1 + j) is.last.stock.taken ≡ numbers_from 0 (segments_among (1 + j) is.last.stock.taken))
+        × (serials_of (1 + j) is.last.stock.queue
+        ≡ numbers_from (segments_among (1 + j) is.last.stock.taken) (segs (1 + j) - 1 - segments_among (1 + j) is.last.stock.taken))
+    parts j =
+        let both = parts_follow (serials_of (1 + j) is.last.stock.taken) (serials_of (1 + j) is.last.stock.queue) 0 (segs (1 + j) - 1)
+        (sym (serials_of-append (1 + j) is.last.stock.taken is.last.stock.queue) ∙ kept.order (1 + j) (omega arith) ∙ below_is (segs (1 + j) - 1)) in
+        let lost : ℕ = segments_among (1 + j) is.last.stock.taken in
+        let from : 0 + lost ≡ lost = omega arith in
+        (both.0, both.1 ∙ ap (λ (k : ℕ). numbers_from k (segs (1 + j) - 1 - lost)) from)

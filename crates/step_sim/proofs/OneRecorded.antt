@@ -13,8 +13,9 @@ use Rattle.machine_step.specs.PlainStep.{Passing, PlainRun, State}
 use Rattle.machine_step.specs.Traced.{HasLoaded, IsKept, IsSameThread, Traced, sleds_of}
 use Rattle.step_sim.specs.declared.patcher.Patcher.{Patcher}
 use Rattle.step_sim.specs.declared.pool.Pool.{Pool}
-use Rattle.step_sim.specs.Replay.{Cast, Moment, of_thread, thread_turn, turns, wanted_by}
-use Rattle.step_sim.specs.Standing.{IsThreadAt, Play, Rests, StandAt}
+use Rattle.step_sim.specs.Plays.{turns}
+use Rattle.step_sim.specs.Replay.{Cast, Moment, of_thread, thread_turn, wanted_by}
+use Rattle.step_sim.specs.private.Standing.{IsThreadAt, Play, Rests, StandAt}
 use Rattle.step_sim.proofs.Bounds.{marks_alike, run_alike}
 use Rattle.step_sim.proofs.OneThread.{KeepsLoads, ended_turn, none_wanted, rest_wants_none, same_again, same_then}
 use Rattle.step_sim.proofs.PooledReplay.{ended_still}
@@ -24,8 +25,8 @@ use Rattle.step_sim.proofs.TurnLemmas.{turn_other}
 use Rattle.step_sim.specs.Pool.{Pooled, PooledRunsOut, Stock, stock_behind}
 use Rattle.traced_run.specs.Kept.{Stamp}
 use Rattle.step_sim.specs.Recorded.{events_at, segments_at}
-use Rattle.step_sim.specs.Holding.{CanNote, Histories, IsHand, NotesEvent, PoolHolds, below, segments_in}
-use Rattle.step_sim.specs.Recording.{NotesAny, RecordAt, Recording, Records, histories, pooling_in, turn_in}
+use Rattle.step_sim.specs.private.Holding.{CanNote, Histories, IsHand, NotesEvent, PoolHolds, below, segments_in}
+use Rattle.step_sim.specs.private.Recording.{NotesAny, RecordAt, Recording, Records, histories, pooling_in, turn_in}
 use Rattle.step_sim.proofs.PoolLemmas.{GoesOn, all_closed_more, all_held_same, eqb_not, stock_stays}
 
 -- ---- no event

@@ -18,13 +18,14 @@ use Rattle.step_sim.specs.declared.patcher.Patcher.{Patcher}
 use Rattle.step_sim.specs.declared.pool.Pool.{Pool}
 use Rattle.step_sim.specs.declared.turns.Turns.{Turns}
 use Rattle.step_sim.specs.declared.turns.Turns.TheVariants.{Thread, Patcher as PatcherTurns}
-use Rattle.step_sim.specs.Replay.{Cast, first_moment, of_thread, thread_turn, turns}
+use Rattle.step_sim.specs.Plays.{turns}
+use Rattle.step_sim.specs.Replay.{Cast, first_moment, of_thread, thread_turn}
 use Rattle.step_sim.specs.Replayed.{cast_of}
 use Rattle.step_sim.specs.Pool.{AllPooledRunOut, Fresh, Item, Pooled, Pooling, Segment, Stock, first_pooled, first_stock, pooled_line, pooled_step, pooled_turn, queued, stock_behind}
 use Rattle.traced_run.specs.Kept.{stamp_of}
-use Rattle.step_sim.specs.Standing.{AllHaveBegun, IsPatcherAt}
-use Rattle.step_sim.specs.Holding.{PoolHolds}
-use Rattle.step_sim.specs.Recording.{AllRecordAt, Recording, histories, line_in, pooling_in}
+use Rattle.step_sim.specs.private.Standing.{AllHaveBegun, IsPatcherAt}
+use Rattle.step_sim.specs.private.Holding.{PoolHolds}
+use Rattle.step_sim.specs.private.Recording.{AllRecordAt, Recording, histories, line_in, pooling_in}
 use Rattle.step_sim.proofs.Bounds.{Gathered, begins, gathered, item_sleds, run_alike}
 use Rattle.step_sim.proofs.OneRecorded.{history_is, holds_same}
 use Rattle.step_sim.proofs.ReplayAlong.{no_loads, of_thread_is}

@@ -15,7 +15,8 @@ use Rattle.machine_step.specs.Loads.{Load}
 use Rattle.machine_step.specs.Follows.{Follows, none, later, loaded}
 use Rattle.step_sim.specs.declared.turns.Turns.{Turns}
 use Rattle.step_sim.specs.declared.turns.Turns.TheVariants.{Thread, Patcher}
-use Rattle.step_sim.specs.Replay.{AllRunOut, Cast, Moment, first_moment, line_turns, of_thread, patcher_turn, scheduled, thread_turn, turns, wanted_by}
+use Rattle.step_sim.specs.Plays.{turns}
+use Rattle.step_sim.specs.Replay.{AllRunOut, Cast, Moment, first_moment, line_turns, of_thread, patcher_turn, scheduled, thread_turn, wanted_by}
 use Rattle.step_sim.specs.Along.{AllFollow, IsAlong, NamesThread}
 
 -- ---- lists of one item per thread

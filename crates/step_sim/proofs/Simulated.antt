@@ -25,9 +25,9 @@ use Rattle.step_sim.specs.Replayed.{IsReplayOf, IsSimulated, cast_of, cast_with,
 use Rattle.step_sim.specs.Pool.{AllPooledRunOut, Pooled, PooledReplay, pooled_lines, segments_among}
 use Rattle.step_sim.specs.Recorded.{is_of, numbers_from, pooling_of, segments_held}
 use Rattle.step_sim.specs.Schedules.{AreTurnsOf}
-use Rattle.step_sim.specs.Standing.{Rests}
-use Rattle.step_sim.specs.Holding.{IsHand, opened, segments_in, unbegun}
-use Rattle.step_sim.specs.Recording.{AllRecordAt, Recording, histories, line_in, pooling_in}
+use Rattle.step_sim.specs.private.Standing.{Rests}
+use Rattle.step_sim.specs.private.Holding.{IsHand, opened, segments_in, unbegun}
+use Rattle.step_sim.specs.private.Recording.{AllRecordAt, Recording, histories, line_in, pooling_in}
 use Rattle.step_sim.proofs.Bounds.{OneEnd}
 use Rattle.step_sim.proofs.EndedRuns.{AllRuns, all_runs, enumerated_buffers, enumerated_map, items_are, marks_in, of_thread_at, runs_map}
 use Rattle.step_sim.proofs.Gathering.{all_gathered, first_are, sealed_are}

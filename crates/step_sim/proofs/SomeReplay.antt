@@ -14,8 +14,10 @@ use Rattle.handler_word.specs.declared.mark.Mark.TheVariants.{Skipped, NoHandler
 use Rattle.machine_step.specs.Loads.{Load, Reading, Wants, Marked, from_state, from_handler, from_offset, from_opcode, from_id, from_head, next_from, next_load}
 use Rattle.step_sim.specs.declared.turns.Turns.{Turns}
 use Rattle.step_sim.specs.declared.turns.Turns.TheVariants.{Thread, Patcher}
-use Rattle.step_sim.specs.Replay.{AllRunOut, Cast, Moment, Replay, first_moment, line_turns, marks_at, of_thread, patcher_turn, scheduled, thread_turn, turns, wanted_by}
+use Rattle.step_sim.specs.Plays.{turns}
+use Rattle.step_sim.specs.Replay.{Cast, Moment, Replay, first_moment, line_turns, marks_at, moment_rules, of_thread, patcher_turn, scheduled, thread_turn, wanted_by}
 use Rattle.step_sim.proofs.Bounds.{no_holds}
+use Rattle.step_sim.proofs.Plays.{Ends, all_run_out}
 use Rattle.step_sim.proofs.TurnLemmas.{turn_length, turn_own, turns_hold, turns_length}
 
 -- ---- a passing
@@ -167,12 +169,8 @@ turn_falls cast thread m word free within wants =
     (sym (turn_own cast thread m word within wants))
     (left_falls cast.program thread 0 (of_thread cast.passings thread) (of_thread m.loads thread) load word unheld)
 
--- the turns of a thread that bring it to its end
-abbrev Ends : Cast → ℕ → Moment → Type 0
-Ends cast thread m = (n : ℕ) × (wanted_by cast thread (turns n (thread_turn cast thread) m) ≡ None)
-
 -- one turn and those after it
-one_before : (cast : Cast) (thread : ℕ) (m : Moment) → Ends cast thread (thread_turn cast thread m) → Ends cast thread m
+one_before : (cast : Cast) (thread : ℕ) (m : Moment) → Ends (moment_rules cast) thread (thread_turn cast thread m) → Ends (moment_rules cast) thread m
 one_before cast thread m (n, none) = (suc n, none)
 
 -- a thread wants no word, or one
@@ -182,12 +180,12 @@ by_word (Some word) M at_none at_some = at_some word refl
 
 -- a thread that isn't held ends after finitely many turns
 ends_behind : (cast : Cast) (thread : ℕ) → hold_of thread cast.script ≡ None → (most : ℕ) (m : Moment) → thread - 1 < length m.loads
-    → left_at cast thread m ≤ most → Ends cast thread m
+    → left_at cast thread m ≤ most → Ends (moment_rules cast) thread m
 ends_behind cast thread free zero m within few =
-    by_word (wanted_by cast thread m) (Ends cast thread m) (λ e. (0, e))
+    by_word (wanted_by cast thread m) (Ends (moment_rules cast) thread m) (λ e. (0, e))
     (λ word e. let falls = turn_falls cast thread m word free within e in absurd (omega arith))
 ends_behind cast thread free (suc most) m within few =
-    by_word (wanted_by cast thread m) (Ends cast thread m) (λ e. (0, e))
+    by_word (wanted_by cast thread m) (Ends (moment_rules cast) thread m) (λ e. (0, e))
     (λ word e.
     let falls = turn_falls cast thread m word free within e in
     let there : thread - 1 < length (thread_turn cast thread m).loads = omega (arith, turn_length cast thread m) in
@@ -198,17 +196,6 @@ ends_behind cast thread free (suc most) m within few =
 -- the script of a replay holds no thread
 abbrev NobodyHeld : Cast → Type 0
 NobodyHeld cast = (thread : ℕ) → hold_of thread cast.script ≡ None
-
--- threads that have loads run out, one after the other
-all_run_out : (cast : Cast) → NobodyHeld cast → (n thread : ℕ) (before : Moment) → 0 < thread → thread + n ≤ length before.loads + 1
-    → (after : Moment) × AllRunOut cast n thread before after
-all_run_out cast free zero thread before first last = (before, refl)
-all_run_out cast free (suc n) thread before first last =
-    let out = ends_behind cast thread (free thread) (left_at cast thread before) before (omega arith) (omega arith) in
-    let mid : Moment = turns out.0 (thread_turn cast thread) before in
-    let room : length mid.loads ≡ length before.loads = turns_length cast thread out.0 before in
-    let rest = all_run_out cast free n (thread + 1) mid (omega arith) (omega arith) in
-    (rest.0, (mid, (out.0, refl, out.1), rest.1))
 
 -- the patcher's turns keep the loads
 patcher_length : (cast : Cast) (n : ℕ) (m : Moment) → length (turns n (patcher_turn cast) m).loads ≡ length m.loads
@@ -228,7 +215,10 @@ pub some_marks : (cast : Cast) (schedule : List Turns) → NobodyHeld cast → (
 some_marks cast schedule free =
     let begun : length (first_moment cast).loads ≡ length cast.passings = length-map cast.passings (λ _. []) in
     let room : length (scheduled cast schedule).loads ≡ length (first_moment cast).loads = lines_length cast schedule (first_moment cast) in
-    let out = all_run_out cast free (length cast.passings) 1 (scheduled cast schedule) (omega arith) (omega arith) in
+    let out = all_run_out (moment_rules cast) (length cast.passings) (λ m. length m.loads ≡ length cast.passings)
+    (λ thread m some few long. ends_behind cast thread (free thread) (left_at cast thread m) m (omega (arith, some, few, long)) (omega arith))
+    (λ thread n m long. turns_length cast thread n m ∙ long)
+    (length cast.passings) 1 (scheduled cast schedule) (omega arith) (omega arith) (room ∙ begun) in
     (marks_at cast out.0, (out.0, out.1, refl))
 
 -- so it does if its script has no line at which a thread or the patcher may wait

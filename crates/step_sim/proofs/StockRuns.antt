@@ -17,9 +17,10 @@ use Rattle.traced_run.specs.Runs.{ThreadRun}
 use Rattle.step_sim.specs.declared.turns.Turns.{Turns}
 use Rattle.step_sim.specs.declared.turns.Turns.TheVariants.{Thread, Patcher}
 use Rattle.step_sim.specs.Pool.{AllPooledRunOut, Fresh, Item, Pooled, Pooling, Segment, Stock, first_stock, pooled_line, pooled_step, pooled_turn, queued, segments_among, serials_of, stock_behind}
-use Rattle.step_sim.specs.Holding.{below, segments_in}
-use Rattle.step_sim.specs.Recording.{Recording, histories}
-use Rattle.step_sim.specs.Replay.{Cast, of_thread, thread_turn, turns}
+use Rattle.step_sim.specs.private.Holding.{below, segments_in}
+use Rattle.step_sim.specs.private.Recording.{Recording, histories}
+use Rattle.step_sim.specs.Plays.{turns}
+use Rattle.step_sim.specs.Replay.{Cast, of_thread, thread_turn}
 use Rattle.step_sim.specs.Schedules.{AreTurnsOf}
 use Rattle.step_sim.proofs.Counting.{IsItemOf, IsSegmentOf, all_segments, first_segments, fresh_serials, front_items, pushed_items, segment_items, summed, summed_among, summed_runs}
 use Rattle.step_sim.proofs.EndedRuns.{IsRunOf}

@@ -3,7 +3,9 @@ use Rattle.std.proofs.Common.{◌≡◌, ◌≢◌, ℕ, zero, suc, ◌+◌, ◌
 use Rattle.std.proofs.lemmas.List.{length-set}
 use Rattle.patch_script.specs.CodeAt.{code_at}
 use Rattle.patch_script.specs.Micros.{total_of}
-use Rattle.step_sim.specs.Replay.{AllRunOut, Cast, Moment, RunsOut, of_thread, patcher_turn, thread_turn, turns, wanted_by}
+use Rattle.step_sim.specs.Plays.{turns}
+use Rattle.step_sim.specs.Replay.{Cast, Moment, of_thread, patcher_turn, thread_turn, wanted_by}
+use Rattle.step_sim.proofs.Plays.{turns_still}
 use Rattle.step_sim.proofs.ReplayAlong.{set_other, set_same, thread_stays, turn_with, turn_without}
 
 abbrev pub Turn : Type 0
@@ -19,11 +21,6 @@ turns_add (suc a) b turn m =
 
 pub turns_more : (n : ℕ) (turn : Turn) (m : Moment) → turns (n + 1) turn m ≡ turn (turns n turn m)
 turns_more n turn m = turns_add n 1 turn m
-
--- a turn that does nothing does nothing when it is repeated
-pub turns_still : (n : ℕ) (turn : Turn) (m : Moment) → turn m ≡ m → turns n turn m ≡ m
-turns_still zero turn m e = refl
-turns_still (suc n) turn m e = ap (turns n turn) e ∙ turns_still n turn m e
 
 -- turns are those up to one that does nothing
 pub turns_up_to : (made count : ℕ) (turn : Turn) (m : Moment) → made ≤ count → turn (turns made turn m) ≡ turns made turn m
@@ -79,20 +76,6 @@ pub turns_other : (cast : Cast) (thread other n : ℕ) (m : Moment) → 0 < thre
 turns_other cast thread other n m some some_other apart =
     turns_hold (λ (x : Moment). of_thread x.loads other ≡ of_thread m.loads other) (thread_turn cast thread)
     (λ x e. turn_other cast thread other x some some_other apart ∙ e) n m refl
-
--- ---- threads that run out
-
--- one more thread runs out
-pub run_out_more : (cast : Cast) (n thread : ℕ) (before mid after : Moment) → AllRunOut cast n thread before mid
-    → RunsOut cast (thread + n) mid after → AllRunOut cast (n + 1) thread before after
-run_out_more cast zero thread before mid after e run =
-    let here : thread + zero ≡ thread = omega arith in
-    (after, subst (λ (k : ℕ). RunsOut cast k before after) here (subst (λ (x : Moment). RunsOut cast (thread + zero) x after) e run), refl)
-run_out_more cast (suc n) thread before mid after (first, runs, rest) run =
-    let here : thread + suc n ≡ thread + 1 + n = omega arith in
-    let count : suc n + 1 ≡ suc (n + 1) = omega arith in
-    subst (λ (k : ℕ). AllRunOut cast k thread before after) (sym count)
-    (first, runs, run_out_more cast n (thread + 1) first mid after rest (subst (λ (k : ℕ). RunsOut cast k mid after) here run))
 
 -- ---- the patcher's turns
 

@@ -1,14 +1,11 @@
+pub mod Plays
 pub mod Replay
 pub mod Pool
 pub mod Recorded
-pub mod Holding
-pub mod Recording
 pub mod Along
 pub mod Schedules
-pub mod Readings
 pub mod Replayed
-pub mod Standing
 pub mod Starts
-pub mod Starting
 pub mod FaultWords
 pub mod WrittenSchedules
+pub mod private

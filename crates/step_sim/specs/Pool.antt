@@ -1,9 +1,9 @@
 -- The replay of a schedule with a queue of buffers, over the moments of the replay: what is in the queue, and what was
 -- taken away from it.
-use Rattle.std.specs.Prelude.{◌≡◌, ◌+◌, ◌-◌, ◌&&◌, ◌==◌, ℕ, zero, suc, nat_lt, List, [], ◌∷◌, ◌++◌, length, take, drop, fold, replicate, None, if◌then◌else◌}
+use Rattle.std.specs.Prelude.{◌≡◌, ◌+◌, ◌-◌, ◌&&◌, ◌==◌, ℕ, nat_lt, List, [], ◌∷◌, ◌++◌, length, take, drop, replicate, if◌then◌else◌}
 use Rattle.step_sim.specs.declared.turns.Turns.{Turns}
-use Rattle.step_sim.specs.declared.turns.Turns.TheVariants.{Thread, Patcher}
-use Rattle.step_sim.specs.Replay.{Cast, Moment, first_moment, patcher_turn, thread_turn, turns, wanted_by}
+use Rattle.step_sim.specs.Plays.{Plays, Rules, ThreadRunsOut, ThreadsRunOut, line_played, lines_played}
+use Rattle.step_sim.specs.Replay.{Cast, Moment, first_moment, patcher_turn, thread_turn, wanted_by}
 
 -- what a queued buffer holds: nothing yet, or a segment of a thread, by the segment's number from 0
 pub data Item : Type 0 where
@@ -58,30 +58,32 @@ pooled_turn cast pooling thread pooled = record { moment = after; stock = stock_
 abbrev pub pooled_step : Cast → Pooled → Pooled
 pooled_step cast pooled = record pooled { moment = patcher_turn cast pooled.moment }
 
+-- what a replay plays with its moments and its buffers
+abbrev pub pooled_rules : Cast → Pooling → Rules Pooled
+pooled_rules cast pooling = record {
+  thread = pooled_turn cast pooling;
+  patcher = pooled_step cast;
+  wanted = λ thread pooled. wanted_by cast thread pooled.moment;
+}
+
 -- the turns of a line of the schedule, and of all its lines
 abbrev pub pooled_line : Cast → Pooling → Pooled → Turns → Pooled
-pooled_line cast pooling pooled (Thread thread count) = turns count (pooled_turn cast pooling thread) pooled
-pooled_line cast pooling pooled (Patcher count) = turns count (pooled_step cast) pooled
+pooled_line cast pooling = line_played (pooled_rules cast pooling)
 
 abbrev pub pooled_lines : Cast → Pooling → List Turns → Pooled
-pooled_lines cast pooling schedule = fold (pooled_line cast pooling) (first_pooled cast pooling) schedule
+pooled_lines cast pooling schedule = lines_played (pooled_rules cast pooling) (first_pooled cast pooling) schedule
 
--- a thread runs out: it makes as many turns as bring it to its end
+-- a thread runs out, and so do n threads from a thread on
 abbrev pub PooledRunsOut : Cast → Pooling → ℕ → Pooled → Pooled → Type 0
-PooledRunsOut cast pooling thread before after =
-    (n : ℕ) × (after ≡ turns n (pooled_turn cast pooling thread) before) × (wanted_by cast thread after.moment ≡ None)
+PooledRunsOut cast pooling = ThreadRunsOut (pooled_rules cast pooling)
 
--- n threads run out, one after the other, from a thread on
 abbrev pub AllPooledRunOut : Cast → Pooling → ℕ → ℕ → Pooled → Pooled → Type 0
-AllPooledRunOut cast pooling zero thread before after = after ≡ before
-AllPooledRunOut cast pooling (suc n) thread before after =
-    (mid : Pooled) × PooledRunsOut cast pooling thread before mid × AllPooledRunOut cast pooling n (thread + 1) mid after
+AllPooledRunOut cast pooling = ThreadsRunOut (pooled_rules cast pooling)
 
--- Where a schedule leaves a replay with buffers. After its lines, in order, each thread has run out, thread 1 first.
--- The micro steps that are left change no buffer.
+-- Where a schedule leaves a replay with buffers. The micro steps that are left change no buffer.
 abbrev pub PooledReplay : Cast → Pooling → List Turns → Pooled → Type 0
 PooledReplay cast pooling schedule last =
-    AllPooledRunOut cast pooling (length cast.passings) 1 (pooled_lines cast pooling schedule) last
+    Plays (pooled_rules cast pooling) (length cast.passings) (first_pooled cast pooling) schedule last
 
 -- the numbers of the segments of a thread among items, in order
 abbrev pub serials_of : ℕ → List Item → List ℕ

@@ -1,5 +1,5 @@
 -- The replay of a schedule: turns that change a place of the script and a list of loads for each thread.
-use Rattle.std.specs.Prelude.{◌≡◌, ℕ, zero, suc, ◌+◌, ◌-◌, min, List, [], ◌∷◌, ◌++◌, length, Option, Some, None, map, fold, unwrap_or, slice_get, slice_set}
+use Rattle.std.specs.Prelude.{◌≡◌, ℕ, ◌+◌, ◌-◌, min, List, [], ◌∷◌, ◌++◌, length, Option, Some, None, map, unwrap_or, slice_get, slice_set}
 use Rattle.std.specs.List.{enumerate_from}
 use Rattle.xray_image.specs.Program.{Program}
 use Rattle.patch_script.specs.declared.command.Command.{Command}
@@ -8,7 +8,7 @@ use Rattle.patch_script.specs.CodeAt.{code_at}
 use Rattle.handler_word.specs.declared.mark.Mark.{Mark}
 use Rattle.machine_step.specs.Loads.{Load, next_load, marks_of}
 use Rattle.step_sim.specs.declared.turns.Turns.{Turns}
-use Rattle.step_sim.specs.declared.turns.Turns.TheVariants.{Thread, Patcher}
+use Rattle.step_sim.specs.Plays.{Plays, Rules, ThreadRunsOut, ThreadsRunOut, line_played, lines_played}
 
 -- what a replay knows of the threads and the script: the sleds that each thread passes, in the order of the threads
 pub record Cast : Type 0 where
@@ -54,29 +54,23 @@ thread_turn cast thread moment = loaded (wanted_by cast thread moment)
 abbrev pub patcher_turn : Cast → Moment → Moment
 patcher_turn cast moment = record moment { place = min (moment.place + 1) (total_of cast.program cast.script) }
 
--- n turns
-abbrev pub turns : {X : Type 0} → ℕ → (X → X) → X → X
-turns zero turn moment = moment
-turns (suc n) turn moment = turns n turn (turn moment)
+-- what a replay plays with its moments
+abbrev pub moment_rules : Cast → Rules Moment
+moment_rules cast = record { thread = thread_turn cast; patcher = patcher_turn cast; wanted = wanted_by cast }
 
 -- the turns of a line of the schedule, and of all its lines
 abbrev pub line_turns : Cast → Moment → Turns → Moment
-line_turns cast moment (Thread thread count) = turns count (thread_turn cast thread) moment
-line_turns cast moment (Patcher count) = turns count (patcher_turn cast) moment
+line_turns cast = line_played (moment_rules cast)
 
 abbrev pub scheduled : Cast → List Turns → Moment
-scheduled cast schedule = fold (line_turns cast) (first_moment cast) schedule
+scheduled cast schedule = lines_played (moment_rules cast) (first_moment cast) schedule
 
--- a thread runs out: it makes as many turns as bring it to its end
+-- a thread runs out, and so do n threads from a thread on
 abbrev pub RunsOut : Cast → ℕ → Moment → Moment → Type 0
-RunsOut cast thread before after =
-    (n : ℕ) × (after ≡ turns n (thread_turn cast thread) before) × (wanted_by cast thread after ≡ None)
+RunsOut cast = ThreadRunsOut (moment_rules cast)
 
--- n threads run out, one after the other, from a thread on
 abbrev pub AllRunOut : Cast → ℕ → ℕ → Moment → Moment → Type 0
-AllRunOut cast zero thread before after = after ≡ before
-AllRunOut cast (suc n) thread before after =
-    (mid : Moment) × RunsOut cast thread before mid × AllRunOut cast n (thread + 1) mid after
+AllRunOut cast = ThreadsRunOut (moment_rules cast)
 
 -- the marks of each thread
 abbrev pub marks_at : Cast → Moment → List (List Mark)
@@ -86,8 +80,7 @@ marks_at cast moment = map marks_of_thread (enumerate_from 1 cast.passings)
     marks_of_thread (thread, sleds) =
         marks_of cast.program thread (hold_of thread cast.script) sleds (of_thread moment.loads thread)
 
--- The marks of the threads that a schedule leaves. Its lines come in order. After them each thread runs out, thread 1
--- first. Then the patcher makes the micro steps that are left, which change no mark.
+-- The marks of the threads that a schedule leaves. The micro steps that are left change no mark.
 abbrev pub Replay : Cast → List Turns → List (List Mark) → Type 0
 Replay cast schedule marks =
-    (last : Moment) × AllRunOut cast (length cast.passings) 1 (scheduled cast schedule) last × (marks ≡ marks_at cast last)
+    (last : Moment) × Plays (moment_rules cast) (length cast.passings) (first_moment cast) schedule last × (marks ≡ marks_at cast last)

@@ -1,5 +1,5 @@
 -- The runs that a schedule leaves, and what a replay leaves of them.
-use Rattle.std.specs.Prelude.{◌≡◌, ◌-◌, ℕ, List, map}
+use Rattle.std.specs.Prelude.{◌≡◌, ◌+◌, ◌-◌, ℕ, List, Some, map, slice_get}
 use Rattle.xray_image.specs.Program.{Program}
 use Rattle.patch_script.specs.declared.command.Command.{Command}
 use Rattle.fdr_buffer.specs.Filled.{Filled}
@@ -11,7 +11,7 @@ use Rattle.traced_run.specs.Left.{Leaves}
 use Rattle.traced_run.specs.Losses.{AreLost}
 use Rattle.traced_run.specs.Runs.{IsRun, ThreadRun}
 use Rattle.step_sim.specs.declared.turns.Turns.{Turns}
-use Rattle.step_sim.specs.Pool.{Pooled, PooledReplay, Pooling, segments_among}
+use Rattle.step_sim.specs.Pool.{Pooled, PooledReplay, Pooling, Stock, segments_among, serials_of}
 use Rattle.step_sim.specs.Recorded.{numbers_from, pooling_of}
 use Rattle.step_sim.specs.Replay.{Cast, marks_at}
 
@@ -43,6 +43,14 @@ pub record IsReplayOf (program : Program) (script : List Command) (schedule : Li
   pub replay : PooledReplay (cast_with program script runs) (pooling_with program script setup runs) schedule last
   pub marks : map (λ run. run.marks) runs ≡ marks_at (cast_with program script runs) last.moment
   pub lost : map (λ run. run.lost) runs ≡ map (λ thread. segments_among thread last.stock.taken) (numbers_from 1 setup.threads)
+
+-- The segments of each thread whose buffers were taken away are its oldest ones, in their order: those with the numbers
+-- from 0 up to the number of its lost segments. The others are in the queue, in their order, except the last one, which
+-- the thread holds.
+pub record LoseOldest (size : ℕ) (runs : List ThreadRun) (stock : Stock) : Type 0 where
+  pub taken : (i : ℕ) (run : ThreadRun) → slice_get runs i ≡ Some run → serials_of (i + 1) stock.taken ≡ numbers_from 0 run.lost
+  pub left : (i : ℕ) (run : ThreadRun) → slice_get runs i ≡ Some run
+      → serials_of (i + 1) stock.queue ≡ numbers_from run.lost (segment_count size run - 1 - run.lost)
 
 -- A replay leaves what the runs of its schedule leave: the threads; how many buffers each has put into the queue, how
 -- many segments it has, and how many of them are lost; and the buffers of those that are left. As many are lost as the

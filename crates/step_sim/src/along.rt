@@ -1,12 +1,20 @@
 //! Laws of the moments of a replay. Each law is the contract of a function that does nothing.
 
-ghost use Rattle.std.specs.Prelude.{◌≡◌, ◌<◌, ℕ, List, Some, Ok, All, length};
+ghost use Rattle.std.specs.Prelude.{◌≡◌, ◌<◌, ◌+◌, ℕ, List, Some, Ok, All, length, slice_get};
+ghost use Rattle.xray_image.specs.Program.{Program};
 ghost use Rattle.sled_words.specs.Allowed.{IsAllowed};
+ghost use Rattle.patch_script.specs.declared.command.Command.{Command};
 ghost use Rattle.patch_script.specs.CodeAt.{code_at};
+ghost use Rattle.patch_script.specs.Micros.{hold_of};
+ghost use Rattle.machine_step.specs.declared.setup.Setup.{Setup};
+ghost use Rattle.traced_run.specs.Decoded.{DecodesWhole};
+ghost use Rattle.traced_run.specs.Runs.{ThreadRun};
 ghost use Rattle.step_sim.specs.declared.turns.Turns.{Turns as Line};
 ghost use Rattle.step_sim.specs.Along.{IsAlong, NamesThread, TearsNoSled};
 ghost use Rattle.step_sim.specs.Schedules.{schedule_of};
-ghost use Rattle.step_sim.specs.Replay.{AllRunOut, Cast, Moment, first_moment, patcher_turn, scheduled, thread_turn, wanted_by};
+ghost use Rattle.step_sim.specs.Plays.{Plays};
+ghost use Rattle.step_sim.specs.Replay.{Cast, Moment, first_moment, moment_rules, of_thread, patcher_turn, thread_turn, wanted_by};
+ghost use Rattle.step_sim.specs.Replayed.{IsReplayOf};
 
 use machine_step::what_follows_is_allowed;
 use patch_script::each_script_keeps_sleds;
@@ -30,16 +38,19 @@ pub fn a_replay_reads_along()
 }
 
 /// No replay tears a sled, whatever the program, the script and the schedule are. When all threads
-/// have run out, each of their passings has decoded its sled whole.
+/// have run out, each of their passings has decoded its sled whole. A queue of buffers changes
+/// nothing.
 pub fn no_replay_tears_a_sled()
     ensures named { (cast : Cast) (schedule : List Line) (last : Moment) → All NamesThread schedule
-        → AllRunOut cast (length cast.passings) 1 (scheduled cast schedule) last
+        → Plays (moment_rules cast) (length cast.passings) (first_moment cast) schedule last
         → TearsNoSled cast last }
-    // Each text that is a schedule names only threads from 1 on.
-    ensures read { (cast : Cast) (threads : ℕ) (text : List ℕ) (schedule : List Line) (last : Moment)
-        → schedule_of threads text ≡ Ok schedule
-        → AllRunOut cast (length cast.passings) 1 (scheduled cast schedule) last
-        → TearsNoSled cast last }
+    // So it is with the runs that a text leaves which is a schedule: it names only threads from 1 on.
+    // These are the loads of the very moment at which the replay has left these runs.
+    ensures runs { (program : Program) (script : List Command) (text : List ℕ) (schedule : List Line)
+        (setup : Setup) (runs : List ThreadRun) → schedule_of setup.threads text ≡ Ok schedule
+        → (replay : IsReplayOf program script schedule setup runs) → (i : ℕ) (run : ThreadRun)
+        → slice_get runs i ≡ Some run
+        → DecodesWhole program (i + 1) (hold_of (i + 1) script) run (of_thread replay.last.moment.loads (i + 1)) }
 {
     a_replay_reads_along();
 }

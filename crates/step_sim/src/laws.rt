@@ -12,7 +12,7 @@ ghost use Rattle.traced_run.specs.Runs.{ThreadRun};
 ghost use Rattle.step_sim.specs.declared.turns.Turns.{Turns as Line};
 ghost use Rattle.step_sim.specs.Pool.{Pooled, PooledReplay, Pooling};
 ghost use Rattle.step_sim.specs.Replay.{Cast, Replay, marks_at};
-ghost use Rattle.step_sim.specs.Replayed.{IsReplayOf, spare_of};
+ghost use Rattle.step_sim.specs.Replayed.{IsReplayOf, LoseOldest, spare_of};
 ghost use Rattle.step_sim.specs.Schedules.{AreTurnsOf, schedule_of};
 
 use machine_step::{one_end, some_end};
@@ -92,4 +92,18 @@ pub fn a_replay_loses_few()
     ensures read { (program : Program) (script : List Command) (text : List ℕ) (schedule : List Line)
         (setup : Setup) (runs : List ThreadRun) → schedule_of setup.threads text ≡ Ok schedule
         → IsReplayOf program script schedule setup runs → AreLost setup.size (spare_of setup) runs }
+{}
+
+/// The segments that a replay loses are each thread's oldest, in their order. Buffers are taken from
+/// the front of the queue, and those of a thread stand in it in the order of its segments. So what
+/// is left of a thread is its last segments: those in the queue, and the one that it holds.
+pub fn lost_segments_are_the_oldest()
+    ensures named { (program : Program) (script : List Command) (schedule : List Line) (setup : Setup)
+        (runs : List ThreadRun) → All (AreTurnsOf setup.threads) schedule
+        → (replay : IsReplayOf program script schedule setup runs)
+        → LoseOldest setup.size runs replay.last.stock }
+    ensures read { (program : Program) (script : List Command) (text : List ℕ) (schedule : List Line)
+        (setup : Setup) (runs : List ThreadRun) → schedule_of setup.threads text ≡ Ok schedule
+        → (replay : IsReplayOf program script schedule setup runs)
+        → LoseOldest setup.size runs replay.last.stock }
 {}

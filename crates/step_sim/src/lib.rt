@@ -22,8 +22,8 @@ mod written;
 pub use along::{a_replay_reads_along, no_replay_tears_a_sled};
 pub use fault::ScheduleFault;
 pub use laws::{
-    a_replay_loses_few, buffers_change_no_replay, one_pooled_replay, one_replay, one_run,
-    some_replay, some_run,
+    a_replay_loses_few, buffers_change_no_replay, lost_segments_are_the_oldest, one_pooled_replay,
+    one_replay, one_run, some_replay, some_run,
 };
 pub use replay::SimEnd;
 pub use schedule::{Schedule, read_schedule};

@@ -2,7 +2,7 @@
 
 ghost use Rattle.std.specs.Prelude.{◌≡◌, IfOk, IfSome};
 ghost use Rattle.step_sim.specs.Schedules.{decided, line_faults, line_turns, loads_of, said_by, said_faults, steps_of, turns_said, AreTurnsOf};
-ghost use Rattle.step_sim.specs.Readings.{listed};
+ghost use Rattle.step_sim.specs.private.Readings.{listed};
 
 use crate::fault::ScheduleFault;
 use crate::turns::Turns;

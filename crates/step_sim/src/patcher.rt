@@ -27,7 +27,7 @@ pub(crate) struct Patcher<'a> {
 impl<'a> Patcher<'a> {
     ghost use Rattle.sled_words.specs.Words.{word_count};
     ghost use Rattle.patch_script.specs.CodeAt.{code_at};
-    ghost use Rattle.step_sim.specs.Standing.{IsPatcherAt};
+    ghost use Rattle.step_sim.specs.private.Standing.{IsPatcherAt};
 
     /// The words as they are when the threads start: after the script's steps before `go`.
     pub(crate) fn new(

@@ -46,8 +46,8 @@ pub(crate) struct Left {
 impl Pool {
     ghost use Rattle.step_sim.specs.Pool.{first_stock};
     ghost use Rattle.traced_run.specs.Kept.{stamp_of};
-    ghost use Rattle.step_sim.specs.Holding.{CanNote, IsFull, NotesEvent, PoolHolds};
-    ghost use Rattle.step_sim.specs.Recording.{NotesAny};
+    ghost use Rattle.step_sim.specs.private.Holding.{CanNote, IsFull, NotesEvent, PoolHolds};
+    ghost use Rattle.step_sim.specs.private.Recording.{NotesAny};
 
     /// The buffers before the first event. None of them is begun.
     pub(crate) fn new(alloc: Global, setup: &Setup) -> Result<Pool, NoMemory>

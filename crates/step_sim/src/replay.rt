@@ -4,9 +4,9 @@ ghost use Rattle.std.specs.Prelude.{◌≡◌, ℕ, All, fold, length};
 ghost use Rattle.machine_step.specs.declared.limits.Limits.{Limits};
 ghost use Rattle.step_sim.specs.Replay.{AllRunOut, Cast, Moment, line_turns};
 ghost use Rattle.step_sim.specs.Pool.{AllPooledRunOut, Pooled};
-ghost use Rattle.step_sim.specs.Recording.{AllRecord, AllRecordAt, Recording, line_in, pooling_in};
+ghost use Rattle.step_sim.specs.private.Recording.{AllRecord, AllRecordAt, Recording, line_in, pooling_in};
 ghost use Rattle.step_sim.specs.Schedules.{AreTurnsOf};
-ghost use Rattle.step_sim.specs.Standing.{AllPlay, AllStandAt, Rests};
+ghost use Rattle.step_sim.specs.private.Standing.{AllPlay, AllStandAt, Rests};
 
 use crate::patcher::Patcher;
 use crate::pool::Pool;

@@ -6,7 +6,7 @@ ghost use Rattle.patch_script.specs.Refusals.{commands_of};
 ghost use Rattle.step_sim.specs.declared.sim_fault.SimFault.TheVariants.{Waits};
 ghost use Rattle.step_sim.specs.Replayed.{IsSimulated};
 ghost use Rattle.step_sim.specs.Schedules.{AreTurnsOf};
-ghost use Rattle.step_sim.specs.Standing.{AllHaveBegun};
+ghost use Rattle.step_sim.specs.private.Standing.{AllHaveBegun};
 
 use crate::patcher::Patcher;
 use crate::pool::{Left, Pool, room_for};
@@ -43,7 +43,7 @@ impl<'a, 's> Model for SimStart<'a, 's> {
 
     ghost Value = { Start };
 
-    ghost use Rattle.step_sim.specs.Starting.{start_in, IsAtStart};
+    ghost use Rattle.step_sim.specs.private.Starting.{start_in, IsAtStart};
 
     ghost view = { start_in };
 

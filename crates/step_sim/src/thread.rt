@@ -7,10 +7,11 @@ ghost use Rattle.machine_step.specs.declared.want.Want.{Want};
 ghost use Rattle.machine_step.specs.Loads.{Load};
 ghost use Rattle.machine_step.specs.PlainStep.{Passing};
 ghost use Rattle.machine_step.specs.Traced.{HasLoaded, IsGate, IsSameThread, loads_left};
-ghost use Rattle.step_sim.specs.Replay.{Cast, Moment, RunsOut, thread_turn, turns};
-ghost use Rattle.step_sim.specs.Standing.{HasBegun, Play, Rests, StandAt};
+ghost use Rattle.step_sim.specs.Plays.{turns};
+ghost use Rattle.step_sim.specs.Replay.{Cast, Moment, RunsOut, thread_turn};
+ghost use Rattle.step_sim.specs.private.Standing.{HasBegun, Play, Rests, StandAt};
 ghost use Rattle.step_sim.specs.Pool.{Pooled, PooledRunsOut};
-ghost use Rattle.step_sim.specs.Recording.{RecordAt, Recording, Records, pooling_in, turn_in};
+ghost use Rattle.step_sim.specs.private.Recording.{RecordAt, Recording, Records, pooling_in, turn_in};
 
 use crate::along::a_replay_reads_along;
 use crate::patcher::Patcher;

@@ -1,1 +1,1 @@
-pub mod Fetchers
+pub mod private

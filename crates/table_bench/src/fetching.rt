@@ -4,7 +4,7 @@ ghost use Rattle.std.specs.Prelude.{◌≡◌, ◌+◌, ◌<◌, ◌≤◌, All,
 ghost use Rattle.std.specs.Thread.{IsSync};
 ghost use Rattle.sled_rule.specs.Plans.{start_in};
 ghost use Rattle.sled_rule.specs.Seats.{patch_view, script_of, work_view, IsPatcherOf, IsWorkerOf};
-ghost use Rattle.table_bench.specs.Fetchers.{IsFresh};
+ghost use Rattle.table_bench.specs.private.Fetchers.{IsFresh};
 
 use sled_patch::run_script;
 use sled_rule::{CodeTable, PatchSeat, WorkSeat};

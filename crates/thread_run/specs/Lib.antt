@@ -4,4 +4,4 @@ pub mod Workers
 pub mod Buffers
 pub mod Rings
 pub mod Runs
-pub mod Rooms
+pub mod private

@@ -10,7 +10,7 @@ ghost use Rattle.sled_rule.specs.Views.{first_patch};
 ghost use Rattle.thread_run.specs.Buffers.{is_begun};
 ghost use Rattle.thread_run.specs.Rings.{buffers_in, segments_begun, StandsFor};
 ghost use Rattle.thread_run.specs.Runs.{share_of, AreWorkersOfRun, HaveRunBeside};
-ghost use Rattle.thread_run.specs.Rooms.{IsRoom};
+ghost use Rattle.thread_run.specs.private.Rooms.{IsRoom};
 ghost use Rattle.thread_run.specs.Workers.{cpu_of, recorder_of, IsGoing};
 
 use crate::recorder::RingRecorder;

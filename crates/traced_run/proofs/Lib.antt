@@ -2,3 +2,4 @@ pub mod Oldest
 pub mod SmallIds
 pub mod FitPassings
 pub mod FitBuffers
+pub mod SomeLosses

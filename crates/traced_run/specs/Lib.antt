@@ -1,4 +1,5 @@
 pub mod Runs
+pub mod Decoded
 pub mod Kept
 pub mod Losses
 pub mod Left

@@ -1,5 +1,5 @@
 -- How many segments of a run are lost.
-use Rattle.std.specs.Prelude.{◌≡◌, ◌<◌, ◌-◌, ℕ, List, All, sum_by}
+use Rattle.std.specs.Prelude.{◌≡◌, ◌<◌, ◌-◌, ℕ, List, All, map, sum_by}
 use Rattle.traced_run.specs.Runs.{ThreadRun}
 use Rattle.traced_run.specs.Kept.{segment_count}
 
@@ -19,3 +19,10 @@ pub record LosesFew (size : ℕ) (runs : List ThreadRun) : Type 0 where
 pub record AreLost (size spare : ℕ) (runs : List ThreadRun) : Type 0 where
   pub few : LosesFew size runs
   pub recycled : recycled_of runs ≡ sum_by (λ run. segment_count size run - 1) runs - spare
+
+-- a thread, and all threads of a run, as if no segment was lost
+abbrev pub without_loss : ThreadRun → ThreadRun
+without_loss run = record run { lost = 0 }
+
+abbrev pub without_losses : List ThreadRun → List ThreadRun
+without_losses runs = map without_loss runs

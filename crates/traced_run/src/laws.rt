@@ -10,14 +10,16 @@ ghost use Rattle.machine_step.specs.declared.setup.Setup.{Setup};
 ghost use Rattle.machine_step.specs.PlainStep.{Passing, PlainRun, State};
 ghost use Rattle.traced_run.specs.Fits.{PassingFits, SetupFits};
 ghost use Rattle.traced_run.specs.Kept.{kept_buffers, kept_of, segments_of};
-ghost use Rattle.traced_run.specs.Losses.{recycled_of};
+ghost use Rattle.traced_run.specs.Losses.{AreLost, recycled_of, without_losses};
 ghost use Rattle.traced_run.specs.Runs.{IsRun, ThreadRun, events_of};
 
 use fdr_buffer::{a_body_has_room, segments_hold_all};
 
-/// The segments of a thread that are lost are its oldest. Their events, and then those of the
-/// segments that are left, are all events that the thread's marks record.
-pub fn lost_segments_are_the_oldest()
+/// No event of a thread falls between its segments. The events of as many of the first segments as
+/// are lost, and then those of the segments that are left, are all events that its marks record.
+/// That the first ones are those that are lost is said where a run is made: of a replay it is the
+/// law `lost_segments_are_the_oldest` of `step_sim`.
+pub fn lost_and_left_segments_hold_all()
     ensures { (size : ℕ) (run : ThreadRun)
         → flat_map (λ s. s) (take run.lost (segments_of size run)) ++ flat_map (λ s. s) (kept_of size run)
         ≡ events_of run }
@@ -58,3 +60,10 @@ pub fn a_run_fits_its_buffers()
     segments_hold_all();
     a_body_has_room();
 }
+
+/// However many spare buffers the threads of a run share, some losses of theirs are those of a queue
+/// with these buffers.
+pub fn some_losses_are_of_a_queue()
+    ensures { (size spare : ℕ) (runs : List ThreadRun)
+        → (others : List ThreadRun) × (without_losses others ≡ without_losses runs) × AreLost size spare others }
+{}

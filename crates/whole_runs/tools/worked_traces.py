@@ -304,9 +304,10 @@ NESTED = calls((ENTERED, 1, 0), (ENTERED, 2, 1), (LEFT, 2, 2), (ENTERED, 3, 0), 
 LONG_NAME = "n" * 255
 
 REPORTS = [
+    # Cut anywhere, the header is short, or the first block is. Cut between them, the header stands alone.
     *(
-        reported(f"a trace of {size} bytes", CUT[:size], refused("account t", f"t: trace Short {place}"))
-        for size, place in ((31, 0), (40, 32), (100, 32))
+        reported(f"a trace of {size} bytes", CUT[:size], refused("account t", f"t: trace Short {0 if size < 32 else 32}"))
+        for size in range(len(CUT)) if size != 32
     ),
     reported("a header alone", CUT[:32], Run("account t", f"Functions with latencies: 0 / {TEXT_HEAD}")),
     reported(

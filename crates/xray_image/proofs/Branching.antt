@@ -10,7 +10,7 @@ use Rattle.subset_decode.specs.declared.instr.Instr.{Instr}
 use Rattle.subset_decode.specs.Encoding.{spelling}
 use Rattle.xray_image.specs.declared.unit.Unit.{Unit}
 use Rattle.xray_image.specs.declared.unit.What.TheVariants.{Plain}
-use Rattle.xray_image.specs.Index.{AreWithin}
+use Rattle.xray_image.specs.private.Index.{AreWithin}
 use Rattle.xray_image.specs.Program.{addresses, branch_target, BranchReaches}
 use Rattle.xray_image.specs.Table.{BranchesRightly}
 

@@ -5,12 +5,12 @@ use Rattle.std.specs.List.{last_or, AllWithin}
 use Rattle.std.specs.Int.{w32}
 use Rattle.std.specs.List.Sorted.{IsStrictlyIncreasing}
 use Rattle.std.proofs.lemmas.Simd.{map-map}
-use Rattle.xray_image.specs.Judging.{Ascend}
+use Rattle.xray_image.specs.private.Judging.{Ascend}
 use Rattle.xray_image.specs.declared.parts.FunctionEntry.{FunctionEntry}
 use Rattle.xray_image.specs.Units.{SledPlace}
 use Rattle.xray_image.specs.Container.{Function, MapEntry}
 use Rattle.xray_image.specs.Program.{Trampolines, trampoline_of, kind_of, Reaches}
-use Rattle.xray_image.specs.Views.{function_of}
+use Rattle.xray_image.specs.private.Views.{function_of}
 use Rattle.xray_image.proofs.FunctionRows.{zero_function}
 
 -- the start of the last of the first n functions

@@ -15,13 +15,13 @@ use Rattle.xray_image.specs.declared.unit.Unit.{Unit}
 use Rattle.xray_image.specs.Units.{Piece, Instruction, JumpSled, ReturnSled, Align, piece_bytes, SledPlace, units_from, places_from}
 use Rattle.xray_image.specs.Container.{Parts, base_address, entry_index, number8_at, parts_of}
 use Rattle.xray_image.specs.Header.{HasHeader}
-use Rattle.xray_image.specs.Index.{AreWithin}
-use Rattle.xray_image.specs.Judging.{IsJudged}
+use Rattle.xray_image.specs.private.Index.{AreWithin}
+use Rattle.xray_image.specs.private.Judging.{IsJudged}
 use Rattle.xray_image.specs.Program.{Program, Trampolines, addresses, sled_of, program_of, IsAccepted}
-use Rattle.xray_image.specs.Reading.{HasUnits}
+use Rattle.xray_image.specs.private.Reading.{HasUnits}
 use Rattle.xray_image.specs.Table.{Verdict, StandUpTo, StopsAt, NeedsUnits, ReadsProgram, ReadsParts, ReadsAs}
-use Rattle.xray_image.specs.UnitTable.{units_in}
-use Rattle.xray_image.specs.Views.{entry_of, function_of, place_of, places_in, parts_of_view, program_read, trampolines_of, IsHeaderOf}
+use Rattle.xray_image.specs.private.UnitTable.{units_in}
+use Rattle.xray_image.specs.private.Views.{entry_of, function_of, place_of, places_in, parts_of_view, program_read, trampolines_of, IsHeaderOf}
 use Rattle.xray_image.proofs.Acceptance.{parts_count, code_short}
 use Rattle.xray_image.proofs.Accepts.{accepted}
 use Rattle.xray_image.proofs.FileParts.{Rows}

@@ -21,10 +21,10 @@ use Rattle.std.proofs.lemmas.List.Elements.{All-nil, All-cons, All-head, All-tai
 use Rattle.xray_image.specs.declared.parts.FunctionEntry.{FunctionEntry}
 use Rattle.xray_image.specs.declared.unit.Unit.{Unit}
 use Rattle.xray_image.specs.Container.{Function}
-use Rattle.xray_image.specs.Judging.{IsAbove, StandsBehind, is_among}
+use Rattle.xray_image.specs.private.Judging.{IsAbove, StandsBehind, is_among}
 use Rattle.xray_image.specs.Program.{BeginsBehind, IsFunction, addresses}
 use Rattle.xray_image.specs.Table.{FunctionIsFit}
-use Rattle.xray_image.specs.Views.{function_of}
+use Rattle.xray_image.specs.private.Views.{function_of}
 use Rattle.xray_image.proofs.Scans.{item_at}
 use Rattle.xray_image.proofs.Naming.{last_taken}
 

@@ -9,7 +9,7 @@ use Rattle.xray_image.specs.declared.header.Header.{Header}
 use Rattle.xray_image.specs.Container.{magic, version, code_length, function_count, entry_count, entry_index}
 use Rattle.xray_image.specs.Header.{HasHeader}
 use Rattle.xray_image.specs.Table.{Verdict, ReadsAs, ReadsParts}
-use Rattle.xray_image.specs.Views.{IsHeaderOf}
+use Rattle.xray_image.specs.private.Views.{IsHeaderOf}
 
 -- the first four bytes of bytes that start with the magic are the magic
 pub magic_is : (bytes : List ℕ) → true ≡ starts_with nat_eq bytes (0x58 ∷ 0x52 ∷ 0x49 ∷ 0x4D ∷ []) → magic bytes ≡ codes "XRIM"

@@ -17,13 +17,13 @@ use Rattle.xray_image.specs.declared.sled.Sled.{Sled}
 use Rattle.xray_image.specs.declared.unit.Unit.{Unit}
 use Rattle.xray_image.specs.Units.{SledPlace}
 use Rattle.xray_image.specs.Container.{Function, MapEntry}
-use Rattle.xray_image.specs.Ids.{AreNumbersOf}
-use Rattle.xray_image.specs.ImageView.{named_function}
-use Rattle.xray_image.specs.Judging.{IsJudged}
+use Rattle.xray_image.specs.private.Numbering.{AreNumbersOf}
+use Rattle.xray_image.specs.private.ImageView.{named_function}
+use Rattle.xray_image.specs.private.Judging.{IsJudged}
 use Rattle.xray_image.specs.Program.{Program, is_name_byte, distinct, sled_of}
 use Rattle.xray_image.specs.Table.{FunctionIsFit}
-use Rattle.xray_image.specs.UnitTable.{units_in}
-use Rattle.xray_image.specs.Views.{entry_of, function_of, place_of, places_in, program_read, trampolines_of}
+use Rattle.xray_image.specs.private.UnitTable.{units_in}
+use Rattle.xray_image.specs.private.Views.{entry_of, function_of, place_of, places_in, program_read, trampolines_of}
 use Rattle.xray_image.proofs.JudgedRows.{in_order, as_many}
 use Rattle.xray_image.proofs.Lying.{lines_known, lines_in_order}
 use Rattle.xray_image.proofs.Naming.{functions_ascend}

@@ -12,7 +12,7 @@ use Rattle.std.proofs.lemmas.Nat.{mod_below}
 use Rattle.xray_image.specs.declared.unit.Unit.{Unit}
 use Rattle.xray_image.specs.declared.unit_index.UnitIndex.{UnitIndex}
 use Rattle.xray_image.specs.Program.{addresses}
-use Rattle.xray_image.specs.Index.{AreWithin, IsNumbered, IsFirstOf, IsIndexOf, HasBegun, HasFirst}
+use Rattle.xray_image.specs.private.Index.{AreWithin, IsNumbered, IsFirstOf, IsIndexOf, HasBegun, HasFirst}
 
 -- the address of a unit that was read
 pub address_read : (units : List Unit) (i : ℕ) (u : Unit) → slice_get units i ≡ Some u → get_or (addresses units) i 0 ≡ u.address

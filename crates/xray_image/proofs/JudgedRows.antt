@@ -13,14 +13,14 @@ use Rattle.xray_image.specs.declared.parts.MapLine.{MapLine}
 use Rattle.xray_image.specs.declared.unit.Unit.{Unit}
 use Rattle.xray_image.specs.declared.unit_index.UnitIndex.{UnitIndex}
 use Rattle.xray_image.specs.Units.{SledPlace}
-use Rattle.xray_image.specs.UnitTable.{units_in}
+use Rattle.xray_image.specs.private.UnitTable.{units_in}
 use Rattle.xray_image.specs.Container.{MapEntry}
-use Rattle.xray_image.specs.Index.{IsIndexOf}
-use Rattle.xray_image.specs.Judging.{Ascend, IsJudged}
+use Rattle.xray_image.specs.private.Index.{IsIndexOf}
+use Rattle.xray_image.specs.private.Judging.{Ascend, IsJudged}
 use Rattle.xray_image.specs.Program.{Program, addresses, IsEntryOf, Reaches}
-use Rattle.xray_image.specs.Reading.{IsFirstFault}
+use Rattle.xray_image.specs.private.Reading.{IsFirstFault}
 use Rattle.xray_image.specs.Table.{FunctionIsFit, HasOneAddress, FitsAt, BranchesRightly, place_of_unit, ReadsProgram}
-use Rattle.xray_image.specs.Views.{entry_of, function_of, place_of, places_in, program_read, trampolines_of}
+use Rattle.xray_image.specs.private.Views.{entry_of, function_of, place_of, places_in, program_read, trampolines_of}
 use Rattle.xray_image.proofs.Naming.{functions_ascend}
 use Rattle.xray_image.proofs.Scans.{same_items}
 

@@ -13,7 +13,7 @@ use Rattle.xray_image.specs.declared.parts.MapLine.{MapLine}
 use Rattle.xray_image.specs.Units.{Piece, Instruction, JumpSled, ReturnSled, Align, SledPlace, places_from}
 use Rattle.xray_image.specs.Container.{Function, MapEntry}
 use Rattle.xray_image.specs.Program.{LiesIn, IsEntryOf, EachSled}
-use Rattle.xray_image.specs.Views.{entry_of, function_of}
+use Rattle.xray_image.specs.private.Views.{entry_of, function_of}
 use Rattle.xray_image.proofs.Placement.{places_above}
 use Rattle.xray_image.proofs.Numbering.{not_falling}
 

@@ -12,7 +12,7 @@ use Rattle.xray_image.specs.declared.sled.Sled.{Sled}
 use Rattle.xray_image.specs.declared.sled.SledKind.{SledKind}
 use Rattle.xray_image.specs.Container.{Function}
 use Rattle.xray_image.specs.Program.{is_name_byte, id_of, kind_of, sled_of}
-use Rattle.xray_image.specs.Views.{entry_of, function_of, place_of}
+use Rattle.xray_image.specs.private.Views.{entry_of, function_of, place_of}
 use Rattle.xray_image.proofs.FunctionRows.{zero_function}
 use Rattle.xray_image.proofs.Scans.{zero_spot, zero_line}
 

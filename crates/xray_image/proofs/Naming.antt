@@ -15,8 +15,9 @@ use Rattle.xray_image.specs.declared.unit.Unit.{Unit}
 use Rattle.xray_image.specs.declared.image.Function.{Function as Named}
 use Rattle.xray_image.specs.Container.{Function}
 use Rattle.xray_image.specs.Program.{Program, IsAccepted, AreFunctions, BeginsBehind}
-use Rattle.xray_image.specs.Ids.{sledded_functions, id_count, name_at, name_of, AreNumbersOf}
-use Rattle.xray_image.specs.ImageView.{named_function}
+use Rattle.xray_image.specs.Ids.{sledded_functions, id_count, name_at, name_of}
+use Rattle.xray_image.specs.private.Numbering.{AreNumbersOf}
+use Rattle.xray_image.specs.private.ImageView.{named_function}
 use Rattle.xray_image.proofs.Acceptance.{mapped}
 use Rattle.xray_image.proofs.Distinct.{distinct_few}
 use Rattle.xray_image.proofs.Numbering.{as_many}

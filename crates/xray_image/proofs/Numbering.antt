@@ -10,9 +10,9 @@ use Rattle.std.proofs.lemmas.List.Kept.{AllPairs-from_increasing}
 use Rattle.std.proofs.lemmas.Option.{slice_get-get_or, same_Some}
 use Rattle.std.proofs.Math.Seq.{take-suc}
 use Rattle.xray_image.specs.declared.parts.MapLine.{MapLine}
-use Rattle.xray_image.specs.Views.{entry_of}
+use Rattle.xray_image.specs.private.Views.{entry_of}
 use Rattle.xray_image.specs.Program.{distinct, id_of}
-use Rattle.xray_image.specs.Ids.{AreNumbersOf, IsBefore, HasCounted}
+use Rattle.xray_image.specs.private.Numbering.{AreNumbersOf, IsBefore, HasCounted}
 use Rattle.xray_image.proofs.Distinct.{first_number, new_number, old_number, place_of_number}
 
 -- ---- numbers of functions

@@ -12,8 +12,8 @@ use Rattle.xray_image.specs.declared.unit.What.{What}
 use Rattle.xray_image.specs.declared.unit.What.TheVariants as whats
 use Rattle.xray_image.specs.Units.{Piece, Instruction, JumpSled, ReturnSled, Align, piece_bytes, SledPlace, what_of, sleds_in, units_from, places_from}
 use Rattle.xray_image.specs.Program.{addresses}
-use Rattle.xray_image.specs.Index.{AreWithin}
-use Rattle.xray_image.specs.Reading.{HasUnits}
+use Rattle.xray_image.specs.private.Index.{AreWithin}
+use Rattle.xray_image.specs.private.Reading.{HasUnits}
 use Rattle.xray_image.specs.Layout.{width_of, AreContiguous}
 use Rattle.xray_image.specs.Table.{StandUpTo}
 use Rattle.xray_image.proofs.Pieces.{piece_has_byte}

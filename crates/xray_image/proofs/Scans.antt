@@ -10,7 +10,7 @@ use Rattle.xray_image.specs.declared.parts.MapLine.{MapLine}
 use Rattle.xray_image.specs.Units.{SledPlace}
 use Rattle.xray_image.specs.Container.{MapEntry}
 use Rattle.xray_image.specs.Table.{HasOneAddress, FitsAt}
-use Rattle.xray_image.specs.Views.{entry_of, place_of}
+use Rattle.xray_image.specs.private.Views.{entry_of, place_of}
 
 -- what holds below a number, and from it on, holds of each
 pub from_below : (C : ℕ → Type 0) (n : ℕ) → ((j : ℕ) → j < n → C j) → ((j : ℕ) → n ≤ j → C j) → (i : ℕ) → C i

@@ -8,9 +8,9 @@ use Rattle.xray_image.specs.declared.unit.Unit.{Unit}
 use Rattle.xray_image.specs.declared.unit_reader.NoUnit.{NoUnit}
 use Rattle.xray_image.specs.declared.unit_reader.NoUnit.TheVariants.{Sled, Code}
 use Rattle.xray_image.specs.Units.{Piece, Instruction, JumpSled, ReturnSled, Align, piece_bytes, SledPlace, what_of, sleds_in, units_from, places_from}
-use Rattle.xray_image.specs.Reading.{IsReadTo}
+use Rattle.xray_image.specs.private.Reading.{IsReadTo}
 use Rattle.xray_image.specs.Table.{StandsAt, StandUpTo, UnitFault, StopsAt}
-use Rattle.xray_image.specs.Views.{IsNoUnit, fault_at}
+use Rattle.xray_image.specs.private.Views.{IsNoUnit, fault_at}
 
 -- ---- what follows pieces begins where they end
 

@@ -14,7 +14,8 @@ use Rattle.xray_image.specs.declared.fault.ImageFault.{ImageFault}
 use Rattle.xray_image.specs.declared.fault.ImageFault.TheVariants as faults
 use Rattle.xray_image.specs.declared.fault.Which.TheVariants as limits
 use Rattle.xray_image.specs.declared.unit.Unit.{Unit}
-use Rattle.xray_image.specs.Units.{Piece, Instruction, JumpSled, ReturnSled, Align, IsPiece, IsSled, SledPlace, nop_bytes, piece_bytes, places_from}
+use Rattle.xray_image.specs.Units.{Piece, Instruction, JumpSled, ReturnSled, Align, IsPiece, SledPlace, nop_bytes, piece_bytes, places_from}
+use Rattle.xray_image.specs.private.SledPieces.{IsSled}
 use Rattle.xray_image.specs.Container.{Function, MapEntry, Parts, base_address, code_length, entry_count, entry_index, function_count, magic, parts_of, version}
 use Rattle.xray_image.specs.Program.{BranchReaches, IsEntryOf, IsFunction, Program, Reaches, program_of}
 use Rattle.xray_image.specs.Table.{BeginsAsSled, BranchesRightly, FitsAt, FunctionIsFit, HasOneAddress, Needs, NeedsEach, NeedsUnits, ReadsAs, ReadsParts, ReadsProgram, StandUpTo, StandsAt, UnitFault, Verdict, place_of_unit}

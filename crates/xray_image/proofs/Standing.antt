@@ -7,7 +7,7 @@ use Rattle.std.proofs.lemmas.List.Elements.{All-nil, All-cons, All-head, All-tai
 use Rattle.subset_decode.specs.declared.instr.Instr.{Instr}
 use Rattle.subset_decode.specs.Encoding.{spelling, IsNamed}
 use Rattle.xray_image.specs.Units.{Piece, Instruction, JumpSled, ReturnSled, Align, piece_bytes, IsPiece, IsUnits, places_from}
-use Rattle.xray_image.specs.Reading.{IsEven}
+use Rattle.xray_image.specs.private.Reading.{IsEven}
 use Rattle.xray_image.specs.Table.{BeginsAsSled, MayStand, StandsAt, StandUpTo}
 use Rattle.xray_image.proofs.Pieces.{OneInstruction, IsNoReturnSled, same_piece, piece_has_byte, opens, other_byte, return_alone}
 

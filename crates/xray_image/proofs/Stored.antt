@@ -11,7 +11,7 @@ use Rattle.xray_image.specs.declared.unit.What.{What}
 use Rattle.xray_image.specs.declared.unit.What.TheVariants.{Pad}
 use Rattle.xray_image.specs.Units.{Piece, what_of, units_from}
 use Rattle.xray_image.specs.Program.{addresses}
-use Rattle.xray_image.specs.UnitTable.{what_at, unit_at}
+use Rattle.xray_image.specs.private.UnitTable.{what_at, unit_at}
 
 -- ---- pairs
 

@@ -1,7 +1,8 @@
 -- Bytes that begin as a sled, and begin with no unit.
 use Rattle.std.proofs.Common.{◌≡◌, ◌≢◌, ℕ, ◌%◌, List, ◌∷◌, get_or, sym, ap, ◌∙◌, arith}
 use Rattle.subset_decode.specs.Encoding.{Begins}
-use Rattle.xray_image.specs.Units.{Piece, Instruction, JumpSled, ReturnSled, Align, IsSled, nop_bytes, piece_bytes}
+use Rattle.xray_image.specs.Units.{Piece, Instruction, JumpSled, ReturnSled, Align, nop_bytes, piece_bytes}
+use Rattle.xray_image.specs.private.SledPieces.{IsSled}
 use Rattle.xray_image.specs.Table.{BeginsAsSled, StandsAt}
 
 head_same : (x y : ℕ) (xs ys : List ℕ) → x ∷ xs ≡ y ∷ ys → x ≡ y

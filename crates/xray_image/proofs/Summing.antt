@@ -2,7 +2,7 @@
 use Rattle.std.proofs.Common.{◌≡◌, ℕ, zero, suc, ◌+◌, ◌-◌, ◌/◌, ◌<◌, ◌≤◌, List, [], ◌∷◌, ◌++◌, Some, length, get_or, refl, sym, ap, ◌∙◌, arith}
 use Rattle.std.specs.Prelude.{slice_get}
 use Rattle.std.proofs.lemmas.List.{get_or_default}
-use Rattle.xray_image.specs.RunningSums.{sums_from, AreSums, HasBegunBlock}
+use Rattle.xray_image.specs.private.RunningSums.{sums_from, AreSums, HasBegunBlock}
 
 pub length-sums : (firsts : List ℕ) (i : ℕ) (steps : List ℕ) → length (sums_from firsts i steps) ≡ length steps
 length-sums firsts i [] = refl

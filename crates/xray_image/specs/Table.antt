@@ -9,6 +9,7 @@ use Rattle.xray_image.specs.declared.fault.Which.TheVariants as limits
 use Rattle.xray_image.specs.declared.unit.Unit.{Unit}
 use Rattle.xray_image.specs.Units.{Piece, Instruction, JumpSled, ReturnSled, Align, IsPiece, piece_bytes, SledPlace, places_from}
 use Rattle.xray_image.specs.Container.{Function, MapEntry, magic, version, base_address, code_length, function_count, entry_count, entry_index, parts_of}
+use Rattle.xray_image.specs.Limits.{highest_base, most_code, most_functions, most_sleds}
 use Rattle.xray_image.specs.Program.{Program, IsFunction, IsEntryOf, Reaches, BranchReaches, addresses, program_of}
 
 -- what a file reads as: the program that it holds, or the reason why it is refused
@@ -127,9 +128,9 @@ ReadsAs bytes =
     Needs (64 ≤ length bytes) faults.Short
     (Needs (magic bytes ≡ codes "XRIM") faults.Magic
     (Needs (version bytes ≡ 1) faults.Version
-    (Needs (code_length bytes ≤ 1048576) (faults.Limit limits.Code)
-    (Needs ((0 < function_count bytes) × (function_count bytes ≤ 1024)) (faults.Limit limits.Functions)
-    (Needs (entry_count bytes ≤ 4096) (faults.Limit limits.Sleds)
+    (Needs (code_length bytes ≤ most_code) (faults.Limit limits.Code)
+    (Needs ((0 < function_count bytes) × (function_count bytes ≤ most_functions)) (faults.Limit limits.Functions)
+    (Needs (entry_count bytes ≤ most_sleds) (faults.Limit limits.Sleds)
     (Needs (entry_index bytes < function_count bytes) (faults.Limit limits.Entry)
-    (Needs ((base_address bytes % 16 ≡ 0) × (base_address bytes ≤ 0x7FFF00000000)) (faults.Limit limits.Base)
+    (Needs ((base_address bytes % 16 ≡ 0) × (base_address bytes ≤ highest_base)) (faults.Limit limits.Base)
     (ReadsParts bytes))))))))

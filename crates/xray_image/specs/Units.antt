@@ -35,13 +35,6 @@ IsPiece (JumpSled shift) = shift < 2 ^ 32
 IsPiece (ReturnSled shift) = shift < 2 ^ 32
 IsPiece Align = ⊤
 
--- a piece that is a sled
-abbrev pub IsSled : Piece → Type 0
-IsSled (Instruction instr) = ⊥
-IsSled (JumpSled shift) = ⊤
-IsSled (ReturnSled shift) = ⊤
-IsSled Align = ⊥
-
 -- the pieces are the whole code, one after the other
 pub record IsUnits (code : List ℕ) (pieces : List Piece) : Type 0 where
   pub whole : code ≡ flat_map piece_bytes pieces

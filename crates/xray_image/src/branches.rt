@@ -4,10 +4,10 @@ ghost use Rattle.std.specs.Prelude.{◌≡◌, ◌<◌, ◌^◌, ◌+◌, ◌↔
 ghost use Rattle.std.specs.Int.{w128};
 ghost use Rattle.subset_decode.specs.Encoding.{spelling};
 ghost use Rattle.xray_image.specs.declared.unit.Unit.{Unit};
-ghost use Rattle.xray_image.specs.Index.{AreWithin, IsIndexOf};
+ghost use Rattle.xray_image.specs.private.Index.{AreWithin, IsIndexOf};
 ghost use Rattle.xray_image.specs.Program.{addresses, branch_target, BranchReaches};
-ghost use Rattle.xray_image.specs.Reading.{IsFirstFault};
-ghost use Rattle.xray_image.specs.UnitTable.{units_in, IsSoundTable};
+ghost use Rattle.xray_image.specs.private.Reading.{IsFirstFault};
+ghost use Rattle.xray_image.specs.private.UnitTable.{units_in, IsSoundTable};
 ghost use Rattle.xray_image.specs.Table.{BranchesRightly, place_of_unit};
 
 use crate::fault::ImageFault;

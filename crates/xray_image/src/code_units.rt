@@ -2,10 +2,10 @@
 
 ghost use Rattle.std.specs.Prelude.{◌≡◌, ◌≤◌, ◌<◌, ◌^◌, ◌+◌, ◌⊎◌, [], ◌∷◌, ◌++◌, length, OnOk, IfOk, IfErr};
 ghost use Rattle.xray_image.specs.Units.{sleds_in, places_from};
-ghost use Rattle.xray_image.specs.Reading.{HasUnits, IsReadTo};
+ghost use Rattle.xray_image.specs.private.Reading.{HasUnits, IsReadTo};
 ghost use Rattle.xray_image.specs.Table.{StopsAt};
-ghost use Rattle.xray_image.specs.UnitTable.{unit_at, units_in, IsSoundTable};
-ghost use Rattle.xray_image.specs.Views.{piece_of, places_in, fault_at, AreTablesTo};
+ghost use Rattle.xray_image.specs.private.UnitTable.{unit_at, units_in, IsSoundTable};
+ghost use Rattle.xray_image.specs.private.Views.{piece_of, places_in, fault_at, AreTablesTo};
 
 use crate::fault::ImageFault;
 use crate::running_sums::LARGEST_STEP;

@@ -3,12 +3,12 @@
 ghost use Rattle.std.specs.Prelude.{◌≡◌, ◌<◌, ◌^◌, ◌↔◌, ◌⊎◌, ℕ, List, length, map, not, Contains, ◌||◌, IsTrue, OnOk, IfOk, IfErr};
 ghost use Rattle.std.specs.Str.{bytes_eq};
 ghost use Rattle.xray_image.specs.declared.unit.Unit.{Unit};
-ghost use Rattle.xray_image.specs.Index.{IsIndexOf};
-ghost use Rattle.xray_image.specs.Judging.{IsAbove, IsName, StandsBehind, is_among};
+ghost use Rattle.xray_image.specs.private.Index.{IsIndexOf};
+ghost use Rattle.xray_image.specs.private.Judging.{IsAbove, IsName, StandsBehind, is_among};
 ghost use Rattle.xray_image.specs.Program.{addresses};
-ghost use Rattle.xray_image.specs.Reading.{IsFirstFault};
+ghost use Rattle.xray_image.specs.private.Reading.{IsFirstFault};
 ghost use Rattle.xray_image.specs.Table.{FunctionIsFit};
-ghost use Rattle.xray_image.specs.Views.{function_of};
+ghost use Rattle.xray_image.specs.private.Views.{function_of};
 
 use crate::fault::ImageFault;
 use crate::format::is_name_byte;

@@ -20,7 +20,7 @@ pub(crate) struct Trampolines {
 
 impl Trampolines {
     ghost use Rattle.xray_image.specs.Program.{trampoline_of};
-    ghost use Rattle.xray_image.specs.Views.{trampolines_of};
+    ghost use Rattle.xray_image.specs.private.Views.{trampolines_of};
 
     /// The trampoline for a kind of sleds.
     pub(crate) fn of(&self, kind: SledKind) -> u64
@@ -49,7 +49,7 @@ pub(crate) struct Header {
 impl Header {
     ghost use Rattle.xray_image.specs.Header.{HasHeader};
     ghost use Rattle.xray_image.specs.Table.{ReadsAs};
-    ghost use Rattle.xray_image.specs.Views.{IsHeaderOf};
+    ghost use Rattle.xray_image.specs.private.Views.{IsHeaderOf};
 
     /// The header of a file, or the first fault of its fields, in the order of the checks.
     pub(crate) fn read(bytes: &[u8]) -> Result<Header, ImageFault>

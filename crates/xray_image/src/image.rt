@@ -4,11 +4,10 @@ ghost use Rattle.std.specs.Prelude.{◌≡◌, ◌<◌, ◌≤◌, ◌↔◌, Li
 ghost use Rattle.std.specs.List.Sorted.{IsNonDecreasingBy};
 ghost use Rattle.std.specs.Option.{option_map};
 ghost use Rattle.xray_image.specs.Program.{is_name_byte};
-ghost use Rattle.xray_image.specs.ImageView.{named_function};
+ghost use Rattle.xray_image.specs.private.ImageView.{named_function};
 
 mod reading;
 
-use crate::format::SLED_LIMIT;
 use crate::header::Trampolines;
 use crate::sled::{Sled, SledKind};
 use crate::unit::{Unit, UnitTable};
@@ -55,7 +54,7 @@ impl Model for Image {
 
     ghost Value = { Program };
 
-    ghost use Rattle.xray_image.specs.ImageView.{program_in, IsSound};
+    ghost use Rattle.xray_image.specs.private.ImageView.{program_in, IsSound};
 
     ghost view = { program_in };
 
@@ -63,15 +62,14 @@ impl Model for Image {
 }
 
 impl Image {
+    ghost use Rattle.xray_image.specs.Limits.{most_sleds};
     ghost use Rattle.xray_image.specs.Program.{Program, IsAccepted, addresses, trampoline_of};
     ghost use Rattle.xray_image.specs.Layout.{AreContiguous, SledsStand};
     ghost use Rattle.xray_image.specs.Ids.{id_count, name_of};
 
     /// The address of the code's first byte.
     pub fn base(&self) -> u64
-        ensures base { result ≡ self.now.base }
-        // An image is what some accepted file holds.
-        ensures accepted { (bytes : List ℕ) × IsAccepted bytes self.now }
+        ensures { result ≡ self.now.base }
     {
         self.base
     }
@@ -125,10 +123,7 @@ impl Image {
     /// How many sleds the code has.
     pub fn sled_count(&self) -> u32
         ensures count { result ≡ length self.now.sleds }
-        ensures few { result ≤ SLED_LIMIT }
-        // The sleds of a function are next to each other.
-        ensures in_order { IsNonDecreasingBy (λ s. s.id) self.now.sleds }
-        ensures stand { SledsStand self.now.units self.now.sleds }
+        ensures few { result ≤ most_sleds }
     {
         self.sleds.len() as u32
     }
@@ -167,5 +162,26 @@ impl Image {
         ensures { result ≡ trampoline_of self.now.trampolines kind }
     {
         self.trampolines.of(kind)
+    }
+
+    /// A law: an image is what some accepted file holds. The call does nothing.
+    #[inline(always)]
+    pub fn each_was_accepted(&self)
+        ensures { (bytes : List ℕ) × IsAccepted bytes self.now }
+    {
+        // Reading a field brings in what holds of each image.
+        let _base = self.base;
+    }
+
+    /// A law: the sleds of an image are few. They are where its units are sleds, and those of a
+    /// function are next to each other. The call does nothing.
+    #[inline(always)]
+    pub fn sleds_stand_in_units(&self)
+        ensures few { length self.now.sleds ≤ most_sleds }
+        ensures in_order { IsNonDecreasingBy (λ s. s.id) self.now.sleds }
+        ensures stand { SledsStand self.now.units self.now.sleds }
+    {
+        // Reading a field brings in what holds of each image.
+        let _base = self.base;
     }
 }

@@ -4,7 +4,7 @@ ghost use Rattle.std.specs.Prelude.{◌≡◌, ◌≤◌, ◌⊎◌, length, map
 ghost use Rattle.std.specs.Option.{option_map};
 ghost use Rattle.xray_image.specs.Container.{function_at, map_entry_at, several, parts_of};
 ghost use Rattle.xray_image.specs.Table.{ReadsParts};
-ghost use Rattle.xray_image.specs.Views.{function_of, entry_of, parts_of_view, IsHeaderOf};
+ghost use Rattle.xray_image.specs.private.Views.{function_of, entry_of, parts_of_view, IsHeaderOf};
 
 use crate::fault::ImageFault;
 use crate::fields::u64_at;

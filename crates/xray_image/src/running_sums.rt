@@ -1,7 +1,7 @@
 //! Running sums of small numbers.
 
 ghost use Rattle.std.specs.Prelude.{◌≡◌, ◌≤◌, ◌<◌, ◌+◌, ◌^◌, [], ◌∷◌, ◌++◌, length, slice_get, Some, IfOk, OnOk};
-ghost use Rattle.xray_image.specs.RunningSums.{sums_in, IsSound, HasBegunBlock};
+ghost use Rattle.xray_image.specs.private.RunningSums.{sums_in, IsSound, HasBegunBlock};
 
 use std::alloc::{AllocError, Global};
 

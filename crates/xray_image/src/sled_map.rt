@@ -3,11 +3,11 @@
 ghost use Rattle.std.specs.Prelude.{◌≡◌, ◌<◌, ◌≤◌, ◌^◌, ◌↔◌, ◌-ℤ◌, ◌+◌, ℕ, pos, length, map, IsTrue, OnOk, IfOk, IfErr, FitsSigned};
 ghost use Rattle.std.specs.List.{zip};
 ghost use Rattle.std.specs.Int.{w32};
-ghost use Rattle.xray_image.specs.Judging.{Ascend};
+ghost use Rattle.xray_image.specs.private.Judging.{Ascend};
 ghost use Rattle.xray_image.specs.Program.{KindFits, LiesIn, IsEntryOf, Reaches, kind_of, id_of, sled_of};
-ghost use Rattle.xray_image.specs.Reading.{IsFirstFault};
+ghost use Rattle.xray_image.specs.private.Reading.{IsFirstFault};
 ghost use Rattle.xray_image.specs.Table.{HasOneAddress, FitsAt};
-ghost use Rattle.xray_image.specs.Views.{function_of, entry_of, place_of, trampolines_of};
+ghost use Rattle.xray_image.specs.private.Views.{function_of, entry_of, place_of, trampolines_of};
 
 use crate::code_units::SledSpot;
 use crate::fault::ImageFault;

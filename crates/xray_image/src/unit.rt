@@ -2,7 +2,7 @@
 
 ghost use Rattle.std.specs.Prelude.{◌≡◌, ◌≤◌, ◌<◌, ◌+◌, ◌^◌, [], ◌∷◌, ◌++◌, length, slice_get, Some, IfOk, OnOk};
 ghost use Rattle.xray_image.specs.Program.{addresses};
-ghost use Rattle.xray_image.specs.UnitTable.{unit_at, units_in, IsSoundTable};
+ghost use Rattle.xray_image.specs.private.UnitTable.{unit_at, units_in, IsSoundTable};
 
 use crate::running_sums::{LARGEST_STEP, RunningSums};
 use crate::unit_reader::what_stands;

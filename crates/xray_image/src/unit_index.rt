@@ -3,8 +3,8 @@
 ghost use Rattle.std.specs.Prelude.{◌≡◌, ◌≤◌, ◌<◌, ◌+◌, ◌-◌, ◌/◌, ◌^◌, ℕ, List, length, Contains, slice_get, slice_index, slice_set, Some, MatchOption, IfOk, OnOk};
 ghost use Rattle.std.specs.List.Sorted.{IsStrictlyIncreasing};
 ghost use Rattle.xray_image.specs.Program.{addresses};
-ghost use Rattle.xray_image.specs.Index.{AreWithin, IsIndexOf, HasBegun};
-ghost use Rattle.xray_image.specs.UnitTable.{units_in, IsSoundTable};
+ghost use Rattle.xray_image.specs.private.Index.{AreWithin, IsIndexOf, HasBegun};
+ghost use Rattle.xray_image.specs.private.UnitTable.{units_in, IsSoundTable};
 
 use crate::unit::UnitTable;
 use std::alloc::{AllocError, Global};

@@ -2,10 +2,11 @@
 
 ghost use Rattle.std.specs.Prelude.{◌≡◌, ◌<◌, ◌^◌, ◌↔◌, ℕ, List, ◌++◌, length, drop, MatchOption, IfSome, IsSome, IsTrue, IfOk, IfErr, OnErr};
 ghost use Rattle.subset_decode.specs.Encoding.{Begins};
-ghost use Rattle.xray_image.specs.Units.{Piece, piece_bytes, nop_bytes, what_of, sleds_in, IsPiece, IsSled};
+ghost use Rattle.xray_image.specs.Units.{Piece, piece_bytes, nop_bytes, what_of, sleds_in, IsPiece};
+ghost use Rattle.xray_image.specs.private.SledPieces.{IsSled};
 ghost use Rattle.xray_image.specs.Table.{BeginsAsSled, StandsAt};
-ghost use Rattle.xray_image.specs.UnitTable.{what_at};
-ghost use Rattle.xray_image.specs.Views.{piece_of, IsNoUnit};
+ghost use Rattle.xray_image.specs.private.UnitTable.{what_at};
+ghost use Rattle.xray_image.specs.private.Views.{piece_of, IsNoUnit};
 
 use crate::fields::u32_at;
 use crate::format::{ALIGNMENT, JUMP_HEAD, NOP, RETURN_HEAD, SLED_LENGTH};

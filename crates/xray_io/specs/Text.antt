@@ -7,7 +7,6 @@ use Rattle.std.proofs.lemmas.List.{append-nil, length-append}
 use Rattle.xray_io.specs.Calls.{Write, HoldsOfNone, Composes}
 use Rattle.xray_io.specs.Writes.{Answer, Sends, WritesText, sends_nothing, sends_on, sends_rest, sends_stop, sends_failed}
 use Rattle.xray_io.specs.declared.faults.WriteFault.{WriteFault}
-use Rattle.xray_io.specs.declared.waiting.TheConstants.{ROOM}
 use Rattle.xray_io.specs.Sink.{Adds, AddsPrefix}
 use Rattle.xray_io.specs.declared.text.Text.{Text}
 
@@ -22,6 +21,10 @@ loan_of text = text.sink.ghost_name
 -- the bytes that wait for the sink
 abbrev pub waiting : {S : Type 0} → Text S → List ℕ
 waiting text = text.waiting
+
+-- the most bytes that a Text lets wait
+abbrev pub most_waiting : ℕ
+most_waiting = 4096
 
 -- Since its sink was at `start`, the Text was given these bytes. A prefix was written, and the rest waits.
 pub record Gathers {S : Type 0} (written : S → Option (List ℕ)) (start : Option (List ℕ)) (text : Text S) (given : List ℕ) : Type 0 where
@@ -60,7 +63,7 @@ pub record Waits {S : Type 0} (old new : Text S) (bytes : List ℕ) (answer : An
 pub record AddsText {S : Type 0} (written : S → Option (List ℕ)) (faults : S → ℕ) (along : S → S → List Write → Type 0)
     (old new : Text S) (bytes : List ℕ) (answer : Answer) : Type 0 where
   pub sends : Sends written faults along (sink_of old) (sink_of new) (waiting old ++ bytes) (waiting new) answer
-  pub gathers : length (waiting old) + length bytes ≤ ROOM → Waits old new bytes answer
+  pub gathers : length (waiting old) + length bytes ≤ most_waiting → Waits old new bytes answer
   pub loan : loan_of new ≡ loan_of old
 
 -- ---- laws
@@ -80,9 +83,9 @@ adds_nothing {written = written} {faults = faults} {along = along} none text = r
 sizes : (w x y : List ℕ) → length w + length (x ++ y) ≡ (length w + length x) + length y
 sizes w x y = ap (λ n. length w + n) (length-append x y) ∙ sym (add_assoc (length w) (length x) (length y))
 
-fits_first : (w x y : List ℕ) → length w + length (x ++ y) ≤ ROOM → length w + length x ≤ ROOM
+fits_first : (w x y : List ℕ) → length w + length (x ++ y) ≤ most_waiting → length w + length x ≤ most_waiting
 fits_first w x y fits =
-    let P : ℕ → Type 0 = λ n. n ≤ ROOM in
+    let P : ℕ → Type 0 = λ n. n ≤ most_waiting in
     le_trans (le-add_right (length w + length x) (length y)) (subst P (sizes w x y) fits)
 
 -- one text was added, and then another
@@ -96,7 +99,7 @@ adds_more {written = written} {faults = faults} {along = along} both {first = fi
       subst P (append_assoc (waiting first) x y) (sends_on both y p.sends q.sends);
   gathers = λ fits.
       let one = p.gathers (fits_first (waiting first) x y fits) in
-      let P : ℕ → Type 0 = λ n. n ≤ ROOM in
+      let P : ℕ → Type 0 = λ n. n ≤ most_waiting in
       let size : (length (waiting first) + length x) + length y ≡ length (waiting second) + length y =
       ap (λ n. n + length y) (sym (ap length one.waits ∙ length-append (waiting first) x)) in
       let two = q.gathers (subst P (sizes (waiting first) x y ∙ size) fits) in

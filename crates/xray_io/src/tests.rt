@@ -13,13 +13,26 @@ use std::io::Write;
 use std::test::Fail;
 use std::{fs, io};
 
-/// A desk that reads and writes one byte a call, and checks that each read begins where the last
-/// one ended.
+/// A desk that reads and writes one byte a call. It checks that each read begins where the last one
+/// ended, and records the greatest place up to which a read asked.
 #[derive(Drop)]
 struct Trickle {
     desk: MemDesk,
     next: u64,
     in_order: bool,
+    greatest: u64,
+}
+
+impl Trickle {
+    /// Over this desk, before its first read.
+    fn new(desk: MemDesk) -> Self {
+        Trickle {
+            desk,
+            next: 0,
+            in_order: true,
+            greatest: 0,
+        }
+    }
 }
 
 impl Desk for Trickle {
@@ -37,6 +50,7 @@ impl Desk for Trickle {
 
     fn read(&mut self, name: &str, from: u64, buf: &mut [u8]) -> Result<usize, ReadFail> {
         self.in_order = self.in_order && from == self.next;
+        self.greatest = self.greatest.max(from.saturating_add(buf.len() as u64));
         let room = buf.len().min(1);
         match self.desk.read(name, from, &mut buf[..room]) {
             Ok(count) => {
@@ -157,11 +171,7 @@ fn short_reads_go_on_and_ask_for_no_byte_twice(rt: HostRuntime) -> Result<(), Fa
     for (limit, want) in [(4, None), (5, Some(5)), (6, Some(5))] {
         let mut desk = MemDesk::new(alloc, Vec::new(alloc));
         desk.put("five", b"hello")?;
-        let mut trickle = Trickle {
-            desk,
-            next: 0,
-            in_order: true,
-        };
+        let mut trickle = Trickle::new(desk);
         let read = read_whole(alloc, &mut trickle, "five", limit);
         match want {
             Some(len) => assert_eq!(rt; read?.len(), len),
@@ -170,6 +180,22 @@ fn short_reads_go_on_and_ask_for_no_byte_twice(rt: HostRuntime) -> Result<(), Fa
         assert!(rt; trickle.in_order);
         // At the limit one byte more was asked for, and none after that.
         assert_eq!(rt; trickle.next, 5, "limit {limit}");
+    }
+    Ok(())
+}
+
+/// One byte past the limit shows that there are too many. A read asks for 65,536 bytes at most, and
+/// five of them end after the fifth byte.
+#[test]
+fn no_read_asks_past_the_first_byte_that_is_too_many(rt: HostRuntime) -> Result<(), Fail> {
+    let alloc = rt.alloc();
+    for (limit, greatest) in [(0, 1), (4, 5), (5, 6), (65_537, 65_538), (70_000, 65_541)] {
+        let mut desk = MemDesk::new(alloc, Vec::new(alloc));
+        desk.put("five", b"hello")?;
+        let mut trickle = Trickle::new(desk);
+        let read = read_whole(alloc, &mut trickle, "five", limit);
+        assert_eq!(rt; read.is_ok(), limit >= 5, "limit {limit}");
+        assert_eq!(rt; trickle.greatest, greatest, "limit {limit}");
     }
     Ok(())
 }
@@ -246,11 +272,7 @@ fn a_name_of_a_desk_takes_a_text_as_a_sink(rt: HostRuntime) -> Result<(), Fail> 
     assert_eq!(rt; desk.get("a"), Some(b"first n=7, more".as_slice()));
     assert_eq!(rt; desk.get("b"), Some(b"kept".as_slice()));
     // One byte a write, until the third fails.
-    let mut trickle = Trickle {
-        desk: MemDesk::new(alloc, vec![in alloc; 2]?),
-        next: 0,
-        in_order: true,
-    };
+    let mut trickle = Trickle::new(MemDesk::new(alloc, vec![in alloc; 2]?));
     assert_eq!(rt;
         write_all(&mut DeskFile::new(&mut trickle, "a"), b"abc"),
         Err(WriteFault)

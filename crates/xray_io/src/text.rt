@@ -7,7 +7,7 @@ ghost use Rattle.xray_io.specs.Sink.{Adds, AddsPrefix};
 ghost use Rattle.xray_io.specs.Writes.{Sends, WritesText};
 
 use crate::digits::{MOST_DIGITS, ZERO, put_digits};
-use crate::waiting::{ROOM, Waiting};
+use crate::waiting::Waiting;
 use crate::{Piece, Sink, WriteFault, write_all};
 
 /// What pads a number on its left.
@@ -16,7 +16,7 @@ const SPACE: u8 = b' ';
 /// The most equal bytes that one call adds.
 const FILLED: usize = 16;
 
-/// Text on its way to a sink. It is gathered in an array, so that the sink gets few writes. After
+/// Text on its way to a sink. Up to 4,096 bytes are gathered, so that the sink gets few writes. After
 /// the last part, `done` writes what still waits. If a `Text` is dropped before that, only a prefix
 /// of its text was written.
 ///
@@ -28,7 +28,7 @@ pub struct Text<'a, S> {
 }
 
 impl<'a, S: Sink> Text<'a, S> {
-    ghost use Rattle.xray_io.specs.Text.{sink_of, loan_of, waiting, Gathers, Gains, Breaks, AddsText, Waits};
+    ghost use Rattle.xray_io.specs.Text.{sink_of, loan_of, waiting, most_waiting, Gathers, Gains, Breaks, AddsText, Waits};
 
     /// An empty text for this sink.
     pub fn new(sink: &'a mut S) -> Self
@@ -61,14 +61,14 @@ impl<'a, S: Sink> Text<'a, S> {
 
     /// Writes what waits, unless there is room for this many bytes more.
     fn make_room(&mut self, len: usize) -> Result<(), WriteFault>
-        ensures room { OnOk result (ROOM < length (waiting self.new) + len →
+        ensures room { OnOk result (most_waiting < length (waiting self.new) + len →
             waiting self.new ≡ []) }
         ensures failed { OnErr result
             (Rose (S.faults (sink_of self.old)) (S.faults (sink_of self.new))) }
         ensures later { S.faults (sink_of self.old) ≤ S.faults (sink_of self.new) }
         ensures follows { S.follows (sink_of self.old) (sink_of self.new) }
         ensures loan { loan_of self.new ≡ loan_of self.old }
-        ensures fits { length (waiting self.old) + len ≤ ROOM →
+        ensures fits { length (waiting self.old) + len ≤ most_waiting →
             Waits self.old self.new [] result }
         ensures sends { Sends S.written S.faults S.along (sink_of self.old) (sink_of self.new)
             (waiting self.old) (waiting self.new) result }
@@ -82,7 +82,7 @@ impl<'a, S: Sink> Text<'a, S> {
     /// Keeps the bytes if there is room for them beside those that wait. If they are too long for
     /// the array, writes them.
     fn put(&mut self, bytes: &[u8]) -> Result<(), WriteFault>
-        requires room { ROOM < length (waiting self.old) + length bytes.now →
+        requires room { most_waiting < length (waiting self.old) + length bytes.now →
             waiting self.old ≡ [] }
         ensures failed { OnErr result
             (Rose (S.faults (sink_of self.old)) (S.faults (sink_of self.new))) }
@@ -90,6 +90,7 @@ impl<'a, S: Sink> Text<'a, S> {
         ensures follows { S.follows (sink_of self.old) (sink_of self.new) }
         ensures loan { loan_of self.new ≡ loan_of self.old }
         ensures adds { AddsText S.written S.faults S.along self.old self.new bytes.now result }
+        ensures few { OnOk result (length (waiting self.new) ≤ most_waiting) }
     {
         if bytes.len() > self.waiting.room() {
             return write_all(self.sink, bytes);
@@ -98,7 +99,7 @@ impl<'a, S: Sink> Text<'a, S> {
         Ok(())
     }
 
-    /// Adds these bytes.
+    /// Adds these bytes. They only wait if there is room for them beside those that wait.
     pub fn bytes(&mut self, bytes: &[u8]) -> Result<(), WriteFault>
         ensures gains { OnOk result (Gains S.written self.old self.new bytes.now) }
         ensures breaks { OnErr result (Breaks S.written self.old (sink_of self.new) bytes.now) }
@@ -108,6 +109,7 @@ impl<'a, S: Sink> Text<'a, S> {
         ensures follows { S.follows (sink_of self.old) (sink_of self.new) }
         ensures loan { loan_of self.new ≡ loan_of self.old }
         ensures adds { AddsText S.written S.faults S.along self.old self.new bytes.now result }
+        ensures few { OnOk result (length (waiting self.new) ≤ most_waiting) }
     {
         self.make_room(bytes.len())?;
         self.put(bytes)

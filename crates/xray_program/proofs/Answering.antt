@@ -9,8 +9,8 @@ use Rattle.xray_program.specs.Order.{InOrder}
 use Rattle.xray_program.specs.Outcomes.{Outcome, BadLine, Unread, TooLong, Refused, Done, Fell, Ending, With, Unwritten, NoMemory, status_at, line_at, written_by}
 use Rattle.xray_program.specs.Outputs.{FailsWriting}
 use Rattle.command_words.specs.Words.{Command}
-use Rattle.xray_program.specs.Stops.{stop_status}
-use Rattle.xray_program.specs.Works.{Ends, KeepsOthers, SaidFits, StandsBehind}
+use Rattle.xray_program.specs.private.Stops.{stop_status}
+use Rattle.xray_program.specs.private.Works.{Ends, KeepsOthers, SaidFits, StandsBehind}
 use Rattle.xray_program.specs.declared.stop.Stop.{Stop}
 use Rattle.xray_program.specs.declared.stop.Stop.TheVariants as stops
 use Rattle.xray_io.specs.World.{World}

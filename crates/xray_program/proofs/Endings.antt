@@ -13,11 +13,11 @@ use Rattle.xray_io.specs.Reads.{Reads, ReadsSome, ReadsUpToFault}
 use Rattle.xray_program.specs.Order.{FailsAtOutput, InOrder, IsNoCall, IsUnmade, MakesAll, ReadsAll, ReadsWhole, StopsAt, inputs_of}
 use Rattle.xray_program.specs.Outcomes.{Outcome, BadLine, Unread, TooLong, Refused, Done, Fell, Ending, With, Unwritten, NoMemory, written_by}
 use Rattle.xray_program.specs.Outputs.{AreWhole, AreUntouched, FailsAt, FailsAtOut, FailsWriting, HoldsPrefix, WritesNothing}
-use Rattle.xray_program.specs.Stops.{answer_of, stop_line, stop_status, told_of}
-use Rattle.xray_program.specs.Takes.{IsStopAtInput, StopsTakings}
+use Rattle.xray_program.specs.private.Stops.{answer_of, stop_line, stop_status, told_of}
+use Rattle.xray_program.specs.private.Takes.{IsStopAtInput, StopsTakings}
 use Rattle.xray_program.specs.Taking.{DeskReads, Sound, AllAccepted, ended_by}
 use Rattle.command_words.specs.Words.{Command, outputs_of}
-use Rattle.xray_program.specs.Works.{AreMakings, Delivers, Ends, Finishes, KeepsOthers, StopsOutputs, Writes}
+use Rattle.xray_program.specs.private.Works.{AreMakings, Delivers, Ends, Finishes, KeepsOthers, StopsOutputs, Writes}
 use Rattle.xray_io.specs.World.{DeskView, SinkView}
 use Rattle.xray_program.proofs.Ordering.{went_as}
 use Rattle.xray_program.specs.declared.stop.Stop.{Stop}

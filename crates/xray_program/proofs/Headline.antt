@@ -32,7 +32,7 @@ use Rattle.xray_program.specs.Setups.{setup_of}
 use Rattle.xray_program.specs.Taking.{Form, Leaves, RefuseIf, Sound, Take}
 use Rattle.xray_program.specs.Traced.{IsTraced, Traces, written_of}
 use Rattle.command_words.specs.Words.{Command}
-use Rattle.xray_program.specs.Works.{SaidFits}
+use Rattle.xray_program.specs.private.Works.{SaidFits}
 use Rattle.xray_io.specs.World.{World}
 use Rattle.xray_program.proofs.RunLaws.{loses_few}
 

@@ -5,7 +5,7 @@ use Rattle.std.specs.Prelude.{IsErrAnd}
 use Rattle.xray_io.specs.Calls.{Call, Composes, HoldsOfNone, Went, went_on}
 use Rattle.xray_program.specs.Order.{ReadsAll, ReadsWhole}
 use Rattle.xray_io.specs.World.{DeskView}
-use Rattle.xray_program.specs.Takes.{AreTakings, IsNamed, IsTaken, IsTaking, StopsTaking, StopsTakings}
+use Rattle.xray_program.specs.private.Takes.{AreTakings, IsNamed, IsTaken, IsTaking, StopsTaking, StopsTakings}
 use Rattle.xray_program.specs.Outcomes.{Outcome, Unread}
 use Rattle.xray_program.specs.Taking.{DeskReads, Faulty, Form}
 use Rattle.xray_program.specs.declared.stop.Stop.{Stop}

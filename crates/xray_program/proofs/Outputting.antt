@@ -10,7 +10,7 @@ use Rattle.xray_io.specs.World.{DeskView, desk_view}
 use Rattle.xray_io.specs.declared.faults.WriteFault.{WriteFault}
 use Rattle.xray_program.specs.Order.{FailsAtOutput, MakesAll}
 use Rattle.xray_program.specs.Outputs.{AreWhole, AreUntouched, FailsAt, HoldsPrefix}
-use Rattle.xray_program.specs.Works.{KeepsOthers}
+use Rattle.xray_program.specs.private.Works.{KeepsOthers}
 
 pub none_whole : (old new : List ℕ → Entry) → AreWhole [] old new
 none_whole old new = All-nil (λ output. new output.0 ≡ made_to_hold (old output.0) output.1)

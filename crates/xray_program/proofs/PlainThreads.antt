@@ -7,7 +7,7 @@ use Rattle.xray_image.specs.Program.{Program}
 use Rattle.machine_step.specs.declared.plain_end.PlainEnd.{PlainEnd}
 use Rattle.machine_step.specs.PlainEnd.{IsPlainEnd}
 use Rattle.command_words.specs.declared.run_options.Bounds.{Bounds}
-use Rattle.xray_program.specs.Ends.{AreEnds, HasRegisters, end_text}
+use Rattle.xray_program.specs.private.Ends.{AreEnds, HasRegisters, end_text}
 use Rattle.xray_program.specs.Plain.{IsPlainText, PlainPrints}
 use Rattle.xray_program.specs.Setups.{plain_limits}
 use Rattle.xray_program.proofs.TextLists.{item_behind, joined_texts}

@@ -15,8 +15,8 @@ use Rattle.xray_program.specs.Inputs.{image_form, trace_form}
 use Rattle.xray_program.specs.Order.{ReadsAll}
 use Rattle.xray_program.specs.Outcomes.{Outcome, Unread}
 use Rattle.xray_program.specs.Reports.{TakeReport, report_inputs}
-use Rattle.xray_program.specs.ReportTakes.{ImageTurn, IsReportTaken, StopsReport}
-use Rattle.xray_program.specs.Takes.{AreTaken, AreTakings, Gives, IsMaybeTaken, IsMaybeTaking, IsTaken}
+use Rattle.xray_program.specs.private.ReportTakes.{ImageTurn, IsReportTaken, StopsReport}
+use Rattle.xray_program.specs.private.Takes.{AreTaken, AreTakings, Gives, IsMaybeTaken, IsMaybeTaking, IsTaken}
 use Rattle.xray_program.specs.Taking.{DeskReads, Faulty, Form, Sound, Take, TakeMaybe}
 use Rattle.xray_program.specs.declared.report_inputs.ReportInputs.{ReportInputs}
 use Rattle.xray_program.specs.declared.stop.Stop.{Stop}

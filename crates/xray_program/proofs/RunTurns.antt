@@ -7,7 +7,7 @@ use Rattle.xray_io.specs.Desk.{Entry}
 use Rattle.xray_program.specs.Inputs.{image_form, script_form}
 use Rattle.xray_program.specs.Outcomes.{Outcome}
 use Rattle.xray_program.specs.Run.{RunComes, RunsBeside}
-use Rattle.xray_program.specs.Takes.{Gives}
+use Rattle.xray_program.specs.private.Takes.{Gives}
 use Rattle.xray_program.specs.Taking.{DeskReads, Take}
 use Rattle.xray_program.proofs.Turns.{Leads, leads, leads_on}
 

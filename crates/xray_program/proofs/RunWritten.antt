@@ -16,7 +16,7 @@ use Rattle.trace_flush.specs.declared.line.AuditLine.{AuditLine}
 use Rattle.traced_run.specs.Kept.{kept_buffers, segment_count}
 use Rattle.traced_run.specs.Left.{HasRun, Leaves}
 use Rattle.traced_run.specs.Runs.{ThreadRun}
-use Rattle.xray_program.specs.Ends.{thread_text}
+use Rattle.xray_program.specs.private.Ends.{thread_text}
 use Rattle.xray_program.specs.Traced.{state_texts, written_of}
 
 -- the text of a thread that has run is its state text

@@ -15,9 +15,9 @@ use Rattle.xray_program.specs.Inputs.{image_form, script_form, schedule_form}
 use Rattle.xray_program.specs.Order.{IsNoCall}
 use Rattle.xray_program.specs.Outcomes.{Outcome, Refused}
 use Rattle.xray_program.specs.Sim.{Replays, SimComes}
-use Rattle.xray_program.specs.Takes.{Gives, IsFaultStop}
+use Rattle.xray_program.specs.private.Takes.{Gives, IsFaultStop}
 use Rattle.xray_program.specs.Taking.{DeskReads, Form, RefuseIf, Take}
-use Rattle.xray_program.specs.Works.{Finishes}
+use Rattle.xray_program.specs.private.Works.{Finishes}
 use Rattle.xray_program.specs.declared.stop.Stop.{Stop}
 use Rattle.xray_program.specs.declared.stop.Stop.TheVariants as stops
 use Rattle.xray_program.proofs.Turns.{Leads, leads, leads_on}

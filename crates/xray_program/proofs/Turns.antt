@@ -8,7 +8,7 @@ use Rattle.xray_io.specs.Faults.{Rose}
 use Rattle.xray_io.specs.declared.faults.ReadError.{ReadError}
 use Rattle.xray_io.specs.declared.faults.ReadError.TheVariants as errors
 use Rattle.xray_program.specs.Outcomes.{Outcome, Unread, TooLong, Refused}
-use Rattle.xray_program.specs.Takes.{AreTaken, Gives, IsFaultStop, IsLost, IsMaybeTaken, IsReadStop, IsStopAtInput, IsTaken, IsTooLong}
+use Rattle.xray_program.specs.private.Takes.{AreTaken, Gives, IsFaultStop, IsLost, IsMaybeTaken, IsReadStop, IsStopAtInput, IsTaken, IsTooLong}
 use Rattle.xray_program.specs.Taking.{DeskReads, Sound, Faulty, Form, MayHold, Take, TakeMaybe}
 use Rattle.xray_io.specs.World.{DeskView}
 use Rattle.xray_program.specs.declared.stop.Stop.{Stop}

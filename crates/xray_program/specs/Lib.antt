@@ -16,10 +16,4 @@ pub mod Convert
 pub mod Commands
 pub mod Answers
 pub mod Order
-pub mod Stops
-pub mod Takes
-pub mod ReportTakes
-pub mod Works
-pub mod Ends
-pub mod SimInputs
-pub mod RunInputs
+pub mod private

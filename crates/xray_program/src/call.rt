@@ -7,8 +7,8 @@ ghost use Rattle.command_words.specs.Words.{reading};
 ghost use Rattle.xray_io.specs.World.{desk_view, sink_view};
 ghost use Rattle.xray_program.specs.Answers.{Answered};
 ghost use Rattle.xray_program.specs.Commands.{IsStill};
-ghost use Rattle.xray_program.specs.Stops.{answer_of, told_of};
-ghost use Rattle.xray_program.specs.Works.{Ends, FitsTraces, SaidFits};
+ghost use Rattle.xray_program.specs.private.Stops.{answer_of, told_of};
+ghost use Rattle.xray_program.specs.private.Works.{Ends, FitsTraces, SaidFits};
 
 use crate::account::Account;
 use crate::asm::Asm;

@@ -5,7 +5,7 @@ ghost use Rattle.xray_io.specs.Calls.{Went};
 ghost use Rattle.xray_io.specs.Outputs.{AppendsText, MakesOutput};
 ghost use Rattle.xray_io.specs.World.{desk_view, sink_view};
 ghost use Rattle.xray_program.specs.Outputs.{AreWhole};
-ghost use Rattle.xray_program.specs.Works.{AreMakings, Delivers, KeepsOthers, StopsOutputs, names_of};
+ghost use Rattle.xray_program.specs.private.Works.{AreMakings, Delivers, KeepsOthers, StopsOutputs, names_of};
 
 use crate::stop::Stop;
 use crate::text::Printed;

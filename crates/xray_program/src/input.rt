@@ -2,7 +2,7 @@
 ghost use Rattle.std.specs.Prelude.{◌≡◌, ◌≤◌, ℕ, List, Some, length, option_map, IfOk, IfErr};
 ghost use Rattle.xray_io.specs.Calls.{Went};
 ghost use Rattle.xray_io.specs.World.{desk_view};
-ghost use Rattle.xray_program.specs.Takes.{IsFaultStop, IsMaybeTaken, IsMaybeTaking, IsReadStop, IsTaken, IsTaking};
+ghost use Rattle.xray_program.specs.private.Takes.{IsFaultStop, IsMaybeTaken, IsMaybeTaking, IsReadStop, IsTaken, IsTaking};
 ghost use Rattle.xray_program.specs.Taking.{Form};
 
 use crate::stop::Stop;

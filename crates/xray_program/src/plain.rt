@@ -2,7 +2,7 @@
 ghost use Rattle.std.specs.Prelude.{◌≡◌, IfOk};
 ghost use Rattle.std.specs.List.{All, flat_map};
 ghost use Rattle.xray_io.specs.Writes.{WritesText};
-ghost use Rattle.xray_program.specs.Ends.{AreEnds, HasRegisters, end_text};
+ghost use Rattle.xray_program.specs.private.Ends.{AreEnds, HasRegisters, end_text};
 
 use crate::delivery::{NoOutputs, deliver};
 use crate::input::take;
@@ -76,7 +76,7 @@ struct Ends<'t> {
 
 impl Printed for Ends<'_> {
     ghost use Rattle.std.specs.List.{All, flat_map};
-    ghost use Rattle.xray_program.specs.Ends.{HasRegisters, end_text};
+    ghost use Rattle.xray_program.specs.private.Ends.{HasRegisters, end_text};
 
     ghost text = { λ e. flat_map end_text e.ends.now };
 

@@ -3,8 +3,8 @@ ghost use Rattle.std.specs.Prelude.{◌≡◌, ◌≤◌, option_map};
 ghost use Rattle.xray_io.specs.Calls.{Went};
 ghost use Rattle.xray_io.specs.World.{desk_view};
 ghost use Rattle.xray_program.specs.Reports.{report_inputs};
-ghost use Rattle.xray_program.specs.ReportTakes.{IsReportTaken, StopsReport};
-ghost use Rattle.xray_program.specs.Takes.{AreTakings};
+ghost use Rattle.xray_program.specs.private.ReportTakes.{IsReportTaken, StopsReport};
+ghost use Rattle.xray_program.specs.private.Takes.{AreTakings};
 
 use crate::input::{take, take_maybe};
 use crate::inputs::{ImageKind, TraceKind};

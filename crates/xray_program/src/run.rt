@@ -7,10 +7,10 @@ ghost use Rattle.xray_io.specs.Calls.{Went};
 ghost use Rattle.xray_io.specs.World.{desk_view, sink_view};
 ghost use Rattle.xray_program.specs.Commands.{Comes};
 ghost use Rattle.xray_program.specs.Order.{inputs_of};
-ghost use Rattle.xray_program.specs.RunInputs.{comes_of, said_by, IsReadFor};
-ghost use Rattle.xray_program.specs.Stops.{answer_of, told_of};
-ghost use Rattle.xray_program.specs.Takes.{AreTaken, AreTakings};
-ghost use Rattle.xray_program.specs.Works.{Ends, Finishes, KeepsOthers};
+ghost use Rattle.xray_program.specs.private.RunInputs.{comes_of, said_by, IsReadFor};
+ghost use Rattle.xray_program.specs.private.Stops.{answer_of, told_of};
+ghost use Rattle.xray_program.specs.private.Takes.{AreTaken, AreTakings};
+ghost use Rattle.xray_program.specs.private.Works.{Ends, Finishes, KeepsOthers};
 
 use crate::input::take;
 use crate::inputs::{ImageKind, ScriptKind};

@@ -37,7 +37,7 @@ pub(crate) struct Sim<'a> {
 impl<'a> Work<'a> for Sim<'a> {
     ghost use Rattle.xray_program.specs.Setups.{setup_of};
     ghost use Rattle.xray_program.specs.Sim.{Replays};
-    ghost use Rattle.xray_program.specs.SimInputs.{AreReadFor};
+    ghost use Rattle.xray_program.specs.private.SimInputs.{AreReadFor};
     ghost use Rattle.command_words.specs.Words as words;
 
     type Inputs = SimInputs;

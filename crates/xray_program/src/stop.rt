@@ -5,7 +5,7 @@ ghost use Rattle.xray_io.specs.Piece.{text_of};
 ghost use Rattle.xray_io.specs.World.{sink_view};
 ghost use Rattle.xray_program.specs.Answers.{Says};
 ghost use Rattle.xray_program.specs.Outcomes.{Refused, err_line, line_of};
-ghost use Rattle.xray_program.specs.Stops.{stop_line, stop_status};
+ghost use Rattle.xray_program.specs.private.Stops.{stop_line, stop_status};
 
 use fault_words::Words;
 use xray_io::{NoMemory, Piece, Sink, write_pieces};

@@ -10,9 +10,9 @@ ghost use Rattle.traced_run.specs.Left.{Leaves};
 ghost use Rattle.traced_run.specs.Runs.{ThreadRun};
 ghost use Rattle.xray_io.specs.World.{desk_view, sink_view};
 ghost use Rattle.xray_io.specs.Writes.{WritesText};
-ghost use Rattle.xray_program.specs.Ends.{thread_text};
+ghost use Rattle.xray_program.specs.private.Ends.{thread_text};
 ghost use Rattle.xray_program.specs.Traced.{state_texts, written_of};
-ghost use Rattle.xray_program.specs.Works.{Delivers, KeepsOthers};
+ghost use Rattle.xray_program.specs.private.Works.{Delivers, KeepsOthers};
 
 use crate::delivery::{Output, TwoOutputs, deliver};
 use crate::stop::Stop;
@@ -187,7 +187,7 @@ struct States<'t, 'i> {
 impl Printed for States<'_, '_> {
     ghost use Rattle.std.specs.List.{All, flat_map};
     ghost use Rattle.machine_step.specs.Traced.{IsDone};
-    ghost use Rattle.xray_program.specs.Ends.{thread_text};
+    ghost use Rattle.xray_program.specs.private.Ends.{thread_text};
 
     ghost text = { λ s. flat_map thread_text s.cpus.now };
 

@@ -6,9 +6,9 @@ ghost use Rattle.xray_io.specs.World.{desk_view, sink_view};
 ghost use Rattle.xray_program.specs.Commands.{Comes};
 ghost use Rattle.xray_program.specs.Order.{inputs_of};
 ghost use Rattle.xray_program.specs.Outcomes.{Outcome};
-ghost use Rattle.xray_program.specs.Stops.{answer_of, told_of};
-ghost use Rattle.xray_program.specs.Takes.{AreTaken, AreTakings};
-ghost use Rattle.xray_program.specs.Works.{Ends, Finishes, KeepsOthers};
+ghost use Rattle.xray_program.specs.private.Stops.{answer_of, told_of};
+ghost use Rattle.xray_program.specs.private.Takes.{AreTaken, AreTakings};
+ghost use Rattle.xray_program.specs.private.Works.{Ends, Finishes, KeepsOthers};
 
 use crate::stop::Stop;
 use std::alloc::Global;

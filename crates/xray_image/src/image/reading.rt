@@ -2,13 +2,13 @@
 
 ghost use Rattle.std.specs.Prelude.{◌≡◌, ◌<◌, ◌^◌, ◌⊎◌, ℕ, List, length, map, true, All, Ok, Err, OnOk, IfOk, IfErr};
 ghost use Rattle.std.specs.List.Sorted.{IsNonDecreasingBy};
-ghost use Rattle.xray_image.specs.ImageView.{named_function};
-ghost use Rattle.xray_image.specs.Index.{AreWithin, IsIndexOf};
-ghost use Rattle.xray_image.specs.Judging.{IsJudged};
+ghost use Rattle.xray_image.specs.private.ImageView.{named_function};
+ghost use Rattle.xray_image.specs.private.Index.{AreWithin, IsIndexOf};
+ghost use Rattle.xray_image.specs.private.Judging.{IsJudged};
 ghost use Rattle.xray_image.specs.Program.{Program, IsAccepted, addresses, is_name_byte};
 ghost use Rattle.xray_image.specs.Table.{Verdict, ReadsAs, ReadsProgram};
-ghost use Rattle.xray_image.specs.UnitTable.{units_in, IsSoundTable};
-ghost use Rattle.xray_image.specs.Views.{entry_of, function_of, places_in, program_read};
+ghost use Rattle.xray_image.specs.private.UnitTable.{units_in, IsSoundTable};
+ghost use Rattle.xray_image.specs.private.Views.{entry_of, function_of, places_in, program_read};
 
 use crate::branches::check_branches;
 use crate::code_units::CodeUnits;

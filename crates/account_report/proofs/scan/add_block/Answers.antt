@@ -1,6 +1,6 @@
 use Rattle.std.proofs.Common.{◌∙◌, List, subst}
 use Rattle.fdr_record.specs.declared.event.Event.{Event}
-use Rattle.account_report.specs.Tallies.{AreTallies, Reached, going_on}
+use Rattle.account_report.specs.private.Tallies.{AreTallies, Reached, going_on}
 use Rattle.account_report.proofs.Standing.{stands_behind}
 use Rattle.account_report.proofs.scan.add_block.Goals as goal
 

@@ -1,6 +1,6 @@
 use Rattle.std.proofs.Common.{ℕ, List, take}
 use Rattle.stack_rebuild.specs.Histories.{Logged}
-use Rattle.account_report.specs.Tallies.{Reached, going_on}
+use Rattle.account_report.specs.private.Tallies.{Reached, going_on}
 use Rattle.account_report.proofs.scan.add_events.Given as goal
 
 abbrev pub invariant-adding : goal.invariant-adding

@@ -1,5 +1,5 @@
 use Rattle.std.proofs.Common.{take}
-use Rattle.account_report.specs.Tallies.{AreStanding, AreTallies}
+use Rattle.account_report.specs.private.Tallies.{AreStanding, AreTallies}
 use Rattle.account_report.proofs.Standing.{history_in}
 use Rattle.account_report.proofs.scan.tallies.Given as goal
 

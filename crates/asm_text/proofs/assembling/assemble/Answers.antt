@@ -2,9 +2,9 @@ use Rattle.std.proofs.Common.{◌≡◌, false, List, sym, ap, subst, inr, ◌�
 use Rattle.std.specs.Prelude.{Ok, Err}
 use Rattle.asm_text.specs.declared.layout.Laid.{Laid}
 use Rattle.asm_text.specs.Refusals.{ends_early, resolved}
-use Rattle.asm_text.specs.FirstPass.{lines_in}
-use Rattle.asm_text.specs.Laying.{placed_in, lines_of}
-use Rattle.asm_text.specs.LaidTexts.{all_in}
+use Rattle.asm_text.specs.private.FirstPass.{lines_in}
+use Rattle.asm_text.specs.private.Laying.{placed_in, lines_of}
+use Rattle.asm_text.specs.private.LaidTexts.{all_in}
 use Rattle.asm_text.specs.Assembling.{assembled}
 use Rattle.asm_text.proofs.Assembled.{assembled_fault, assembled_file, said_whole}
 use Rattle.asm_text.proofs.ProgramLaw.{holds_program}

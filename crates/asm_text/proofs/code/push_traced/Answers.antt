@@ -2,7 +2,7 @@ use Rattle.std.proofs.Common.{◌%◌, cond, eqb, ◌∷◌}
 use Rattle.xray_image.specs.Units.{piece_bytes, JumpSled, ReturnSled}
 use Rattle.asm_text.specs.declared.statement.Branch.TheVariants as branches
 use Rattle.asm_text.specs.Layout.{piece_of, Jump}
-use Rattle.asm_text.specs.LaidTexts.{all_in}
+use Rattle.asm_text.specs.private.LaidTexts.{all_in}
 use Rattle.asm_text.proofs.CodeLemmas.{sled_alone, sled_then_branch, added_behind}
 use Rattle.asm_text.proofs.code.push_traced.Goals as goal
 

@@ -1,7 +1,7 @@
 use Rattle.std.proofs.Common.{◌≡◌, drop}
 use Rattle.std.specs.List.{list_any}
 use Rattle.asm_text.specs.Layout.{names_function}
-use Rattle.asm_text.specs.Laying.{lines_of, placed_in}
+use Rattle.asm_text.specs.private.Laying.{lines_of, placed_in}
 use Rattle.asm_text.proofs.ending.has_function.Given as goal
 
 abbrev pub invariant-loop-line : goal.invariant-loop-line

@@ -2,8 +2,8 @@ use Rattle.std.proofs.Common.{◌≡◌, ap, ◌∙◌, None, Some, refl, rules,
 use Rattle.std.specs.Prelude.{is_some}
 use Rattle.asm_text.specs.Layout.{own_place}
 use Rattle.asm_text.specs.Refusals.{name_in, is_missing, is_defined}
-use Rattle.asm_text.specs.Views.{operation_checked}
-use Rattle.asm_text.specs.Laying.{line_placed, placed_in, lines_of}
+use Rattle.asm_text.specs.private.Views.{operation_checked}
+use Rattle.asm_text.specs.private.Laying.{line_placed, placed_in, lines_of}
 use Rattle.asm_text.proofs.EndingLemmas.{label_unresolved, missing_name, other_way}
 use Rattle.asm_text.proofs.ending.is_unresolved.Goals as goal
 

@@ -1,8 +1,8 @@
 use Rattle.std.proofs.Common.{◌≡◌, ◌++◌, sym, ap, ◌∙◌, arith}
 use Rattle.std.specs.List.{flat_map}
 use Rattle.std.proofs.lemmas.Grind.{common_steps}
-use Rattle.asm_text.specs.Laying.{placed_in}
-use Rattle.asm_text.specs.Files.{function_line_bytes}
+use Rattle.asm_text.specs.private.Laying.{placed_in}
+use Rattle.asm_text.specs.private.Files.{function_line_bytes}
 use Rattle.asm_text.proofs.FileLemmas.{functions_by_lines}
 use Rattle.asm_text.proofs.file.push_functions.Goals as goal
 

@@ -1,7 +1,7 @@
 use Rattle.std.proofs.Common.{◌≡◌, ◌++◌, take}
 use Rattle.std.specs.List.{flat_map}
-use Rattle.asm_text.specs.Laying.{placed_in}
-use Rattle.asm_text.specs.Files.{function_line_bytes}
+use Rattle.asm_text.specs.private.Laying.{placed_in}
+use Rattle.asm_text.specs.private.Files.{function_line_bytes}
 use Rattle.asm_text.proofs.file.push_functions.Given as goal
 
 -- the bytes of the lines so far are added

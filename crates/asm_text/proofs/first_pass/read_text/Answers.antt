@@ -2,7 +2,7 @@ use Rattle.std.proofs.Common.{◌≡◌, subst, [], rules}
 use Rattle.std.specs.Prelude.{Ok}
 use Rattle.text_lines.specs.Lines.{numbered_lines}
 use Rattle.asm_text.specs.Refusals.{read_lines}
-use Rattle.asm_text.specs.FirstPass.{lines_in}
+use Rattle.asm_text.specs.private.FirstPass.{lines_in}
 use Rattle.asm_text.proofs.Fitting.{Good, read_good}
 use Rattle.asm_text.proofs.first_pass.read_text.Goals as goal
 

@@ -1,7 +1,7 @@
 use Rattle.std.proofs.Common.{◌≡◌, []}
 use Rattle.text_lines.specs.Lines.{numbered_lines}
 use Rattle.asm_text.specs.Refusals.{read_lines}
-use Rattle.asm_text.specs.FirstPass.{lines_in, IsFirstPass}
+use Rattle.asm_text.specs.private.FirstPass.{lines_in, IsFirstPass}
 use Rattle.asm_text.proofs.first_pass.read_text.Given as goal
 
 -- reading the rest of the text after the lines so far gives what reading the whole text gives

@@ -1,7 +1,7 @@
 use Rattle.std.proofs.Common.{sym, ◌∙◌, rules, ◌≡◌, Some}
-use Rattle.asm_text.specs.FirstPass.{name_defined}
-use Rattle.asm_text.specs.NameTables.{line_named}
-use Rattle.asm_text.specs.Views.{statement_said}
+use Rattle.asm_text.specs.private.FirstPass.{name_defined}
+use Rattle.asm_text.specs.private.NameTables.{line_named}
+use Rattle.asm_text.specs.private.Views.{statement_said}
 use Rattle.std.specs.Prelude.{is_some}
 use Rattle.asm_text.proofs.NameTableLemmas.{repeats_some}
 use Rattle.asm_text.proofs.first_pass.repeats.Goals as goal

@@ -1,6 +1,6 @@
 use Rattle.std.proofs.Common.{◌≡◌, ◌+◌, ◌≤◌, drop}
 use Rattle.asm_text.specs.Layout.{instruction_lines}
-use Rattle.asm_text.specs.FirstPass.{lines_in}
+use Rattle.asm_text.specs.private.FirstPass.{lines_in}
 use Rattle.asm_text.proofs.layout.instruction_lines.Given as goal
 
 abbrev pub invariant-loop-entry : goal.invariant-loop-entry

@@ -1,8 +1,8 @@
 use Rattle.std.proofs.Common.{◌≡◌, ◌+◌, ◌≤◌, ◌++◌, drop}
 use Rattle.std.specs.List.{flat_map}
 use Rattle.asm_text.specs.Layout.{by_threshold, placed, placed_from, parts_at, widths}
-use Rattle.asm_text.specs.FirstPass.{lines_in}
-use Rattle.asm_text.specs.Laying.{owner_in, placed_in}
+use Rattle.asm_text.specs.private.FirstPass.{lines_in}
+use Rattle.asm_text.specs.private.Laying.{owner_in, placed_in}
 use Rattle.asm_text.proofs.layout.lay_out.Given as goal
 
 -- the lines that are laid out, and then those that are left, are all

@@ -1,5 +1,5 @@
 use Rattle.std.proofs.Common.{◌≡◌, ◌++◌, take, reverse}
-use Rattle.asm_text.specs.Laying.{placed_in, next_places}
+use Rattle.asm_text.specs.private.Laying.{placed_in, next_places}
 use Rattle.asm_text.proofs.TargetLemmas.{next_before}
 use Rattle.asm_text.proofs.targets.targets.Given as goal
 

@@ -1,6 +1,6 @@
 use Rattle.std.proofs.Common.{◌≡◌, drop}
 use Rattle.asm_text.specs.Layout.{base_of}
-use Rattle.asm_text.specs.Laying.{placed_in, lines_of}
+use Rattle.asm_text.specs.private.Laying.{placed_in, lines_of}
 use Rattle.asm_text.proofs.write.base_of.Given as goal
 
 abbrev pub invariant-loop-line : goal.invariant-loop-line

@@ -1,6 +1,6 @@
 use Rattle.std.proofs.Common.{◌≡◌, ◌+◌, drop, length}
 use Rattle.asm_text.specs.Layout.{map_entries}
-use Rattle.asm_text.specs.Laying.{placed_in}
+use Rattle.asm_text.specs.private.Laying.{placed_in}
 use Rattle.asm_text.proofs.write.count_sleds.Given as goal
 
 abbrev pub invariant-loop-line : goal.invariant-loop-line

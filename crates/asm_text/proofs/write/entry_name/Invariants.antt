@@ -2,7 +2,7 @@ use Rattle.std.proofs.Common.{◌≡◌, drop}
 use Rattle.std.specs.Prelude.{slice_get}
 use Rattle.std.specs.List.{filter_map}
 use Rattle.asm_text.specs.Layout.{entry_in_line}
-use Rattle.asm_text.specs.Laying.{placed_in, lines_of}
+use Rattle.asm_text.specs.private.Laying.{placed_in, lines_of}
 use Rattle.asm_text.proofs.write.entry_name.Given as goal
 
 abbrev pub invariant-loop-line : goal.invariant-loop-line

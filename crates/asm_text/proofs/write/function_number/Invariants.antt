@@ -2,7 +2,7 @@ use Rattle.std.proofs.Common.{◌≡◌, ◌+◌, drop, length}
 use Rattle.std.specs.List.{position_or_len}
 use Rattle.std.specs.Str.{bytes_eq}
 use Rattle.asm_text.specs.Layout.{functions}
-use Rattle.asm_text.specs.Laying.{placed_in}
+use Rattle.asm_text.specs.private.Laying.{placed_in}
 use Rattle.asm_text.proofs.write.function_number.Given as goal
 
 abbrev pub invariant-loop-line : goal.invariant-loop-line

@@ -4,8 +4,8 @@ use Rattle.std.proofs.lemmas.Grind.{common_steps}
 use Rattle.xray_image.specs.Units.{piece_bytes}
 use Rattle.asm_text.specs.Layout.{pieces, functions, map_entries}
 use Rattle.asm_text.specs.Writing.{header_of, function_bytes, entry_bytes}
-use Rattle.asm_text.specs.LaidTexts.{all_in}
-use Rattle.asm_text.specs.Files.{IsHeaderOf}
+use Rattle.asm_text.specs.private.LaidTexts.{all_in}
+use Rattle.asm_text.specs.private.Files.{IsHeaderOf}
 use Rattle.asm_text.proofs.WriteLemmas.{file_parts}
 use Rattle.asm_text.proofs.write.write_file.Goals as goal
 

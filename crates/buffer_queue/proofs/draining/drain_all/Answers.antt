@@ -4,7 +4,7 @@ use Rattle.fdr_buffer.specs.Filled.{Filled}
 use Rattle.machine_step.specs.declared.setup.Setup.{Setup}
 use Rattle.buffer_queue.specs.declared.view.View.{View}
 use Rattle.buffer_queue.specs.Left.{IsLeft}
-use Rattle.buffer_queue.specs.Steps.{MayDrain}
+use Rattle.buffer_queue.specs.private.Steps.{MayDrain}
 use Rattle.buffer_queue.specs.Rule.{KeepsPool}
 use Rattle.buffer_queue.proofs.Endings.{ends}
 use Rattle.buffer_queue.proofs.draining.drain_all.Goals as goal

@@ -3,7 +3,7 @@ use Rattle.fdr_buffer.specs.Filled.{Filled, empty_buffer}
 use Rattle.machine_step.specs.declared.setup.Setup.{Setup}
 use Rattle.buffer_queue.specs.declared.view.View.{View}
 use Rattle.buffer_queue.specs.Views.{head_view}
-use Rattle.buffer_queue.specs.Steps.{MayStock}
+use Rattle.buffer_queue.specs.private.Steps.{MayStock}
 use Rattle.buffer_queue.proofs.stocking.stock_all.Goals as goal
 
 may : (v : View) (s : Setup) (n : ℕ) (x : Filled) → v ≡ head_view s 1 n → n + s.threads < s.max → x ≡ empty_buffer s.size → MayStock v x

@@ -1,7 +1,7 @@
 use Rattle.std.proofs.Common.{◌≡◌, ◌∙◌, ap, ap₂, fold}
 use Rattle.std.proofs.lemmas.Result.{IfOk-weaker}
 use Rattle.clap.specs.Simple.{app_of, with_rule}
-use Rattle.command_words.specs.Clapped.{app_by, bare_app, file_rule, option_rule}
+use Rattle.command_words.specs.private.Clapped.{app_by, bare_app, file_rule, option_rule}
 use Rattle.command_words.specs.Views.{file_view, option_view, row_view}
 use Rattle.command_words.proofs.Gathering.{mapped_twice}
 use Rattle.command_words.proofs.cutting.clap_command.Goals as goal

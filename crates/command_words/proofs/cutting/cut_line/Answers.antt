@@ -3,7 +3,7 @@ use Rattle.std.specs.Prelude.{String, if◌then◌else◌}
 use Rattle.std.specs.declared.alloc.Global.{Global}
 use Rattle.clap.specs.Simple.{App}
 use Rattle.clap.specs.declared.parser.matches.ArgMatches.{ArgMatches}
-use Rattle.command_words.specs.Clapped.{app_by, clap_rows, line_in, rows_in}
+use Rattle.command_words.specs.private.Clapped.{app_by, clap_rows, line_in, rows_in}
 use Rattle.command_words.specs.Items.{items_of, texts}
 use Rattle.clap.specs.Faults.{is_simple_and_free}
 use Rattle.command_words.specs.Lines.{is_cut, line_by, outputs_differ}

@@ -1,5 +1,5 @@
 use Rattle.std.proofs.Common.{◌≡◌, ◌++◌, map, drop}
-use Rattle.command_words.specs.Clapped.{given_in, rows_in}
+use Rattle.command_words.specs.private.Clapped.{given_in, rows_in}
 use Rattle.command_words.specs.Views.{option_view}
 use Rattle.command_words.proofs.cutting.given_in.Given as goal
 

@@ -7,7 +7,7 @@ use Rattle.clap.specs.Kinds.{HasKind, Kinds}
 use Rattle.clap.specs.Walk.{Row}
 use Rattle.clap.proofs.WalkLemmas.{both}
 use Rattle.command_words.proofs.Cuts.{cut_is}
-use Rattle.command_words.specs.Clapped.{after}
+use Rattle.command_words.specs.private.Clapped.{after}
 use Rattle.command_words.proofs.cutting.matches_of.Goals as goal
 
 passed : (kinds : Kinds) (rows found : List Row) → kinds ≡ [] → found ≡ rows → Some found ≡ after kinds (Some rows)

@@ -1,6 +1,6 @@
 use Rattle.std.proofs.Common.{◌≡◌, fold, map, drop}
 use Rattle.clap.specs.Simple.{app_of, with_rule}
-use Rattle.command_words.specs.Clapped.{option_rule}
+use Rattle.command_words.specs.private.Clapped.{option_rule}
 use Rattle.command_words.proofs.cutting.with_options.Given as goal
 
 abbrev pub invariant-loop-option : goal.invariant-loop-option

@@ -5,7 +5,7 @@ use Rattle.fdr_record.specs.declared.event.Event.{Event}
 use Rattle.fdr_file.specs.declared.events.Base.{Base}
 use Rattle.fdr_file.specs.declared.fault.TraceFault.{TraceFault}
 use Rattle.std.proofs.lemmas.Result.{err_from_is_err_and}
-use Rattle.fdr_file.specs.Reading.{events_on, with_front}
+use Rattle.fdr_file.specs.private.Reading.{events_on, with_front}
 use Rattle.fdr_file.specs.Traces.{standings}
 use Rattle.fdr_file.proofs.Walking.{events_done, events_more, events_refuse, events_stop}
 use Rattle.fdr_file.proofs.events.read_events.Goals as goal

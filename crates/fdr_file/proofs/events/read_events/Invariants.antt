@@ -1,5 +1,5 @@
 use Rattle.std.proofs.Common.{◌≡◌, ◌≤◌, ◌-◌, None, drop, length}
-use Rattle.fdr_file.specs.Reading.{events_on, with_front}
+use Rattle.fdr_file.specs.private.Reading.{events_on, with_front}
 use Rattle.fdr_file.specs.Traces.{standings}
 use Rattle.fdr_file.proofs.events.read_events.Given as goal
 

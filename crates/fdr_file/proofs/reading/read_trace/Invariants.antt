@@ -1,6 +1,6 @@
 use Rattle.std.proofs.Common.{◌≡◌, ◌≤◌, ◌-◌, drop, length}
 use Rattle.fdr_file.specs.Places.{starts}
-use Rattle.fdr_file.specs.Reading.{blocks_read}
+use Rattle.fdr_file.specs.private.Reading.{blocks_read}
 use Rattle.fdr_file.specs.Traces.{block_length, trace_of}
 use Rattle.fdr_file.proofs.reading.read_trace.Given as goal
 

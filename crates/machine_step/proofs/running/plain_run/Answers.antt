@@ -1,6 +1,6 @@
 use Rattle.std.proofs.Common.{refl, subst, ◌∙◌}
 use Rattle.machine_step.specs.declared.machine.Machine.{Machine}
-use Rattle.machine_step.specs.Machine.{state_at, RunsFrom}
+use Rattle.machine_step.specs.private.Machine.{state_at, RunsFrom}
 use Rattle.machine_step.proofs.running.plain_run.Goals as goal
 
 pub returns-clause-run : goal.returns-clause-run

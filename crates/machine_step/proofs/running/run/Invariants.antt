@@ -1,5 +1,5 @@
 use Rattle.std.proofs.Common.{◌+◌, length}
-use Rattle.machine_step.specs.Machine.{state_at, IsWithin}
+use Rattle.machine_step.specs.private.Machine.{state_at, IsWithin}
 use Rattle.machine_step.proofs.Runs.{Stands, measure}
 use Rattle.machine_step.proofs.running.run.Given as goal
 

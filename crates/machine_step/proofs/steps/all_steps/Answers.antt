@@ -1,7 +1,7 @@
 use Rattle.std.proofs.Common.{◌≡◌, [], ◌∷◌, length, refl, sym, subst, arith, length-append}
 use Rattle.std.proofs.lemmas.Option.{slice_get_past}
 use Rattle.machine_step.specs.declared.step.Step.TheVariants.{Nowhere}
-use Rattle.machine_step.specs.Steps.{IsStepAt}
+use Rattle.machine_step.specs.private.Steps.{IsStepAt}
 use Rattle.machine_step.proofs.Accepted.{HoldsSteps, low_address, has_sled, one_more_step}
 use Rattle.machine_step.proofs.steps.all_steps.Goals as goal
 

@@ -2,7 +2,7 @@ use Rattle.std.proofs.Common.{refl, subst, w32}
 use Rattle.std.specs.Prelude.{ℤ}
 use Rattle.std.proofs.lemmas.Int.{to_z-of_z}
 use Rattle.machine_step.specs.PlainStep.{branched}
-use Rattle.machine_step.specs.Steps.{IsPlaceOf}
+use Rattle.machine_step.specs.private.Steps.{IsPlaceOf}
 use Rattle.machine_step.proofs.steps.step_of_instruction.Goals as goal
 
 pub returns-in-Call : goal.returns-in-Call

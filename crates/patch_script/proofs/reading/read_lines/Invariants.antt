@@ -1,6 +1,6 @@
 use Rattle.std.proofs.Common.{◌≡◌, []}
 use Rattle.text_lines.specs.Lines.{numbered_lines}
-use Rattle.patch_script.specs.Drafts.{program_of, lines_of, IsDraft}
+use Rattle.patch_script.specs.private.Drafts.{program_of, lines_of, IsDraft}
 use Rattle.patch_script.specs.Refusals.{read_lines}
 use Rattle.patch_script.proofs.reading.read_lines.Given as goal
 

@@ -1,5 +1,5 @@
 use Rattle.std.proofs.Common.{map, ap, ◌∙◌, arith}
-use Rattle.patch_script.specs.Sleds.{values_of}
+use Rattle.patch_script.specs.private.Sleds.{values_of}
 use Rattle.patch_script.proofs.Places.{take_all, values_more}
 use Rattle.patch_script.proofs.sleds.sled_values.Goals as goal
 

@@ -1,6 +1,6 @@
 -- what the patcher has to know of the first sleds
 use Rattle.std.proofs.Common.{◌≡◌, take, map}
-use Rattle.patch_script.specs.Sleds.{values_of}
+use Rattle.patch_script.specs.private.Sleds.{values_of}
 use Rattle.patch_script.proofs.sleds.sled_values.Given as goal
 
 abbrev pub invariant-loop-number : goal.invariant-loop-number

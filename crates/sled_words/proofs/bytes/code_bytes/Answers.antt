@@ -6,8 +6,8 @@ use Rattle.sled_words.proofs.bytes.code_bytes.Goals as goal
 
 pub push_unit-requires : goal.push_unit-requires
 push_unit-requires c =
-    let sleds = c.sled_count.ensures in
-    unit_has_words c.args.image.now.units c.args.image.now.sleds c.args.words.now sleds.stand (omega (arith, sleds.count, sleds.few)) c.requires
+    let sleds = c.sleds_stand_in_units.ensures in
+    unit_has_words c.args.image.now.units c.args.image.now.sleds c.args.words.now sleds.stand (omega (arith, sleds.few)) c.requires
     c.loop-i.i c.unit.result c.unit.ensures c.unit.result.what refl
 
 pub loop-i-preserved : goal.loop-i-preserved

@@ -1,5 +1,5 @@
 use Rattle.std.proofs.Common.{◌≡◌, refl, sym, ◌∙◌, count_by}
-use Rattle.stack_rebuild.specs.Counts.{is_of}
+use Rattle.stack_rebuild.specs.private.Counts.{is_of}
 use Rattle.stack_rebuild.proofs.Opening.{from_innermost-none}
 use Rattle.stack_rebuild.proofs.calls.end_call.Goals as goal
 

@@ -1,6 +1,6 @@
 use Rattle.std.proofs.Common.{◌≡◌, ◌<◌, reverse, count_by, vec_len}
 use Rattle.stack_rebuild.specs.Calls.{from_innermost}
-use Rattle.stack_rebuild.specs.Counts.{AreCountsOf, is_of}
+use Rattle.stack_rebuild.specs.private.Counts.{AreCountsOf, is_of}
 use Rattle.stack_rebuild.proofs.calls.end_call.Given as goal
 
 abbrev pub invariant-ending : goal.invariant-ending

@@ -1,6 +1,6 @@
 use Rattle.std.proofs.Common.{arith, refl}
 use Rattle.stack_rebuild.specs.declared.scan.TheConstants.{MOST_OPEN}
-use Rattle.stack_rebuild.specs.Scanning.{no_event}
+use Rattle.stack_rebuild.specs.PairLaws.{no_event}
 use Rattle.stack_rebuild.proofs.Depth.{deep_at}
 use Rattle.stack_rebuild.proofs.scan.add_events.Goals as goal
 

@@ -2,7 +2,7 @@ use Rattle.std.proofs.Common.{◌≡◌, ◌++◌, false, List, reverse, take}
 use Rattle.fdr_record.specs.declared.event.Event.{Event}
 use Rattle.stack_rebuild.specs.declared.scan.TheConstants.{MOST_OPEN}
 use Rattle.stack_rebuild.specs.Calls.{standing_after}
-use Rattle.stack_rebuild.specs.Scanning.{AreWithin, Follows}
+use Rattle.stack_rebuild.specs.private.Scanning.{AreWithin, Follows}
 use Rattle.stack_rebuild.specs.Stacks.{Timed, gets_deep}
 use Rattle.stack_rebuild.proofs.scan.add_events.Given as goal
 

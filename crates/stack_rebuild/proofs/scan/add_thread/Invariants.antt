@@ -1,9 +1,9 @@
 use Rattle.std.proofs.Common.{◌≡◌, ◌<◌, ◌++◌, false, List, length, reverse, take}
 use Rattle.fdr_record.specs.declared.event.Event.{Event}
 use Rattle.stack_rebuild.specs.declared.scan.TheConstants.{MOST_OPEN}
-use Rattle.stack_rebuild.specs.ByThread.{events_at}
+use Rattle.stack_rebuild.specs.private.ByThread.{events_at}
 use Rattle.stack_rebuild.specs.Calls.{standing_after}
-use Rattle.stack_rebuild.specs.Scanning.{AreSums, AreWithin, Follows}
+use Rattle.stack_rebuild.specs.private.Scanning.{AreSums, AreWithin, Follows}
 use Rattle.stack_rebuild.specs.Stacks.{Timed, gets_deep}
 use Rattle.stack_rebuild.proofs.scan.add_thread.Given as goal
 

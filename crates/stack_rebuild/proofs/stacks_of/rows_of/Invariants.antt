@@ -1,5 +1,5 @@
 use Rattle.std.proofs.Common.{◌≡◌, map}
-use Rattle.stack_rebuild.specs.Rows.{rows_below}
+use Rattle.stack_rebuild.specs.private.Rows.{rows_below}
 use Rattle.stack_rebuild.specs.Stacks.{told}
 use Rattle.stack_rebuild.proofs.stacks_of.rows_of.Given as goal
 

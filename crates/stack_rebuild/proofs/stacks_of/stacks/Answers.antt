@@ -2,8 +2,8 @@ use Rattle.std.proofs.Common.{◌≡◌, ◌∙◌, List, map, ap, subst, rules}
 use Rattle.std.proofs.lemmas.Fn.{always_returns_same}
 use Rattle.std.proofs.lemmas.List.MinMax.{ranks_by}
 use Rattle.fdr_file.specs.declared.trace.Block.{Block}
-use Rattle.stack_rebuild.specs.Rows.{row_before}
-use Rattle.stack_rebuild.specs.Scanning.{AreSums}
+use Rattle.stack_rebuild.specs.private.Rows.{row_before}
+use Rattle.stack_rebuild.specs.private.Scanning.{AreSums}
 use Rattle.stack_rebuild.specs.Stacks.{all_timed}
 use Rattle.stack_rebuild.proofs.RowsOf.{row_order, rows_sorted}
 use Rattle.stack_rebuild.proofs.stacks_of.stacks.Goals as goal

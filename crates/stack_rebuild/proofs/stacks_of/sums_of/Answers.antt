@@ -3,9 +3,9 @@ use Rattle.std.specs.List.{flat_map}
 use Rattle.std.proofs.lemmas.Result.{err_from_is_err_and}
 use Rattle.stack_rebuild.specs.declared.scan.TheConstants.{MOST_OPEN}
 use Rattle.stack_rebuild.specs.declared.thread_blocks.ThreadBlocks.{ThreadBlocks}
-use Rattle.stack_rebuild.specs.ByThread.{AreThreads, IsFaultOf, events_at}
+use Rattle.stack_rebuild.specs.private.ByThread.{AreThreads, IsFaultOf, events_at}
 use Rattle.stack_rebuild.specs.Histories.{events_of}
-use Rattle.stack_rebuild.specs.Scanning.{AreSums}
+use Rattle.stack_rebuild.specs.private.Scanning.{AreSums}
 use Rattle.stack_rebuild.specs.Stacks.{gets_deep, timed_in}
 use Rattle.stack_rebuild.proofs.Adding.{adds_thread, deep_thread, shallow_thread, whole_shallow, whole_sums}
 use Rattle.stack_rebuild.proofs.stacks_of.sums_of.Goals as goal

@@ -3,7 +3,7 @@ use Rattle.std.specs.Prelude.{filter}
 use Rattle.std.specs.List.{flat_map}
 use Rattle.stack_rebuild.specs.declared.scan.TheConstants.{MOST_OPEN}
 use Rattle.stack_rebuild.specs.Histories.{events_of}
-use Rattle.stack_rebuild.specs.Scanning.{AreSums}
+use Rattle.stack_rebuild.specs.private.Scanning.{AreSums}
 use Rattle.stack_rebuild.specs.Stacks.{gets_deep, timed_in}
 use Rattle.stack_rebuild.proofs.stacks_of.sums_of.Given as goal
 

@@ -2,7 +2,7 @@ use Rattle.std.proofs.Common.{◌≡◌, List, map, sym, subst}
 use Rattle.std.specs.Global.{Vec}
 use Rattle.std.proofs.lemmas.Result.{IfOk-weaker}
 use Rattle.stack_rebuild.specs.declared.thread_blocks.ThreadBlocks.{ThreadBlocks}
-use Rattle.stack_rebuild.specs.ByThread.{AreThreads, thread_of}
+use Rattle.stack_rebuild.specs.private.ByThread.{AreThreads, thread_of}
 use Rattle.stack_rebuild.proofs.Threads.{threads_listed}
 use Rattle.stack_rebuild.proofs.thread_blocks.by_thread.Goals as goal
 

@@ -1,6 +1,6 @@
 use Rattle.std.proofs.Common.{ℕ, List, sym, ap, subst, length, reverse, ◌∙◌, ◌<◌}
 use Rattle.stack_rebuild.specs.declared.thread_stack.Frame.{Frame}
-use Rattle.stack_rebuild.specs.Scanning.{top_of}
+use Rattle.stack_rebuild.specs.private.Scanning.{top_of}
 use Rattle.stack_rebuild.proofs.Frames.{top_below}
 use Rattle.stack_rebuild.proofs.thread_stack.open_frame.Goals as goal
 

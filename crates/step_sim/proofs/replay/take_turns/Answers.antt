@@ -1,6 +1,6 @@
 use Rattle.std.proofs.Common.{◌≤◌, ◌+◌, ◌-◌, ℕ, arith, length, min, subst}
 use Rattle.patch_script.specs.Micros.{total_of}
-use Rattle.step_sim.specs.Standing.{IsPatcherAt}
+use Rattle.step_sim.specs.private.Standing.{IsPatcherAt}
 use Rattle.step_sim.specs.Schedules.{AreTurnsOf}
 use Rattle.step_sim.proofs.AllThreads.{found_at, patcher_line, play_of, stand_of, thread_line}
 use Rattle.step_sim.proofs.AllRecorded.{patcher_recorded, record_of, records_of, thread_recorded}

@@ -1,6 +1,6 @@
 use Rattle.std.proofs.Common.{◌≡◌, All}
 use Rattle.step_sim.specs.Schedules.{schedule_of, AreTurnsOf}
-use Rattle.step_sim.specs.Readings.{read_on}
+use Rattle.step_sim.specs.private.Readings.{read_on}
 use Rattle.step_sim.proofs.schedule.read_schedule.Given as goal
 
 -- reading the rest of the text after the turns so far gives what reading the whole text gives

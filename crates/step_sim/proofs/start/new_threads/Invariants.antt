@@ -1,6 +1,6 @@
 use Rattle.std.proofs.Common.{◌≡◌, length}
 use Rattle.patch_script.specs.Refusals.{commands_of}
-use Rattle.step_sim.specs.Standing.{AllHaveBegun}
+use Rattle.step_sim.specs.private.Standing.{AllHaveBegun}
 use Rattle.step_sim.proofs.start.new_threads.Given as goal
 
 abbrev pub invariant-loop-number : goal.invariant-loop-number

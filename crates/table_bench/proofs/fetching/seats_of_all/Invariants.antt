@@ -3,7 +3,7 @@ use Rattle.std.proofs.Common.{◌≡◌}
 use Rattle.std.specs.Prelude.{All}
 use Rattle.sled_rule.specs.Plans.{start_in}
 use Rattle.sled_rule.specs.Seats.{patch_view, script_of, IsPatcherOf}
-use Rattle.table_bench.specs.Fetchers.{IsFresh}
+use Rattle.table_bench.specs.private.Fetchers.{IsFresh}
 use Rattle.table_bench.proofs.fetching.seats_of_all.Given as goal
 
 abbrev pub invariant-seats : goal.invariant-seats

@@ -1,6 +1,6 @@
 use Rattle.std.proofs.Common.{Bor, List, ℕ, map, ap, ◌∙◌}
 use Rattle.std.specs.Prelude.{not}
-use Rattle.xray_image.specs.Judging.{is_among}
+use Rattle.xray_image.specs.private.Judging.{is_among}
 use Rattle.xray_image.proofs.FunctionRows.{among_keys, among_insert}
 use Rattle.xray_image.proofs.functions.add_name.Goals as goal
 

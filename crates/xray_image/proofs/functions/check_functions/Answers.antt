@@ -2,7 +2,7 @@ use Rattle.std.proofs.Common.{length, map, inr, arith, refl, sym, ◌∙◌, bel
 use Rattle.std.proofs.lemmas.Bool.{false≢true}
 use Rattle.xray_image.specs.Program.{addresses}
 use Rattle.xray_image.specs.Table.{FunctionIsFit}
-use Rattle.xray_image.specs.Views.{function_of}
+use Rattle.xray_image.specs.private.Views.{function_of}
 use Rattle.xray_image.proofs.Scans.{from_below}
 use Rattle.xray_image.proofs.FunctionRows.{fit, unfit, not_own, past_more, no_function, true_not, false_not}
 use Rattle.xray_image.proofs.functions.check_functions.Goals as goal

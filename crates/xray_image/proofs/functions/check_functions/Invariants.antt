@@ -1,9 +1,9 @@
 use Rattle.std.proofs.Common.{◌<◌, ℕ, List, map}
 use Rattle.xray_image.specs.declared.unit.Unit.{Unit}
-use Rattle.xray_image.specs.Index.{IsIndexOf}
+use Rattle.xray_image.specs.private.Index.{IsIndexOf}
 use Rattle.xray_image.specs.Program.{addresses}
 use Rattle.xray_image.specs.Table.{FunctionIsFit}
-use Rattle.xray_image.specs.Views.{function_of}
+use Rattle.xray_image.specs.private.Views.{function_of}
 use Rattle.xray_image.proofs.FunctionRows.{IsPast}
 use Rattle.xray_image.proofs.functions.check_functions.Given as goal
 

@@ -1,7 +1,7 @@
 use Rattle.std.proofs.Common.{[], ◌∷◌, map, inr, refl, ap, ◌∙◌}
 use Rattle.std.proofs.lemmas.List.{map-append}
 use Rattle.xray_image.specs.Container.{map_entry_at}
-use Rattle.xray_image.specs.Views.{entry_of}
+use Rattle.xray_image.specs.private.Views.{entry_of}
 use Rattle.xray_image.proofs.Several.{first_items, one_more_item, no_item, all_items}
 use Rattle.xray_image.proofs.parts.read_entries.Goals as goal
 

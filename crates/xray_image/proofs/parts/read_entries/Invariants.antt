@@ -1,6 +1,6 @@
 use Rattle.std.proofs.Common.{◌≡◌, ◌-◌, map}
 use Rattle.xray_image.specs.Container.{several, map_entry_at}
-use Rattle.xray_image.specs.Views.{entry_of}
+use Rattle.xray_image.specs.private.Views.{entry_of}
 use Rattle.xray_image.proofs.Several.{with_front}
 use Rattle.xray_image.proofs.parts.read_entries.Given as goal
 

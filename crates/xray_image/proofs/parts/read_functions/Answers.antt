@@ -1,7 +1,7 @@
 use Rattle.std.proofs.Common.{[], ◌∷◌, map, inr, refl, ap, ◌∙◌}
 use Rattle.std.proofs.lemmas.List.{map-append}
 use Rattle.xray_image.specs.Container.{function_at}
-use Rattle.xray_image.specs.Views.{function_of}
+use Rattle.xray_image.specs.private.Views.{function_of}
 use Rattle.xray_image.proofs.Several.{first_items, one_more_item, no_item, all_items}
 use Rattle.xray_image.proofs.parts.read_functions.Goals as goal
 

@@ -1,6 +1,6 @@
 use Rattle.std.proofs.Common.{◌≡◌, ◌-◌, map}
 use Rattle.xray_image.specs.Container.{several, function_at}
-use Rattle.xray_image.specs.Views.{function_of}
+use Rattle.xray_image.specs.private.Views.{function_of}
 use Rattle.xray_image.proofs.Several.{with_front}
 use Rattle.xray_image.proofs.parts.read_functions.Given as goal
 

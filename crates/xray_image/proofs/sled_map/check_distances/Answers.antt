@@ -2,7 +2,7 @@ use Rattle.std.proofs.Common.{◌<◌, ◌∙◌, length, get_or, map, arith, re
 use Rattle.std.proofs.lemmas.Bool.{false≢true}
 use Rattle.xray_image.specs.Table.{FitsAt}
 use Rattle.xray_image.specs.Program.{Reaches, trampoline_of}
-use Rattle.xray_image.specs.Views.{place_of, entry_of, trampolines_of}
+use Rattle.xray_image.specs.private.Views.{place_of, entry_of, trampolines_of}
 use Rattle.xray_image.proofs.Entries.{near, near_back}
 use Rattle.xray_image.proofs.Scans.{from_below, fits, misfits, fits_past, zero_spot, zero_line, spot_is, line_is}
 use Rattle.xray_image.proofs.sled_map.check_distances.Goals as goal

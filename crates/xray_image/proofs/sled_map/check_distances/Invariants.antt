@@ -1,7 +1,7 @@
 use Rattle.std.proofs.Common.{◌<◌, ℕ, map}
 use Rattle.xray_image.specs.Program.{Reaches}
 use Rattle.xray_image.specs.Table.{FitsAt}
-use Rattle.xray_image.specs.Views.{place_of, entry_of, trampolines_of}
+use Rattle.xray_image.specs.private.Views.{place_of, entry_of, trampolines_of}
 use Rattle.xray_image.proofs.sled_map.check_distances.Given as goal
 
 abbrev pub invariant-loop-number : goal.invariant-loop-number

@@ -2,7 +2,7 @@ use Rattle.std.proofs.Common.{◌<◌, length, get_or, map, arith, refl, below_m
 use Rattle.std.proofs.lemmas.Bool.{false≢true}
 use Rattle.xray_image.specs.Table.{FitsAt}
 use Rattle.xray_image.specs.Program.{IsEntryOf}
-use Rattle.xray_image.specs.Views.{function_of, place_of, entry_of}
+use Rattle.xray_image.specs.private.Views.{function_of, place_of, entry_of}
 use Rattle.xray_image.proofs.Scans.{from_below, fits, misfits, fits_past, zero_spot, zero_line, spot_is, line_is}
 use Rattle.xray_image.proofs.sled_map.check_entries.Goals as goal
 

@@ -1,7 +1,7 @@
 use Rattle.std.proofs.Common.{◌<◌, ℕ, map}
 use Rattle.xray_image.specs.Program.{IsEntryOf}
 use Rattle.xray_image.specs.Table.{FitsAt}
-use Rattle.xray_image.specs.Views.{function_of, place_of, entry_of}
+use Rattle.xray_image.specs.private.Views.{function_of, place_of, entry_of}
 use Rattle.xray_image.proofs.sled_map.check_entries.Given as goal
 
 abbrev pub invariant-loop-number : goal.invariant-loop-number

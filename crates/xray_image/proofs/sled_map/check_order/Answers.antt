@@ -1,6 +1,6 @@
 use Rattle.std.proofs.Common.{◌<◌, length, get_or, map, arith, refl, below_more}
 use Rattle.xray_image.specs.Table.{HasOneAddress}
-use Rattle.xray_image.specs.Views.{place_of, entry_of}
+use Rattle.xray_image.specs.private.Views.{place_of, entry_of}
 use Rattle.xray_image.proofs.Scans.{from_below, one_past, no_line, no_spot, one_address, other_address, zero_spot, zero_line, spot_is, line_is}
 use Rattle.xray_image.proofs.sled_map.check_order.Goals as goal
 

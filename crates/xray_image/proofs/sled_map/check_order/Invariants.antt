@@ -1,6 +1,6 @@
 use Rattle.std.proofs.Common.{◌<◌, ◌≤◌, ℕ, length, map}
 use Rattle.xray_image.specs.Table.{HasOneAddress}
-use Rattle.xray_image.specs.Views.{place_of, entry_of}
+use Rattle.xray_image.specs.private.Views.{place_of, entry_of}
 use Rattle.xray_image.proofs.sled_map.check_order.Given as goal
 
 abbrev pub invariant-loop-number : goal.invariant-loop-number

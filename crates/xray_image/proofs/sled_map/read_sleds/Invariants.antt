@@ -1,7 +1,7 @@
 use Rattle.std.proofs.Common.{◌≡◌, map, take}
 use Rattle.std.specs.List.{zip}
 use Rattle.xray_image.specs.Program.{sled_of}
-use Rattle.xray_image.specs.Views.{entry_of, place_of}
+use Rattle.xray_image.specs.private.Views.{entry_of, place_of}
 use Rattle.xray_image.proofs.sled_map.read_sleds.Given as goal
 
 abbrev pub invariant-loop-number : goal.invariant-loop-number

@@ -1,7 +1,7 @@
 use Rattle.std.proofs.Common.{ℕ, [], sym, subst}
 use Rattle.xray_io.specs.World.{World, desk_view, sink_view}
 use Rattle.xray_program.specs.Answers.{Answered}
-use Rattle.xray_program.specs.Stops.{stop_line, stop_status}
+use Rattle.xray_program.specs.private.Stops.{stop_line, stop_status}
 use Rattle.command_words.specs.Items.{texts}
 use Rattle.command_words.specs.Words.{reading}
 use Rattle.xray_program.proofs.Answering.{answered, stops_above}

@@ -1,4 +1,4 @@
-use Rattle.xray_program.specs.Ends.{AreEnds}
+use Rattle.xray_program.specs.private.Ends.{AreEnds}
 use Rattle.xray_program.proofs.plain.run_threads.Given as goal
 
 abbrev pub invariant-loop-thread : goal.invariant-loop-thread

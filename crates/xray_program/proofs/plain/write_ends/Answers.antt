@@ -1,5 +1,5 @@
 use Rattle.xray_io.specs.Writes.{sends_nothing}
-use Rattle.xray_program.specs.Ends.{end_text}
+use Rattle.xray_program.specs.private.Ends.{end_text}
 use Rattle.xray_program.proofs.Rows.{row_more, row_stop}
 use Rattle.xray_program.proofs.plain.write_ends.Goals as goal
 

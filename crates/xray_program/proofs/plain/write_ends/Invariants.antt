@@ -1,7 +1,7 @@
 use Rattle.std.proofs.Common.{Ok, take}
 use Rattle.std.specs.List.{flat_map}
 use Rattle.xray_io.specs.Writes.{WritesText}
-use Rattle.xray_program.specs.Ends.{end_text}
+use Rattle.xray_program.specs.private.Ends.{end_text}
 use Rattle.xray_program.proofs.plain.write_ends.Given as goal
 
 abbrev pub invariant-loop-end : goal.invariant-loop-end

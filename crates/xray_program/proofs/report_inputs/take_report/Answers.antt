@@ -2,7 +2,7 @@ use Rattle.std.proofs.Common.{[], ◌∷◌, Option, option_map, refl, le_refl, 
 use Rattle.xray_io.specs.World.{desk_view}
 use Rattle.xray_program.specs.Inputs.{image_form, trace_form}
 use Rattle.xray_program.specs.Reports.{image_input, report_inputs}
-use Rattle.xray_program.specs.ReportTakes.{StopsReport}
+use Rattle.xray_program.specs.private.ReportTakes.{StopsReport}
 use Rattle.xray_program.proofs.Ordering.{no_reads, read_on, stop_handed}
 use Rattle.xray_program.proofs.Reports.{image_read, image_stopped, stop_of_image, stop_of_trace, trace_came}
 use Rattle.xray_program.proofs.report_inputs.take_report.Goals as goal

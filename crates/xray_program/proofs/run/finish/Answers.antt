@@ -5,10 +5,10 @@ use Rattle.thread_run.specs.Runs.{HaveRunBeside}
 use Rattle.xray_image.specs.Program.{Program}
 use Rattle.xray_io.specs.World.{desk_view, sink_view}
 use Rattle.xray_program.specs.Run.{FollowsPlan, RunsBeside}
-use Rattle.xray_program.specs.RunInputs.{comes_of}
+use Rattle.xray_program.specs.private.RunInputs.{comes_of}
 use Rattle.xray_program.specs.Setups.{setup_of}
 use Rattle.xray_program.specs.Traced.{Traces, state_texts, written_of}
-use Rattle.xray_program.specs.Works.{Finishes}
+use Rattle.xray_program.specs.private.Works.{Finishes}
 use Rattle.xray_program.specs.declared.stop.Stop.TheVariants as stops
 use Rattle.xray_program.proofs.Endings.{finishes, refuses}
 use Rattle.xray_program.proofs.RunWritten.{leaves_same}

@@ -1,5 +1,5 @@
 use Rattle.xray_io.specs.World.{desk_view, sink_view}
-use Rattle.xray_program.specs.RunInputs.{comes_of, said_by}
+use Rattle.xray_program.specs.private.RunInputs.{comes_of, said_by}
 use Rattle.xray_program.proofs.Endings.{ends_at_input, ends_with_work}
 use Rattle.xray_program.proofs.run.perform_run.Goals as goal
 

@@ -1,7 +1,7 @@
 use Rattle.std.proofs.Common.{[], ◌∷◌, refl, le_refl}
 use Rattle.xray_io.specs.World.{desk_view}
 use Rattle.xray_program.specs.Inputs.{image_form, script_form}
-use Rattle.xray_program.specs.RunInputs.{comes_of}
+use Rattle.xray_program.specs.private.RunInputs.{comes_of}
 use Rattle.xray_program.specs.Setups.{setup_of}
 use Rattle.xray_program.proofs.Ordering.{no_reads, read_on, stop_handed}
 use Rattle.xray_program.proofs.RunTurns.{AfterImage, AfterScript, Comes, to_script}

@@ -2,7 +2,7 @@ use Rattle.std.proofs.Common.{◌∙◌, None, ap, length, subst, sym}
 use Rattle.std.specs.List.{All}
 use Rattle.machine_step.specs.Traced.{IsDone}
 use Rattle.xray_io.specs.World.{desk_view, sink_view}
-use Rattle.xray_program.specs.Works.{Delivers}
+use Rattle.xray_program.specs.private.Works.{Delivers}
 use Rattle.xray_program.proofs.RunWritten.{lines_count, lost_counts, only_lines, run_ended, run_written, segment_counts}
 use Rattle.xray_program.proofs.traced.deliver_run.Goals as goal
 

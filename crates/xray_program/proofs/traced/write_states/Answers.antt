@@ -1,7 +1,7 @@
 use Rattle.std.proofs.Common.{ℕ, Ok, Err, subst}
 use Rattle.machine_step.specs.EndedText.{ended_text}
 use Rattle.xray_io.specs.Writes.{WritesText, sends_nothing}
-use Rattle.xray_program.specs.Ends.{thread_text}
+use Rattle.xray_program.specs.private.Ends.{thread_text}
 use Rattle.xray_program.proofs.Rows.{row_more, row_stop}
 use Rattle.xray_program.proofs.traced.write_states.Goals as goal
 

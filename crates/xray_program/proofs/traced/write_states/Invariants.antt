@@ -1,7 +1,7 @@
 use Rattle.std.proofs.Common.{Ok, take}
 use Rattle.std.specs.List.{flat_map}
 use Rattle.xray_io.specs.Writes.{WritesText}
-use Rattle.xray_program.specs.Ends.{thread_text}
+use Rattle.xray_program.specs.private.Ends.{thread_text}
 use Rattle.xray_program.proofs.traced.write_states.Given as goal
 
 abbrev pub invariant-loop-cpu : goal.invariant-loop-cpu

@@ -2,7 +2,7 @@ use Rattle.std.proofs.Common.{◌≡◌, ◌-◌, ◌∙◌, ℕ, length, List, 
 use Rattle.std.proofs.lemmas.List.Sorted.{IsNonDecreasingBy-from_sort}
 use Rattle.account_report.specs.Account.{row_from}
 use Rattle.account_report.specs.Ascending.{ascending}
-use Rattle.account_report.specs.Tallies.{Tallied, row_with}
+use Rattle.account_report.specs.private.Tallies.{Tallied, row_with}
 use Rattle.account_report.proofs.Rising.{ascending-sorted}
 use Rattle.account_report.proofs.tally.Tally.into_row.Goals as goal
 

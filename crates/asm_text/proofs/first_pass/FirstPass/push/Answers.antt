@@ -1,9 +1,9 @@
 use Rattle.std.proofs.Common.{◌∙◌, ap, rules, arith, cond, ℕ, ◌≡◌, List, Some, length, ◌++◌, ◌∷◌, []}
 use Rattle.std.proofs.lemmas.List.{length-map}
 use Rattle.std.proofs.lemmas.Grind.{common_steps}
-use Rattle.asm_text.specs.NameTables.{line_named}
-use Rattle.asm_text.specs.Views.{statement_said}
-use Rattle.asm_text.specs.FirstPass.{lines_in, name_defined, is_named}
+use Rattle.asm_text.specs.private.NameTables.{line_named}
+use Rattle.asm_text.specs.private.Views.{statement_said}
+use Rattle.asm_text.specs.private.FirstPass.{lines_in, name_defined, is_named}
 use Rattle.asm_text.proofs.NameTableLemmas.{names_more}
 use Rattle.asm_text.proofs.first_pass.FirstPass.push.Goals as goal
 

@@ -1,7 +1,7 @@
 use Rattle.std.proofs.Common.{sym, ◌∙◌, rules, ◌≡◌, true, false}
 use Rattle.asm_text.specs.Refusals.{repeats}
-use Rattle.asm_text.specs.Views.{statement_said}
-use Rattle.asm_text.specs.FirstPass.{lines_in, totals_exceed}
+use Rattle.asm_text.specs.private.Views.{statement_said}
+use Rattle.asm_text.specs.private.FirstPass.{lines_in, totals_exceed}
 use Rattle.asm_text.proofs.TotalsLemmas.{totals_more}
 use Rattle.asm_text.proofs.FirstPassLemmas.{taken_limit, taken_ok, within_limits}
 use Rattle.asm_text.proofs.first_pass.FirstPass.totals_with.Goals as goal

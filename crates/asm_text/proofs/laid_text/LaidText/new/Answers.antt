@@ -1,8 +1,8 @@
 use Rattle.std.proofs.Common.{◌≡◌, sym, ap, subst, ◌∙◌, ◌≤◌, List}
 use Rattle.asm_text.specs.declared.first_pass.Entry.{Entry}
 use Rattle.asm_text.specs.Layout.{by_threshold, placed, widths, all_parts}
-use Rattle.asm_text.specs.FirstPass.{lines_in}
-use Rattle.asm_text.specs.Laying.{placed_in, next_places}
+use Rattle.asm_text.specs.private.FirstPass.{lines_in}
+use Rattle.asm_text.specs.private.Laying.{placed_in, next_places}
 use Rattle.asm_text.proofs.Writable.{code_fits, writable}
 use Rattle.asm_text.proofs.laid_text.LaidText.new.Goals as goal
 

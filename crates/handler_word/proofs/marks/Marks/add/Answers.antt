@@ -3,7 +3,7 @@ use mir.Val.{bool_byte}
 use Rattle.std.proofs.lemmas.List.Sums.{sum_by-append}
 use Rattle.handler_word.specs.declared.mark.Mark.{Mark}
 use Rattle.handler_word.specs.declared.mark.Mark.TheVariants.{Skipped, NoHandler, NotLogging, Recorded}
-use Rattle.handler_word.specs.Bits.{marks_from}
+use Rattle.handler_word.specs.private.Bits.{marks_from}
 use Rattle.handler_word.specs.MarkList.{is_recorded, recorded_count}
 use Rattle.handler_word.proofs.MarkBits.{seen_counts}
 use Rattle.handler_word.proofs.marks.Marks.add.Goals as goal

@@ -2,7 +2,7 @@ use Rattle.std.proofs.Common.{◌≡◌, ◌<◌, ◌+◌, ◌/◌, ◌%◌, ◌
 use Rattle.std.specs.Prelude.{slice_get}
 use Rattle.std.proofs.lemmas.Grind.{get_or_default_zero}
 use Rattle.std.proofs.lemmas.Nat.{and_mask}
-use Rattle.handler_word.specs.Bits.{mark_of, bits_of}
+use Rattle.handler_word.specs.private.Bits.{mark_of, bits_of}
 use Rattle.handler_word.specs.MarkList.{MarkList}
 use Rattle.handler_word.proofs.MarkBits.{seen_counts, mark_there}
 use Rattle.handler_word.proofs.marks.Marks.get.Goals as goal

@@ -3,7 +3,7 @@ use Rattle.std.specs.Prelude.{◌↔◌, IsTrue, slice_get}
 use Rattle.xray_image.specs.declared.sled.Sled.{Sled}
 use Rattle.xray_image.specs.Program.{Program}
 use Rattle.machine_step.specs.declared.stage.Stage.{Stage}
-use Rattle.machine_step.specs.Stages.{AllowsAt}
+use Rattle.machine_step.specs.private.Stages.{AllowsAt}
 use Rattle.machine_step.specs.Traced.{Allows, Traced}
 use Rattle.machine_step.proofs.Opening.{allows_by, loading_at, sled_within}
 use Rattle.machine_step.proofs.cpu.Cpu.allowed.Goals as goal

@@ -7,7 +7,7 @@ use Rattle.machine_step.specs.declared.end.End.{End}
 use Rattle.machine_step.specs.declared.stand.Stand.TheVariants.{Loading}
 use Rattle.machine_step.specs.declared.want.Want.TheVariants as wants
 use Rattle.machine_step.specs.Events.{events_in, recorded}
-use Rattle.machine_step.specs.Inside.{traced, want_at}
+use Rattle.machine_step.specs.private.Inside.{traced, want_at}
 use Rattle.machine_step.specs.Loads.{Load}
 use Rattle.machine_step.specs.PlainStep.{Passing, PlainRun, State}
 use Rattle.machine_step.specs.Traced.{Allows, HasLoaded, IsKept, MarksAdded, Traced, load_of, loads_left}

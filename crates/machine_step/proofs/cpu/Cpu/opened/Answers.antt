@@ -1,6 +1,6 @@
 use Rattle.std.proofs.Common.{sym, subst}
 use Rattle.machine_step.specs.declared.stage.Stage.{Stage}
-use Rattle.machine_step.specs.Inside.{IsStageOf}
+use Rattle.machine_step.specs.private.Inside.{IsStageOf}
 use Rattle.machine_step.specs.Traced.{HasLoaded, Traced}
 use Rattle.machine_step.proofs.Opening.{first_of_hold, gate_at, opened_loads, sound_loading}
 use Rattle.machine_step.proofs.cpu.Cpu.opened.Goals as goal

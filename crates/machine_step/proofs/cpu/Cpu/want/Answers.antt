@@ -2,7 +2,7 @@ use Rattle.std.proofs.Common.{◌≡◌, ◌∙◌, ap, arith, length, subst, sy
 use Rattle.xray_image.specs.Program.{Program}
 use Rattle.machine_step.specs.declared.stand.Stand.{Stand}
 use Rattle.machine_step.specs.declared.want.Want.TheVariants.{Load}
-use Rattle.machine_step.specs.Inside.{want_at}
+use Rattle.machine_step.specs.private.Inside.{want_at}
 use Rattle.machine_step.specs.Traced.{IsLoadable, StandsAs, Traced}
 use Rattle.machine_step.proofs.FewSleds.{few_sleds}
 use Rattle.machine_step.proofs.Opening.{loadable_now, loading_at, sled_within, stands_now}

@@ -2,7 +2,7 @@ use Rattle.std.proofs.Common.{◌≤◌, length, refl, sym, subst, arith}
 use Rattle.std.proofs.lemmas.List.{length-map}
 use Rattle.std.proofs.lemmas.Option.{slice_get_read}
 use Rattle.patch_script.specs.declared.placed.Placed.{Placed}
-use Rattle.patch_script.specs.Placing.{line_in}
+use Rattle.patch_script.specs.private.Placing.{line_in}
 use Rattle.patch_script.proofs.Places.{found_step}
 use Rattle.patch_script.proofs.placed.PlacedCommands.micro.Goals as goal
 

@@ -1,6 +1,6 @@
 use Rattle.std.proofs.Common.{ap, length, ◌∙◌, arith}
 use Rattle.std.proofs.lemmas.List.{length-map}
-use Rattle.patch_script.specs.Sleds.{values_of}
+use Rattle.patch_script.specs.private.Sleds.{values_of}
 use Rattle.patch_script.proofs.Places.{values_in_order, all_named, function_named}
 use Rattle.patch_script.proofs.placed.PlacedCommands.sleds_of.Goals as goal
 

@@ -1,5 +1,5 @@
 use Rattle.std.proofs.Common.{◌≤◌, subst, arith}
-use Rattle.patch_script.specs.Placing.{NamesFewThreads, patched_before}
+use Rattle.patch_script.specs.private.Placing.{NamesFewThreads, patched_before}
 use Rattle.patch_script.proofs.Places.{patched_within, unpatched_within, patched_step, unpatched_step}
 use Rattle.patch_script.proofs.placed.PlacedCommands.step.Goals as goal
 

@@ -6,10 +6,10 @@ use Rattle.patch_script.specs.declared.micro.Micro.TheVariants.{Store}
 use Rattle.patch_script.specs.declared.sleds.SledValues.{SledValues}
 use Rattle.sled_words.specs.declared.part.Part.TheVariants.{Head}
 use Rattle.sled_words.specs.Words.{word_of}
-use Rattle.patch_script.specs.FirstPatches.{is_before, first_in}
+use Rattle.patch_script.specs.private.FirstPatches.{is_before, first_in}
 use Rattle.patch_script.specs.Micros.{head_left}
-use Rattle.patch_script.specs.Placing.{patched_before}
-use Rattle.patch_script.specs.Sleds.{values_of}
+use Rattle.patch_script.specs.private.Placing.{patched_before}
+use Rattle.patch_script.specs.private.Sleds.{values_of}
 use Rattle.patch_script.proofs.Places.{was_patched}
 use Rattle.patch_script.proofs.placed.PlacedCommands.unpatch_step.Goals as goal
 

@@ -2,10 +2,10 @@ use Rattle.std.proofs.Common.{◌≡◌, ℕ, List, [], ◌∷◌, ◌++◌, ref
 use Rattle.std.proofs.lemmas.List.{map-append}
 use Rattle.xray_image.specs.Ids.{id_count}
 use Rattle.patch_script.specs.declared.command.Command.{Command}
-use Rattle.patch_script.specs.Drafts.{lines_of}
-use Rattle.patch_script.specs.Placing.{lines_in}
+use Rattle.patch_script.specs.private.Drafts.{lines_of}
+use Rattle.patch_script.specs.private.Placing.{lines_in}
 use Rattle.patch_script.specs.Refusals.{commands_of}
-use Rattle.patch_script.specs.Standing.{IsStanding}
+use Rattle.patch_script.specs.private.Standing.{IsStanding}
 use Rattle.patch_script.proofs.Holding.{standing_more}
 use Rattle.patch_script.proofs.reading.Draft.push.Goals as goal
 

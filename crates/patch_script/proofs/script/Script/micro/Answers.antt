@@ -2,10 +2,10 @@ use Rattle.std.proofs.Common.{◌≡◌, ◌≤◌, subst}
 use Rattle.std.specs.Prelude.{◌↔◌}
 use Rattle.patch_script.specs.declared.micro.Micro.TheVariants.{End}
 use Rattle.patch_script.specs.Micros.{total_of}
-use Rattle.patch_script.specs.Placing.{lines_in}
+use Rattle.patch_script.specs.private.Placing.{lines_in}
 use Rattle.patch_script.specs.Plans.{Plan, IsWithin}
 use Rattle.patch_script.specs.Refusals.{commands_of}
-use Rattle.patch_script.specs.Scripts.{plan_in}
+use Rattle.patch_script.specs.private.Scripts.{plan_in}
 use Rattle.patch_script.proofs.NoEnd.{end_only_past}
 use Rattle.patch_script.proofs.Orderly.{orderly}
 use Rattle.patch_script.proofs.Within.{micro_within}

@@ -1,9 +1,9 @@
 use Rattle.std.proofs.Common.{◌<◌, ◌≤◌, ℕ, subst, arith}
 use Rattle.patch_script.specs.Micros.{total_of, micro_at}
-use Rattle.patch_script.specs.Placing.{lines_in}
+use Rattle.patch_script.specs.private.Placing.{lines_in}
 use Rattle.patch_script.specs.Plans.{Plan, IsOrderly, IsStore}
 use Rattle.patch_script.specs.Refusals.{commands_of}
-use Rattle.patch_script.specs.Scripts.{plan_in}
+use Rattle.patch_script.specs.private.Scripts.{plan_in}
 use Rattle.patch_script.proofs.Before.{stores_before_go}
 use Rattle.patch_script.proofs.Orderly.{orderly}
 use Rattle.patch_script.proofs.Steps.{start_within}

@@ -1,5 +1,5 @@
-use Rattle.std.proofs.Common.{◌∙◌, arith}
-use Rattle.sled_rule.proofs.Laws.{code_first, total_is}
+use Rattle.std.proofs.Common.{◌∙◌}
+use Rattle.sled_rule.proofs.Laws.{code_first, few_in}
 use Rattle.sled_rule.proofs.Starting.{count_is, opening_count, starts, for_the_script}
 use Rattle.sled_rule.proofs.table.CodeTable.new.Goals as goal
 
@@ -16,7 +16,7 @@ invariant_of-table-clause-counted c =
 
 pub invariant_of-table-clause-few_steps : goal.invariant_of-table-clause-few_steps
 invariant_of-table-clause-few_steps c =
-    let total = total_is c.args.script c.total.result c.total.ensures.total in let few = c.total.ensures.few in omega arith
+    few_in c.args.script c.micro_steps_are_few.ensures
 
 pub invariant_of-table-clause-sized : goal.invariant_of-table-clause-sized
 invariant_of-table-clause-sized c =

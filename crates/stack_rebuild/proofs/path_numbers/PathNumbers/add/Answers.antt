@@ -1,6 +1,6 @@
 use Rattle.std.proofs.Common.{◌∙◌, ap, sym}
 use Rattle.std.specs.Map.{lookup}
-use Rattle.stack_rebuild.specs.PathNumbers.{is_step}
+use Rattle.stack_rebuild.specs.private.PathNumbers.{is_step}
 use Rattle.stack_rebuild.proofs.Trees.{tree_kept, tree_more}
 use Rattle.stack_rebuild.proofs.path_numbers.PathNumbers.add.Goals as goal
 

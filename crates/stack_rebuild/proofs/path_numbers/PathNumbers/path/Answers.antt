@@ -1,5 +1,5 @@
 use Rattle.std.proofs.Common.{◌≡◌, ◌++◌, ◌∙◌, ℕ, List, reverse, ap, sym, arith}
-use Rattle.stack_rebuild.specs.PathNumbers.{path_at, paths_after}
+use Rattle.stack_rebuild.specs.private.PathNumbers.{path_at, paths_after}
 use Rattle.stack_rebuild.proofs.path_numbers.PathNumbers.path.Goals as goal
 
 pub returns : goal.returns

@@ -1,5 +1,5 @@
 use Rattle.std.proofs.Common.{◌≡◌, ◌++◌, ◌≤◌, reverse, length}
-use Rattle.stack_rebuild.specs.PathNumbers.{path_at, paths_after}
+use Rattle.stack_rebuild.specs.private.PathNumbers.{path_at, paths_after}
 use Rattle.stack_rebuild.proofs.path_numbers.PathNumbers.path.Given as goal
 
 abbrev pub invariant-climbing : goal.invariant-climbing

@@ -1,6 +1,6 @@
 use Rattle.std.proofs.Common.{refl, rules}
 use Rattle.std.proofs.lemmas.Result.{on_ok_weaker}
-use Rattle.stack_rebuild.specs.PathNumbers.{path_at}
+use Rattle.stack_rebuild.specs.private.PathNumbers.{path_at}
 use Rattle.stack_rebuild.proofs.Sums.{sums_more}
 use Rattle.stack_rebuild.proofs.path_sums.PathSums.add.Goals as goal
 

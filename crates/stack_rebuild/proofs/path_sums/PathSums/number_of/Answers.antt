@@ -1,6 +1,6 @@
 use Rattle.std.proofs.Common.{◌∙◌, ◌++◌, List, [], ◌∷◌, ap}
 use Rattle.stack_rebuild.specs.declared.path_sums.Tally.{Tally}
-use Rattle.stack_rebuild.specs.PathNumbers.{path_at}
+use Rattle.stack_rebuild.specs.private.PathNumbers.{path_at}
 use Rattle.stack_rebuild.proofs.Sums.{sums_pushed}
 use Rattle.stack_rebuild.proofs.path_sums.PathSums.number_of.Goals as goal
 

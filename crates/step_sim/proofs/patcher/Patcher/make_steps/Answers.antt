@@ -1,6 +1,6 @@
 use Rattle.std.proofs.Common.{◌≡◌, ◌∙◌, ℕ, ◌+◌, arith, min, subst}
 use Rattle.patch_script.specs.Micros.{total_of}
-use Rattle.step_sim.specs.Standing.{IsPatcherAt}
+use Rattle.step_sim.specs.private.Standing.{IsPatcherAt}
 use Rattle.step_sim.proofs.patcher.Patcher.make_steps.Goals as goal
 
 pub returns-then-not-make_step-clause-at : goal.returns-then-not-make_step-clause-at

@@ -2,7 +2,7 @@ use Rattle.std.proofs.Common.{◌≡◌, ℕ, List, ◌+◌, min, vec_len}
 use Rattle.xray_image.specs.Program.{Program}
 use Rattle.patch_script.specs.declared.command.Command.{Command}
 use Rattle.patch_script.specs.Micros.{total_of}
-use Rattle.step_sim.specs.Standing.{IsPatcherAt}
+use Rattle.step_sim.specs.private.Standing.{IsPatcherAt}
 use Rattle.step_sim.proofs.patcher.Patcher.make_steps.Given as goal
 
 abbrev pub invariant-loop-step : goal.invariant-loop-step

@@ -3,7 +3,7 @@ use Rattle.patch_script.specs.Micros.{start_of, total_of}
 use Rattle.patch_script.specs.Refusals.{commands_of}
 use Rattle.patch_script.specs.StoredWords.{AreCodeAt}
 use Rattle.xray_image.specs.Program.{Program}
-use Rattle.step_sim.specs.Standing.{IsPatcherAt}
+use Rattle.step_sim.specs.private.Standing.{IsPatcherAt}
 use Rattle.step_sim.proofs.Bounds.{length-initial_words}
 use Rattle.step_sim.proofs.patcher.Patcher.new.Goals as goal
 

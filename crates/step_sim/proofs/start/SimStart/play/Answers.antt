@@ -2,7 +2,7 @@ use Rattle.std.proofs.Common.{◌≡◌, ◌∙◌, ℕ, List, sym, ap, subst, a
 use Rattle.std.specs.Prelude.{All}
 use Rattle.step_sim.specs.declared.turns.Turns.{Turns}
 use Rattle.step_sim.specs.Schedules.{AreTurnsOf}
-use Rattle.step_sim.specs.Starting.{HoldsStart}
+use Rattle.step_sim.specs.private.Starting.{HoldsStart}
 use Rattle.step_sim.specs.Starts.{Start}
 use Rattle.step_sim.proofs.Beginnings.{plays, records, started}
 use Rattle.step_sim.proofs.Recordings.{ended, first_of, has_room_for_all, recording}

@@ -38,5 +38,5 @@ returns-clause-ended g c =
       end = last.0;
       done = last.1;
       plain = last.2;
-      marks = marks_follow plan worker.cpu v at.passed at.thread at.along at.within;
+      marks = marks_follow plan worker.cpu v at.passed last.0 at.thread at.along at.within last.1;
     }

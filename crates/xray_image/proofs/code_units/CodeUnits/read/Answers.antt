@@ -1,5 +1,5 @@
 use Rattle.std.proofs.Common.{◌≡◌, ℕ, length, subst, arith}
-use Rattle.xray_image.specs.Views.{AreTablesTo}
+use Rattle.xray_image.specs.private.Views.{AreTablesTo}
 use Rattle.xray_image.proofs.code_units.CodeUnits.read.Goals as goal
 
 pub returns-clause-tables : goal.returns-clause-tables

@@ -1,7 +1,7 @@
 use Rattle.std.proofs.Common.{◌-◌, length, map}
-use Rattle.xray_image.specs.Reading.{IsReadTo}
-use Rattle.xray_image.specs.UnitTable.{units_in}
-use Rattle.xray_image.specs.Views.{place_of, AreTablesTo}
+use Rattle.xray_image.specs.private.Reading.{IsReadTo}
+use Rattle.xray_image.specs.private.UnitTable.{units_in}
+use Rattle.xray_image.specs.private.Views.{place_of, AreTablesTo}
 use Rattle.xray_image.proofs.code_units.CodeUnits.read.Given as goal
 
 abbrev pub invariant-loop-at : goal.invariant-loop-at

@@ -1,7 +1,7 @@
 use Rattle.std.proofs.Common.{map}
 use Rattle.xray_image.specs.Program.{id_of}
-use Rattle.xray_image.specs.Ids.{HasCounted}
-use Rattle.xray_image.specs.Views.{entry_of}
+use Rattle.xray_image.specs.private.Numbering.{HasCounted}
+use Rattle.xray_image.specs.private.Views.{entry_of}
 use Rattle.xray_image.proofs.ids.FunctionIds.new.Given as goal
 
 abbrev pub invariant-loop-line : goal.invariant-loop-line

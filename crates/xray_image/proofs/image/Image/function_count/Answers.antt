@@ -1,6 +1,6 @@
 use Rattle.std.proofs.Common.{arith}
 use Rattle.std.proofs.lemmas.List.{length-map}
-use Rattle.xray_image.specs.ImageView.{named_function, program_in}
+use Rattle.xray_image.specs.private.ImageView.{named_function, program_in}
 use Rattle.xray_image.proofs.Acceptance.{function_total}
 use Rattle.xray_image.proofs.image.Image.function_count.Goals as goal
 

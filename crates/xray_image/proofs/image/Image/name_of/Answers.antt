@@ -1,7 +1,7 @@
 use Rattle.std.proofs.Common.{◌≡◌, ◌<◌, ◌-◌, suc, Some, length, refl, sym, ap, subst, ◌∙◌, arith}
 use Rattle.xray_image.specs.Program.{Program}
 use Rattle.xray_image.specs.Ids.{id_count, name_of}
-use Rattle.xray_image.specs.ImageView.{program_in}
+use Rattle.xray_image.specs.private.ImageView.{program_in}
 use Rattle.xray_image.proofs.Naming.{accepted_ascend, number_within, name_read, numbers_few}
 use Rattle.xray_image.proofs.image.Image.name_of.Goals as goal
 

@@ -1,10 +1,6 @@
-use Rattle.std.proofs.Common.{arith, subst}
-use Rattle.std.specs.List.Sorted.{IsNonDecreasingBy}
-use Rattle.xray_image.specs.Program.{Program}
-use Rattle.xray_image.specs.ImageView.{program_in}
-use Rattle.xray_image.specs.Layout.{SledsStand}
-use Rattle.xray_image.proofs.Acceptance.{sled_total, sleds_stand}
-use Rattle.xray_image.proofs.SideBySide.{ids_in_order}
+use Rattle.std.proofs.Common.{arith}
+use Rattle.xray_image.specs.private.ImageView.{program_in}
+use Rattle.xray_image.proofs.Acceptance.{sled_total}
 use Rattle.xray_image.proofs.image.Image.sled_count.Goals as goal
 
 pub overflow_cast-result : goal.overflow_cast-result
@@ -12,17 +8,7 @@ overflow_cast-result c =
     let sound = c.self.invariant in
     omega (arith, sled_total sound.bytes (program_in c.self.inside) sound.accepted, sound.accepted.header.sleds_limit, c.self.inside.sleds.ok.0, c.len.ensures)
 
-pub returns-clause-stand : goal.returns-clause-stand
-returns-clause-stand c =
-    let sound = c.self.invariant in
-    subst (λ (p : Program). SledsStand p.units p.sleds) c.self.view_is (sleds_stand sound.bytes (program_in c.self.inside) sound.accepted)
-
 pub returns-clause-few : goal.returns-clause-few
 returns-clause-few c =
     let sound = c.self.invariant in
     omega (arith, sled_total sound.bytes (program_in c.self.inside) sound.accepted, sound.accepted.header.sleds_limit, c.self.inside.sleds.ok.0, c.len.ensures)
-
-pub returns-clause-in_order : goal.returns-clause-in_order
-returns-clause-in_order c =
-    let sound = c.self.invariant in
-    subst (λ (p : Program). IsNonDecreasingBy (λ s. s.id) p.sleds) c.self.view_is (ids_in_order sound.bytes (program_in c.self.inside) sound.accepted)

@@ -1,7 +1,7 @@
 use Rattle.std.proofs.Common.{◌≡◌, Some, subst}
 use Rattle.std.specs.Prelude.{slice_get, Contains, MatchOption}
 use Rattle.xray_image.specs.Program.{Program, addresses}
-use Rattle.xray_image.specs.UnitTable.{units_in}
+use Rattle.xray_image.specs.private.UnitTable.{units_in}
 use Rattle.xray_image.proofs.image.Image.unit_at.Goals as goal
 
 pub returns : goal.returns

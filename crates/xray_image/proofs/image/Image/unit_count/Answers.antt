@@ -1,6 +1,6 @@
 use Rattle.std.proofs.Common.{subst}
 use Rattle.xray_image.specs.Program.{Program}
-use Rattle.xray_image.specs.ImageView.{program_in}
+use Rattle.xray_image.specs.private.ImageView.{program_in}
 use Rattle.xray_image.specs.Layout.{AreContiguous}
 use Rattle.xray_image.proofs.Acceptance.{are_contiguous}
 use Rattle.xray_image.proofs.image.Image.unit_count.Goals as goal

@@ -1,6 +1,6 @@
 use Rattle.std.proofs.Common.{inr, refl}
 use Rattle.std.proofs.lemmas.Result.{err_from_is_err_and}
-use Rattle.xray_image.specs.UnitTable.{units_in}
+use Rattle.xray_image.specs.private.UnitTable.{units_in}
 use Rattle.xray_image.proofs.JudgedRows.{functions_all, functions_row, ascend, order_all, order_row, few_lines, entries_all, entries_row, near_all, near_row, branches_all, branches_row}
 use Rattle.xray_image.proofs.image.reading.check_program.Goals as goal
 

@@ -5,8 +5,8 @@ use Rattle.xray_image.specs.declared.code_units.SledSpot.{SledSpot}
 use Rattle.xray_image.specs.declared.parts.FunctionEntry.{FunctionEntry}
 use Rattle.xray_image.specs.declared.parts.MapLine.{MapLine}
 use Rattle.xray_image.specs.Program.{is_name_byte, id_of, sled_of, IsAccepted}
-use Rattle.xray_image.specs.UnitTable.{units_in}
-use Rattle.xray_image.specs.Views.{entry_of, function_of, place_of}
+use Rattle.xray_image.specs.private.UnitTable.{units_in}
+use Rattle.xray_image.specs.private.Views.{entry_of, function_of, place_of}
 use Rattle.xray_image.proofs.Entries.{ascend_entries}
 use Rattle.xray_image.proofs.ImageMade.{names_all, known, falling, numbers, program_made}
 use Rattle.xray_image.proofs.JudgedRows.{ascend, few_lines}

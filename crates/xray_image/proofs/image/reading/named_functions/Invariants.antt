@@ -1,6 +1,6 @@
 use Rattle.std.proofs.Common.{◌≡◌, map, take}
-use Rattle.xray_image.specs.ImageView.{named_function}
-use Rattle.xray_image.specs.Views.{function_of}
+use Rattle.xray_image.specs.private.ImageView.{named_function}
+use Rattle.xray_image.specs.private.Views.{function_of}
 use Rattle.xray_image.proofs.image.reading.named_functions.Given as goal
 
 abbrev pub invariant-loop-entry : goal.invariant-loop-entry

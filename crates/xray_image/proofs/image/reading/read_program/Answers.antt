@@ -3,8 +3,8 @@ use Rattle.std.specs.Prelude.{Ok}
 use Rattle.std.proofs.lemmas.Result.{err_from_is_err_and}
 use Rattle.xray_image.specs.Program.{Program}
 use Rattle.xray_image.specs.Table.{ReadsAs}
-use Rattle.xray_image.specs.UnitTable.{units_in}
-use Rattle.xray_image.specs.Views.{places_in}
+use Rattle.xray_image.specs.private.UnitTable.{units_in}
+use Rattle.xray_image.specs.private.Views.{places_in}
 use Rattle.xray_image.proofs.Placement.{has_within, has_ascending, has_few}
 use Rattle.xray_image.proofs.FileRows.{code_few, code_low, functions_few, entries_few, entry_there, units_stop, spots_few, units_within, spots_ascend, program_stops, program_reads, program_accepted, told_fault}
 use Rattle.xray_image.proofs.image.reading.read_program.Goals as goal

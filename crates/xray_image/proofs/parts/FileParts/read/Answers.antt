@@ -2,7 +2,7 @@ use Rattle.std.proofs.Common.{length, map, inr, sym, ap, ◌∙◌}
 use Rattle.std.proofs.lemmas.Bool.{false≢true, eq-eqb, eqb-true}
 use Rattle.std.proofs.lemmas.List.{nil_from_length}
 use Rattle.std.proofs.lemmas.Result.{err_from_is_err_and}
-use Rattle.xray_image.specs.Views.{function_of, entry_of}
+use Rattle.xray_image.specs.private.Views.{function_of, entry_of}
 use Rattle.xray_image.proofs.FileParts.{short_functions, short_entries, trailing, whole, refused_by}
 use Rattle.xray_image.proofs.parts.FileParts.read.Goals as goal
 

@@ -1,5 +1,5 @@
 use Rattle.std.proofs.Common.{ap, ◌+◌, arith}
-use Rattle.xray_image.specs.RunningSums.{sums_in}
+use Rattle.xray_image.specs.private.RunningSums.{sums_in}
 use Rattle.xray_image.proofs.Stored.{length-units, address_there}
 use Rattle.xray_image.proofs.unit.UnitTable.address.Goals as goal
 

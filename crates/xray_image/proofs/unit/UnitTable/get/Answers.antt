@@ -1,7 +1,7 @@
 use Rattle.std.proofs.Common.{ℕ, ◌+◌, Some, drop, sym, ap, ◌∙◌, arith}
 use Rattle.xray_image.specs.declared.unit.What.{What}
-use Rattle.xray_image.specs.RunningSums.{sums_in}
-use Rattle.xray_image.specs.UnitTable.{what_at}
+use Rattle.xray_image.specs.private.RunningSums.{sums_in}
+use Rattle.xray_image.specs.private.UnitTable.{what_at}
 use Rattle.xray_image.proofs.Stored.{length-units, unit_read}
 use Rattle.xray_image.proofs.unit.UnitTable.get.Goals as goal
 

@@ -1,4 +1,4 @@
-use Rattle.xray_image.specs.RunningSums.{sums_in}
+use Rattle.xray_image.specs.private.RunningSums.{sums_in}
 use Rattle.xray_image.proofs.Stored.{unit_push}
 use Rattle.xray_image.proofs.unit.UnitTable.push.Goals as goal
 

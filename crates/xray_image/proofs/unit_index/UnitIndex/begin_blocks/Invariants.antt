@@ -1,5 +1,5 @@
 use Rattle.std.proofs.Common.{◌≡◌, ◌+◌, ◌-◌, length}
-use Rattle.xray_image.specs.Index.{HasBegun}
+use Rattle.xray_image.specs.private.Index.{HasBegun}
 use Rattle.xray_image.proofs.unit_index.UnitIndex.begin_blocks.Given as goal
 
 abbrev pub decreases-loop-self : goal.decreases-loop-self

@@ -1,8 +1,8 @@
 use Rattle.std.proofs.Common.{◌+◌, ◌-◌, ◌/◌, ◌<◌, ℕ, List, length, get_or, set, sym, ap, subst, ◌∙◌, arith}
 use Rattle.std.proofs.lemmas.List.{length-set}
 use Rattle.xray_image.specs.Program.{addresses}
-use Rattle.xray_image.specs.Index.{AreWithin, HasBegun, HasFirst}
-use Rattle.xray_image.specs.UnitTable.{units_in}
+use Rattle.xray_image.specs.private.Index.{AreWithin, HasBegun, HasFirst}
+use Rattle.xray_image.specs.private.UnitTable.{units_in}
 use Rattle.std.proofs.lemmas.Option.{get_or_from_slice_get, slice_get_within}
 use Rattle.xray_image.proofs.Index.{first_near, one_more}
 use Rattle.xray_image.proofs.unit_index.UnitIndex.new.Goals as goal

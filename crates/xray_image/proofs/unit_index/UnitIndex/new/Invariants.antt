@@ -1,7 +1,7 @@
 use Rattle.std.proofs.Common.{◌≡◌, length}
 use Rattle.xray_image.specs.Program.{addresses}
-use Rattle.xray_image.specs.Index.{HasFirst}
-use Rattle.xray_image.specs.UnitTable.{units_in}
+use Rattle.xray_image.specs.private.Index.{HasFirst}
+use Rattle.xray_image.specs.private.UnitTable.{units_in}
 use Rattle.xray_image.proofs.unit_index.UnitIndex.new.Given as goal
 
 abbrev pub invariant-loop-number : goal.invariant-loop-number

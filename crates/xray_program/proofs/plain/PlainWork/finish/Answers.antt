@@ -1,7 +1,7 @@
 use Rattle.std.proofs.Common.{[], None, refl}
 use Rattle.std.specs.List.{flat_map}
 use Rattle.xray_io.specs.World.{desk_view, sink_view}
-use Rattle.xray_program.specs.Ends.{end_text}
+use Rattle.xray_program.specs.private.Ends.{end_text}
 use Rattle.xray_program.specs.Plain.{PlainPrints}
 use Rattle.xray_program.specs.Taking.{Prints}
 use Rattle.xray_program.proofs.Endings.{finishes}

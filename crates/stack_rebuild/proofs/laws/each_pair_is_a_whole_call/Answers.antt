@@ -1,0 +1,5 @@
+use Rattle.stack_rebuild.proofs.Pairing.{pairs_are_whole}
+use Rattle.stack_rebuild.proofs.laws.each_pair_is_a_whole_call.Goals as goal
+
+pub returns : goal.returns
+returns c = pairs_are_whole

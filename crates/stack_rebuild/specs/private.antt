@@ -1,0 +1,8 @@
+-- What the contracts of private functions cite. No promise of this crate rests on it.
+pub mod ByThread
+pub mod Counts
+pub mod PathNumbers
+pub mod PathTree
+pub mod Rows
+pub mod Scanning
+pub mod ThreadCalls

@@ -1,0 +1,25 @@
+-- Rows by the numbers of their paths, for the contracts of private functions.
+use Rattle.std.specs.Prelude.{◌++◌, Bool, ℕ, zero, suc, List, [], ◌∷◌, nat_lt, if◌then◌else◌, slice_index_or}
+use Rattle.std.specs.Ordering.{is_lt}
+use Rattle.stack_rebuild.specs.declared.path_sums.Tally.{Tally}
+use Rattle.stack_rebuild.specs.declared.stack_row.StackRow.{StackRow}
+use Rattle.stack_rebuild.specs.private.PathNumbers.{path_at}
+use Rattle.stack_rebuild.specs.private.Scanning.{no_tally}
+use Rattle.stack_rebuild.specs.Stacks.{PathRow, path_cmp}
+
+-- the row of a path with a tally
+abbrev pub row_by : List ℕ → Tally → PathRow
+row_by path tally = record { path = path; count = tally.count; sum = tally.sum; own = tally.own }
+
+-- the row of a path with this number, if it has a pair
+abbrev pub rows_at : List (List ℕ) → List Tally → ℕ → List PathRow
+rows_at paths tallies n = let tally = slice_index_or tallies n no_tally in if nat_lt 0 tally.count then row_by (path_at paths n) tally ∷ [] else []
+
+-- the rows of the paths with lower numbers
+abbrev pub rows_below : List (List ℕ) → List Tally → ℕ → List PathRow
+rows_below paths tallies zero = []
+rows_below paths tallies (suc n) = rows_below paths tallies n ++ rows_at paths tallies n
+
+-- whether a row's path comes before that of another row
+abbrev pub row_before : StackRow → StackRow → Bool
+row_before row other = is_lt (path_cmp row.path.items other.path.items)

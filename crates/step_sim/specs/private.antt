@@ -1,0 +1,6 @@
+-- What the contracts of private functions cite. No promise of this crate rests on it.
+pub mod Holding
+pub mod Readings
+pub mod Recording
+pub mod Standing
+pub mod Starting

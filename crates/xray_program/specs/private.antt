@@ -1,0 +1,8 @@
+-- What the contracts of private functions cite. No promise of this crate rests on it.
+pub mod Ends
+pub mod ReportTakes
+pub mod RunInputs
+pub mod SimInputs
+pub mod Stops
+pub mod Takes
+pub mod Works
