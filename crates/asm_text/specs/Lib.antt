@@ -9,8 +9,5 @@ pub mod Writing
 pub mod Assembling
 pub mod Programs
 pub mod FaultWords
-<<<<<<< HEAD
 pub mod private
-=======
 pub mod WrittenTexts
->>>>>>> ddaee04b382f5b0e3f1fe1f4dffc7a35d3a00036

@@ -18,9 +18,6 @@ pub mod Finishing
 pub mod Orderly
 pub mod Within
 pub mod Before
-<<<<<<< HEAD
 pub mod Ending
-=======
 pub mod WrittenLemmas
->>>>>>> ddaee04b382f5b0e3f1fe1f4dffc7a35d3a00036
 mod Rows
