@@ -15,18 +15,18 @@ use Rattle.asm_text.specs.Statements.{Operation, Plain, Go, Return, Statement, B
 use Rattle.asm_text.specs.WrittenTexts.{MayFollow, IsOrderly, is_always_function}
 use Rattle.soak_inputs.specs.Draws.{next}
 use Rattle.soak_inputs.proofs.Statements.{always_of, call_of, call_statements, function_statements, functions_statements, round_statements, statements}
-use Rattle.soak_inputs.specs.Texts.{Round, after_function, after_round, name_of, round_count, rounds}
+use Rattle.soak_inputs.specs.Texts.{Round, after_function, after_round, function_name, round_count, rounds}
 use Rattle.soak_inputs.proofs.SaidLemmas.{CalleeFits, IsGood, rounds_good, same_numbers}
 
 -- ---- names
 
-same_name : (i : ℕ) → bytes_eq (name_of i) (name_of i) ≡ true
-same_name i = (bytes_eq-Decides (name_of i) (name_of i)).1 refl
+same_name : (i : ℕ) → bytes_eq (function_name i) (function_name i) ≡ true
+same_name i = (bytes_eq-Decides (function_name i) (function_name i)).1 refl
 
-other_name : (i j : ℕ) → i ≤ 63 → j ≤ 63 → i ≢ j → bytes_eq (name_of i) (name_of j) ≡ false
+other_name : (i j : ℕ) → i ≤ 63 → j ≤ 63 → i ≢ j → bytes_eq (function_name i) (function_name j) ≡ false
 other_name i j hi hj apart =
-    false_from_ne_true (bytes_eq (name_of i) (name_of j))
-    (λ t. apart (same_numbers i j (omega (arith, hi)) (omega (arith, hj)) (ap (drop 1) ((bytes_eq-Decides (name_of i) (name_of j)).0 t))))
+    false_from_ne_true (bytes_eq (function_name i) (function_name j))
+    (λ t. apart (same_numbers i j (omega (arith, hi)) (omega (arith, hj)) (ap (drop 1) ((bytes_eq-Decides (function_name i) (function_name j)).0 t))))
 
 -- ---- each line in its place
 
@@ -75,20 +75,20 @@ module _ (said : Lines) where
   -- lines that end in function i: no later function has its name yet
   record Inside (i : ℕ) (before : Lines) : Type 0 where
     begun : has_function before ≡ true
-    fresh : (j : ℕ) → i < j → j ≤ 63 → is_defined (name_of j) before ≡ false
+    fresh : (j : ℕ) → i < j → j ≤ 63 → is_defined (function_name j) before ≡ false
 
   -- lines after which function i may begin
   record Outside (i : ℕ) (before : Lines) : Type 0 where
     bare : is_bare before ≡ false
     begun : 0 < i → has_function before ≡ true
-    fresh : (j : ℕ) → i ≤ j → j ≤ 63 → is_defined (name_of j) before ≡ false
+    fresh : (j : ℕ) → i ≤ j → j ≤ 63 → is_defined (function_name j) before ≡ false
 
   inside_more : (i : ℕ) (before : Lines) (number : ℕ) (op : Operation) → Inside i before → Inside i (before ++ (number, Does op) ∷ [])
   inside_more i before number op h = record {
     begun = list_any-append (λ (l : ℕ × Statement). is_function l.1) before ((number, Does op) ∷ [])
         ∙ or_left (has_function before) (list_any (λ (l : ℕ × Statement). is_function l.1) ((number, Does op) ∷ [])) h.begun;
-    fresh = λ j lt le. list_any-append (λ (l : ℕ × Statement). defines (name_of j) l.1) before ((number, Does op) ∷ [])
-        ∙ or_from (is_defined (name_of j) before) false (h.fresh j lt le) refl;
+    fresh = λ j lt le. list_any-append (λ (l : ℕ × Statement). defines (function_name j) l.1) before ((number, Does op) ∷ [])
+        ∙ or_from (is_defined (function_name j) before) false (h.fresh j lt le) refl;
   }
 
   does_follow : (i : ℕ) (before : Lines) (op : Operation) → Inside i before → operation_reserves op ≡ false → operation_exceeds op ≡ false → MayFollow before (Does op)
@@ -110,14 +110,14 @@ module _ (said : Lines) where
       }
 
   begins : (i : ℕ) (before : Lines) (number : ℕ) → i ≤ 63 → Outside i before
-      → MayFollow before (always_of (name_of i)) × Inside i (before ++ (number, always_of (name_of i)) ∷ [])
+      → MayFollow before (always_of (function_name i)) × Inside i (before ++ (number, always_of (function_name i)) ∷ [])
   begins i before number most h =
-      let line : ℕ × Statement = (number, always_of (name_of i)) in (
+      let line : ℕ × Statement = (number, always_of (function_name i)) in (
         record { place = h.bare; registers = refl; range = refl; name = h.fresh i (omega arith) most },
         record {
           begun = list_any-append (λ (l : ℕ × Statement). is_function l.1) before (line ∷ []) ∙ or_right (has_function before) true refl;
-          fresh = λ j lt le. list_any-append (λ (l : ℕ × Statement). defines (name_of j) l.1) before (line ∷ [])
-              ∙ or_from (is_defined (name_of j) before) ((bytes_eq (name_of i) (name_of j) || false) || false) (h.fresh j (omega (arith, lt)) le)
+          fresh = λ j lt le. list_any-append (λ (l : ℕ × Statement). defines (function_name j) l.1) before (line ∷ [])
+              ∙ or_from (is_defined (function_name j) before) ((bytes_eq (function_name i) (function_name j) || false) || false) (h.fresh j (omega (arith, lt)) le)
               (ap (λ t. (t || false) || false) (other_name i j most le (λ e. omega (arith, e, lt))));
         },
       )
@@ -126,13 +126,13 @@ module _ (said : Lines) where
 
   -- each function's name is defined
   abbrev AllDefined : Type 0
-  AllDefined = (j : ℕ) → j ≤ 63 → is_defined (name_of j) said ≡ true
+  AllDefined = (j : ℕ) → j ≤ 63 → is_defined (function_name j) said ≡ true
 
   calls_follow : (defined : AllDefined) (i : ℕ) (before : Lines) (number : ℕ) (callee : Option ℕ) (rest : List Statement) → CalleeFits callee → Inside i before
       → ((longer : Lines) (n : ℕ) → Inside i longer → Follow longer n rest) → Follow before number (call_statements callee ++ rest)
   calls_follow defined i before number None rest fits h more = more before number h
   calls_follow defined i before number (Some j) rest fits h more =
-      does i before number (call_of (name_of j)) rest h refl refl (λ behind. ap not (defined j fits)) (λ longer inside. more longer (number + 1) inside)
+      does i before number (call_of (function_name j)) rest h refl refl (λ behind. ap not (defined j fits)) (λ longer inside. more longer (number + 1) inside)
 
   round_follows : (defined : AllDefined) (i : ℕ) (before : Lines) (number : ℕ) (r : Round) (rest : List Statement) → IsGood r → Inside i before
       → ((longer : Lines) (n : ℕ) → Inside i longer → Follow longer n rest) → Follow before number (round_statements r ++ rest)
@@ -155,7 +155,7 @@ module _ (said : Lines) where
   function_follows defined i x before number rest most h more =
       let rs = rounds i (round_count x) (next x) in
       let first = begins i before number most h in
-      let longer = before ++ (number, always_of (name_of i)) ∷ [] in (
+      let longer = before ++ (number, always_of (function_name i)) ∷ [] in (
         (first.0, λ behind. refl),
         subst (λ (ss : List Statement). Follow longer (number + 1) ss) (sym (append_assoc (flat_map round_statements rs) (Does Return ∷ []) rest))
             (rounds_follow defined i longer (number + 1) rs (Does Return ∷ rest) (rounds_good i (round_count x) (next x)) first.1
@@ -180,16 +180,16 @@ numbered_defines : (name : List ℕ) (n : ℕ) (all : List Statement) → is_def
 numbered_defines name n [] = refl
 numbered_defines name n (s ∷ all) = ap (λ t. defines name s || t) (numbered_defines name (n + 1) all)
 
-functions_define : (i count x j : ℕ) → i ≤ j → j < i + count → list_any (defines (name_of j)) (functions_statements i count x) ≡ true
+functions_define : (i count x j : ℕ) → i ≤ j → j < i + count → list_any (defines (function_name j)) (functions_statements i count x) ≡ true
 unfolding functions_statements
 functions_define i zero x j le lt = absurd (omega (arith, le, lt))
 functions_define i (suc count) x j le lt =
     elim (cases_eq i j) [
-      | inl e ↦ or_left (defines (name_of j) (always_of (name_of i))) (list_any (defines (name_of j)) (behind ++ more))
-          (subst (λ n. ((bytes_eq (name_of i) (name_of n) || false) ≡ true)) e (or_left (bytes_eq (name_of i) (name_of i)) false (same_name i)))
-      | inr apart ↦ or_right (defines (name_of j) (always_of (name_of i))) (list_any (defines (name_of j)) (behind ++ more))
-          (list_any-append (defines (name_of j)) behind more
-          ∙ or_right (list_any (defines (name_of j)) behind) (list_any (defines (name_of j)) more)
+      | inl e ↦ or_left (defines (function_name j) (always_of (function_name i))) (list_any (defines (function_name j)) (behind ++ more))
+          (subst (λ n. ((bytes_eq (function_name i) (function_name n) || false) ≡ true)) e (or_left (bytes_eq (function_name i) (function_name i)) false (same_name i)))
+      | inr apart ↦ or_right (defines (function_name j) (always_of (function_name i))) (list_any (defines (function_name j)) (behind ++ more))
+          (list_any-append (defines (function_name j)) behind more
+          ∙ or_right (list_any (defines (function_name j)) behind) (list_any (defines (function_name j)) more)
           (functions_define (i + 1) count (after_function i x) j (omega (arith, le, apart)) (omega (arith, lt))))
     ]
   where
@@ -199,8 +199,8 @@ functions_define i (suc count) x j le lt =
     more : List Statement
     more = functions_statements (i + 1) count (after_function i x)
 
-all_defined : (x j : ℕ) → j ≤ 63 → is_defined (name_of j) (enumerate_from 1 (statements x)) ≡ true
-all_defined x j h = numbered_defines (name_of j) 1 (statements x) ∙ functions_define 0 64 x j (omega arith) (omega (arith, h))
+all_defined : (x j : ℕ) → j ≤ 63 → is_defined (function_name j) (enumerate_from 1 (statements x)) ≡ true
+all_defined x j h = numbered_defines (function_name j) 1 (statements x) ∙ functions_define 0 64 x j (omega arith) (omega (arith, h))
 
 pub text_orderly : (x : ℕ) → IsOrderly (enumerate_from 1 (statements x))
 text_orderly x =
@@ -293,7 +293,7 @@ rounds_none (r ∷ rs) = count_more (round_statements r) (flat_map round_stateme
 function_one : (i x : ℕ) → count_by is_function (function_statements i x) ≡ 1
 function_one i x =
     let rs = rounds i (round_count x) (next x) in
-    sum_by-cons (λ s. cond (is_function s) 1 0) (always_of (name_of i)) (flat_map round_statements rs ++ Does Return ∷ [])
+    sum_by-cons (λ s. cond (is_function s) 1 0) (always_of (function_name i)) (flat_map round_statements rs ++ Does Return ∷ [])
     ∙ omega (arith, count_more (flat_map round_statements rs) (Does Return ∷ []), rounds_none rs)
 
 functions_count : (i count x : ℕ) → count_by is_function (functions_statements i count x) ≡ count

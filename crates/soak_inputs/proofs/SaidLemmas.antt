@@ -27,7 +27,7 @@ use Rattle.asm_text.specs.WrittenTexts.{Says, MayFollow, IsOrderly, is_always_fu
 use Rattle.soak_inputs.specs.Draws.{drawn, next}
 use Rattle.soak_inputs.proofs.Statements.{always_of, call_of, call_statements, function_statements, functions_statements, round_statements, statements}
 use Rattle.soak_inputs.specs.Said.{soak_said}
-use Rattle.soak_inputs.specs.Texts.{Round, all_lines, after_callee, after_function, after_round, base_line, call_lines, callee, function_line, function_lines, functions_lines, last, name_of, return_line, round, round_count, round_lines, rounds}
+use Rattle.soak_inputs.specs.Texts.{Round, all_lines, after_callee, after_function, after_round, base_line, call_lines, callee, function_line, function_lines, functions_lines, function_name, return_line, round, round_count, round_lines, rounds}
 
 -- ---- numbers and names
 
@@ -89,14 +89,14 @@ rounds_good i (suc count) x =
     ((byte_fits (next (after_callee i x) / 2 ^ 33), callee_fits (nat_lt i 63) (i + 1 + drawn 4 x)), rounds_good i count (after_round i x))
 
 module _ (numbers : WrittenNumbersRead) where
-  name_written : (i : ℕ) → i ≤ 63 → is_written_word (name_of i) ≡ true
+  name_written : (i : ℕ) → i ≤ 63 → is_written_word (function_name i) ≡ true
   name_written i h =
-      and_from (leb 1 (length (name_of i))) (list_all is_word_byte (name_of i)) (le-leb 1 (length (name_of i)) (omega arith))
+      and_from (leb 1 (length (function_name i))) (list_all is_word_byte (function_name i)) (le-leb 1 (length (function_name i)) (omega arith))
       (and_parts (leb 1 (length (decimal i))) (list_all is_word_byte (decimal i)) (numbers.word i (omega (arith, h)))).1
 
-  name_reads : (i : ℕ) → i ≤ 63 → names.name_of (name_of i) ≡ Some (name_of i)
+  name_reads : (i : ℕ) → i ≤ 63 → names.name_of (function_name i) ≡ Some (function_name i)
   name_reads i h =
-      let word = name_of i in
+      let word = function_name i in
       let short = length-decimal-le 2 i (omega arith) (omega (arith, h)) (omega (arith, h)) in
       let bytes = digits_in_name (decimal i) (decimal_is_IsNumeral i (omega (arith, h))).0.1 in
       let lengths : (leb 1 (length word) && leb (length word) 255) ≡ true =
@@ -115,9 +115,9 @@ module _ (numbers : WrittenNumbersRead) where
   says_base : Says base_line (Base 4096)
   says_base = record { written = refl; said = refl }
 
-  says_function : (i : ℕ) → i ≤ 63 → Says (function_line i) (always_of (name_of i))
+  says_function : (i : ℕ) → i ≤ 63 → Says (function_line i) (always_of (function_name i))
   says_function i h = record {
-    written = and_from (is_written_word (name_of i)) true (name_written i h) refl;
+    written = and_from (is_written_word (function_name i)) true (name_written i h) refl;
     said = ap (option_and_then (λ n. Some (always_of n))) (name_reads i h);
   }
 
@@ -130,9 +130,9 @@ module _ (numbers : WrittenNumbersRead) where
   says_out : Says (codes "out" ∷ codes "1" ∷ []) (Does (Plain (Out 1)))
   says_out = record { written = refl; said = refl }
 
-  says_call : (j : ℕ) → j ≤ 63 → Says (codes "call" ∷ name_of j ∷ []) (Does (call_of (name_of j)))
+  says_call : (j : ℕ) → j ≤ 63 → Says (codes "call" ∷ function_name j ∷ []) (Does (call_of (function_name j)))
   says_call j h = record {
-    written = and_from (is_written_word (name_of j)) true (name_written j h) refl;
+    written = and_from (is_written_word (function_name j)) true (name_written j h) refl;
     said = ap (option_map (λ n. Does (call_of n))) (name_reads j h);
   }
 

@@ -5,7 +5,7 @@ use Rattle.subset_decode.specs.declared.instr.Instr.TheVariants.{Mov, Out}
 use Rattle.asm_text.specs.Language.{statement_of}
 use Rattle.asm_text.specs.Statements.{Operation, Plain, Go, TailJump, Return, Statement, Base, Entry, Func, Label, Does}
 use Rattle.soak_inputs.specs.Draws.{next}
-use Rattle.soak_inputs.specs.Texts.{Round, after_function, name_of, round_count, rounds}
+use Rattle.soak_inputs.specs.Texts.{Round, after_function, function_name, round_count, rounds}
 
 -- an operation of an example, with another name
 abbrev pub operation_with : List ℕ → Operation → Operation
@@ -31,14 +31,14 @@ always_of name = function_with name (statement_of (codes "fn" ∷ codes "f" ∷ 
 
 abbrev pub call_statements : Option ℕ → List Statement
 call_statements None = []
-call_statements (Some j) = Does (call_of (name_of j)) ∷ []
+call_statements (Some j) = Does (call_of (function_name j)) ∷ []
 
 -- a number goes to eax, and its low byte to port 1
 abbrev pub round_statements : Round → List Statement
 round_statements r = Does (Plain (Mov 0 r.value)) ∷ Does (Plain (Out 1)) ∷ call_statements r.callee
 
 abbrev pub function_statements : (i : ℕ) → (x : ℕ) → List Statement
-function_statements i x = always_of (name_of i) ∷ flat_map round_statements (rounds i (round_count x) (next x)) ++ Does Return ∷ []
+function_statements i x = always_of (function_name i) ∷ flat_map round_statements (rounds i (round_count x) (next x)) ++ Does Return ∷ []
 
 -- the statements of this many functions, from function i on
 unfoldable pub functions_statements : (i count : ℕ) → (x : ℕ) → List Statement

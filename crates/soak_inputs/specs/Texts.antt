@@ -6,15 +6,15 @@ use Rattle.soak_inputs.specs.Draws.{next, drawn}
 
 -- ---- one function
 
--- Function `last` is the last one, and calls none. Each other function calls one of the next four, or the last one.
-abbrev pub last : ℕ
-last = 63
+-- The last function, 63, calls none. Each other function calls one of the next four, or the last one.
+abbrev pub last_function : ℕ
+last_function = 63
 
 abbrev pub callee : (i : ℕ) → (x : ℕ) → Option ℕ
-callee i x = if nat_lt i last then Some (min last (i + 1 + drawn 4 x)) else None
+callee i x = if nat_lt i last_function then Some (min last_function (i + 1 + drawn 4 x)) else None
 
 abbrev pub after_callee : (i : ℕ) → (x : ℕ) → ℕ
-after_callee i x = if nat_lt i last then next x else x
+after_callee i x = if nat_lt i last_function then next x else x
 
 -- a number is moved to a register and printed, and then a function is called
 pub record Round : Type 0 where
@@ -45,15 +45,15 @@ after_function i x = after_rounds i (round_count x) (next x)
 
 -- ---- its lines, each as its words
 
-abbrev pub name_of : ℕ → List ℕ
-name_of i = codes "f" ++ decimal i
+abbrev pub function_name : ℕ → List ℕ
+function_name i = codes "f" ++ decimal i
 
 abbrev pub function_line : ℕ → List (List ℕ)
-function_line i = codes "fn" ∷ name_of i ∷ codes "always" ∷ []
+function_line i = codes "fn" ∷ function_name i ∷ codes "always" ∷ []
 
 abbrev pub call_lines : Option ℕ → List (List (List ℕ))
 call_lines None = []
-call_lines (Some j) = (codes "call" ∷ name_of j ∷ []) ∷ []
+call_lines (Some j) = (codes "call" ∷ function_name j ∷ []) ∷ []
 
 abbrev pub round_lines : Round → List (List (List ℕ))
 round_lines r = (codes "mov" ∷ codes "eax," ∷ decimal r.value ∷ []) ∷ (codes "out" ∷ codes "1" ∷ []) ∷ call_lines r.callee

@@ -38,7 +38,8 @@ pub(crate) fn write_text(alloc: Global, draws: &mut Draws) -> Result<Vec<u8>, No
 /// Adds the lines of a function.
 fn add_function(text: &mut Vec<u8>, function: u64, draws: &mut Draws) -> Result<(), NoMemory>
     requires { function ≤ 63 }
-    ensures text { OnOk result (text.new.items ≡ text.old.items ++ written_text (function_lines function draws.old)) }
+    ensures text { OnOk result
+        (text.new.items ≡ text.old.items ++ written_text (function_lines function draws.old)) }
     ensures after { OnOk result (draws.new ≡ after_function function draws.old) }
 {
     add_number(text, b"fn f", function, b" always\n")?;
@@ -53,7 +54,8 @@ fn add_function(text: &mut Vec<u8>, function: u64, draws: &mut Draws) -> Result<
 /// Adds the lines of a round of a function.
 fn add_round(text: &mut Vec<u8>, function: u64, draws: &mut Draws) -> Result<(), NoMemory>
     requires { function ≤ 63 }
-    ensures text { OnOk result (text.new.items ≡ text.old.items ++ written_text (round_lines (round function draws.old))) }
+    ensures text { OnOk result
+        (text.new.items ≡ text.old.items ++ written_text (round_lines (round function draws.old))) }
     ensures after { OnOk result (draws.new ≡ after_round function draws.old) }
 {
     let callee = draw_callee(function, draws);
