@@ -1,6 +1,6 @@
 -- The lines of the assembler text of any number are in order.
 use Rattle.std.proofs.Common.{◌≡◌, ◌≢◌, ℕ, zero, suc, ◌+◌, ◌*◌, ◌/◌, ◌%◌, ◌^◌, ◌<◌, ◌≤◌, Bool, true, false, cond, not, ◌||◌, ◌&&◌, List, [], ◌∷◌, ◌++◌, length, drop, Option, None, Some, refl, sym, ap, subst, inl, inr, ◌∙◌, arith, append_assoc, append-nil}
-use Rattle.std.specs.Prelude.{count_by, decimal, fold}
+use Rattle.std.specs.Prelude.{count_by}
 use Rattle.std.specs.List.{AllByRecursion, enumerate_from, flat_map, list_all, list_any}
 use Rattle.std.specs.Str.{bytes_eq}
 use Rattle.std.proofs.lemmas.Bool.{and_from, cases_eq, false_from_ne_true, le-ltb, or_from, or_left, or_right}
@@ -10,8 +10,8 @@ use Rattle.std.proofs.lemmas.List.{length-append}
 use Rattle.std.proofs.lemmas.Slice.Eq.{bytes_eq-Decides}
 use Rattle.subset_decode.specs.declared.instr.Instr.TheVariants.{Mov, Out}
 use Rattle.asm_text.specs.Layout.{Lines, defines, is_function, is_instruction}
-use Rattle.asm_text.specs.Refusals.{ends_early, has_function, is_bare, is_defined, is_misplaced, is_out_of_range, is_unresolved, names_reserved, operation_exceeds, operation_reserves, repeats}
-use Rattle.asm_text.specs.Statements.{Operation, Plain, Go, Return, Statement, Base, Func, Does}
+use Rattle.asm_text.specs.Refusals.{ends_early, has_function, is_bare, is_defined, is_unresolved, operation_exceeds, operation_reserves}
+use Rattle.asm_text.specs.Statements.{Operation, Plain, Return, Statement, Base, Does}
 use Rattle.asm_text.specs.WrittenTexts.{MayFollow, IsOrderly, is_always_function}
 use Rattle.soak_inputs.specs.Draws.{next}
 use Rattle.soak_inputs.proofs.Statements.{always_of, call_of, call_statements, function_statements, functions_statements, round_statements, statements}

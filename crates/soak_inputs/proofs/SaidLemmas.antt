@@ -1,33 +1,26 @@
 -- The assembler text of any number is read as what it says.
-use Rattle.std.proofs.Common.{◌≡◌, ℕ, zero, suc, ◌+◌, ◌/◌, ◌%◌, ◌^◌, ◌<◌, ◌≤◌, Bool, true, false, cond, not, ◌||◌, ◌&&◌, List, [], ◌∷◌, ◌++◌, length, map, get_or, take, drop, Option, None, Some, refl, sym, ap, subst, ◌∙◌, arith, append_assoc, append-nil, eqb, leb}
-use Rattle.std.specs.Prelude.{codes, count_by, decimal, fold, nat_lt, min, MatchOption, option_and_then, option_map, slice_index, ⊤}
-use Rattle.std.specs.Char.{digit_value}
+use Rattle.std.proofs.Common.{◌≡◌, ℕ, zero, suc, ◌+◌, ◌/◌, ◌%◌, ◌^◌, ◌<◌, ◌≤◌, Bool, true, false, cond, ◌||◌, ◌&&◌, List, [], ◌∷◌, ◌++◌, length, take, drop, Option, None, Some, refl, sym, ap, ◌∙◌, arith, eqb, leb}
+use Rattle.std.specs.Prelude.{codes, decimal, nat_lt, min, option_and_then, option_map, ⊤}
 use Rattle.std.specs.Int.{IsInRange}
-use Rattle.std.specs.List.{AllByRecursion, AllZip, cons_option, enumerate_from, filter_map, flat_map, list_all, list_any}
+use Rattle.std.specs.List.{AllByRecursion, AllZip, cons_option, enumerate_from, filter_map, flat_map, list_all}
 use Rattle.std.specs.Str.{bytes_eq}
-use Rattle.std.specs.Str.Parse.{AllDigits, IsNumeral, digits_value}
-use Rattle.std.proofs.lemmas.Bool.{and_from, and_parts, cases_eq, false_from_ne_true, le-leb, le-ltb, lt-ltb, ne_eqb, or_from, or_left, or_right}
+use Rattle.std.specs.Str.Parse.{AllDigits, digits_value}
+use Rattle.std.proofs.lemmas.Bool.{and_from, and_parts, le-leb, ne_eqb}
 use Rattle.std.proofs.lemmas.Fmt.{decimal_is_IsNumeral, length-decimal-le}
-use Rattle.std.proofs.lemmas.List.Folds.{list_any-append}
-use Rattle.std.proofs.lemmas.List.Sums.{fold-append}
-use Rattle.std.proofs.lemmas.Slice.Eq.{bytes_eq-Decides}
 use Rattle.std.proofs.lemmas.Str.Parse.{tells_digits}
 use Rattle.text_lines.specs.Numbers.{numeral}
 use Rattle.text_lines.specs.Written.{is_word_byte, is_written_word, WrittenNumbersRead}
-use Rattle.subset_decode.specs.declared.instr.Instr.{Instr}
 use Rattle.subset_decode.specs.declared.instr.Instr.TheVariants.{Mov, Out}
 use Rattle.xray_image.specs.Program.{is_name_byte}
-use Rattle.asm_text.specs.Language.{statement_of, says, move}
-use Rattle.asm_text.specs.Layout.{Lines, is_function, is_instruction}
+use Rattle.asm_text.specs.Language.{statement_of}
 use Rattle.asm_text.specs.Names as names
 use Rattle.asm_text.specs.Numbers as asm_numbers
-use Rattle.asm_text.specs.Refusals.{ends_early, has_function, is_bare, is_defined, is_misplaced, is_out_of_range, is_unresolved, names_reserved, operation_exceeds, operation_reserves, repeats}
-use Rattle.asm_text.specs.Statements.{Operation, Plain, Go, Return, Statement, Base, Func, Does}
-use Rattle.asm_text.specs.WrittenTexts.{Says, MayFollow, IsOrderly, is_always_function}
+use Rattle.asm_text.specs.Statements.{Plain, Return, Statement, Base, Does}
+use Rattle.asm_text.specs.WrittenTexts.{Says}
 use Rattle.soak_inputs.specs.Draws.{drawn, next}
 use Rattle.soak_inputs.proofs.Statements.{always_of, call_of, call_statements, function_statements, functions_statements, round_statements, statements}
 use Rattle.soak_inputs.specs.Said.{soak_said}
-use Rattle.soak_inputs.specs.Texts.{Round, all_lines, after_callee, after_function, after_round, base_line, call_lines, callee, function_line, function_lines, functions_lines, function_name, return_line, round, round_count, round_lines, rounds}
+use Rattle.soak_inputs.specs.Texts.{Round, all_lines, after_callee, after_function, after_round, base_line, call_lines, function_line, function_lines, functions_lines, function_name, return_line, round_count, round_lines, rounds}
 
 -- ---- numbers and names
 

@@ -1,5 +1,5 @@
 -- The script of any number is in order, and holds no thread.
-use Rattle.std.proofs.Common.{◌≡◌, ℕ, zero, suc, ◌+◌, ◌/◌, ◌%◌, ◌^◌, ◌<◌, ◌≤◌, Bool, true, false, cond, ◌||◌, List, [], ◌∷◌, ◌++◌, length, take, None, Some, refl, sym, ap, subst, ◌∙◌, ◌==◌, eqb, arith}
+use Rattle.std.proofs.Common.{◌≡◌, ℕ, zero, suc, ◌+◌, ◌/◌, ◌%◌, ◌^◌, ◌≤◌, Bool, true, false, cond, List, [], ◌∷◌, length, take, None, Some, refl, sym, ap, subst, ◌∙◌, ◌==◌, arith}
 use Rattle.std.specs.Prelude.{All, find, nat_lt, option_map, slice_get}
 use Rattle.std.specs.List.{AllByRecursion, enumerate_from, list_any}
 use Rattle.std.proofs.lemmas.Bool.{le-ltb, ne_eqb, or_from}
@@ -11,7 +11,7 @@ use Rattle.xray_image.specs.Ids.{id_count}
 use Rattle.patch_script.specs.declared.command.Command.{Command}
 use Rattle.patch_script.specs.declared.command.Command.TheVariants as commands
 use Rattle.patch_script.specs.Plans.{IsOrderly, is_waiting, waiting_line}
-use Rattle.patch_script.specs.Refusals.{Lines, commands_of, holds_for_good, IsAdmitted}
+use Rattle.patch_script.specs.Refusals.{commands_of, holds_for_good, IsAdmitted}
 use Rattle.patch_script.specs.WrittenScripts.{HasWords, written_plan}
 use Rattle.soak_inputs.specs.Draws.{drawn, next}
 use Rattle.soak_inputs.specs.Scripts.{after_change, change, changes, script}

@@ -3,7 +3,7 @@ use Rattle.std.specs.Prelude.{ℕ, zero, suc, ◌+◌, List, [], ◌∷◌, ◌+
 use Rattle.std.specs.List.{flat_map}
 use Rattle.subset_decode.specs.declared.instr.Instr.TheVariants.{Mov, Out}
 use Rattle.asm_text.specs.Language.{statement_of}
-use Rattle.asm_text.specs.Statements.{Operation, Plain, Go, TailJump, Return, Statement, Base, Entry, Func, Label, Does}
+use Rattle.asm_text.specs.Statements.{Operation, Plain, Go, TailJump, Return, Statement, Base, Func, Label, Does}
 use Rattle.soak_inputs.specs.Draws.{next}
 use Rattle.soak_inputs.specs.Texts.{Round, after_function, function_name, round_count, rounds}
 
