@@ -8,6 +8,7 @@ pub mod Pairs
 pub mod Cuts
 pub mod Gathering
 pub mod NumberLemmas
+pub mod OfRows
 pub mod Outputs
 pub mod Readings
 pub mod WorkedLines

@@ -1,3 +1,4 @@
+pub mod Files
 pub mod Items
 pub mod Lines
 pub mod Numbers

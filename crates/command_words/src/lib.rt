@@ -12,6 +12,7 @@
 #![tactic(auto)]
 
 mod cutting;
+mod laws;
 mod line;
 mod report_options;
 mod rows;
@@ -21,6 +22,7 @@ mod tables;
 mod tests;
 mod words;
 
+pub use laws::commands_follow_their_rows;
 pub use report_options::{AccountFormat, AccountOptions, SortColumn, SortOrder, StackFormat};
 pub use run_options::{Bounds, Buffers, RunOptions, Stamps};
 pub use words::{Command, read_words};

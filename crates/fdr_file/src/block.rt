@@ -12,7 +12,7 @@ use fdr_record::{METADATA_BYTES, Rec};
 use std::alloc::Global;
 
 /// The place after the block that begins at this place, by its extents.
-#[tactic(auto, unfolding(crate::specs::Reading::end_on))]
+#[tactic(auto, unfolding(crate::specs::private::Reading::end_on))]
 fn block_end(bytes: &[u8], at: usize) -> Result<usize, TraceFault>
     requires { at ≤ length bytes.now }
     ensures reads { Reads (λ end. end) result (end_on (left_at bytes.now at)) }
@@ -39,7 +39,7 @@ fn block_end(bytes: &[u8], at: usize) -> Result<usize, TraceFault>
 }
 
 /// The block whose preamble begins at this place. `block` is the file up to the block's end.
-#[tactic(auto, unfolding(crate::specs::Reading::body_on))]
+#[tactic(auto, unfolding(crate::specs::private::Reading::body_on))]
 fn read_body(alloc: Global, block: &[u8], at: usize) -> Result<Block, TraceFault>
     requires { at ≤ length block.now }
     ensures { Gives (λ block. block) result (body_on (left_at block.now at)) }

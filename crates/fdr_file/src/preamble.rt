@@ -65,7 +65,7 @@ fn pid_at(block: &[u8], at: usize) -> Result<(u32, usize), TraceFault>
 }
 
 /// The preamble that begins at this place of a block's bytes.
-#[tactic(auto, unfolding(crate::specs::Reading::preamble_on))]
+#[tactic(auto, unfolding(crate::specs::private::Reading::preamble_on))]
 pub(crate) fn read_preamble(block: &[u8], at: usize) -> Result<Preamble, TraceFault>
     requires { at ≤ length block.now }
     ensures reads { Reads (λ x. (x.thread, x.wall, x.pid, left_at block.now x.end)) result

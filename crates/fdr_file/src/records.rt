@@ -16,7 +16,7 @@ pub(crate) fn taken_at(bytes: &[u8], at: usize) -> Result<(Rec, usize), RecFault
 
 /// The record at a place of a block's bytes, and the place after it. Places count from the file's
 /// start, and `block` is the file up to the block's end.
-#[tactic(auto, unfolding(crate::specs::Reading::record_on))]
+#[tactic(auto, unfolding(crate::specs::private::Reading::record_on))]
 pub(crate) fn record_at(block: &[u8], at: usize) -> Result<(Rec, usize), TraceFault>
     requires { at ≤ length block.now }
     ensures reads { Reads (λ x. (x.0, left_at block.now x.1)) result (record_on (left_at block.now at)) }

@@ -4,7 +4,9 @@ pub mod Loading
 pub mod Turns
 pub mod Crossing
 pub mod Each
-pub mod Queues
-pub mod LastBuffers
+pub mod Cuts
 pub mod Notes
+pub mod Pooled
+pub mod Order
 pub mod RunLemmas
+pub mod Gathered

@@ -1,189 +1,160 @@
--- One more event in a ring.
-use Rattle.std.proofs.Common.{◌≡◌, ℕ, suc, ◌+◌, ◌-◌, ◌<◌, ◌≤◌, List, [], ◌∷◌, ◌++◌, Bool, true, false, refl, sym, subst, ap, ◌∙◌, arith, length, length-append, append_assoc, map, take, drop}
-use Rattle.std.specs.Prelude.{filter}
-use Rattle.xray_io.specs.declared.faults.Wall.{Wall}
+-- One more event in what a thread has recorded.
+use Rattle.std.proofs.Common.{◌≡◌, ℕ, ◌+◌, ◌-◌, ◌<◌, ◌≤◌, ◌^◌, List, [], ◌∷◌, ◌++◌, Bool, true, false, true≢false, refl, sym, subst, ap, ◌∙◌, arith, length, length-append, inl, inr}
+use Rattle.std.proofs.lemmas.Bool.{cases_Bool}
 use Rattle.fdr_record.specs.declared.event.Event.{Event}
 use Rattle.fdr_buffer.specs.Filled.{Filled}
 use Rattle.fdr_buffer.specs.Segments.{has_room, segments}
 use Rattle.fdr_buffer.proofs.Cutting.{joins}
-use Rattle.traced_run.specs.Kept.{Stamp, buffer_of, buffers_behind}
-use Rattle.thread_run.specs.declared.recorder.RingRecorder.{RingRecorder}
-use Rattle.thread_run.specs.Buffers.{is_begun, last_buffers}
-use Rattle.thread_run.specs.Rings.{CutsAnew, IsSameRing, StandsFor, StandsForMore, buffers_in, segments_in, stamp_in, thread_in}
-use Rattle.thread_run.proofs.LastBuffers.{begins_first, begins_next, begun_last, few_segments, filter_more, filter_same, last_more, same_last, split, taken_size}
+use Rattle.buffer_queue.specs.Passes.{IsOf, PassIs, PoolIs, sealing}
+use Rattle.traced_run.specs.Kept.{Stamp, buffer_of, buffers_behind, stamp_of}
+use Rattle.thread_run.specs.declared.exchange.Preamble.{Preamble}
+use Rattle.thread_run.specs.Recordings.{CutsAnew, HasSameOwner, IsNextOf, IsPreambleOf, Recording, StandsFor, StandsForMore, sealed_with, segments_begun, segments_in}
+use Rattle.thread_run.proofs.Cuts.{begins_first, begins_next, buffers_length, buffers_more, few_segments}
 
 -- ---- the hand
 
-pub record HandIs (ring : RingRecorder) (events : List Event) : Type 0 where
-  pub whole : List (List Event)
-  pub opened : List Event
-  pub segs : segments_in ring events ≡ whole ++ opened ∷ []
-  pub hand : ring.hand ≡ buffer_of (stamp_in ring) (thread_in ring) (length whole, opened)
-  pub sealed : ring.sealed ≡ drop 1 (last_buffers (stamp_in ring) (thread_in ring) (length (buffers_in ring)) whole)
+pub hand_size : (r : Recording) (events : List Event) → StandsFor r events → r.hand.size ≡ r.pass.setup.size
+hand_size r events (StandsFor.unbegun none sealed hand) = ap (λ (b : Filled). b.size) hand
+hand_size r events (StandsFor.begun whole last segs sealed hand) = ap (λ (b : Filled). b.size) hand
 
-some_buffer : (ring : RingRecorder) → 0 < length (buffers_in ring)
-some_buffer ring = omega (arith, length-append ring.sealed (ring.hand ∷ []))
+-- a hand with a segment can be sealed
+pub hand_next : (r : Recording) (events : List Event) → StandsFor r events → length events < 2 ^ 32 - 1 → r.hand.begun ≡ true → IsNextOf r.pass r.hand
+hand_next r events (StandsFor.unbegun none sealed hand) few is = absurd (true≢false (sym is ∙ ap (λ (b : Filled). b.begun) hand))
+hand_next r events (StandsFor.begun whole last segs sealed hand) few is =
+    let serial : r.hand.serial ≡ length whole = ap (λ (b : Filled). b.serial) hand in
+    record {
+      thread = ap (λ (b : Filled). b.thread) hand;
+      serial = serial ∙ sym (ap length sealed ∙ buffers_length (stamp_of r.pass.setup) r.pass.thread whole);
+      few = omega (arith, serial, few, few_segments r.pass.setup.size events, ap length segs, length-append whole (last ∷ []));
+    }
 
--- if there is a segment, the hand holds the last one
-pub hand_is : (ring : RingRecorder) (events : List Event) → StandsFor ring events → 0 < ring.segments → HandIs ring events
-hand_is ring events at some =
-    let S : Stamp = stamp_in ring in
-    let n : ℕ = length (buffers_in ring) in
-    let cut = split (segments_in ring events) (subst (λ (k : ℕ). 0 < k) at.count some) in
-    let same = same_last ring.sealed (drop 1 (last_buffers S ring.thread n cut.whole)) ring.hand (buffer_of S ring.thread (length cut.whole, cut.last))
-    (at.buffers ∙ ap (last_buffers S ring.thread n) cut.is ∙ last_more S ring.thread n cut.whole cut.last (some_buffer ring)) in
-    record { whole = cut.whole; opened = cut.last; segs = cut.is; hand = same.1; sealed = same.0 }
-
-pub hand_begun : (ring : RingRecorder) (events : List Event) → StandsFor ring events → 0 < ring.segments → ring.hand.begun ≡ true
-hand_begun ring events at some = ap (λ (b : Filled). b.begun) (hand_is ring events at some).hand
+-- as many segments were begun as the events are cut into
+pub begun_are : (r : Recording) (events : List Event) → StandsFor r events → segments_begun r ≡ length (segments_in r events)
+begun_are r events (StandsFor.unbegun none sealed hand) =
+    let fresh : r.hand.begun ≡ false = ap (λ (b : Filled). b.begun) hand in
+    rw (fresh, sealed, none) refl
+begun_are r events (StandsFor.begun whole last segs sealed hand) =
+    let is : r.hand.begun ≡ true = ap (λ (b : Filled). b.begun) hand in
+    let count : length r.pass.sealed ≡ length whole = ap length sealed ∙ buffers_length (stamp_of r.pass.setup) r.pass.thread whole in
+    rw is (omega (arith, count, ap length segs, length-append whole (last ∷ [])))
 
 -- ---- an event that begins a segment
 
-pub first_anew : (ring : RingRecorder) (events : List Event) (event : Event) → StandsFor ring events → ring.segments ≡ 0 → CutsAnew ring events event
-first_anew ring events event at none = begins_first ring.hand.size events event (sym at.count ∙ none)
+pub cuts_anew : (r : Recording) (events : List Event) (event : Event) → StandsFor r events
+    → (r.hand.begun ≡ true → has_room r.hand.size (r.hand.events ++ event ∷ []) ≡ false) → CutsAnew r events event
+cuts_anew r events event (StandsFor.unbegun none sealed hand) full = begins_first r.pass.setup.size events event none
+cuts_anew r events event (StandsFor.begun whole last segs sealed hand) full =
+    begins_next r.pass.setup.size events last whole event segs
+    (ap (λ (b : Filled). has_room b.size (b.events ++ event ∷ [])) (sym hand) ∙ full (ap (λ (b : Filled). b.begun) hand))
 
-pub full_anew : (ring : RingRecorder) (events : List Event) (event : Event) → StandsFor ring events → 0 < ring.segments
-    → has_room ring.hand.size (ring.hand.events ++ event ∷ []) ≡ false → CutsAnew ring events event
-full_anew ring events event at some full =
-    let hand = hand_is ring events at some in
-    begins_next ring.hand.size events hand.opened hand.whole event hand.segs
-    (ap (λ (es : List Event). has_room ring.hand.size (es ++ event ∷ [])) (sym (ap (λ (b : Filled). b.events) hand.hand)) ∙ full)
+-- ---- an event that joins the segment in hand
 
-pub segments_fit : (ring : RingRecorder) (events : List Event) → StandsFor ring events → ring.segments ≤ length events
-segments_fit ring events at = omega (arith, at.count, few_segments ring.hand.size events)
+pub put_stands : (r : Recording) (events : List Event) (event : Event) → StandsFor r events → r.hand.begun ≡ true
+    → has_room r.hand.size (r.hand.events ++ event ∷ []) ≡ true
+    → StandsFor (record r { hand = record r.hand { events = r.hand.events ++ event ∷ [] } }) (events ++ event ∷ [])
+put_stands r events event (StandsFor.unbegun none sealed hand) is room = absurd (true≢false (sym is ∙ ap (λ (b : Filled). b.begun) hand))
+put_stands r events event (StandsFor.begun whole last segs sealed hand) is room =
+    StandsFor.begun whole (last ++ event ∷ [])
+    (joins r.pass.setup.size events last whole event segs (ap (λ (b : Filled). has_room b.size (b.events ++ event ∷ [])) (sym hand) ∙ room))
+    sealed
+    (ap (λ (b : Filled). record b { events = b.events ++ event ∷ [] }) hand)
 
--- ---- an event that joins the last segment
+-- ---- the next segment
 
--- the ring with another hand
-abbrev pub with_hand : RingRecorder → Filled → RingRecorder
-with_hand ring hand = record ring { hand = hand }
+pub sealed_if : (pass : PassIs) (hand : Filled) → hand.begun ≡ true → sealed_with pass hand ≡ sealing pass hand
+sealed_if pass hand is = rw is refl
 
-same_ring : (ring : RingRecorder) (hand : Filled) → hand.size ≡ ring.hand.size → IsSameRing ring (with_hand ring hand)
-same_ring ring hand size = record {
-  thread = refl;
-  stamp = ap (λ (n : ℕ). record { size = n; wall = ring.wall; pid = ring.pid }) size;
-  count = omega (arith, length-append ring.sealed (hand ∷ []), length-append ring.sealed (ring.hand ∷ []));
+pub kept_if : (pass : PassIs) (hand : Filled) → hand.begun ≡ false → sealed_with pass hand ≡ pass
+kept_if pass hand not_so = rw not_so refl
+
+-- sealing keeps the pool and what the thread's segments begin with
+pub sealed_stays : (P : PassIs → Type 0) (pass : PassIs) (hand : Filled) → P pass → P (sealing pass hand) → P (sealed_with pass hand)
+sealed_stays P pass hand kept sealed =
+    elim (cases_Bool hand.begun) [
+      | inl so ↦ subst P (sym (sealed_if pass hand so)) sealed
+      | inr not_so ↦ subst P (sym (kept_if pass hand not_so)) kept
+    ]
+
+pub sealed_of_pool : (pool : PoolIs) (pass : PassIs) (hand : Filled) → IsOf pool pass → IsOf pool (sealed_with pass hand)
+sealed_of_pool pool pass hand is =
+    sealed_stays (IsOf pool) pass hand is (record { same_pool = is.same_pool; same_setup = is.same_setup })
+
+pub sealed_preamble : (preamble : Preamble) (pass : PassIs) (hand : Filled) → IsPreambleOf pass preamble → IsPreambleOf (sealed_with pass hand) preamble
+sealed_preamble preamble pass hand is =
+    sealed_stays (λ (p : PassIs). IsPreambleOf p preamble) pass hand is (record { thread = is.thread; wall = is.wall; pid = is.pid })
+
+-- a recording with its next segment in hand
+abbrev pub turned : Recording → PassIs → Event → Recording
+turned r pass event =
+    record { pass = pass; hand = buffer_of (stamp_of r.pass.setup) r.pass.thread (length pass.sealed, event ∷ []) }
+
+turned_same : (r : Recording) (event : Event) → HasSameOwner r (turned r (sealed_with r.pass r.hand) event)
+turned_same r event =
+    sealed_stays (λ (p : PassIs). HasSameOwner r (turned r p event)) r.pass r.hand (record { pool = refl; setup = refl; thread = refl })
+    (record { pool = refl; setup = refl; thread = refl })
+
+turned_stands : (r : Recording) (events : List Event) (event : Event) → StandsFor r events → CutsAnew r events event
+    → StandsFor (turned r (sealed_with r.pass r.hand) event) (events ++ event ∷ [])
+turned_stands r events event (StandsFor.unbegun none sealed hand) anew =
+    let not_so : r.hand.begun ≡ false = ap (λ (b : Filled). b.begun) hand in
+    let serial : length r.pass.sealed ≡ 0 = ap length sealed in
+    subst (λ (p : PassIs). StandsFor (turned r p event) (events ++ event ∷ [])) (sym (kept_if r.pass r.hand not_so))
+    (StandsFor.begun [] (event ∷ [])
+    (anew ∙ ap (λ (ss : List (List Event)). ss ++ (event ∷ []) ∷ []) none)
+    sealed
+    (ap (λ (k : ℕ). buffer_of (stamp_of r.pass.setup) r.pass.thread (k, event ∷ [])) serial))
+turned_stands r events event (StandsFor.begun whole last segs sealed hand) anew =
+    let stamp : Stamp = stamp_of r.pass.setup in
+    let thread : ℕ = r.pass.thread in
+    let is : r.hand.begun ≡ true = ap (λ (b : Filled). b.begun) hand in
+    let all : r.pass.sealed ++ r.hand ∷ [] ≡ buffers_behind stamp 0 thread (whole ++ last ∷ []) =
+    ap (λ (bs : List Filled). bs ++ r.hand ∷ []) sealed
+    ∙ ap (λ (b : Filled). buffers_behind stamp 0 thread whole ++ b ∷ []) hand
+    ∙ sym (buffers_more stamp thread whole last) in
+    subst (λ (p : PassIs). StandsFor (turned r p event) (events ++ event ∷ [])) (sym (sealed_if r.pass r.hand is))
+    (StandsFor.begun (whole ++ last ∷ []) (event ∷ [])
+    (anew ∙ ap (λ (ss : List (List Event)). ss ++ (event ∷ []) ∷ []) segs)
+    all
+    (ap (λ (k : ℕ). buffer_of stamp thread (k, event ∷ [])) (ap length all ∙ buffers_length stamp thread (whole ++ last ∷ []))))
+
+pub turn_stands : (r : Recording) (event : Event) → ((events : List Event) → StandsFor r events → CutsAnew r events event)
+    → StandsForMore r (turned r (sealed_with r.pass r.hand) event) event
+turn_stands r event anew = record {
+  same = turned_same r event;
+  stands = λ events at. turned_stands r events event at (anew events at);
 }
 
-pub put_same : (ring : RingRecorder) (hand : Filled) (event : Event) → hand ≡ record ring.hand { events = ring.hand.events ++ event ∷ [] }
-    → IsSameRing ring (with_hand ring hand)
-put_same ring hand event put = same_ring ring hand (ap (λ (b : Filled). b.size) put)
+-- what a turn leaves stands for one more event, however its parts are named
+pub turn_leaves : (r old : Recording) (pass : PassIs) (hand : Filled) (event : Event) → old ≡ r
+    → ((events : List Event) → StandsFor old events → CutsAnew old events event) → pass ≡ sealed_with r.pass r.hand
+    → hand ≡ buffer_of (stamp_of r.pass.setup) r.pass.thread (length pass.sealed, event ∷ [])
+    → StandsForMore old (record { pass = pass; hand = hand }) event
+turn_leaves r old pass hand event same anew sealed begun =
+    let new : Recording = record { pass = pass; hand = hand } in
+    let is : new ≡ turned r (sealed_with r.pass r.hand) event =
+    ap (λ (h : Filled). record { pass = pass; hand = h }) begun ∙ ap (λ (p : PassIs). turned r p event) sealed in
+    let More : Recording → Type 0 = λ s. ((events : List Event) → StandsFor s events → CutsAnew s events event) → StandsForMore s new event in
+    subst More (sym same) (λ cuts. subst (λ (n : Recording). StandsForMore r n event) (sym is) (turn_stands r event cuts)) anew
 
--- the buffers of a ring whose hand has this size
-abbrev Holds : RingRecorder → Filled → ℕ → ℕ → List Event → Type 0
-Holds ring hand size n events =
-    ring.sealed ++ hand ∷ [] ≡ last_buffers (record { size = size; wall = ring.wall; pid = ring.pid }) ring.thread n (segments size events)
-
-pub put_stands : (ring : RingRecorder) (hand : Filled) (events : List Event) (event : Event) → StandsFor ring events → 0 < ring.segments
-    → hand ≡ record ring.hand { events = ring.hand.events ++ event ∷ [] } → has_room ring.hand.size (ring.hand.events ++ event ∷ []) ≡ true
-    → StandsFor (with_hand ring hand) (events ++ event ∷ [])
-put_stands ring hand events event at some put room =
-    let S : Stamp = stamp_in ring in
-    let n : ℕ = length (buffers_in ring) in
-    let is = hand_is ring events at some in
-    let open_is : ring.hand.events ≡ is.opened = ap (λ (b : Filled). b.events) is.hand in
-    let segs : segments ring.hand.size (events ++ event ∷ []) ≡ is.whole ++ (is.opened ++ event ∷ []) ∷ [] =
-    joins ring.hand.size events is.opened is.whole event is.segs
-    (ap (λ (es : List Event). has_room ring.hand.size (es ++ event ∷ [])) (sym open_is) ∙ room) in
-    let next : hand ≡ buffer_of S ring.thread (length is.whole, is.opened ++ event ∷ []) =
-    put ∙ ap (λ (b : Filled). record b { events = b.events ++ event ∷ [] }) is.hand in
-    let size : hand.size ≡ ring.hand.size = ap (λ (b : Filled). b.size) put in
-    let same = same_ring ring hand size in
-    let here : Holds ring hand ring.hand.size n (events ++ event ∷ []) =
-    ap (λ (b : Filled). ring.sealed ++ b ∷ []) next
-    ∙ ap (λ (bs : List Filled). bs ++ buffer_of S ring.thread (length is.whole, is.opened ++ event ∷ []) ∷ []) is.sealed
-    ∙ sym (last_more S ring.thread n is.whole (is.opened ++ event ∷ []) (some_buffer ring))
-    ∙ ap (last_buffers S ring.thread n) (sym segs) in
-    let many : length (segments ring.hand.size (events ++ event ∷ [])) ≡ length (segments_in ring events) =
-    omega (
+-- the next segment has a number
+next_few : (r : Recording) (events : List Event) → StandsFor r events → length events < 2 ^ 32 - 1
+    → length (sealed_with r.pass r.hand).sealed < 2 ^ 32 - 1
+next_few r events (StandsFor.unbegun none sealed hand) few =
+    let not_so : r.hand.begun ≡ false = ap (λ (b : Filled). b.begun) hand in
+    subst (λ (p : PassIs). length p.sealed < 2 ^ 32 - 1) (sym (kept_if r.pass r.hand not_so)) (omega (arith, ap length sealed))
+next_few r events (StandsFor.begun whole last segs sealed hand) few =
+    let is : r.hand.begun ≡ true = ap (λ (b : Filled). b.begun) hand in
+    subst (λ (p : PassIs). length p.sealed < 2 ^ 32 - 1) (sym (sealed_if r.pass r.hand is)) (omega (
       arith,
+      few,
+      few_segments r.pass.setup.size events,
       ap length segs,
-      ap length is.segs,
-      length-append is.whole ((is.opened ++ event ∷ []) ∷ []),
-      length-append is.whole (is.opened ∷ []),
-    ) in
-    record {
-      count = at.count ∙ sym many ∙ ap (λ (k : ℕ). length (segments k (events ++ event ∷ []))) (sym size);
-      buffers = subst (λ (k : ℕ). Holds ring hand k (length (buffers_in (with_hand ring hand))) (events ++ event ∷ [])) (sym size)
-          (subst (λ (m : ℕ). Holds ring hand ring.hand.size m (events ++ event ∷ [])) (sym same.count) here);
-    }
+      length-append whole (last ∷ []),
+      ap length sealed,
+      buffers_length (stamp_of r.pass.setup) r.pass.thread whole,
+      length-append r.pass.sealed (r.hand ∷ []),
+    ))
 
--- ---- an event that begins a segment in the oldest buffer
-
-first_is : {X : Type 0} (xs : List X) (x : X) → x ∷ [] ≡ take 1 xs → length (drop 1 xs) + 1 ≡ length xs
-first_is [] x e = absurd cc
-first_is (y ∷ xs) x e = omega arith
-
--- the ring with its oldest buffer in hand
-abbrev pub turned : RingRecorder → List Filled → Filled → RingRecorder
-turned ring sealed hand = record ring { sealed = sealed; hand = hand; segments = ring.segments + 1 }
-
-pub turn_stands : (ring : RingRecorder) (sealed : List Filled) (taken hand : Filled) (event : Event)
-    → (any : (events : List Event) × StandsFor ring events)
-    → sealed ≡ drop 1 (buffers_in ring) → taken ∷ [] ≡ take 1 (buffers_in ring)
-    → hand ≡ record {
-      size = taken.size;
-      begun = true;
-      thread = ring.thread;
-      serial = ring.segments;
-      wall = ring.wall;
-      pid = ring.pid;
-      events = event ∷ [];
-    }
-    → ((events : List Event) → StandsFor ring events → CutsAnew ring events event)
-    → StandsForMore ring (turned ring sealed hand) event
-turn_stands ring sealed taken hand event (some_events, some) queue front put anew =
-    let S : Stamp = stamp_in ring in
-    let n : ℕ = length (buffers_in ring) in
-    let taken_is : taken.size ≡ ring.hand.size =
-    taken_size S ring.thread n (segments_in ring some_events) (buffers_in ring) taken some.buffers (sym front) in
-    let size : hand.size ≡ ring.hand.size = ap (λ (b : Filled). b.size) put ∙ taken_is in
-    let count : length (sealed ++ hand ∷ []) ≡ n =
-    omega (arith, length-append sealed (hand ∷ []), ap length queue, first_is (buffers_in ring) taken front) in
-    record {
-      same = record { thread = refl; stamp = ap (λ (k : ℕ). record { size = k; wall = ring.wall; pid = ring.pid }) size; count = count };
-      stands = λ events at.
-          let more : segments ring.hand.size (events ++ event ∷ []) ≡ segments_in ring events ++ (event ∷ []) ∷ [] = anew events at in
-          let b : Filled = buffer_of S ring.thread (length (segments_in ring events), event ∷ []) in
-          let next : hand ≡ b =
-          put
-          ∙ ap (λ (k : ℕ). record { size = k; begun = true; thread = ring.thread; serial = ring.segments; wall = ring.wall; pid = ring.pid; events = event ∷ [] }) taken_is
-          ∙ ap (λ (k : ℕ). record { size = ring.hand.size; begun = true; thread = ring.thread; serial = k; wall = ring.wall; pid = ring.pid; events = event ∷ [] }) at.count in
-          let After : ℕ → ℕ → Type 0 = λ k m.
-          sealed ++ hand ∷ [] ≡ last_buffers (record { size = k; wall = ring.wall; pid = ring.pid }) ring.thread m (segments k (events ++ event ∷ [])) in
-          let here : After ring.hand.size n =
-          ap (λ (h : Filled). sealed ++ h ∷ []) next
-          ∙ ap (λ (bs : List Filled). bs ++ b ∷ []) (queue ∙ ap (drop 1) at.buffers)
-          ∙ sym (last_more S ring.thread n (segments_in ring events) (event ∷ []) (some_buffer ring))
-          ∙ ap (last_buffers S ring.thread n) (sym more) in
-          record {
-            count = omega (
-              arith,
-              at.count,
-              ap length more,
-              length-append (segments_in ring events) ((event ∷ []) ∷ []),
-              ap (λ (k : ℕ). length (segments k (events ++ event ∷ []))) size,
-            );
-            buffers = subst (λ (k : ℕ). After k (length (sealed ++ hand ∷ []))) (sym size)
-                (subst (λ (m : ℕ). After ring.hand.size m) (sym count) here);
-          };
-    }
-
--- ---- what is left
-
-pub collected : (ring : RingRecorder) (events : List Event) → StandsFor ring events
-    → filter is_begun (buffers_in ring)
-    ≡ buffers_behind (stamp_in ring) (length (segments_in ring events) - length (buffers_in ring)) (thread_in ring) (segments_in ring events)
-collected ring events at =
-    ap (filter is_begun) at.buffers ∙ begun_last (stamp_in ring) ring.thread (length (buffers_in ring)) (segments_in ring events)
-
--- after others
-pub collected_begun : (ring : RingRecorder) (before : List Filled) → ring.hand.begun ≡ true
-    → (before ++ filter is_begun ring.sealed) ++ ring.hand ∷ [] ≡ before ++ filter is_begun (buffers_in ring)
-collected_begun ring before begun =
-    append_assoc before (filter is_begun ring.sealed) (ring.hand ∷ [])
-    ∙ ap (λ (bs : List Filled). before ++ bs) (sym (filter_more ring.sealed ring.hand begun))
-
-pub collected_fresh : (ring : RingRecorder) (before : List Filled) → ring.hand.begun ≡ false
-    → before ++ filter is_begun ring.sealed ≡ before ++ filter is_begun (buffers_in ring)
-collected_fresh ring before fresh = ap (λ (bs : List Filled). before ++ bs) (sym (filter_same ring.sealed ring.hand fresh))
+pub turn_few : (old r : Recording) (events : List Event) → old ≡ r → StandsFor old events → length events < 2 ^ 32 - 1
+    → length (sealed_with r.pass r.hand).sealed < 2 ^ 32 - 1
+turn_few old r events same at few = next_few r events (subst (λ (s : Recording). StandsFor s events) same at) few

@@ -1,12 +1,12 @@
 -- What workers leave is what runs leave.
-use Rattle.std.proofs.Common.{◌≡◌, ℕ, zero, suc, ◌+◌, ◌-◌, ◌*◌, ◌<◌, ◌≤◌, inl, inr, List, [], ◌∷◌, ◌++◌, Option, Some, None, refl, sym, subst, ap, ◌∙◌, arith, append-nil, append_assoc, drop, get_or, length, map, take}
-use Rattle.std.specs.Prelude.{◌⊎◌, All, filter, option_map, slice_get}
+use Rattle.std.proofs.Common.{◌≡◌, ℕ, zero, suc, ◌+◌, ◌-◌, ◌<◌, ◌≤◌, ◌==◌, inl, inr, List, [], ◌∷◌, ◌++◌, Option, Some, None, refl, sym, subst, ap, ◌∙◌, arith, append_assoc, drop, get_or, length, length-append, map, take}
+use Rattle.std.specs.Prelude.{◌⊎◌, All, filter, option_map, slice_get, slice_index_or, sum_by}
 use mathlib.Core.List.{map-append}
-use Rattle.std.proofs.lemmas.List.{length-map}
-use Rattle.std.proofs.lemmas.List.Elements.{All-head, All-tail}
-use Rattle.std.proofs.Math.Nat.{mul-div-le, mul-le-mul_right, suc-mul}
+use Rattle.std.proofs.lemmas.List.{length-map, length-take-le, take_more}
+use Rattle.std.proofs.lemmas.List.Elements.{All-cons, All-nil}
+use Rattle.std.proofs.lemmas.List.Sums.{length-filter, sum_by-cons}
 use Rattle.std.proofs.lemmas.Option.{slice_get-get_or, slice_get-map, slice_get_within}
-use Rattle.std.specs.List.{enumerate_from, flat_map}
+use Rattle.std.specs.List.{AllByRecursion, count_by}
 use Rattle.xray_image.specs.Program.{IsAccepted, Program}
 use Rattle.patch_script.specs.declared.command.Command.{Command}
 use Rattle.patch_script.specs.Plans.{Plan}
@@ -14,6 +14,8 @@ use Rattle.patch_script.specs.Refusals.{commands_of}
 use Rattle.fdr_record.specs.declared.event.Event.{Event}
 use Rattle.fdr_buffer.specs.Filled.{Filled}
 use Rattle.fdr_buffer.specs.Segments.{segments}
+use Rattle.buffer_queue.specs.Left.{IsLeft, absent_from, of_thread, row_at, sealed_in_all, spare_of}
+use Rattle.buffer_queue.specs.Passes.{AreNew, AreOf, IsOf, PassIs, PoolIs, new_hand, sealed_of}
 use Rattle.machine_step.specs.declared.end.End.{End}
 use Rattle.machine_step.specs.declared.limits.Limits.{Limits}
 use Rattle.machine_step.specs.declared.setup.Setup.{Setup}
@@ -24,16 +26,17 @@ use Rattle.machine_step.specs.Traced.{IsWant, Traced, sleds_of, state_at, wanted
 use Rattle.sled_rule.specs.Seats.{script_of}
 use Rattle.traced_run.specs.Kept.{Stamp, buffers_behind, kept_buffers, segment_count, stamp_of, thread_buffers}
 use Rattle.traced_run.specs.Left.{HasRun, Leaves}
+use Rattle.traced_run.specs.Losses.{AreLost, LosesFew, recycled_of}
 use Rattle.traced_run.specs.Runs.{IsRun, ThreadRun}
-use Rattle.thread_run.specs.declared.recorder.RingRecorder.{RingRecorder}
 use Rattle.thread_run.specs.declared.worker.Worker.{Worker}
-use Rattle.thread_run.specs.Buffers.{is_begun}
 use Rattle.thread_run.specs.Each.{HaveChanged}
 use Rattle.thread_run.specs.Following.{MarksFollowScript}
-use Rattle.thread_run.specs.Rings.{IsSameRing, StandsFor, buffers_in, segments_begun, segments_in, stamp_in, thread_in}
-use Rattle.thread_run.specs.Runs.{AreWorkersOfRun, FollowsScript, HaveRunBeside, IsWorkerOfRun, share_of}
+use Rattle.thread_run.specs.Recordings.{HasSameOwner, Recording, StandsFor, segments_begun, segments_in}
+use Rattle.thread_run.specs.Runs.{AreWorkersOfRun, FollowsScript, HaveRunBeside, IsWorkerOfRun, has_event, lost_beside}
 use Rattle.thread_run.specs.Workers.{HasEnded, HasRunOut, HaveRun, IsGoing, cpu_of, recorder_of, table_of}
-use Rattle.thread_run.proofs.Notes.{collected}
+use Rattle.thread_run.proofs.Notes.{begun_are}
+use Rattle.thread_run.proofs.Order.{IsBetween, all_between, in_order}
+use Rattle.thread_run.proofs.Pooled.{AreHands, HandIs, KeepsLast, hand_is, hands_of, in_hand_of, keeps_last, of_all, row_is}
 
 -- all plain runs of a thread are one
 abbrev pub OneEnd : Type 0
@@ -43,40 +46,54 @@ OneEnd = (bytes : List ℕ) (program : Program) (limits : Limits) (thread : ℕ)
 
 -- ---- the run of a worker that has ended
 
-pub record IsRunOfWorker (plan : Plan) (setup : Setup) (number : ℕ) (worker : Worker RingRecorder) (run : ThreadRun) : Type 0 where
+-- a worker with its run. `used` is what the pool has of all sealed buffers, and `buffers` are those and the hands.
+pub record IsRunOfWorker (plan : Plan) (setup : Setup) (used buffers : List Filled) (number : ℕ) (worker : Worker Recording) (run : ThreadRun) : Type 0 where
   pub plain : PlainRun plan.program setup.limits number run.passed run.end run.last
   pub follow : MarksFollowScript plan.program (commands_of plan.lines) number (sleds_of run.passed) run.marks
-  pub lost : run.lost ≡ segment_count setup.size run - share_of setup
   pub has : HasRun number run (cpu_of worker)
   pub segments : segments_begun (recorder_of worker) ≡ segment_count setup.size run
-  pub lost_is : segments_begun (recorder_of worker) - length (buffers_in (recorder_of worker)) ≡ run.lost
-  pub buffers : filter is_begun (buffers_in (recorder_of worker)) ≡ thread_buffers setup (number, run)
+  pub lost_is : segments_begun (recorder_of worker) - count_by (λ (b : Filled). b.thread == number) buffers ≡ run.lost
+  pub buffers_are : of_thread number buffers ≡ thread_buffers setup (number, run)
+  pub absent : run.lost ≡ length (recorder_of worker).pass.sealed - length (of_thread number used)
+  pub sealed : segment_count setup.size run - 1 ≡ length (recorder_of worker).pass.sealed
+  pub below : 0 < segment_count setup.size run → run.lost < segment_count setup.size run
+  pub none : segment_count setup.size run ≡ 0 → run.lost ≡ 0
 
-pub run_of_worker : OneEnd → (plan : Plan) (setup : Setup) (number : ℕ) (worker : Worker RingRecorder) → IsWorkerOfRun plan setup number worker
-    → HasEnded StandsFor worker → (run : ThreadRun) × IsRunOfWorker plan setup number worker run
-run_of_worker one plan setup number worker is ended =
+-- what the pool has of a worker
+pub record IsPooled (used buffers : List Filled) (number : ℕ) (worker : Worker Recording) : Type 0 where
+  pub gone : List Filled
+  pub last : (recorder_of worker).pass.sealed ≡ gone ++ of_thread number used
+  pub all : of_thread number buffers ≡ of_thread number used ++ in_hand_of (recorder_of worker)
+
+pub run_of_worker : OneEnd → (plan : Plan) (pool : PoolIs) (used buffers : List Filled) (number : ℕ) (worker : Worker Recording)
+    → IsWorkerOfRun plan pool number worker → HasEnded StandsFor worker → IsPooled used buffers number worker
+    → (run : ThreadRun) × IsRunOfWorker plan pool.setup used buffers number worker run
+run_of_worker one plan pool used buffers number worker is ended pooled =
     let t : Traced = cpu_of worker in
-    let ring : RingRecorder = recorder_of worker in
+    let r : Recording = recorder_of worker in
+    let setup : Setup = pool.setup in
     let at = ended.at in
-    let own : Plan = script_of (table_of worker) in
     let all = at.along.all.loaded in
     let events : List Event = recorded at.passed t.marks in
-    let size : ring.hand.size ≡ setup.size = ap (λ (s : Stamp). s.size) is.stamp in
-    let count : segments_begun ring ≡ length (segments setup.size events) =
-    at.recorded_are.count ∙ ap (λ (k : ℕ). length (segments k events)) size in
+    let keeps : KeepsLast r (segments_in r events) pooled.gone (of_thread number used) =
+    keeps_last r events at.recorded_are pooled.gone (of_thread number used) pooled.last in
+    let setup_is : r.pass.setup ≡ setup = is.pass.same_setup in
+    let segs_are : segments_in r events ≡ segments setup.size events = ap (λ (s : Setup). segments s.size events) setup_is in
     let run : ThreadRun = record {
       passed = at.passed;
       end = all.end;
       last = all.last;
       marks = t.marks;
-      lost = length (segments setup.size events) - share_of setup;
+      lost = length pooled.gone;
     } in
     let same = one at.thread.accepted.0 t.program t.limits t.thread ended.plain.passed at.passed ended.end all.end
     (state_at ended.plain.address t) all.last
     (subst (IsAccepted at.thread.accepted.0) (sym at.thread.program) at.thread.accepted.1) ended.plain.run all.run in
     let last : state_at ended.plain.address t ≡ all.last = same.2 in
-    let Left : Stamp → ℕ → ℕ → List Filled = λ stamp n thread.
-    buffers_behind stamp (length (segments stamp.size events) - n) thread (segments stamp.size events) in (
+    let count : segments_begun r ≡ length (segments setup.size events) = begun_are r events at.recorded_are ∙ ap length segs_are in
+    let all_count : length (of_thread number buffers) ≡ length (of_thread number used ++ in_hand_of r) = ap length pooled.all in
+    let segs_count : length (segments_in r events) ≡ length (segments setup.size events) = ap length segs_are in
+    let Kept : Setup → ℕ → List (List Event) → List Filled = λ s thread segs. buffers_behind (stamp_of s) (length pooled.gone) thread segs in (
       run,
       record {
         plain =
@@ -86,7 +103,6 @@ run_of_worker one plan setup number worker is ended =
         follow =
             subst (λ (k : ℕ). MarksFollowScript plan.program (commands_of plan.lines) k (sleds_of at.passed) t.marks) is.thread
             (subst (λ (p : Plan). MarksFollowScript p.program (commands_of p.lines) t.thread (sleds_of at.passed) t.marks) is.table ended.marks);
-        lost = refl;
         has = record {
           thread = is.thread;
           done = ended.done ∙ ap Done same.1;
@@ -98,57 +114,58 @@ run_of_worker one plan setup number worker is ended =
           marks = refl;
         };
         segments = count;
-        lost_is =
-            ap (λ (k : ℕ). k - length (buffers_in ring)) count ∙ ap (λ (k : ℕ). length (segments setup.size events) - k) is.count;
-        buffers =
-            collected ring events at.recorded_are
-            ∙ ap (λ (s : Stamp). Left s (length (buffers_in ring)) (thread_in ring)) is.stamp
-            ∙ ap (λ (k : ℕ). Left (stamp_of setup) k (thread_in ring)) is.count
-            ∙ ap (Left (stamp_of setup) (share_of setup)) is.ring;
+        lost_is = omega (arith, count, segs_count, all_count, keeps.count, length-filter (λ (b : Filled). b.thread == number) buffers);
+        buffers_are =
+            pooled.all ∙ keeps.kept ∙ ap (λ (s : Setup). Kept s r.pass.thread (segments_in r events)) setup_is
+            ∙ ap (λ (k : ℕ). Kept setup k (segments_in r events)) is.owner ∙ ap (Kept setup number) segs_are;
+        absent = omega (arith, ap length pooled.last, length-append pooled.gone (of_thread number used));
+        sealed = omega (arith, segs_count, keeps.sealed);
+        below = λ some. omega (arith, segs_count, keeps.below (omega (arith, some, segs_count)));
+        none = λ no. keeps.none (omega (arith, no, segs_count));
       },
     )
 
 -- ---- workers that have run
 
-pub run_out : (plan : Plan) (setup : Setup) (number : ℕ) (old new : Worker RingRecorder) → IsWorkerOfRun plan setup number old
-    → HasRunOut StandsFor IsSameRing old new → IsWorkerOfRun plan setup number new × HasEnded StandsFor new
-run_out plan setup number old new is has =
+pub run_out : (plan : Plan) (pool : PoolIs) (number : ℕ) (old new : Worker Recording) → IsWorkerOfRun plan pool number old
+    → HasRunOut StandsFor HasSameOwner old new → IsWorkerOfRun plan pool number new × HasEnded StandsFor new
+run_out plan pool number old new is has =
     let same = has.same in (
       record {
         table = ap script_of same.table ∙ is.table;
         thread = same.thread.thread ∙ is.thread;
         limits = same.thread.limits ∙ is.limits;
-        ring = same.recorder.thread ∙ is.ring;
-        stamp = same.recorder.stamp ∙ is.stamp;
-        count = same.recorder.count ∙ is.count;
+        pass = record { same_pool = same.recorder.pool ∙ is.pass.same_pool; same_setup = same.recorder.setup ∙ is.pass.same_setup };
+        owner = same.recorder.thread ∙ is.owner;
       },
       has.ended,
     )
 
 -- there is an item at each place
-there_is : {X : Type 0} (xs : List X) (i : ℕ) → i < length xs → (x : X) × (slice_get xs i ≡ Some x)
+pub there_is : {X : Type 0} (xs : List X) (i : ℕ) → i < length xs → (x : X) × (slice_get xs i ≡ Some x)
 there_is [] i within = absurd (omega (arith, within))
 there_is (x ∷ xs) zero within = (x, refl)
 there_is (x ∷ xs) (suc i) within = there_is xs i (omega (arith, within))
 
-pub all_run_out : (plan : Plan) (setup : Setup) (old new : List (Worker RingRecorder)) → AreWorkersOfRun plan setup (IsGoing StandsFor) old
-    → HaveRun StandsFor IsSameRing old new → AreWorkersOfRun plan setup (HasEnded StandsFor) new
-all_run_out plan setup old new are has i worker here =
+pub all_run_out : (plan : Plan) (pool : PoolIs) (old new : List (Worker Recording)) → AreWorkersOfRun plan pool (IsGoing StandsFor) old
+    → HaveRun StandsFor HasSameOwner old new → AreWorkersOfRun plan pool (HasEnded StandsFor) new
+all_run_out plan pool old new are has i worker here =
     let within : i < length old = omega (arith, slice_get_within new i worker here, has.count) in
     let was = there_is old i within in
-    run_out plan setup (i + 1) was.0 worker (are i was.0 was.1).0 (has.each i was.0 worker was.1 here)
+    run_out plan pool (i + 1) was.0 worker (are i was.0 was.1).0 (has.each i was.0 worker was.1 here)
 
 -- ---- lists
 
-module _ (plan : Plan) (setup : Setup) where
-  abbrev AllRuns : ℕ → List (Worker RingRecorder) → List ThreadRun → Type 0
+module _ (plan : Plan) (setup : Setup) (used buffers : List Filled) where
+  abbrev AllRuns : ℕ → List (Worker Recording) → List ThreadRun → Type 0
   AllRuns n [] [] = Unit {0}
   AllRuns n [] (run ∷ runs) = ⊥
   AllRuns n (worker ∷ workers) [] = ⊥
-  AllRuns n (worker ∷ workers) (run ∷ runs) = IsRunOfWorker plan setup n worker run × AllRuns (n + 1) workers runs
+  AllRuns n (worker ∷ workers) (run ∷ runs) = IsRunOfWorker plan setup used buffers n worker run × AllRuns (n + 1) workers runs
 
-  gather : (n : ℕ) (workers : List (Worker RingRecorder))
-      → ((i : ℕ) (worker : Worker RingRecorder) → slice_get workers i ≡ Some worker → (run : ThreadRun) × IsRunOfWorker plan setup (n + i) worker run)
+  gather : (n : ℕ) (workers : List (Worker Recording))
+      → ((i : ℕ) (worker : Worker Recording) → slice_get workers i ≡ Some worker
+      → (run : ThreadRun) × IsRunOfWorker plan setup used buffers (n + i) worker run)
       → (runs : List ThreadRun) × AllRuns n workers runs
   gather n [] each = ([], tt)
   gather n (worker ∷ workers) each =
@@ -157,10 +174,10 @@ module _ (plan : Plan) (setup : Setup) where
       let rest = gather (n + 1) workers (λ i other found.
       let there : n + suc i ≡ n + 1 + i = omega arith in
       let one = each (suc i) other found in
-      (one.0, subst (λ (k : ℕ). IsRunOfWorker plan setup k other one.0) there one.1)) in
-      (first.0 ∷ rest.0, (subst (λ (k : ℕ). IsRunOfWorker plan setup k worker first.0) here first.1, rest.1))
+      (one.0, subst (λ (k : ℕ). IsRunOfWorker plan setup used buffers k other one.0) there one.1)) in
+      (first.0 ∷ rest.0, (subst (λ (k : ℕ). IsRunOfWorker plan setup used buffers k worker first.0) here first.1, rest.1))
 
-  same_count : (n : ℕ) (workers : List (Worker RingRecorder)) (runs : List ThreadRun) → AllRuns n workers runs → length runs ≡ length workers
+  same_count : (n : ℕ) (workers : List (Worker Recording)) (runs : List ThreadRun) → AllRuns n workers runs → length runs ≡ length workers
   same_count n [] [] all = refl
   same_count n [] (run ∷ runs) all = absurd all
   same_count n (worker ∷ workers) [] all = absurd all
@@ -177,12 +194,12 @@ module _ (plan : Plan) (setup : Setup) where
   no_run (suc i) run e = cc
 
   -- the run at a place, with its worker
-  record At (n i : ℕ) (workers : List (Worker RingRecorder)) (run : ThreadRun) : Type 0 where
-    worker : Worker RingRecorder
+  record At (n i : ℕ) (workers : List (Worker Recording)) (run : ThreadRun) : Type 0 where
+    worker : Worker Recording
     found : slice_get workers i ≡ Some worker
-    is : IsRunOfWorker plan setup (n + i) worker run
+    is : IsRunOfWorker plan setup used buffers (n + i) worker run
 
-  run_at : (n : ℕ) (workers : List (Worker RingRecorder)) (runs : List ThreadRun) → AllRuns n workers runs → (i : ℕ) (run : ThreadRun)
+  run_at : (n : ℕ) (workers : List (Worker Recording)) (runs : List ThreadRun) → AllRuns n workers runs → (i : ℕ) (run : ThreadRun)
       → slice_get runs i ≡ Some run → At n i workers run
   run_at n [] [] all i run e = absurd (no_run i run e)
   run_at n [] (other ∷ runs) all i run e = absurd all
@@ -192,14 +209,15 @@ module _ (plan : Plan) (setup : Setup) where
       record {
         worker = worker;
         found = refl;
-        is = subst (λ (k : ℕ). IsRunOfWorker plan setup k worker run) here (subst (IsRunOfWorker plan setup n worker) (same_run other run e) all.0);
+        is = subst (λ (k : ℕ). IsRunOfWorker plan setup used buffers k worker run) here
+            (subst (IsRunOfWorker plan setup used buffers n worker) (same_run other run e) all.0);
       }
   run_at n (worker ∷ workers) (other ∷ runs) all (suc i) run e =
       let there : n + 1 + i ≡ n + suc i = omega arith in
       let rest = run_at (n + 1) workers runs all.1 i run e in
-      record { worker = rest.worker; found = rest.found; is = subst (λ (k : ℕ). IsRunOfWorker plan setup k rest.worker run) there rest.is }
+      record { worker = rest.worker; found = rest.found; is = subst (λ (k : ℕ). IsRunOfWorker plan setup used buffers k rest.worker run) there rest.is }
 
-  all_segments : (n : ℕ) (workers : List (Worker RingRecorder)) (runs : List ThreadRun) → AllRuns n workers runs
+  all_segments : (n : ℕ) (workers : List (Worker Recording)) (runs : List ThreadRun) → AllRuns n workers runs
       → map (λ w. segments_begun (recorder_of w)) workers ≡ map (segment_count setup.size) runs
   all_segments n [] [] all = refl
   all_segments n [] (run ∷ runs) all = absurd all
@@ -208,65 +226,153 @@ module _ (plan : Plan) (setup : Setup) where
       ap (λ (k : ℕ). k ∷ map (λ w. segments_begun (recorder_of w)) workers) all.0.segments
       ∙ ap (λ (ks : List ℕ). segment_count setup.size run ∷ ks) (all_segments (n + 1) workers runs all.1)
 
-  all_first : (n : ℕ) (workers : List (Worker RingRecorder)) (runs : List ThreadRun) → AllRuns n workers runs
-      → map (λ w. segments_begun (recorder_of w) - length (buffers_in (recorder_of w))) workers ≡ map (λ run. run.lost) runs
+  all_first : (n : ℕ) (workers : List (Worker Recording)) (runs : List ThreadRun) → AllRuns n workers runs
+      → lost_beside buffers n (map (λ w. segments_begun (recorder_of w)) workers) ≡ map (λ run. run.lost) runs
   all_first n [] [] all = refl
   all_first n [] (run ∷ runs) all = absurd all
   all_first n (worker ∷ workers) [] all = absurd all
   all_first n (worker ∷ workers) (run ∷ runs) all =
-      ap (λ (k : ℕ). k ∷ map (λ w. segments_begun (recorder_of w) - length (buffers_in (recorder_of w))) workers) all.0.lost_is
+      ap (λ (k : ℕ). k ∷ lost_beside buffers (n + 1) (map (λ w. segments_begun (recorder_of w)) workers)) all.0.lost_is
       ∙ ap (λ (ks : List ℕ). run.lost ∷ ks) (all_first (n + 1) workers runs all.1)
 
-  all_buffers : (n : ℕ) (workers : List (Worker RingRecorder)) (runs : List ThreadRun) → AllRuns n workers runs
-      → flat_map (λ w. filter is_begun (buffers_in (recorder_of w))) workers ≡ flat_map (thread_buffers setup) (enumerate_from n runs)
-  all_buffers n [] [] all = refl
-  all_buffers n [] (run ∷ runs) all = absurd all
-  all_buffers n (worker ∷ workers) [] all = absurd all
-  all_buffers n (worker ∷ workers) (run ∷ runs) all =
-      ap (λ (bs : List Filled). bs ++ flat_map (λ w. filter is_begun (buffers_in (recorder_of w))) workers) all.0.buffers
-      ∙ ap (λ (bs : List Filled). thread_buffers setup (n, run) ++ bs) (all_buffers (n + 1) workers runs all.1)
+  -- ---- what is lost
 
-  -- what they leave
-  pub left_so : OneEnd → (workers : List (Worker RingRecorder)) → AreWorkersOfRun plan setup (HasEnded StandsFor) workers
-      → length workers ≡ setup.threads
-      → HaveRunBeside plan.program (commands_of plan.lines) setup (map (λ w. cpu_of w) workers) (map (λ w. segments_begun (recorder_of w)) workers)
-      (map (λ w. segments_begun (recorder_of w) - length (buffers_in (recorder_of w))) workers)
-      (flat_map (λ w. filter is_begun (buffers_in (recorder_of w))) workers)
-  left_so one workers are count =
-      let all = gather 1 workers (λ i worker found.
-      let next : i + 1 ≡ 1 + i = omega arith in
-      let both = are i worker found in
-      run_of_worker one plan setup (1 + i) worker (subst (λ (k : ℕ). IsWorkerOfRun plan setup k worker) next both.0) both.1) in
-      let runs : List ThreadRun = all.0 in
-      let at : (i : ℕ) (run : ThreadRun) → slice_get runs i ≡ Some run → At 1 i workers run = run_at 1 workers runs all.1 in
-      record {
-        runs = runs;
-        run = record {
-          count = same_count 1 workers runs all.1 ∙ count;
-          plain = λ i run found.
-              let next : 1 + i ≡ i + 1 = omega arith in
-              subst (λ (k : ℕ). PlainRun plan.program setup.limits k run.passed run.end run.last) next (at i run found).is.plain;
-        };
-        lawful = record {
-          follow = λ i run found.
-              let next : 1 + i ≡ i + 1 = omega arith in
-              subst (λ (k : ℕ). MarksFollowScript plan.program (commands_of plan.lines) k (sleds_of run.passed) run.marks) next (at i run found).is.follow;
-          lost = λ i run found. (at i run found).is.lost;
-        };
-        leaves = record {
-          count = length-map workers (λ w. cpu_of w) ∙ sym (same_count 1 workers runs all.1);
-          cpus_are = λ i run t found there.
-              let next : 1 + i ≡ i + 1 = omega arith in
-              let one_at = at i run found in
-              let here : slice_get (map (λ w. cpu_of w) workers) i ≡ Some (cpu_of one_at.worker) =
-              slice_get-map (λ w. cpu_of w) workers i ∙ ap (option_map (λ w. cpu_of w)) one_at.found in
-              subst (HasRun (i + 1) run) (same_traced (cpu_of one_at.worker) t (sym here ∙ there))
-              (subst (λ (k : ℕ). HasRun k run (cpu_of one_at.worker)) next one_at.is.has);
-          segments_are = all_segments 1 workers runs all.1;
-          first_are = all_first 1 workers runs all.1;
-          buffers_are = all_buffers 1 workers runs all.1;
-        };
-      }
+  abbrev Rows : List (Worker Recording) → List (List Filled)
+  Rows workers = map (λ (r : Recording). r.pass.sealed) (map (λ w. recorder_of w) workers)
+
+  all_absent : (n : ℕ) (workers : List (Worker Recording)) (runs : List ThreadRun) → AllRuns n workers runs
+      → recycled_of runs ≡ absent_from n (Rows workers) used
+  all_absent n [] [] all = refl
+  all_absent n [] (run ∷ runs) all = absurd all
+  all_absent n (worker ∷ workers) [] all = absurd all
+  all_absent n (worker ∷ workers) (run ∷ runs) all =
+      sum_by-cons (λ (run : ThreadRun). run.lost) run runs
+      ∙ ap (λ (k : ℕ). k + recycled_of runs) all.0.absent
+      ∙ ap (λ (k : ℕ). length (recorder_of worker).pass.sealed - length (of_thread n used) + k) (all_absent (n + 1) workers runs all.1)
+
+  all_sealed : (n : ℕ) (workers : List (Worker Recording)) (runs : List ThreadRun) → AllRuns n workers runs
+      → sealed_in_all (Rows workers) ≡ sum_by (λ run. segment_count setup.size run - 1) runs
+  all_sealed n [] [] all = refl
+  all_sealed n [] (run ∷ runs) all = absurd all
+  all_sealed n (worker ∷ workers) [] all = absurd all
+  all_sealed n (worker ∷ workers) (run ∷ runs) all =
+      sum_by-cons length (recorder_of worker).pass.sealed (Rows workers)
+      ∙ ap (λ (k : ℕ). k + sealed_in_all (Rows workers)) (sym all.0.sealed)
+      ∙ ap (λ (k : ℕ). segment_count setup.size run - 1 + k) (all_sealed (n + 1) workers runs all.1)
+      ∙ sym (sum_by-cons (λ run. segment_count setup.size run - 1) run runs)
+
+  each_below : (n : ℕ) (workers : List (Worker Recording)) (runs : List ThreadRun) → AllRuns n workers runs
+      → All (λ run. 0 < segment_count setup.size run → run.lost < segment_count setup.size run) runs
+  each_below n [] [] all = All-nil (λ (run : ThreadRun). 0 < segment_count setup.size run → run.lost < segment_count setup.size run)
+  each_below n [] (run ∷ runs) all = absurd all
+  each_below n (worker ∷ workers) [] all = absurd all
+  each_below n (worker ∷ workers) (run ∷ runs) all =
+      All-cons (λ (run : ThreadRun). 0 < segment_count setup.size run → run.lost < segment_count setup.size run) run runs all.0.below
+      (each_below (n + 1) workers runs all.1)
+
+  each_none : (n : ℕ) (workers : List (Worker Recording)) (runs : List ThreadRun) → AllRuns n workers runs
+      → All (λ run. segment_count setup.size run ≡ 0 → run.lost ≡ 0) runs
+  each_none n [] [] all = All-nil (λ (run : ThreadRun). segment_count setup.size run ≡ 0 → run.lost ≡ 0)
+  each_none n [] (run ∷ runs) all = absurd all
+  each_none n (worker ∷ workers) [] all = absurd all
+  each_none n (worker ∷ workers) (run ∷ runs) all =
+      All-cons (λ (run : ThreadRun). segment_count setup.size run ≡ 0 → run.lost ≡ 0) run runs all.0.none (each_none (n + 1) workers runs all.1)
+
+  losses_are : (workers : List (Worker Recording)) (runs : List ThreadRun) → AllRuns 1 workers runs
+      → absent_from 1 (Rows workers) used ≡ sealed_in_all (Rows workers) - spare_of setup → AreLost setup.size (spare_of setup) runs
+  losses_are workers runs all absent = record {
+    few = record { below = each_below 1 workers runs all; none = each_none 1 workers runs all };
+    recycled = all_absent 1 workers runs all ∙ absent ∙ ap (λ (k : ℕ). k - spare_of setup) (all_sealed 1 workers runs all);
+  }
+
+-- ---- the hands of workers that have ended
+
+hands_are : (plan : Plan) (pool : PoolIs) (n : ℕ) (workers : List (Worker Recording))
+    → ((i : ℕ) (worker : Worker Recording) → slice_get workers i ≡ Some worker → IsWorkerOfRun plan pool (n + i) worker × HasEnded StandsFor worker)
+    → AreHands n (map (λ w. recorder_of w) workers)
+hands_are plan pool n [] are = tt
+hands_are plan pool n (worker ∷ workers) are =
+    let here : n + 0 ≡ n = omega arith in
+    let first = are 0 worker refl in
+    let events = recorded first.1.at.passed (cpu_of worker).marks in (
+      subst (λ (k : ℕ). HandIs k (recorder_of worker)) (first.0.owner ∙ here) (hand_is (recorder_of worker) events first.1.at.recorded_are),
+      hands_are plan pool (n + 1) workers (λ i other found.
+          let there : n + suc i ≡ n + 1 + i = omega arith in
+          subst (λ (k : ℕ). IsWorkerOfRun plan pool k other × HasEnded StandsFor other) there (are (suc i) other found)),
+    )
+
+pub from_1 : (plan : Plan) (pool : PoolIs) (workers : List (Worker Recording)) → AreWorkersOfRun plan pool (HasEnded StandsFor) workers
+    → (i : ℕ) (worker : Worker Recording) → slice_get workers i ≡ Some worker → IsWorkerOfRun plan pool (1 + i) worker × HasEnded StandsFor worker
+from_1 plan pool workers are i worker found =
+    let next : i + 1 ≡ 1 + i = omega arith in
+    let both = are i worker found in
+    (subst (λ (k : ℕ). IsWorkerOfRun plan pool k worker) next both.0, both.1)
+
+-- ---- what they leave
+
+pub left_so : OneEnd → (plan : Plan) (pool : PoolIs) (workers : List (Worker Recording)) (left : List Filled)
+    → AreWorkersOfRun plan pool (HasEnded StandsFor) workers → length workers ≡ pool.setup.threads
+    → IsLeft pool.setup (map (λ (r : Recording). r.pass.sealed) (map (λ w. recorder_of w) workers)) left
+    → HaveRunBeside plan.program (commands_of plan.lines) pool.setup (map (λ w. cpu_of w) workers)
+    (map (λ w. segments_begun (recorder_of w)) workers)
+    (lost_beside (left ++ hands_of (map (λ w. recorder_of w) workers)) 1 (map (λ w. segments_begun (recorder_of w)) workers))
+    (left ++ hands_of (map (λ w. recorder_of w) workers))
+left_so one plan pool workers left are count is =
+    let setup : Setup = pool.setup in
+    let rs : List Recording = map (λ w. recorder_of w) workers in
+    let rows : List (List Filled) = map (λ (r : Recording). r.pass.sealed) rs in
+    let buffers : List Filled = left ++ hands_of rs in
+    let each = from_1 plan pool workers are in
+    let hands : AreHands 1 rs = hands_are plan pool 1 workers each in
+    let all = gather plan setup is.used buffers 1 workers (λ i worker found.
+    let at : slice_get rs i ≡ Some (recorder_of worker) =
+    slice_get-map (λ w. recorder_of w) workers i ∙ ap (option_map (λ w. recorder_of w)) found in
+    let place : i + 1 ≡ 1 + i = omega arith in
+    let last = is.last i in
+    run_of_worker one plan pool is.used buffers (1 + i) worker (each i worker found).0 (each i worker found).1
+    (record {
+      gone = last.0;
+      last = sym (row_is rs i (recorder_of worker) at) ∙ last.1 ∙ ap (λ (k : ℕ). last.0 ++ of_thread k is.used) place;
+      all = of_all setup rows left is rs hands i (recorder_of worker) at;
+    })) in
+    let runs : List ThreadRun = all.0 in
+    let at : (i : ℕ) (run : ThreadRun) → slice_get runs i ≡ Some run → At plan setup is.used buffers 1 i workers run =
+    run_at plan setup is.used buffers 1 workers runs all.1 in
+    let runs_count : length runs ≡ length workers = same_count plan setup is.used buffers 1 workers runs all.1 in
+    let rs_count : length rs ≡ length workers = length-map workers (λ w. recorder_of w) in
+    record {
+      runs = runs;
+      run = record {
+        count = runs_count ∙ count;
+        plain = λ i run found.
+            let next : 1 + i ≡ i + 1 = omega arith in
+            subst (λ (k : ℕ). PlainRun plan.program setup.limits k run.passed run.end run.last) next (at i run found).is.plain;
+      };
+      lawful = record {
+        follow = λ i run found.
+            let next : 1 + i ≡ i + 1 = omega arith in
+            subst (λ (k : ℕ). MarksFollowScript plan.program (commands_of plan.lines) k (sleds_of run.passed) run.marks) next (at i run found).is.follow;
+        losses = losses_are plan setup is.used buffers workers runs all.1 is.absent;
+      };
+      leaves = record {
+        count = length-map workers (λ w. cpu_of w) ∙ sym runs_count;
+        cpus_are = λ i run t found there.
+            let next : 1 + i ≡ i + 1 = omega arith in
+            let one_at = at i run found in
+            let here : slice_get (map (λ w. cpu_of w) workers) i ≡ Some (cpu_of one_at.worker) =
+            slice_get-map (λ w. cpu_of w) workers i ∙ ap (option_map (λ w. cpu_of w)) one_at.found in
+            subst (HasRun (i + 1) run) (same_traced plan setup is.used buffers (cpu_of one_at.worker) t (sym here ∙ there))
+            (subst (λ (k : ℕ). HasRun k run (cpu_of one_at.worker)) next one_at.is.has);
+        segments_are = all_segments plan setup is.used buffers 1 workers runs all.1;
+        first_are = all_first plan setup is.used buffers 1 workers runs all.1;
+        buffers_are = refl;
+      };
+      buffers_are =
+          in_order setup runs buffers
+          (subst (λ (k : ℕ). AllByRecursion (IsBetween 1 (1 + k)) (filter has_event buffers)) (rs_count ∙ sym runs_count)
+          (all_between setup rows left is rs hands (length-map rs (λ (r : Recording). r.pass.sealed))))
+          (λ i run found. (at i run found).is.buffers_are);
+    }
 
 -- ---- workers that are made one after another
 
@@ -281,24 +387,24 @@ push_cases (z ∷ xs) x (suc i) y e = elim (push_cases xs x i y e) [
   | inr last ↦ inr (ap suc last.0, last.1)
 ]
 
-pub no_workers : (plan : Plan) (setup : Setup) (Is : Worker RingRecorder → Type 0) (workers : List (Worker RingRecorder)) → workers ≡ []
-    → AreWorkersOfRun plan setup Is workers
-no_workers plan setup Is workers none i worker found =
-    absurd (no_worker i worker (ap (λ (ws : List (Worker RingRecorder)). slice_get ws i) (sym none) ∙ found))
+pub no_workers : (plan : Plan) (pool : PoolIs) (Is : Worker Recording → Type 0) (workers : List (Worker Recording)) → workers ≡ []
+    → AreWorkersOfRun plan pool Is workers
+no_workers plan pool Is workers none i worker found =
+    absurd (no_worker i worker (ap (λ (ws : List (Worker Recording)). slice_get ws i) (sym none) ∙ found))
   where
-    no_worker : (i : ℕ) (worker : Worker RingRecorder) → slice_get [] i ≡ Some worker → ⊥
+    no_worker : (i : ℕ) (worker : Worker Recording) → slice_get [] i ≡ Some worker → ⊥
     no_worker zero worker e = cc
     no_worker (suc i) worker e = cc
 
-pub one_worker : (plan : Plan) (setup : Setup) (Is : Worker RingRecorder → Type 0) (old new : List (Worker RingRecorder)) (worker : Worker RingRecorder)
-    (count : ℕ) → length old ≡ count → AreWorkersOfRun plan setup Is old → IsWorkerOfRun plan setup (count + 1) worker → Is worker
-    → new ≡ old ++ worker ∷ [] → AreWorkersOfRun plan setup Is new
-one_worker plan setup Is old new worker count many are is good more i other found =
-    elim (push_cases old worker i other (ap (λ (ws : List (Worker RingRecorder)). slice_get ws i) (sym more) ∙ found)) [
+pub one_worker : (plan : Plan) (pool : PoolIs) (Is : Worker Recording → Type 0) (old new : List (Worker Recording)) (worker : Worker Recording)
+    (count : ℕ) → length old ≡ count → AreWorkersOfRun plan pool Is old → IsWorkerOfRun plan pool (count + 1) worker → Is worker
+    → new ≡ old ++ worker ∷ [] → AreWorkersOfRun plan pool Is new
+one_worker plan pool Is old new worker count many are is good more i other found =
+    elim (push_cases old worker i other (ap (λ (ws : List (Worker Recording)). slice_get ws i) (sym more) ∙ found)) [
       | inl here ↦ are i other here
       | inr (at, same) ↦
           let place : count + 1 ≡ i + 1 = omega (arith, many, at) in
-          (subst (λ (k : ℕ). IsWorkerOfRun plan setup k other) place (subst (IsWorkerOfRun plan setup (count + 1)) same is), subst Is same good)
+          (subst (λ (k : ℕ). IsWorkerOfRun plan pool k other) place (subst (IsWorkerOfRun plan pool (count + 1)) same is), subst Is same good)
     ]
 
 -- ---- what was written back of a slice
@@ -310,71 +416,39 @@ take_own (x ∷ xs) ys = ap (λ zs. x ∷ zs) (take_own xs ys)
 pub written_back : {X : Type 0} (len : ℕ) (old new : List X) → len ≡ length new → take len (new ++ drop (length new) old) ≡ new
 written_back len old new e = ap (λ (k : ℕ). take k (new ++ drop (length new) old)) e ∙ take_own new (drop (length new) old)
 
-pub all_are : (plan : Plan) (setup : Setup) (Is : Worker RingRecorder → Type 0) (workers : List (Worker RingRecorder))
-    → AreWorkersOfRun plan setup Is workers → All Is workers
-all_are plan setup Is workers are k d within = (are k (get_or workers k d) (slice_get-get_or workers k d within)).1
+pub all_are : (plan : Plan) (pool : PoolIs) (Is : Worker Recording → Type 0) (workers : List (Worker Recording))
+    → AreWorkersOfRun plan pool Is workers → All Is workers
+all_are plan pool Is workers are k d within = (are k (get_or workers k d) (slice_get-get_or workers k d within)).1
 
-pub all_shares : (plan : Plan) (setup : Setup) (Is : Worker RingRecorder → Type 0) (workers : List (Worker RingRecorder))
-    → AreWorkersOfRun plan setup Is workers → All (λ w. length (buffers_in (recorder_of w)) ≡ share_of setup) workers
-all_shares plan setup Is workers are k d within = (are k (get_or workers k d) (slice_get-get_or workers k d within)).0.count
-
-pub left_written : OneEnd → (plan : Plan) (setup : Setup) (program : Program) (taken new : List (Worker RingRecorder)) (cpus : List Traced)
-    (counts first : List ℕ) (buffers : List Filled) → plan.program ≡ program → taken ≡ new → AreWorkersOfRun plan setup (HasEnded StandsFor) new
-    → length new ≡ setup.threads
-    → cpus ≡ map (λ w. cpu_of w) taken → counts ≡ map (λ w. segments_begun (recorder_of w)) taken
-    → first ≡ map (λ w. segments_begun (recorder_of w) - length (buffers_in (recorder_of w))) taken
-    → buffers ≡ flat_map (λ w. filter is_begun (buffers_in (recorder_of w))) taken
-    → HaveRunBeside program (commands_of plan.lines) setup cpus counts first buffers
-left_written one plan setup program taken new cpus counts first buffers same_program same are count a b c d =
-    let Script : List Command = commands_of plan.lines in
-    let so = left_so plan setup one new are count in
-    let of_program = subst (λ (q : Program). HaveRunBeside q Script setup (map (λ w. cpu_of w) new) (map (λ w. segments_begun (recorder_of w)) new)
-    (map (λ w. segments_begun (recorder_of w) - length (buffers_in (recorder_of w))) new)
-    (flat_map (λ w. filter is_begun (buffers_in (recorder_of w))) new)) same_program so in
-    let of_taken = subst (λ (ws : List (Worker RingRecorder)). HaveRunBeside program Script setup (map (λ w. cpu_of w) ws)
-    (map (λ w. segments_begun (recorder_of w)) ws) (map (λ w. segments_begun (recorder_of w) - length (buffers_in (recorder_of w))) ws)
-    (flat_map (λ w. filter is_begun (buffers_in (recorder_of w))) ws)) (sym same) of_program in
-    subst (λ (bs : List Filled). HaveRunBeside program Script setup cpus counts first bs) (sym d)
-    (subst (λ (ns : List ℕ). HaveRunBeside program Script setup cpus counts ns (flat_map (λ w. filter is_begun (buffers_in (recorder_of w))) taken)) (sym c)
-    (subst (λ (ns : List ℕ). HaveRunBeside program Script setup cpus ns (map (λ w. segments_begun (recorder_of w) - length (buffers_in (recorder_of w))) taken)
-    (flat_map (λ w. filter is_begun (buffers_in (recorder_of w))) taken)) (sym b)
-    (subst (λ (ts : List Traced). HaveRunBeside program Script setup ts (map (λ w. segments_begun (recorder_of w)) taken)
-    (map (λ w. segments_begun (recorder_of w) - length (buffers_in (recorder_of w))) taken)
-    (flat_map (λ w. filter is_begun (buffers_in (recorder_of w))) taken)) (sym a) of_taken)))
-
--- ---- what is left of one worker after another
+-- ---- what is gathered of one worker after another
 
 pub map_more : {X Y : Type 0} (f : X → Y) (xs : List X) (x : X) (items new : List Y) (value : Y) → items ≡ map f xs → new ≡ items ++ value ∷ []
     → value ≡ f x → new ≡ map f (xs ++ x ∷ [])
 map_more f xs x items new value so more is =
     more ∙ ap (λ ys. ys ++ value ∷ []) so ∙ ap (λ y. map f xs ++ y ∷ []) is ∙ sym (map-append f xs (x ∷ []))
 
-pub flat_more : {X Y : Type 0} (f : X → List Y) (xs : List X) (x : X) (items new ys : List Y) → items ≡ flat_map f xs → new ≡ items ++ ys
-    → ys ≡ f x → new ≡ flat_map f (xs ++ x ∷ [])
-flat_more f [] x items new ys so more is = more ∙ ap (λ zs. zs ++ ys) so ∙ is ∙ sym (append-nil (f x))
-flat_more f (z ∷ xs) x items new ys so more is =
-    more ∙ ap (λ zs. zs ++ ys) so ∙ append_assoc (f z) (flat_map f xs) ys
-    ∙ ap (λ zs. f z ++ zs) (flat_more f xs x (flat_map f xs) (flat_map f xs ++ ys) ys refl refl is)
+lost_push : (bs : List Filled) (n : ℕ) (counts : List ℕ) (count : ℕ)
+    → lost_beside bs n (counts ++ count ∷ []) ≡ lost_beside bs n counts ++ (count - count_by (λ (b : Filled). b.thread == n + length counts) bs) ∷ []
+lost_push bs n [] count =
+    let here : n ≡ n + 0 = omega arith in
+    ap (λ (k : ℕ). (count - count_by (λ (b : Filled). b.thread == k) bs) ∷ []) here
+lost_push bs n (first ∷ counts) count =
+    let there : n + 1 + length counts ≡ n + suc (length counts) = omega arith in
+    ap (λ (ks : List ℕ). (first - count_by (λ (b : Filled). b.thread == n) bs) ∷ ks)
+    (lost_push bs (n + 1) counts count
+    ∙ ap (λ (k : ℕ). lost_beside bs (n + 1) counts ++ (count - count_by (λ (b : Filled). b.thread == k) bs) ∷ []) there)
 
-one_share : (count share : ℕ) → (count + 1) * share ≡ count * share + share
-one_share count share =
-    let next : count + 1 ≡ suc count = omega arith in
-    ap (λ (k : ℕ). k * share) next ∙ suc-mul count share
-
-pub few_more : (count share old more new total : ℕ) → total ≡ count + 1 → old ≤ count * share → more ≡ share → new ≤ old + more → new ≤ total * share
-few_more count share old more new total is few same up =
-    subst (λ (k : ℕ). new ≤ k * share) (sym is) (omega (arith, few, same, up, one_share count share))
-
--- there is room for one share more
-pub has_share : (setup : Setup) (count old more room : ℕ) → count < setup.threads → old ≤ count * share_of setup → more ≡ share_of setup
-    → setup.max ≤ room → old + more ≤ room
-has_share setup count old more room another few same enough =
-    let all : (count + 1) * share_of setup ≤ setup.threads * share_of setup = mul-le-mul_right (share_of setup) (omega (arith, another)) in
-    omega (arith, few, same, enough, one_share count (share_of setup), all, mul-div-le setup.max setup.threads)
-
-last_is : {X : Type 0} (P : X → Type 0) (ys rest : List X) (x : X) → All P ((ys ++ x ∷ []) ++ rest) → P x
-last_is P [] rest x all = All-head P x rest all
-last_is P (y ∷ ys) rest x all = last_is P ys rest x (All-tail P y ((ys ++ x ∷ []) ++ rest) all)
-
-pub it_is_one : {X : Type 0} (P : X → Type 0) (xs before rest : List X) (x : X) → All P xs → (before ++ x ∷ []) ++ rest ≡ xs → P x
-it_is_one P xs before rest x all order = last_is P before rest x (subst (All P) (sym order) all)
+-- one more thread has lost so many
+pub lost_more : (bs : List Filled) (start old new segments : List ℕ) (i thread lost : ℕ) → i < length segments → thread ≡ i
+    → old ≡ start ++ lost_beside bs 1 (take i segments) → new ≡ old ++ lost ∷ []
+    → lost ≡ get_or segments i 0 - count_by (λ (b : Filled). b.thread == thread + 1) bs → new ≡ start ++ lost_beside bs 1 (take (i + 1) segments)
+lost_more bs start old new segments i thread lost within at so more is =
+    let count : ℕ = get_or segments i 0 in
+    let upto : length (take i segments) ≡ i = length-take-le i segments (omega (arith, within)) in
+    let place : thread + 1 ≡ 1 + length (take i segments) = omega (arith, at, upto) in
+    let next : lost_beside bs 1 (take (i + 1) segments) ≡ lost_beside bs 1 (take i segments) ++ lost ∷ [] =
+    ap (lost_beside bs 1) (take_more segments i 0 within) ∙ lost_push bs 1 (take i segments) count
+    ∙ ap (λ (k : ℕ). lost_beside bs 1 (take i segments) ++ (count - count_by (λ (b : Filled). b.thread == k) bs) ∷ []) (sym place)
+    ∙ ap (λ (k : ℕ). lost_beside bs 1 (take i segments) ++ k ∷ []) (sym is) in
+    more ∙ ap (λ (ks : List ℕ). ks ++ lost ∷ []) so ∙ append_assoc start (lost_beside bs 1 (take i segments)) (lost ∷ [])
+    ∙ ap (λ (ks : List ℕ). start ++ ks) (sym next)

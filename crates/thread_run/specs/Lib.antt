@@ -1,7 +1,6 @@
 pub mod Each
 pub mod Following
 pub mod Workers
-pub mod Buffers
-pub mod Rings
+pub mod Recordings
 pub mod Runs
 pub mod private

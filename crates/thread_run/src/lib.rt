@@ -1,19 +1,19 @@
 //! Traced threads that run while one patcher patches the sleds that they pass.
 //!
 //! A `Worker` is one thread. It makes the loads that its `Cpu` wants by its seat of a code table,
-//! and notes its events in a recorder. A `RingRecorder` is a recorder over buffers of the thread's
-//! own. `run_threads` runs the script and all workers, each in a thread.
+//! and notes its events in a recorder. An `FdrRecorder` is a recorder over the buffers of a pool that
+//! all threads share. `run_threads` runs the script and all workers, each in a thread.
 #![tactic(auto)]
 
+mod exchange;
 mod recorder;
-mod ring;
 mod running;
 mod thread;
 mod whole;
 mod work;
 mod worker;
 
-pub use recorder::RingRecorder;
+pub use recorder::FdrRecorder;
 pub use running::run_threads;
 pub use thread::new_cpu;
 pub use whole::{RunEnd, run};

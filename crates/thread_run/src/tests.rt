@@ -9,32 +9,11 @@ use patch_script::read_script;
 use sled_rule::CodeTable;
 use std::process::Abort;
 use std::sync::Wait;
-use std::sync::atomic::{AtomicU64, Ordering};
 use std::test::Fail;
-use std::thread::{Threads, yield_now};
+use std::thread::Threads;
 use text_lines::count_lines;
 use xray_image::read_image;
-use xray_io::{Gate, MemSink, OpenGate, Wall, write_all};
-
-/// A function `main` that prints an A: an entry sled, `mov eax, 0x41`, `out 1, al`, an exit sled.
-const OUTPUTS_AN_A: [u8; 170] = [
-    // magic, version, base 0x1000
-    0x58, 0x52, 0x49, 0x4D, 1, 0, 0, 0, 0x00, 0x10, 0, 0, 0, 0, 0, 0,
-    // 29 bytes of code, 1 function, 2 map entries, entry function 0
-    29, 0, 0, 0, 1, 0, 0, 0, 2, 0, 0, 0, 0, 0, 0, 0,
-    // trampolines 0x201000, 0x201010, 0x201020, 0x201030
-    0x00, 0x10, 0x20, 0, 0, 0, 0, 0, 0x10, 0x10, 0x20, 0, 0, 0, 0, 0, 0x20, 0x10, 0x20, 0, 0, 0, 0,
-    0, 0x30, 0x10, 0x20, 0, 0, 0, 0, 0,
-    // the code
-    0xEB, 0x09, 0x66, 0x0F, 0x1F, 0x84, 0x00, 0x00, 0x02, 0x00, 0x00, 0xB8, 0x41, 0, 0, 0, 0xE6,
-    0x01, 0xC3, 0x2E, 0x66, 0x0F, 0x1F, 0x84, 0x00, 0x00, 0x02, 0x00, 0x00,
-    // the function
-    0x00, 0x10, 0, 0, 0, 0, 0, 0, 4, 0x6D, 0x61, 0x69, 0x6E,
-    // the map: an entry sled at 0x1000 and an exit sled at 0x1012, always instrumented, version 0
-    0x00, 0x10, 0, 0, 0, 0, 0, 0, 0x00, 0x10, 0, 0, 0, 0, 0, 0, 0, 1, 0, 0, 0, 0, 0, 0, 0, 0, 0, 0,
-    0, 0, 0, 0, 0x12, 0x10, 0, 0, 0, 0, 0, 0, 0x00, 0x10, 0, 0, 0, 0, 0, 0, 1, 1, 0, 0, 0, 0, 0, 0,
-    0, 0, 0, 0, 0, 0, 0, 0,
-];
+use xray_io::{MemSink, OpenGate, Wall, write_all};
 
 /// A function `main` that calls a function `f`: each has an entry sled and an exit sled.
 const CALLS: [u8; 266] = [
@@ -105,16 +84,16 @@ const LIMITS: Limits = Limits {
     migrate: 1_048_576,
 };
 
-/// A setup for this many threads and buffers, of the default size.
-fn setup_of(threads: u32, max: u32) -> Setup
+/// A setup for this many threads, and this many buffers of a size.
+fn setup_of(threads: u32, max: u32, size: u32) -> Setup
     ensures threads { result.threads ≡ threads }
-    ensures size { (72 ≤ result.size) × (result.size ≤ 1048576) }
+    ensures size { result.size ≡ size }
     ensures max { result.max ≡ max }
     ensures stamps { (1 ≤ result.limits.cpus) × (1 ≤ result.limits.migrate) }
 {
     Setup {
         threads,
-        size: 16_384,
+        size,
         max,
         limits: LIMITS,
         pid: 1,
@@ -137,29 +116,27 @@ struct Outcome {
 }
 
 /// Runs the threads of an image beside a script.
-fn run_file<T: Threads + Wait + Sync + Abort + AllocGlobal, G: Gate + Sync>(
+fn run_file<T: Threads + Wait + Sync + Abort + AllocGlobal>(
     rt: &T,
     file: &[u8],
     text: &[u8],
     setup: &Setup,
-    gate: &G,
 ) -> Result<Outcome, Fail>
     requires stamps { (1 ≤ setup.now.limits.cpus) × (1 ≤ setup.now.limits.migrate) }
     requires size { (72 ≤ setup.now.size) × (setup.now.size ≤ 1048576) }
 {
     let image = read_image(rt.alloc(), file)?;
     let steps = Steps::new(rt.alloc(), &image)?;
-    let end = run_steps(rt, &steps, text, setup, gate)?;
+    let end = run_steps(rt, &steps, text, setup)?;
     outcome_of(rt, &end)
 }
 
 /// Runs the threads of an image's steps beside a script.
-fn run_steps<'s, T: Threads + Wait + Sync + Abort + AllocGlobal, G: Gate + Sync>(
+fn run_steps<'s, T: Threads + Wait + Sync + Abort + AllocGlobal>(
     rt: &T,
     steps: &'s Steps<'s>,
     text: &[u8],
     setup: &Setup,
-    gate: &G,
 ) -> Result<RunEnd<'s>, Fail>
     requires stamps { (1 ≤ setup.now.limits.cpus) × (1 ≤ setup.now.limits.migrate) }
     requires size { (72 ≤ setup.now.size) × (setup.now.size ≤ 1048576) }
@@ -170,7 +147,7 @@ fn run_steps<'s, T: Threads + Wait + Sync + Abort + AllocGlobal, G: Gate + Sync>
     assert!(rt; setup.threads <= setup.max);
     let script = read_script(alloc, text, steps.image(), setup.threads)?;
     let (table, mut seat) = CodeTable::new(alloc, steps.image(), script, setup.threads)?;
-    let end = run(rt, alloc, steps, &table, &mut seat, setup, gate)?;
+    let end = run(rt, alloc, steps, &table, &mut seat, setup, &OpenGate)?;
     Ok(end)
 }
 
@@ -182,8 +159,13 @@ fn outcome_of<R: Abort + AllocGlobal>(rt: &R, end: &RunEnd) -> Result<Outcome, F
     for cpu in &end.cpus {
         write_runs(cpu.marks(), &mut marks)?;
     }
+    let mut blocks = 0;
     for buffer in &end.buffers {
-        write_all(&mut bytes, buffer.bytes())?;
+        if buffer.events() > 0 {
+            write_all(&mut bytes, buffer.bytes())?;
+            assert!(rt; blocks < 1000);
+            blocks += 1;
+        }
     }
     let mut lost = 0u32;
     for first in &end.first {
@@ -193,108 +175,15 @@ fn outcome_of<R: Abort + AllocGlobal>(rt: &R, end: &RunEnd) -> Result<Outcome, F
     Ok(Outcome {
         marks,
         bytes,
-        blocks: end.buffers.len(),
+        blocks,
         lost,
     })
-}
-
-/// How often a gate looks for what it waits for before it gives up.
-const TURNS: u32 = 5_000_000;
-
-/// A sign that one thread gives and others see.
-#[derive(Drop)]
-struct Sign {
-    given: AtomicU64,
-}
-
-impl Sign {
-    fn new() -> Sign {
-        Sign {
-            given: AtomicU64::new(0),
-        }
-    }
-
-    fn give(&self) {
-        self.given.store(1, Ordering::SeqCst);
-    }
-
-    fn is_given(&self) -> bool {
-        self.given.load(Ordering::SeqCst) == 1
-    }
-
-    /// Waits until the other sign is given. If it doesn't come, gives this one.
-    fn wait_or_give(&self, other: &Sign) {
-        for _turn in 0..TURNS {
-            if other.is_given() {
-                return;
-            }
-            yield_now();
-        }
-        self.give();
-    }
-}
-
-/// Lets passing 0 of each of two threads go on once the other thread has come to its own.
-#[derive(Drop)]
-struct Meeting {
-    first: Sign,
-    second: Sign,
-    late: Sign,
-}
-
-impl Gate for Meeting {
-    fn before(&self, thread: u32, passing: u32) {
-        if passing == 0 {
-            if thread == 1 {
-                self.first.give();
-                self.late.wait_or_give(&self.second);
-            } else {
-                self.second.give();
-                self.late.wait_or_give(&self.first);
-            }
-        }
-    }
-
-    fn before_store(&self, _place: u64) {}
-}
-
-/// Lets the store at place 3 go on once the thread has come to passing 1. Lets passing 1 go on once
-/// the patcher has come to place 15. Lets the store there go on once the thread has come to passing
-/// 3.
-#[derive(Drop)]
-struct Relay {
-    at_passing_1: Sign,
-    at_place_15: Sign,
-    at_passing_3: Sign,
-    late: Sign,
-}
-
-impl Gate for Relay {
-    fn before(&self, _thread: u32, passing: u32) {
-        if passing == 1 {
-            self.at_passing_1.give();
-            self.late.wait_or_give(&self.at_place_15);
-        }
-        if passing == 3 {
-            self.at_passing_3.give();
-        }
-    }
-
-    fn before_store(&self, place: u64) {
-        if place == 3 {
-            self.late.wait_or_give(&self.at_passing_1);
-        }
-        if place == 15 {
-            self.at_place_15.give();
-            self.late.wait_or_give(&self.at_passing_3);
-        }
-    }
 }
 
 #[test]
 fn a_held_thread_passes_its_sleds_once_they_are_patched(rt: HostRuntime) -> Result<(), Fail> {
     let script = b"set_handler\ninit\nhold 1 2\ngo\nawait 1 2\npatch\nrelease 1\n";
-    let left = run_file(&rt, &CALLS, script, &setup_of(1, 64), &OpenGate)?;
+    let left = run_file(&rt, &CALLS, script, &setup_of(1, 64, 16_384))?;
     assert_eq!(rt; left.marks.bytes(), b".2 +2".as_slice());
     let records = [
         5, 0, 0, 1, 0, 0, 0, 0, 0, 0, 0, 0, 0, 0, 0, 0, 0x22, 0, 0, 0, 0, 0, 0, 0, 0x12, 0, 0, 0,
@@ -315,7 +204,7 @@ fn trace_len(rt: &impl Abort, left: &Outcome) -> usize {
 fn four_threads_keep_all_segments_or_the_last_ones(rt: HostRuntime) -> Result<(), Fail> {
     let script = b"patch\nset_handler\ninit\ngo\n";
     for (max, lost, len) in [(128, 0, 1_408_096), (64, 24, 1_014_496)] {
-        let left = run_file(&rt, &FIBONACCI, script, &setup_of(4, max), &OpenGate)?;
+        let left = run_file(&rt, &FIBONACCI, script, &setup_of(4, max, 16_384))?;
         assert_eq!(rt; left.marks.bytes(), b"+43782+43782+43782+43782".as_slice());
         assert_eq!(rt; left.lost, lost);
         assert_eq!(rt; trace_len(&rt, &left), len);
@@ -324,36 +213,14 @@ fn four_threads_keep_all_segments_or_the_last_ones(rt: HostRuntime) -> Result<()
 }
 
 #[test]
-fn two_threads_run_beside_each_other(rt: HostRuntime) -> Result<(), Fail> {
-    let meeting = Meeting {
-        first: Sign::new(),
-        second: Sign::new(),
-        late: Sign::new(),
-    };
+fn small_buffers_wrap_and_keep_the_last_segments(rt: HostRuntime) -> Result<(), Fail> {
     let script = b"patch\nset_handler\ninit\ngo\n";
-    let left = run_file(&rt, &OUTPUTS_AN_A, script, &setup_of(2, 64), &meeting)?;
-    assert!(rt; !meeting.late.is_given());
-    assert_eq!(rt; left.marks.bytes(), b"+2+2".as_slice());
-    Ok(())
-}
-
-#[test]
-fn a_thread_runs_beside_the_patcher(rt: HostRuntime) -> Result<(), Fail> {
-    let relay = Relay {
-        at_passing_1: Sign::new(),
-        at_place_15: Sign::new(),
-        at_passing_3: Sign::new(),
-        late: Sign::new(),
-    };
-    let script = b"set_handler\ninit\ngo\npatch\n";
-    let left = run_file(&rt, &CALLS, script, &setup_of(1, 64), &relay)?;
-    assert!(rt; !relay.late.is_given());
-    assert_eq!(rt; left.marks.bytes(), b".1 +1 .1 +1".as_slice());
-    let records = [
-        5, 0, 0, 1, 0, 0, 0, 0, 0, 0, 0, 0, 0, 0, 0, 0, 0x20, 0, 0, 0, 0, 0, 0, 0, 0x12, 0, 0, 0,
-        1, 0, 0, 0,
-    ];
-    assert!(rt; left.bytes.bytes().len() == 80);
-    assert_eq!(rt; &left.bytes.bytes()[48..], records.as_slice());
+    // One spare buffer for two threads, none, and one for sixteen. Each thread has four segments, each
+    // in a block of 88 bytes.
+    for (threads, max, lost, len) in [(2, 3, 5, 296), (2, 2, 6, 208), (16, 17, 47, 1528)] {
+        let left = run_file(&rt, &CALLS, script, &setup_of(threads, max, 72))?;
+        assert_eq!(rt; left.lost, lost);
+        assert_eq!(rt; trace_len(&rt, &left), len);
+    }
     Ok(())
 }

@@ -1,22 +1,23 @@
 //! A whole run: all memory first, then the threads and the script.
 
-ghost use Rattle.std.specs.Prelude.{◌≡◌, ◌≤◌, ◌+◌, ◌-◌, ◌/◌, ◌*◌, ℕ, [], List, All, IfOk, filter, length, map, vec_capacity, vec_len};
-ghost use Rattle.std.specs.List.{flat_map};
+ghost use Rattle.std.specs.Prelude.{◌≡◌, ◌≤◌, ◌+◌, ◌-◌, ◌==◌, ◌++◌, [], List, IfOk, count_by, length, vec_capacity, vec_len};
+ghost use Rattle.buffer_queue.specs.Left.{IsLeft};
+ghost use Rattle.buffer_queue.specs.Passes.{sealed_of, AreNew, AreOf};
+ghost use Rattle.fdr_buffer.specs.Filled.{Filled};
 ghost use Rattle.patch_script.specs.Refusals.{commands_of};
-ghost use Rattle.traced_run.specs.Kept.{stamp_of};
 ghost use Rattle.sled_rule.specs.Plans.{start_in};
 ghost use Rattle.sled_rule.specs.Seats.{patch_view, script_of, IsPatcherOf};
 ghost use Rattle.sled_rule.specs.Views.{first_patch};
-ghost use Rattle.thread_run.specs.Buffers.{is_begun};
-ghost use Rattle.thread_run.specs.Rings.{buffers_in, segments_begun, StandsFor};
-ghost use Rattle.thread_run.specs.Runs.{share_of, AreWorkersOfRun, HaveRunBeside};
-ghost use Rattle.thread_run.specs.private.Rooms.{IsRoom};
-ghost use Rattle.thread_run.specs.Workers.{cpu_of, recorder_of, IsGoing};
+ghost use Rattle.thread_run.specs.Recordings.{StandsFor};
+ghost use Rattle.thread_run.specs.private.Rooms.{HaveRunPooled, IsGathered, IsRoom};
+ghost use Rattle.thread_run.specs.Runs.{lost_beside, AreWorkersOfRun, HaveRunBeside};
+ghost use Rattle.thread_run.specs.Workers.{IsGoing};
 
-use crate::recorder::RingRecorder;
+use crate::recorder::FdrRecorder;
 use crate::running::run_threads;
 use crate::thread::new_cpu;
 use crate::worker::Worker;
+use buffer_queue::{Pool, PoolPass};
 use fdr_buffer::Buffer;
 use machine_step::{Cpu, Setup, Steps, one_end};
 use sled_patch::run_prefix;
@@ -36,11 +37,23 @@ pub struct RunEnd<'s> {
     pub segments: Vec<u32>,
     /// How many of these are lost: the first ones.
     pub first: Vec<u32>,
-    /// The buffers of those that are left, by thread and then by segment.
+    /// All buffers. Those with an event hold the segments that are left. They are in no order.
     pub buffers: Vec<Buffer>,
 }
 
+/// What threads have when they have ended, thread 1 first.
+#[derive(Drop)]
+struct Gathered<'s> {
+    cpus: Vec<Cpu<'s>>,
+    /// Into how many segments the events of each thread were cut.
+    segments: Vec<u32>,
+    passes: Vec<PoolPass>,
+    /// The buffer in each thread's hand.
+    hands: Vec<Buffer>,
+}
+
 /// Runs all threads of a table's script, and the script beside them, from the first micro step on.
+/// The threads share one pool of buffers.
 ///
 /// Takes all memory before the first thread starts; `NoMemory` comes when some of it was refused. No
 /// clause says that the call returns.
@@ -68,38 +81,72 @@ pub fn run<'s, T: Threads + Wait + Sync, G: Gate + Sync>(
 {
     one_end();
     run_prefix(table, patcher);
-    let mut workers = new_workers(alloc, steps, table, patcher, setup)?;
-    let room = room_for(alloc, setup)?;
-    run_threads(rt, table, patcher, &mut workers, gate);
-    Ok(left_by(setup, workers, room))
+    let first = Vec::with_capacity(alloc, setup.threads as usize)?;
+    let buffers = Vec::with_capacity(alloc, setup.max as usize)?;
+    let (pool, hands) = Pool::new(rt, alloc, setup)?;
+    let gathered = run_pooled(rt, alloc, steps, table, patcher, setup, gate, &pool, hands)?;
+    Ok(left_by(rt, setup, pool, gathered, first, buffers))
 }
 
-/// The workers of all threads, thread 1 first.
-fn new_workers<'s, 't>(
+/// Runs all threads and the script. Each thread begins with its pass of the pool and its buffer.
+fn run_pooled<'s, 'p, T: Threads + Wait + Sync, G: Gate + Sync>(
+    rt: &'p T,
     alloc: Global,
     steps: &'s Steps<'s>,
-    table: &'t CodeTable,
+    table: &CodeTable,
     patcher: &mut PatchSeat,
     setup: &Setup,
-) -> Result<Vec<Worker<'s, 't, RingRecorder>>, NoMemory>
+    gate: &G,
+    pool: &'p Pool,
+    hands: Vec<(PoolPass, Buffer)>,
+) -> Result<Gathered<'s>, NoMemory>
     requires own { IsPatcherOf table.now patcher.old }
     requires starts { (patch_view patcher.old).place ≡ start_in (script_of table.now) }
     requires none { (patch_view patcher.old).given ≡ 0 }
     requires program { (script_of table.now).program ≡ steps.now }
     requires threads { (script_of table.now).threads ≡ setup.now.threads }
-    requires some { 1 ≤ setup.now.threads }
     requires few { setup.now.threads ≤ MAX_THREADS }
     requires stamps { (1 ≤ setup.now.limits.cpus) × (1 ≤ setup.now.limits.migrate) }
-    requires sizes { (72 ≤ setup.now.size) × (setup.now.size ≤ 1048576) }
-    requires enough { setup.now.threads ≤ setup.now.max }
+    requires pool { pool.now.setup ≡ setup.now }
+    requires hands { AreNew pool.now 1 setup.now.threads hands.items }
+    ensures own { IsPatcherOf table.now patcher.new }
+    ensures run { IfOk result (HaveRunPooled (script_of table.now) pool.now) }
+{
+    let room = room_for(alloc, setup)?;
+    let mut workers = new_workers(rt, alloc, steps, table, patcher, setup, pool, hands)?;
+    run_threads(rt, table, patcher, &mut workers, gate);
+    Ok(gather(setup, workers, room))
+}
+
+/// The workers of all threads, thread 1 first.
+fn new_workers<'s, 't, 'p, T: Wait>(
+    rt: &'p T,
+    alloc: Global,
+    steps: &'s Steps<'s>,
+    table: &'t CodeTable,
+    patcher: &mut PatchSeat,
+    setup: &Setup,
+    pool: &'p Pool,
+    hands: Vec<(PoolPass, Buffer)>,
+) -> Result<Vec<Worker<'s, 't, FdrRecorder<'p, T>>>, NoMemory>
+    requires own { IsPatcherOf table.now patcher.old }
+    requires starts { (patch_view patcher.old).place ≡ start_in (script_of table.now) }
+    requires none { (patch_view patcher.old).given ≡ 0 }
+    requires program { (script_of table.now).program ≡ steps.now }
+    requires threads { (script_of table.now).threads ≡ setup.now.threads }
+    requires few { setup.now.threads ≤ MAX_THREADS }
+    requires stamps { (1 ≤ setup.now.limits.cpus) × (1 ≤ setup.now.limits.migrate) }
+    requires pool { pool.now.setup ≡ setup.now }
+    requires hands { AreNew pool.now 1 setup.now.threads hands.items }
     ensures own { IsPatcherOf table.now patcher.new }
     ensures count { IfOk result (λ workers. length workers.items ≡ setup.now.threads) }
     ensures workers { IfOk result (λ workers.
-        AreWorkersOfRun (script_of table.now) setup.now (IsGoing StandsFor) workers.items) }
+        AreWorkersOfRun (script_of table.now) pool.now (IsGoing StandsFor) workers.items) }
 {
     let mut workers = Vec::with_capacity(alloc, setup.threads as usize)?;
-    for before in 0..setup.threads {
-        let number = before + 1;
+    let mut number = 0;
+    for (pass, hand) in hands {
+        number += 1;
         let cpu = new_cpu(
             alloc,
             steps,
@@ -108,46 +155,121 @@ fn new_workers<'s, 't>(
             number,
             setup.limits,
         )?;
-        let ring = RingRecorder::new(alloc, setup, number)?;
-        workers.push(Worker::start(cpu, table, patcher, ring))?;
+        let recorder = FdrRecorder::new(rt, pool, pass, hand, number, setup);
+        workers.push(Worker::start(cpu, table, patcher, recorder))?;
     }
     Ok(workers)
 }
 
-/// Room for what a run leaves, and nothing of it.
-fn room_for<'s>(alloc: Global, setup: &Setup) -> Result<RunEnd<'s>, NoMemory>
+/// Room for what threads have when they have ended, and nothing of it.
+fn room_for<'s>(alloc: Global, setup: &Setup) -> Result<Gathered<'s>, NoMemory>
     ensures { IfOk result (IsRoom setup.now) }
 {
     let threads = setup.threads as usize;
-    Ok(RunEnd {
+    Ok(Gathered {
         cpus: Vec::with_capacity(alloc, threads)?,
         segments: Vec::with_capacity(alloc, threads)?,
-        first: Vec::with_capacity(alloc, threads)?,
-        buffers: Vec::with_capacity(alloc, setup.max as usize)?,
+        passes: Vec::with_capacity(alloc, threads)?,
+        hands: Vec::with_capacity(alloc, threads)?,
     })
 }
 
-/// What the workers leave, in the room for it.
-fn left_by<'s>(
+/// What the workers have, in the room for it.
+fn gather<'s, T: Wait>(
     setup: &Setup,
-    workers: Vec<Worker<'s, '_, RingRecorder>>,
-    mut room: RunEnd<'s>,
-) -> RunEnd<'s>
+    workers: Vec<Worker<'s, '_, FdrRecorder<'_, T>>>,
+    mut room: Gathered<'s>,
+) -> Gathered<'s>
     requires room { IsRoom setup.now room }
     requires count { length workers.items ≡ setup.now.threads }
-    requires some { 1 ≤ setup.now.threads }
-    requires rings { All (λ w. length (buffers_in (recorder_of w)) ≡ share_of setup.now) workers.items }
-    ensures cpus { result.cpus.items ≡ map (λ w. cpu_of w) workers.entry.items }
-    ensures segments { result.segments.items ≡ map (λ w. segments_begun (recorder_of w)) workers.entry.items }
-    ensures first { result.first.items ≡ map (λ w. segments_begun (recorder_of w) - length (buffers_in (recorder_of w))) workers.entry.items }
-    ensures buffers { result.buffers.items ≡ flat_map (λ w. filter is_begun (buffers_in (recorder_of w))) workers.entry.items }
+    ensures { IsGathered workers.entry.items result }
 {
+    // Only the contract reads the setup.
+    let _setup = *setup;
     for worker in workers {
-        let (cpu, _seat, ring) = worker.parts();
+        let (cpu, _seat, recorder) = worker.parts();
         room.cpus.push_reserved(cpu);
-        room.segments.push_reserved(ring.segments());
-        room.first.push_reserved(ring.lost());
-        ring.collect(&mut room.buffers);
+        room.segments.push_reserved(recorder.segments());
+        let (pass, hand) = recorder.parts();
+        room.passes.push_reserved(pass);
+        room.hands.push_reserved(hand);
     }
     room
+}
+
+/// What a run leaves. Drains the pool, and adds the buffers in the threads' hands. `first` and
+/// `buffers` are empty, with room for all threads and all buffers.
+fn left_by<'s, R: Wait>(
+    rt: &R,
+    setup: &Setup,
+    pool: Pool,
+    gathered: Gathered<'s>,
+    mut first: Vec<u32>,
+    mut buffers: Vec<Buffer>,
+) -> RunEnd<'s>
+    requires pool { pool.setup ≡ setup.now }
+    requires passes { AreOf pool 1 gathered.passes.items }
+    requires count { (length gathered.segments.items ≡ setup.now.threads)
+        × (length gathered.passes.items ≡ setup.now.threads) × (length gathered.hands.items ≡ setup.now.threads) }
+    requires enough { setup.now.threads ≤ setup.now.max }
+    requires few { setup.now.threads ≤ MAX_THREADS }
+    requires no_first { first.items ≡ [] }
+    requires no_buffer { buffers.items ≡ [] }
+    requires room { (setup.now.threads ≤ vec_capacity first) × (setup.now.max ≤ vec_capacity buffers) }
+    ensures cpus { result.cpus.items ≡ gathered.entry.cpus.items }
+    ensures segments { result.segments.items ≡ gathered.entry.segments.items }
+    ensures first { result.first.items ≡ lost_beside result.buffers.items 1 gathered.entry.segments.items }
+    ensures buffers { (left : List Filled) × IsLeft setup.now (sealed_of gathered.entry.passes.items) left
+        × (result.buffers.items ≡ left ++ gathered.entry.hands.items) }
+{
+    let Gathered {
+        cpus,
+        segments,
+        passes,
+        hands,
+    } = gathered;
+    pool.drain(rt, passes, &mut buffers);
+    add_hands(hands, &mut buffers);
+    add_lost(&segments, &buffers, &mut first);
+    RunEnd {
+        cpus,
+        segments,
+        first,
+        buffers,
+    }
+}
+
+/// Moves the buffers of the threads' hands behind others.
+fn add_hands(hands: Vec<Buffer>, buffers: &mut Vec<Buffer>)
+    requires room { vec_len buffers.old + vec_len hands ≤ vec_capacity buffers.old }
+    ensures { buffers.new.items ≡ buffers.old.items ++ hands.items }
+{
+    for hand in hands {
+        buffers.push_reserved(hand);
+    }
+}
+
+/// Adds for each thread how many of its segments are in none of the buffers. `segments` says how many
+/// there were, thread 1 first.
+fn add_lost(segments: &[u32], buffers: &[Buffer], lost: &mut Vec<u32>)
+    requires few { length segments.now ≤ MAX_THREADS }
+    requires room { vec_len lost.old + length segments.now ≤ vec_capacity lost.old }
+    ensures { lost.new.items ≡ lost.old.items ++ lost_beside buffers.now 1 segments.now }
+{
+    let mut thread = 0;
+    for segments in segments {
+        thread += 1;
+        lost.push_reserved(lost_of(thread, *segments, buffers));
+    }
+}
+
+/// How many of a thread's segments are in none of the buffers.
+fn lost_of(thread: u32, segments: u32, buffers: &[Buffer]) -> u32
+    ensures { result ≡ segments - count_by (λ buffer. buffer.thread == thread) buffers.now }
+{
+    let left = buffers
+        .iter()
+        .filter(|buffer| buffer.thread() == thread)
+        .count();
+    (segments as usize).saturating_sub(left) as u32
 }

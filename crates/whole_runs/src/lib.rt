@@ -11,6 +11,8 @@ mod desks;
 #[cfg(test)]
 mod first_run;
 #[cfg(test)]
+mod gates;
+#[cfg(test)]
 mod plain;
 #[cfg(test)]
 mod run;

@@ -9,13 +9,13 @@ use std::thread::Threads;
 use xray_io::MemDesk;
 
 /// The words of a run whose trace has a wall time of 0.
-const RUN: [&str; 7] = ["run", "i", "s", "t", "a", "--wall", "0"];
+pub const RUN: [&str; 7] = ["run", "i", "s", "t", "a", "--wall", "0"];
 
 /// The thread is held at its third passing until the sleds are patched.
 const HELD: &str = "set_handler\ninit\nhold 1 2\ngo\nawait 1 2\npatch\nrelease 1\n";
 
 /// A desk that holds a text as `x`, its image as `i`, and a script as `s`.
-fn desk_with<R: Abort + Threads + Wait + Sync + AllocGlobal>(
+pub fn desk_with<R: Abort + Threads + Wait + Sync + AllocGlobal>(
     rt: &R,
     text: &str,
     script: &str,
@@ -30,7 +30,7 @@ fn desk_with<R: Abort + Threads + Wait + Sync + AllocGlobal>(
 }
 
 /// A line of a text.
-fn has_line(text: &str, line: &str) -> bool {
+pub fn has_line(text: &str, line: &str) -> bool {
     for one in text.lines() {
         if one == line {
             return true;

@@ -3,7 +3,7 @@ use std::alloc::Global;
 use std::sync::Wait;
 use std::test::Fail;
 use std::thread::Threads;
-use xray_io::{Desk, MemDesk, MemSink, OpenGate, Wall};
+use xray_io::{Desk, Gate, MemDesk, MemSink, OpenGate, Wall};
 use xray_program::xray;
 
 /// The file of an image of 170 bytes. Its only function, at 0x1000, is an entry sled, `mov eax,
@@ -92,6 +92,18 @@ pub fn run_words<R: Threads + Wait + Sync + AllocGlobal, D: Desk>(
     out_failing: &[u64],
     err_failing: &[u64],
 ) -> Result<Run, Fail> {
+    run_words_at(rt, words, desk, out_failing, err_failing, &OpenGate)
+}
+
+/// Runs the top call with a gate, over a desk, and over sinks that fail at these of their calls.
+pub fn run_words_at<R: Threads + Wait + Sync + AllocGlobal, D: Desk, G: Gate + Sync>(
+    rt: &R,
+    words: &[&str],
+    desk: &mut D,
+    out_failing: &[u64],
+    err_failing: &[u64],
+    gate: &G,
+) -> Result<Run, Fail> {
     let alloc = rt.alloc();
     let mut said = Vec::new(alloc);
     for word in words {
@@ -100,7 +112,7 @@ pub fn run_words<R: Threads + Wait + Sync + AllocGlobal, D: Desk>(
     let wall = Wall { secs: 7, micros: 8 };
     let mut out = MemSink::new(alloc, Vec::from_slice(alloc, out_failing)?);
     let mut err = MemSink::new(alloc, Vec::from_slice(alloc, err_failing)?);
-    let status = xray(rt, alloc, &said, wall, desk, &mut out, &mut err, &OpenGate);
+    let status = xray(rt, alloc, &said, wall, desk, &mut out, &mut err, gate);
     Ok(Run {
         status,
         out: text_of(alloc, &out)?,

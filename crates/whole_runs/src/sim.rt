@@ -6,6 +6,7 @@ use std::sync::Wait;
 use std::test::Fail;
 use std::thread::Threads;
 
+/// The words of a replay, without options.
 pub const SIM: [&str; 6] = ["sim", "i", "s", "c", "t", "a"];
 
 /// Everything is ready before the thread starts: the sleds are patched, a handler is set, and the

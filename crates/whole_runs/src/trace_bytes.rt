@@ -6,11 +6,13 @@ use std::test::Fail;
 pub const HEADER: &[u8] =
     b"\x03\0\x01\0\x03\0\0\0\0\0\0\0\0\0\0\0\0\x40\0\0\0\0\0\0\0\0\0\0\0\0\0\0";
 
-/// Extents of 72, 80, 104 and 120 bytes.
+/// Extents of 72 bytes.
 pub const EXTENTS_72: &[u8] = b"\x0F\x48\0\0\0\0\0\0\0\0\0\0\0\0\0\0";
 
+/// Extents of 80 bytes.
 pub const EXTENTS_80: &[u8] = b"\x0F\x50\0\0\0\0\0\0\0\0\0\0\0\0\0\0";
 
+/// Extents of 104 bytes.
 pub const EXTENTS_104: &[u8] = b"\x0F\x68\0\0\0\0\0\0\0\0\0\0\0\0\0\0";
 
 /// Thread 1, the wall time 0, and process 1.
@@ -18,16 +20,19 @@ pub const PREAMBLE: &[u8] = b"\x01\x01\0\0\0\0\0\0\0\0\0\0\0\0\0\0\
     \x09\0\0\0\0\0\0\0\0\0\0\0\0\0\0\0\
     \x13\x01\0\0\0\0\0\0\0\0\0\0\0\0\0\0";
 
-/// CPU 0 at counters 0 and 2.
+/// CPU 0 at counter 0.
 pub const CPU: &[u8] = b"\x05\0\0\0\0\0\0\0\0\0\0\0\0\0\0\0";
 
+/// CPU 0 at counter 2.
 pub const CPU_AT_2: &[u8] = b"\x05\0\0\x02\0\0\0\0\0\0\0\0\0\0\0\0";
 
-/// An entry of function 1, and exits of it 0 and 2 cycles on.
+/// An entry of function 1.
 pub const ENTRY: &[u8] = b"\x10\0\0\0\0\0\0\0";
 
+/// An exit of function 1, 0 cycles on.
 pub const EXIT: &[u8] = b"\x12\0\0\0\0\0\0\0";
 
+/// An exit of function 1, 2 cycles on.
 pub const EXIT_AFTER_2: &[u8] = b"\x12\0\0\0\x02\0\0\0";
 
 /// A file of one block. Function 1 is called once, for 2 cycles.

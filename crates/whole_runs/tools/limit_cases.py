@@ -210,10 +210,30 @@ TRACE_LIMITS = [
 ]  # fmt: skip
 
 
+# Limits that a run beside the script has, too.
+RUN_LIMITS = [
+    full_outputs, full_script, full_command_list, full_wait, no_fuel, full_fuel, no_passings, full_passings, full_threads,
+    least_buffer_size, largest_buffer_size, largest_trace, a_buffer_each, full_buffer_list, latest_wall, last_counter, last_cpu,
+    last_pid,
+]  # fmt: skip
+
+
 def limit_cases(forms):
     """The cases of a program with these commands, each at its limit and one past it, as functions without arguments."""
     kinds = [(kind, past) for kind in [*LIMITS, *TRACE_LIMITS] for past in (0, 1)]
-    return [lambda kind=kind, past=past: with_outputs(kind(past), forms) for kind, past in kinds if is_known(kind(0), forms)]
+    cases = [lambda kind=kind, past=past: with_outputs(kind(past), forms) for kind, past in kinds if is_known(kind(0), forms)]
+    return cases + (run_limit_cases() if "run" in forms else [])
+
+
+def run_limit_cases():
+    """The cases of `run`, as functions without arguments."""
+    return [lambda kind=kind, past=past: beside(kind(past)) for kind in RUN_LIMITS for past in (0, 1)]
+
+
+def beside(case):
+    """The same limit in a run beside the script, which has no schedule."""
+    _, image, script, _, *rest = with_outputs(case, model.FORMS).words
+    return Case([b"run", image, script, *rest], {image: case.files[image], script: case.files[script]})
 
 
 def is_known(case, forms):

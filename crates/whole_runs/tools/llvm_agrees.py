@@ -2,7 +2,7 @@
 """Compares what LLVM's `llvm-xray` makes of traces with what the model makes of them, and says where they differ.
 
 usage: crates/whole_runs/tools/llvm_agrees.py [PROGRAM] [--traces N] [--seed N] [--llvm-xray NAME]
-    PROGRAM: a built program that has `sim` with five names; the traces are then those that it writes, and else the model's
+    PROGRAM: a built program that has `sim` and `run`; the traces are then those that it writes, and else the model's
     --traces: how many traces, 300 if left out; without PROGRAM every other one is of random records that no replay writes
     --seed: what all is drawn by, 1 if left out
     --llvm-xray: LLVM's program, llvm-xray-14 if left out
@@ -341,20 +341,26 @@ def replay_words(draw, threads):
 
 
 def written_trace(draw, program, folder):
-    """The trace of a random replay, as the program writes it or, without one, as the model does."""
+    """The trace of a random replay or run, as the program writes it; without a program that of a replay, by the model."""
     while True:
+        command = "sim" if program is None else draw.choice(["sim", "run"])
         threads = draw.choice([1, 1, 2, 3, 16])
-        files = dict(zip("isc", random_contents(draw, "sim", threads)))
-        words = [b"sim", b"i", b"s", b"c", b"t", b"a", *replay_words(draw, threads)]
+        files = dict(zip("isc", random_contents(draw, command, threads)))
+        words = [word.encode() for word in (command, *files, "t", "a")] + replay_words(draw, threads)
         outcome = model.outcome(words, model.World(files))
-        if outcome.status != 0 or len(outcome.written["t"]) == traces.HEADER_LENGTH and draw.random() < 0.95:
+        if outcome.status != 0:
             continue
-        if program is None:
-            return outcome.written["t"]
-        for name, content in files.items():
-            (folder / name).write_bytes(content)
-        subprocess.run([program, *words], cwd=folder, stdout=subprocess.DEVNULL, check=True)
-        return (folder / "t").read_bytes()
+        trace = outcome.written["t"] if program is None else traced_by(program, folder, words, files)
+        if len(trace) > traces.HEADER_LENGTH or draw.random() < 0.05:
+            return trace
+
+
+def traced_by(program, folder, words, files):
+    """The trace that a program writes of these files."""
+    for name, content in files.items():
+        (folder / name).write_bytes(content)
+    subprocess.run([program, *words], cwd=folder, stdout=subprocess.DEVNULL, check=True)
+    return (folder / "t").read_bytes()
 
 
 def random_records(draw):

@@ -3,7 +3,7 @@ import dataclasses
 
 import image_model
 from random_images import assembled_draft, calling_draft, random_image, texts, units_draft
-from random_scripts import random_schedule, random_script
+from random_scripts import live_script, random_schedule, random_script
 from random_traces import random_trace
 
 
@@ -115,6 +115,8 @@ def random_options(draw, command, threads, writes_traces):
     match command:
         case "asm" if draw.random() < 0.7:
             return [option(draw, "threshold", spelled(draw, draw.choice([0, 1, 2, 3, 5, LARGEST_32])))]
+        case "run":
+            return trace_options(draw, threads)
         case "sim" if writes_traces:
             return trace_options(draw, threads)
         case "plain" | "sim":
@@ -197,15 +199,18 @@ def random_contents(draw, command, threads):
         case "sim":
             image = random_image(draw, KINDS["sim"], 0.12)
             return [image, random_script(draw, id_count(image), threads), random_schedule(draw, threads)]
+        case "run":
+            image = random_image(draw, KINDS["sim"], 0.04)
+            return [image, live_script(draw, id_count(image), threads)]
         case "account" | "stack" | "convert":
             images = [random_image(draw, KINDS["names"], 0.2)] if draw.random() < 0.4 else []
             return [random_trace(draw), *images]
     return [random_image(draw, KINDS[command], 0.6)]
 
 
-def random_case(draw, forms):
-    """A random run of a program that has these commands."""
-    command = draw.choice([*forms, "sim", "sim"])
+def random_case(draw, forms, only=None):
+    """A random run of a program that has these commands, or of one of them."""
+    command = only or draw.choice([*forms, "sim", "sim"])
     threads = draw.choice([1, 1, 1, 2, 3, 16])
     contents = random_contents(draw, command, threads)
     names = draw.sample([*NAMES, *STRANGE_NAMES], len(contents))
@@ -242,4 +247,5 @@ def random_output(draw, case, names):
             name = draw.choice([b"old", b"older"])
             case.files[name] = draw.randbytes(draw.choice([0, 10, 1000]))
             return name
-    return draw.choice([b"new", b"folder/new", b"new image", b"./new", b"t", b"folder/a"])
+    new = [b"new", b"folder/new", b"new image", b"./new", b"t", b"folder/a"]
+    return draw.choice([name for name in new if name not in names])

@@ -15,6 +15,7 @@ NAMES = {
     "plain": [b"i"],
     "extract": [b"i"],
     "sim": [b"i", b"s", b"c", b"new", b"new 2"],
+    "run": [b"i", b"s", b"new", b"new 2"],
     "account": [b"t", b"i"],
     "stack": [b"t", b"i"],
     "convert": [b"t", b"i"],

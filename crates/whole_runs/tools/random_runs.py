@@ -1,25 +1,35 @@
 #!/usr/bin/env python3
 """Compares `xray` with a model of it on random inputs and command lines, and says where they differ.
 
-usage: crates/whole_runs/tools/random_runs.py [PROGRAM] [--with COMMANDS] [--lines] [--runs N] [--seed N] [--jobs N]
+usage: crates/whole_runs/tools/random_runs.py [PROGRAM] [--with COMMANDS] [--of COMMAND] [--lines] [--loops]
+           [--buffers NAME] [--runs N] [--seed N] [--jobs N]
     PROGRAM: the built program, crates/xray/out/xray if left out
-    --with: which of sim, account, stack and convert PROGRAM has, joined by commas, all if left out; without sim a replay has
-        three files and writes no trace
+    --with: which of sim, run, account, stack and convert PROGRAM has, joined by commas, all if left out; without sim a
+        replay has three files and writes no trace
+    --of: this command alone
     --lines: random command lines over sound files alone (random_lines.py)
+    --loops: runs of long loops that are patched all the time (random_loops.py)
+    --buffers: how the threads of `run` share buffers, rings or pool; rings if left out
     --runs: how many runs, 1000 if left out
     --seed: what all is drawn by, 1 if left out
     --jobs: how many runs at a time, 2 if left out
 
-The model is xray_model.py, written from docs/formats and docs/COMMANDS.md alone. The images are of random programs,
-by the assembler's own model, of random units, or of functions that call each other. Many are damaged in one place or two: a
-field of the header, the code, a function, a name, a map entry, a trampoline, a branch, or the file's length. Traces are
-random blocks in any spelling that the format allows, many of them damaged too. Assembler texts, scripts, schedules and command
-lines are written in all ways, and many are wrong. Inputs are files, pipes, folders, or aren't there; an output may be there
-already, and it or standard output may refuse all. Some runs are at a limit, or one past it. Compared are the status, standard
-output and standard error, and all files that are there at the end. A trace that the program wrote is then reported on by each
-report that the program has. The last lines say how often each answer, each end of a thread and each mark came, and how many
-reports on written traces there were. A difference is reported with the folder that its files are kept in, and the status is
-then 1.
+The model is xray_model.py, written from docs/formats and docs/COMMANDS.md alone. The images are of random programs, by
+the assembler's own model, of random units, or of functions that call each other. Many are damaged in one place or two:
+a field of the header, the code, a function, a name, a map entry, a trampoline, a branch, or the file's length. Traces
+are random blocks in any spelling that the format allows, many of them damaged too. Assembler texts, scripts, schedules
+and command lines are written in all ways, and many are wrong. Inputs are files, pipes, folders, or aren't there; an
+output may be there already, and it or standard output may refuse all. Some runs are at a limit, or one past it.
+Compared are the status, standard output and standard error, and all files that are there at the end. A trace that the
+program wrote is then reported on by each report that the program has.
+
+Of a `run`, whose order nobody states, the audit's marks and lost segments are taken. The marks of each thread have to
+follow the script, and the losses have to be such as there may be. The trace, the rest of the audit and standard output
+have to be what comes of these marks and losses, byte by byte. If no audit could be written, the trace has to be any.
+
+The last lines say how often each answer, each end of a thread and each mark came, how many runs have passings of
+patched and of unpatched sleds, how many lost segments, and how many reports on written traces there were. A difference
+is reported with the folder that its files are kept in, and the status is then 1.
 """
 import argparse
 import collections
@@ -33,32 +43,41 @@ import subprocess
 import sys
 import tempfile
 import time
+from collections.abc import Callable
 
 sys.dont_write_bytecode = True  # the modules stand in the repository, and their compiled forms don't
+import run_model  # noqa: E402
+import trace_model  # noqa: E402
 import xray_model as model  # noqa: E402
 from image_model import Refused  # noqa: E402
 from limit_cases import limit_cases  # noqa: E402
 from random_cases import STDIN, random_case  # noqa: E402
 from random_images import ROOT, texts  # noqa: E402
 from random_lines import line_case  # noqa: E402
+from random_loops import loop_case  # noqa: E402
 
 # One run in this many is at a limit or one past it, by turns.
 LIMIT_EVERY = 40
+# A run that takes more seconds than this doesn't end.
+LONGEST_RUN = 300
 
 
 class Cases:
-    """The cases of a program with these commands, by their numbers."""
+    """The cases of a program with these commands, or of one of them, by their numbers."""
 
-    def __init__(self, forms, seed):
+    def __init__(self, forms, seed, command=None):
         self.forms = forms
         self.seed = seed
+        self.command = command
         self.limits = limit_cases(forms)
+        if command is not None:
+            self.limits = [limit for limit in self.limits if limit().words[0] == command.encode()]
 
     def get(self, number):
         turn, rest = divmod(number, LIMIT_EVERY)
-        if rest == 0:
+        if rest == 0 and self.limits:
             return self.limits[turn % len(self.limits)]()
-        return random_case(random.Random(f"{self.seed} {number}"), self.forms)
+        return random_case(random.Random(f"{self.seed} {number}"), self.forms, self.command)
 
 
 class Lines:
@@ -72,6 +91,17 @@ class Lines:
         return line_case(random.Random(f"{self.seed} {number}"), self.forms)
 
 
+class Loops:
+    """Runs of long loops, by their numbers."""
+
+    def __init__(self, forms, seed):
+        self.forms = forms
+        self.seed = seed
+
+    def get(self, number):
+        return loop_case(random.Random(f"{self.seed} {number}"))
+
+
 # ---- What is expected, and what comes
 
 
@@ -82,10 +112,11 @@ def assemble(text, threshold):
         raise Refused(refused.refusal.value, refused.line)
 
 
-def expected(case, forms, wall):
+def world_of(case, shows):
+    """What a run of a case finds."""
     named = {name.decode(): content for name, content in case.files.items()}
     unwritable = frozenset(name.decode() for name in case.unwritable)
-    return model.outcome(case.words, model.World(named, unwritable, case.is_output_full, wall), assemble, forms)
+    return model.World(named, unwritable, case.is_output_full, shows.wall, shows.threads, shows.may_lose)
 
 
 def files_expected(case, expects):
@@ -94,10 +125,23 @@ def files_expected(case, expects):
     return {name.removeprefix(b"./"): content for name, content in {**case.files, **written}.items() if name != STDIN}
 
 
+def is_as_expected(content, expected):
+    """Whether a file has these bytes; None is those of any trace."""
+    if expected is not None or content is None:
+        return content == expected
+    try:
+        trace_model.trace_of(content)
+    except Refused:
+        return False
+    return True
+
+
 def run(xray, folder, words, given=b"", is_output_full=False):
     with open("/dev/full", "wb") as full:
         output = full if is_output_full else subprocess.PIPE
-        done = subprocess.run([xray, *words], cwd=folder, input=given, stdout=output, stderr=subprocess.PIPE)
+        done = subprocess.run(
+            [xray, *words], cwd=folder, input=given, stdout=output, stderr=subprocess.PIPE, timeout=LONGEST_RUN
+        )
     return model.Outcome(done.returncode, done.stdout or b"", done.stderr)
 
 
@@ -113,14 +157,27 @@ def came(xray, folder, case):
     }
 
 
-def wall_in(files, begin, end):
-    """The wall time that an audit says which was written between these times, if there is one."""
-    for content in files.values():
-        found = re.match(rb"xray-audit 1\n.* wall=([0-9]+)\.([0-9]+) ", content)
-        wall = (int(found[1]), int(found[2])) if found else (0, 0)
-        if begin <= wall[0] + wall[1] / 1e6 <= end:
-            return wall
-    return (0, 0)
+@dataclasses.dataclass(frozen=True)
+class Shows:
+    """What a run shows that nothing states: its wall time, and what its threads show. `may_lose` judges the losses."""
+
+    wall: tuple
+    threads: list | None
+    may_lose: Callable
+
+
+def shown_in(files, begin, may_lose):
+    """What the audit of a run that began at this time shows, if there is one."""
+    audits = [content for content in files.values() if content.startswith(b"xray-audit 1\n")]
+    audit = audits[0] if audits else b""
+    return Shows(wall_in(audit, begin, time.time() + 1), run_model.shown_by(audit), may_lose)
+
+
+def wall_in(audit, begin, end):
+    """The wall time that an audit says, if it is between these times."""
+    found = re.match(rb"xray-audit 1\n.* wall=([0-9]+)\.([0-9]+) ", audit)
+    wall = (int(found[1]), int(found[2])) if found else (0, 0)
+    return wall if begin <= wall[0] + wall[1] / 1e6 <= end else (0, 0)
 
 
 # ---- The comparison
@@ -142,11 +199,17 @@ class Result:
     """
 
     answer: str
-    ends: list
-    marks: list
     differs: list
-    reports: int
-    recycled: int
+    ends: list = ()
+    marks: list = ()
+    reports: int = 0
+    recycled: int = 0
+
+    @property
+    def is_mixed(self):
+        """Whether its threads passed sleds that were patched and such as weren't."""
+        found = {mark for mark, _ in self.marks}
+        return "." in found and len(found) > 1
 
 
 def outcome_differences(expects, comes):
@@ -169,38 +232,50 @@ def reported(xray, folder, trace, forms):
     return differs, len(commands)
 
 
-def compared(xray, folder, number, cases):
-    """The result of a run; without a difference, no file is left."""
-    case = cases.get(number)
-    here = folder / str(number)
-    here.mkdir()
+def judged(xray, folder, case, forms, may_lose):
+    """The result of a run in a folder."""
     begin = int(time.time())
-    comes, files = came(xray, here, case)
-    expects = expected(case, cases.forms, wall_in(files, begin, time.time() + 1))
+    comes, files = came(xray, folder, case)
+    try:
+        expects = model.outcome(case.words, world_of(case, shown_in(files, begin, may_lose)), assemble, forms)
+    except run_model.Unlawful as unlawful:
+        return Result("unlawful", [f"the run may not show this: {unlawful}"])
     differs = outcome_differences(expects, comes)
     left = files_expected(case, expects)
-    differs += [f"file {name!r} differs" for name in sorted({*left, *files}) if left.get(name) != files.get(name)]
+    names = sorted({*left, *files})
+    differs += [f"file {name!r} differs" for name in names if not is_as_expected(files.get(name), left.get(name))]
     reports, recycled = 0, 0
-    if case.words[:1] == [b"sim"] and expects.status == 0 and expects.written:
+    if case.words[:1] in ([b"sim"], [b"run"]) and expects.status == 0 and expects.written and not differs:
         trace, audit = expects.written.values()
-        lines, reports = reported(xray, here, trace, cases.forms)
-        differs += lines
+        differs, reports = reported(xray, folder, trace, forms)
         recycled = int(audit.split()[-1])
-    if differs:
-        differs.insert(0, f"differs: {here}: {case.words!r}" + (" > /dev/full" if case.is_output_full else ""))
-    else:
-        shutil.rmtree(here)
     printed = [line.split() for line in expects.output.decode().splitlines()]
     ends = [words[2] for words in printed if words[:1] == ["thread"]]
     marks = [(run[0], int(run[1:])) for words in printed if words[:1] == ["marks"] for run in words[1:] if run != "-"]
-    return Result(answer_of(expects), ends, marks, differs, reports, recycled)
+    return Result(answer_of(expects), differs, ends, marks, reports, recycled)
+
+
+def compared(xray, folder, number, cases, may_lose):
+    """The result of a run by its number; without a difference, no file is left."""
+    case = cases.get(number)
+    here = folder / str(number)
+    here.mkdir()
+    result = judged(xray, here, case, cases.forms, may_lose)
+    if result.differs:
+        result.differs.insert(0, f"differs: {here}: {case.words!r}" + (" > /dev/full" if case.is_output_full else ""))
+    else:
+        shutil.rmtree(here)
+    return result
 
 
 def arguments():
     parser = argparse.ArgumentParser(description="Compares the program with a model of it on random inputs.")
     parser.add_argument("program", nargs="?", type=pathlib.Path, default=ROOT / "crates/xray/out/xray", metavar="PROGRAM")
-    parser.add_argument("--with", dest="commands", default="sim,account,stack,convert", metavar="COMMANDS")
+    parser.add_argument("--with", dest="commands", default=",".join(model.LATER), metavar="COMMANDS")
+    parser.add_argument("--of", dest="command", metavar="COMMAND")
     parser.add_argument("--lines", action="store_true")
+    parser.add_argument("--loops", action="store_true")
+    parser.add_argument("--buffers", choices=run_model.LOSSES, default="rings")
     parser.add_argument("--runs", type=int, default=1000, metavar="N")
     parser.add_argument("--seed", type=int, default=1, metavar="N")
     parser.add_argument("--jobs", type=int, default=2, metavar="N")
@@ -210,33 +285,61 @@ def arguments():
     unknown = set(given.commands.split(",")) - {"", *model.LATER}
     if unknown:
         parser.error(f"--with: {', '.join(sorted(unknown))}")
+    if given.command not in (None, *model.forms_with(given.commands.split(","))):
+        parser.error(f"--of: {given.command}")
     return given
+
+
+def cases_of(given):
+    forms = model.forms_with(given.commands.split(","))
+    if given.lines:
+        return Lines(forms, given.seed)
+    return Loops(forms, given.seed) if given.loops else Cases(forms, given.seed, given.command)
+
+
+class Summary:
+    """What came of all runs."""
+
+    def __init__(self):
+        self.answers, self.ends, self.marks = (collections.Counter() for _ in range(3))
+        self.runs = self.differ = self.mixed = self.losing = self.recycled = self.reports = 0
+
+    def add(self, result):
+        self.runs += 1
+        self.answers[result.answer] += 1
+        self.ends.update(result.ends)
+        for mark, count in result.marks:
+            self.marks[mark] += count
+        self.mixed += result.is_mixed
+        self.losing += result.recycled > 0
+        self.recycled += result.recycled
+        self.reports += result.reports
+        self.differ += bool(result.differs)
+
+    def print(self):
+        for name, counts in (("answers", self.answers), ("ends of threads", self.ends), ("marks", self.marks)):
+            print(f"{name}:", ", ".join(f"{count:,} {what}" for what, count in sorted(counts.items())))
+        print(f"{self.mixed:,} runs with passings of patched and of unpatched sleds")
+        print(f"{self.recycled:,} segments recycled in {self.losing:,} runs")
+        print(f"{self.reports:,} reports on written traces")
+        print(f"{self.runs:,} runs: {self.differ:,} differ from the model")
 
 
 def main():
     given = arguments()
-    program = given.program.resolve()
-    cases = (Lines if given.lines else Cases)(model.forms_with(given.commands.split(",")), given.seed)
+    program, cases, may_lose = given.program.resolve(), cases_of(given), run_model.LOSSES[given.buffers]
     folder = pathlib.Path(tempfile.mkdtemp(prefix="random_runs."))
-    answers, ends, marks, differ, reports, recycled = *(collections.Counter() for _ in range(3)), 0, 0, 0
+    summary = Summary()
     with concurrent.futures.ThreadPoolExecutor(given.jobs) as pool:
-        for result in pool.map(lambda number: compared(program, folder, number, cases), range(1, given.runs + 1)):
-            answers[result.answer] += 1
-            ends.update(result.ends)
-            reports += result.reports
-            recycled += result.recycled
-            for mark, count in result.marks:
-                marks[mark] += count
+        numbers = range(1, given.runs + 1)
+        for result in pool.map(lambda number: compared(program, folder, number, cases, may_lose), numbers):
+            summary.add(result)
             if result.differs:
-                differ += 1
                 print("\n    ".join(result.differs))
     if not any(folder.iterdir()):
         folder.rmdir()
-    for name, counts in (("answers", answers), ("ends of threads", ends), ("marks", marks)):
-        print(f"{name}:", ", ".join(f"{count:,} {what}" for what, count in sorted(counts.items())))
-    print(f"{recycled:,} segments recycled, {reports:,} reports on written traces")
-    print(f"{given.runs:,} runs: {differ:,} differ from the model")
-    sys.exit(1 if differ else 0)
+    summary.print()
+    sys.exit(1 if summary.differ else 0)
 
 
 if __name__ == "__main__":

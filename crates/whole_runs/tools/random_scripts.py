@@ -41,6 +41,27 @@ def waits(draw, threads, before, behind):
         behind.insert(draw.randint(0, at + 1), ["await", str(draw.randint(1, threads)), str(count)])
 
 
+def live_commands(draw, ids, threads):
+    """Commands for threads that run by themselves: some are held, and the patcher waits for some."""
+    before, behind = commands(draw, ids)
+    numbers = range(1, threads + 1)
+    for thread in draw.sample(numbers, draw.choice([0, 0, 1, min(2, threads), threads])):
+        before.insert(draw.randint(0, len(before)), ["hold", str(thread), str(draw.choice([0, 1, 2, 3, 5, 20, 4_294_967_295]))])
+        behind.insert(draw.randint(0, len(behind)), ["release", str(thread)])
+    for _ in range(draw.choice([0, 1, 2, 4, 8])):
+        count = draw.choice([0, 1, 2, 3, 4, 6, 10, 30, 100, 1000])
+        behind.insert(draw.randint(0, len(behind)), ["await", str(draw.choice(numbers)), str(count)])
+    return [*before, ["go"], *behind]
+
+
+def live_script(draw, ids, threads):
+    """A script for threads that run by themselves, seldom with a fault."""
+    lines = live_commands(draw, ids, threads)
+    while draw.random() < 0.04:
+        lines = faulty(draw, lines, draw.choice(WRONG_COMMANDS).split())
+    return texts.written(draw, lines)
+
+
 WRONG_COMMANDS = [
     "patch 1", "Patch", "patch,", "patch_function", "patch_function 0", "patch_function 99", "patch_function x",
     "patch_function -1", "patch_function +1", "patch_function 0x1", "patch_function 4294967296", "unpatch_function 0",

@@ -2,13 +2,16 @@
 
 It is written from docs/formats and docs/COMMANDS.md alone, and shares nothing with the program or its definitions. It
 is made to be read and not to be fast. What is read and made stands in modules of its own: images (image_model), plain runs
-(machine_model), scripts and replays (replay_model), traces (trace_model) and reports on them (report_model). What `asm` makes
-of a text is handed in: crates/asm_text/tools/random_texts.py has a model of that. worked_runs.py and worked_traces.py compare
-the model with results that were worked by hand.
+(machine_model), scripts and replays (replay_model), runs beside a script (run_model), traces (trace_model) and reports on them
+(report_model). What `asm` makes of a text is handed in: crates/asm_text/tools/random_texts.py has a model of that. What `run`
+shows of its order is handed in, too. worked_runs.py and worked_traces.py compare the model with results that were worked by
+hand.
 """
 import dataclasses
 import re
+from collections.abc import Callable
 
+import run_model
 from image_model import Refused, image_of, sled_map_text
 from machine_model import Thread, plain_text
 from replay_model import NUMBER_LIMIT, WAITING, commands_of, replayed, runs_text, turns_of
@@ -96,12 +99,13 @@ FORMS = {
     "plain": Form(range(1, 2), (), RUN_OPTIONS),
     "extract": Form(range(1, 2), (), {}),
     "sim": Form(range(5, 6), (3, 4), TRACE_OPTIONS),
+    "run": Form(range(4, 5), (2, 3), TRACE_OPTIONS),
     "account": Form(TRACE_AND_IMAGE, (), ACCOUNT_OPTIONS),
     "stack": Form(TRACE_AND_IMAGE, (), {"format": Choice("human", "flame")}),
     "convert": Form(TRACE_AND_IMAGE, (), {"format": Choice("yaml")}),
 }
 # Commands that a program may lack.
-LATER = ("sim", "account", "stack", "convert")
+LATER = ("sim", "run", "account", "stack", "convert")
 # `sim` of a program that writes no traces: it prints the state texts alone.
 REPLAY = Form(range(3, 4), (), RUN_OPTIONS)
 
@@ -156,12 +160,17 @@ def check_buffers(threads, size, most):
 
 @dataclasses.dataclass(frozen=True)
 class World:
-    """What a run of the program finds: the bytes of names that can be read, what can't be written, and the wall time."""
+    """What a run of the program finds: the bytes of names that can be read, what can't be written, and the wall time.
+
+    For `run` it also finds what its threads show, and the rule by which segments are lost.
+    """
 
     files: dict
     unwritable: frozenset = frozenset()
     is_output_full: bool = False
     wall: tuple = (0, 0)
+    shown: list | None = None
+    may_lose: Callable = run_model.ring_losses
 
 
 @dataclasses.dataclass(frozen=True)
@@ -211,12 +220,19 @@ def plain_texts(image, options):
 
 
 @dataclasses.dataclass(frozen=True)
-class Replay:
-    """What `sim` comes to: the state texts, the trace file and the audit."""
+class Traced:
+    """What `sim` and `run` come to: the state texts, the trace file and the audit.
+
+    The files of a `run` that shows nothing of its order are None.
+    """
 
     states: str
-    trace: bytes
-    audit: bytes
+    trace: bytes | None
+    audit: bytes | None
+
+
+def taken_script(world, name, image, threads):
+    return taken(world, name, "script", SCRIPT_LIMIT, lambda text: commands_of(text, image, threads))
 
 
 def replay(world, names, options):
@@ -224,17 +240,31 @@ def replay(world, names, options):
     threads = options["threads"]
     image_name, script_name, schedule_name = names
     image = taken_image(world, image_name)
-    commands = taken(world, script_name, "script", SCRIPT_LIMIT, lambda text: commands_of(text, image, threads))
+    commands = taken_script(world, script_name, image, threads)
     turns = taken(world, schedule_name, "schedule", SCHEDULE_LIMIT, lambda text: turns_of(text, threads))
     waiting = [command.line for command in commands if command.name in WAITING]
     if waiting:
         raise Failed(2, f"{script_name}: script Waits {waiting[0]}")
-    ended, buffers = replayed(image, commands, turns, options)
+    return traced(world, options, *replayed(image, commands, turns, options))
+
+
+def run_beside(world, names, options):
+    """What `run` does with its inputs, if it shows what it does."""
+    image_name, script_name = names
+    image = taken_image(world, image_name)
+    commands = taken_script(world, script_name, image, options["threads"])
+    if world.shown is None:
+        return Traced("?", None, None)
+    return traced(world, options, *run_model.ran(image, commands, options, world.shown, world.may_lose))
+
+
+def traced(world, options, ended, buffers):
+    """What comes of threads at their ends and of the buffers of what they recorded."""
     wall = world.wall if options["wall"] is None else (options["wall"], 0)
     trace = buffers.trace(Header(options["frequency"], options["buffer-size"]), wall, options["pid"])
     lines = [audit_line(*both) for both in zip(ended, buffers.threads)]
     states = "".join(f"{plain_text(thread, thread.end)}marks {runs_text(thread.marks)}\n" for thread in ended)
-    return Replay(states, file_bytes(trace), audit_text(options, wall, lines).encode("ascii"))
+    return Traced(states, file_bytes(trace), audit_text(options, wall, lines).encode("ascii"))
 
 
 def audit_line(thread, recorded):
@@ -272,6 +302,9 @@ def results(command, names, options, world, assemble):
             defaults = {option: values.default for option, values in TRACE_OPTIONS.items()}
             comes = replay(world, names[:3], {**defaults, **options})
             return dict(zip(names[3:], [comes.trace, comes.audit])), comes.states
+        case "run":
+            comes = run_beside(world, names[:2], options)
+            return dict(zip(names[2:], [comes.trace, comes.audit])), comes.states
         case _:
             return {}, report(world, command, names, options)
 

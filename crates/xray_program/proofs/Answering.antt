@@ -1,11 +1,11 @@
 -- The contract of a call, from how it ends.
-use Rattle.std.proofs.Common.{◌≡◌, ◌≢◌, ◌⊎◌, ◌∙◌, ℕ, List, Option, Some, None, inl, inr, refl, sym, ap, subst}
+use Rattle.std.proofs.Common.{◌≡◌, ◌≢◌, ◌⊎◌, ◌∙◌, ◌++◌, ℕ, List, [], ◌∷◌, Option, Some, None, inl, inr, refl, sym, ap, subst}
 use Rattle.xray_io.specs.Calls.{Call, Went}
 use Rattle.xray_io.specs.Desk.{Entry, Absent}
 use Rattle.xray_io.specs.Faults.{Rose}
 use Rattle.xray_program.specs.Answers.{Answered, IsAnswer, Says}
 use Rattle.xray_program.specs.Commands.{Means, HadItsTurn, outputs_named}
-use Rattle.xray_program.specs.Order.{InOrder}
+use Rattle.xray_program.specs.Order.{InOrder, IsNoCall}
 use Rattle.xray_program.specs.Outcomes.{Outcome, BadLine, Unread, TooLong, Refused, Done, Fell, Ending, With, Unwritten, NoMemory, status_at, line_at, written_by}
 use Rattle.xray_program.specs.Outputs.{FailsWriting}
 use Rattle.command_words.specs.Words.{Command}
@@ -13,8 +13,9 @@ use Rattle.xray_program.specs.private.Stops.{stop_status}
 use Rattle.xray_program.specs.private.Works.{Ends, KeepsOthers, SaidFits, StandsBehind}
 use Rattle.xray_program.specs.declared.stop.Stop.{Stop}
 use Rattle.xray_program.specs.declared.stop.Stop.TheVariants as stops
-use Rattle.xray_io.specs.World.{World}
+use Rattle.xray_io.specs.World.{DeskView, World}
 use Rattle.xray_program.proofs.Headline.{CallLaws, beside, simulated}
+use Rattle.xray_program.proofs.Ordering.{went_as}
 use Rattle.xray_program.proofs.Saying.{says_nothing}
 
 -- a number is none of these others
@@ -54,6 +55,18 @@ not_bad outcome of writes e = none (rw e at writes)
     none : written_by BadLine ≡ Some of → ⊥
     none e = cc
 
+-- no input's turn comes if there are none, so that nothing is called
+no_turn : (earlier later : List (List ℕ × ℕ)) (input : List ℕ × ℕ) → [] ≡ earlier ++ input ∷ later → ⊥
+no_turn [] later input e = cc
+no_turn (first ∷ earlier) later input e = cc
+
+none_called : (said : Option Command) (desk desk_now : DeskView) → said ≡ None → (calls : List Call)
+    → InOrder said desk desk_now NoMemory calls → IsNoCall calls
+none_called None desk desk_now e calls (inl none) = none
+none_called None desk desk_now e calls (inr (inl (name, at))) = absurd (no_turn at.earlier at.later (name, at.limit) at.turn)
+none_called None desk desk_now e calls (inr (inr (accepted, none))) = none
+none_called (Some command) desk desk_now e calls order = absurd cc
+
 -- how the parts of the contract follow, one for each ending
 by_ending : CallLaws → (Way : List Call → Type 0) (said : Option Command) (before after : World) (ending : Ending)
     → (status_at ending ≡ 0 → SaidFits said) → StandsBehind said before.desk after.desk before.out after.out ending → KeepsOthers (outputs_named said) before.desk after.desk
@@ -65,7 +78,8 @@ by_ending laws Way said before after (With BadLine) fits (is, nothing) kept orde
   order = order;
   done = λ e. not_two 0 7 1 (λ x. cc) (λ x. cc) e;
   silent = λ e. absurd cc;
-  bad_line = λ five. (λ e. is, λ e. refl);
+  bad_line = (λ e. (is, λ x. cc), λ e. refl);
+  no_command = λ e. order;
   refused = λ e. record { outcome = BadLine; is = refl; meant = means_bad said before.desk.held is };
   unread = λ e. absurd cc;
   unwritten = λ e. absurd cc;
@@ -82,7 +96,8 @@ by_ending laws Way said before after (With (Refused n kind refusal)) fits (meant
   order = order;
   done = λ e. not_two 0 7 2 (λ x. cc) (λ x. cc) e;
   silent = λ e. absurd cc;
-  bad_line = λ five. (λ e. absurd cc, λ e. absurd (read_it said before.desk.held (Refused n kind refusal) meant (λ x. cc) e));
+  bad_line = (λ e. absurd cc, λ e. absurd (read_it said before.desk.held (Refused n kind refusal) meant (λ x. cc) e.0));
+  no_command = λ e. absurd (read_it said before.desk.held (Refused n kind refusal) meant (λ x. cc) e);
   refused = λ e. record { outcome = Refused n kind refusal; is = refl; meant = meant };
   unread = λ e. absurd cc;
   unwritten = λ e. absurd cc;
@@ -99,7 +114,8 @@ by_ending laws Way said before after (With (TooLong n)) fits (meant, nothing) ke
   order = order;
   done = λ e. not_two 0 7 6 (λ x. cc) (λ x. cc) e;
   silent = λ e. absurd cc;
-  bad_line = λ five. (λ e. absurd cc, λ e. absurd (read_it said before.desk.held (TooLong n) meant (λ x. cc) e));
+  bad_line = (λ e. absurd cc, λ e. absurd (read_it said before.desk.held (TooLong n) meant (λ x. cc) e.0));
+  no_command = λ e. absurd (read_it said before.desk.held (TooLong n) meant (λ x. cc) e);
   refused = λ e. record { outcome = TooLong n; is = refl; meant = meant };
   unread = λ e. absurd cc;
   unwritten = λ e. absurd cc;
@@ -116,7 +132,8 @@ by_ending laws Way said before after (With (Unread n)) fits ((turn, cause), noth
   order = order;
   done = λ e. not_two 0 7 3 (λ x. cc) (λ x. cc) e;
   silent = λ e. absurd cc;
-  bad_line = λ five. (λ e. absurd cc, λ e. absurd (had_turn said before.desk.held n turn e));
+  bad_line = (λ e. absurd cc, λ e. absurd (had_turn said before.desk.held n turn e.0));
+  no_command = λ e. absurd (had_turn said before.desk.held n turn e);
   refused = λ e. not_three 1 2 6 3 (λ x. cc) (λ x. cc) (λ x. cc) e;
   unread = λ e. record { name = n; is = refl; turn = turn; cause = cause };
   unwritten = λ e. absurd cc;
@@ -147,7 +164,8 @@ by_ending laws Way said before after (With (Done outputs text)) fits (meant, wri
     out = writes.printed;
   };
   silent = λ e. says_nothing before.err after.err told;
-  bad_line = λ five. (λ e. absurd cc, λ e. absurd (read_it said before.desk.held (Done outputs text) meant (λ x. cc) e));
+  bad_line = (λ e. absurd cc, λ e. absurd (read_it said before.desk.held (Done outputs text) meant (λ x. cc) e.0));
+  no_command = λ e. absurd (read_it said before.desk.held (Done outputs text) meant (λ x. cc) e);
   refused = λ e. not_three 1 2 6 0 (λ x. cc) (λ x. cc) (λ x. cc) e;
   unread = λ e. absurd cc;
   unwritten = λ e. absurd cc;
@@ -176,7 +194,8 @@ by_ending laws Way said before after (With (Fell outputs text trouble)) fits (me
     out = writes.printed;
   };
   silent = λ e. absurd cc;
-  bad_line = λ five. (λ e. absurd cc, λ e. absurd (read_it said before.desk.held (Fell outputs text trouble) meant (λ x. cc) e));
+  bad_line = (λ e. absurd cc, λ e. absurd (read_it said before.desk.held (Fell outputs text trouble) meant (λ x. cc) e.0));
+  no_command = λ e. absurd (read_it said before.desk.held (Fell outputs text trouble) meant (λ x. cc) e);
   refused = λ e. not_three 1 2 6 7 (λ x. cc) (λ x. cc) (λ x. cc) e;
   unread = λ e. absurd cc;
   unwritten = λ e. absurd cc;
@@ -193,7 +212,8 @@ by_ending laws Way said before after (Unwritten n outputs) fits fails kept order
   order = order;
   done = λ e. not_two 0 7 4 (λ x. cc) (λ x. cc) e;
   silent = λ e. absurd cc;
-  bad_line = λ five. (λ e. absurd cc, λ e. absurd (read_it said before.desk.held fails.outcome fails.comes (not_bad fails.outcome (fails.outputs, fails.text) fails.writes) e));
+  bad_line = (λ e. absurd cc, λ e. absurd (read_it said before.desk.held fails.outcome fails.comes (not_bad fails.outcome (fails.outputs, fails.text) fails.writes) e.0));
+  no_command = λ e. absurd (read_it said before.desk.held fails.outcome fails.comes (not_bad fails.outcome (fails.outputs, fails.text) fails.writes) e);
   refused = λ e. not_three 1 2 6 4 (λ x. cc) (λ x. cc) (λ x. cc) e;
   unread = λ e. absurd cc;
   unwritten = λ e. record {
@@ -224,7 +244,8 @@ by_ending laws Way said before after NoMemory fits nothing kept order told = rec
   order = order;
   done = λ e. not_two 0 7 5 (λ x. cc) (λ x. cc) e;
   silent = λ e. absurd cc;
-  bad_line = λ five. absurd (five refl);
+  bad_line = (λ e. absurd cc, λ e. absurd (e.1 refl));
+  no_command = λ e. went_as Way (InOrder said before.desk after.desk NoMemory) IsNoCall order (none_called said before.desk after.desk e);
   refused = λ e. not_three 1 2 6 5 (λ x. cc) (λ x. cc) (λ x. cc) e;
   unread = λ e. absurd cc;
   unwritten = λ e. absurd cc;

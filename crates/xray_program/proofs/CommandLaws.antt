@@ -1,8 +1,10 @@
 -- What words mean: only one thing if they are decided, a refusal and nothing else, and something in any case. Each
 -- command has a line.
-use Rattle.std.proofs.Common.{◌≡◌, ◌∙◌, ℕ, List, Option, Some, None, true, refl, sym}
+use Rattle.std.proofs.Common.{◌≡◌, ◌∙◌, ℕ, List, map, Option, Some, None, true, refl, sym}
+use Rattle.command_words.specs.Files.{inputs_in, names_of, row_of}
 use Rattle.xray_io.specs.Desk.{Entry}
-use Rattle.xray_program.specs.Commands.{Comes, IsDecided, IsStill, Means, TellsAll, is_decided, is_still}
+use Rattle.xray_program.specs.Commands.{Comes, IsDecided, Means, TellsAll, is_decided}
+use Rattle.xray_program.specs.Order.{inputs_of}
 use Rattle.xray_program.specs.Outcomes.{Outcome, BadLine, written_by}
 use Rattle.xray_program.specs.Setups.{setup_of}
 use Rattle.xray_program.specs.Taking.{Sound}
@@ -14,7 +16,8 @@ use Rattle.xray_program.proofs.ExtractLaws.{extract_alone, extract_some}
 use Rattle.xray_program.proofs.Images.{Accepts, OneVerdict, SomeVerdict, image_decided, image_judged}
 use Rattle.xray_program.proofs.Meanings.{AnyOutcome, HoldsBytes, IsAlone, IsRefusal, SomeOutcome, refusal_alone}
 use Rattle.xray_program.proofs.PlainLaws.{OneEnd, SomeEnd, plain_alone, plain_some}
-use Rattle.xray_program.proofs.RunLaws.{run_refuses}
+use Rattle.xray_program.proofs.RunExists.{ScriptLetsEnd, SomeLosses, SomeMarks, some_runs}
+use Rattle.xray_program.proofs.RunLaws.{run_refuses, run_some}
 use Rattle.xray_program.proofs.SimLaws.{OneRun, StillRun, sim_alone, sim_some}
 use Rattle.xray_program.proofs.StackLaws.{stack_alone, stack_some}
 
@@ -30,6 +33,9 @@ pub record Existence : Type 0 where
   pub accepts : Accepts
   pub end : SomeEnd
   pub run : StillRun
+  pub lets : ScriptLetsEnd
+  pub marks : SomeMarks
+  pub losses : SomeLosses
 
 -- ---- a line for each command
 
@@ -56,16 +62,16 @@ command_refuses laws held told (Account t i options) = refusal_alone _ (command_
 command_refuses laws held told (Stack t i format) = refusal_alone _ (command_alone laws held told (Stack t i format) refl)
 command_refuses laws held told (Convert t i) = refusal_alone _ (command_alone laws held told (Convert t i) refl)
 
--- each command that waits for nobody comes to something
-command_some : Existence → (held : List ℕ → Entry) → TellsAll held → HoldsBytes held → (command : Command) → is_still command ≡ true → SomeOutcome (Comes Sound held command)
-command_some laws held told holds (Sim i s c t a options) still = sim_some (image_judged laws.verdict laws.accepts) laws.run held i s c t a (setup_of options) told holds
-command_some laws held told holds (Run i s t a options) still = absurd cc
-command_some laws held told holds (Plain i bounds) still = plain_some (image_judged laws.verdict laws.accepts) laws.end held i bounds told holds
-command_some laws held told holds (Extract i) still = extract_some (image_judged laws.verdict laws.accepts) held i told holds
-command_some laws held told holds (Asm t i threshold) still = asm_some held t i threshold told holds
-command_some laws held told holds (Account t i options) still = account_some (image_judged laws.verdict laws.accepts) held t i options told holds
-command_some laws held told holds (Stack t i format) still = stack_some (image_judged laws.verdict laws.accepts) held t i format told holds
-command_some laws held told holds (Convert t i) still = convert_some (image_judged laws.verdict laws.accepts) held t i told holds
+-- each command comes to something
+command_some : Existence → (held : List ℕ → Entry) → TellsAll held → HoldsBytes held → (command : Command) → SomeOutcome (Comes Sound held command)
+command_some laws held told holds (Sim i s c t a options) = sim_some (image_judged laws.verdict laws.accepts) laws.run held i s c t a (setup_of options) told holds
+command_some laws held told holds (Run i s t a options) = run_some (image_judged laws.verdict laws.accepts) (some_runs laws.end laws.lets laws.marks laws.losses) held i s t a (setup_of options) told holds
+command_some laws held told holds (Plain i bounds) = plain_some (image_judged laws.verdict laws.accepts) laws.end held i bounds told holds
+command_some laws held told holds (Extract i) = extract_some (image_judged laws.verdict laws.accepts) held i told holds
+command_some laws held told holds (Asm t i threshold) = asm_some held t i threshold told holds
+command_some laws held told holds (Account t i options) = account_some (image_judged laws.verdict laws.accepts) held t i options told holds
+command_some laws held told holds (Stack t i format) = stack_some (image_judged laws.verdict laws.accepts) held t i format told holds
+command_some laws held told holds (Convert t i) = convert_some (image_judged laws.verdict laws.accepts) held t i told holds
 
 -- ---- words
 
@@ -79,7 +85,23 @@ pub refusal_means : Laws → (said : Option Command) (held : List ℕ → Entry)
 refusal_means laws None held refusal other told none x y = y ∙ sym x
 refusal_means laws (Some command) held refusal other told none x y = command_refuses laws held told command refusal other none x y
 
-pub some_means : Existence → (said : Option Command) (held : List ℕ → Entry) → TellsAll held → IsStill said → HoldsBytes held
+pub some_means : Existence → (said : Option Command) (held : List ℕ → Entry) → TellsAll held → HoldsBytes held
     → (outcome : Outcome) × Means said held outcome
-some_means laws None held told still holds = (BadLine, refl)
-some_means laws (Some command) held told still holds = command_some laws held told holds command still
+some_means laws None held told holds = (BadLine, refl)
+some_means laws (Some command) held told holds = command_some laws held told holds command
+
+-- ---- rows
+
+-- the inputs are those of the row
+pub inputs_of_row : (command : Command) → map (λ input. input.0) (inputs_of command) ≡ inputs_in (row_of command).files (names_of command)
+inputs_of_row (Sim i s c t a options) = refl
+inputs_of_row (Run i s t a options) = refl
+inputs_of_row (Plain i bounds) = refl
+inputs_of_row (Extract i) = refl
+inputs_of_row (Asm t i threshold) = refl
+inputs_of_row (Account t None options) = refl
+inputs_of_row (Account t (Some i) options) = refl
+inputs_of_row (Stack t None format) = refl
+inputs_of_row (Stack t (Some i) format) = refl
+inputs_of_row (Convert t None) = refl
+inputs_of_row (Convert t (Some i)) = refl

@@ -1,7 +1,7 @@
 -- How the work of a command ends, and how a call does.
 use Rattle.std.specs.Prelude.{IsErrAnd}
 use Rattle.std.specs.Option.{option_map_or}
-use Rattle.std.proofs.Common.{◌≡◌, ◌⊎◌, ◌+◌, ◌++◌, ◌∙◌, ℕ, List, [], ◌∷◌, Option, Some, None, Result, Ok, Err, inl, inr, refl, sym, ap, subst}
+use Rattle.std.proofs.Common.{◌≡◌, ◌⊎◌, ◌+◌, ◌++◌, ◌∙◌, ℕ, List, [], ◌∷◌, length, Option, Some, None, Result, Ok, Err, inl, inr, refl, sym, ap, subst}
 use Rattle.std.proofs.lemmas.List.{append-nil}
 use Rattle.fault_words.specs.Words.{words_text}
 use Rattle.xray_io.specs.Calls.{Call, Composes, Went, went_on}
@@ -15,7 +15,7 @@ use Rattle.xray_program.specs.Outcomes.{Outcome, BadLine, Unread, TooLong, Refus
 use Rattle.xray_program.specs.Outputs.{AreWhole, AreUntouched, FailsAt, FailsAtOut, FailsWriting, HoldsPrefix, WritesNothing}
 use Rattle.xray_program.specs.private.Stops.{answer_of, stop_line, stop_status, told_of}
 use Rattle.xray_program.specs.private.Takes.{IsStopAtInput, StopsTakings}
-use Rattle.xray_program.specs.Taking.{DeskReads, Sound, AllAccepted, ended_by}
+use Rattle.xray_program.specs.Taking.{AcceptsFirst, DeskReads, Sound, AllAccepted, ended_by}
 use Rattle.command_words.specs.Words.{Command, outputs_of}
 use Rattle.xray_program.specs.private.Works.{AreMakings, Delivers, Ends, Finishes, KeepsOthers, StopsOutputs, Writes}
 use Rattle.xray_io.specs.World.{DeskView, SinkView}
@@ -147,7 +147,7 @@ ends_at_input command desk desk_now out Way (Err s) stop is stands same went = r
       stands = (stands, (same, refl));
       names = kept;
       order = went_as Way _ (InOrder (Some command) desk desk_now (With (Unread n.now))) went (λ calls p.
-          let P : List ℕ → Type 0 = λ m. StopsAt (inputs_of command) m (λ limit. ReadsUpToFault m (limit + 1)) calls in subst P (sym p.1) p.3);
+          let P : List ℕ → Type 0 = λ m. StopsAt (λ reads. Comes reads desk.held command) (inputs_of command) m (λ limit. ReadsUpToFault m (limit + 1)) calls in subst P (sym p.1) p.2);
     }
     behind (stops.TooLong n) stands went = record {
       ending = With (TooLong n.now);
@@ -156,7 +156,7 @@ ends_at_input command desk desk_now out Way (Err s) stop is stands same went = r
       stands = (stands, (same, refl));
       names = kept;
       order = went_as Way _ (InOrder (Some command) desk desk_now (With (TooLong n.now))) went (λ calls p.
-          let P : List ℕ → Type 0 = λ m. StopsAt (inputs_of command) m (λ limit. Reads m (limit + 1) 0 (limit + 1)) calls in subst P (sym p.1) p.3);
+          let P : List ℕ → Type 0 = λ m. StopsAt (λ reads. Comes reads desk.held command) (inputs_of command) m (λ limit. Reads m (limit + 1) 0 (limit + 1)) calls in subst P (sym p.1) p.2);
     }
     behind (stops.Refused n kind words) stands went = record {
       ending = With (Refused n.now kind.now (words_text words));
@@ -165,7 +165,7 @@ ends_at_input command desk desk_now out Way (Err s) stop is stands same went = r
       stands = (stands, (same, refl));
       names = kept;
       order = went_as Way _ (InOrder (Some command) desk desk_now (With (Refused n.now kind.now (words_text words)))) went (λ calls p.
-          let P : List ℕ → Type 0 = λ m. StopsAt (inputs_of command) m (λ limit. ReadsWhole m limit) calls in inl (subst P (sym p.1) p.3));
+          let P : List ℕ → Type 0 = λ m. StopsAt (λ reads. Comes reads desk.held command) (inputs_of command) m (λ limit. ReadsWhole m limit) calls in inl (subst P (sym p.1) p.2));
     }
     behind (stops.Fell words) stands went = absurd stands
     behind (stops.Unwritten n) stands went = absurd stands
@@ -175,17 +175,21 @@ ends_at_input command desk desk_now out Way (Err s) stop is stands same went = r
       told = refl;
       stands = (same, refl);
       names = kept;
-      order = went_as Way _ (InOrder (Some command) desk desk_now NoMemory) went (λ calls p. inr (inl (p.0, p.2, p.3)));
+      order = went_as Way _ (InOrder (Some command) desk desk_now NoMemory) went (λ calls p. inr (inl (p.0, p.2)));
     }
 
 -- a call that ended with its work
 pub ends_with_work : {S : Type 0} (along : S → S → List Call → Type 0) → Composes along → (first second third : S) (command : Command) (yields : Outcome → Type 0) (desk mid desk_now : DeskView) (out out_now : SinkView)
     (result : Result (Unit {0}) Stop) → ((reads : DeskReads) (outcome : Outcome) → yields outcome → Comes reads desk.held command outcome)
     → mid.held ≡ desk.held → mid.write_faults ≡ desk.write_faults → Finishes yields mid desk_now out out_now (along second third) result
-    → KeepsOthers (outputs_of command) mid desk_now → Went (along first second) (ReadsAll (inputs_of command))
+    → KeepsOthers (outputs_of command) mid desk_now
+    → Went (along first second) (λ calls. AcceptsFirst (λ reads. Comes reads desk.held command) (length (inputs_of command)) × ReadsAll (inputs_of command) calls)
     → Ends (Some command) desk desk_now out out_now (along first third) (answer_of result) (told_of result)
-ends_with_work along both first second third command yields desk mid desk_now out out_now result comes same counted done others read = by_result result done
+ends_with_work along both first second third command yields desk mid desk_now out out_now result comes same counted done others taken = by_result result done
   where
+    read : Went (along first second) (ReadsAll (inputs_of command))
+    read = record { calls = taken.calls; way = taken.way; are = taken.are.1 }
+
     kept : KeepsOthers (outputs_of command) desk desk_now
     kept name not = others name not ∙ ap (λ (h : List ℕ → Entry). h name) same
 
@@ -256,7 +260,7 @@ ends_with_work along both first second third command yields desk mid desk_now ou
       stands = nothing left.0;
       names = kept;
       order = went_on along both first second third (ReadsAll (inputs_of command)) IsNoCall (InOrder (Some command) desk desk_now NoMemory) read left.1
-          (λ calls later p q. inr (inr (read_only (inputs_of command) calls later p q)));
+          (λ calls later p q. inr (inr (taken.are.0, read_only (inputs_of command) calls later p q)));
     }
 
 -- words that say no command

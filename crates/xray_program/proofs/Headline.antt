@@ -1,22 +1,30 @@
 -- The headline of `sim` and of `run`, from what they mean.
-use Rattle.std.specs.Prelude.{All}
+use Rattle.std.specs.Prelude.{All, slice_get}
+use Rattle.std.proofs.lemmas.List.{length-map}
 use Rattle.std.proofs.lemmas.List.Elements.{All-head, All-tail}
-use Rattle.std.proofs.Common.{◌≡◌, ◌≤◌, ℕ, List, [], ◌∷◌, length, Option, Some, None, option_map, Ok, inl, inr, refl, subst, codes}
+use Rattle.std.proofs.Common.{◌≡◌, ◌≤◌, ◌+◌, ℕ, List, [], ◌∷◌, Option, Some, None, option_map, Ok, inl, inr, refl, subst, ◌∙◌, codes}
 use Rattle.xray_io.specs.Desk.{Entry, Holds, made_to_hold}
 use Rattle.xray_io.specs.Sink.{Adds}
+use Rattle.sled_words.specs.ChangingCode.{KeepsSleds}
 use Rattle.machine_step.specs.declared.setup.Setup.{Setup}
+use Rattle.machine_step.specs.Follows.{Follows}
+use Rattle.machine_step.specs.Loads.{Load}
+use Rattle.machine_step.specs.PlainStep.{Passing}
+use Rattle.machine_step.specs.Whole.{AreWhole}
+use Rattle.patch_script.specs.CodeAt.{code_at}
+use Rattle.patch_script.specs.Micros.{hold_of}
 use Rattle.patch_script.specs.Plans.{waiting_line}
 use Rattle.patch_script.specs.declared.command.Command.{Command as PatchCommand}
 use Rattle.patch_script.specs.Refusals.{commands_of}
-use Rattle.step_sim.specs.Along.{TearsNoSled}
 use Rattle.step_sim.specs.FaultWords.{waits_words}
-use Rattle.step_sim.specs.Replay.{AllRunOut, Cast, Moment, scheduled}
-use Rattle.step_sim.specs.Replayed.{IsReplayOf, cast_with, spare_of}
+use Rattle.step_sim.specs.Replay.{of_thread}
+use Rattle.step_sim.specs.Replayed.{IsReplayOf, LoseOldest, spare_of}
 use Rattle.step_sim.specs.Schedules.{schedule_of}
 use Rattle.step_sim.specs.declared.turns.Turns.{Turns}
 use Rattle.trace_flush.specs.Audit.{audit_text}
 use Rattle.trace_flush.specs.Flush.{IsTraceOf, trace_bytes}
 use Rattle.trace_flush.specs.Lines.{accounts_of}
+use Rattle.traced_run.specs.Decoded.{DecodesWhole}
 use Rattle.traced_run.specs.Fits.{SetupFits}
 use Rattle.traced_run.specs.Losses.{AreLost}
 use Rattle.traced_run.specs.Runs.{IsRun, ThreadRun}
@@ -26,7 +34,7 @@ use Rattle.xray_program.specs.Commands.{Means}
 use Rattle.xray_program.specs.Inputs.{image_form, script_form, schedule_form}
 use Rattle.xray_program.specs.Outcomes.{Outcome, Done}
 use Rattle.xray_program.specs.Outputs.{AreWhole}
-use Rattle.xray_program.specs.Run.{FollowsPlan, RunComes, RunsBeside}
+use Rattle.xray_program.specs.Run.{FollowsPlan, LoadsFollowPlan, RunComes, RunsBeside}
 use Rattle.xray_program.specs.Sim.{FollowsSchedule, Replayed, Replays, SimComes}
 use Rattle.xray_program.specs.Setups.{setup_of}
 use Rattle.xray_program.specs.Taking.{Form, Leaves, RefuseIf, Sound, Take}
@@ -34,7 +42,7 @@ use Rattle.xray_program.specs.Traced.{IsTraced, Traces, written_of}
 use Rattle.command_words.specs.Words.{Command}
 use Rattle.xray_program.specs.private.Works.{SaidFits}
 use Rattle.xray_io.specs.World.{World}
-use Rattle.xray_program.proofs.RunLaws.{loses_few}
+use Rattle.xray_program.proofs.RunLoads.{leave_all}
 
 -- if all is done, an input that is held reads as a value, and the rest is done with it
 record Read {X : Type 0} (Reads : List ℕ → X → Type 0) (bytes : List ℕ) (Next : X → Type 0) : Type 0 where
@@ -44,7 +52,7 @@ record Read {X : Type 0} (Reads : List ℕ → X → Type 0) (bytes : List ℕ) 
 
 read_on : {X : Type 0} (form : Form X) (held : List ℕ → Entry) (name : List ℕ) (next : X → Outcome → Type 0)
     (outputs : List (List ℕ × List ℕ)) (text content : List ℕ) → held name ≡ Holds content
-    → Take form Sound held name next (Done outputs text) → Read form.Reads content (λ value. next value (Done outputs text))
+    → Take form 0 Sound held name next (Done outputs text) → Read form.Reads content (λ value. next value (Done outputs text))
 read_on form held name next outputs text content holds (inl (failed, is)) = absurd cc
 read_on form held name next outputs text content holds (inr (bytes, may, inl (long, is))) = absurd cc
 read_on form held name next outputs text content holds (inr (bytes, may, inr (within, inl (refusal, refuses, is)))) = absurd cc
@@ -65,10 +73,28 @@ left_alike Are outputs text (o, t, are, is) =
     let same_t : t ≡ text = cc in
     subst (λ x. Are outputs x) same_t (subst (λ x. Are x t) same_o are)
 
--- a text that is a schedule tears no sled
+-- a replay tears no sled
 abbrev pub TearsNone : Type 0
-TearsNone = (cast : Cast) (threads : ℕ) (text : List ℕ) (schedule : List Turns) (last : Moment) → schedule_of threads text ≡ Ok schedule
-    → AllRunOut cast (length cast.passings) 1 (scheduled cast schedule) last → TearsNoSled cast last
+TearsNone = (program : Program) (script : List PatchCommand) (text : List ℕ) (schedule : List Turns) (setup : Setup) (runs : List ThreadRun)
+    → schedule_of setup.threads text ≡ Ok schedule → (replay : IsReplayOf program script schedule setup runs)
+    → (i : ℕ) (run : ThreadRun) → slice_get runs i ≡ Some run
+    → DecodesWhole program (i + 1) (hold_of (i + 1) script) run (of_thread replay.last.moment.loads (i + 1))
+
+-- the segments that a replay loses are each thread's oldest
+abbrev pub LosesOldest : Type 0
+LosesOldest = (program : Program) (script : List PatchCommand) (text : List ℕ) (schedule : List Turns) (setup : Setup) (runs : List ThreadRun)
+    → schedule_of setup.threads text ≡ Ok schedule → (replay : IsReplayOf program script schedule setup runs)
+    → LoseOldest setup.size runs replay.last.stock
+
+-- the stores of any script keep sleds whole
+abbrev pub ScriptsKeep : Type 0
+ScriptsKeep = (program : Program) (script : List PatchCommand) (thread : ℕ) → KeepsSleds program thread (code_at program script)
+
+-- loads that follow code which keeps sleds whole tear none
+abbrev pub FollowsWhole : Type 0
+FollowsWhole = (program : Program) (code : ℕ → ℕ → ℕ) (start : ℕ) (bound : ℕ → ℕ) (thread : ℕ) (hold : Option ℕ) (sleds : List ℕ)
+    (loads : List Load) (place : ℕ) → KeepsSleds program thread code → Follows program code start bound thread hold sleds loads place
+    → AreWhole program thread hold sleds loads
 
 -- the trace of a run reads back
 abbrev pub TracesRuns : Type 0
@@ -84,6 +110,9 @@ LosesAsQueued = (program : Program) (script : List PatchCommand) (text : List �
 pub record CallLaws : Type 0 where
   pub tears : TearsNone
   pub loses : LosesAsQueued
+  pub oldest : LosesOldest
+  pub keeps : ScriptsKeep
+  pub follows : FollowsWhole
   pub traced : TracesRuns
 
 -- both outputs of a run hold their bytes
@@ -106,10 +135,10 @@ simulated_by : CallLaws → (before after : World) (i s c t a image script sched
 simulated_by laws before after i s c t a image script schedule setup fits outputs text image_held script_held schedule_held comes whole adds =
     let held = before.desk.held in
     let first = read_on image_form held i
-    (λ program. Take (script_form program setup.threads) Sound held s (λ plan. Take (schedule_form setup.threads) Sound held c (Replays s t a setup program plan)))
+    (λ program. Take (script_form program setup.threads) 1 Sound held s (λ plan. Take (schedule_form setup.threads) 2 Sound held c (Replays s t a setup program plan)))
     outputs text image image_held comes in
     let second = read_on (script_form first.value setup.threads) held s
-    (λ plan. Take (schedule_form setup.threads) Sound held c (Replays s t a setup first.value plan)) outputs text script script_held first.next in
+    (λ plan. Take (schedule_form setup.threads) 2 Sound held c (Replays s t a setup first.value plan)) outputs text script script_held first.next in
     let third = read_on (schedule_form setup.threads) held c (Replays s t a setup first.value second.value) outputs text schedule schedule_held second.next in
     let still = unrefused (waiting_line second.value.lines) s (codes "script")
     (Leaves (Traces (Replayed first.value second.value third.value setup) first.value setup t a)) outputs text third.next in
@@ -124,15 +153,17 @@ simulated_by laws before after i s c t a image script schedule setup fits output
       script_reads = second.reads;
       runs = traces.runs;
       run = traces.run;
+      loads = λ number. of_thread traces.lawful.last.moment.loads number;
       lawful = record {
         turns = third.value;
         schedule_reads = third.reads;
         nobody_waits = still.0;
         replayed = traces.lawful;
-        losses = losses;
-        whole = λ last out. laws.tears (cast_with first.value (commands_of second.value.lines) traces.runs) setup.threads schedule third.value last third.reads out;
+        loads_are = λ number. refl;
+        oldest = laws.oldest first.value (commands_of second.value.lines) schedule third.value setup traces.runs third.reads traces.lawful;
       };
-      few = losses.few;
+      whole = laws.tears first.value (commands_of second.value.lines) schedule third.value setup traces.runs third.reads traces.lawful;
+      losses = losses;
       file = trace_bytes setup traces.runs;
       traced = laws.traced image first.value setup traces.runs first.reads fits traces.run;
       trace_holds = hold.0;
@@ -149,20 +180,21 @@ simulated laws said before after fits outputs text meant whole adds i s c t a im
 
 -- ---- `run`
 
-beside_by : TracesRuns → (before after : World) (i s t a image script : List ℕ) (setup : Setup) → SetupFits setup
-    → 1 ≤ setup.threads → setup.threads ≤ setup.max
+beside_by : CallLaws → (before after : World) (i s t a image script : List ℕ) (setup : Setup) → SetupFits setup
     → (outputs : List (List ℕ × List ℕ)) (text : List ℕ) → before.desk.held i ≡ Holds image → before.desk.held s ≡ Holds script
     → RunComes Sound before.desk.held i s t a setup (Done outputs text)
     → AreWhole outputs before.desk.held after.desk.held → Adds before.out.written after.out.written text
-    → IsTraced (FollowsPlan setup) image script t a setup before after
-beside_by reads_back before after i s t a image script setup fits some enough outputs text image_held script_held comes whole adds =
+    → IsTraced (LoadsFollowPlan setup) image script t a setup before after
+beside_by laws before after i s t a image script setup fits outputs text image_held script_held comes whole adds =
     let held = before.desk.held in
     let first = read_on image_form held i
-    (λ program. Take (script_form program setup.threads) Sound held s (λ plan. RunsBeside t a setup program plan))
+    (λ program. Take (script_form program setup.threads) 1 Sound held s (λ plan. RunsBeside t a setup program plan))
     outputs text image image_held comes in
     let second = read_on (script_form first.value setup.threads) held s
     (λ plan. RunsBeside t a setup first.value plan) outputs text script script_held first.next in
     let traces = left_alike (Traces (FollowsPlan setup first.value second.value) first.value setup t a) outputs text second.next in
+    let commands = commands_of second.value.lines in
+    let made = leave_all first.value commands traces.runs traces.lawful.follow in
     let hold = files_hold t a setup traces.runs outputs held after.desk.held traces.outputs_are whole in
     let Added : List ℕ → Type 0 = λ more. Adds before.out.written after.out.written more in
     record {
@@ -172,10 +204,20 @@ beside_by reads_back before after i s t a image script setup fits some enough ou
       script_reads = second.reads;
       runs = traces.runs;
       run = traces.run;
-      lawful = traces.lawful;
-      few = loses_few setup some enough traces.runs traces.lawful.lost;
+      loads = made.loads;
+      lawful = record {
+        lawful = traces.lawful;
+        follow = λ i run found. (made.are i run found).follow;
+        released = λ i run found. (made.are i run found).released;
+      };
+      whole = λ i run found. record {
+        each = (made.are i run found).each ∙ length-map run.passed (λ (p : Passing). p.sled);
+        marks = (made.are i run found).leave;
+        whole = laws.follows first.value _ _ _ (i + 1) _ _ _ _ (laws.keeps first.value commands (i + 1)) (made.are i run found).follow;
+      };
+      losses = traces.lawful.losses;
       file = trace_bytes setup traces.runs;
-      traced = reads_back image first.value setup traces.runs first.reads fits traces.run;
+      traced = laws.traced image first.value setup traces.runs first.reads fits traces.run;
       trace_holds = hold.0;
       audit_holds = hold.1;
       out = subst Added traces.text_is adds;
@@ -185,6 +227,5 @@ pub beside : CallLaws → (said : Option Command) (before after : World) → Sai
     → Means said before.desk.held (Done outputs text) → AreWhole outputs before.desk.held after.desk.held
     → Adds before.out.written after.out.written text → IsRunBeside said before after
 beside laws said before after fits outputs text meant whole adds i s t a image script options says image_held script_held =
-    let has = subst SaidFits says fits in
-    beside_by laws.traced before after i s t a image script (setup_of options) has.0 has.1 has.2 outputs text image_held script_held (rw says at meant)
+    beside_by laws before after i s t a image script (setup_of options) (subst SaidFits says fits) outputs text image_held script_held (rw says at meant)
     whole adds

@@ -15,7 +15,9 @@ pub mod PlainLaws
 pub mod PlainThreads
 pub mod Reports
 pub mod Rows
+pub mod RunExists
 pub mod RunLaws
+pub mod RunLoads
 pub mod RunTurns
 pub mod RunWritten
 pub mod Saying

@@ -1,14 +1,15 @@
 -- The calls of a desk, in their order.
-use Rattle.std.proofs.Common.{◌≡◌, ◌++◌, ◌∙◌, ℕ, List, [], ◌∷◌, Result, Ok, Err, refl, sym, ap, subst, append_assoc}
+use Rattle.std.proofs.Common.{◌≡◌, ◌++◌, ◌∙◌, ℕ, List, [], ◌∷◌, length, Result, Ok, Err, refl, sym, ap, subst, append_assoc}
 use Rattle.std.proofs.lemmas.List.{append-nil}
 use Rattle.std.specs.Prelude.{IsErrAnd}
 use Rattle.xray_io.specs.Calls.{Call, Composes, HoldsOfNone, Went, went_on}
 use Rattle.xray_program.specs.Order.{ReadsAll, ReadsWhole}
 use Rattle.xray_io.specs.World.{DeskView}
 use Rattle.xray_program.specs.private.Takes.{AreTakings, IsNamed, IsTaken, IsTaking, StopsTaking, StopsTakings}
-use Rattle.xray_program.specs.Outcomes.{Outcome, Unread}
-use Rattle.xray_program.specs.Taking.{DeskReads, Faulty, Form}
+use Rattle.xray_program.specs.Outcomes.{Outcome}
+use Rattle.xray_program.specs.Taking.{AcceptsFirst, DeskReads, Form, Take}
 use Rattle.xray_program.specs.declared.stop.Stop.{Stop}
+use Rattle.xray_program.proofs.Turns.{Leads, accepts}
 use Rattle.xray_program.specs.declared.stop.Stop.TheVariants as stops
 
 -- something else is said of the same calls
@@ -35,15 +36,19 @@ pub read_on : {S : Type 0} (along : S → S → List Call → Type 0) → Compos
 read_on along both first second third inputs name limit went then =
     went_on along both first second third _ _ (ReadsAll (inputs ++ (name, limit) ∷ [])) went then (reads_more inputs name limit)
 
+-- all were, and each was accepted
+pub all_taken : {Accepted : Type 0} {Way Read : List Call → Type 0} → Accepted → Went Way Read → Went Way (λ calls. Accepted × Read calls)
+all_taken accepted went = record { calls = went.calls; way = went.way; are = (accepted, went.are) }
+
 -- one was a stop
 pub stop_on : {S : Type 0} (along : S → S → List Call → Type 0) → Composes along → (first second third : S)
     (inputs earlier later : List (List ℕ × ℕ)) (name : List ℕ) (limit : ℕ) (stop : Stop) (comes : DeskReads → Outcome → Type 0)
-    → inputs ≡ earlier ++ (name, limit) ∷ later → IsNamed name stop → comes Faulty (Unread name)
+    → inputs ≡ earlier ++ (name, limit) ∷ later → IsNamed name stop → AcceptsFirst comes (length earlier)
     → Went (along first second) (ReadsAll earlier) → Went (along second third) (StopsTaking name limit stop)
     → Went (along first third) (StopsTakings comes inputs stop)
-stop_on along both first second third inputs earlier later name limit stop comes turn named came went then =
+stop_on along both first second third inputs earlier later name limit stop comes turn named accepted went then =
     went_on along both first second third _ _ (StopsTakings comes inputs stop) went then (λ calls mine p q.
-    (name, named, came, record { earlier = earlier; limit = limit; later = later; turn = turn; before = calls; last = mine; order = refl; reads = p; stops = q }))
+    (name, named, record { earlier = earlier; limit = limit; later = later; turn = turn; accepted = accepted; before = calls; last = mine; order = refl; reads = p; stops = q }))
 
 -- the only input of a command
 named : {X : Type 0} (form : Form X) (name : List ℕ) (before after : DeskView) (stop : Stop) → IsTaken form name before after (Err stop) → IsNamed name stop
@@ -56,28 +61,28 @@ named form name before after (stops.Unwritten n) taken = tt
 named form name before after stops.NoMemory taken = tt
 
 pub one_taking : {X : Type 0} (form : Form X) (name : List ℕ) (before after : DeskView) (Way : List Call → Type 0) (result : Result X Stop)
-    (comes : DeskReads → Outcome → Type 0) → comes Faulty (Unread name) → IsTaken form name before after result
+    (comes : DeskReads → Outcome → Type 0) (next : DeskReads → X → Outcome → Type 0) → Leads comes (λ reads. Take form 0 reads before.held name (next reads))
+    → IsTaken form name before after result
     → Went Way (IsTaking name form.limit result) → Went Way (AreTakings comes ((name, form.limit) ∷ []) result)
-one_taking form name before after Way (Ok value) comes came taken went =
-    record { calls = went.calls; way = went.way; are = (went.calls, [], sym (append-nil went.calls), went.are, refl) }
-one_taking form name before after Way (Err stop) comes came taken went = record {
+one_taking form name before after Way (Ok value) comes next leads taken went =
+    record { calls = went.calls; way = went.way; are = (accepts form 0 comes before.held name next value leads taken, (went.calls, [], sym (append-nil went.calls), went.are, refl)) }
+one_taking form name before after Way (Err stop) comes next leads taken went = record {
   calls = went.calls;
   way = went.way;
   are = (
     name,
     named form name before after stop taken,
-    came,
-    record { earlier = []; limit = form.limit; later = []; turn = refl; before = []; last = went.calls; order = refl; reads = refl; stops = went.are },
+    record { earlier = []; limit = form.limit; later = []; turn = refl; accepted = tt; before = []; last = went.calls; order = refl; reads = refl; stops = went.are },
   );
 }
 
 -- the stop that a `?` passes on, of an input after these
 pub stop_handed : {S X Y : Type 0} (along : S → S → List Call → Type 0) → Composes along → (first second third : S) (form : Form X) (before after : DeskView)
     (inputs earlier later : List (List ℕ × ℕ)) (name : List ℕ) (result : Result Y Stop) (stop : Stop) (comes : DeskReads → Outcome → Type 0)
-    → comes Faulty (Unread name) → IsErrAnd result (λ s. s ≡ stop) → inputs ≡ earlier ++ (name, form.limit) ∷ later
+    → AcceptsFirst comes (length earlier) → IsErrAnd result (λ s. s ≡ stop) → inputs ≡ earlier ++ (name, form.limit) ∷ later
     → IsTaken form name before after (Err stop) → Went (along first second) (ReadsAll earlier)
     → Went (along second third) (StopsTaking name form.limit stop) → Went (along first third) (AreTakings comes inputs result)
-stop_handed along both first second third form before after inputs earlier later name (Ok value) stop comes came is turn taken went then = absurd is
-stop_handed along both first second third form before after inputs earlier later name (Err s) stop comes came is turn taken went then =
+stop_handed along both first second third form before after inputs earlier later name (Ok value) stop comes accepted is turn taken went then = absurd is
+stop_handed along both first second third form before after inputs earlier later name (Err s) stop comes accepted is turn taken went then =
     subst (λ (t : Stop). Went (along first third) (StopsTakings comes inputs t)) (sym is)
-    (stop_on along both first second third inputs earlier later name form.limit stop comes turn (named form name before after stop taken) came went then)
+    (stop_on along both first second third inputs earlier later name form.limit stop comes turn (named form name before after stop taken) accepted went then)

@@ -1,6 +1,6 @@
 -- The inputs of a report: their turns, the calls that these make, and what comes of them.
 use Rattle.std.specs.Prelude.{IsErrAnd}
-use Rattle.std.proofs.Common.{◌≡◌, ◌++◌, ◌∙◌, ◌≤◌, ℕ, List, [], ◌∷◌, Option, Some, None, Result, Ok, Err, inl, inr, refl, sym, ap, subst, le_refl}
+use Rattle.std.proofs.Common.{◌≡◌, ◌++◌, ◌∙◌, ◌≤◌, ℕ, zero, suc, List, [], ◌∷◌, length, Option, Some, None, Result, Ok, Err, inl, inr, refl, sym, ap, subst, le_refl}
 use Rattle.std.specs.Prelude.{codes}
 use Rattle.std.proofs.lemmas.List.{append-nil}
 use Rattle.fdr_file.specs.declared.trace.Trace.{Trace}
@@ -12,41 +12,41 @@ use Rattle.xray_io.specs.Desk.{Entry}
 use Rattle.xray_io.specs.World.{DeskView}
 use Rattle.xray_program.specs.Commands.{TellsAll}
 use Rattle.xray_program.specs.Inputs.{image_form, trace_form}
-use Rattle.xray_program.specs.Order.{ReadsAll}
-use Rattle.xray_program.specs.Outcomes.{Outcome, Unread}
+use Rattle.xray_program.specs.Order.{ReadsAll, StopsAt}
+use Rattle.xray_program.specs.Outcomes.{Outcome}
 use Rattle.xray_program.specs.Reports.{TakeReport, report_inputs}
 use Rattle.xray_program.specs.private.ReportTakes.{ImageTurn, IsReportTaken, StopsReport}
-use Rattle.xray_program.specs.private.Takes.{AreTaken, AreTakings, Gives, IsMaybeTaken, IsMaybeTaking, IsTaken}
-use Rattle.xray_program.specs.Taking.{DeskReads, Faulty, Form, Sound, Take, TakeMaybe}
+use Rattle.xray_program.specs.private.Takes.{AreTaken, AreTakings, Gives, IsMaybeTaken, IsMaybeTaking, IsTaken, StopsTaking}
+use Rattle.xray_program.specs.Taking.{AcceptedUpTo, AcceptsFirst, AllAccepted, DeskReads, Faulty, Follows, Form, Sound, Take, TakeMaybe}
 use Rattle.xray_program.specs.declared.report_inputs.ReportInputs.{ReportInputs}
 use Rattle.xray_program.specs.declared.stop.Stop.{Stop}
 use Rattle.xray_program.proofs.Meanings.{HoldsBytes, IsAlone, IsDecided, IsJudged, SomeOutcome, decided_by, judged_by, maybe_alone, some_maybe, some_take, take_alone}
 use Rattle.xray_program.proofs.Ordering.{read_on, stop_handed}
-use Rattle.xray_program.proofs.Turns.{Leads, leads, leads_on, maybe_leads_on, maybe_stops_at, stops_at, turn_came}
+use Rattle.xray_program.proofs.Turns.{Leads, accepts, leads, leads_on, maybe_leads_on, maybe_stops_at, stops_at}
 
 -- ---- the turns
 
 -- what comes of the trace, and what follows, comes of the report
 to_image : (held : List ℕ → Entry) (trace : List ℕ) (image : Option (List ℕ)) (next : Trace → Option Program → Outcome → Type 0) (t : Trace)
     → Gives trace_form (held trace) t
-    → Leads (λ reads. TakeReport reads held trace image next) (λ reads. TakeMaybe image_form reads held image (λ program. next t program))
+    → Leads (λ reads. TakeReport reads held trace image next) (λ reads. TakeMaybe image_form 1 reads held image (λ program. next t program))
 to_image held trace image next t given =
-    leads_on trace_form (λ reads. TakeReport reads held trace image next) held trace
-    (λ reads t. TakeMaybe image_form reads held image (λ program. next t program)) t (leads (λ reads. TakeReport reads held trace image next)) given
+    leads_on trace_form 0 (λ reads. TakeReport reads held trace image next) held trace
+    (λ reads t. TakeMaybe image_form 1 reads held image (λ program. next t program)) t (leads (λ reads. TakeReport reads held trace image next)) given
 
 -- whatever follows the inputs comes of them
 pub report_taken : (trace : List ℕ) (image : Option (List ℕ)) (next : Trace → Option Program → Outcome → Type 0) (before after : DeskView)
     (result : Result ReportInputs Stop) → IsReportTaken trace image before after result
     → AreTaken (λ reads. TakeReport reads before.held trace image next) (λ inputs. next inputs.trace inputs.image) before after result
 report_taken trace image next before after (Ok inputs) (given, turn) = λ reads outcome is.
-    maybe_leads_on image_form (λ reads. TakeReport reads before.held trace image next) before turn.mid after image (λ reads program. next inputs.trace program)
+    maybe_leads_on image_form 1 (λ reads. TakeReport reads before.held trace image next) before turn.mid after image (λ reads program. next inputs.trace program)
     inputs.image (to_image before.held trace image next inputs.trace given) turn.same turn.taken reads outcome is
 report_taken trace image next before after (Err stop) (inl taken) =
-    stops_at trace_form (λ reads. TakeReport reads before.held trace image next) before before after trace
-    (λ reads t. TakeMaybe image_form reads before.held image (λ program. next t program)) stop
+    stops_at trace_form 0 (λ reads. TakeReport reads before.held trace image next) before before after trace
+    (λ reads t. TakeMaybe image_form 1 reads before.held image (λ program. next t program)) stop
     (leads (λ reads. TakeReport reads before.held trace image next)) refl (le_refl _) taken
 report_taken trace image next before after (Err stop) (inr (t, given, turn)) =
-    maybe_stops_at image_form (λ reads. TakeReport reads before.held trace image next) before turn.mid after image (λ reads program. next t program) stop
+    maybe_stops_at image_form 1 (λ reads. TakeReport reads before.held trace image next) before turn.mid after image (λ reads program. next t program) stop
     (to_image before.held trace image next t given) turn.same turn.later turn.taken
 
 -- the stop that a `?` passes on
@@ -64,8 +64,24 @@ stop_of_image trace image before mid after t (Err s) stop is same later given ta
 
 -- ---- the calls
 
+-- the trace is accepted; and the image, if there is one
+pub trace_accepted : (held : List ℕ → Entry) (trace : List ℕ) (image : Option (List ℕ)) (t : Trace) → Gives trace_form (held trace) t
+    → AcceptsFirst (λ reads. StopsReport reads held trace image) 1
+trace_accepted held trace image t given =
+    accepts trace_form 0 (λ reads. StopsReport reads held trace image) held trace
+    (λ reads t. TakeMaybe image_form 1 reads held image (λ program outcome. ⊥)) t (leads (λ reads. StopsReport reads held trace image)) given
+
+all_accepted : (held : List ℕ → Entry) (trace : List ℕ) (image : Option (List ℕ)) (t : Trace) (before after : DeskView) (program : Option Program)
+    → before.held ≡ held → Gives trace_form (held trace) t → IsMaybeTaken image_form image before after (Ok program)
+    → AcceptsFirst (λ reads. StopsReport reads held trace image) (length (report_inputs trace image))
+all_accepted held trace None t before after program same given taken = trace_accepted held trace None t given
+all_accepted held trace (Some image) t before after None same given taken = absurd taken
+all_accepted held trace (Some image) t before after (Some program) same given taken =
+    accepts image_form 1 (λ reads. StopsReport reads held trace (Some image)) held image (λ reads program outcome. ⊥) program
+    (to_image held trace (Some image) (λ t program outcome. ⊥) t given) (subst (λ (h : List ℕ → Entry). Gives image_form (h image) program) same taken)
+
 -- the image was read whole, or there is none
-pub image_read : {S X : Type 0} (along : S → S → List Call → Type 0) → Composes along → (first second third : S) (trace : List ℕ) (image : Option (List ℕ))
+image_read : {S X : Type 0} (along : S → S → List Call → Type 0) → Composes along → (first second third : S) (trace : List ℕ) (image : Option (List ℕ))
     (value : X) → Went (along first second) (ReadsAll ((trace, 67108864) ∷ []))
     → (let result : Result X Stop = Ok value in Went (along second third) (IsMaybeTaking image 4194304 result))
     → Went (along first third) (ReadsAll (report_inputs trace image))
@@ -75,17 +91,16 @@ image_read along both first second third trace None value went then =
 image_read along both first second third trace (Some image) value went then =
     read_on along both first second third ((trace, 67108864) ∷ []) image 4194304 went then
 
--- the turn of the trace had come; and that of the image
-pub trace_came : (held : List ℕ → Entry) (trace : List ℕ) (image : Option (List ℕ)) → StopsReport Faulty held trace image (Unread trace)
-trace_came held trace image =
-    turn_came trace_form (λ reads. StopsReport reads held trace image) held trace
-    (λ reads t. TakeMaybe image_form reads held image (λ program outcome. ⊥)) (leads (λ reads. StopsReport reads held trace image))
-
-image_came : (held : List ℕ → Entry) (trace image : List ℕ) (t : Trace) → Gives trace_form (held trace) t
-    → StopsReport Faulty held trace (Some image) (Unread image)
-image_came held trace image t given =
-    turn_came image_form (λ reads. StopsReport reads held trace (Some image)) held image (λ reads program outcome. ⊥)
-    (to_image held trace (Some image) (λ t program outcome. ⊥) t given)
+-- both gave values
+pub both_read : {S : Type 0} (along : S → S → List Call → Type 0) → Composes along → (first second third : S) (before after : DeskView)
+    (held : List ℕ → Entry) (trace : List ℕ) (image : Option (List ℕ)) (t : Trace) (program : Option Program) → before.held ≡ held
+    → Gives trace_form (held trace) t → IsMaybeTaken image_form image before after (Ok program) → Went (along first second) (ReadsAll ((trace, 67108864) ∷ []))
+    → (let result : Result (Option Program) Stop = Ok program in Went (along second third) (IsMaybeTaking image 4194304 result))
+    → (inputs : ReportInputs) → (let result : Result ReportInputs Stop = Ok inputs in
+    Went (along first third) (AreTakings (λ reads. StopsReport reads held trace image) (report_inputs trace image) result))
+both_read along both first second third before after held trace image t program same given taken went then inputs =
+    let read = image_read along both first second third trace image program went then in
+    record { calls = read.calls; way = read.way; are = (all_accepted held trace image t before after program same given taken, read.are) }
 
 -- the image was a stop
 pub image_stopped : {S Y : Type 0} (along : S → S → List Call → Type 0) → Composes along → (first second third : S) (before after : DeskView)
@@ -100,39 +115,72 @@ image_stopped along both first second third before after held trace None t given
     never e = cc
 image_stopped along both first second third before after held trace (Some image) t given result stop is taken went then =
     stop_handed along both first second third image_form before after (report_inputs trace (Some image)) ((trace, 67108864) ∷ []) [] image result stop
-    (λ reads. StopsReport reads held trace (Some image)) (image_came held trace image t given) is refl taken went then
+    (λ reads. StopsReport reads held trace (Some image)) (trace_accepted held trace (Some image) t given) is refl taken went then
 
--- what comes if a turn fails comes whatever follows the inputs
-take_more : {X : Type 0} (form : Form X) (reads : DeskReads) (held : List ℕ → Entry) (name : List ℕ) (less more : X → Outcome → Type 0)
+-- what comes if a turn fails, or if nothing is asked of what follows, comes whatever follows the inputs
+follows_more : (reads : DeskReads) (place : ℕ) (Less More : Type 0) → (Less → More) → Follows reads place Less → Follows reads place More
+follows_more Sound place Less More goes is = goes is
+follows_more Faulty place Less More goes is = goes is
+follows_more AllAccepted place Less More goes is = goes is
+follows_more (AcceptedUpTo last) place Less More goes (inl same) = inl same
+follows_more (AcceptedUpTo last) place Less More goes (inr is) = inr (goes is)
+
+take_more : {X : Type 0} (form : Form X) (place : ℕ) (reads : DeskReads) (held : List ℕ → Entry) (name : List ℕ) (less more : X → Outcome → Type 0)
     → ((value : X) (outcome : Outcome) → less value outcome → more value outcome) → (outcome : Outcome)
-    → Take form reads held name less outcome → Take form reads held name more outcome
-take_more form reads held name less more goes outcome (inl gone) = inl gone
-take_more form reads held name less more goes outcome (inr (bytes, may, inl long)) = inr (bytes, may, inl long)
-take_more form reads held name less more goes outcome (inr (bytes, may, inr (within, inl refused))) = inr (bytes, may, inr (within, inl refused))
-take_more form reads held name less more goes outcome (inr (bytes, may, inr (within, inr (value, read, is)))) =
-    inr (bytes, may, inr (within, inr (value, read, goes value outcome is)))
+    → Take form place reads held name less outcome → Take form place reads held name more outcome
+take_more form place reads held name less more goes outcome (inl gone) = inl gone
+take_more form place reads held name less more goes outcome (inr (bytes, may, inl long)) = inr (bytes, may, inl long)
+take_more form place reads held name less more goes outcome (inr (bytes, may, inr (within, inl refused))) = inr (bytes, may, inr (within, inl refused))
+take_more form place reads held name less more goes outcome (inr (bytes, may, inr (within, inr (value, read, is)))) =
+    inr (bytes, may, inr (within, inr (value, read, follows_more reads place (less value outcome) (more value outcome) (goes value outcome) is)))
 
 maybe_more : (reads : DeskReads) (held : List ℕ → Entry) (image : Option (List ℕ)) (more : Option Program → Outcome → Type 0) (outcome : Outcome)
-    → TakeMaybe image_form reads held image (λ program outcome. ⊥) outcome → TakeMaybe image_form reads held image more outcome
+    → TakeMaybe image_form 1 reads held image (λ program outcome. ⊥) outcome → TakeMaybe image_form 1 reads held image more outcome
 maybe_more reads held None more outcome is = absurd is
 maybe_more reads held (Some image) more outcome is =
-    take_more image_form reads held image (λ program outcome. ⊥) (λ program. more (Some program)) (λ program other never. absurd never) outcome is
+    take_more image_form 1 reads held image (λ program outcome. ⊥) (λ program. more (Some program)) (λ program other never. absurd never) outcome is
 
 stops_too : (reads : DeskReads) (held : List ℕ → Entry) (trace : List ℕ) (image : Option (List ℕ)) (next : Trace → Option Program → Outcome → Type 0)
     (outcome : Outcome) → StopsReport reads held trace image outcome → TakeReport reads held trace image next outcome
 stops_too reads held trace image next outcome is =
-    take_more trace_form reads held trace (λ t. TakeMaybe image_form reads held image (λ program other. ⊥))
-    (λ t. TakeMaybe image_form reads held image (λ program. next t program)) (λ t other. maybe_more reads held image (next t) other) outcome is
+    take_more trace_form 0 reads held trace (λ t. TakeMaybe image_form 1 reads held image (λ program other. ⊥))
+    (λ t. TakeMaybe image_form 1 reads held image (λ program. next t program)) (λ t other. maybe_more reads held image (next t) other) outcome is
+
+accepts_too : (held : List ℕ → Entry) (trace : List ℕ) (image : Option (List ℕ)) (next : Trace → Option Program → Outcome → Type 0) (count : ℕ)
+    → AcceptsFirst (λ reads. StopsReport reads held trace image) count → AcceptsFirst (λ reads. TakeReport reads held trace image next) count
+accepts_too held trace image next zero is = tt
+accepts_too held trace image next (suc last) is = λ outcome. stops_too (AcceptedUpTo last) held trace image next outcome (is outcome)
+
+stop_too : (held : List ℕ → Entry) (trace : List ℕ) (image : Option (List ℕ)) (next : Trace → Option Program → Outcome → Type 0) (name : List ℕ)
+    (Last : (limit : ℕ) → List Call → Type 0) (calls : List Call)
+    → StopsAt (λ reads. StopsReport reads held trace image) (report_inputs trace image) name Last calls
+    → StopsAt (λ reads. TakeReport reads held trace image next) (report_inputs trace image) name Last calls
+stop_too held trace image next name Last calls at = record {
+  earlier = at.earlier;
+  limit = at.limit;
+  later = at.later;
+  turn = at.turn;
+  accepted = accepts_too held trace image next (length at.earlier) at.accepted;
+  before = at.before;
+  last = at.last;
+  order = at.order;
+  reads = at.reads;
+  stops = at.stops;
+}
 
 pub report_takings : (held : List ℕ → Entry) (trace : List ℕ) (image : Option (List ℕ)) (next : Trace → Option Program → Outcome → Type 0)
     (Way : List Call → Type 0) (result : Result ReportInputs Stop)
     → Went Way (AreTakings (λ reads. StopsReport reads held trace image) (report_inputs trace image) result)
     → Went Way (AreTakings (λ reads. TakeReport reads held trace image next) (report_inputs trace image) result)
-report_takings held trace image next Way (Ok inputs) went = went
+report_takings held trace image next Way (Ok inputs) went = record {
+  calls = went.calls;
+  way = went.way;
+  are = (accepts_too held trace image next (length (report_inputs trace image)) went.are.0, went.are.1);
+}
 report_takings held trace image next Way (Err stop) went = record {
   calls = went.calls;
   way = went.way;
-  are = (went.are.0, went.are.1, stops_too Faulty held trace image next (Unread went.are.0) went.are.2, went.are.3);
+  are = (went.are.0, went.are.1, stop_too held trace image next went.are.0 (λ limit. StopsTaking went.are.0 limit stop) went.calls went.are.2);
 }
 
 -- ---- what comes of a report
@@ -142,7 +190,7 @@ pub report_alone : IsDecided image_form → (Sort : Outcome → Type 0) (held : 
     → IsAlone Sort (TakeReport Sound held trace image next)
 report_alone is Sort held trace image next told one =
     take_alone trace_form (decided_by (codes "trace") 67108864 trace_of trace_words) Sort held trace
-    (λ t. TakeMaybe image_form Sound held image (λ program. next t program)) (told trace) (λ _ t _.
+    (λ t. TakeMaybe image_form 1 Sound held image (λ program. next t program)) (told trace) (λ _ t _.
     maybe_alone image_form is Sort held image (λ program. next t program) told (one t None) (λ _ program _. one t (Some program)))
 
 pub report_some : IsJudged image_form → (held : List ℕ → Entry) (trace : List ℕ) (image : Option (List ℕ))
@@ -150,5 +198,5 @@ pub report_some : IsJudged image_form → (held : List ℕ → Entry) (trace : L
     → ((t : Trace) (program : Option Program) → SomeOutcome (next t program)) → SomeOutcome (TakeReport Sound held trace image next)
 report_some is held trace image next told holds some =
     some_take trace_form (judged_by (codes "trace") 67108864 trace_of trace_words) held trace
-    (λ t. TakeMaybe image_form Sound held image (λ program. next t program)) (told trace) holds (λ _ t _.
+    (λ t. TakeMaybe image_form 1 Sound held image (λ program. next t program)) (told trace) holds (λ _ t _.
     some_maybe image_form is held image (λ program. next t program) told holds (some t None) (λ _ program _. some t (Some program)))

@@ -17,13 +17,13 @@ Comes held i s t a setup reads = RunComes reads held i s t a setup
 
 abbrev pub AfterImage : (List ℕ → Entry) → (s t a : List ℕ) → Setup → DeskReads → Program → Outcome → Type 0
 AfterImage held s t a setup reads program =
-    Take (script_form program setup.threads) reads held s (λ plan. RunsBeside t a setup program plan)
+    Take (script_form program setup.threads) 1 reads held s (λ plan. RunsBeside t a setup program plan)
 
 abbrev pub AfterScript : (t a : List ℕ) → Setup → Program → DeskReads → Plan → Outcome → Type 0
 AfterScript t a setup program reads plan = RunsBeside t a setup program plan
 
 -- how far the image leads
 pub to_script : (held : List ℕ → Entry) (i s t a : List ℕ) (setup : Setup) (program : Program) → Gives image_form (held i) program
-    → Leads (Comes held i s t a setup) (λ reads. Take (script_form program setup.threads) reads held s (AfterScript t a setup program reads))
+    → Leads (Comes held i s t a setup) (λ reads. Take (script_form program setup.threads) 1 reads held s (AfterScript t a setup program reads))
 to_script held i s t a setup program image =
-    leads_on image_form (Comes held i s t a setup) held i (AfterImage held s t a setup) program (leads (Comes held i s t a setup)) image
+    leads_on image_form 0 (Comes held i s t a setup) held i (AfterImage held s t a setup) program (leads (Comes held i s t a setup)) image

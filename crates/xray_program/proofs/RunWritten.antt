@@ -1,9 +1,12 @@
 -- What is written of what a run leaves.
-use Rattle.std.proofs.Common.{◌≡◌, ◌<◌, ◌+◌, ◌++◌, ◌∙◌, ℕ, zero, suc, List, [], ◌∷◌, length, Some, refl, sym, ap, arith, subst}
-use Rattle.std.specs.List.{All, flat_map, slice_get}
+use Rattle.std.proofs.Common.{◌≡◌, ◌<◌, ◌+◌, ◌++◌, ◌∙◌, ℕ, zero, suc, List, [], ◌∷◌, drop, length, map, Some, refl, sym, ap, arith, subst}
+use Rattle.std.specs.Prelude.{IsTrue}
+use Rattle.std.specs.List.{All, AllByRecursion, enumerate_from, flat_map, slice_get}
 use Rattle.std.proofs.lemmas.List.{length-map}
-use Rattle.std.proofs.lemmas.List.Elements.{All-cons, All-nil}
+use Rattle.std.proofs.lemmas.List.Concat.{flat_map-cons}
+use Rattle.std.proofs.lemmas.List.Elements.{All-cons, All-from_recursion, All-nil}
 use Rattle.std.proofs.lemmas.Option.{slice_get_within}
+use Rattle.fdr_record.specs.declared.event.Event.{Event}
 use Rattle.fdr_buffer.specs.Filled.{Filled}
 use Rattle.machine_step.specs.declared.setup.Setup.{Setup}
 use Rattle.machine_step.specs.Texts.{state_text}
@@ -13,7 +16,7 @@ use Rattle.trace_flush.specs.Audit.{Account, accounts, audit_text}
 use Rattle.trace_flush.specs.Flush.{header_of, trace_bytes}
 use Rattle.trace_flush.specs.Lines.{accounts_of, lines_of}
 use Rattle.trace_flush.specs.declared.line.AuditLine.{AuditLine}
-use Rattle.traced_run.specs.Kept.{kept_buffers, segment_count}
+use Rattle.traced_run.specs.Kept.{buffer_of, kept_buffers, segment_count, segments_of, stamp_of, thread_buffers}
 use Rattle.traced_run.specs.Left.{HasRun, Leaves}
 use Rattle.traced_run.specs.Runs.{ThreadRun}
 use Rattle.xray_program.specs.private.Ends.{thread_text}
@@ -122,6 +125,29 @@ run_written law trace audit setup runs cpus segments first buffers leaves ts lin
     let R : List Account → Type 0 = λ l. P ((trace, trace_bytes setup runs) ∷ (audit, audit_text setup l) ∷ []) (flat_map thread_text ts) in
     let S : List ℕ → Type 0 = λ l. P (written_of trace audit setup runs) l in
     subst S printed (subst R accounted (subst Q same_buffers holds))
+
+-- each buffer of a run was begun
+thread_begun : (setup : Setup) (thread : ℕ) (pairs : List (ℕ × List Event)) → AllByRecursion (λ b. IsTrue b.begun) (map (buffer_of (stamp_of setup) thread) pairs)
+thread_begun setup thread [] = tt
+thread_begun setup thread (pair ∷ pairs) = (tt, thread_begun setup thread pairs)
+
+both_begun : (xs ys : List Filled) → AllByRecursion (λ b. IsTrue b.begun) xs → AllByRecursion (λ b. IsTrue b.begun) ys
+    → AllByRecursion (λ b. IsTrue b.begun) (xs ++ ys)
+both_begun [] ys first second = second
+both_begun (x ∷ xs) ys (here, first) second = (here, both_begun xs ys first second)
+
+runs_begun : (setup : Setup) (pairs : List (ℕ × ThreadRun)) → AllByRecursion (λ b. IsTrue b.begun) (flat_map (thread_buffers setup) pairs)
+runs_begun setup [] = tt
+runs_begun setup ((thread, run) ∷ pairs) =
+    subst (AllByRecursion (λ b. IsTrue b.begun)) (sym (flat_map-cons (thread_buffers setup) (thread, run) pairs))
+    (both_begun (thread_buffers setup (thread, run)) (flat_map (thread_buffers setup) pairs)
+    (thread_begun setup thread (drop run.lost (enumerate_from 0 (segments_of setup.size run)))) (runs_begun setup pairs))
+
+pub all_begun : (setup : Setup) (runs : List ThreadRun) (buffers : List Filled) → buffers ≡ kept_buffers setup runs
+    → All (λ b. IsTrue b.begun) buffers
+all_begun setup runs buffers is =
+    subst (All (λ b. IsTrue b.begun)) (sym is)
+    (All-from_recursion (λ (b : Filled). IsTrue b.begun) (kept_buffers setup runs) (runs_begun setup (enumerate_from 1 runs)))
 
 -- what a run leaves, in other hands
 pub leaves_same : (setup : Setup) (runs : List ThreadRun) (ts us : List Traced) (segments ns first ms : List ℕ) (buffers kept : List Filled)

@@ -28,26 +28,26 @@ Comes held i s c t a setup reads = SimComes reads held i s c t a setup
 
 abbrev pub AfterImage : (List ℕ → Entry) → (s c t a : List ℕ) → Setup → DeskReads → Program → Outcome → Type 0
 AfterImage held s c t a setup reads program =
-    Take (script_form program setup.threads) reads held s (λ plan.
-    Take (schedule_form setup.threads) reads held c (λ turns. Replays s t a setup program plan turns))
+    Take (script_form program setup.threads) 1 reads held s (λ plan.
+    Take (schedule_form setup.threads) 2 reads held c (λ turns. Replays s t a setup program plan turns))
 
 abbrev pub AfterScript : (List ℕ → Entry) → (s c t a : List ℕ) → Setup → Program → DeskReads → Plan → Outcome → Type 0
-AfterScript held s c t a setup program reads plan = Take (schedule_form setup.threads) reads held c (λ turns. Replays s t a setup program plan turns)
+AfterScript held s c t a setup program reads plan = Take (schedule_form setup.threads) 2 reads held c (λ turns. Replays s t a setup program plan turns)
 
 abbrev pub AfterSchedule : (s t a : List ℕ) → Setup → Program → Plan → DeskReads → List Turns → Outcome → Type 0
 AfterSchedule s t a setup program plan reads turns = Replays s t a setup program plan turns
 
 -- how far the inputs lead
 pub to_script : (held : List ℕ → Entry) (i s c t a : List ℕ) (setup : Setup) (program : Program) → Gives image_form (held i) program
-    → Leads (Comes held i s c t a setup) (λ reads. Take (script_form program setup.threads) reads held s (AfterScript held s c t a setup program reads))
+    → Leads (Comes held i s c t a setup) (λ reads. Take (script_form program setup.threads) 1 reads held s (AfterScript held s c t a setup program reads))
 to_script held i s c t a setup program image =
-    leads_on image_form (Comes held i s c t a setup) held i (AfterImage held s c t a setup) program (leads (Comes held i s c t a setup)) image
+    leads_on image_form 0 (Comes held i s c t a setup) held i (AfterImage held s c t a setup) program (leads (Comes held i s c t a setup)) image
 
 pub to_schedule : (held : List ℕ → Entry) (i s c t a : List ℕ) (setup : Setup) (program : Program) (plan : Plan) → Gives image_form (held i) program
     → Gives (script_form program setup.threads) (held s) plan
-    → Leads (Comes held i s c t a setup) (λ reads. Take (schedule_form setup.threads) reads held c (AfterSchedule s t a setup program plan reads))
+    → Leads (Comes held i s c t a setup) (λ reads. Take (schedule_form setup.threads) 2 reads held c (AfterSchedule s t a setup program plan reads))
 to_schedule held i s c t a setup program plan image script =
-    leads_on (script_form program setup.threads) (Comes held i s c t a setup) held s (AfterScript held s c t a setup program) plan
+    leads_on (script_form program setup.threads) 1 (Comes held i s c t a setup) held s (AfterScript held s c t a setup program) plan
     (to_script held i s c t a setup program image) script
 
 -- a value that a desk gave that holds what another held

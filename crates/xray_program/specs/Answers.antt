@@ -6,10 +6,10 @@ use Rattle.xray_io.specs.Faults.{Rose}
 use Rattle.xray_io.specs.Sink.{Adds, AddsPrefix}
 use Rattle.command_words.specs.declared.run_options.RunOptions.{RunOptions}
 use Rattle.xray_program.specs.Commands.{Means, HadItsTurn, outputs_named}
-use Rattle.xray_program.specs.Order.{InOrder}
+use Rattle.xray_program.specs.Order.{InOrder, IsNoCall}
 use Rattle.xray_program.specs.Outcomes.{Outcome, Unread, Ending, With, Unwritten, NoMemory, status_of, status_at, line_at, written_by}
 use Rattle.xray_program.specs.Outputs.{AreWhole, FailsWriting, WritesNothing}
-use Rattle.xray_program.specs.Run.{FollowsPlan}
+use Rattle.xray_program.specs.Run.{LoadsFollowPlan}
 use Rattle.xray_program.specs.Setups.{setup_of}
 use Rattle.xray_program.specs.Sim.{FollowsSchedule}
 use Rattle.xray_program.specs.Traced.{IsTraced}
@@ -82,7 +82,7 @@ abbrev pub IsRunBeside : Option Command → (before after : World) → Type 0
 IsRunBeside said before after =
     (i s t a image script : List ℕ) (options : RunOptions) → said ≡ Some (Run i s t a options)
     → before.desk.held i ≡ Holds image → before.desk.held s ≡ Holds script
-    → IsTraced (FollowsPlan (setup_of options)) image script t a (setup_of options) before after
+    → IsTraced (LoadsFollowPlan (setup_of options)) image script t a (setup_of options) before after
 
 -- The whole contract of a call. Its status and its line on err are those of one ending.
 pub record Answered (said : Option Command) (before after : World) (Way : List Call → Type 0) (answer : ℕ) : Type 0 where
@@ -92,8 +92,10 @@ pub record Answered (said : Option Command) (before after : World) (Way : List C
   -- 0 and 7: all outputs are whole, and out has exactly the text. On 0 err has nothing.
   pub done : (answer ≡ 0) ⊎ (answer ≡ 7) → LeavesAll said before after ending
   pub silent : answer ≡ 0 → after.err.written ≡ before.err.written
-  -- Unless memory runs out, 1 comes exactly when the words say no command. 1, 2 and 6 are what is meant.
-  pub bad_line : answer ≢ 5 → (answer ≡ 1) ↔ (said ≡ None)
+  -- 1 comes exactly when the words say no command, and memory sufficed to read them. If they say none, the desk isn't
+  -- called. 1, 2 and 6 are what is meant.
+  pub bad_line : (answer ≡ 1) ↔ ((said ≡ None) × (answer ≢ 5))
+  pub no_command : said ≡ None → Went Way IsNoCall
   pub refused : (answer ≡ 1) ⊎ (answer ≡ 2) ⊎ (answer ≡ 6) → Reports said before ending
   -- 3 names an input whose turn had come, 4 the output that failed; 5 is want of memory
   pub unread : answer ≡ 3 → CouldNotRead said before after ending

@@ -7,9 +7,9 @@ use Rattle.xray_io.specs.Reads.{Reads, ReadsSome, ReadsUpTo, ReadsUpToFault}
 use Rattle.xray_io.specs.World.{DeskView}
 use Rattle.xray_io.specs.declared.faults.WriteFault.{WriteFault}
 use Rattle.xray_program.specs.Reports.{report_inputs}
-use Rattle.xray_program.specs.Commands.{ComesOf, HadItsTurn}
-use Rattle.xray_program.specs.Taking.{AllAccepted}
-use Rattle.xray_program.specs.Outcomes.{BadLine, Unread, TooLong, Refused, Done, Fell, Ending, With, Unwritten, NoMemory}
+use Rattle.xray_program.specs.Commands.{ComesOf}
+use Rattle.xray_program.specs.Taking.{AcceptsFirst, AllAccepted, DeskReads}
+use Rattle.xray_program.specs.Outcomes.{Outcome, BadLine, Unread, TooLong, Refused, Done, Fell, Ending, With, Unwritten, NoMemory}
 use Rattle.command_words.specs.Words.{Command, Sim, Run, Plain, Extract, Asm, Account, Stack, Convert}
 
 -- ---- a line for each command
@@ -39,12 +39,14 @@ ReadsAll [] calls = calls ≡ []
 ReadsAll (input ∷ inputs) calls =
     (mine : List Call) × (later : List Call) × (calls ≡ mine ++ later) × ReadsWhole input.0 input.1 mine × ReadsAll inputs later
 
--- the inputs before this one were read whole; this is said of its calls, and no other input was asked for
-pub record StopsAt (inputs : List (List ℕ × ℕ)) (name : List ℕ) (Last : (limit : ℕ) → List Call → Type 0) (calls : List Call) : Type 0 where
+-- Inputs of which this comes. Those before one of them were read whole, and each was accepted. This is said of the calls
+-- of that one, and no other input was asked for.
+pub record StopsAt (comes : DeskReads → Outcome → Type 0) (inputs : List (List ℕ × ℕ)) (name : List ℕ) (Last : (limit : ℕ) → List Call → Type 0) (calls : List Call) : Type 0 where
   pub earlier : List (List ℕ × ℕ)
   pub limit : ℕ
   pub later : List (List ℕ × ℕ)
   pub turn : inputs ≡ earlier ++ (name, limit) ∷ later
+  pub accepted : AcceptsFirst comes (length earlier)
   pub before : List Call
   pub last : List Call
   pub order : calls ≡ before ++ last
@@ -91,24 +93,32 @@ pub record ReadsThen (inputs : List (List ℕ × ℕ)) (Then : List Call → Typ
   pub reads : ReadsAll inputs before
   pub goes_on : Then last
 
+-- what comes of the inputs that were said, over what a desk holds
+abbrev pub comes_over : Option Command → DeskView → DeskReads → Outcome → Type 0
+comes_over said desk reads = ComesOf reads said desk.held
+
+-- the inputs that were said
+abbrev pub inputs_said : Option Command → List (List ℕ × ℕ)
+inputs_said said = option_map_or inputs_of said []
+
 -- The calls of a call that ended in this way. If the words say no command, there are none. A refusal comes of the last
--- input that was read, or it comes late, though each input was accepted. Memory runs out before any call, or at an
--- input whose turn had come, or later.
+-- input that was read, or it comes late, though each input was accepted. Memory runs out before any call; or at an
+-- input, and those before it were accepted; or later, and all were.
 abbrev pub InOrder : Option Command → (desk desk_now : DeskView) → Ending → List Call → Type 0
 InOrder said desk desk_now (With BadLine) calls = calls ≡ []
 InOrder said desk desk_now (With (Unread name)) calls =
-    StopsAt (option_map_or inputs_of said []) name (λ limit. ReadsUpToFault name (limit + 1)) calls
+    StopsAt (comes_over said desk) (inputs_said said) name (λ limit. ReadsUpToFault name (limit + 1)) calls
 InOrder said desk desk_now (With (TooLong name)) calls =
-    StopsAt (option_map_or inputs_of said []) name (λ limit. Reads name (limit + 1) 0 (limit + 1)) calls
+    StopsAt (comes_over said desk) (inputs_said said) name (λ limit. Reads name (limit + 1) 0 (limit + 1)) calls
 InOrder said desk desk_now (With (Refused name kind refusal)) calls =
-    StopsAt (option_map_or inputs_of said []) name (λ limit. ReadsWhole name limit) calls
-    ⊎ (ComesOf AllAccepted said desk.held (Refused name kind refusal) × ReadsAll (option_map_or inputs_of said []) calls)
-InOrder said desk desk_now (With (Done outputs text)) calls = ReadsThen (option_map_or inputs_of said []) (MakesAll outputs) calls
-InOrder said desk desk_now (With (Fell outputs text trouble)) calls = ReadsThen (option_map_or inputs_of said []) (MakesAll outputs) calls
+    StopsAt (comes_over said desk) (inputs_said said) name (λ limit. ReadsWhole name limit) calls
+    ⊎ (ComesOf AllAccepted said desk.held (Refused name kind refusal) × ReadsAll (inputs_said said) calls)
+InOrder said desk desk_now (With (Done outputs text)) calls = ReadsThen (inputs_said said) (MakesAll outputs) calls
+InOrder said desk desk_now (With (Fell outputs text trouble)) calls = ReadsThen (inputs_said said) (MakesAll outputs) calls
 InOrder said desk desk_now (Unwritten name outputs) calls =
-    ReadsThen (option_map_or inputs_of said []) (IsUnmade outputs desk desk_now name) calls
+    ReadsThen (inputs_said said) (IsUnmade outputs desk desk_now name) calls
 InOrder said desk desk_now NoMemory calls =
     (calls ≡ [])
-    ⊎ ((name : List ℕ) × HadItsTurn said desk.held name × StopsAt (option_map_or inputs_of said []) name
+    ⊎ ((name : List ℕ) × StopsAt (comes_over said desk) (inputs_said said) name
     (λ limit last. ReadsSome name (limit + 1) last ⊎ ReadsWhole name limit last) calls)
-    ⊎ ReadsAll (option_map_or inputs_of said []) calls
+    ⊎ (AcceptsFirst (comes_over said desk) (length (inputs_said said)) × ReadsAll (inputs_said said) calls)

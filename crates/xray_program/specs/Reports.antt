@@ -10,7 +10,7 @@ use Rattle.xray_program.specs.Taking.{DeskReads, Take, TakeMaybe}
 -- The trace is taken, and then the image, if there is one. What follows gets both.
 abbrev pub TakeReport : DeskReads → (List ℕ → Entry) → (trace : List ℕ) → (image : Option (List ℕ)) → (Trace → Option Program → Outcome → Type 0)
     → Outcome → Type 0
-TakeReport reads held trace image next = Take trace_form reads held trace (λ t. TakeMaybe image_form reads held image (λ program. next t program))
+TakeReport reads held trace image next = Take trace_form 0 reads held trace (λ t. TakeMaybe image_form 1 reads held image (λ program. next t program))
 
 -- an image that the words may leave out, with the most bytes that it may have
 abbrev pub image_input : Option (List ℕ) → List (List ℕ × ℕ)

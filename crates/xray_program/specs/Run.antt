@@ -1,10 +1,15 @@
 -- `run`: threads that run over an image while a script patches their sleds.
-use Rattle.std.specs.Prelude.{ℕ, List}
+use Rattle.std.specs.Prelude.{◌≡◌, ◌≢◌, ◌+◌, ℕ, List, All, Some, slice_get}
 use Rattle.xray_io.specs.Desk.{Entry}
 use Rattle.xray_image.specs.Program.{Program}
+use Rattle.sled_words.specs.Words.{release_word}
+use Rattle.patch_script.specs.Micros.{total_of}
 use Rattle.patch_script.specs.Plans.{Plan}
 use Rattle.patch_script.specs.Refusals.{commands_of}
 use Rattle.machine_step.specs.declared.setup.Setup.{Setup}
+use Rattle.machine_step.specs.Loads.{Load}
+use Rattle.machine_step.specs.Traced.{sleds_of}
+use Rattle.thread_run.specs.Following.{LoadsFollow}
 use Rattle.thread_run.specs.Runs.{FollowsScript}
 use Rattle.traced_run.specs.Runs.{ThreadRun}
 use Rattle.xray_program.specs.Inputs.{image_form, script_form}
@@ -12,8 +17,8 @@ use Rattle.xray_program.specs.Outcomes.{Outcome}
 use Rattle.xray_program.specs.Taking.{DeskReads, Take, Leaves}
 use Rattle.xray_program.specs.Traced.{Traces}
 
--- The law of `run`. Runs are lawful if threads can make them beside the script: the marks of each thread follow the
--- script, and each has lost the segments that its ring had no buffers for.
+-- The law of `run`. Runs are lawful if threads can make them beside the script, with one pool of buffers: the marks of
+-- each thread follow the script, and as many segments are lost as the pool had no spare buffers for.
 abbrev pub FollowsPlan : Setup → Program → Plan → List ThreadRun → Type 0
 FollowsPlan setup program plan = FollowsScript program (commands_of plan.lines) setup
 
@@ -24,6 +29,15 @@ RunsBeside trace audit setup program plan = Leaves (Traces (FollowsPlan setup pr
 -- what comes of the command
 abbrev pub RunComes : DeskReads → (List ℕ → Entry) → (image script trace audit : List ℕ) → Setup → Outcome → Type 0
 RunComes reads held image script trace audit setup =
-    Take image_form reads held image (λ program.
-    Take (script_form program setup.threads) reads held script (λ plan.
+    Take image_form 0 reads held image (λ program.
+    Take (script_form program setup.threads) 1 reads held script (λ plan.
     RunsBeside trace audit setup program plan))
+
+-- The headline's law for `run`. The runs are lawful. The loads of each thread follow the script to its end, and none of
+-- them is of a release word that still held the thread.
+pub record LoadsFollowPlan (setup : Setup) (program : Program) (plan : Plan) (runs : List ThreadRun) (loads : ℕ → List Load) : Type 0 where
+  pub lawful : FollowsPlan setup program plan runs
+  pub follow : (i : ℕ) (run : ThreadRun) → slice_get runs i ≡ Some run
+      → LoadsFollow program (commands_of plan.lines) (i + 1) (sleds_of run.passed) (loads (i + 1)) (total_of program (commands_of plan.lines))
+  pub released : (i : ℕ) (run : ThreadRun) → slice_get runs i ≡ Some run
+      → All (λ load. load.word ≡ release_word program (i + 1) → load.value ≢ 0) (loads (i + 1))

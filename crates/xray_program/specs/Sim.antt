@@ -1,17 +1,16 @@
 -- `sim`: the replay of a schedule over an image and a script.
-use Rattle.std.specs.Prelude.{◌≡◌, ℕ, List, length, None, Ok, codes, option_map}
+use Rattle.std.specs.Prelude.{◌≡◌, ℕ, List, None, Ok, codes, option_map}
 use Rattle.xray_io.specs.Desk.{Entry}
 use Rattle.xray_image.specs.Program.{Program}
 use Rattle.patch_script.specs.Plans.{Plan, waiting_line}
 use Rattle.patch_script.specs.Refusals.{commands_of}
 use Rattle.machine_step.specs.declared.setup.Setup.{Setup}
+use Rattle.machine_step.specs.Loads.{Load}
 use Rattle.step_sim.specs.declared.turns.Turns.{Turns}
-use Rattle.step_sim.specs.Along.{TearsNoSled}
 use Rattle.step_sim.specs.FaultWords.{waits_words}
-use Rattle.step_sim.specs.Replay.{AllRunOut, Cast, Moment, scheduled}
-use Rattle.step_sim.specs.Replayed.{IsReplayOf, cast_with, spare_of}
+use Rattle.step_sim.specs.Replay.{of_thread}
+use Rattle.step_sim.specs.Replayed.{IsReplayOf, LoseOldest}
 use Rattle.step_sim.specs.Schedules.{schedule_of}
-use Rattle.traced_run.specs.Losses.{AreLost}
 use Rattle.traced_run.specs.Runs.{ThreadRun}
 use Rattle.xray_program.specs.Inputs.{image_form, script_form, schedule_form}
 use Rattle.xray_program.specs.Outcomes.{Outcome}
@@ -32,24 +31,20 @@ Replays script trace audit setup program plan turns =
 -- what comes of the command
 abbrev pub SimComes : DeskReads → (List ℕ → Entry) → (image script schedule trace audit : List ℕ) → Setup → Outcome → Type 0
 SimComes reads held image script schedule trace audit setup =
-    Take image_form reads held image (λ program.
-    Take (script_form program setup.threads) reads held script (λ plan.
-    Take (schedule_form setup.threads) reads held schedule (λ turns.
+    Take image_form 0 reads held image (λ program.
+    Take (script_form program setup.threads) 1 reads held script (λ plan.
+    Take (schedule_form setup.threads) 2 reads held schedule (λ turns.
     Replays script trace audit setup program plan turns)))
 
--- No thread decodes a torn sled. After the turns, when all threads have run out, each of their passings has decoded its
--- sled whole.
-abbrev pub DecodesWhole : Cast → List Turns → Type 0
-DecodesWhole cast turns =
-    (last : Moment) → AllRunOut cast (length cast.passings) 1 (scheduled cast turns) last → TearsNoSled cast last
-
 -- The headline's law for `sim`. The schedule is read for the number of threads, and nothing waits in the script. The
--- runs are those that the schedule leaves, with their marks and the numbers of their lost segments. As many segments
--- are lost as the queue had no buffers for. No thread decodes a torn sled.
-pub record FollowsSchedule (schedule : List ℕ) (setup : Setup) (program : Program) (plan : Plan) (runs : List ThreadRun) : Type 0 where
+-- runs are those that the schedule leaves, with their marks and the numbers of their lost segments. The loads of each
+-- thread are those that it has made when the replay leaves these runs. The segments whose buffers were taken from the
+-- queue are each thread's oldest.
+pub record FollowsSchedule (schedule : List ℕ) (setup : Setup) (program : Program) (plan : Plan) (runs : List ThreadRun)
+    (loads : ℕ → List Load) : Type 0 where
   pub turns : List Turns
   pub schedule_reads : schedule_of setup.threads schedule ≡ Ok turns
   pub nobody_waits : waiting_line plan.lines ≡ None
   pub replayed : Replayed program plan turns setup runs
-  pub losses : AreLost setup.size (spare_of setup) runs
-  pub whole : DecodesWhole (cast_with program (commands_of plan.lines) runs) turns
+  pub loads_are : (number : ℕ) → loads number ≡ of_thread replayed.last.moment.loads number
+  pub oldest : LoseOldest setup.size runs replayed.last.stock

@@ -1,5 +1,5 @@
 -- Inputs in their turn: what comes of them, one inside the other, in the order in which they are taken.
-use Rattle.std.specs.Prelude.{◌≡◌, ◌⊎◌, ◌<◌, ◌≤◌, ℕ, List, [], length, Option, Some, None, ⊤}
+use Rattle.std.specs.Prelude.{◌≡◌, ◌⊎◌, ◌<◌, ◌≤◌, ℕ, zero, suc, List, [], length, Option, Some, None, ⊤}
 use Rattle.xray_io.specs.Desk.{Entry, Untold, Absent, Holds}
 use Rattle.xray_program.specs.Outcomes.{Outcome, Unread, TooLong, Refused, Done, Fell}
 
@@ -12,23 +12,39 @@ pub record Form (X : Type 0) : Type 1 where
   pub Refuses : List ℕ → List ℕ → Type 0
 
 -- How inputs are taken: no read of a name that the desk holds fails; or any read may fail; or each input is accepted,
--- so that no turn fails.
+-- so that no turn fails; or each up to the one at this place is, and nothing is asked of what follows that one. Places
+-- count from 0, in the order of the words.
 pub data DeskReads : Type 0 where
   Sound : DeskReads
   Faulty : DeskReads
   AllAccepted : DeskReads
+  AcceptedUpTo : (place : ℕ) → DeskReads
 
 -- a name of which the desk reports this can't be read
 abbrev pub IsUnreadable : DeskReads → Entry → Type 0
 IsUnreadable Sound entry = entry ≡ Absent
 IsUnreadable Faulty entry = ⊤
 IsUnreadable AllAccepted entry = ⊥
+IsUnreadable (AcceptedUpTo place) entry = ⊥
 
 -- bytes aren't an input, for this reason; that isn't so if each input is accepted
 abbrev pub IsNoInput : DeskReads → Type 0 → Type 0
 IsNoInput Sound Reason = Reason
 IsNoInput Faulty Reason = Reason
 IsNoInput AllAccepted Reason = ⊥
+IsNoInput (AcceptedUpTo place) Reason = ⊥
+
+-- what follows the input at this place comes, unless nothing is asked of it
+abbrev pub Follows : DeskReads → (place : ℕ) → Type 0 → Type 0
+Follows Sound place Next = Next
+Follows Faulty place Next = Next
+Follows AllAccepted place Next = Next
+Follows (AcceptedUpTo last) place Next = (place ≡ last) ⊎ Next
+
+-- the first inputs of which this comes, this many, are accepted
+abbrev pub AcceptsFirst : (DeskReads → Outcome → Type 0) → (count : ℕ) → Type 0
+AcceptsFirst comes zero = ⊤
+AcceptsFirst comes (suc last) = (outcome : Outcome) → comes (AcceptedUpTo last) outcome
 
 -- the bytes that a name may hold, by what the desk reports of it
 abbrev pub MayHold : Entry → List ℕ → Type 0
@@ -37,24 +53,24 @@ MayHold Absent bytes = ⊥
 MayHold (Holds content) bytes = bytes ≡ content
 
 -- Bytes are judged: they are too many, or they are refused, or they read as a value, and what follows is that value's.
-abbrev pub Judge : {X : Type 0} → Form X → DeskReads → (name bytes : List ℕ) → (X → Outcome → Type 0) → Outcome → Type 0
-Judge {X} form reads name bytes next outcome =
+abbrev pub Judge : {X : Type 0} → Form X → (place : ℕ) → DeskReads → (name bytes : List ℕ) → (X → Outcome → Type 0) → Outcome → Type 0
+Judge {X} form place reads name bytes next outcome =
     IsNoInput reads ((form.limit < length bytes) × (outcome ≡ TooLong name))
     ⊎ ((length bytes ≤ form.limit)
     × (IsNoInput reads ((refusal : List ℕ) × form.Refuses bytes refusal × (outcome ≡ Refused name form.kind refusal))
-    ⊎ ((value : X) × form.Reads bytes value × next value outcome)))
+    ⊎ ((value : X) × form.Reads bytes value × Follows reads place (next value outcome))))
 
--- An input is taken in its turn. It can't be read, or the bytes that it holds are judged, and then it is the turn of
+-- The input at this place is taken in its turn. It can't be read, or the bytes that it holds are judged, and then it is the turn of
 -- what follows.
-abbrev pub Take : {X : Type 0} → Form X → DeskReads → (List ℕ → Entry) → List ℕ → (X → Outcome → Type 0) → Outcome → Type 0
-Take form reads held name next outcome =
+abbrev pub Take : {X : Type 0} → Form X → (place : ℕ) → DeskReads → (List ℕ → Entry) → List ℕ → (X → Outcome → Type 0) → Outcome → Type 0
+Take form place reads held name next outcome =
     (IsUnreadable reads (held name) × (outcome ≡ Unread name))
-    ⊎ ((bytes : List ℕ) × MayHold (held name) bytes × Judge form reads name bytes next outcome)
+    ⊎ ((bytes : List ℕ) × MayHold (held name) bytes × Judge form place reads name bytes next outcome)
 
 -- an input that the words may leave out; if they name none, none is taken
-abbrev pub TakeMaybe : {X : Type 0} → Form X → DeskReads → (List ℕ → Entry) → Option (List ℕ) → (Option X → Outcome → Type 0) → Outcome → Type 0
-TakeMaybe form reads held None next outcome = next None outcome
-TakeMaybe form reads held (Some name) next outcome = Take form reads held name (λ value. next (Some value)) outcome
+abbrev pub TakeMaybe : {X : Type 0} → Form X → (place : ℕ) → DeskReads → (List ℕ → Entry) → Option (List ℕ) → (Option X → Outcome → Type 0) → Outcome → Type 0
+TakeMaybe form place reads held None next outcome = next None outcome
+TakeMaybe form place reads held (Some name) next outcome = Take form place reads held name (λ value. next (Some value)) outcome
 
 -- a kind of input that is never refused: any bytes are its value
 abbrev pub any_bytes : (kind : List ℕ) → (limit : ℕ) → Form (List ℕ)

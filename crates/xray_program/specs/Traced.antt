@@ -1,13 +1,18 @@
 -- What a command leaves that runs traced threads, whatever makes their runs lawful.
-use Rattle.std.specs.Prelude.{◌≡◌, ◌+◌, ℕ, List, [], ◌∷◌, ◌++◌, Ok}
+use Rattle.std.specs.Prelude.{◌≡◌, ◌+◌, ℕ, List, [], ◌∷◌, ◌++◌, Ok, Some, slice_get}
 use Rattle.xray_io.specs.Desk.{made_to_hold}
 use Rattle.xray_io.specs.Sink.{Adds}
 use Rattle.xray_io.specs.World.{World}
 use Rattle.xray_image.specs.Program.{Program, IsAccepted}
+use Rattle.patch_script.specs.Micros.{hold_of}
 use Rattle.patch_script.specs.Plans.{Plan, plan_of}
+use Rattle.patch_script.specs.Refusals.{commands_of}
+use Rattle.buffer_queue.specs.Left.{spare_of}
 use Rattle.machine_step.specs.declared.setup.Setup.{Setup}
+use Rattle.machine_step.specs.Loads.{Load}
 use Rattle.machine_step.specs.Texts.{state_text}
-use Rattle.traced_run.specs.Losses.{LosesFew}
+use Rattle.traced_run.specs.Decoded.{DecodesWhole}
+use Rattle.traced_run.specs.Losses.{AreLost}
 use Rattle.traced_run.specs.Runs.{IsRun, ThreadRun}
 use Rattle.trace_flush.specs.Audit.{audit_text}
 use Rattle.trace_flush.specs.Flush.{IsTraceOf, trace_bytes}
@@ -32,23 +37,30 @@ pub record Traces (Lawful : List ThreadRun → Type 0) (program : Program) (setu
   pub outputs_are : outputs ≡ written_of trace audit setup runs
   pub text_is : text ≡ state_texts 1 runs
 
--- The headline, for any law of runs. The image file is accepted, and the script is read for it and for the number of
--- threads. There are lawful runs such that:
--- - each thread goes as its plain run does, and of each thread that has segments of events the last one is left;
+-- The headline, for any law of runs and of the loads that their threads make. The image file is accepted, and the script
+-- is read for it and for the number of threads. There are runs of the threads, and loads of each thread by its number,
+-- which are lawful, such that:
+-- - each thread goes as its plain run does;
+-- - by its loads no passing of a thread decodes a torn sled, and its marks are those of its loads;
+-- - of each thread that has segments of events the last one is left, and of all other segments exactly as many are lost as
+--   there are more of them than spare buffers;
 -- - the trace holds the trace of these runs: a header with the setup's numbers, and for each thread the last whole
 --   segments of exactly the entries and exits that its marks record, and all of them if no segment was lost;
 -- - the audit holds what these runs come to: each thread's end, segments, lost segments and marks;
 -- - the state texts of these runs were written on out, thread 1 first.
-pub record IsTraced (Lawful : Program → Plan → List ThreadRun → Type 0) (image script trace audit : List ℕ) (setup : Setup)
-    (before after : World) : Type 0 where
+pub record IsTraced (Lawful : Program → Plan → List ThreadRun → (ℕ → List Load) → Type 0) (image script trace audit : List ℕ)
+    (setup : Setup) (before after : World) : Type 0 where
   pub program : Program
   pub accepted : IsAccepted image program
   pub plan : Plan
   pub script_reads : plan_of program setup.threads script ≡ Ok plan
   pub runs : List ThreadRun
   pub run : IsRun program setup runs
-  pub lawful : Lawful program plan runs
-  pub few : LosesFew setup.size runs
+  pub loads : ℕ → List Load
+  pub lawful : Lawful program plan runs loads
+  pub whole : (i : ℕ) (run : ThreadRun) → slice_get runs i ≡ Some run
+      → DecodesWhole program (i + 1) (hold_of (i + 1) (commands_of plan.lines)) run (loads (i + 1))
+  pub losses : AreLost setup.size (spare_of setup) runs
   pub file : List ℕ
   pub traced : IsTraceOf setup runs file
   pub trace_holds : after.desk.held trace ≡ made_to_hold (before.desk.held trace) file

@@ -23,10 +23,12 @@ use crate::stop::Stop;
 use crate::traced::TraceFiles;
 use crate::work::perform;
 use command_words::{Command, read_words};
+use machine_step::what_follows_is_allowed;
+use patch_script::each_script_keeps_sleds;
 use std::alloc::Global;
 use std::sync::Wait;
 use std::thread::Threads;
-use step_sim::{a_replay_loses_few, no_replay_tears_a_sled};
+use step_sim::{a_replay_loses_few, lost_segments_are_the_oldest, no_replay_tears_a_sled};
 use trace_flush::a_run_is_traced;
 use xray_io::{Desk, Gate, Sink, Wall};
 
@@ -57,10 +59,13 @@ pub fn xray_still<D: Desk, O: Sink, E: Sink>(
         (record { desk = seen desk.new; out = got out.new; err = heard err.new })
         (D.along desk.old desk.new) result }
 {
-    // Called for its contract: no thread of a replay decodes a torn sled, how many segments a
-    // replay loses, and the trace of a run reads back.
+    // Called for their contracts: no thread of a replay decodes a torn sled, and none that runs
+    // beside a script; how many segments a replay loses, and which; the trace of a run reads back.
     no_replay_tears_a_sled();
+    each_script_keeps_sleds();
+    what_follows_is_allowed();
     a_replay_loses_few();
+    lost_segments_are_the_oldest();
     a_run_is_traced();
     match perform_words(alloc, words, wall, desk, out) {
         Ok(()) => 0,
@@ -95,7 +100,10 @@ pub fn xray<T: Threads + Wait + Sync, D: Desk, O: Sink, E: Sink, G: Gate + Sync>
 {
     // Called for their contracts, as in `xray_still`.
     no_replay_tears_a_sled();
+    each_script_keeps_sleds();
+    what_follows_is_allowed();
     a_replay_loses_few();
+    lost_segments_are_the_oldest();
     a_run_is_traced();
     match perform_any_words(rt, alloc, words, wall, desk, out, gate) {
         Ok(()) => 0,

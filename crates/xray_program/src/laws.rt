@@ -1,12 +1,16 @@
 //! Laws of what the program means. Each law is the contract of a function that does nothing.
-ghost use Rattle.std.specs.Prelude.{◌≡◌, ◌<◌, ℕ, List, Option, None, All};
+ghost use Rattle.std.specs.Prelude.{◌≡◌, ◌<◌, ℕ, List, Option, None, All, map};
+ghost use Rattle.command_words.specs.Files.{inputs_in, names_of, row_of};
 ghost use Rattle.xray_io.specs.Desk.{Entry, Holds};
-ghost use Rattle.xray_program.specs.Commands.{IsDecided, IsStill, Means, TellsAll};
+ghost use Rattle.xray_program.specs.Commands.{IsDecided, Means, TellsAll};
+ghost use Rattle.xray_program.specs.Order.{inputs_of};
 ghost use Rattle.xray_program.specs.Outcomes.{Outcome, written_by};
 ghost use Rattle.command_words.specs.Words.{Command};
 
-use machine_step::{one_end, some_end};
+use machine_step::{one_end, some_end, some_marks_follow};
+use patch_script::each_script_lets_threads_end;
 use step_sim::{one_run, some_run};
+use traced_run::some_losses_are_of_a_queue;
 use xray_image::{one_verdict, some_verdict};
 
 /// If a command decides its outcome, its words mean only one thing over a desk that reports every
@@ -32,10 +36,11 @@ pub fn refusal_is_the_only_meaning()
     one_run();
 }
 
-/// Unless words say `run`, they mean something over a desk that reports every name, whatever bytes
-/// the names hold.
+/// Words mean something over a desk that reports every name, whatever bytes the names hold. For
+/// `run` this says that each script that is read has lawful runs: its awaits and holds leave a place
+/// for each load of each thread.
 pub fn some_meaning()
-    ensures { (said : Option Command) (held : List ℕ → Entry) → TellsAll held → IsStill said
+    ensures { (said : Option Command) (held : List ℕ → Entry) → TellsAll held
         → ((name bytes : List ℕ) → held name ≡ Holds bytes → All (λ b. b < 256) bytes)
         → (outcome : Outcome) × Means said held outcome }
 {
@@ -43,4 +48,15 @@ pub fn some_meaning()
     some_verdict();
     some_end();
     some_run();
+    each_script_lets_threads_end();
+    some_marks_follow();
+    some_losses_are_of_a_queue();
+}
+
+/// The inputs of a command, whose turns come one after another, are the files that its row in the
+/// table of commands says are read, in the order of their names.
+pub fn inputs_follow_the_rows()
+    ensures { (command : Command) → map (λ input. input.0) (inputs_of command)
+        ≡ inputs_in (row_of command).files (names_of command) }
+{
 }

@@ -38,4 +38,4 @@ mod traced;
 mod work;
 
 pub use call::{xray, xray_still};
-pub use laws::{one_meaning, refusal_is_the_only_meaning, some_meaning};
+pub use laws::{inputs_follow_the_rows, one_meaning, refusal_is_the_only_meaning, some_meaning};

@@ -1,8 +1,12 @@
 //! `run`: threads that run over an image while a script patches their sleds.
-ghost use Rattle.std.specs.Prelude.{◌≡◌, ◌≤◌, ◌∷◌, [], IfOk, List, Some};
+ghost use Rattle.std.specs.Prelude.{◌≡◌, ◌≤◌, ◌∷◌, [], IfOk, IsPermutation, List, Some, filter};
 ghost use Rattle.command_words.specs.Words.{outputs_of};
 ghost use Rattle.patch_script.specs.Refusals.{commands_of};
+ghost use Rattle.machine_step.specs.declared.setup.Setup.{Setup};
 ghost use Rattle.thread_run.specs.Runs.{HaveRunBeside};
+ghost use Rattle.trace_flush.specs.Arranged.{has_event};
+ghost use Rattle.traced_run.specs.Kept.{kept_buffers};
+ghost use Rattle.traced_run.specs.Runs.{ThreadRun};
 ghost use Rattle.xray_io.specs.Calls.{Went};
 ghost use Rattle.xray_io.specs.World.{desk_view, sink_view};
 ghost use Rattle.xray_program.specs.Commands.{Comes};
@@ -25,6 +29,7 @@ use std::alloc::Global;
 use std::sync::Wait;
 use std::thread::Threads;
 use thread_run::{RunEnd, run};
+use trace_flush::arrange;
 use xray_io::{Desk, Gate, NoMemory, Sink};
 
 /// Does all of `run`, and leaves err as it is. The threads start through `rt`. They and the patcher
@@ -123,19 +128,22 @@ fn run_beside<'s, T: Threads + Wait + Sync, G: Gate + Sync>(
     Ok(end)
 }
 
-/// What threads leave, for what is written of them.
+/// What threads leave, for what is written of them. The buffers come into the order of a trace.
 fn left_of(end: RunEnd) -> RunLeft
     ensures cpus { result.cpus.items ≡ end.entry.cpus.items }
     ensures segments { result.segments.items ≡ end.entry.segments.items }
     ensures first { result.first.items ≡ end.entry.first.items }
-    ensures buffers { result.buffers.items ≡ end.entry.buffers.items }
+    ensures buffers { (setup : Setup) (runs : List ThreadRun)
+        → IsPermutation (filter has_event end.entry.buffers.items) (kept_buffers setup runs)
+        → result.buffers.items ≡ kept_buffers setup runs }
 {
     let RunEnd {
         cpus,
         segments,
         first,
-        buffers,
+        mut buffers,
     } = end;
+    arrange(&mut buffers);
     RunLeft {
         cpus,
         segments,

@@ -21,9 +21,7 @@ use fdr_buffer::Buffer;
 use fdr_file::{Header, write_file};
 use machine_step::{Cpu, Setup, write_state};
 use std::alloc::Global;
-use trace_flush::{
-    AuditLine, a_run_is_audited, add_audit_lines, arrange, trace_header, write_audit,
-};
+use trace_flush::{AuditLine, a_run_is_audited, add_audit_lines, trace_header, write_audit};
 use xray_io::{Desk, NoMemory, Sink, WriteFault};
 
 /// The outputs of a command that runs traced threads.
@@ -45,7 +43,7 @@ pub(crate) struct RunLeft<'i> {
     pub(crate) segments: Vec<u32>,
     /// How many of these segments are lost.
     pub(crate) first: Vec<u32>,
-    /// The buffers of the segments that are left.
+    /// The buffers of the segments that are left, in the order of a trace.
     pub(crate) buffers: Vec<Buffer>,
 }
 
@@ -85,11 +83,10 @@ pub(crate) fn deliver_run<'a, D: Desk, O: Sink>(
         cpus,
         segments,
         first,
-        mut buffers,
+        buffers,
     } = left;
     // Called for its contract: the audit of these lines is that of the run.
     a_run_is_audited();
-    arrange(&mut buffers);
     add_audit_lines(&cpus, &segments, &first, &mut lines);
     deliver_texts(desk, out, files, setup, &cpus, &lines, &buffers)
 }

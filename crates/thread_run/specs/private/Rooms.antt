@@ -1,15 +1,35 @@
--- Room for what a run leaves.
-use Rattle.std.specs.Prelude.{◌≡◌, ◌≤◌, [], vec_capacity}
+-- What is gathered of threads that have ended.
+use Rattle.std.specs.Prelude.{◌≡◌, ◌≤◌, List, [], length, map, vec_capacity}
+use Rattle.patch_script.specs.Plans.{Plan}
+use Rattle.buffer_queue.specs.Passes.{PoolIs}
 use Rattle.machine_step.specs.declared.setup.Setup.{Setup}
-use Rattle.thread_run.specs.declared.whole.RunEnd.{RunEnd}
+use Rattle.thread_run.specs.declared.whole.Gathered.{Gathered}
+use Rattle.thread_run.specs.declared.worker.Worker.{Worker}
+use Rattle.thread_run.specs.Recordings.{Recording, StandsFor, segments_begun}
+use Rattle.thread_run.specs.Runs.{AreWorkersOfRun}
+use Rattle.thread_run.specs.Workers.{HasEnded, cpu_of, recorder_of}
 
--- nothing of it stands there, and there is room for all threads and for all buffers
-pub record IsRoom (setup : Setup) (room : RunEnd) : Type 0 where
+-- nothing of it stands there, and there is room for all threads
+pub record IsRoom (setup : Setup) (room : Gathered) : Type 0 where
   pub no_cpu : room.cpus.items ≡ []
   pub no_segments : room.segments.items ≡ []
-  pub no_first : room.first.items ≡ []
-  pub no_buffer : room.buffers.items ≡ []
+  pub no_pass : room.passes.items ≡ []
+  pub no_hand : room.hands.items ≡ []
   pub cpus : setup.threads ≤ vec_capacity room.cpus
   pub segments : setup.threads ≤ vec_capacity room.segments
-  pub first : setup.threads ≤ vec_capacity room.first
-  pub buffers : setup.max ≤ vec_capacity room.buffers
+  pub passes : setup.threads ≤ vec_capacity room.passes
+  pub hands : setup.threads ≤ vec_capacity room.hands
+
+-- it is what these workers have
+pub record IsGathered (workers : List (Worker Recording)) (gathered : Gathered) : Type 0 where
+  pub cpus : gathered.cpus.items ≡ map (λ (w : Worker Recording). cpu_of w) workers
+  pub segments : gathered.segments.items ≡ map (λ (w : Worker Recording). segments_begun (recorder_of w)) workers
+  pub passes : gathered.passes.items ≡ map (λ (w : Worker Recording). (recorder_of w).pass) workers
+  pub hands : gathered.hands.items ≡ map (λ (w : Worker Recording). (recorder_of w).hand) workers
+
+-- all threads of a plan have run with a pool, and it is what they have at their ends
+pub record HaveRunPooled (plan : Plan) (pool : PoolIs) (gathered : Gathered) : Type 0 where
+  pub workers : List (Worker Recording)
+  pub count : length workers ≡ pool.setup.threads
+  pub ended : AreWorkersOfRun plan pool (HasEnded StandsFor) workers
+  pub have : IsGathered workers gathered

@@ -9,7 +9,7 @@ use Rattle.xray_io.specs.declared.faults.ReadError.TheVariants as errors
 use Rattle.fault_words.specs.Words.{words_text}
 use Rattle.xray_program.specs.Order.{ReadsAll, ReadsWhole, StopsAt}
 use Rattle.xray_program.specs.Outcomes.{Outcome, Unread, TooLong, Refused}
-use Rattle.xray_program.specs.Taking.{Form, MayHold, DeskReads, Sound, Faulty}
+use Rattle.xray_program.specs.Taking.{AcceptsFirst, Form, MayHold, DeskReads, Sound, Faulty}
 use Rattle.xray_io.specs.World.{DeskView}
 use Rattle.xray_program.specs.declared.stop.Stop.{Stop}
 use Rattle.xray_program.specs.declared.stop.Stop.TheVariants as stops
@@ -113,13 +113,13 @@ IsNamed name (stops.TooLong n) = n.now ≡ name
 IsNamed name (stops.Refused n kind words) = n.now ≡ name
 IsNamed name stop = ⊤
 
--- The calls of the turns of inputs, of which this comes, and the last of which was a stop. Its turn had come, and no
--- other input was asked for after it.
+-- The calls of the turns of inputs, of which this comes, and the last of which was a stop. Those before it were
+-- accepted, and no other input was asked for after it.
 abbrev pub StopsTakings : (DeskReads → Outcome → Type 0) → List (List ℕ × ℕ) → Stop → List Call → Type 0
 StopsTakings comes inputs stop calls =
-    (name : List ℕ) × IsNamed name stop × comes Faulty (Unread name) × StopsAt inputs name (λ limit. StopsTaking name limit stop) calls
+    (name : List ℕ) × IsNamed name stop × StopsAt comes inputs name (λ limit. StopsTaking name limit stop) calls
 
--- the calls of the turns of inputs of which this comes
+-- the calls of the turns of inputs of which this comes; if each gave a value, each was accepted
 abbrev pub AreTakings : {X : Type 0} → (DeskReads → Outcome → Type 0) → List (List ℕ × ℕ) → Result X Stop → List Call → Type 0
-AreTakings comes inputs (Ok value) calls = ReadsAll inputs calls
+AreTakings comes inputs (Ok value) calls = AcceptsFirst comes (length inputs) × ReadsAll inputs calls
 AreTakings comes inputs (Err stop) calls = StopsTakings comes inputs stop calls

@@ -1,5 +1,5 @@
 -- How the work of a command ends, once its inputs were taken, and how a whole call ends, before the line on err.
-use Rattle.std.specs.Prelude.{◌≡◌, ◌⊎◌, ◌≤◌, ℕ, List, Contains, Option, Some, None, Result, Ok, Err, map}
+use Rattle.std.specs.Prelude.{◌≡◌, ◌⊎◌, ℕ, List, Contains, Option, Some, None, Result, Ok, Err, map}
 use Rattle.xray_io.specs.Calls.{Call, Went}
 use Rattle.xray_io.specs.Desk.{Absent}
 use Rattle.xray_io.specs.Faults.{Rose}
@@ -114,12 +114,10 @@ StandsBehind said desk desk_now out out_now (Unwritten name outputs) =
     FailsToLeave (Means said desk.held) desk desk_now out out_now name (λ left. left ≡ outputs)
 StandsBehind said desk desk_now out out_now NoMemory = WritesNothing desk desk_now out out_now
 
--- the numbers of a command that runs traced threads fit the records of a trace; and if threads keep rings of their own,
--- there is a buffer for each
+-- the numbers of a command that runs traced threads fit the records of a trace
 abbrev pub FitsTraces : Command → Type 0
 FitsTraces (Sim image script schedule trace audit options) = SetupFits (setup_of options)
-FitsTraces (Run image script trace audit options) =
-    SetupFits (setup_of options) × (1 ≤ options.bounds.threads) × (options.bounds.threads ≤ options.buffers.max)
+FitsTraces (Run image script trace audit options) = SetupFits (setup_of options)
 FitsTraces (Plain image bounds) = Unit {0}
 FitsTraces (Extract image) = Unit {0}
 FitsTraces (Asm text image threshold) = Unit {0}

@@ -2,7 +2,15 @@ use Rattle.xray_program.proofs.CommandLaws.{some_means}
 use Rattle.xray_program.proofs.laws.some_meaning.Goals as goal
 
 pub returns : goal.returns
-returns c said held told still holds =
+returns c said held told holds =
     some_means
-    (record { verdict = c.some_verdict.ensures; accepts = c.one_verdict.ensures.accepted; end = c.some_end.ensures; run = c.some_run.ensures.still })
-    said held told still holds
+    (record {
+      verdict = c.some_verdict.ensures;
+      accepts = c.one_verdict.ensures.accepted;
+      end = c.some_end.ensures;
+      run = c.some_run.ensures.still;
+      lets = c.each_script_lets_threads_end.ensures;
+      marks = c.some_marks_follow.ensures;
+      losses = c.some_losses_are_of_a_queue.ensures;
+    })
+    said held told holds

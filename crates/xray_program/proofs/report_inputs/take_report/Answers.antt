@@ -4,7 +4,7 @@ use Rattle.xray_program.specs.Inputs.{image_form, trace_form}
 use Rattle.xray_program.specs.Reports.{image_input, report_inputs}
 use Rattle.xray_program.specs.private.ReportTakes.{StopsReport}
 use Rattle.xray_program.proofs.Ordering.{no_reads, read_on, stop_handed}
-use Rattle.xray_program.proofs.Reports.{image_read, image_stopped, stop_of_image, stop_of_trace, trace_came}
+use Rattle.xray_program.proofs.Reports.{both_read, image_stopped, stop_of_image, stop_of_trace}
 use Rattle.xray_program.proofs.report_inputs.take_report.Goals as goal
 
 pub returns-in_err-trace-clause-taken : goal.returns-in_err-trace-clause-taken
@@ -35,7 +35,7 @@ returns-in_err-trace-clause-calls g c =
     let image = option_map (λ n. n.now) c.args.image in
     stop_handed g.D.Desk.along g.met.D.Desk.along_both c.args.desk.now c.args.desk.now c.take.new.desk trace_form (seen c.args.desk.now) (seen c.take.new.desk)
     (report_inputs c.args.trace.now image) [] (image_input image) c.args.trace.now c.from_residual.result _
-    (λ reads. StopsReport reads (g.D.Desk.held c.args.desk.now) c.args.trace.now image) (trace_came (g.D.Desk.held c.args.desk.now) c.args.trace.now image)
+    (λ reads. StopsReport reads (g.D.Desk.held c.args.desk.now) c.args.trace.now image) tt
     c.from_residual.ensures.1 refl c.in_err-trace.ensures.taken (no_reads g.D.Desk.along g.met.D.Desk.along_none c.args.desk.now) c.in_err-trace.ensures.calls
 
 pub returns-in_err-image-clause-calls : goal.returns-in_err-image-clause-calls
@@ -51,9 +51,11 @@ returns-in_err-image-clause-calls g c =
 
 pub returns-clause-calls : goal.returns-clause-calls
 returns-clause-calls g c =
+    let seen = desk_view g.D.Desk.held g.D.Desk.read_faults g.D.Desk.write_faults in
     let along = g.D.Desk.along in
     let both = g.met.D.Desk.along_both in
     let image = option_map (λ n. n.now) c.args.image in
     let one = read_on along both c.args.desk.now c.args.desk.now c.take.new.desk [] c.args.trace.now 67108864
     (no_reads along g.met.D.Desk.along_none c.args.desk.now) c.in_ok-trace.ensures.calls in
-    image_read along both c.args.desk.now c.take.new.desk c.take_maybe.new.desk c.args.trace.now image c.in_ok-image.image one c.in_ok-image.ensures.calls
+    both_read along both c.args.desk.now c.take.new.desk c.take_maybe.new.desk (seen c.take.new.desk) (seen c.take_maybe.new.desk) (g.D.Desk.held c.args.desk.now)
+    c.args.trace.now image c.in_ok-trace.trace c.in_ok-image.image c.take.ensures.held c.in_ok-trace.ensures.taken c.in_ok-image.ensures.taken one c.in_ok-image.ensures.calls _

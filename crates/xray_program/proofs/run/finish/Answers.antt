@@ -2,6 +2,7 @@ use Rattle.std.proofs.Common.{◌≡◌, [], None, refl, subst}
 use Rattle.machine_step.specs.declared.setup.Setup.{Setup}
 use Rattle.patch_script.specs.Refusals.{commands_of}
 use Rattle.thread_run.specs.Runs.{HaveRunBeside}
+use Rattle.traced_run.specs.Kept.{kept_buffers}
 use Rattle.xray_image.specs.Program.{Program}
 use Rattle.xray_io.specs.World.{desk_view, sink_view}
 use Rattle.xray_program.specs.Run.{FollowsPlan, RunsBeside}
@@ -28,7 +29,7 @@ returns-clause-finishes g c =
     let is : Q inputs.image = subst Q c.in_ok-steps.ensures.program c.in_ok-end.ensures.left in
     let same = c.left_of.ensures in
     let leaves = leaves_same setup is.runs end.cpus.items left.cpus.items end.segments.items left.segments.items end.first.items left.first.items
-    end.buffers.items left.buffers.items same.cpus same.segments same.first same.buffers is.leaves in
+    (kept_buffers setup is.runs) left.buffers.items same.cpus same.segments same.first (same.buffers setup is.runs is.buffers_are) is.leaves in
     let trace = s.files.trace.now in
     let audit = s.files.audit.now in
     let outputs = written_of trace audit setup is.runs in

@@ -3,10 +3,10 @@ use Rattle.xray_io.specs.World.{desk_view}
 use Rattle.xray_program.specs.Inputs.{image_form, script_form}
 use Rattle.xray_program.specs.private.RunInputs.{comes_of}
 use Rattle.xray_program.specs.Setups.{setup_of}
-use Rattle.xray_program.proofs.Ordering.{no_reads, read_on, stop_handed}
+use Rattle.xray_program.proofs.Ordering.{all_taken, no_reads, read_on, stop_handed}
 use Rattle.xray_program.proofs.RunTurns.{AfterImage, AfterScript, Comes, to_script}
 use Rattle.xray_program.proofs.SimTurns.{given_before}
-use Rattle.xray_program.proofs.Turns.{handed_on, leads, leads_on, stops_at, turn_came}
+use Rattle.xray_program.proofs.Turns.{accepts, handed_on, leads, leads_on, stops_at}
 use Rattle.xray_program.proofs.run.take_inputs.Goals as goal
 
 pub returns-in_err-image-clause-taken : goal.returns-in_err-image-clause-taken
@@ -16,7 +16,7 @@ returns-in_err-image-clause-taken g c =
     let held = g.D.Desk.held c.args.desk.now in
     let comes = Comes held s.image.now s.script.now s.files.trace.now s.files.audit.now (setup_of s.options) in
     handed_on comes (comes_of s) (seen c.args.desk.now) (seen c.take.new.desk) c.from_residual.result _ c.from_residual.ensures.1
-    (stops_at image_form comes (seen c.args.desk.now) (seen c.args.desk.now) (seen c.take.new.desk) s.image.now (AfterImage held s.script.now s.files.trace.now s.files.audit.now (setup_of s.options)) _
+    (stops_at image_form 0 comes (seen c.args.desk.now) (seen c.args.desk.now) (seen c.take.new.desk) s.image.now (AfterImage held s.script.now s.files.trace.now s.files.audit.now (setup_of s.options)) _
     (leads comes) refl (le_refl _) c.in_err-image.ensures.taken)
 
 pub returns-in_err-script-clause-taken : goal.returns-in_err-script-clause-taken
@@ -27,7 +27,7 @@ returns-in_err-script-clause-taken g c =
     let comes = Comes held s.image.now s.script.now s.files.trace.now s.files.audit.now (setup_of s.options) in
     let program = c.in_ok-image.image in
     handed_on comes (comes_of s) (seen c.args.desk.now) (seen c.take-2.new.desk) c.from_residual-in_err-script.result _ c.from_residual-in_err-script.ensures.1
-    (stops_at (script_form program s.options.bounds.threads) comes (seen c.args.desk.now) (seen c.take.new.desk) (seen c.take-2.new.desk) s.script.now
+    (stops_at (script_form program s.options.bounds.threads) 1 comes (seen c.args.desk.now) (seen c.take.new.desk) (seen c.take-2.new.desk) s.script.now
     (AfterScript s.files.trace.now s.files.audit.now (setup_of s.options) program) _
     (to_script held s.image.now s.script.now s.files.trace.now s.files.audit.now (setup_of s.options) program c.in_ok-image.ensures.taken)
     c.take.ensures.held c.take.ensures.later c.in_err-script.ensures.taken)
@@ -40,7 +40,7 @@ returns-clause-taken g c = λ reads outcome yields.
     let program = c.in_ok-image.image in
     let plan = c.in_ok-script.script in
     let given = given_before (script_form program s.options.bounds.threads) held (g.D.Desk.held c.take.new.desk) s.script.now plan c.take.ensures.held c.in_ok-script.ensures.taken in
-    leads_on (script_form program s.options.bounds.threads) comes held s.script.now (AfterScript s.files.trace.now s.files.audit.now (setup_of s.options) program) plan
+    leads_on (script_form program s.options.bounds.threads) 1 comes held s.script.now (AfterScript s.files.trace.now s.files.audit.now (setup_of s.options) program) plan
     (to_script held s.image.now s.script.now s.files.trace.now s.files.audit.now (setup_of s.options) program c.in_ok-image.ensures.taken) given reads outcome yields
 
 pub returns-in_err-image-clause-calls : goal.returns-in_err-image-clause-calls
@@ -51,7 +51,7 @@ returns-in_err-image-clause-calls g c =
     let comes = Comes held s.image.now s.script.now s.files.trace.now s.files.audit.now (setup_of s.options) in
     stop_handed g.D.Desk.along g.met.D.Desk.along_both c.args.desk.now c.args.desk.now c.take.new.desk image_form (seen c.args.desk.now) (seen c.take.new.desk)
     _ [] ((s.script.now, 1048576) ∷ []) s.image.now c.from_residual.result _ comes
-    (turn_came image_form comes held s.image.now (AfterImage held s.script.now s.files.trace.now s.files.audit.now (setup_of s.options)) (leads comes)) c.from_residual.ensures.1 refl
+    tt c.from_residual.ensures.1 refl
     c.in_err-image.ensures.taken (no_reads g.D.Desk.along g.met.D.Desk.along_none c.args.desk.now) c.in_err-image.ensures.calls
 
 pub returns-in_err-script-clause-calls : goal.returns-in_err-script-clause-calls
@@ -67,8 +67,7 @@ returns-in_err-script-clause-calls g c =
     (no_reads along g.met.D.Desk.along_none c.args.desk.now) c.in_ok-image.ensures.calls in
     stop_handed along both c.args.desk.now c.take.new.desk c.take-2.new.desk (script_form c.in_ok-image.image s.options.bounds.threads) (seen c.take.new.desk)
     (seen c.take-2.new.desk) _ ((s.image.now, 4194304) ∷ []) [] s.script.now c.from_residual-in_err-script.result _ comes
-    (turn_came (script_form program s.options.bounds.threads) comes held s.script.now (AfterScript s.files.trace.now s.files.audit.now (setup_of s.options) program)
-    (to_script held s.image.now s.script.now s.files.trace.now s.files.audit.now (setup_of s.options) program c.in_ok-image.ensures.taken))
+    (accepts image_form 0 comes held s.image.now (AfterImage held s.script.now s.files.trace.now s.files.audit.now (setup_of s.options)) program (leads comes) c.in_ok-image.ensures.taken)
     c.from_residual-in_err-script.ensures.1 refl c.in_err-script.ensures.taken one c.in_err-script.ensures.calls
 
 pub returns-clause-calls : goal.returns-clause-calls
@@ -76,7 +75,15 @@ returns-clause-calls g c =
     let along = g.D.Desk.along in
     let both = g.met.D.Desk.along_both in
     let s = c.args.command.now in
+    let held = g.D.Desk.held c.args.desk.now in
+    let comes = Comes held s.image.now s.script.now s.files.trace.now s.files.audit.now (setup_of s.options) in
+    let program = c.in_ok-image.image in
+    let plan = c.in_ok-script.script in
+    let given = given_before (script_form program s.options.bounds.threads) held (g.D.Desk.held c.take.new.desk) s.script.now plan c.take.ensures.held c.in_ok-script.ensures.taken in
     let one = read_on along both c.args.desk.now c.args.desk.now c.take.new.desk [] s.image.now 4194304
     (no_reads along g.met.D.Desk.along_none c.args.desk.now) c.in_ok-image.ensures.calls in
-    read_on along both c.args.desk.now c.take.new.desk c.take-2.new.desk ((s.image.now, 4194304) ∷ []) s.script.now 1048576 one
-    c.in_ok-script.ensures.calls
+    let two = read_on along both c.args.desk.now c.take.new.desk c.take-2.new.desk ((s.image.now, 4194304) ∷ []) s.script.now 1048576 one
+    c.in_ok-script.ensures.calls in
+    all_taken (accepts (script_form program s.options.bounds.threads) 1 comes held s.script.now
+    (AfterScript s.files.trace.now s.files.audit.now (setup_of s.options) program) plan
+    (to_script held s.image.now s.script.now s.files.trace.now s.files.audit.now (setup_of s.options) program c.in_ok-image.ensures.taken) given) two

@@ -3,13 +3,18 @@ use Rattle.std.specs.List.{All}
 use Rattle.machine_step.specs.Traced.{IsDone}
 use Rattle.xray_io.specs.World.{desk_view, sink_view}
 use Rattle.xray_program.specs.private.Works.{Delivers}
-use Rattle.xray_program.proofs.RunWritten.{lines_count, lost_counts, only_lines, run_ended, run_written, segment_counts}
+use Rattle.xray_program.proofs.RunWritten.{all_begun, lines_count, lost_counts, only_lines, run_ended, run_written, segment_counts}
 use Rattle.xray_program.proofs.traced.deliver_run.Goals as goal
 
 pub add_audit_lines-requires-clause-done : goal.add_audit_lines-requires-clause-done
 add_audit_lines-requires-clause-done g c =
     let ended = run_ended c.args.setup.now c.requires.left.0 _ _ _ _ c.requires.left.1 in
     subst (All (λ t. IsDone t.want)) (sym c.deref.ensures.value) ended
+
+pub deliver_texts-requires-clause-begun : goal.deliver_texts-requires-clause-begun
+deliver_texts-requires-clause-begun g c =
+    let leaves = c.requires.left.1 in
+    all_begun c.args.setup.now c.requires.left.0 c.deref-6.result.now (c.deref-6.ensures.value ∙ leaves.buffers_are)
 
 pub deliver_texts-requires-clause-count : goal.deliver_texts-requires-clause-count
 deliver_texts-requires-clause-count g c =
@@ -40,7 +45,7 @@ returns-clause-delivers g c = λ runs leaves.
     c.deref-2.ensures.value c.deref-3.ensures.value in
     run_written c.a_run_is_audited.ensures files.trace.now files.audit.now setup runs left.cpus.items left.segments.items left.first.items left.buffers.items
     leaves c.deref-4.result.now c.deref-5.result.now c.deref-6.result.now c.deref-4.ensures.value lines
-    (c.deref-6.ensures.value ∙ c.arrange.ensures.stay setup runs leaves.buffers_are)
+    (c.deref-6.ensures.value ∙ leaves.buffers_are)
     (λ outputs text. Delivers outputs text None (seen c.args.desk.now) (seen c.deliver_texts.new.desk) (got c.args.out.now) (got c.deliver_texts.new.out)
     (g.D.Desk.along c.args.desk.now c.deliver_texts.new.desk) c.deliver_texts.result)
     c.deliver_texts.ensures.delivers

@@ -1,4 +1,4 @@
-use Rattle.std.proofs.Common.{le_refl, refl, inl}
+use Rattle.std.proofs.Common.{le_refl, refl}
 use Rattle.xray_io.specs.World.{desk_view}
 use Rattle.xray_program.specs.Inputs.{image_form}
 use Rattle.xray_program.specs.Plain.{PlainComes, PlainPrints}
@@ -12,7 +12,7 @@ returns-clause-taken g c =
     let seen = desk_view g.D.Desk.held g.D.Desk.read_faults g.D.Desk.write_faults in
     let held = g.D.Desk.held c.args.desk.now in
     let s = c.args.self.now in
-    last_taken image_form (λ reads. PlainComes reads held s.image.now s.bounds) (λ program. Prints (PlainPrints program s.bounds)) (seen c.args.desk.now) (seen c.args.desk.now) (seen c.take.new.desk) s.image.now
+    last_taken image_form 0 (λ reads. PlainComes reads held s.image.now s.bounds) (λ program. Prints (PlainPrints program s.bounds)) (seen c.args.desk.now) (seen c.args.desk.now) (seen c.take.new.desk) s.image.now
     (λ reads program. Prints (PlainPrints program s.bounds)) c.take.result (leads (λ reads. PlainComes reads held s.image.now s.bounds)) refl (le_refl _) (λ reads value outcome is. is) c.take.ensures.taken
 
 pub returns-clause-calls : goal.returns-clause-calls
@@ -21,4 +21,5 @@ returns-clause-calls g c =
     let held = g.D.Desk.held c.args.desk.now in
     let s = c.args.self.now in
     one_taking image_form s.image.now (seen c.args.desk.now) (seen c.take.new.desk) (g.D.Desk.along c.args.desk.now c.take.new.desk) c.take.result
-    (λ reads. PlainComes reads held s.image.now s.bounds) (inl (tt, refl)) c.take.ensures.taken c.take.ensures.calls
+    (λ reads. PlainComes reads held s.image.now s.bounds) (λ reads program. Prints (PlainPrints program s.bounds))
+    (leads (λ reads. PlainComes reads held s.image.now s.bounds)) c.take.ensures.taken c.take.ensures.calls

@@ -4,8 +4,8 @@ use Rattle.xray_program.specs.Inputs.{image_form, script_form, schedule_form}
 use Rattle.xray_program.specs.Setups.{setup_of}
 use Rattle.xray_program.specs.Sim.{Replays}
 use Rattle.xray_program.proofs.SimTurns.{AfterImage, AfterScript, AfterSchedule, Comes, given_before, to_schedule, to_script}
-use Rattle.xray_program.proofs.Ordering.{no_reads, read_on, stop_handed}
-use Rattle.xray_program.proofs.Turns.{handed_on, leads, leads_on, stops_at, turn_came}
+use Rattle.xray_program.proofs.Ordering.{all_taken, no_reads, read_on, stop_handed}
+use Rattle.xray_program.proofs.Turns.{accepts, handed_on, leads, leads_on, stops_at}
 use Rattle.xray_program.proofs.sim.SimWork.take.Goals as goal
 
 pub returns-in_err-image-clause-taken : goal.returns-in_err-image-clause-taken
@@ -15,7 +15,7 @@ returns-in_err-image-clause-taken g c =
     let held = g.D.Desk.held c.args.desk.now in
     let comes = Comes held s.image.now s.script.now s.schedule.now s.files.trace.now s.files.audit.now (setup_of s.options) in
     handed_on comes (λ inputs. Replays s.script.now s.files.trace.now s.files.audit.now (setup_of s.options) inputs.image inputs.script inputs.schedule) (seen c.args.desk.now) (seen c.take.new.desk) c.from_residual.result _ c.from_residual.ensures.1
-    (stops_at image_form comes (seen c.args.desk.now) (seen c.args.desk.now) (seen c.take.new.desk) s.image.now (AfterImage held s.script.now s.schedule.now s.files.trace.now s.files.audit.now (setup_of s.options)) _
+    (stops_at image_form 0 comes (seen c.args.desk.now) (seen c.args.desk.now) (seen c.take.new.desk) s.image.now (AfterImage held s.script.now s.schedule.now s.files.trace.now s.files.audit.now (setup_of s.options)) _
     (leads comes) refl (le_refl _) c.in_err-image.ensures.taken)
 
 pub returns-in_err-script-clause-taken : goal.returns-in_err-script-clause-taken
@@ -26,7 +26,7 @@ returns-in_err-script-clause-taken g c =
     let comes = Comes held s.image.now s.script.now s.schedule.now s.files.trace.now s.files.audit.now (setup_of s.options) in
     let program = c.in_ok-image.image in
     handed_on comes (λ inputs. Replays s.script.now s.files.trace.now s.files.audit.now (setup_of s.options) inputs.image inputs.script inputs.schedule) (seen c.args.desk.now) (seen c.take-2.new.desk) c.from_residual-in_err-script.result _ c.from_residual-in_err-script.ensures.1
-    (stops_at (script_form program s.options.bounds.threads) comes (seen c.args.desk.now) (seen c.take.new.desk) (seen c.take-2.new.desk) s.script.now
+    (stops_at (script_form program s.options.bounds.threads) 1 comes (seen c.args.desk.now) (seen c.take.new.desk) (seen c.take-2.new.desk) s.script.now
     (AfterScript held s.script.now s.schedule.now s.files.trace.now s.files.audit.now (setup_of s.options) program) _
     (to_script held s.image.now s.script.now s.schedule.now s.files.trace.now s.files.audit.now (setup_of s.options) program c.in_ok-image.ensures.taken)
     c.take.ensures.held c.take.ensures.later c.in_err-script.ensures.taken)
@@ -41,7 +41,7 @@ returns-in_err-schedule-clause-taken g c =
     let plan = c.in_ok-script.script in
     let given = given_before (script_form program s.options.bounds.threads) held (g.D.Desk.held c.take.new.desk) s.script.now plan c.take.ensures.held c.in_ok-script.ensures.taken in
     handed_on comes (λ inputs. Replays s.script.now s.files.trace.now s.files.audit.now (setup_of s.options) inputs.image inputs.script inputs.schedule) (seen c.args.desk.now) (seen c.take-3.new.desk) c.from_residual-in_err-schedule.result _ c.from_residual-in_err-schedule.ensures.1
-    (stops_at (schedule_form s.options.bounds.threads) comes (seen c.args.desk.now) (seen c.take-2.new.desk) (seen c.take-3.new.desk) s.schedule.now
+    (stops_at (schedule_form s.options.bounds.threads) 2 comes (seen c.args.desk.now) (seen c.take-2.new.desk) (seen c.take-3.new.desk) s.schedule.now
     (AfterSchedule s.script.now s.files.trace.now s.files.audit.now (setup_of s.options) program plan) _
     (to_schedule held s.image.now s.script.now s.schedule.now s.files.trace.now s.files.audit.now (setup_of s.options) program plan c.in_ok-image.ensures.taken given)
     (c.take-2.ensures.held ∙ c.take.ensures.held) (omega (arith, c.take.ensures.later, c.take-2.ensures.later)) c.in_err-schedule.ensures.taken)
@@ -56,7 +56,7 @@ returns-clause-taken g c = λ reads outcome yields.
     let turns = c.in_ok-schedule.schedule in
     let given = given_before (script_form program s.options.bounds.threads) held (g.D.Desk.held c.take.new.desk) s.script.now plan c.take.ensures.held c.in_ok-script.ensures.taken in
     let read = given_before (schedule_form s.options.bounds.threads) held (g.D.Desk.held c.take-2.new.desk) s.schedule.now turns (c.take-2.ensures.held ∙ c.take.ensures.held) c.in_ok-schedule.ensures.taken in
-    leads_on (schedule_form s.options.bounds.threads) comes held s.schedule.now (AfterSchedule s.script.now s.files.trace.now s.files.audit.now (setup_of s.options) program plan) turns
+    leads_on (schedule_form s.options.bounds.threads) 2 comes held s.schedule.now (AfterSchedule s.script.now s.files.trace.now s.files.audit.now (setup_of s.options) program plan) turns
     (to_schedule held s.image.now s.script.now s.schedule.now s.files.trace.now s.files.audit.now (setup_of s.options) program plan c.in_ok-image.ensures.taken given) read reads outcome yields
 
 pub returns-in_err-image-clause-calls : goal.returns-in_err-image-clause-calls
@@ -67,7 +67,7 @@ returns-in_err-image-clause-calls g c =
     let comes = Comes held s.image.now s.script.now s.schedule.now s.files.trace.now s.files.audit.now (setup_of s.options) in
     stop_handed g.D.Desk.along g.met.D.Desk.along_both c.args.desk.now c.args.desk.now c.take.new.desk image_form (seen c.args.desk.now) (seen c.take.new.desk)
     _ [] ((s.script.now, 1048576) ∷ (s.schedule.now, 16777216) ∷ []) s.image.now c.from_residual.result _ comes
-    (turn_came image_form comes held s.image.now (AfterImage held s.script.now s.schedule.now s.files.trace.now s.files.audit.now (setup_of s.options)) (leads comes)) c.from_residual.ensures.1 refl
+    tt c.from_residual.ensures.1 refl
     c.in_err-image.ensures.taken (no_reads g.D.Desk.along g.met.D.Desk.along_none c.args.desk.now) c.in_err-image.ensures.calls
 
 pub returns-in_err-script-clause-calls : goal.returns-in_err-script-clause-calls
@@ -83,8 +83,7 @@ returns-in_err-script-clause-calls g c =
     (no_reads along g.met.D.Desk.along_none c.args.desk.now) c.in_ok-image.ensures.calls in
     stop_handed along both c.args.desk.now c.take.new.desk c.take-2.new.desk (script_form c.in_ok-image.image s.options.bounds.threads) (seen c.take.new.desk)
     (seen c.take-2.new.desk) _ ((s.image.now, 4194304) ∷ []) ((s.schedule.now, 16777216) ∷ []) s.script.now c.from_residual-in_err-script.result _ comes
-    (turn_came (script_form program s.options.bounds.threads) comes held s.script.now (AfterScript held s.script.now s.schedule.now s.files.trace.now s.files.audit.now (setup_of s.options) program)
-    (to_script held s.image.now s.script.now s.schedule.now s.files.trace.now s.files.audit.now (setup_of s.options) program c.in_ok-image.ensures.taken))
+    (accepts image_form 0 comes held s.image.now (AfterImage held s.script.now s.schedule.now s.files.trace.now s.files.audit.now (setup_of s.options)) program (leads comes) c.in_ok-image.ensures.taken)
     c.from_residual-in_err-script.ensures.1 refl c.in_err-script.ensures.taken one c.in_err-script.ensures.calls
 
 pub returns-in_err-schedule-clause-calls : goal.returns-in_err-schedule-clause-calls
@@ -103,8 +102,8 @@ returns-in_err-schedule-clause-calls g c =
     let two = read_on along both c.args.desk.now c.take.new.desk c.take-2.new.desk ((s.image.now, 4194304) ∷ []) s.script.now 1048576 one c.in_ok-script.ensures.calls in
     stop_handed along both c.args.desk.now c.take-2.new.desk c.take-3.new.desk (schedule_form s.options.bounds.threads) (seen c.take-2.new.desk)
     (seen c.take-3.new.desk) _ ((s.image.now, 4194304) ∷ (s.script.now, 1048576) ∷ []) [] s.schedule.now c.from_residual-in_err-schedule.result _ comes
-    (turn_came (schedule_form s.options.bounds.threads) comes held s.schedule.now (AfterSchedule s.script.now s.files.trace.now s.files.audit.now (setup_of s.options) program plan)
-    (to_schedule held s.image.now s.script.now s.schedule.now s.files.trace.now s.files.audit.now (setup_of s.options) program plan c.in_ok-image.ensures.taken given))
+    (accepts (script_form program s.options.bounds.threads) 1 comes held s.script.now (AfterScript held s.script.now s.schedule.now s.files.trace.now s.files.audit.now (setup_of s.options) program) plan
+    (to_script held s.image.now s.script.now s.schedule.now s.files.trace.now s.files.audit.now (setup_of s.options) program c.in_ok-image.ensures.taken) given)
     c.from_residual-in_err-schedule.ensures.1 refl c.in_err-schedule.ensures.taken two c.in_err-schedule.ensures.calls
 
 pub returns-clause-calls : goal.returns-clause-calls
@@ -112,8 +111,18 @@ returns-clause-calls g c =
     let along = g.D.Desk.along in
     let both = g.met.D.Desk.along_both in
     let s = c.args.self.now in
+    let held = g.D.Desk.held c.args.desk.now in
+    let comes = Comes held s.image.now s.script.now s.schedule.now s.files.trace.now s.files.audit.now (setup_of s.options) in
+    let program = c.in_ok-image.image in
+    let plan = c.in_ok-script.script in
+    let turns = c.in_ok-schedule.schedule in
+    let given = given_before (script_form program s.options.bounds.threads) held (g.D.Desk.held c.take.new.desk) s.script.now plan c.take.ensures.held c.in_ok-script.ensures.taken in
+    let read = given_before (schedule_form s.options.bounds.threads) held (g.D.Desk.held c.take-2.new.desk) s.schedule.now turns (c.take-2.ensures.held ∙ c.take.ensures.held) c.in_ok-schedule.ensures.taken in
     let one = read_on along both c.args.desk.now c.args.desk.now c.take.new.desk [] s.image.now 4194304
     (no_reads along g.met.D.Desk.along_none c.args.desk.now) c.in_ok-image.ensures.calls in
     let two = read_on along both c.args.desk.now c.take.new.desk c.take-2.new.desk ((s.image.now, 4194304) ∷ []) s.script.now 1048576 one c.in_ok-script.ensures.calls in
-    read_on along both c.args.desk.now c.take-2.new.desk c.take-3.new.desk ((s.image.now, 4194304) ∷ (s.script.now, 1048576) ∷ []) s.schedule.now 16777216 two
-    c.in_ok-schedule.ensures.calls
+    let three = read_on along both c.args.desk.now c.take-2.new.desk c.take-3.new.desk ((s.image.now, 4194304) ∷ (s.script.now, 1048576) ∷ []) s.schedule.now 16777216 two
+    c.in_ok-schedule.ensures.calls in
+    all_taken (accepts (schedule_form s.options.bounds.threads) 2 comes held s.schedule.now
+    (AfterSchedule s.script.now s.files.trace.now s.files.audit.now (setup_of s.options) program plan) turns
+    (to_schedule held s.image.now s.script.now s.schedule.now s.files.trace.now s.files.audit.now (setup_of s.options) program plan c.in_ok-image.ensures.taken given) read) three

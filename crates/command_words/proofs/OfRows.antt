@@ -1,0 +1,195 @@
+-- A command and its row in the table.
+use Rattle.std.proofs.Common.{◌≡◌, ◌∙◌, ◌&&◌, ℕ, Bool, true, false, List, [], ◌∷◌, Option, Some, None, refl, sym, ap}
+use Rattle.std.specs.Prelude.{if◌then◌else◌, option_and_then}
+use Rattle.std.specs.Str.{bytes_eq}
+use Rattle.xray_io.specs.declared.faults.Wall.{Wall}
+use Rattle.command_words.specs.Files.{AreOfTheirRows, IsOfItsRow, OutputsAreOfTheRow, names_of, row_of}
+use Rattle.command_words.specs.Items.{Item, files_of, items_of}
+use Rattle.command_words.specs.Lines.{Line, is_cut, line_by, line_of, number_in, outputs_differ}
+use Rattle.command_words.specs.Reports.{account_options_in, choice_in, stack_formats}
+use Rattle.command_words.specs.Rows.{CommandRow}
+use Rattle.command_words.specs.Tables.{account_row, asm_row, convert_row, extract_row, plain_row, run_row, sim_row}
+use Rattle.command_words.specs.Tables.{convert_format_option, stack_format_option, stack_row, threshold_option}
+use Rattle.command_words.specs.Words.{Command, Sim, Run, Plain, Extract, Asm, Account, Stack, Convert}
+use Rattle.command_words.specs.Words.{account_in, asm_in, bounds_in, convert_in, extract_in, plain_in, run_in, run_options_in, sim_in, stack_in}
+use Rattle.command_words.specs.declared.report_options.AccountOptions.{AccountOptions}
+use Rattle.command_words.specs.declared.report_options.StackFormat.{StackFormat}
+use Rattle.command_words.specs.declared.run_options.Bounds.{Bounds}
+use Rattle.command_words.specs.declared.run_options.RunOptions.{RunOptions}
+use Rattle.command_words.proofs.Texts.{equal_texts}
+
+-- a command of this row names these files
+record IsOf (row : CommandRow) (names : List (List ℕ)) (command : Command) : Type 0 where
+  row_is : row_of command ≡ row
+  names_are : names_of command ≡ names
+
+same : (one other : Command) → Some one ≡ Some other → one ≡ other
+same one other e = cc
+
+never : (command : Command) → None ≡ Some command → ⊥
+never command e = cc
+
+-- ---- a line for each command
+
+sim_of : (wall : Wall) (line : Line) (command : Command) → sim_in wall line ≡ Some command → IsOf sim_row line.files command
+sim_of wall line command says = go line.files (run_options_in wall line) refl refl
+  where
+    go : (names : List (List ℕ)) (options : Option RunOptions) → line.files ≡ names → run_options_in wall line ≡ options → IsOf sim_row line.files command
+    go (image ∷ script ∷ schedule ∷ trace ∷ audit ∷ []) (Some options) e f =
+        let is : Sim image script schedule trace audit options ≡ command = same _ _ (rw (e, f) at says) in
+        rw (sym is, e) (record { row_is = refl; names_are = refl })
+    go (image ∷ script ∷ schedule ∷ trace ∷ audit ∷ []) None e f = absurd (never command (rw (e, f) at says))
+    go [] options e f = absurd (never command (rw e at says))
+    go (a ∷ []) options e f = absurd (never command (rw e at says))
+    go (a ∷ b ∷ []) options e f = absurd (never command (rw e at says))
+    go (a ∷ b ∷ c ∷ []) options e f = absurd (never command (rw e at says))
+    go (a ∷ b ∷ c ∷ d ∷ []) options e f = absurd (never command (rw e at says))
+    go (a ∷ b ∷ c ∷ d ∷ g ∷ h ∷ names) options e f = absurd (never command (rw e at says))
+
+run_of : (wall : Wall) (line : Line) (command : Command) → run_in wall line ≡ Some command → IsOf run_row line.files command
+run_of wall line command says = go line.files (run_options_in wall line) refl refl
+  where
+    go : (names : List (List ℕ)) (options : Option RunOptions) → line.files ≡ names → run_options_in wall line ≡ options → IsOf run_row line.files command
+    go (image ∷ script ∷ trace ∷ audit ∷ []) (Some options) e f =
+        let is : Run image script trace audit options ≡ command = same _ _ (rw (e, f) at says) in
+        rw (sym is, e) (record { row_is = refl; names_are = refl })
+    go (image ∷ script ∷ trace ∷ audit ∷ []) None e f = absurd (never command (rw (e, f) at says))
+    go [] options e f = absurd (never command (rw e at says))
+    go (a ∷ []) options e f = absurd (never command (rw e at says))
+    go (a ∷ b ∷ []) options e f = absurd (never command (rw e at says))
+    go (a ∷ b ∷ c ∷ []) options e f = absurd (never command (rw e at says))
+    go (a ∷ b ∷ c ∷ d ∷ g ∷ names) options e f = absurd (never command (rw e at says))
+
+plain_of : (line : Line) (command : Command) → plain_in line ≡ Some command → IsOf plain_row line.files command
+plain_of line command says = go line.files (bounds_in line) refl refl
+  where
+    go : (names : List (List ℕ)) (bounds : Option Bounds) → line.files ≡ names → bounds_in line ≡ bounds → IsOf plain_row line.files command
+    go (image ∷ []) (Some bounds) e f =
+        let is : Plain image bounds ≡ command = same _ _ (rw (e, f) at says) in
+        rw (sym is, e) (record { row_is = refl; names_are = refl })
+    go (image ∷ []) None e f = absurd (never command (rw (e, f) at says))
+    go [] bounds e f = absurd (never command (rw e at says))
+    go (a ∷ b ∷ names) bounds e f = absurd (never command (rw e at says))
+
+extract_of : (line : Line) (command : Command) → extract_in line ≡ Some command → IsOf extract_row line.files command
+extract_of line command says = go line.files refl
+  where
+    go : (names : List (List ℕ)) → line.files ≡ names → IsOf extract_row line.files command
+    go (image ∷ []) e =
+        let is : Extract image ≡ command = same _ _ (rw e at says) in
+        rw (sym is, e) (record { row_is = refl; names_are = refl })
+    go [] e = absurd (never command (rw e at says))
+    go (a ∷ b ∷ names) e = absurd (never command (rw e at says))
+
+asm_of : (line : Line) (command : Command) → asm_in line ≡ Some command → IsOf asm_row line.files command
+asm_of line command says = go line.files (number_in threshold_option line) refl refl
+  where
+    go : (names : List (List ℕ)) (threshold : Option ℕ) → line.files ≡ names → number_in threshold_option line ≡ threshold → IsOf asm_row line.files command
+    go (text ∷ image ∷ []) (Some threshold) e f =
+        let is : Asm text image threshold ≡ command = same _ _ (rw (e, f) at says) in
+        rw (sym is, e) (record { row_is = refl; names_are = refl })
+    go (text ∷ image ∷ []) None e f = absurd (never command (rw (e, f) at says))
+    go [] threshold e f = absurd (never command (rw e at says))
+    go (a ∷ []) threshold e f = absurd (never command (rw e at says))
+    go (a ∷ b ∷ c ∷ names) threshold e f = absurd (never command (rw e at says))
+
+account_of : (line : Line) (command : Command) → account_in line ≡ Some command → IsOf account_row line.files command
+account_of line command says = go line.files (account_options_in line) refl refl
+  where
+    go : (names : List (List ℕ)) (options : Option AccountOptions) → line.files ≡ names → account_options_in line ≡ options
+        → IsOf account_row line.files command
+    go (trace ∷ []) (Some options) e f =
+        let is : Account trace None options ≡ command = same _ _ (rw (e, f) at says) in
+        rw (sym is, e) (record { row_is = refl; names_are = refl })
+    go (trace ∷ image ∷ []) (Some options) e f =
+        let is : Account trace (Some image) options ≡ command = same _ _ (rw (e, f) at says) in
+        rw (sym is, e) (record { row_is = refl; names_are = refl })
+    go (trace ∷ []) None e f = absurd (never command (rw (e, f) at says))
+    go (trace ∷ image ∷ []) None e f = absurd (never command (rw (e, f) at says))
+    go [] options e f = absurd (never command (rw e at says))
+    go (a ∷ b ∷ c ∷ names) options e f = absurd (never command (rw e at says))
+
+stack_of : (line : Line) (command : Command) → stack_in line ≡ Some command → IsOf stack_row line.files command
+stack_of line command says = go line.files (choice_in stack_format_option stack_formats line) refl refl
+  where
+    go : (names : List (List ℕ)) (format : Option StackFormat) → line.files ≡ names → choice_in stack_format_option stack_formats line ≡ format
+        → IsOf stack_row line.files command
+    go (trace ∷ []) (Some format) e f =
+        let is : Stack trace None format ≡ command = same _ _ (rw (e, f) at says) in
+        rw (sym is, e) (record { row_is = refl; names_are = refl })
+    go (trace ∷ image ∷ []) (Some format) e f =
+        let is : Stack trace (Some image) format ≡ command = same _ _ (rw (e, f) at says) in
+        rw (sym is, e) (record { row_is = refl; names_are = refl })
+    go (trace ∷ []) None e f = absurd (never command (rw (e, f) at says))
+    go (trace ∷ image ∷ []) None e f = absurd (never command (rw (e, f) at says))
+    go [] format e f = absurd (never command (rw e at says))
+    go (a ∷ b ∷ c ∷ names) format e f = absurd (never command (rw e at says))
+
+convert_of : (line : Line) (command : Command) → convert_in line ≡ Some command → IsOf convert_row line.files command
+convert_of line command says = go line.files (number_in convert_format_option line) refl refl
+  where
+    go : (names : List (List ℕ)) (yaml : Option ℕ) → line.files ≡ names → number_in convert_format_option line ≡ yaml → IsOf convert_row line.files command
+    go (trace ∷ []) (Some yaml) e f =
+        let is : Convert trace None ≡ command = same _ _ (rw (e, f) at says) in
+        rw (sym is, e) (record { row_is = refl; names_are = refl })
+    go (trace ∷ image ∷ []) (Some yaml) e f =
+        let is : Convert trace (Some image) ≡ command = same _ _ (rw (e, f) at says) in
+        rw (sym is, e) (record { row_is = refl; names_are = refl })
+    go (trace ∷ []) None e f = absurd (never command (rw (e, f) at says))
+    go (trace ∷ image ∷ []) None e f = absurd (never command (rw (e, f) at says))
+    go [] yaml e f = absurd (never command (rw e at says))
+    go (a ∷ b ∷ c ∷ names) yaml e f = absurd (never command (rw e at says))
+
+-- the outputs of each
+pub outputs_of_row : OutputsAreOfTheRow
+outputs_of_row (Sim image script schedule trace audit options) = refl
+outputs_of_row (Run image script trace audit options) = refl
+outputs_of_row (Plain image bounds) = refl
+outputs_of_row (Extract image) = refl
+outputs_of_row (Asm text image threshold) = refl
+outputs_of_row (Account trace None options) = refl
+outputs_of_row (Account trace (Some image) options) = refl
+outputs_of_row (Stack trace None format) = refl
+outputs_of_row (Stack trace (Some image) format) = refl
+outputs_of_row (Convert trace None) = refl
+outputs_of_row (Convert trace (Some image)) = refl
+
+-- ---- all words
+
+-- the command that is made of the line that items say
+of_line : (make : Line → Option Command) (row : CommandRow) (items : List Item) (command : Command)
+    → ((line : Line) → make line ≡ Some command → IsOf row line.files command)
+    → option_and_then make (line_of row items) ≡ Some command → IsOf row (files_of items) command
+of_line make row items command is says = go (is_cut row items && outputs_differ row.files (files_of items)) says
+  where
+    go : (b : Bool) → option_and_then make (if b then Some (line_by row items) else None) ≡ Some command → IsOf row (files_of items) command
+    go true says = is (line_by row items) says
+    go false says = absurd (never command says)
+
+-- the words of a row's command, or other words
+branch : (word : List ℕ) (words : List (List ℕ)) (command : Command) (row : CommandRow) (mine other : Option Command)
+    → (mine ≡ Some command → IsOf row (files_of (items_of words)) command) → (other ≡ Some command → IsOfItsRow word words command)
+    → (if bytes_eq word row.word then mine else other) ≡ Some command → IsOfItsRow word words command
+branch word words command row mine other is later says = go (bytes_eq word row.word) refl says
+  where
+    go : (b : Bool) → bytes_eq word row.word ≡ b → (if b then mine else other) ≡ Some command → IsOfItsRow word words command
+    go true e says =
+        let of = is says in
+        record {
+          word_is = equal_texts word row.word e ∙ ap (λ (r : CommandRow). r.word) (sym of.row_is);
+          names_are = of.names_are;
+        }
+    go false e says = later says
+
+pub of_their_rows : AreOfTheirRows
+of_their_rows wall word words command says =
+    let items = items_of words in
+    branch word words command plain_row _ _ (of_line plain_in plain_row items command (λ line. plain_of line command))
+    (branch word words command extract_row _ _ (of_line extract_in extract_row items command (λ line. extract_of line command))
+    (branch word words command sim_row _ _ (of_line (sim_in wall) sim_row items command (λ line. sim_of wall line command))
+    (branch word words command run_row _ _ (of_line (run_in wall) run_row items command (λ line. run_of wall line command))
+    (branch word words command asm_row _ _ (of_line asm_in asm_row items command (λ line. asm_of line command))
+    (branch word words command account_row _ _ (of_line account_in account_row items command (λ line. account_of line command))
+    (branch word words command stack_row _ _ (of_line stack_in stack_row items command (λ line. stack_of line command))
+    (branch word words command convert_row _ _ (of_line convert_in convert_row items command (λ line. convert_of line command))
+    (λ no. absurd (never command no))))))))) says

@@ -1,0 +1,88 @@
+-- What is gathered of workers that have ended, and drained of their pool, is what a run leaves.
+use Rattle.std.proofs.Common.{◌≡◌, ℕ, suc, ◌+◌, ◌<◌, List, [], ◌∷◌, ◌++◌, Some, refl, sym, subst, ap, ◌∙◌, arith, append_assoc, get_or, length, length-append, map}
+use Rattle.std.specs.Prelude.{option_map, slice_get}
+use Rattle.std.proofs.Math.Seq.{get_or-append_seam}
+use Rattle.std.proofs.lemmas.List.{length-map}
+use Rattle.std.proofs.lemmas.Option.{get_or_from_slice_get, slice_get-map}
+use Rattle.patch_script.specs.declared.command.Command.{Command}
+use Rattle.patch_script.specs.Plans.{Plan}
+use Rattle.patch_script.specs.Refusals.{commands_of}
+use Rattle.fdr_buffer.specs.Filled.{Filled}
+use Rattle.buffer_queue.specs.Left.{IsLeft}
+use Rattle.buffer_queue.specs.Passes.{AreNew, AreOf, IsOf, PassIs, PoolIs, new_hand, sealed_of}
+use Rattle.machine_step.specs.declared.setup.Setup.{Setup}
+use Rattle.machine_step.specs.Traced.{Traced}
+use Rattle.xray_image.specs.Program.{Program}
+use Rattle.thread_run.specs.declared.whole.Gathered.{Gathered}
+use Rattle.thread_run.specs.declared.worker.Worker.{Worker}
+use Rattle.thread_run.specs.Recordings.{Recording, StandsFor, segments_begun}
+use Rattle.thread_run.specs.private.Rooms.{HaveRunPooled, IsGathered}
+use Rattle.thread_run.specs.Runs.{AreWorkersOfRun, HaveRunBeside, lost_beside}
+use Rattle.thread_run.specs.Workers.{HasEnded, cpu_of, recorder_of}
+use Rattle.thread_run.proofs.Pooled.{hands_of}
+use Rattle.thread_run.proofs.RunLemmas.{OneEnd, left_so, there_is}
+
+-- what the next thread begins with
+pub new_at : (pool : PoolIs) (n number : ℕ) (hands yielded rest : List (PassIs × Filled)) (x : PassIs × Filled) → AreNew pool 1 n hands
+    → (yielded ++ x ∷ []) ++ rest ≡ hands → number ≡ length yielded → x ≡ new_hand pool (number + 1)
+new_at pool n number hands yielded rest x new order at =
+    let placed : yielded ++ x ∷ rest ≡ hands = sym (append_assoc yielded (x ∷ []) rest) ∙ order in
+    let within : length yielded < length hands = omega (arith, ap length placed, length-append yielded (x ∷ rest)) in
+    let found : get_or hands (length yielded) x ≡ x =
+    ap (λ (l : List (PassIs × Filled)). get_or l (length yielded) x) (sym placed) ∙ get_or-append_seam yielded x rest x in
+    let place : 1 + length yielded ≡ number + 1 = omega (arith, at) in
+    sym found ∙ new.1 (length yielded) x within ∙ ap (new_hand pool) place
+
+-- the passes of workers of a pool are its passes, in order
+pub passes_are : (plan : Plan) (pool : PoolIs) (Is : Worker Recording → Type 0) (workers : List (Worker Recording)) → AreWorkersOfRun plan pool Is workers
+    → AreOf pool 1 (map (λ (w : Worker Recording). (recorder_of w).pass) workers)
+passes_are plan pool Is workers are k other within =
+    let inside : k < length workers = omega (arith, within, length-map workers (λ (w : Worker Recording). (recorder_of w).pass)) in
+    let one = there_is workers k inside in
+    let is = (are k one.0 one.1).0 in
+    let at : slice_get (map (λ (w : Worker Recording). (recorder_of w).pass) workers) k ≡ Some (recorder_of one.0).pass =
+    slice_get-map (λ (w : Worker Recording). (recorder_of w).pass) workers k ∙ ap (option_map (λ (w : Worker Recording). (recorder_of w).pass)) one.1 in
+    let found = get_or_from_slice_get (map (λ (w : Worker Recording). (recorder_of w).pass) workers) k (recorder_of one.0).pass other at in
+    let place : k + 1 ≡ 1 + k = omega arith in
+    (subst (IsOf pool) (sym found) is.pass, ap (λ (p : PassIs). p.thread) found ∙ is.owner ∙ place)
+
+sealed_same : (workers : List (Worker Recording))
+    → sealed_of (map (λ (w : Worker Recording). (recorder_of w).pass) workers) ≡ map (λ (r : Recording). r.pass.sealed) (map (λ w. recorder_of w) workers)
+sealed_same [] = refl
+sealed_same (w ∷ workers) = ap (λ (rows : List (List Filled)). (recorder_of w).pass.sealed ∷ rows) (sealed_same workers)
+
+hands_same : (workers : List (Worker Recording))
+    → map (λ (w : Worker Recording). (recorder_of w).hand) workers ≡ hands_of (map (λ w. recorder_of w) workers)
+hands_same [] = refl
+hands_same (w ∷ workers) = ap (λ (bs : List Filled). (recorder_of w).hand ∷ bs) (hands_same workers)
+
+-- the passes that were gathered
+pub pooled_passes : (plan : Plan) (pool : PoolIs) (gathered : Gathered) → HaveRunPooled plan pool gathered → AreOf pool 1 gathered.passes.items
+pooled_passes plan pool gathered have =
+    subst (AreOf pool 1) (sym have.have.passes) (passes_are plan pool (HasEnded StandsFor) have.workers have.ended)
+
+-- what is gathered, and what is left of the pool
+pub run_leaves : OneEnd → (plan : Plan) (pool : PoolIs) (setup : Setup) (program : Program) (gathered : Gathered) (cpus : List Traced)
+    (segments first : List ℕ) (buffers left : List Filled) → pool.setup ≡ setup → plan.program ≡ program → HaveRunPooled plan pool gathered
+    → cpus ≡ gathered.cpus.items → segments ≡ gathered.segments.items → first ≡ lost_beside buffers 1 gathered.segments.items
+    → IsLeft setup (sealed_of gathered.passes.items) left → buffers ≡ left ++ gathered.hands.items
+    → HaveRunBeside program (commands_of plan.lines) setup cpus segments first buffers
+run_leaves one plan pool setup program gathered cpus segments first buffers left same_setup same_program have a b c is d =
+    let Script : List Command = commands_of plan.lines in
+    let workers : List (Worker Recording) = have.workers in
+    let rs : List Recording = map (λ w. recorder_of w) workers in
+    let rows : List (List Filled) = map (λ (r : Recording). r.pass.sealed) rs in
+    let rows_are : sealed_of gathered.passes.items ≡ rows = ap sealed_of have.have.passes ∙ sealed_same workers in
+    let left_is : IsLeft pool.setup rows left =
+    subst (λ (s : Setup). IsLeft s rows left) (sym same_setup) (subst (λ (l : List (List Filled)). IsLeft setup l left) rows_are is) in
+    let Segs : List ℕ = map (λ w. segments_begun (recorder_of w)) workers in
+    let Buffers : List Filled = left ++ hands_of rs in
+    let buffers_are : buffers ≡ Buffers = d ∙ ap (λ (hs : List Filled). left ++ hs) (have.have.hands ∙ hands_same workers) in
+    let so = left_so one plan pool workers left have.ended have.count left_is in
+    let of_setup = subst (λ (s : Setup). HaveRunBeside plan.program Script s (map (λ w. cpu_of w) workers) Segs (lost_beside Buffers 1 Segs) Buffers) same_setup so in
+    let of_program = subst (λ (q : Program). HaveRunBeside q Script setup (map (λ w. cpu_of w) workers) Segs (lost_beside Buffers 1 Segs) Buffers) same_program of_setup in
+    let of_buffers = subst (λ (bs : List Filled). HaveRunBeside program Script setup (map (λ w. cpu_of w) workers) Segs (lost_beside bs 1 Segs) bs) (sym buffers_are) of_program in
+    let first_is : first ≡ lost_beside buffers 1 Segs = c ∙ ap (lost_beside buffers 1) have.have.segments in
+    subst (λ (ts : List Traced). HaveRunBeside program Script setup ts segments first buffers) (sym (a ∙ have.have.cpus))
+    (subst (λ (ns : List ℕ). HaveRunBeside program Script setup (map (λ w. cpu_of w) workers) ns first buffers) (sym (b ∙ have.have.segments))
+    (subst (λ (ns : List ℕ). HaveRunBeside program Script setup (map (λ w. cpu_of w) workers) Segs ns buffers) (sym first_is) of_buffers))

@@ -1,0 +1,211 @@
+"""A model of runs of threads beside a patcher: which marks follow a script, and which segments may be lost.
+
+It is written from docs/formats and docs/COMMANDS.md alone, and shares nothing with the program or its definitions. No
+schedule states the order of a run, so the model doesn't say what comes of one. It judges the marks and the losses that
+a run shows, and says what the run leaves if it has these.
+"""
+import bisect
+import collections
+import dataclasses
+import re
+
+from replay_model import ENTRY_HEAD, HEAD, ID, INITIALIZED, OFFSET, OPCODE, PATCHED_HEAD, TracedThread, Words
+from trace_model import Buffers
+
+
+class Unlawful(Exception):
+    """What a run shows is no outcome of its script."""
+
+
+# ---- What a run shows
+
+
+@dataclasses.dataclass(frozen=True)
+class Shown:
+    """The marks of a thread, and how many of its segments are lost."""
+
+    marks: str
+    lost: int
+
+
+def shown_by(audit):
+    """What the threads of an audit show, thread 1 first, or None for bytes that are no audit."""
+    head, *lines = audit.decode("ascii", errors="replace").splitlines() or [""]
+    if head != "xray-audit 1":
+        return None
+    firsts = [re.fullmatch(r"thread [0-9]+ .* first ([0-9]+)", line) for line in lines]
+    marks = [line.removeprefix("marks ") for line in lines if line.startswith("marks ")]
+    firsts = [int(found[1]) for found in firsts if found]
+    if len(firsts) != len(marks):
+        return None
+    return [Shown(marks_of(runs), lost) for runs, lost in zip(marks, firsts)]
+
+
+def marks_of(runs):
+    """The marks of a text of runs."""
+    return "".join(run[0] * int(run[1:]) for run in runs.split() if re.fullmatch(r"[.nf+][0-9]+", run))
+
+
+# ---- Places of a script, and the loads that a thread may make there
+
+
+@dataclasses.dataclass(frozen=True)
+class Await:
+    """A micro step that waits until a thread has made some passings."""
+
+    thread: int
+    count: int
+
+
+class Course:
+    """The micro steps of a script, and which value each word has after some of them."""
+
+    def __init__(self, image, commands, threads):
+        words = Words(image)
+        self.words = words
+        self.release = {thread: words.state + thread for thread in range(1, threads + 1)}
+        self.holds = {command.thread: command.numbers[1] for command in commands if command.name == "hold"}
+        # For each word the places from which on it has another value, and the values.
+        self.places = [[0] for _ in range(words.state + 1 + threads)]
+        self.values = [[value] for value in words.values] + [[0] for _ in range(threads)]
+        self.awaits = collections.defaultdict(list)
+        self.start = self.total = 0
+        for command in commands:
+            if command.name == "go":
+                self.start = self.total
+            for step in self.micro_steps(command):
+                self.make(step)
+
+    def micro_steps(self, command):
+        match command.name, command.numbers:
+            case "release", (thread,):
+                yield self.release[thread], 1
+            case "await", (thread, count):
+                yield Await(thread, count)
+            case _:
+                yield from self.words.stores([command])
+
+    def make(self, step):
+        match step:
+            case Await(thread, count):
+                # A smaller count behind a greater one bounds nothing.
+                if not self.awaits[thread] or count > self.awaits[thread][-1][0]:
+                    self.awaits[thread].append((count, self.total))
+            case (word, value):
+                self.places[word].append(self.total + 1)
+                self.values[word].append(value)
+        self.total += 1
+
+    def bound(self, thread, passing):
+        """The last place of a passing: the patcher doesn't pass an await before the passings that it waits for."""
+        awaits = self.awaits[thread]
+        at = bisect.bisect_right(awaits, passing, key=lambda one: one[0])
+        return awaits[at][1] if at < len(awaits) else self.total
+
+    def place_of(self, word, accepts, place):
+        """The first place from `place` on at which a word has a value that is accepted, or None."""
+        places, values = self.places[word], self.values[word]
+        at = bisect.bisect_right(places, place) - 1
+        while at < len(values) and not accepts(values[at]):
+            at += 1
+        return max(place, places[at]) if at < len(values) else None
+
+    def loads(self, thread, passing, sled, mark):
+        """The words that a passing with a mark loads, each with what its value has to be."""
+        if self.holds.get(thread) == passing:
+            yield self.release[thread], (1).__eq__
+        head = 4 * sled + HEAD
+        if mark == ".":
+            yield head, self.is_unpatched(sled)
+            return
+        yield head, PATCHED_HEAD.__eq__
+        for part in (ID, OPCODE, OFFSET):
+            yield 4 * sled + part, self.words.patched[sled][part].__eq__
+        yield self.words.handler, (0 if mark == "n" else 1).__eq__
+        if mark != "n":
+            yield self.words.state, INITIALIZED.__eq__ if mark == "+" else INITIALIZED.__ne__
+
+    def is_unpatched(self, sled):
+        if self.words.sleds[sled].name == "entry":
+            return ENTRY_HEAD.__eq__
+        return lambda head: head % 256 == 0xC3
+
+    def check(self, thread, sleds, marks):
+        """Sees that a thread which passes these sleds may have these marks.
+
+        Each load is made as early as it may be. If the marks have any places at all, they have these.
+        """
+        place = self.start
+        for passing, (sled, mark) in enumerate(zip(sleds, marks)):
+            for word, accepts in self.loads(thread, passing, sled, mark):
+                after = self.place_of(word, accepts, place)
+                if after is None:
+                    raise Unlawful(f"thread {thread}: passing {passing} can't load word {word} for {mark} from {place}")
+                place = after
+            if place > self.bound(thread, passing):
+                raise Unlawful(f"thread {thread}: passing {passing} comes to {place} for {mark}, past an await")
+
+
+# ---- Losses
+
+
+def ring_losses(options, segments, lost):
+    """Each thread has a ring of its own, which keeps its last segments."""
+    room = options["buffer-max"] // options["threads"]
+    return lost == [max(0, count - room) for count in segments]
+
+
+def pool_losses(options, segments, lost):
+    """All threads share one pool. Each keeps its last segment, and none is lost while a buffer is unused."""
+    sealed = [max(0, count - 1) for count in segments]
+    spare = options["buffer-max"] - options["threads"]
+    return all(one <= most for one, most in zip(lost, sealed)) and sum(lost) == max(0, sum(sealed) - spare)
+
+
+LOSSES = {"rings": ring_losses, "pool": pool_losses}
+
+# ---- Runs
+
+
+class MarkedThread(TracedThread):
+    """A thread whose passings have the marks that a run shows, and that notes which sleds it passes."""
+
+    def __init__(self, image, number, options, words, record, marks):
+        self.passed = []
+        self.left = iter(marks)
+        super().__init__(image, number, options, words, record)
+
+    def passing(self, sled):
+        """The mark is known, so no load is made."""
+        self.passed.append(sled)
+        yield from ()
+        return next(self.left, "none")
+
+
+class Segments(Buffers):
+    """The segments of the threads of a run, of which those are lost that it shows."""
+
+    def record(self, thread, event):
+        self.threads[thread - 1].add(event)
+
+
+def ran(image, commands, options, shown, may_lose):
+    """The threads of a run at their ends, and the segments of what they recorded, if the run may show this."""
+    threads = range(1, options["threads"] + 1)
+    if len(shown) != len(threads):
+        raise Unlawful(f"{len(shown)} threads in the audit")
+    course = Course(image, commands, options["threads"])
+    segments = Segments(options["threads"], options["buffer-size"], options["buffer-max"])
+    ended = []
+    for number, one in zip(threads, shown):
+        thread = MarkedThread(image, number, options, course.words, segments.record, one.marks)
+        if len(thread.marks) != len(one.marks):
+            raise Unlawful(f"thread {number}: {len(one.marks)} marks of {len(thread.marks)} passings")
+        course.check(number, thread.passed, one.marks)
+        segments.threads[number - 1].lost = one.lost
+        ended.append(thread)
+    counts = [len(one.segments) for one in segments.threads]
+    lost = [one.lost for one in shown]
+    if not may_lose(options, counts, lost):
+        raise Unlawful(f"segments {counts}, lost {lost}")
+    return ended, segments
