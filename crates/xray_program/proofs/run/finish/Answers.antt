@@ -15,6 +15,19 @@ use Rattle.xray_program.proofs.Endings.{finishes, refuses}
 use Rattle.xray_program.proofs.RunWritten.{leaves_same}
 use Rattle.xray_program.proofs.run.finish.Goals as goal
 
+pub deliver_run-requires-clause-left : goal.deliver_run-requires-clause-left
+deliver_run-requires-clause-left g c =
+    let setup = c.setup_of-setup.result in
+    let inputs = c.args.inputs in
+    let end = c.in_ok-end.end in
+    let left = c.left_of.result in
+    let Q : Program → Type 0 = λ program.
+    HaveRunBeside program (commands_of inputs.script.lines) setup end.cpus.items end.segments.items end.first.items end.buffers.items in
+    let is : Q inputs.image = subst Q c.in_ok-steps.ensures.program c.in_ok-end.ensures.left in
+    let same = c.left_of.ensures in
+    (is.runs, leaves_same setup is.runs end.cpus.items left.cpus.items end.segments.items left.segments.items end.first.items left.first.items
+    (kept_buffers setup is.runs) left.buffers.items same.cpus same.segments same.first (same.buffers setup is.runs is.buffers_are) is.leaves)
+
 pub returns-clause-finishes : goal.returns-clause-finishes
 returns-clause-finishes g c =
     let seen = desk_view g.D.Desk.held g.D.Desk.read_faults g.D.Desk.write_faults in
