@@ -1,4 +1,4 @@
-use Rattle.std.proofs.Common.{◌≡◌, [], None, refl, subst}
+use Rattle.std.proofs.Common.{[], None, refl, subst}
 use Rattle.machine_step.specs.declared.setup.Setup.{Setup}
 use Rattle.patch_script.specs.Refusals.{commands_of}
 use Rattle.thread_run.specs.Runs.{HaveRunBeside}
@@ -7,7 +7,6 @@ use Rattle.xray_image.specs.Program.{Program}
 use Rattle.xray_io.specs.World.{desk_view, sink_view}
 use Rattle.xray_program.specs.Run.{FollowsPlan, RunsBeside}
 use Rattle.xray_program.specs.private.RunInputs.{comes_of}
-use Rattle.xray_program.specs.Setups.{setup_of}
 use Rattle.xray_program.specs.Traced.{Traces, state_texts, written_of}
 use Rattle.xray_program.specs.private.Works.{Finishes}
 use Rattle.xray_program.specs.declared.stop.Stop.TheVariants as stops
