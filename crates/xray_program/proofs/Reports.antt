@@ -15,7 +15,7 @@ use Rattle.xray_program.specs.Inputs.{image_form, trace_form}
 use Rattle.xray_program.specs.Order.{ReadsAll, StopsAt}
 use Rattle.xray_program.specs.Outcomes.{Outcome}
 use Rattle.xray_program.specs.Reports.{TakeReport, report_inputs}
-use Rattle.xray_program.specs.private.ReportTakes.{ImageTurn, IsReportTaken, StopsReport}
+use Rattle.xray_program.specs.private.ReportTakes.{IsReportTaken, StopsReport}
 use Rattle.xray_program.specs.private.Takes.{AreTaken, AreTakings, Gives, IsMaybeTaken, IsMaybeTaking, IsTaken, StopsTaking}
 use Rattle.xray_program.specs.Taking.{AcceptedUpTo, AcceptsFirst, AllAccepted, DeskReads, Faulty, Follows, Form, Sound, Take, TakeMaybe}
 use Rattle.xray_program.specs.declared.report_inputs.ReportInputs.{ReportInputs}

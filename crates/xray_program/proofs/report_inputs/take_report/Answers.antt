@@ -1,6 +1,6 @@
-use Rattle.std.proofs.Common.{[], ◌∷◌, Option, option_map, refl, le_refl, rules}
+use Rattle.std.proofs.Common.{[], option_map, refl}
 use Rattle.xray_io.specs.World.{desk_view}
-use Rattle.xray_program.specs.Inputs.{image_form, trace_form}
+use Rattle.xray_program.specs.Inputs.{trace_form}
 use Rattle.xray_program.specs.Reports.{image_input, report_inputs}
 use Rattle.xray_program.specs.private.ReportTakes.{StopsReport}
 use Rattle.xray_program.proofs.Ordering.{no_reads, read_on, stop_handed}
