@@ -38,6 +38,7 @@ import pathlib
 import random
 import re
 import shutil
+import struct
 import subprocess
 import sys
 import tempfile
@@ -167,14 +168,25 @@ def shown_in(files, begin):
     """What the audit of a run that began at this time shows, if there is one."""
     audits = [content for content in files.values() if content.startswith(b"xray-audit 1\n")]
     audit = audits[0] if audits else b""
-    return Shows(wall_in(audit, begin, time.time() + 1), run_model.shown_by(audit))
+    times = [wall for wall in [wall_in(audit), *map(wall_of_trace, files.values())] if is_between(begin, wall)]
+    return Shows(times[0] if times else (0, 0), run_model.shown_by(audit))
 
 
-def wall_in(audit, begin, end):
-    """The wall time that an audit says, if it is between these times."""
+def is_between(begin, wall):
+    """Whether a wall time is one of a run that began at this time and has just ended."""
+    return begin <= wall[0] + wall[1] / 1e6 <= time.time() + 1
+
+
+def wall_in(audit):
+    """The wall time that an audit says."""
     found = re.match(rb"xray-audit 1\n.* wall=([0-9]+)\.([0-9]+) ", audit)
-    wall = (int(found[1]), int(found[2])) if found else (0, 0)
-    return wall if begin <= wall[0] + wall[1] / 1e6 <= end else (0, 0)
+    return (int(found[1]), int(found[2])) if found else (0, 0)
+
+
+def wall_of_trace(content):
+    """The wall time in the first block of a trace. If the audit failed, it stands nowhere else."""
+    record = content[64:80]
+    return struct.unpack("<QI", record[1:13]) if len(record) == 16 and record[0] == 9 else (0, 0)
 
 
 # ---- The comparison
