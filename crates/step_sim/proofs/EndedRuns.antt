@@ -95,10 +95,10 @@ pub record AllRuns (r : Recording) (last : Pooled) (ts : List Traced) (first n :
   pub count : length runs ≡ n
   pub each : (j : ℕ) (run : ThreadRun) → slice_get runs j ≡ Some run → IsRunOf r last ts (first + j) run
 
-some_run : (run other : ThreadRun) → ◌≡◌ {A = Option ThreadRun} (Some run) (Some other) → run ≡ other
+pub some_run : (run other : ThreadRun) → ◌≡◌ {A = Option ThreadRun} (Some run) (Some other) → run ≡ other
 some_run run other e = cc
 
-no_run : (j : ℕ) (run : ThreadRun) → slice_get [] j ≡ Some run → ⊥
+pub no_run : (j : ℕ) (run : ThreadRun) → slice_get [] j ≡ Some run → ⊥
 no_run zero run e = cc
 no_run (suc j) run e = cc
 

@@ -28,3 +28,4 @@ pub mod Beginnings
 pub mod Simulated
 pub mod OneRun
 pub mod SomeRun
+pub mod WrittenLemmas

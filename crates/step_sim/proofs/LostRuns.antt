@@ -29,7 +29,7 @@ use Rattle.step_sim.specs.Replay.{Cast, Moment, marks_at, of_thread, thread_turn
 use Rattle.step_sim.specs.Replayed.{IsReplayOf, LoseOldest, cast_with, passed_of, pooling_with, spare_of}
 use Rattle.step_sim.specs.Schedules.{AreTurnsOf}
 use Rattle.step_sim.proofs.Counting.{fresh_serials}
-use Rattle.step_sim.proofs.EndedRuns.{enumerated_map, of_thread_at}
+use Rattle.step_sim.proofs.EndedRuns.{enumerated_map, no_run, of_thread_at, some_run}
 use Rattle.step_sim.proofs.MoreLoads.{IsSameOrNext, no_marks, turn_segments}
 use Rattle.step_sim.proofs.PoolLemmas.{same_items, serial_other, serial_own, serials_of-append, stock_stays}
 use Rattle.step_sim.proofs.ReplayAlong.{no_loads, of_thread_is}
@@ -164,13 +164,6 @@ out_ordered cast passed size spare (suc n) thread x y some (mid, (count, made, e
     (λ z. turn_ordered cast passed size spare thread z some) x is))
 
 -- ---- runs by their numbers
-
-some_run : (run other : ThreadRun) → ◌≡◌ {A = Option ThreadRun} (Some run) (Some other) → run ≡ other
-some_run run other e = cc
-
-no_run : (j : ℕ) (run : ThreadRun) → slice_get [] j ≡ Some run → ⊥
-no_run zero run e = cc
-no_run (suc j) run e = cc
 
 -- what is read of the runs is what is said by their numbers
 run_at : {Y : Type 0} (f : ThreadRun → Y) (F : ℕ → Y) (runs : List ThreadRun) (first n : ℕ) → map f runs ≡ map F (numbers_from first n)

@@ -21,7 +21,7 @@ use Rattle.step_sim.specs.Along.{IsAlong, NamesThread, TearsNoSled}
 use Rattle.step_sim.specs.Plays.{Plays, turns}
 use Rattle.step_sim.specs.Replay.{AllRunOut, Cast, Moment, first_moment, moment_rules, of_thread, scheduled, thread_turn, wanted_by}
 use Rattle.step_sim.specs.Replayed.{IsReplayOf, cast_with, passed_of, pooling_with}
-use Rattle.step_sim.proofs.EndedRuns.{of_thread_at}
+use Rattle.step_sim.proofs.EndedRuns.{no_run, of_thread_at, some_run}
 use Rattle.step_sim.proofs.LostRuns.{marks_of_run}
 use Rattle.step_sim.proofs.PooledReplay.{last_moment}
 use Rattle.step_sim.proofs.ReplayAlong.{replay_along}
@@ -84,13 +84,6 @@ all_ended cast (suc n) thread before after first (mid, (count, made, ends), rest
     ]
 
 -- ---- runs
-
-some_run : (run other : ThreadRun) → ◌≡◌ {A = Option ThreadRun} (Some run) (Some other) → run ≡ other
-some_run run other e = cc
-
-no_run : (j : ℕ) (run : ThreadRun) → slice_get [] j ≡ Some run → ⊥
-no_run zero run e = cc
-no_run (suc j) run e = cc
 
 -- the sleds of each run are those that are cast
 sleds_at : (runs : List ThreadRun) (j : ℕ) (run : ThreadRun) → slice_get runs j ≡ Some run

@@ -7,4 +7,5 @@ pub mod Schedules
 pub mod Replayed
 pub mod Starts
 pub mod FaultWords
+pub mod WrittenSchedules
 pub mod private

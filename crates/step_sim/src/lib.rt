@@ -17,6 +17,7 @@ mod start;
 mod tests;
 mod thread;
 mod turns;
+mod written;
 
 pub use along::{a_replay_reads_along, no_replay_tears_a_sled};
 pub use fault::ScheduleFault;
@@ -29,3 +30,4 @@ pub use schedule::{Schedule, read_schedule};
 pub use sim_fault::SimFault;
 pub use start::SimStart;
 pub use turns::Turns;
+pub use written::a_written_schedule_is_read;

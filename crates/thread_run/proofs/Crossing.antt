@@ -1,14 +1,12 @@
 -- A worker may go to another thread, if its recorder may.
 use denote.Ref.{NamedLft}
 use denote.RattleType.{RattleType}
-use denote.Param.{param}
-use denote.Param.Send.{IsSend, IsSync, sendable}
+use denote.Param.Send.{IsSend, sendable}
 use denote.Hole.{as_row}
 use denote.Struct.Field.{row_field, shr_ref_field}
 use denote.Param.SendFields.{as_row_send, declared_send}
-use Rattle.std.proofs.Crossing.{crosses}
 use Rattle.machine_step.proofs.cpu.Cpu.TheSendSync.{the_send as cpu_send}
-use Rattle.sled_rule.proofs.seats.WorkSeat.TheSendSync.{the_send as seat_send, the_field_send as seat_field}
+use Rattle.sled_rule.proofs.seats.WorkSeat.TheSendSync.{the_send as seat_send}
 use Rattle.sled_patch.proofs.Crossing.{table_sync}
 use Rattle.machine_step.specs.contracts.cpu.Cpu as cpu
 use Rattle.sled_rule.specs.contracts.table.CodeTable as table

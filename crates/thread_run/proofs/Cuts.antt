@@ -4,7 +4,6 @@ use Rattle.std.specs.List.{AllByRecursion, enumerate_from, flat_map}
 use mathlib.Core.List.{map-append}
 use Rattle.std.proofs.lemmas.List.{length-map}
 use Rattle.fdr_record.specs.declared.event.Event.{Event}
-use Rattle.fdr_buffer.specs.Filled.{Filled}
 use Rattle.fdr_buffer.specs.Segments.{has_room, segments}
 use Rattle.fdr_buffer.proofs.Cutting.{hold_all, hold_some, is_cut}
 use Rattle.traced_run.specs.Kept.{Stamp, buffer_of, buffers_behind}

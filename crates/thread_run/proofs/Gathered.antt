@@ -1,5 +1,5 @@
 -- What is gathered of workers that have ended, and drained of their pool, is what a run leaves.
-use Rattle.std.proofs.Common.{◌≡◌, ℕ, suc, ◌+◌, ◌<◌, List, [], ◌∷◌, ◌++◌, Some, refl, sym, subst, ap, ◌∙◌, arith, append_assoc, get_or, length, length-append, map}
+use Rattle.std.proofs.Common.{◌≡◌, ℕ, ◌+◌, ◌<◌, List, [], ◌∷◌, ◌++◌, Some, refl, sym, subst, ap, ◌∙◌, arith, append_assoc, get_or, length, length-append, map}
 use Rattle.std.specs.Prelude.{option_map, slice_get}
 use Rattle.std.proofs.Math.Seq.{get_or-append_seam}
 use Rattle.std.proofs.lemmas.List.{length-map}
@@ -16,7 +16,7 @@ use Rattle.xray_image.specs.Program.{Program}
 use Rattle.thread_run.specs.declared.whole.Gathered.{Gathered}
 use Rattle.thread_run.specs.declared.worker.Worker.{Worker}
 use Rattle.thread_run.specs.Recordings.{Recording, StandsFor, segments_begun}
-use Rattle.thread_run.specs.private.Rooms.{HaveRunPooled, IsGathered}
+use Rattle.thread_run.specs.private.Rooms.{HaveRunPooled}
 use Rattle.thread_run.specs.Runs.{AreWorkersOfRun, HaveRunBeside, lost_beside}
 use Rattle.thread_run.specs.Workers.{HasEnded, cpu_of, recorder_of}
 use Rattle.thread_run.proofs.Pooled.{hands_of}

@@ -1,9 +1,9 @@
 -- One more event in what a thread has recorded.
-use Rattle.std.proofs.Common.{◌≡◌, ℕ, ◌+◌, ◌-◌, ◌<◌, ◌≤◌, ◌^◌, List, [], ◌∷◌, ◌++◌, Bool, true, false, true≢false, refl, sym, subst, ap, ◌∙◌, arith, length, length-append, inl, inr}
+use Rattle.std.proofs.Common.{◌≡◌, ℕ, ◌-◌, ◌<◌, ◌^◌, List, [], ◌∷◌, ◌++◌, true, false, true≢false, refl, sym, subst, ap, ◌∙◌, arith, length, length-append, inl, inr}
 use Rattle.std.proofs.lemmas.Bool.{cases_Bool}
 use Rattle.fdr_record.specs.declared.event.Event.{Event}
 use Rattle.fdr_buffer.specs.Filled.{Filled}
-use Rattle.fdr_buffer.specs.Segments.{has_room, segments}
+use Rattle.fdr_buffer.specs.Segments.{has_room}
 use Rattle.fdr_buffer.proofs.Cutting.{joins}
 use Rattle.buffer_queue.specs.Passes.{IsOf, PassIs, PoolIs, sealing}
 use Rattle.traced_run.specs.Kept.{Stamp, buffer_of, buffers_behind, stamp_of}

@@ -1,6 +1,6 @@
 -- What a pool and the threads' hands leave of each thread.
-use Rattle.std.proofs.Common.{◌≡◌, ◌≢◌, ℕ, zero, suc, ◌+◌, ◌-◌, ◌<◌, ◌≤◌, ◌==◌, List, [], ◌∷◌, ◌++◌, Bool, true, false, true≢false, refl, sym, subst, ap, ◌∙◌, arith, inl, inr, Option, Some, length, length-append, map, drop, append_assoc, append-nil}
-use Rattle.std.specs.Prelude.{filter, if◌then◌else◌, replicate, slice_get}
+use Rattle.std.proofs.Common.{◌≡◌, ◌≢◌, ℕ, zero, suc, ◌+◌, ◌-◌, ◌<◌, ◌==◌, List, [], ◌∷◌, ◌++◌, true, false, true≢false, refl, sym, subst, ap, ◌∙◌, arith, inl, inr, Option, Some, length, length-append, map, drop, append_assoc}
+use Rattle.std.specs.Prelude.{if◌then◌else◌, replicate, slice_get}
 use Rattle.std.specs.List.{enumerate_from}
 use Rattle.std.proofs.lemmas.Bool.{cases_Bool, eq-eqb, ne_eqb}
 use Rattle.std.proofs.lemmas.List.{drop-map}

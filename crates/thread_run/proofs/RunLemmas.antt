@@ -1,6 +1,6 @@
 -- What workers leave is what runs leave.
-use Rattle.std.proofs.Common.{◌≡◌, ℕ, zero, suc, ◌+◌, ◌-◌, ◌<◌, ◌≤◌, ◌==◌, inl, inr, List, [], ◌∷◌, ◌++◌, Option, Some, None, refl, sym, subst, ap, ◌∙◌, arith, append_assoc, drop, get_or, length, length-append, map, take}
-use Rattle.std.specs.Prelude.{◌⊎◌, All, filter, option_map, slice_get, slice_index_or, sum_by}
+use Rattle.std.proofs.Common.{◌≡◌, ℕ, zero, suc, ◌+◌, ◌-◌, ◌<◌, ◌==◌, inl, inr, List, [], ◌∷◌, ◌++◌, Option, Some, refl, sym, subst, ap, ◌∙◌, arith, append_assoc, drop, get_or, length, length-append, map, take}
+use Rattle.std.specs.Prelude.{◌⊎◌, All, filter, option_map, slice_get, sum_by}
 use mathlib.Core.List.{map-append}
 use Rattle.std.proofs.lemmas.List.{length-map, length-take-le, take_more}
 use Rattle.std.proofs.lemmas.List.Elements.{All-cons, All-nil}
@@ -8,32 +8,30 @@ use Rattle.std.proofs.lemmas.List.Sums.{length-filter, sum_by-cons}
 use Rattle.std.proofs.lemmas.Option.{slice_get-get_or, slice_get-map, slice_get_within}
 use Rattle.std.specs.List.{AllByRecursion, count_by}
 use Rattle.xray_image.specs.Program.{IsAccepted, Program}
-use Rattle.patch_script.specs.declared.command.Command.{Command}
 use Rattle.patch_script.specs.Plans.{Plan}
 use Rattle.patch_script.specs.Refusals.{commands_of}
 use Rattle.fdr_record.specs.declared.event.Event.{Event}
 use Rattle.fdr_buffer.specs.Filled.{Filled}
 use Rattle.fdr_buffer.specs.Segments.{segments}
-use Rattle.buffer_queue.specs.Left.{IsLeft, absent_from, of_thread, row_at, sealed_in_all, spare_of}
-use Rattle.buffer_queue.specs.Passes.{AreNew, AreOf, IsOf, PassIs, PoolIs, new_hand, sealed_of}
+use Rattle.buffer_queue.specs.Left.{IsLeft, absent_from, of_thread, sealed_in_all, spare_of}
+use Rattle.buffer_queue.specs.Passes.{PoolIs}
 use Rattle.machine_step.specs.declared.end.End.{End}
 use Rattle.machine_step.specs.declared.limits.Limits.{Limits}
 use Rattle.machine_step.specs.declared.setup.Setup.{Setup}
 use Rattle.machine_step.specs.declared.want.Want.TheVariants.{Done}
 use Rattle.machine_step.specs.Events.{recorded}
 use Rattle.machine_step.specs.PlainStep.{Passing, PlainRun, State}
-use Rattle.machine_step.specs.Traced.{IsWant, Traced, sleds_of, state_at, wanted_behind}
+use Rattle.machine_step.specs.Traced.{Traced, sleds_of, state_at}
 use Rattle.sled_rule.specs.Seats.{script_of}
-use Rattle.traced_run.specs.Kept.{Stamp, buffers_behind, kept_buffers, segment_count, stamp_of, thread_buffers}
-use Rattle.traced_run.specs.Left.{HasRun, Leaves}
-use Rattle.traced_run.specs.Losses.{AreLost, LosesFew, recycled_of}
-use Rattle.traced_run.specs.Runs.{IsRun, ThreadRun}
+use Rattle.traced_run.specs.Kept.{buffers_behind, segment_count, stamp_of, thread_buffers}
+use Rattle.traced_run.specs.Left.{HasRun}
+use Rattle.traced_run.specs.Losses.{AreLost, recycled_of}
+use Rattle.traced_run.specs.Runs.{ThreadRun}
 use Rattle.thread_run.specs.declared.worker.Worker.{Worker}
-use Rattle.thread_run.specs.Each.{HaveChanged}
 use Rattle.thread_run.specs.Following.{MarksFollowScript}
 use Rattle.thread_run.specs.Recordings.{HasSameOwner, Recording, StandsFor, segments_begun, segments_in}
-use Rattle.thread_run.specs.Runs.{AreWorkersOfRun, FollowsScript, HaveRunBeside, IsWorkerOfRun, has_event, lost_beside}
-use Rattle.thread_run.specs.Workers.{HasEnded, HasRunOut, HaveRun, IsGoing, cpu_of, recorder_of, table_of}
+use Rattle.thread_run.specs.Runs.{AreWorkersOfRun, HaveRunBeside, IsWorkerOfRun, has_event, lost_beside}
+use Rattle.thread_run.specs.Workers.{HasEnded, HasRunOut, HaveRun, IsGoing, cpu_of, recorder_of}
 use Rattle.thread_run.proofs.Notes.{begun_are}
 use Rattle.thread_run.proofs.Order.{IsBetween, all_between, in_order}
 use Rattle.thread_run.proofs.Pooled.{AreHands, HandIs, KeepsLast, hand_is, hands_of, in_hand_of, keeps_last, of_all, row_is}

@@ -1,11 +1,11 @@
 -- What a recorder over a pool keeps of a thread's events.
-use Rattle.std.specs.Prelude.{◌≡◌, ◌+◌, ◌<◌, ◌-◌, ◌^◌, ℕ, Bool, true, false, List, [], ◌∷◌, ◌++◌, Option, Some, None, length, refl, if◌then◌else◌}
+use Rattle.std.specs.Prelude.{◌≡◌, ◌+◌, ◌<◌, ◌-◌, ◌^◌, ℕ, List, [], ◌∷◌, ◌++◌, Option, Some, None, length, refl, if◌then◌else◌}
 use mathlib.Core.Path.{◌∙◌}
 use Rattle.fdr_record.specs.declared.event.Event.{Event}
 use Rattle.fdr_buffer.specs.Filled.{Filled, empty_buffer}
 use Rattle.fdr_buffer.specs.Segments.{segments}
 use Rattle.buffer_queue.specs.Passes.{PassIs, sealing}
-use Rattle.traced_run.specs.Kept.{Stamp, buffer_of, buffers_behind, stamp_of}
+use Rattle.traced_run.specs.Kept.{buffer_of, buffers_behind, stamp_of}
 use Rattle.thread_run.specs.declared.exchange.Preamble.{Preamble}
 
 -- what a thread has of a pool: its pass, with the buffers that it has sealed, and the buffer in its hand

@@ -1,28 +1,26 @@
 -- Whole runs of threads beside a script.
-use Rattle.std.specs.Prelude.{◌≡◌, ◌+◌, ◌-◌, ◌==◌, ℕ, Bool, List, [], ◌∷◌, Some, IsPermutation, count_by, filter, length, map, nat_lt, slice_get}
+use Rattle.std.specs.Prelude.{◌≡◌, ◌+◌, ◌-◌, ◌==◌, ℕ, Bool, List, [], ◌∷◌, Some, IsPermutation, count_by, filter, length, nat_lt, slice_get}
 use Rattle.xray_image.specs.Program.{Program}
 use Rattle.patch_script.specs.declared.command.Command.{Command}
 use Rattle.patch_script.specs.Plans.{Plan}
-use Rattle.patch_script.specs.Refusals.{commands_of}
 use Rattle.buffer_queue.specs.Left.{spare_of}
-use Rattle.buffer_queue.specs.Passes.{PassIs, PoolIs, IsOf}
-use Rattle.fdr_record.specs.declared.event.Event.{Event}
+use Rattle.buffer_queue.specs.Passes.{PoolIs, IsOf}
 use Rattle.fdr_buffer.specs.Filled.{Filled}
 use Rattle.machine_step.specs.declared.setup.Setup.{Setup}
-use Rattle.machine_step.specs.PlainStep.{PlainRun}
 use Rattle.machine_step.specs.Traced.{Traced, sleds_of}
 use Rattle.sled_rule.specs.Seats.{script_of}
-use Rattle.traced_run.specs.Kept.{kept_buffers, segment_count}
-use Rattle.traced_run.specs.Left.{HasRun, Leaves}
+use Rattle.traced_run.specs.Kept.{kept_buffers}
+use Rattle.traced_run.specs.Left.{Leaves}
 use Rattle.traced_run.specs.Losses.{AreLost}
-use Rattle.traced_run.specs.Runs.{IsRun, ThreadRun, events_of}
+use Rattle.traced_run.specs.Runs.{IsRun, ThreadRun}
 use Rattle.thread_run.specs.declared.worker.Worker.{Worker}
 use Rattle.thread_run.specs.Following.{MarksFollowScript}
-use Rattle.thread_run.specs.Recordings.{Recording, StandsFor}
+use Rattle.thread_run.specs.Recordings.{Recording}
 use Rattle.thread_run.specs.Workers.{cpu_of, recorder_of, table_of}
 
--- Runs that threads can make beside a script, with one pool of buffers for all of them. The marks of each thread follow the script. As
--- many segments are lost as the pool had no spare buffers for. Whose they are isn't fixed, but each thread keeps its last one.
+-- Runs that threads can make beside a script, with one pool of buffers for all of them. The marks of each thread follow
+-- the script. As many segments are lost as the pool had no spare buffers for. Whose they are isn't fixed, but each thread
+-- keeps its last one.
 pub record FollowsScript (program : Program) (script : List Command) (setup : Setup) (runs : List ThreadRun) : Type 0 where
   pub follow : (i : ℕ) (run : ThreadRun) → slice_get runs i ≡ Some run
       → MarksFollowScript program script (i + 1) (sleds_of run.passed) run.marks
@@ -32,8 +30,8 @@ pub record FollowsScript (program : Program) (script : List Command) (setup : Se
 abbrev pub has_event : Filled → Bool
 has_event buffer = nat_lt 0 (length buffer.events)
 
--- Threads have run beside a script, and these are what their runs leave. The buffers that hold events are those of the segments that are
--- left, in any order.
+-- Threads have run beside a script, and these are what their runs leave. The buffers that hold events are those of the
+-- segments that are left, in any order.
 pub record HaveRunBeside (program : Program) (script : List Command) (setup : Setup) (cpus : List Traced) (segments first : List ℕ)
     (buffers : List Filled) : Type 0 where
   pub runs : List ThreadRun

@@ -215,9 +215,14 @@ fn four_threads_keep_all_segments_or_the_last_ones(rt: HostRuntime) -> Result<()
 #[test]
 fn small_buffers_wrap_and_keep_the_last_segments(rt: HostRuntime) -> Result<(), Fail> {
     let script = b"patch\nset_handler\ninit\ngo\n";
-    // One spare buffer for two threads, none, and one for sixteen. Each thread has four segments, each
-    // in a block of 88 bytes.
-    for (threads, max, lost, len) in [(2, 3, 5, 296), (2, 2, 6, 208), (16, 17, 47, 1528)] {
+    // Each thread has four segments, each in a block of 88 bytes. There is one spare buffer, or none.
+    let runs = [
+        (2, 3, 5, 296),
+        (1, 2, 2, 208),
+        (2, 2, 6, 208),
+        (16, 17, 47, 1528),
+    ];
+    for (threads, max, lost, len) in runs {
         let left = run_file(&rt, &CALLS, script, &setup_of(threads, max, 72))?;
         assert_eq!(rt; left.lost, lost);
         assert_eq!(rt; trace_len(&rt, &left), len);

@@ -137,7 +137,11 @@ fn a_thread_and_the_patcher_run_beside_each_other(rt: HostRuntime) -> Result<(),
     assert!(rt; !relay.late.is_given());
     assert!(rt; relay.at_passing_1.is_given() && relay.at_place_15.is_given());
     assert!(rt; relay.at_passing_3.is_given());
-    assert!(rt; has_line(run.out.as_str(), "marks .1 +1 .1 +1"), "{}", run.out);
+    assert!(rt;
+        has_line(run.out.as_str(), "marks .1 +1 .1 +1"),
+        "{}",
+        run.out
+    );
     let trace = desk.get("t").ok_or("no trace")?;
     assert!(rt; trace.len() == 128);
     assert_eq!(rt;

@@ -1,7 +1,6 @@
 -- How the work of a command ends, and how a call does.
 use Rattle.std.specs.Prelude.{IsErrAnd}
-use Rattle.std.specs.Option.{option_map_or}
-use Rattle.std.proofs.Common.{◌≡◌, ◌⊎◌, ◌+◌, ◌++◌, ◌∙◌, ℕ, List, [], ◌∷◌, length, Option, Some, None, Result, Ok, Err, inl, inr, refl, sym, ap, subst}
+use Rattle.std.proofs.Common.{◌≡◌, ◌+◌, ◌++◌, ◌∙◌, ℕ, List, length, Option, Some, None, Result, Ok, Err, inl, inr, refl, sym, ap, subst}
 use Rattle.std.proofs.lemmas.List.{append-nil}
 use Rattle.fault_words.specs.Words.{words_text}
 use Rattle.xray_io.specs.Calls.{Call, Composes, Went, went_on}
@@ -9,7 +8,7 @@ use Rattle.xray_io.specs.Desk.{Entry}
 use Rattle.xray_io.specs.Faults.{Rose}
 use Rattle.xray_program.specs.Commands.{Comes}
 use Rattle.xray_io.specs.Outputs.{IsMaking}
-use Rattle.xray_io.specs.Reads.{Reads, ReadsSome, ReadsUpToFault}
+use Rattle.xray_io.specs.Reads.{Reads, ReadsUpToFault}
 use Rattle.xray_program.specs.Order.{FailsAtOutput, InOrder, IsNoCall, IsUnmade, MakesAll, ReadsAll, ReadsWhole, StopsAt, inputs_of}
 use Rattle.xray_program.specs.Outcomes.{Outcome, BadLine, Unread, TooLong, Refused, Done, Fell, Ending, With, Unwritten, NoMemory, written_by}
 use Rattle.xray_program.specs.Outputs.{AreWhole, AreUntouched, FailsAt, FailsAtOut, FailsWriting, HoldsPrefix, WritesNothing}

@@ -2,7 +2,7 @@
 use Rattle.std.specs.Prelude.{All, slice_get}
 use Rattle.std.proofs.lemmas.List.{length-map}
 use Rattle.std.proofs.lemmas.List.Elements.{All-head, All-tail}
-use Rattle.std.proofs.Common.{◌≡◌, ◌≤◌, ◌+◌, ℕ, List, [], ◌∷◌, Option, Some, None, option_map, Ok, inl, inr, refl, subst, ◌∙◌, codes}
+use Rattle.std.proofs.Common.{◌≡◌, ◌+◌, ℕ, List, [], ◌∷◌, Option, Some, None, option_map, Ok, inl, inr, refl, subst, ◌∙◌, codes}
 use Rattle.xray_io.specs.Desk.{Entry, Holds, made_to_hold}
 use Rattle.xray_io.specs.Sink.{Adds}
 use Rattle.sled_words.specs.ChangingCode.{KeepsSleds}
@@ -10,7 +10,7 @@ use Rattle.machine_step.specs.declared.setup.Setup.{Setup}
 use Rattle.machine_step.specs.Follows.{Follows}
 use Rattle.machine_step.specs.Loads.{Load}
 use Rattle.machine_step.specs.PlainStep.{Passing}
-use Rattle.machine_step.specs.Whole.{AreWhole}
+use Rattle.machine_step.specs.Whole.{AreWhole as PassingsAreWhole}
 use Rattle.patch_script.specs.CodeAt.{code_at}
 use Rattle.patch_script.specs.Micros.{hold_of}
 use Rattle.patch_script.specs.Plans.{waiting_line}
@@ -94,7 +94,7 @@ ScriptsKeep = (program : Program) (script : List PatchCommand) (thread : ℕ) �
 abbrev pub FollowsWhole : Type 0
 FollowsWhole = (program : Program) (code : ℕ → ℕ → ℕ) (start : ℕ) (bound : ℕ → ℕ) (thread : ℕ) (hold : Option ℕ) (sleds : List ℕ)
     (loads : List Load) (place : ℕ) → KeepsSleds program thread code → Follows program code start bound thread hold sleds loads place
-    → AreWhole program thread hold sleds loads
+    → PassingsAreWhole program thread hold sleds loads
 
 -- the trace of a run reads back
 abbrev pub TracesRuns : Type 0

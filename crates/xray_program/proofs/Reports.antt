@@ -15,13 +15,13 @@ use Rattle.xray_program.specs.Inputs.{image_form, trace_form}
 use Rattle.xray_program.specs.Order.{ReadsAll, StopsAt}
 use Rattle.xray_program.specs.Outcomes.{Outcome}
 use Rattle.xray_program.specs.Reports.{TakeReport, report_inputs}
-use Rattle.xray_program.specs.private.ReportTakes.{ImageTurn, IsReportTaken, StopsReport}
+use Rattle.xray_program.specs.private.ReportTakes.{IsReportTaken, StopsReport}
 use Rattle.xray_program.specs.private.Takes.{AreTaken, AreTakings, Gives, IsMaybeTaken, IsMaybeTaking, IsTaken, StopsTaking}
 use Rattle.xray_program.specs.Taking.{AcceptedUpTo, AcceptsFirst, AllAccepted, DeskReads, Faulty, Follows, Form, Sound, Take, TakeMaybe}
 use Rattle.xray_program.specs.declared.report_inputs.ReportInputs.{ReportInputs}
 use Rattle.xray_program.specs.declared.stop.Stop.{Stop}
 use Rattle.xray_program.proofs.Meanings.{HoldsBytes, IsAlone, IsDecided, IsJudged, SomeOutcome, decided_by, judged_by, maybe_alone, some_maybe, some_take, take_alone}
-use Rattle.xray_program.proofs.Ordering.{read_on, stop_handed}
+use Rattle.xray_program.proofs.Ordering.{all_taken, read_on, stop_handed}
 use Rattle.xray_program.proofs.Turns.{Leads, accepts, leads, leads_on, maybe_leads_on, maybe_stops_at, stops_at}
 
 -- ---- the turns
@@ -96,11 +96,10 @@ pub both_read : {S : Type 0} (along : S → S → List Call → Type 0) → Comp
     (held : List ℕ → Entry) (trace : List ℕ) (image : Option (List ℕ)) (t : Trace) (program : Option Program) → before.held ≡ held
     → Gives trace_form (held trace) t → IsMaybeTaken image_form image before after (Ok program) → Went (along first second) (ReadsAll ((trace, 67108864) ∷ []))
     → (let result : Result (Option Program) Stop = Ok program in Went (along second third) (IsMaybeTaking image 4194304 result))
-    → (inputs : ReportInputs) → (let result : Result ReportInputs Stop = Ok inputs in
-    Went (along first third) (AreTakings (λ reads. StopsReport reads held trace image) (report_inputs trace image) result))
-both_read along both first second third before after held trace image t program same given taken went then inputs =
-    let read = image_read along both first second third trace image program went then in
-    record { calls = read.calls; way = read.way; are = (all_accepted held trace image t before after program same given taken, read.are) }
+    → Went (along first third) (λ calls. AcceptsFirst (λ reads. StopsReport reads held trace image) (length (report_inputs trace image))
+    × ReadsAll (report_inputs trace image) calls)
+both_read along both first second third before after held trace image t program same given taken went then =
+    all_taken (all_accepted held trace image t before after program same given taken) (image_read along both first second third trace image program went then)
 
 -- the image was a stop
 pub image_stopped : {S Y : Type 0} (along : S → S → List Call → Type 0) → Composes along → (first second third : S) (before after : DeskView)

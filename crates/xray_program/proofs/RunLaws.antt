@@ -2,7 +2,7 @@
 use Rattle.std.proofs.Common.{ℕ, List, refl, codes}
 use Rattle.machine_step.specs.declared.setup.Setup.{Setup}
 use Rattle.patch_script.specs.FaultWords.{script_words}
-use Rattle.patch_script.specs.Plans.{Plan, plan_of}
+use Rattle.patch_script.specs.Plans.{plan_of}
 use Rattle.xray_image.specs.Program.{Program}
 use Rattle.xray_io.specs.Desk.{Entry}
 use Rattle.xray_program.specs.Commands.{TellsAll}

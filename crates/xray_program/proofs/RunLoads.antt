@@ -18,7 +18,7 @@ record Chosen (P : ℕ → ThreadRun → List Load → Type 0) (runs : List Thre
   are : (i : ℕ) (run : ThreadRun) → slice_get runs i ≡ Some run → P i run (loads i)
 
 -- some loads, and then others
-one_then : List Load → (ℕ → List Load) → ℕ → List Load
+abbrev one_then : List Load → (ℕ → List Load) → ℕ → List Load
 one_then own others zero = own
 one_then own others (suc i) = others i
 
@@ -32,17 +32,16 @@ some_alike a b e = cc
 chosen : (P : ℕ → ThreadRun → List Load → Type 0) (runs : List ThreadRun)
     → ((i : ℕ) (run : ThreadRun) → slice_get runs i ≡ Some run → (loads : List Load) × P i run loads) → Chosen P runs
 chosen P [] each = record { loads = λ i. []; are = λ i run found. absurd (none_there i run found) }
-chosen P (first ∷ runs) each = record { loads = one_then own.0 rest.loads; are = are }
+chosen P (first ∷ runs) each =
+    let own = each zero first refl in
+    let rest = chosen (λ i. P (suc i)) runs (λ i. each (suc i)) in
+    record { loads = one_then own.0 rest.loads; are = by_place own.0 own.1 rest.loads rest.are }
   where
-    own : (loads : List Load) × P zero first loads
-    own = each zero first refl
-
-    rest : Chosen (λ i. P (suc i)) runs
-    rest = chosen (λ i. P (suc i)) runs (λ i. each (suc i))
-
-    are : (i : ℕ) (run : ThreadRun) → slice_get (first ∷ runs) i ≡ Some run → P i run (one_then own.0 rest.loads i)
-    are zero run found = subst (λ (r : ThreadRun). P zero r own.0) (some_alike first run found) own.1
-    are (suc i) run found = rest.are i run found
+    by_place : (own : List Load) → P zero first own → (others : ℕ → List Load)
+        → ((i : ℕ) (run : ThreadRun) → slice_get runs i ≡ Some run → P (suc i) run (others i))
+        → (i : ℕ) (run : ThreadRun) → slice_get (first ∷ runs) i ≡ Some run → P i run (one_then own others i)
+    by_place own is others are zero run found = subst (λ (r : ThreadRun). P zero r own) (some_alike first run found) is
+    by_place own is others are (suc i) run found = are i run found
 
 -- ---- loads that follow a script
 
@@ -69,7 +68,10 @@ leave_all program script runs follow = record {
       subst (λ (k : ℕ). LeavesMarks program script i run (all.loads k)) place (all.are i run found);
 }
   where
+    one : (i : ℕ) (run : ThreadRun) → slice_get runs i ≡ Some run → (loads : List Load) × LeavesMarks program script i run loads
+    one i run found =
+        let made = follow i run found in
+        (made.loads, record { follow = made.follow; each = made.each; leave = made.leave; released = made.released })
+
     all : Chosen (LeavesMarks program script) runs
-    all = chosen (LeavesMarks program script) runs (λ i run found.
-    let made = follow i run found in
-    (made.loads, record { follow = made.follow; each = made.each; leave = made.leave; released = made.released }))
+    all = chosen (LeavesMarks program script) runs one

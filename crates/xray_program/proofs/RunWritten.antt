@@ -129,7 +129,7 @@ run_written law trace audit setup runs cpus segments first buffers leaves ts lin
 -- each buffer of a run was begun
 thread_begun : (setup : Setup) (thread : ℕ) (pairs : List (ℕ × List Event)) → AllByRecursion (λ b. IsTrue b.begun) (map (buffer_of (stamp_of setup) thread) pairs)
 thread_begun setup thread [] = tt
-thread_begun setup thread (pair ∷ pairs) = (tt, thread_begun setup thread pairs)
+thread_begun setup thread (pair ∷ pairs) = (refl, thread_begun setup thread pairs)
 
 both_begun : (xs ys : List Filled) → AllByRecursion (λ b. IsTrue b.begun) xs → AllByRecursion (λ b. IsTrue b.begun) ys
     → AllByRecursion (λ b. IsTrue b.begun) (xs ++ ys)

@@ -3,9 +3,8 @@ use Rattle.std.proofs.Common.{◌≡◌, ◌∙◌, ℕ, List, [], Option, None,
 use Rattle.command_words.specs.declared.report_options.StackFormat.{StackFormat}
 use Rattle.fdr_file.specs.declared.trace.Trace.{Trace}
 use Rattle.stack_rebuild.specs.FaultWords.{deep_words}
-use Rattle.stack_rebuild.specs.Stacks.{deep_in, stack_of}
+use Rattle.stack_rebuild.specs.Stacks.{deep_in, most_open, stack_of}
 use Rattle.stack_rebuild.specs.StackText.{stack_text}
-use Rattle.stack_rebuild.specs.declared.scan.TheConstants.{MOST_OPEN}
 use Rattle.xray_image.specs.Program.{Program}
 use Rattle.xray_io.specs.Desk.{Entry}
 use Rattle.xray_program.specs.Commands.{TellsAll}
@@ -17,7 +16,7 @@ use Rattle.xray_program.proofs.Meanings.{AnyOutcome, HoldsBytes, IsAlone, IsDeci
 use Rattle.xray_program.proofs.Reports.{report_alone, report_some}
 
 abbrev reason : Trace → Option (List ℕ)
-reason t = option_map deep_words (deep_in MOST_OPEN t.blocks)
+reason t = option_map deep_words (deep_in most_open t.blocks)
 
 abbrev printed : StackFormat → Trace → Option Program → Outcome → Type 0
 printed format t program outcome = outcome ≡ Done [] (stack_text (form_of format) program (stack_of t))
@@ -36,5 +35,5 @@ stack_some is held trace image format told holds =
 
 -- if no thread has too many calls open, its stacks come
 pub stack_prints : (trace : List ℕ) (format : StackFormat) (t : Trace) (program : Option Program) (outcome : Outcome)
-    → deep_in MOST_OPEN t.blocks ≡ None → printed format t program outcome → StacksCome trace format t program outcome
+    → deep_in most_open t.blocks ≡ None → printed format t program outcome → StacksCome trace format t program outcome
 stack_prints trace format t program outcome shallow is = rw shallow is

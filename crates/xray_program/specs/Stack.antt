@@ -4,7 +4,7 @@ use Rattle.command_words.specs.declared.report_options.StackFormat.{StackFormat}
 use Rattle.command_words.specs.declared.report_options.StackFormat.TheVariants.{Human, Flame}
 use Rattle.fdr_file.specs.declared.trace.Trace.{Trace}
 use Rattle.stack_rebuild.specs.FaultWords.{deep_words}
-use Rattle.stack_rebuild.specs.Stacks.{deep_in, stack_of}
+use Rattle.stack_rebuild.specs.Stacks.{deep_in, most_open, stack_of}
 use Rattle.stack_rebuild.specs.StackText.{stack_text}
 use Rattle.stack_rebuild.specs.declared.stack_text.StackForm.{StackForm}
 use Rattle.stack_rebuild.specs.declared.stack_text.StackForm.TheVariants as forms
@@ -23,7 +23,7 @@ form_of Flame = forms.Flame
 -- the least such thread. Otherwise its stacks are printed. A program names the functions, if there is one.
 abbrev pub StacksCome : (trace : List ℕ) → StackFormat → Trace → Option Program → Outcome → Type 0
 StacksCome trace format t program =
-    RefuseIf (option_map deep_words (deep_in 4096 t.blocks)) trace (codes "trace")
+    RefuseIf (option_map deep_words (deep_in most_open t.blocks)) trace (codes "trace")
     (λ outcome. outcome ≡ Done [] (stack_text (form_of format) program (stack_of t)))
 
 -- what comes of the command

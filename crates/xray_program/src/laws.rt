@@ -58,5 +58,4 @@ pub fn some_meaning()
 pub fn inputs_follow_the_rows()
     ensures { (command : Command) → map (λ input. input.0) (inputs_of command)
         ≡ inputs_in (row_of command).files (names_of command) }
-{
-}
+{}

@@ -1,4 +1,4 @@
-use Rattle.std.proofs.Common.{◌∙◌, ap, arith, get_or}
+use Rattle.std.proofs.Common.{◌∙◌, arith}
 use Rattle.thread_run.proofs.RunLemmas.{lost_more}
 use Rattle.thread_run.proofs.whole.add_lost.Goals as goal
 

@@ -1,6 +1,6 @@
-use Rattle.std.proofs.Common.{[], ◌∷◌, Option, option_map, refl, le_refl, rules}
+use Rattle.std.proofs.Common.{[], option_map, refl}
 use Rattle.xray_io.specs.World.{desk_view}
-use Rattle.xray_program.specs.Inputs.{image_form, trace_form}
+use Rattle.xray_program.specs.Inputs.{trace_form}
 use Rattle.xray_program.specs.Reports.{image_input, report_inputs}
 use Rattle.xray_program.specs.private.ReportTakes.{StopsReport}
 use Rattle.xray_program.proofs.Ordering.{no_reads, read_on, stop_handed}
@@ -58,4 +58,4 @@ returns-clause-calls g c =
     let one = read_on along both c.args.desk.now c.args.desk.now c.take.new.desk [] c.args.trace.now 67108864
     (no_reads along g.met.D.Desk.along_none c.args.desk.now) c.in_ok-trace.ensures.calls in
     both_read along both c.args.desk.now c.take.new.desk c.take_maybe.new.desk (seen c.take.new.desk) (seen c.take_maybe.new.desk) (g.D.Desk.held c.args.desk.now)
-    c.args.trace.now image c.in_ok-trace.trace c.in_ok-image.image c.take.ensures.held c.in_ok-trace.ensures.taken c.in_ok-image.ensures.taken one c.in_ok-image.ensures.calls _
+    c.args.trace.now image c.in_ok-trace.trace c.in_ok-image.image c.take.ensures.held c.in_ok-trace.ensures.taken c.in_ok-image.ensures.taken one c.in_ok-image.ensures.calls

@@ -1,7 +1,7 @@
-use Rattle.std.proofs.Common.{◌≡◌, ◌∙◌, ℕ, List, [], None, Option, map, option_map, ap}
+use Rattle.std.proofs.Common.{◌≡◌, ◌∙◌, List, [], None, Option, map, option_map, ap}
 use Rattle.stack_rebuild.specs.declared.stack_row.StackRow.{StackRow}
 use Rattle.stack_rebuild.specs.declared.stack_text.StackForm.{StackForm}
-use Rattle.stack_rebuild.specs.Stacks.{PathRow, stack_of, told}
+use Rattle.stack_rebuild.specs.Stacks.{stack_of, told}
 use Rattle.stack_rebuild.specs.StackText.{stack_text}
 use Rattle.xray_image.specs.Program.{Program}
 use Rattle.xray_io.specs.World.{desk_view, sink_view}

@@ -1,0 +1,8 @@
+pub mod Statements
+pub mod TextLemmas
+pub mod SaidLemmas
+pub mod OrderLemmas
+pub mod ScriptLemmas
+pub mod ScheduleLemmas
+pub mod LoopLemmas
+mod Rows

@@ -1,0 +1,6 @@
+pub mod Draws
+pub mod Texts
+pub mod Scripts
+pub mod Schedules
+pub mod Inputs
+pub mod Said

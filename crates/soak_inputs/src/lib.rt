@@ -1,0 +1,16 @@
+//! The inputs of `soak`: a large lawful assembler text, script and schedule, all drawn from one
+//! number.
+#![tactic(auto)]
+
+mod draws;
+mod inputs;
+mod laws;
+mod lines;
+mod schedule;
+mod script;
+#[cfg(test)]
+mod tests;
+mod text;
+
+pub use inputs::soak_inputs;
+pub use laws::{the_schedule_is_read, the_script_is_read, the_text_is_assembled};
