@@ -1,4 +1,5 @@
-//! What `xray run` does, in ordinary Rust: `run IMAGE SCRIPT TRACE THREADS PASSINGS SIZE MAX`.
+//! What `xray run` does, in ordinary Rust: `run IMAGE SCRIPT TRACE THREADS PASSINGS SIZE MAX TICK TSC CPUS
+//! MIGRATE`.
 //!
 //! It reads an image and a script without judging them. Each thread has a core of its own if there
 //! is one, loads the words of the sleds that it passes, and records entries and exits in a ring of
@@ -6,9 +7,11 @@
 //! loads and stores are `SeqCst`. The progress words have cache lines of their own. At the end the
 //! last buffers of each thread are written to TRACE, and the threads' ends and marks are printed.
 
+use std::collections::VecDeque;
 use std::env;
 use std::fmt::Write;
 use std::fs;
+use std::mem;
 use std::sync::atomic::{AtomicU64, Ordering::SeqCst};
 use std::thread;
 
@@ -239,71 +242,115 @@ impl Table {
     }
 }
 
-/// The records of one thread: the buffers of its last segments, the oldest of which is used again.
+const NEW_BUFFER: u8 = 0x01;
+const NEW_CPU: u8 = 0x05;
+const TSC_WRAP: u8 = 0x07;
+const WALL_TIME: u8 = 0x09;
+const PID: u8 = 0x13;
+
+/// What a run was asked to record: the counter's step and start, and where threads run.
+#[derive(Clone, Copy)]
+struct Stamps {
+    tick: u64,
+    tsc: u64,
+    cpus: u32,
+    migrate: u32,
+}
+
+/// An entry or an exit.
+#[derive(Clone, Copy)]
+struct Event {
+    cpu: u16,
+    id: u32,
+    is_exit: bool,
+    tsc: u64,
+}
+
+/// The records of one thread. One buffer is in its hand, which it fills. If an event has no room
+/// there, the oldest of the sealed ones is used again.
 struct Ring {
-    buffers: Vec<Vec<u8>>,
+    hand: Vec<u8>,
+    sealed: VecDeque<Vec<u8>>,
     size: usize,
     thread: u32,
-    /// How many segments were begun. The last is in the hand.
+    /// How many segments were begun.
     segments: usize,
-    tsc: u64,
+    /// The CPU and the counter of the last event in the hand.
+    last: Option<(u16, u64)>,
 }
 
 impl Ring {
     fn new(thread: u32, size: usize, count: usize) -> Ring {
-        let buffers = (0..count).map(|_| Vec::with_capacity(size)).collect();
         Ring {
-            buffers,
+            hand: Vec::with_capacity(size),
+            sealed: (1..count).map(|_| Vec::with_capacity(size)).collect(),
             size,
             thread,
             segments: 0,
-            tsc: 0,
+            last: None,
         }
     }
 
-    fn hand(&mut self) -> &mut Vec<u8> {
-        let at = (self.segments - 1) % self.buffers.len();
-        &mut self.buffers[at]
-    }
-
-    /// Records an entry or an exit. The bench lets no counter wrap.
-    fn note(&mut self, sled: &Sled, tsc: u64) {
-        let size = self.size;
-        if self.segments == 0 || self.hand().len() + 8 > size {
-            self.begin(tsc);
+    fn note(&mut self, event: Event) {
+        let base = match self.last {
+            Some((cpu, tsc)) if cpu == event.cpu && event.tsc >= tsc => {
+                u32::try_from(event.tsc - tsc).map_err(|_| TSC_WRAP)
+            }
+            Some((cpu, _)) if cpu == event.cpu => Err(TSC_WRAP),
+            _ => Err(NEW_CPU),
+        };
+        let needed = if base.is_ok() { 8 } else { 24 };
+        if self.segments == 0 || self.hand.len() + needed > self.size {
+            self.begin();
+            self.put(event, Err(NEW_CPU));
+        } else {
+            self.put(event, base);
         }
-        let delta = (tsc - self.tsc) as u32;
-        let word = sled.id << 4 | u32::from(sled.is_exit) << 1;
-        let hand = self.hand();
-        hand.extend_from_slice(&word.to_le_bytes());
-        hand.extend_from_slice(&delta.to_le_bytes());
-        self.tsc = tsc;
     }
 
-    /// Begins a segment: the preamble of its buffer, and the record of its CPU.
-    fn begin(&mut self, tsc: u64) {
+    /// Adds the records of an event: its delta, or a record with its whole counter.
+    fn put(&mut self, event: Event, base: Result<u32, u8>) {
+        let delta = base.unwrap_or_else(|kind| {
+            let cpu = u64::from(event.cpu);
+            match kind {
+                NEW_CPU => self.metadata(kind, &[(1, cpu), (3, event.tsc)]),
+                _ => self.metadata(kind, &[(1, event.tsc)]),
+            }
+            0
+        });
+        let word = event.id << 4 | u32::from(event.is_exit) << 1;
+        self.hand.extend_from_slice(&word.to_le_bytes());
+        self.hand.extend_from_slice(&delta.to_le_bytes());
+        self.last = Some((event.cpu, event.tsc));
+    }
+
+    /// Adds a metadata record with some fields at their places.
+    fn metadata(&mut self, kind: u8, fields: &[(usize, u64)]) {
+        let mut record = [0; 16];
+        record[0] = kind;
+        for (at, field) in fields {
+            record[*at..at + 8].copy_from_slice(&field.to_le_bytes());
+        }
+        self.hand.extend_from_slice(&record);
+    }
+
+    /// Begins a segment in the oldest buffer, with its preamble.
+    fn begin(&mut self) {
+        if self.segments > 0 {
+            self.sealed.push_back(mem::take(&mut self.hand));
+            self.hand = self.sealed.pop_front().unwrap();
+        }
+        self.hand.clear();
         self.segments += 1;
-        self.tsc = tsc;
-        let thread = self.thread;
-        let hand = self.hand();
-        hand.clear();
-        for (kind, field, at) in [
-            (0x01, u64::from(thread), 1),
-            (0x09, 0, 1),
-            (0x13, 1, 1),
-            (0x05, tsc, 3),
-        ] {
-            let mut record = [0; 16];
-            record[0] = kind;
-            record[at..at + 8].copy_from_slice(&field.to_le_bytes());
-            hand.extend_from_slice(&record);
-        }
+        self.metadata(NEW_BUFFER, &[(1, u64::from(self.thread))]);
+        self.metadata(WALL_TIME, &[(1, 0)]);
+        self.metadata(PID, &[(1, 1)]);
     }
 
     /// The buffers that hold a segment, the oldest first.
     fn kept(&self) -> impl Iterator<Item = &Vec<u8>> {
-        let first = self.segments.saturating_sub(self.buffers.len());
-        (first..self.segments).map(|at| &self.buffers[at % self.buffers.len()])
+        let all = self.sealed.iter().chain([&self.hand]);
+        all.filter(|buffer| !buffer.is_empty())
     }
 }
 
@@ -313,6 +360,7 @@ struct Machine<'i> {
     image: &'i Image,
     table: &'i Table,
     number: usize,
+    stamps: Stamps,
     registers: [u64; 8],
     zero_flag: bool,
     /// What calls push are the numbers of units.
@@ -324,13 +372,15 @@ struct Machine<'i> {
 }
 
 impl<'i> Machine<'i> {
-    fn new(image: &'i Image, table: &'i Table, number: usize, passings: u32, ring: Ring) -> Self {
+    fn new(image: &'i Image, table: &'i Table, stamps: Stamps, passings: u32, ring: Ring) -> Self {
+        let number = ring.thread as usize;
         let mut registers = [0; 8];
         registers[RDI] = number as u64;
         Machine {
             image,
             table,
             number,
+            stamps,
             registers,
             zero_flag: false,
             stack: Vec::with_capacity(STACK_LIMIT),
@@ -424,12 +474,30 @@ impl<'i> Machine<'i> {
     fn pass(&mut self, sled: usize) {
         let mark = self.mark(sled);
         if mark == b'+' {
-            self.ring.note(&self.image.sleds[sled], self.instructions);
+            let event = self.event(sled);
+            self.ring.note(event);
         }
         self.marks.push(mark);
         self.table.progress[self.number - 1]
             .0
             .store(self.marks.len() as u64, SeqCst);
+    }
+
+    /// What a passing of a sled records.
+    fn event(&self, sled: usize) -> Event {
+        let Stamps {
+            tick,
+            tsc,
+            cpus,
+            migrate,
+        } = self.stamps;
+        let Sled { is_exit, id, .. } = self.image.sleds[sled];
+        Event {
+            cpu: ((self.number as u32 + self.marks.len() as u32 / migrate) % cpus) as u16,
+            id,
+            is_exit,
+            tsc: tsc.wrapping_add(tick.wrapping_mul(self.instructions)),
+        }
     }
 
     fn mark(&self, sled: usize) -> u8 {
@@ -486,8 +554,14 @@ fn main() {
         .iter()
         .map(|word| word.parse().unwrap())
         .collect();
-    let [threads, passings, size, max] = numbers[..] else {
-        panic!("usage: run IMAGE SCRIPT TRACE THREADS PASSINGS SIZE MAX");
+    let [threads, passings, size, max, tick, tsc, cpus, migrate] = numbers[..] else {
+        panic!("usage: run IMAGE SCRIPT TRACE THREADS PASSINGS SIZE MAX TICK TSC CPUS MIGRATE");
+    };
+    let stamps = Stamps {
+        tick: tick as u64,
+        tsc: tsc as u64,
+        cpus: cpus as u32,
+        migrate: migrate as u32,
     };
     let image = read_image(&fs::read(&words[1]).unwrap());
     let script = fs::read_to_string(&words[2]).unwrap();
@@ -496,7 +570,7 @@ fn main() {
     table.patch(&image, &mut lines);
     let ring = |number| Ring::new(number as u32, size, max / threads);
     let mut machines: Vec<Machine> = (1..=threads)
-        .map(|number| Machine::new(&image, &table, number, passings as u32, ring(number)))
+        .map(|number| Machine::new(&image, &table, stamps, passings as u32, ring(number)))
         .collect();
     let texts: Vec<String> = thread::scope(|scope| {
         let running: Vec<_> = machines
