@@ -164,17 +164,24 @@ class Shows:
 
 
 def shown_in(files, begin):
-    """What the audit of a run that began at this time shows, if there is one."""
+    """What the files of a run that began at this time show: the audit, or the trace if no audit could be written."""
     audits = [content for content in files.values() if content.startswith(b"xray-audit 1\n")]
-    audit = audits[0] if audits else b""
-    return Shows(wall_in(audit, begin, time.time() + 1), run_model.shown_by(audit))
+    walls = [wall_of(content) for content in audits or files.values()]
+    end = time.time() + 1
+    walls = [wall for wall in walls if begin <= wall[0] + wall[1] / 1e6 <= end]
+    return Shows(walls[0] if walls else (0, 0), run_model.shown_by(audits[0]) if audits else None)
 
 
-def wall_in(audit, begin, end):
-    """The wall time that an audit says, if it is between these times."""
-    found = re.match(rb"xray-audit 1\n.* wall=([0-9]+)\.([0-9]+) ", audit)
-    wall = (int(found[1]), int(found[2])) if found else (0, 0)
-    return wall if begin <= wall[0] + wall[1] / 1e6 <= end else (0, 0)
+def wall_of(content):
+    """The wall time in the bytes of an audit or a trace, or 0."""
+    found = re.match(rb"xray-audit 1\n.* wall=([0-9]+)\.([0-9]+) ", content)
+    if found:
+        return int(found[1]), int(found[2])
+    try:
+        blocks = trace_model.trace_of(content).blocks
+    except Refused:
+        return (0, 0)
+    return blocks[0].wall if blocks else (0, 0)
 
 
 # ---- The comparison
