@@ -24,7 +24,7 @@ program wrote is then reported on by each report that the program has.
 
 Of a `run`, whose order nobody states, the audit's marks and lost segments are taken. The marks of each thread have to
 follow the script, and the losses have to be such as there may be. The trace, the rest of the audit and standard output
-have to be what comes of these marks and losses, byte by byte. If no audit could be written, the trace has to be any.
+have to be what comes of these marks and losses, byte by byte. If no audit could be written, TRACE has to be a trace.
 
 The last lines say how often each answer, each end of a thread and each mark came, how many runs have passings of
 patched and of unpatched sleds, how many lost segments, and how many reports on written traces there were. A difference
