@@ -24,7 +24,7 @@ program wrote is then reported on by each report that the program has.
 
 Of a `run`, whose order nobody states, the audit's marks and lost segments are taken. The marks of each thread have to
 follow the script, and the losses have to be such as there may be. The trace, the rest of the audit and standard output
-have to be what comes of these marks and losses, byte by byte. If no audit could be written, the trace has to be any.
+have to be what comes of these marks and losses, byte by byte. If no audit could be written, TRACE has to be a trace.
 
 The last lines say how often each answer, each end of a thread and each mark came, how many runs have passings of
 patched and of unpatched sleds, how many lost segments, and how many reports on written traces there were. A difference
@@ -38,7 +38,6 @@ import pathlib
 import random
 import re
 import shutil
-import struct
 import subprocess
 import sys
 import tempfile
@@ -165,28 +164,24 @@ class Shows:
 
 
 def shown_in(files, begin):
-    """What the audit of a run that began at this time shows, if there is one."""
+    """What the files of a run that began at this time show: the audit, or the trace if no audit could be written."""
     audits = [content for content in files.values() if content.startswith(b"xray-audit 1\n")]
-    audit = audits[0] if audits else b""
-    times = [wall for wall in [wall_in(audit), *map(wall_of_trace, files.values())] if is_between(begin, wall)]
-    return Shows(times[0] if times else (0, 0), run_model.shown_by(audit))
+    walls = [wall_of(content) for content in audits or files.values()]
+    end = time.time() + 1
+    walls = [wall for wall in walls if begin <= wall[0] + wall[1] / 1e6 <= end]
+    return Shows(walls[0] if walls else (0, 0), run_model.shown_by(audits[0]) if audits else None)
 
 
-def is_between(begin, wall):
-    """Whether a wall time is one of a run that began at this time and has just ended."""
-    return begin <= wall[0] + wall[1] / 1e6 <= time.time() + 1
-
-
-def wall_in(audit):
-    """The wall time that an audit says."""
-    found = re.match(rb"xray-audit 1\n.* wall=([0-9]+)\.([0-9]+) ", audit)
-    return (int(found[1]), int(found[2])) if found else (0, 0)
-
-
-def wall_of_trace(content):
-    """The wall time in the first block of a trace. If the audit failed, it stands nowhere else."""
-    record = content[64:80]
-    return struct.unpack("<QI", record[1:13]) if len(record) == 16 and record[0] == 9 else (0, 0)
+def wall_of(content):
+    """The wall time in the bytes of an audit or a trace, or 0."""
+    found = re.match(rb"xray-audit 1\n.* wall=([0-9]+)\.([0-9]+) ", content)
+    if found:
+        return int(found[1]), int(found[2])
+    try:
+        blocks = trace_model.trace_of(content).blocks
+    except Refused:
+        return (0, 0)
+    return blocks[0].wall if blocks else (0, 0)
 
 
 # ---- The comparison
