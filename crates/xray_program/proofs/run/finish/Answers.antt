@@ -23,9 +23,11 @@ deliver_run-requires-clause-left g c =
     let Q : Program → Type 0 = λ program.
     HaveRunBeside program (commands_of inputs.script.lines) setup end.cpus.items end.segments.items end.first.items end.buffers.items in
     let is : Q inputs.image = subst Q c.in_ok-steps.ensures.program c.in_ok-end.ensures.left in
-    let same = c.left_of.ensures in
-    (is.runs, leaves_same setup is.runs end.cpus.items left.cpus.items end.segments.items left.segments.items end.first.items left.first.items
-    (kept_buffers setup is.runs) left.buffers.items same.cpus same.segments same.first (same.buffers setup is.runs is.buffers_are) is.leaves)
+    let same = c.left_of.ensures in (
+      is.runs,
+      leaves_same setup is.runs end.cpus.items left.cpus.items end.segments.items left.segments.items end.first.items left.first.items
+          (kept_buffers setup is.runs) left.buffers.items same.cpus same.segments same.first (same.buffers setup is.runs is.buffers_are) is.leaves,
+    )
 
 pub returns-clause-finishes : goal.returns-clause-finishes
 returns-clause-finishes g c =
