@@ -23,6 +23,7 @@ pub mod RunWritten
 pub mod Saying
 pub mod SimLaws
 pub mod SimTurns
+pub mod SoakLaws
 pub mod StackLaws
 pub mod TextLists
 pub mod Turns

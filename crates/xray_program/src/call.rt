@@ -8,7 +8,7 @@ ghost use Rattle.xray_io.specs.World.{desk_view, sink_view};
 ghost use Rattle.xray_program.specs.Answers.{Answered};
 ghost use Rattle.xray_program.specs.Commands.{IsStill};
 ghost use Rattle.xray_program.specs.private.Stops.{answer_of, told_of};
-ghost use Rattle.xray_program.specs.private.Works.{Ends, FitsTraces, SaidFits};
+ghost use Rattle.xray_program.specs.private.Works.{Ends, FitsTraces, IsOther, IsReport, SaidFits};
 
 use crate::account::Account;
 use crate::asm::Asm;
@@ -18,6 +18,7 @@ use crate::plain::Plain;
 use crate::run::perform_run;
 use crate::run_inputs::Run;
 use crate::sim::Sim;
+use crate::soak::Soak;
 use crate::stack::Stack;
 use crate::stop::Stop;
 use crate::traced::TraceFiles;
@@ -205,7 +206,7 @@ fn perform_words<'a, D: Desk, O: Sink>(
     }
 }
 
-/// Does what a command says that waits for nobody. Each command has a line.
+/// Does what a command says that waits for nobody.
 fn perform_command<'a, D: Desk, O: Sink>(
     alloc: Global,
     command: Command<'a>,
@@ -229,20 +230,36 @@ fn perform_command<'a, D: Desk, O: Sink>(
             audit,
             options,
         } => {
-            perform(
-                alloc,
-                &Sim {
-                    image,
-                    script,
-                    schedule,
-                    files: TraceFiles { trace, audit },
-                    options,
-                },
-                desk,
-                out,
-            )
+            let files = TraceFiles { trace, audit };
+            let sim = Sim {
+                image,
+                script,
+                schedule,
+                files,
+                options,
+            };
+            perform(alloc, &sim, desk, out)
         }
         Command::Run { .. } => unreachable!(),
+        other => perform_other(alloc, other, desk, out),
+    }
+}
+
+/// Does what a command says that runs no traced threads for files.
+fn perform_other<'a, D: Desk, O: Sink>(
+    alloc: Global,
+    command: Command<'a>,
+    desk: &mut D,
+    out: &mut O,
+) -> Result<(), Stop<'a>>
+    requires other { IsOther (command_view command) }
+    ensures ends { let seen = desk_view D.held D.read_faults D.write_faults in
+        let got = sink_view O.written O.faults in
+        Ends (Some (command_view command.entry)) (seen desk.old) (seen desk.new) (got out.old) (got out.new)
+        (D.along desk.old desk.new) (answer_of result) (told_of result) }
+{
+    match command {
+        Command::Sim { .. } | Command::Run { .. } => unreachable!(),
         Command::Plain { image, bounds } => perform(alloc, &Plain { image, bounds }, desk, out),
         Command::Extract { image } => perform(alloc, &Extract { image }, desk, out),
         Command::Asm {
@@ -250,51 +267,59 @@ fn perform_command<'a, D: Desk, O: Sink>(
             image,
             threshold,
         } => {
-            perform(
-                alloc,
-                &Asm {
-                    text,
-                    image,
-                    threshold,
-                },
-                desk,
-                out,
-            )
+            let asm = Asm {
+                text,
+                image,
+                threshold,
+            };
+            perform(alloc, &asm, desk, out)
         }
+        Command::Soak { number } => perform(alloc, &Soak { number }, desk, out),
+        report => perform_report(alloc, report, desk, out),
+    }
+}
+
+/// Makes the report on a trace that a command says.
+fn perform_report<'a, D: Desk, O: Sink>(
+    alloc: Global,
+    command: Command<'a>,
+    desk: &mut D,
+    out: &mut O,
+) -> Result<(), Stop<'a>>
+    requires report { IsReport (command_view command) }
+    ensures ends { let seen = desk_view D.held D.read_faults D.write_faults in
+        let got = sink_view O.written O.faults in
+        Ends (Some (command_view command.entry)) (seen desk.old) (seen desk.new) (got out.old) (got out.new)
+        (D.along desk.old desk.new) (answer_of result) (told_of result) }
+{
+    match command {
         Command::Account {
             trace,
             image,
             options,
         } => {
-            perform(
-                alloc,
-                &Account {
-                    trace,
-                    image,
-                    options,
-                },
-                desk,
-                out,
-            )
+            let account = Account {
+                trace,
+                image,
+                options,
+            };
+            perform(alloc, &account, desk, out)
         }
         Command::Stack {
             trace,
             image,
             format,
         } => {
-            perform(
-                alloc,
-                &Stack {
-                    trace,
-                    image,
-                    format,
-                },
-                desk,
-                out,
-            )
+            let stack = Stack {
+                trace,
+                image,
+                format,
+            };
+            perform(alloc, &stack, desk, out)
         }
         Command::Convert { trace, image } => {
             perform(alloc, &Convert { trace, image }, desk, out)
         }
+        _ => unreachable!(),
     }
 }
