@@ -147,7 +147,7 @@ soak_of line command says = go line.files refl
     by_number : (seed : List ℕ) (number : Option ℕ) → option_map Soak number ≡ Some command → IsOf soak_row (seed ∷ []) command
     by_number seed (Some number) says =
         let is : Soak number ≡ command = same _ _ says in
-        rw sym is (record { row_is = refl; names_are = refl })
+        rw (sym is) (record { row_is = refl; names_are = refl })
     by_number seed None says = absurd (never command says)
 
     go : (names : List (List ℕ)) → line.files ≡ names → IsOf soak_row line.files command
