@@ -67,10 +67,11 @@ impl Pool {
     }
 
     /// Seals a thread's full buffer: puts it at the back of the queue, and takes the buffer at the
-    /// front. Always gives one. What it holds is stale, and may be the segment of any thread.
+    /// front. There always is one. What it holds is stale, and may be a segment of any thread.
     ///
-    /// The full buffer is one of the thread's segments, with the next serial number. Takes no memory,
-    /// and has no refusal. It may spin while another thread is about to end a put or a take.
+    /// The full buffer is one of the thread's segments, with the next serial number. The call has
+    /// no refusal, and no answer for want of memory. It may spin while another thread is about to
+    /// end a put or a take.
     pub fn turn<R: Wait>(&self, rt: &R, pass: &mut PoolPass, full: Buffer) -> Buffer
         requires pass { IsOf self.now pass.old }
         requires size { full.size ≡ self.now.setup.size }
@@ -87,8 +88,8 @@ impl Pool {
         next
     }
 
-    /// Moves all that is queued behind other buffers, in the queue's order. All threads have to hand
-    /// their passes back, thread 1 first, and `into` has to have room for `max` more buffers.
+    /// Moves all that is queued to the end of `into`, in the queue's order. All threads have to
+    /// hand their passes back, thread 1 first, and `into` needs room for `max` more buffers.
     pub fn drain<R: Wait>(self, rt: &R, passes: Vec<PoolPass>, into: &mut Vec<Buffer>)
         requires passes { AreOf self 1 passes.items }
         requires all { vec_len passes ≡ self.setup.threads }

@@ -63,7 +63,7 @@ fn stock<R: Wait>(rt: &R, queue: &Queue, head: &mut Pass<Buffer, View>, fresh: B
     }
 }
 
-/// Queues all fresh buffers but one for each thread's hand.
+/// Queues all fresh buffers except one for each thread's hand.
 pub(crate) fn stock_all<R: Wait>(
     rt: &R,
     alloc: Global,

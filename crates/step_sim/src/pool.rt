@@ -22,7 +22,7 @@ pub(crate) struct Pool {
     queue: Ring<Buffer>,
     /// How many buffers each thread has put into the queue.
     sealed: Vec<u32>,
-    /// How many of those were taken away again.
+    /// How many of these were taken away again.
     first: Vec<u32>,
     wall: Wall,
     pid: u32,

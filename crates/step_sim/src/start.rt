@@ -89,12 +89,12 @@ impl<'a, 's> SimStart<'a, 's> {
         })
     }
 
-    /// Replays a schedule. Its lines are taken in order; their turns are loads of the threads and
-    /// micro steps of the patcher. After them thread 1 runs to its end, then thread 2, up to the
-    /// last. The threads start after the micro steps before the script's `go`. The turns of a
-    /// thread that has ended do nothing, and neither do those of the patcher after the script's
-    /// last step. Micro steps that are left when all threads have ended aren't made, since no load
-    /// would see them. A replay always comes to an end.
+    /// Replays a schedule. Its lines are taken in order. Their turns are loads of the threads and
+    /// micro steps of the patcher. After them thread 1 runs to its end, then thread 2, and so on.
+    /// The threads start after the micro steps before the script's `go`. The turns of a thread that
+    /// has ended do nothing, and neither do those of the patcher after the script's last step.
+    /// Micro steps that are left when all threads have ended aren't made, since no load would see
+    /// them. A replay always comes to an end.
     pub fn play(self, schedule: &Schedule) -> SimEnd<'a>
         requires { All (AreTurnsOf self.setup.threads) schedule.now }
         ensures { IsSimulated self.entry.program self.entry.script schedule.now self.entry.setup

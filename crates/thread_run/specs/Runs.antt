@@ -50,7 +50,7 @@ pub record IsWorkerOfRun (plan : Plan) (pool : PoolIs) (number : ℕ) (worker : 
   pub pass : IsOf pool (recorder_of worker).pass
   pub owner : (recorder_of worker).pass.thread ≡ number
 
--- workers of all numbers from 1 on, of each of which this holds
+-- workers of all numbers from 1 on, each of which satisfies this
 abbrev pub AreWorkersOfRun : Plan → PoolIs → (Worker Recording → Type 0) → List (Worker Recording) → Type 0
 AreWorkersOfRun plan pool Is workers =
     (i : ℕ) (worker : Worker Recording) → slice_get workers i ≡ Some worker → IsWorkerOfRun plan pool (i + 1) worker × Is worker

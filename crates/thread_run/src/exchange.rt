@@ -21,8 +21,8 @@ pub(crate) struct Preamble {
     pub(crate) pid: u32,
 }
 
-/// A buffer for the thread's next segment. The hand is sealed if it holds a segment; else it is that
-/// buffer itself.
+/// A buffer for the thread's next segment. If the hand holds a segment, it is sealed. Otherwise the
+/// hand itself is that buffer.
 fn exchange<T: Wait>(rt: &T, pool: &Pool, pass: &mut PoolPass, hand: Buffer) -> Buffer
     requires pass { IsOf pool.now pass.old }
     requires size { hand.size ≡ pool.now.setup.size }

@@ -55,8 +55,8 @@ struct Gathered<'s> {
 /// Runs all threads of a table's script, and the script beside them, from the first micro step on.
 /// The threads share one pool of buffers.
 ///
-/// Takes all memory before the first thread starts; `NoMemory` comes when some of it was refused. No
-/// clause says that the call returns.
+/// Takes its memory before the first thread starts. `NoMemory` means that an allocation was
+/// refused. No clause says that the call returns.
 pub fn run<'s, T: Threads + Wait + Sync, G: Gate + Sync>(
     rt: &T,
     alloc: Global,
@@ -161,7 +161,7 @@ fn new_workers<'s, 't, 'p, T: Wait>(
     Ok(workers)
 }
 
-/// Room for what threads have when they have ended, and nothing of it.
+/// Room for what threads have when they have ended, with nothing in it.
 fn room_for<'s>(alloc: Global, setup: &Setup) -> Result<Gathered<'s>, NoMemory>
     ensures { IfOk result (IsRoom setup.now) }
 {
@@ -239,7 +239,7 @@ fn left_by<'s, R: Wait>(
     }
 }
 
-/// Moves the buffers of the threads' hands behind others.
+/// Moves the buffers of the threads' hands to the end of others.
 fn add_hands(hands: Vec<Buffer>, buffers: &mut Vec<Buffer>)
     requires room { vec_len buffers.old + vec_len hands ≤ vec_capacity buffers.old }
     ensures { buffers.new.items ≡ buffers.old.items ++ hands.items }

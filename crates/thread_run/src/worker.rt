@@ -143,7 +143,8 @@ impl<'s, 't, R: Recorder> Worker<'s, 't, R> {
         }
     }
 
-    /// Loads a word, gives its value to the thread, and notes the event that comes of it.
+    /// Loads a word, gives its value to the thread, and notes the event that results, if there is
+    /// one.
     fn take(&mut self, word: u32)
         requires going { IsGoing R.stands self.old }
         requires wants { (cpu_of self.old).want ≡ Want.Load word }

@@ -39,8 +39,8 @@ ReadsAll [] calls = calls ≡ []
 ReadsAll (input ∷ inputs) calls =
     (mine : List Call) × (later : List Call) × (calls ≡ mine ++ later) × ReadsWhole input.0 input.1 mine × ReadsAll inputs later
 
--- Inputs of which this comes. Those before one of them were read whole, and each was accepted. This is said of the calls
--- of that one, and no other input was asked for.
+-- Of the inputs of which this comes, those before one of them were read whole, and each was accepted. `Last` holds of
+-- the calls for that one, and no later input was asked for.
 pub record StopsAt (comes : DeskReads → Outcome → Type 0) (inputs : List (List ℕ × ℕ)) (name : List ℕ) (Last : (limit : ℕ) → List Call → Type 0) (calls : List Call) : Type 0 where
   pub earlier : List (List ℕ × ℕ)
   pub limit : ℕ
@@ -74,7 +74,7 @@ pub record FailsAtOutput (outputs : List (List ℕ × List ℕ)) (desk desk_now 
   pub fault : WriteFault
   pub fails : IsMaking name bytes (desk.held name) (desk_now.held name) (Err fault) last
 
--- the output of this name failed; or all were made, and out failed, which is named `output`
+-- the output of this name failed; or all outputs were made, and out failed, which is named `output`
 abbrev pub IsUnmade : List (List ℕ × List ℕ) → (desk desk_now : DeskView) → List ℕ → List Call → Type 0
 IsUnmade outputs desk desk_now name calls =
     FailsAtOutput outputs desk desk_now name calls ⊎ ((name ≡ codes "output") × MakesAll outputs calls)
@@ -101,9 +101,9 @@ comes_over said desk reads = ComesOf reads said desk.held
 abbrev pub inputs_said : Option Command → List (List ℕ × ℕ)
 inputs_said said = option_map_or inputs_of said []
 
--- The calls of a call that ended in this way. If the words say no command, there are none. A refusal comes of the last
--- input that was read, or it comes late, though each input was accepted. Memory runs out before any call; or at an
--- input, and those before it were accepted; or later, and all were.
+-- The calls of a call that ended in this way. If the words say no command, there are none. A refusal is of the last
+-- input that was read, or it is late, though each input was accepted. Memory runs out before any call; or at an input,
+-- and those before it were accepted; or later, and all were accepted.
 abbrev pub InOrder : Option Command → (desk desk_now : DeskView) → Ending → List Call → Type 0
 InOrder said desk desk_now (With BadLine) calls = calls ≡ []
 InOrder said desk desk_now (With (Unread name)) calls =
