@@ -3,7 +3,7 @@ use Rattle.std.specs.Prelude.{◌≡◌, ◌<◌, ◌+◌, ◌-◌, ◌==◌, �
 use Rattle.fdr_buffer.specs.Filled.{Filled, empty_buffer}
 use Rattle.machine_step.specs.declared.setup.Setup.{Setup}
 
--- how many buffers a pool has besides those in its threads' hands
+-- how many buffers a pool has beside those in its threads' hands
 abbrev pub spare_of : Setup → ℕ
 spare_of setup = setup.max - setup.threads
 

@@ -205,7 +205,7 @@ fn perform_words<'a, D: Desk, O: Sink>(
     }
 }
 
-/// Does what a command says. The command waits for nobody. Each such command has a line.
+/// Does what a command says that waits for nobody.
 fn perform_command<'a, D: Desk, O: Sink>(
     alloc: Global,
     command: Command<'a>,
