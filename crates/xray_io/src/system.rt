@@ -204,17 +204,11 @@ impl<P: Print> Sink for OutSink<P> {
 
     ghost faults = { λ sink. sink.faults };
 
-    ghost follows = { λ _ _. Unit {0} };
-
     ghost along = { λ _ _ _. Unit {0} };
 
     fn write(&mut self, bytes: &[u8]) -> Result<usize, Failed> {
         write_some(&mut io::writer(&self.to), bytes, &mut self.faults)
     }
-
-    ghost follows_itself = { λ _. tt };
-
-    ghost follows_along = { λ _ _ _ _ _. tt };
 
     ghost along_none = { λ _. tt };
 
@@ -245,17 +239,11 @@ impl<P: Print> Sink for ErrSink<P> {
 
     ghost faults = { λ sink. sink.faults };
 
-    ghost follows = { λ _ _. Unit {0} };
-
     ghost along = { λ _ _ _. Unit {0} };
 
     fn write(&mut self, bytes: &[u8]) -> Result<usize, Failed> {
         write_some(&mut io::writer(&self.to), bytes, &mut self.faults)
     }
-
-    ghost follows_itself = { λ _. tt };
-
-    ghost follows_along = { λ _ _ _ _ _. tt };
 
     ghost along_none = { λ _. tt };
 
