@@ -27,7 +27,7 @@ filling-preserved g c =
     let P : List ℕ → Type 0 = λ t. AddsText g.S.Sink.written g.S.Sink.faults g.S.Sink.along c.args.self.now c.bytes.new.self t (Ok tt) in
     record {
       within = omega (arith, kept.within);
-      adds = subst P more (adds_more g.met.S.Sink.along_both kept.adds c.in_ok-bytes.ensures.adds);
+      adds = subst P more (adds_more g.met.S.Sink.along_both {answer = Ok tt} kept.adds c.in_ok-bytes.ensures.adds);
     }
 
 pub returns : goal.returns

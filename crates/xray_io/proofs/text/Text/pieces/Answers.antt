@@ -25,7 +25,7 @@ loop-piece-preserved g c =
     let i = c.loop-piece.piece-index in
     let here = text_more c.args.pieces.now i (Bytes (record { ref_ptr = (0, 0); now = [] })) (omega arith) in
     let P : List ℕ → Type 0 = λ t. AddsText g.S.Sink.written g.S.Sink.faults g.S.Sink.along c.args.self.now c.piece.new.self t (Ok tt) in
-    subst P here (adds_more g.met.S.Sink.along_both c.loop-piece.invariant c.in_ok-piece.ensures.adds)
+    subst P here (adds_more g.met.S.Sink.along_both {answer = Ok tt} c.loop-piece.invariant c.in_ok-piece.ensures.adds)
 
 pub returns : goal.returns
 returns g c =
