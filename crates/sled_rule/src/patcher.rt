@@ -82,16 +82,26 @@ impl CodeTable {
             → count ≤ slice_index (patch_view seat.old).known thread → result ≡ true }
     {
         match self.next_micro(seat) {
-            Micro::Await { thread, count } => {
-                let value = self.load_progress(&mut seat.seat, thread, count);
-                if value < u64::from(count) {
-                    false
-                } else {
-                    seat.place += 1;
-                    true
-                }
-            }
+            Micro::Await { thread, count } => self.look_for(seat, thread, count),
             Micro::Store { .. } | Micro::End => unreachable!(),
+        }
+    }
+
+    /// Looks whether a thread has made so many passings, as the micro step at the place awaits it.
+    fn look_for(&self, seat: &mut PatchSeat, thread: u32, count: u32) -> bool
+        requires own { IsPatcherOf self.now seat.old }
+        requires next { micro_in (script_of self.now) (patch_view seat.old).place ≡ Micro.Await thread count }
+        requires within { IsWithin (script_of self.now) (Micro.Await thread count) }
+        ensures own { IsPatcherOf self.now seat.new }
+        ensures looked { IsLooked (patch_view seat.old) result (patch_view seat.new) }
+        ensures known { count ≤ slice_index (patch_view seat.old).known thread → result ≡ true }
+    {
+        let value = self.load_progress(&mut seat.seat, thread, count);
+        if value < u64::from(count) {
+            false
+        } else {
+            seat.place += 1;
+            true
         }
     }
 
