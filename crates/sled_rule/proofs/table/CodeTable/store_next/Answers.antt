@@ -1,6 +1,17 @@
-use Rattle.std.proofs.Common.{sym, ◌∙◌}
+use Rattle.std.proofs.Common.{ap, sym, ◌∙◌}
+use Rattle.sled_rule.specs.declared.views.PatchView.{PatchView}
+use Rattle.sled_rule.specs.Plans.{micro_in}
+use Rattle.sled_rule.specs.Seats.{script_of}
+use Rattle.sled_rule.specs.Views.{advanced}
 use Rattle.sled_rule.proofs.Laws.{is_store}
 use Rattle.sled_rule.proofs.table.CodeTable.store_next.Goals as goal
+
+pub make_store-requires-clause-next : goal.make_store-requires-clause-next
+make_store-requires-clause-next c =
+    ap (λ (p : PatchView). micro_in (script_of c.args.self.now) p.place) c.next_micro.ensures.same ∙ c.in-Store.ensures.micro
+
+pub returns-in-Store-clause-view : goal.returns-in-Store-clause-view
+returns-in-Store-clause-view c = c.make_store.ensures.view ∙ ap advanced c.next_micro.ensures.same
 
 pub unreachable-requires : goal.unreachable-requires
 unreachable-requires c =
