@@ -4,7 +4,7 @@ ghost use Rattle.command_words.specs.Words.{outputs_of};
 ghost use Rattle.patch_script.specs.Refusals.{commands_of};
 ghost use Rattle.machine_step.specs.declared.setup.Setup.{Setup};
 ghost use Rattle.thread_run.specs.Runs.{HaveRunBeside};
-ghost use Rattle.trace_flush.specs.Arranged.{has_event};
+ghost use Rattle.fdr_buffer.specs.Filled.{has_event};
 ghost use Rattle.traced_run.specs.Kept.{kept_buffers};
 ghost use Rattle.traced_run.specs.Runs.{ThreadRun};
 ghost use Rattle.xray_io.specs.Calls.{Went};
