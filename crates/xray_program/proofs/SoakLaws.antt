@@ -1,5 +1,5 @@
 -- `soak`: one thing comes of it, and something in any case.
-use Rattle.std.proofs.Common.{◌≡◌, ◌≤◌, ◌∙◌, ℕ, List, [], None, Ok, refl, sym, ap, subst, arith}
+use Rattle.std.proofs.Common.{◌≡◌, ◌≤◌, ◌∙◌, ℕ, List, [], None, Ok, Result, refl, sym, ap, subst, arith}
 use Rattle.std.specs.List.{enumerate_from}
 use Rattle.account_report.specs.Account.{account_of}
 use Rattle.asm_text.specs.Assembling.{assembled, image_of, said_by, ◌>>=◌}
@@ -36,7 +36,7 @@ abbrev pub RunTraced : Type 0
 RunTraced = (bytes : List ℕ) (program : Program) (setup : Setup) (runs : List ThreadRun)
     → IsAccepted bytes program → SetupFits setup → IsRun program setup runs → IsTraceOf setup runs (trace_bytes setup runs)
 
-pub record DrawnLaws : Type 0 where
+pub record InputLaws : Type 0 where
   pub said : (number : ℕ) → said_by (soak_text number) ≡ Ok (soak_said number)
   pub ids : (number threshold : ℕ) → id_count (program_said threshold (soak_said number)) ≡ 64
   pub plan : (number : ℕ) (program : Program) → 64 ≤ id_count program
@@ -44,6 +44,9 @@ pub record DrawnLaws : Type 0 where
   pub waits : (number : ℕ) (program : Program) → 64 ≤ id_count program → waiting_line (enumerate_from 1 (soak_commands number)) ≡ None
   pub schedule : (number : ℕ) → schedule_of 4 (soak_schedule number) ≡ Ok (soak_turns number)
   pub assembles : Assembles
+
+pub record DrawnLaws : Type 0 where
+  pub inputs : InputLaws
   pub traced : RunTraced
   pub reads : (bytes : List ℕ) (trace : Trace) → IsTrace bytes trace → trace_of bytes ≡ Ok trace
 
@@ -54,13 +57,13 @@ abbrev pub soak_program : (number : ℕ) → Program
 soak_program number = program_said 1 (soak_said number)
 
 -- it has enough functions for the script
-enough : DrawnLaws → (number : ℕ) → 64 ≤ id_count (soak_program number)
+pub enough : InputLaws → (number : ℕ) → 64 ≤ id_count (soak_program number)
 enough laws number = omega (arith, laws.ids number 1)
 
 pub assembled_as : (text : List ℕ) (said : Lines) → said_by text ≡ Ok said → assembled text 1 ≡ Ok (file_bytes (image_of 1 said))
 assembled_as text said is = ap (λ r. r >>= λ s. Ok (file_bytes (image_of 1 s))) is
 
-pub inputs_read : DrawnLaws → (number : ℕ) → AreInputs number (soak_program number)
+pub inputs_read : InputLaws → (number : ℕ) → AreInputs number (soak_program number)
     (written_plan (soak_program number) 4 (soak_commands number)) (soak_turns number)
 inputs_read laws number = record {
   image = file_bytes (image_of 1 (soak_said number));
@@ -127,7 +130,7 @@ soak_fits = record {
 
 some_summary : StillRun → DrawnLaws → (number : ℕ) → (text : List ℕ) × IsSummary number text
 some_summary some laws number =
-    let inputs = inputs_read laws number in
+    let inputs = inputs_read laws.inputs number in
     let program = soak_program number in
     let plan = written_plan program 4 (soak_commands number) in
     let run = some inputs.image program (commands_of plan.lines) (soak_turns number) soak_setup plan.lines inputs.accepted refl inputs.nobody_waits in

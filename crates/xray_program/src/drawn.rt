@@ -3,15 +3,15 @@ ghost use Rattle.std.specs.Prelude.{◌≡◌, ◌<◌, length, IfErr, IfOk, Non
 ghost use Rattle.std.specs.Str.Lines.{lines};
 ghost use Rattle.asm_text.specs.Assembling.{said_by};
 ghost use Rattle.asm_text.specs.Layout.{Lines};
+ghost use Rattle.asm_text.specs.Programs.{program_said};
 ghost use Rattle.patch_script.specs.Plans.{waiting_line};
 ghost use Rattle.patch_script.specs.Refusals.{commands_of};
 ghost use Rattle.step_sim.specs.Replayed.{IsSimulated};
 ghost use Rattle.xray_program.specs.Soak.{AreInputs, soak_setup};
-ghost use Rattle.xray_program.specs.private.Drawn.{IsImageOf};
 ghost use Rattle.xray_program.specs.private.SimInputs.{AreReadFor};
 
 use crate::sim_inputs::SimInputs;
-use asm_text::assemble;
+use asm_text::{an_assembled_file_is_accepted, assemble};
 use fault_words::Fault;
 use machine_step::{Limits, Setup, Steps};
 use patch_script::read_script;
@@ -62,6 +62,7 @@ pub(crate) fn drawn_inputs(alloc: Global, number: u64) -> Result<SimInputs, NoMe
     ensures fit { IfOk result (AreReadFor 4) }
 {
     // Called for their contracts: none of the inputs is refused.
+    an_assembled_file_is_accepted();
     the_text_is_assembled();
     the_script_is_read();
     the_schedule_is_read();
@@ -80,7 +81,7 @@ pub(crate) fn drawn_inputs(alloc: Global, number: u64) -> Result<SimInputs, NoMe
 fn image_of(alloc: Global, text: &[u8]) -> Result<Image, NoMemory>
     requires said { (said : Lines) × (said_by text.now ≡ Ok said) }
     requires few { length (lines text.now) < u32.MAX }
-    ensures { IfOk result (IsImageOf text.now) }
+    ensures { (said : Lines) → said_by text.now ≡ Ok said → IfOk result (λ program. program ≡ program_said 1 said) }
 {
     let file = unrefused(assemble(alloc, text, THRESHOLD))?;
     unrefused(read_image(alloc, &file))

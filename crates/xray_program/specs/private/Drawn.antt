@@ -1,8 +1,7 @@
--- The inputs of `soak`, and what is left of their replay.
+-- The summary of `soak`.
 use Rattle.std.specs.Prelude.{◌≡◌, ℕ, List, ◌++◌, length, Ok, codes, decimal}
 use Rattle.account_report.specs.Account.{account_of}
 use Rattle.account_report.specs.declared.row.AccountRow.{AccountRow}
-use Rattle.asm_text.specs.Assembling.{assembled}
 use Rattle.fdr_buffer.specs.Filled.{Filled}
 use Rattle.fdr_file.specs.Files.{file_bytes}
 use Rattle.fdr_file.specs.Traces.{trace_of}
@@ -11,14 +10,7 @@ use Rattle.machine_step.specs.Texts.{line_feed}
 use Rattle.trace_flush.specs.Audit.{Account}
 use Rattle.trace_flush.specs.Flush.{header_of}
 use Rattle.trace_flush.specs.Summary.{summary_text}
-use Rattle.xray_image.specs.Program.{Program, IsAccepted}
 use Rattle.xray_program.specs.Soak.{soak_setup, trace_lines}
-
--- a text is assembled to an image that is accepted
-pub record IsImageOf (text : List ℕ) (program : Program) : Type 0 where
-  pub image : List ℕ
-  pub assembles : assembled text 1 ≡ Ok image
-  pub accepted : IsAccepted image program
 
 -- the file of these buffers has this many bytes, and the trace that it is read as has this account
 pub record IsReadBack (buffers : List Filled) (bytes : ℕ) (rows : List AccountRow) : Type 0 where

@@ -1,0 +1,75 @@
+-- The inputs of a number as they are read, and the summary of their replay.
+use Rattle.std.proofs.Common.{◌≡◌, ◌≢◌, ◌⊎◌, ◌↔◌, ◌++◌, ◌∙◌, ◌≤◌, ℕ, List, [], length, None, Option, Some, Ok, Err, Result, inl, inr, refl, sym, ap, subst, absurd}
+use Rattle.std.specs.Prelude.{IfErr, IfOk, Vec}
+use Rattle.std.specs.declared.alloc.Global.{Global}
+use Rattle.asm_text.specs.Assembling.{assembled, said_by, seen}
+use Rattle.asm_text.specs.FaultWords.{asm_words}
+use Rattle.asm_text.specs.Layout.{Lines}
+use Rattle.asm_text.specs.Programs.{IsProgramOf, program_said}
+use Rattle.asm_text.specs.declared.fault.AsmFault.{AsmFault}
+use Rattle.asm_text.specs.declared.fault.AsmFault.TheVariants as asm_faults
+use Rattle.step_sim.specs.FaultWords.{sim_words}
+use Rattle.step_sim.specs.declared.sim_fault.SimFault.{SimFault}
+use Rattle.step_sim.specs.declared.sim_fault.SimFault.TheVariants as sim_faults
+use Rattle.xray_program.proofs.SoakLaws.{assembled_as, same_value}
+
+-- ---- what readers answer
+
+same_fault : {X F : Type 0} (f g : F) → ◌≡◌ {A = Result X F} (Err f) (Err g) → f ≡ g
+same_fault f g e = cc
+
+no_value : {X F : Type 0} (f : F) (x : X) → ◌≡◌ {A = Result X F} (Err f) (Ok x) → ⊥
+no_value f x e = cc
+
+-- a value, or want of memory, which has no words
+pub unrefused_by : {X F : Type 0} (told : F → Option (List ℕ)) (wanting : F) → told wanting ≡ None → (answer : Result X F) (value : X)
+    → (answer ≡ Ok value) ⊎ (answer ≡ Err wanting) → IfErr answer (λ fault. told fault ≡ None)
+unrefused_by told wanting none (Ok x) value either = tt
+unrefused_by told wanting none (Err fault) value (inl same) = absurd (no_value fault value same)
+unrefused_by {X = X} told wanting none (Err fault) value (inr same) = subst (λ f. told f ≡ None) (sym (same_fault {X = X} fault wanting same)) none
+
+-- the answer is the verdict, which is a value
+pub either_way : {X F : Type 0} (wanting : F) (answer verdict : Result X F) (value : X) → (answer ≡ Err wanting) ⊎ (answer ≡ verdict)
+    → verdict ≡ Ok value → (answer ≡ Ok value) ⊎ (answer ≡ Err wanting)
+either_way wanting answer verdict value (inl same) is = inr same
+either_way wanting answer verdict value (inr same) is = inl (same ∙ is)
+
+-- the value that was answered is this one
+pub value_is : {X F : Type 0} (wanting : F) (answer : Result X F) (value x : X) → (answer ≡ Ok value) ⊎ (answer ≡ Err wanting)
+    → answer ≡ Ok x → x ≡ value
+value_is {F = F} wanting answer value x (inl same) is = same_value {F = F} x value (sym is ∙ same)
+value_is wanting answer value x (inr same) is = absurd (no_value wanting x (sym same ∙ is))
+
+-- ---- the text
+
+abbrev pub Made : List ℕ → Result (Vec ℕ Global) AsmFault → Type 0
+Made text answer = (answer ≡ Err asm_faults.NoMemory) ⊎ (seen answer ≡ assembled text 1)
+
+pub text_unrefused : (text : List ℕ) (said : Lines) (answer : Result (Vec ℕ Global) AsmFault) → said_by text ≡ Ok said → Made text answer
+    → IfErr answer (λ fault. asm_words fault ≡ None)
+text_unrefused text said (Ok file) is made = tt
+text_unrefused text said (Err fault) is (inl same) =
+    subst (λ f. asm_words f ≡ None) (sym (same_fault {X = Vec ℕ Global} fault asm_faults.NoMemory same)) refl
+text_unrefused text said (Err fault) is (inr same) = absurd (no_value fault _ (same ∙ assembled_as text said is))
+
+-- the file holds the program that the text says
+pub program_in : (text : List ℕ) (answer : Result (Vec ℕ Global) AsmFault) (file : Vec ℕ Global) → IfOk answer (λ f. IsProgramOf text 1 f.items)
+    → answer ≡ Ok file → IsProgramOf text 1 file.items
+program_in text answer file held is = let P : Result (Vec ℕ Global) AsmFault → Type 0 = λ r. IfOk r (λ f. IsProgramOf text 1 f.items) in subst P is held
+
+-- it is the one of what the text says
+pub program_same : (text : List ℕ) (file : List ℕ) (said : Lines) (of : IsProgramOf text 1 file) → said_by text ≡ Ok said
+    → program_said 1 of.said ≡ program_said 1 said
+program_same text file said of is = ap (program_said 1) (same_value {F = AsmFault} of.said said (sym of.read ∙ is))
+
+-- ---- the replay
+
+-- the replay of a script in which nobody waits isn't refused
+pub still_unrefused : {S : Type 0} (waiting : Option ℕ) (answer : Result S SimFault) → waiting ≡ None
+    → ((line : ℕ) → (answer ≡ Err (sim_faults.Waits line)) ↔ (waiting ≡ Some line)) → IfErr answer (λ fault. sim_words fault ≡ None)
+still_unrefused waiting (Ok start) none waits = tt
+still_unrefused waiting (Err (sim_faults.Waits line)) none waits = absurd (some (sym none ∙ (waits line).0 refl))
+  where
+    some : None ≡ Some line → ⊥
+    some e = cc
+still_unrefused waiting (Err sim_faults.NoMemory) none waits = refl

@@ -1,0 +1,13 @@
+use Rattle.std.proofs.Common.{sym, subst}
+use Rattle.std.specs.Prelude.{All}
+use Rattle.patch_script.specs.Plans.{waiting_line}
+use Rattle.patch_script.specs.Refusals.{commands_of}
+use Rattle.step_sim.specs.Replayed.{IsSimulated}
+use Rattle.step_sim.specs.Schedules.{AreTurnsOf}
+use Rattle.step_sim.specs.Starts.{Start}
+use Rattle.xray_program.proofs.SoakReads.{still_unrefused}
+use Rattle.xray_program.proofs.drawn.replayed.Goals as goal
+
+pub unrefused-requires : goal.unrefused-requires
+unrefused-requires c =
+    still_unrefused (waiting_line c.args.inputs.now.script.lines) c.new.result c.requires.still c.new.ensures.waits
