@@ -82,11 +82,7 @@ fn an_account_is_printed_as_its_words_ask(rt: HostRuntime) -> Result<(), Fail> {
             &["account", "t", "i", "--format", "csv", "--sort", "funcid"],
             CSV_OF_ONE_NAME,
         ),
-        (
-            &TWO_FUNCTIONS,
-            &SLOWEST,
-            CSV_OF_THE_SLOWEST,
-        ),
+        (&TWO_FUNCTIONS, &SLOWEST, CSV_OF_THE_SLOWEST),
         (
             &TWO_FUNCTIONS,
             &["account", "t", "i", "--top", "0"],

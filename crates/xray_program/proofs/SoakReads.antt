@@ -2,15 +2,34 @@
 use Rattle.std.proofs.Common.{◌≡◌, ◌≢◌, ◌⊎◌, ◌↔◌, ◌++◌, ◌∙◌, ◌≤◌, ℕ, List, [], length, None, Option, Some, Ok, Err, Result, inl, inr, refl, sym, ap, subst, absurd}
 use Rattle.std.specs.Prelude.{IfErr, IfOk, Vec}
 use Rattle.std.specs.declared.alloc.Global.{Global}
+use Rattle.account_report.specs.declared.row.AccountRow.{AccountRow}
 use Rattle.asm_text.specs.Assembling.{assembled, said_by, seen}
 use Rattle.asm_text.specs.FaultWords.{asm_words}
 use Rattle.asm_text.specs.Layout.{Lines}
 use Rattle.asm_text.specs.Programs.{IsProgramOf, program_said}
 use Rattle.asm_text.specs.declared.fault.AsmFault.{AsmFault}
 use Rattle.asm_text.specs.declared.fault.AsmFault.TheVariants as asm_faults
+use Rattle.fdr_buffer.specs.Filled.{Filled}
+use Rattle.fdr_file.specs.Files.{file_bytes}
+use Rattle.fdr_file.specs.Traces.{trace_of}
+use Rattle.machine_step.specs.Traced.{Traced}
+use Rattle.patch_script.specs.Plans.{Plan}
 use Rattle.step_sim.specs.FaultWords.{sim_words}
+use Rattle.step_sim.specs.Starts.{Start}
+use Rattle.step_sim.specs.declared.turns.Turns.{Turns}
 use Rattle.step_sim.specs.declared.sim_fault.SimFault.{SimFault}
 use Rattle.step_sim.specs.declared.sim_fault.SimFault.TheVariants as sim_faults
+use Rattle.trace_flush.specs.Audit.{Account}
+use Rattle.trace_flush.specs.Flush.{header_of, trace_bytes}
+use Rattle.trace_flush.specs.Lines.{accounts_of}
+use Rattle.traced_run.specs.Kept.{kept_buffers}
+use Rattle.traced_run.specs.Left.{Leaves}
+use Rattle.traced_run.specs.Runs.{ThreadRun}
+use Rattle.xray_image.specs.Program.{Program}
+use Rattle.xray_io.specs.Sink.{Adds}
+use Rattle.xray_program.specs.Sim.{Replayed}
+use Rattle.xray_program.specs.Soak.{AreInputs, IsSummary, soak_setup}
+use Rattle.xray_program.specs.private.Drawn.{IsReadBack, summary_with}
 use Rattle.xray_program.proofs.SoakLaws.{assembled_as, same_value}
 
 -- ---- what readers answer
@@ -73,3 +92,39 @@ still_unrefused waiting (Err (sim_faults.Waits line)) none waits = absurd (some 
     some : None ≡ Some line → ⊥
     some e = cc
 still_unrefused waiting (Err sim_faults.NoMemory) none waits = refl
+
+-- what is started is what was asked for
+pub started : (answer : Result Start SimFault) (start wanted : Start) → IfOk answer (λ s. s ≡ wanted) → answer ≡ Ok start → start ≡ wanted
+started answer start wanted held is = let P : Result Start SimFault → Type 0 = λ r. IfOk r (λ s. s ≡ wanted) in subst P is held
+
+-- ---- the summary
+
+-- a sink that nothing was written to has what was written
+pub all_written : (old new text : List ℕ) → old ≡ [] → Adds (Some old) (Some new) text → new ≡ text
+all_written old new text none adds = same_some new (old ++ text) adds.told ∙ ap (λ (t : List ℕ). t ++ text) none
+  where
+    same_some : (x y : List ℕ) → Some x ≡ Some y → x ≡ y
+    same_some x y e = cc
+
+-- the summary of what is left of a replay, and of what is read back of it, is that of the number
+pub summary_is : (number : ℕ) (program : Program) (plan : Plan) (turns : List Turns) → AreInputs number program plan turns
+    → (runs : List ThreadRun) → Replayed program plan turns soak_setup runs → (cpus : List Traced) (segments first : List ℕ) (buffers : List Filled)
+    → Leaves soak_setup runs cpus segments first buffers → (bytes : ℕ) (rows : List AccountRow)
+    → IsReadBack (file_bytes (header_of soak_setup) buffers) bytes rows
+    → (threads : List Account) → threads ≡ accounts_of soak_setup runs → (text : List ℕ) → text ≡ summary_with number threads bytes rows
+    → IsSummary number text
+summary_is number program plan turns inputs runs replayed cpus segments first buffers leaves bytes rows back threads accounted text is =
+    let kept : buffers ≡ kept_buffers soak_setup runs = leaves.buffers_are in
+    let file : file_bytes (header_of soak_setup) buffers ≡ trace_bytes soak_setup runs = ap (file_bytes (header_of soak_setup)) kept in
+    let length_is : bytes ≡ length (trace_bytes soak_setup runs) = back.bytes_are ∙ ap length file in
+    record {
+      program = program;
+      plan = plan;
+      turns = turns;
+      inputs = inputs;
+      runs = runs;
+      replayed = replayed;
+      trace = back.trace;
+      reads_back = sym (ap trace_of file) ∙ back.reads;
+      is = is ∙ rw (accounted, length_is, back.rows_are) refl;
+    }

@@ -245,7 +245,7 @@ fn perform_command<'a, D: Desk, O: Sink>(
     }
 }
 
-/// Does what a command says that runs no traced threads for files.
+/// Does what a command says that writes no trace and no audit.
 fn perform_other<'a, D: Desk, O: Sink>(
     alloc: Global,
     command: Command<'a>,
@@ -257,6 +257,7 @@ fn perform_other<'a, D: Desk, O: Sink>(
         let got = sink_view O.written O.faults in
         Ends (Some (command_view command.entry)) (seen desk.old) (seen desk.new) (got out.old) (got out.new)
         (D.along desk.old desk.new) (answer_of result) (told_of result) }
+    ensures fits { OnOk result (FitsTraces (command_view command.entry)) }
 {
     match command {
         Command::Sim { .. } | Command::Run { .. } => unreachable!(),
@@ -291,6 +292,7 @@ fn perform_report<'a, D: Desk, O: Sink>(
         let got = sink_view O.written O.faults in
         Ends (Some (command_view command.entry)) (seen desk.old) (seen desk.new) (got out.old) (got out.new)
         (D.along desk.old desk.new) (answer_of result) (told_of result) }
+    ensures fits { OnOk result (FitsTraces (command_view command.entry)) }
 {
     match command {
         Command::Account {

@@ -1,13 +1,15 @@
 //! The summary that `soak` prints.
 ghost use Rattle.std.specs.Prelude.{◌≡◌, ◌++◌, All, IfOk, IsTrue, Ok, codes, decimal, length, sum_by};
+ghost use Rattle.fdr_file.specs.Files.{file_bytes};
 ghost use Rattle.fdr_file.specs.Traces.{trace_of};
 ghost use Rattle.fdr_file.specs.declared.trace.Trace.{Trace};
 ghost use Rattle.machine_step.specs.Texts.{line_feed};
 ghost use Rattle.trace_flush.specs.Audit.{accounts};
+ghost use Rattle.trace_flush.specs.Flush.{header_of};
 ghost use Rattle.xray_io.specs.Memory.{sink_bytes};
 ghost use Rattle.xray_io.specs.Text.{AddsText};
 ghost use Rattle.xray_io.specs.Writes.{WritesText};
-ghost use Rattle.xray_program.specs.Soak.{IsSummary, trace_lines};
+ghost use Rattle.xray_program.specs.Soak.{IsSummary, soak_setup, trace_lines};
 ghost use Rattle.xray_program.specs.private.Drawn.{IsReadBack, summary_with};
 
 use crate::drawn::{SOAK_SETUP, drawn_inputs, replayed, unrefused};
@@ -52,15 +54,24 @@ pub(crate) fn summary_of(alloc: Global, number: u64) -> Result<MemSink, NoMemory
 /// Writes the file of these buffers into memory, and reads it back.
 fn read_back(alloc: Global, buffers: &[Buffer]) -> Result<ReadBack, NoMemory>
     requires begun { All (λ buffer. IsTrue buffer.begun) buffers.now }
-    ensures { IfOk result (λ back. IsReadBack buffers.now back.bytes back.rows.items) }
+    ensures { IfOk result (λ back.
+        IsReadBack (file_bytes (header_of soak_setup) buffers.now) back.bytes back.rows.items) }
 {
     // Called for its contract: the trace that is written is the one that is read.
     a_trace_is_read();
+    let header = trace_header(&SOAK_SETUP);
     let mut file = MemSink::new(alloc, Vec::new(alloc));
-    if write_file(&trace_header(&SOAK_SETUP), buffers, &mut file).is_err() {
-        return Err(NoMemory);
+    match write_file(&header, buffers, &mut file) {
+        Ok(()) => accounted(alloc, file.bytes()),
+        Err(WriteFault) => Err(NoMemory),
     }
-    let bytes = file.bytes();
+}
+
+/// The length of a file, and the account of the trace that it is read as.
+fn accounted(alloc: Global, bytes: &[u8]) -> Result<ReadBack, NoMemory>
+    requires { (trace : Trace) × (trace_of bytes.now ≡ Ok trace) }
+    ensures { IfOk result (λ back. IsReadBack bytes.now back.bytes back.rows.items) }
+{
     let trace = trace_in(alloc, bytes)?;
     let rows = account(alloc, &trace)?;
     Ok(ReadBack {

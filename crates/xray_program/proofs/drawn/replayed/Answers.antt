@@ -5,6 +5,8 @@ use Rattle.patch_script.specs.Refusals.{commands_of}
 use Rattle.step_sim.specs.Replayed.{IsSimulated}
 use Rattle.step_sim.specs.Schedules.{AreTurnsOf}
 use Rattle.step_sim.specs.Starts.{Start}
+use Rattle.xray_image.specs.Program.{Program}
+use Rattle.xray_program.specs.Soak.{soak_setup}
 use Rattle.xray_program.proofs.SoakReads.{still_unrefused}
 use Rattle.xray_program.proofs.drawn.replayed.Goals as goal
 
