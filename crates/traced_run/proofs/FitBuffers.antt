@@ -20,22 +20,12 @@ use Rattle.traced_run.specs.Kept.{buffer_of, kept_buffers, segments_of, stamp_of
 use Rattle.traced_run.specs.Runs.{IsRun, ThreadRun, events_of}
 use Rattle.traced_run.proofs.FitPassings.{run_fits}
 use Rattle.traced_run.proofs.Oldest.{HoldAll}
+use Rattle.traced_run.proofs.RecordedEvents.{recorded_each}
 
 -- ---- events
 
 events_fit : (passed : List Passing) (marks : List Mark) → All PassingFits passed → All EventFits (recorded passed marks)
-events_fit [] marks fit = All-nil EventFits
-events_fit (p ∷ passed) [] fit = All-nil EventFits
-events_fit (p ∷ passed) (mark ∷ marks) fit =
-    by_mark (is_recorded mark) (events_fit passed marks (All-tail PassingFits p passed fit))
-  where
-    its : EventFits (event_of p)
-    its = let fits = All-head PassingFits p passed fit in record { cpu = fits.cpu; func = fits.id; tsc = fits.counter }
-
-    by_mark : (b : Bool) → All EventFits (recorded passed marks)
-        → All EventFits (map (λ (q : Passing × Mark). event_of q.0) (if b then (p, mark) ∷ filter (λ q. is_recorded q.1) (zip passed marks) else filter (λ q. is_recorded q.1) (zip passed marks)))
-    by_mark true rest = All-cons EventFits (event_of p) (recorded passed marks) its rest
-    by_mark false rest = rest
+events_fit = recorded_each PassingFits EventFits (λ p fits. record { cpu = fits.cpu; func = fits.id; tsc = fits.counter })
 
 -- ---- segments
 
