@@ -1,19 +1,18 @@
 -- What a run leaves in its buffers fits them.
-use Rattle.std.proofs.Common.{◌≡◌, ℕ, zero, suc, ◌+◌, ◌<◌, ◌≤◌, ◌^◌, List, [], ◌∷◌, ◌++◌, Bool, true, false, Some, refl, sym, subst, arith, length, drop, map}
-use Rattle.std.specs.Prelude.{All, IsTrue, filter, if◌then◌else◌, slice_get}
-use Rattle.std.specs.List.{AllByRecursion, enumerate_from, flat_map, zip}
+use Rattle.std.proofs.Common.{◌≡◌, ℕ, zero, suc, ◌+◌, ◌<◌, ◌≤◌, ◌^◌, List, [], ◌∷◌, ◌++◌, Some, refl, sym, subst, arith, length, drop}
+use Rattle.std.specs.Prelude.{All, IsTrue, slice_get}
+use Rattle.std.specs.List.{AllByRecursion, enumerate_from, flat_map}
 use Rattle.std.proofs.lemmas.List.Concat.{flat_map-cons}
-use Rattle.std.proofs.lemmas.List.Elements.{All-append, All-cons, All-drop, All-from_recursion, All-head, All-map, All-nil, All-tail, recursion_from_All}
+use Rattle.std.proofs.lemmas.List.Elements.{All-append, All-drop, All-from_recursion, All-map, All-nil, recursion_from_All}
 use Rattle.xray_io.specs.declared.faults.Wall.{Wall}
 use Rattle.xray_image.specs.Program.{IsAccepted, Program}
 use Rattle.handler_word.specs.declared.mark.Mark.{Mark}
-use Rattle.handler_word.specs.MarkList.{is_recorded}
 use Rattle.fdr_record.specs.declared.event.Event.{Event}
 use Rattle.fdr_buffer.specs.declared.buffer.TheConstants.{LEAST_SIZE}
 use Rattle.fdr_buffer.specs.Fits.{BufferFits}
 use Rattle.fdr_buffer.specs.Segments.{EventFits, body, has_room, segments}
 use Rattle.machine_step.specs.declared.setup.Setup.{Setup}
-use Rattle.machine_step.specs.Events.{event_of, recorded}
+use Rattle.machine_step.specs.Events.{recorded}
 use Rattle.machine_step.specs.PlainStep.{Passing}
 use Rattle.traced_run.specs.Fits.{PassingFits, SetupFits}
 use Rattle.traced_run.specs.Kept.{buffer_of, kept_buffers, segments_of, stamp_of, thread_buffers}
