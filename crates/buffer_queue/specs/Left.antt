@@ -2,10 +2,7 @@
 use Rattle.std.specs.Prelude.{◌≡◌, ◌<◌, ◌+◌, ◌-◌, ◌==◌, ℕ, true, List, [], ◌∷◌, ◌++◌, All, filter, length, replicate, slice_index_or, sum_by}
 use Rattle.fdr_buffer.specs.Filled.{Filled, empty_buffer}
 use Rattle.machine_step.specs.declared.setup.Setup.{Setup}
-
--- how many buffers a pool has beside those in its threads' hands
-abbrev pub spare_of : Setup → ℕ
-spare_of setup = setup.max - setup.threads
+use Rattle.machine_step.specs.Buffers.{spare_of}
 
 -- those of the buffers that a thread has sealed
 abbrev pub of_thread : ℕ → List Filled → List Filled

@@ -9,7 +9,7 @@ use crate::law::Queue;
 use crate::pass::PoolPass;
 use crate::stocking::{first_pass, give_all, head_pass, stock_all};
 use crate::turning::{put, take};
-use fdr_buffer::Buffer;
+use fdr_buffer::{Buffer, LARGEST_SIZE, LEAST_SIZE};
 use machine_step::Setup;
 use std::alloc::Global;
 use std::marker::Model;
@@ -47,8 +47,8 @@ impl Pool {
     ) -> Result<(Pool, Vec<(PoolPass, Buffer)>), NoMemory>
         requires threads { 1 ≤ setup.now.threads }
         requires enough { setup.now.threads ≤ setup.now.max }
-        requires least { 72 ≤ setup.now.size }
-        requires most { setup.now.size ≤ 1048576 }
+        requires least { LEAST_SIZE ≤ setup.now.size }
+        requires most { setup.now.size ≤ LARGEST_SIZE }
         ensures setup { IfOk result (λ made. made.0.setup ≡ setup.now) }
         ensures hands { IfOk result (λ made. AreNew made.0 1 setup.now.threads made.1.items) }
     {

@@ -52,7 +52,8 @@ pub(crate) fn next_segment<T: Wait>(
     requires next { hand.begun ≡ true → IsNextOf pass.old hand }
     requires id { event.now.func < 2 ^ 28 }
     ensures pass { pass.new ≡ sealed_with pass.old hand }
-    ensures next { result ≡ buffer_of (stamp_of pass.old.setup) pass.old.thread (length pass.new.sealed, event.now ∷ []) }
+    ensures next { result
+        ≡ buffer_of (stamp_of pass.old.setup) pass.old.thread (length pass.new.sealed, event.now ∷ []) }
 {
     let mut next = exchange(rt, pool, pass, hand);
     next.begin(preamble.thread, pass.sealed(), preamble.wall, preamble.pid);

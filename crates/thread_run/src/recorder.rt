@@ -105,7 +105,8 @@ impl<'p, T> FdrRecorder<'p, T> {
         requires begun { IsTrue self.old.hand.begun }
         requires room { IsTrue (has_room self.old.hand.size (self.old.hand.events ++ event.now ∷ [])) }
         requires id { event.now.func < 2 ^ 28 }
-        ensures { self.new ≡ record self.old { hand = record self.old.hand { events = self.old.hand.events ++ event.now ∷ [] } } }
+        ensures { self.new
+            ≡ record self.old { hand = record self.old.hand { events = self.old.hand.events ++ event.now ∷ [] } } }
     {
         match &mut self.hand {
             Some(hand) => hand.put(event),

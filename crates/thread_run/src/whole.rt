@@ -18,7 +18,7 @@ use crate::running::run_threads;
 use crate::thread::new_cpu;
 use crate::worker::Worker;
 use buffer_queue::{Pool, PoolPass};
-use fdr_buffer::Buffer;
+use fdr_buffer::{Buffer, LARGEST_SIZE, LEAST_SIZE};
 use machine_step::{Cpu, Setup, Steps, one_end};
 use sled_patch::run_prefix;
 use sled_rule::{CodeTable, PatchSeat};
@@ -73,7 +73,7 @@ pub fn run<'s, T: Threads + Wait + Sync, G: Gate + Sync>(
     requires some { 1 ≤ setup.now.threads }
     requires few { setup.now.threads ≤ MAX_THREADS }
     requires stamps { (1 ≤ setup.now.limits.cpus) × (1 ≤ setup.now.limits.migrate) }
-    requires sizes { (72 ≤ setup.now.size) × (setup.now.size ≤ 1048576) }
+    requires sizes { (LEAST_SIZE ≤ setup.now.size) × (setup.now.size ≤ LARGEST_SIZE) }
     requires enough { setup.now.threads ≤ setup.now.max }
     ensures own { IsPatcherOf table.now patcher.new }
     ensures left { IfOk result (λ end. HaveRunBeside steps.now (commands_of (script_of table.now).lines) setup.now

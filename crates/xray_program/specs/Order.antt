@@ -6,6 +6,7 @@ use Rattle.xray_io.specs.Outputs.{IsMaking, Makes}
 use Rattle.xray_io.specs.Reads.{Reads, ReadsSome, ReadsUpTo, ReadsUpToFault}
 use Rattle.xray_io.specs.World.{DeskView}
 use Rattle.xray_io.specs.declared.faults.WriteFault.{WriteFault}
+use Rattle.xray_program.specs.Inputs.{image_limit, text_limit, script_limit, schedule_limit}
 use Rattle.xray_program.specs.Reports.{report_inputs}
 use Rattle.xray_program.specs.Commands.{ComesOf}
 use Rattle.xray_program.specs.Taking.{AcceptsFirst, AllAccepted, DeskReads}
@@ -17,11 +18,11 @@ use Rattle.command_words.specs.Words.{Command, Sim, Run, Plain, Extract, Asm, Ac
 -- its inputs in the order of the words, each with its name and the most bytes that it may have; one that the words
 -- leave out isn't listed
 abbrev pub inputs_of : Command → List (List ℕ × ℕ)
-inputs_of (Sim image script schedule trace audit options) = (image, 4194304) ∷ (script, 1048576) ∷ (schedule, 16777216) ∷ []
-inputs_of (Run image script trace audit options) = (image, 4194304) ∷ (script, 1048576) ∷ []
-inputs_of (Plain image bounds) = (image, 4194304) ∷ []
-inputs_of (Extract image) = (image, 4194304) ∷ []
-inputs_of (Asm text image threshold) = (text, 4194304) ∷ []
+inputs_of (Sim image script schedule trace audit options) = (image, image_limit) ∷ (script, script_limit) ∷ (schedule, schedule_limit) ∷ []
+inputs_of (Run image script trace audit options) = (image, image_limit) ∷ (script, script_limit) ∷ []
+inputs_of (Plain image bounds) = (image, image_limit) ∷ []
+inputs_of (Extract image) = (image, image_limit) ∷ []
+inputs_of (Asm text image threshold) = (text, text_limit) ∷ []
 inputs_of (Account trace image options) = report_inputs trace image
 inputs_of (Stack trace image format) = report_inputs trace image
 inputs_of (Convert trace image) = report_inputs trace image

@@ -7,7 +7,7 @@ use Rattle.xray_image.specs.Program.{Program, IsAccepted}
 use Rattle.patch_script.specs.Micros.{hold_of}
 use Rattle.patch_script.specs.Plans.{Plan, plan_of}
 use Rattle.patch_script.specs.Refusals.{commands_of}
-use Rattle.buffer_queue.specs.Left.{spare_of}
+use Rattle.machine_step.specs.Buffers.{spare_of}
 use Rattle.machine_step.specs.declared.setup.Setup.{Setup}
 use Rattle.machine_step.specs.Loads.{Load}
 use Rattle.machine_step.specs.Texts.{state_text}
