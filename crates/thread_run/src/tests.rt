@@ -12,67 +12,9 @@ use std::sync::Wait;
 use std::test::Fail;
 use std::thread::Threads;
 use text_lines::count_lines;
+use xray_image::examples::{CALLS, FIBONACCI};
 use xray_image::read_image;
 use xray_io::{MemSink, OpenGate, Wall, write_all};
-
-/// A function `main` that calls a function `f`: each has an entry sled and an exit sled.
-const CALLS: [u8; 266] = [
-    88, 82, 73, 77, 1, 0, 0, 0, 0, 16, 0, 0, 0, 0, 0, 0, 51, 0, 0, 0, 2, 0, 0, 0, 4, 0, 0, 0, 0, 0,
-    0, 0, 0, 16, 32, 0, 0, 0, 0, 0, 16, 16, 32, 0, 0, 0, 0, 0, 32, 16, 32, 0, 0, 0, 0, 0, 48, 16,
-    32, 0, 0, 0, 0, 0, 235, 9, 102, 15, 31, 132, 0, 0, 2, 0, 0, 232, 12, 0, 0, 0, 195, 46, 102, 15,
-    31, 132, 0, 0, 2, 0, 0, 144, 235, 9, 102, 15, 31, 132, 0, 0, 2, 0, 0, 144, 195, 46, 102, 15,
-    31, 132, 0, 0, 2, 0, 0, 0, 16, 0, 0, 0, 0, 0, 0, 4, 109, 97, 105, 110, 28, 16, 0, 0, 0, 0, 0,
-    0, 1, 102, 0, 16, 0, 0, 0, 0, 0, 0, 0, 16, 0, 0, 0, 0, 0, 0, 0, 1, 0, 0, 0, 0, 0, 0, 0, 0, 0,
-    0, 0, 0, 0, 0, 16, 16, 0, 0, 0, 0, 0, 0, 0, 16, 0, 0, 0, 0, 0, 0, 1, 1, 0, 0, 0, 0, 0, 0, 0, 0,
-    0, 0, 0, 0, 0, 0, 28, 16, 0, 0, 0, 0, 0, 0, 28, 16, 0, 0, 0, 0, 0, 0, 0, 1, 0, 0, 0, 0, 0, 0,
-    0, 0, 0, 0, 0, 0, 0, 0, 40, 16, 0, 0, 0, 0, 0, 0, 28, 16, 0, 0, 0, 0, 0, 0, 1, 1, 0, 0, 0, 0,
-    0, 0, 0, 0, 0, 0, 0, 0, 0, 0,
-];
-
-/// `main` calls `fib` with 20, which calls itself with 19 and 18. There is a sled at its entry, and
-/// one at each of its three exits.
-const FIBONACCI: [u8; 326] = [
-    // base 0x1000, 109 bytes of code, 2 functions, 4 map entries
-    0x58, 0x52, 0x49, 0x4D, 1, 0, 0, 0, 0, 0x10, 0, 0, 0, 0, 0, 0, 0x6D, 0, 0, 0, 2, 0, 0, 0, 4, 0,
-    0, 0, 0, 0, 0, 0, 0, 0x10, 0x20, 0, 0, 0, 0, 0, 0x10, 0x10, 0x20, 0, 0, 0, 0, 0, 0x20, 0x10,
-    0x20, 0, 0, 0, 0, 0, 0x30, 0x10, 0x20, 0, 0, 0, 0, 0,
-    // `main` puts 20 into rdi, calls `fib` and returns. One byte aligns what follows
-    0xBF, 0x14, 0, 0, 0, 0xE8, 2, 0, 0, 0, 0xC3, 0x90,
-    // the entry sled of `fib`
-    0xEB, 9, 0x66, 0x0F, 0x1F, 0x84, 0, 0, 2, 0, 0,
-    // adds 0 to rdi, which sets the zero flag if rdi is 0, and skips the first exit if it isn't
-    0xB9, 0, 0, 0, 0, 0x48, 1, 0xCF, 0x0F, 0x85, 0x0C, 0, 0, 0,
-    // the first exit, for 0: a byte that aligns the sled, and the sled
-    0x90, 0xC3, 0x2E, 0x66, 0x0F, 0x1F, 0x84, 0, 0, 2, 0, 0,
-    // takes 1 from rdi, and skips the second exit unless that leaves 0
-    0xB9, 1, 0, 0, 0, 0x48, 0x29, 0xCF, 0x0F, 0x85, 0x0E, 0, 0, 0,
-    // adds 1 to rax
-    0x48, 1, 0xC8,
-    // the second exit, for 1
-    0xC3, 0x2E, 0x66, 0x0F, 0x1F, 0x84, 0, 0, 2, 0, 0,
-    // keeps rdi on the stack, and calls `fib` with it
-    0x57, 0xE8, 0xB9, 0xFF, 0xFF, 0xFF,
-    // gets it back, takes 1 more from it, and calls `fib` again
-    0x5F, 0xB9, 1, 0, 0, 0, 0x48, 0x29, 0xCF, 0xE8, 0xAB, 0xFF, 0xFF, 0xFF,
-    // the third exit, for all other numbers
-    0x90, 0xC3, 0x2E, 0x66, 0x0F, 0x1F, 0x84, 0, 0, 2, 0, 0,
-    // main at 0x1000
-    0, 0x10, 0, 0, 0, 0, 0, 0, 4, 0x6D, 0x61, 0x69, 0x6E,
-    // fib at 0x100C
-    0x0C, 0x10, 0, 0, 0, 0, 0, 0, 3, 0x66, 0x69, 0x62,
-    // the map: an entry sled
-    0x0C, 0x10, 0, 0, 0, 0, 0, 0, 0x0C, 0x10, 0, 0, 0, 0, 0, 0, 0, 1, 0, 0, 0, 0, 0, 0, 0, 0, 0, 0,
-    0, 0, 0, 0,
-    // an exit sled
-    0x26, 0x10, 0, 0, 0, 0, 0, 0, 0x0C, 0x10, 0, 0, 0, 0, 0, 0, 1, 1, 0, 0, 0, 0, 0, 0, 0, 0, 0, 0,
-    0, 0, 0, 0,
-    // an exit sled
-    0x42, 0x10, 0, 0, 0, 0, 0, 0, 0x0C, 0x10, 0, 0, 0, 0, 0, 0, 1, 1, 0, 0, 0, 0, 0, 0, 0, 0, 0, 0,
-    0, 0, 0, 0,
-    // an exit sled
-    0x62, 0x10, 0, 0, 0, 0, 0, 0, 0x0C, 0x10, 0, 0, 0, 0, 0, 0, 1, 1, 0, 0, 0, 0, 0, 0, 0, 0, 0, 0,
-    0, 0, 0, 0,
-];
 
 /// The limits of the threads.
 const LIMITS: Limits = Limits {

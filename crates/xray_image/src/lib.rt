@@ -3,6 +3,7 @@
 
 mod branches;
 mod code_units;
+pub mod examples;
 mod extract;
 mod fault;
 mod fields;

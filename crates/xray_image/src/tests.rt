@@ -1,5 +1,6 @@
 //! Image files: what one says, and why others are refused.
 
+use crate::examples::OUTPUTS_AN_A;
 use crate::{
     ImageFault, Sled, SledKind, Unit, What, Which, one_reading, one_unit_list, one_verdict,
     read_image,
@@ -7,26 +8,6 @@ use crate::{
 use std::alloc::{AllocError, Global};
 use std::test::Fail;
 use subset_decode::{DecodeFault, Instr, Reg};
-
-/// A function `main` that prints an A: an entry sled, `mov eax, 0x41`, `out 1, al`, an exit sled.
-pub(crate) const OUTPUTS_AN_A: [u8; 170] = [
-    // magic, version, base 0x1000
-    0x58, 0x52, 0x49, 0x4D, 1, 0, 0, 0, 0x00, 0x10, 0, 0, 0, 0, 0, 0,
-    // 29 bytes of code, 1 function, 2 map entries, entry function 0
-    29, 0, 0, 0, 1, 0, 0, 0, 2, 0, 0, 0, 0, 0, 0, 0,
-    // trampolines 0x201000, 0x201010, 0x201020, 0x201030
-    0x00, 0x10, 0x20, 0, 0, 0, 0, 0, 0x10, 0x10, 0x20, 0, 0, 0, 0, 0, 0x20, 0x10, 0x20, 0, 0, 0, 0,
-    0, 0x30, 0x10, 0x20, 0, 0, 0, 0, 0,
-    // the code
-    0xEB, 0x09, 0x66, 0x0F, 0x1F, 0x84, 0x00, 0x00, 0x02, 0x00, 0x00, 0xB8, 0x41, 0, 0, 0, 0xE6,
-    0x01, 0xC3, 0x2E, 0x66, 0x0F, 0x1F, 0x84, 0x00, 0x00, 0x02, 0x00, 0x00,
-    // the function
-    0x00, 0x10, 0, 0, 0, 0, 0, 0, 4, 0x6D, 0x61, 0x69, 0x6E,
-    // the map: an entry sled at 0x1000 and an exit sled at 0x1012, always instrumented, version 0
-    0x00, 0x10, 0, 0, 0, 0, 0, 0, 0x00, 0x10, 0, 0, 0, 0, 0, 0, 0, 1, 0, 0, 0, 0, 0, 0, 0, 0, 0, 0,
-    0, 0, 0, 0, 0x12, 0x10, 0, 0, 0, 0, 0, 0, 0x00, 0x10, 0, 0, 0, 0, 0, 0, 1, 1, 0, 0, 0, 0, 0, 0,
-    0, 0, 0, 0, 0, 0, 0, 0,
-];
 
 /// Why the bytes are refused, if they are.
 fn fault_of(rt: &HostRuntime, bytes: &[u8]) -> Option<ImageFault> {

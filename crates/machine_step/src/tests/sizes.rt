@@ -3,9 +3,10 @@
 ghost use Rattle.std.specs.Prelude.{◌<◌};
 
 use super::ends::image_of;
-use super::{DEFAULT_LIMITS, OUTPUTS_AN_A};
+use super::DEFAULT_LIMITS;
 use crate::{Cpu, End, Limits, Steps, Want, plain_run};
 use std::test::Fail;
+use xray_image::examples::OUTPUTS_AN_A;
 use xray_image::read_image;
 
 /// `push rax`.

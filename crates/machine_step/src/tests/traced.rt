@@ -1,10 +1,11 @@
 //! Traced threads, load by load.
 
-use super::{DEFAULT_LIMITS, OUTPUTS_AN_A};
+use super::DEFAULT_LIMITS;
 use crate::{Cpu, End, Limits, Steps, Want, write_state};
 use fdr_record::{Event, Kind};
 use handler_word::Mark;
 use std::test::Fail;
+use xray_image::examples::OUTPUTS_AN_A;
 use xray_image::read_image;
 use xray_io::MemSink;
 

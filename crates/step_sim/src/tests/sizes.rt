@@ -3,11 +3,12 @@
 ghost use Rattle.std.specs.Prelude.{◌<◌};
 
 use super::buffers::TRACED;
-use super::replays::{LIMITS, OUTPUTS_AN_A};
+use super::replays::LIMITS;
 use super::*;
 use machine_step::{Cpu, End, Limits, Setup, Steps, Want};
 use patch_script::read_script;
 use std::process::Abort;
+use xray_image::examples::OUTPUTS_AN_A;
 use xray_image::read_image;
 use xray_io::Wall;
 

@@ -1,6 +1,6 @@
 //! Ids, names and the printed sled map of two images.
 
-use crate::tests::OUTPUTS_AN_A;
+use crate::examples::OUTPUTS_AN_A;
 use crate::{read_image, write_extract};
 use std::alloc::Global;
 use std::test::Fail;
