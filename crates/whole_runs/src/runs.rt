@@ -1,9 +1,9 @@
 //! A run of the top call, and what it leaves.
+use example_images::OUTPUTS_AN_A;
 use std::alloc::Global;
 use std::sync::Wait;
 use std::test::Fail;
 use std::thread::Threads;
-use xray_image::examples::OUTPUTS_AN_A;
 use xray_io::{Desk, Gate, MemDesk, MemSink, OpenGate, Wall};
 use xray_program::xray;
 
