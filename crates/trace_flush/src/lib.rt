@@ -16,6 +16,3 @@ pub use laws::{a_run_is_audited, a_run_is_traced, audit_tells_its_run};
 pub use line::{AuditLine, add_audit_lines};
 pub use order::arrange;
 pub use summary::add_summary;
-
-#[cfg(test)]
-mod tests;
