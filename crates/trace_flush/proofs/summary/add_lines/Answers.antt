@@ -1,4 +1,4 @@
-use Rattle.std.proofs.Common.{◌≡◌, ◌+◌, ◌++◌, [], ◌∷◌, List, ℕ, Ok, length, take, drop, subst, ap, sym, ◌∙◌, rules, length-append}
+use Rattle.std.proofs.Common.{◌≡◌, ◌+◌, ◌++◌, [], ◌∷◌, List, ℕ, Ok, length, take, drop, subst, ap, sym, ◌∙◌, length-append}
 use Rattle.std.specs.List.{flat_map}
 use Rattle.std.specs.Slice.Iter.{iter_rest}
 use Rattle.std.specs.Iterator.Adapters.{zip_first, zip_second}
