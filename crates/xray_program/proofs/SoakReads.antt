@@ -26,7 +26,6 @@ use Rattle.traced_run.specs.Kept.{kept_buffers}
 use Rattle.traced_run.specs.Left.{Leaves}
 use Rattle.traced_run.specs.Runs.{ThreadRun}
 use Rattle.xray_image.specs.Program.{Program}
-use Rattle.xray_io.specs.Sink.{Adds}
 use Rattle.xray_program.specs.Sim.{Replayed}
 use Rattle.xray_program.specs.Soak.{AreInputs, IsSummary, soak_setup}
 use Rattle.xray_program.specs.private.Drawn.{IsReadBack, summary_with}
@@ -98,13 +97,6 @@ pub started : (answer : Result Start SimFault) (start wanted : Start) → IfOk a
 started answer start wanted held is = let P : Result Start SimFault → Type 0 = λ r. IfOk r (λ s. s ≡ wanted) in subst P is held
 
 -- ---- the summary
-
--- a sink that nothing was written to has what was written
-pub all_written : (old new text : List ℕ) → old ≡ [] → Adds (Some old) (Some new) text → new ≡ text
-all_written old new text none adds = same_some new (old ++ text) adds.told ∙ ap (λ (t : List ℕ). t ++ text) none
-  where
-    same_some : (x y : List ℕ) → Some x ≡ Some y → x ≡ y
-    same_some x y e = cc
 
 -- the summary of what is left of a replay, and of what is read back of it, is that of the number
 pub summary_is : (number : ℕ) (program : Program) (plan : Plan) (turns : List Turns) → AreInputs number program plan turns

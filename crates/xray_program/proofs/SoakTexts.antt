@@ -1,14 +1,18 @@
 -- The lines of a summary, as they are put together.
-use Rattle.std.proofs.Common.{◌≡◌, ◌++◌, ◌∙◌, ℕ, List, [], refl, sym, ap, append_assoc}
+use Rattle.std.proofs.Common.{◌≡◌, ◌++◌, ◌∙◌, ℕ, List, [], Some, ap, append_assoc}
 use Rattle.std.specs.Prelude.{codes, decimal, sum_by}
 use Rattle.std.proofs.lemmas.List.{append-nil}
 use Rattle.account_report.specs.declared.row.AccountRow.{AccountRow}
 use Rattle.machine_step.specs.Texts.{line_feed}
+use Rattle.xray_io.specs.Sink.{Adds}
 use Rattle.xray_program.specs.Soak.{trace_lines}
 
--- a line of three parts, and the rest
-pub summary_parts : (a b c rest : List ℕ) → (a ++ b ++ c) ++ rest ≡ a ++ b ++ c ++ rest
-summary_parts a b c rest = append_assoc a (b ++ c) rest ∙ ap (λ (t : List ℕ). a ++ t) (append_assoc b c rest)
+-- a sink that nothing was written to has what was written
+pub all_written : (old new text : List ℕ) → old ≡ [] → Adds (Some old) (Some new) text → new ≡ text
+all_written old new text none adds = same_some new (old ++ text) adds.told ∙ ap (λ (t : List ℕ). t ++ text) none
+  where
+    same_some : (x y : List ℕ) → Some x ≡ Some y → x ≡ y
+    same_some x y e = cc
 
 pub number_pieces : (number n : ℕ) → n ≡ number → codes "soak " ++ (decimal n ++ (line_feed ++ [])) ≡ codes "soak " ++ decimal number ++ line_feed
 number_pieces number n same = rw same (simp append-nil)

@@ -45,7 +45,7 @@ pub(crate) const SOAK_SETUP: Setup = Setup {
 /// What a reader has answered for an input that isn't refused: the value, or want of memory.
 pub(crate) fn unrefused<X: Drop, F: Fault>(read: Result<X, F>) -> Result<X, NoMemory>
     requires { IfErr read (λ fault. F.told fault ≡ None) }
-    ensures { IfOk result (λ value. read.entry ≡ Ok value) }
+    ensures { IfOk result (λ value. read ≡ Ok value) }
 {
     match read {
         Ok(value) => Ok(value),
