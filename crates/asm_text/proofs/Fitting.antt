@@ -4,6 +4,7 @@ use Rattle.std.specs.Prelude.{⊤, is_some, find, Result, Ok, Err, option_map, o
 use Rattle.std.specs.List.{list_all, filter_map, cons_option, AllByRecursion}
 use Rattle.std.specs.Str.{bytes_eq}
 use Rattle.std.proofs.lemmas.Bool.{ltb-false, leb-true, eqb-true, eqb-false, and_parts, or_parts, not-false}
+use Rattle.xray_io.specs.Rows.{◌>>=◌}
 use Rattle.text_lines.specs.Words.{is_clean, words_of}
 use Rattle.asm_text.specs.declared.fault.AsmFault.{AsmFault}
 use Rattle.asm_text.specs.declared.fault.AsmFault.TheVariants as faults
@@ -29,7 +30,7 @@ use Rattle.asm_text.specs.private.Views.{statement_said}
 use Rattle.asm_text.specs.private.Laying.{lines_of, placed_in}
 use Rattle.asm_text.specs.private.Files.{HasShortName}
 use Rattle.asm_text.specs.private.Fits.{Fits, OperationFits, AllFit}
-use Rattle.asm_text.specs.Refusals.{judged, spoken, with_words, with_line, read_lines, is_misplaced, names_reserved, operation_reserves, operation_exceeds, is_wide, is_out_of_range, repeats, exceeds_limits, ◌>>=◌}
+use Rattle.asm_text.specs.Refusals.{judged, spoken, with_words, with_line, read_lines, is_misplaced, names_reserved, operation_reserves, operation_exceeds, is_wide, is_out_of_range, repeats, exceeds_limits}
 
 -- none of the instructions that go to no name is a branch
 abbrev pub NamesNoPlace : Instr → Type 0
@@ -234,7 +235,7 @@ words_good before number (word ∷ behind) fit = spoken_good before number (stat
 line_good : (before : Lines) (line : ℕ × List ℕ) → AllFit before → Good (with_line before line)
 line_good before (number, line) fit = by_clean (is_clean line)
   where
-    by_clean : (t : Bool) → Good (cond t (with_words before number (words_of line)) (Err (faults.Syntax number)))
+    by_clean : (t : Bool) → Good (cond (not t) (Err (faults.Syntax number)) (with_words before number (words_of line)))
     by_clean true = words_good before number (words_of line) fit
     by_clean false = tt
 

@@ -8,7 +8,7 @@ use Rattle.xray_image.specs.Container.{MapEntry}
 use Rattle.xray_image.specs.Units.{piece_bytes, units_from, places_from}
 use Rattle.xray_image.specs.Program.{Program, IsAccepted, sled_of}
 use Rattle.asm_text.specs.Layout.{Lines, Placed, Choosing, by_threshold, placed, no_owner, base_of, entry_in_line, all_parts, sleds_of, widths, pieces, functions, map_entries}
-use Rattle.asm_text.specs.Refusals.{◌>>=◌}
+use Rattle.xray_io.specs.Rows.{◌>>=◌}
 use Rattle.asm_text.specs.Writing.{file_bytes}
 use Rattle.asm_text.specs.Assembling.{said_by, image_of, assembled}
 use Rattle.asm_text.specs.Programs.{sled_said, entry_address, trampolines_at, program_said, IsProgramOf}

@@ -1,8 +1,9 @@
 -- What is true of the lines of a text that isn't refused.
-use Rattle.std.proofs.Common.{◌≡◌, ℕ, ◌+◌, ◌≤◌, Bool, true, false, cond, List, [], ◌∷◌, ◌++◌, length, ◌||◌, refl, ap, subst, ◌∙◌, ltb}
+use Rattle.std.proofs.Common.{◌≡◌, ℕ, ◌+◌, ◌≤◌, Bool, true, false, cond, not, List, [], ◌∷◌, ◌++◌, length, ◌||◌, refl, ap, subst, ◌∙◌, ltb}
 use Rattle.std.specs.Prelude.{⊤, Option, Some, None, Result, Ok, Err, sum_by, count_by}
 use Rattle.std.specs.Str.Lines.{lines}
 use Rattle.std.proofs.lemmas.Bool.{ltb-false, or_parts}
+use Rattle.xray_io.specs.Rows.{◌>>=◌}
 use Rattle.text_lines.specs.Lines.{numbered_lines}
 use Rattle.text_lines.specs.Words.{is_clean, words_of}
 use Rattle.asm_text.specs.declared.fault.AsmFault.{AsmFault}
@@ -11,7 +12,7 @@ use Rattle.asm_text.specs.Statements.{Statement}
 use Rattle.asm_text.specs.Language.{statement_of}
 use Rattle.asm_text.specs.Layout.{Lines, is_function, unless_never, all_parts, widths, sleds_of}
 use Rattle.asm_text.specs.private.Fits.{AllFit}
-use Rattle.asm_text.specs.Refusals.{judged, spoken, with_words, with_line, read_lines, is_misplaced, names_reserved, is_out_of_range, repeats, exceeds_limits, ends_early, is_unresolved, resolved, ended, ◌>>=◌}
+use Rattle.asm_text.specs.Refusals.{judged, spoken, with_words, with_line, read_lines, is_misplaced, names_reserved, is_out_of_range, repeats, exceeds_limits, ends_early, is_unresolved, resolved, ended}
 use Rattle.asm_text.specs.Assembling.{said_by}
 use Rattle.asm_text.proofs.Fitting.{Good, read_good}
 
@@ -58,7 +59,7 @@ module _ (P : Lines → Type 0) (keeps : Keeps P) where
   line_keeps : (before : Lines) (line : ℕ × List ℕ) → P before → OnLines P (with_line before line)
   line_keeps before (number, line) h = by_clean (is_clean line)
     where
-      by_clean : (t : Bool) → OnLines P (cond t (with_words before number (words_of line)) (Err (faults.Syntax number)))
+      by_clean : (t : Bool) → OnLines P (cond (not t) (Err (faults.Syntax number)) (with_words before number (words_of line)))
       by_clean true = words_keep before number (words_of line) h
       by_clean false = tt
 

@@ -1,5 +1,5 @@
 -- A text that is written of words says what is written in its lines.
-use Rattle.std.proofs.Common.{◌≡◌, ℕ, ◌+◌, ◌*◌, ◌%◌, ◌<◌, ◌≤◌, Bool, true, false, cond, List, [], ◌∷◌, ◌++◌, length, map, Some, refl, sym, ap, ◌∙◌, arith, append_assoc, append-nil}
+use Rattle.std.proofs.Common.{◌≡◌, ℕ, ◌+◌, ◌*◌, ◌%◌, ◌<◌, ◌≤◌, Bool, true, false, cond, not, List, [], ◌∷◌, ◌++◌, length, map, Some, refl, sym, ap, ◌∙◌, arith, append_assoc, append-nil}
 use Rattle.std.specs.Prelude.{Result, Ok, Err, count_by, nat_lt, sum_by}
 use Rattle.std.specs.List.{AllZip, enumerate_from, flat_map, list_all}
 use Rattle.std.specs.Int.{w32, to_le_bytes}
@@ -8,6 +8,7 @@ use Rattle.std.proofs.lemmas.Bool.{and_from, le-ltb}
 use Rattle.std.proofs.lemmas.List.{length-append}
 use Rattle.std.proofs.lemmas.List.FromFn.{length-enumerate_from}
 use Rattle.std.proofs.lemmas.List.Sums.{count_by-le-length, sum_by-append}
+use Rattle.xray_io.specs.Rows.{◌>>=◌}
 use Rattle.text_lines.specs.Words.{words_of}
 use Rattle.text_lines.specs.Written.{are_written_words, written_line, written_text, WrittenTextsRead as WordsRead}
 use Rattle.subset_decode.specs.declared.instr.Instr.{Instr}
@@ -21,7 +22,7 @@ use Rattle.asm_text.specs.declared.statement.Branch.TheVariants as branches
 use Rattle.asm_text.specs.Statements.{Plain, Go, TailJump, Return, Statement, Base, Entry, Func, Label, Does}
 use Rattle.asm_text.specs.Language.{statement_of}
 use Rattle.asm_text.specs.Layout.{Lines, Owner, Choosing, owner_of, no_owner, is_function, parts_of, parts_at, placed_from, all_parts, width, widths, sleds_of, sled_shift, unless_never, branch_width}
-use Rattle.asm_text.specs.Refusals.{is_misplaced, names_reserved, is_out_of_range, repeats, exceeds_limits, judged, spoken, with_words, with_line, read_lines, resolved, ended, ◌>>=◌}
+use Rattle.asm_text.specs.Refusals.{is_misplaced, names_reserved, is_out_of_range, repeats, exceeds_limits, judged, spoken, with_words, with_line, read_lines, resolved, ended}
 use Rattle.asm_text.specs.WrittenTexts.{Says, MayFollow, IsOrderly, WrittenTextsRead}
 use Rattle.asm_text.proofs.WidthLemmas.{widths_aligned, sleds_aligned, widths_aligned_branch, sleds_aligned_branch}
 
@@ -109,7 +110,7 @@ module _ (texts : WordsRead) where
       → with_line before (number, written_line words) ≡ Ok (before ++ (number, s) ∷ [])
   line_read before number words s says h few =
       let line = written_line words in
-      ap (λ t. cond t (with_words before number (words_of line)) (Err (faults.Syntax number))) (texts.clean words says.written)
+      ap (λ t. cond (not t) (Err (faults.Syntax number)) (with_words before number (words_of line))) (texts.clean words says.written)
       ∙ ap (with_words before number) (texts.words words says.written)
       ∙ words_said before number words s says.said ∙ judged_follows before number s h few
 

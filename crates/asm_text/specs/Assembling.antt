@@ -3,11 +3,12 @@ use Rattle.std.specs.Prelude.{ℕ, ◌+◌, List, [], length, Result, Ok, Err, V
 use Rattle.std.specs.declared.alloc.Global.{Global}
 use Rattle.std.specs.List.{flat_map}
 use Rattle.std.specs.Str.Lines.{lines}
+use Rattle.xray_io.specs.Rows.{◌>>=◌}
 use Rattle.text_lines.specs.Lines.{numbered_lines}
 use Rattle.xray_image.specs.Units.{piece_bytes}
 use Rattle.asm_text.specs.declared.fault.AsmFault.{AsmFault}
 use Rattle.asm_text.specs.Layout.{Lines, by_threshold, placed, pieces, functions, map_entries, base_of, entry_of}
-use Rattle.asm_text.specs.Refusals.{read_lines, ended, ◌>>=◌}
+use Rattle.asm_text.specs.Refusals.{read_lines, ended}
 use Rattle.asm_text.specs.Writing.{File, file_bytes}
 
 -- the image of lines that are in order

@@ -2,6 +2,7 @@
 -- of the text.
 use Rattle.std.specs.Prelude.{ℕ, ◌||◌, ◌==◌, ◌%◌, Bool, true, false, not, nat_lt, List, [], ◌∷◌, ◌++◌, fold, sum_by, count_by, Option, Some, None, is_some, Result, Ok, Err, if◌then◌else◌}
 use Rattle.std.specs.List.{list_any}
+use Rattle.xray_io.specs.Rows.{First, NeedsPart, InTurn}
 use Rattle.subset_decode.specs.declared.instr.Instr.{Instr}
 use Rattle.subset_decode.specs.declared.instr.Instr.TheVariants.{Mov, Add, Sub, Push, Pop, Call, Jmp, Jnz, Ret, Out}
 use Rattle.subset_decode.specs.Encoding.{reserved_register}
@@ -94,17 +95,16 @@ exceeds_limits lines =
 -- the lines with one more, or the first row that refuses it
 abbrev pub judged : Lines → ℕ → Statement → Result Lines AsmFault
 judged before number statement =
-    if is_misplaced before statement then Err (Syntax number)
-    else if names_reserved statement then Err (Register number)
-    else if is_out_of_range statement then Err (Range number)
-    else if repeats before statement then Err (Repeat number)
-    else if exceeds_limits (before ++ (number, statement) ∷ []) then Err (Limit number)
-    else Ok (before ++ (number, statement) ∷ [])
+    First (is_misplaced before statement) (Err (Syntax number))
+    (First (names_reserved statement) (Err (Register number))
+    (First (is_out_of_range statement) (Err (Range number))
+    (First (repeats before statement) (Err (Repeat number))
+    (First (exceeds_limits (before ++ (number, statement) ∷ [])) (Err (Limit number))
+    (Ok (before ++ (number, statement) ∷ []))))))
 
 -- words that say nothing are refused before anything else is checked
 abbrev pub spoken : Lines → ℕ → Option Statement → Result Lines AsmFault
-spoken before number None = Err (Syntax number)
-spoken before number (Some statement) = judged before number statement
+spoken before number said = NeedsPart said (Err (Syntax number)) (λ statement. judged before number statement)
 
 -- a line without words is skipped
 abbrev pub with_words : Lines → ℕ → List (List ℕ) → Result Lines AsmFault
@@ -112,17 +112,11 @@ with_words before number [] = Ok before
 with_words before number (word ∷ words) = spoken before number (statement_of (word ∷ words))
 
 abbrev pub with_line : Lines → ℕ × List ℕ → Result Lines AsmFault
-with_line before (number, line) = if is_clean line then with_words before number (words_of line) else Err (Syntax number)
-
-infixl 10 ◌>>=◌
-abbrev pub ◌>>=◌ : {A B : Type 0} → Result A AsmFault → (A → Result B AsmFault) → Result B AsmFault
-(Ok x) >>= f = f x
-(Err e) >>= f = Err e
+with_line before (number, line) = First (not (is_clean line)) (Err (Syntax number)) (with_words before number (words_of line))
 
 -- what all lines say, after those before them, or the first refusal
 abbrev pub read_lines : Lines → List (ℕ × List ℕ) → Result Lines AsmFault
-read_lines before [] = Ok before
-read_lines before (line ∷ behind) = with_line before line >>= λ lines. read_lines lines behind
+read_lines before lines = InTurn with_line before lines
 
 -- ---- the rows at the end of the text
 
@@ -152,8 +146,7 @@ is_unresolved lines (Does operation) behind = is_missing lines (name_in operatio
 -- all lines, or the refusal of the first line among those left that is unresolved
 abbrev pub resolved : Lines → Lines → Result Lines AsmFault
 resolved lines [] = Ok lines
-resolved lines (line ∷ behind) =
-    if is_unresolved lines line.1 behind then Err (Unresolved line.0) else resolved lines behind
+resolved lines (line ∷ behind) = First (is_unresolved lines line.1 behind) (Err (Unresolved line.0)) (resolved lines behind)
 
 abbrev pub ended : ℕ → Lines → Result Lines AsmFault
-ended number lines = if ends_early lines then Err (Syntax number) else resolved lines lines
+ended number lines = First (ends_early lines) (Err (Syntax number)) (resolved lines lines)

@@ -3,12 +3,13 @@ use Rattle.std.proofs.Common.{◌≡◌, ℕ, ◌+◌, List, [], Bool, true, fal
 use Rattle.std.specs.Prelude.{Result, Ok, Err}
 use Rattle.std.specs.List.{list_any}
 use Rattle.std.specs.Str.Lines.{lines}
+use Rattle.xray_io.specs.Rows.{◌>>=◌}
 use Rattle.text_lines.specs.Lines.{numbered_lines}
 use Rattle.xray_image.specs.Program.{Program}
 use Rattle.patch_script.specs.declared.fault.ScriptFault.{ScriptFault}
 use Rattle.patch_script.specs.declared.fault.ScriptFault.TheVariants.{Go, Hold}
 use Rattle.patch_script.specs.Plans.{Plan, plan_of}
-use Rattle.patch_script.specs.Refusals.{Lines, commands_of, has_go, holds_for_good, read_lines, ended, ◌>>=◌}
+use Rattle.patch_script.specs.Refusals.{Lines, commands_of, has_go, holds_for_good, read_lines, ended}
 
 module _ (program : Program) (threads : ℕ) (text : List ℕ) where
   abbrev behind : ℕ

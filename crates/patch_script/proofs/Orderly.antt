@@ -6,6 +6,7 @@ use Rattle.std.specs.Str.Lines.{lines}
 use Rattle.std.proofs.lemmas.Bool.{cases_lt, leb-false}
 use Rattle.std.proofs.lemmas.List.{map-append, length-append, length-map, take-append-le}
 use Rattle.std.proofs.lemmas.Option.{none-some, same_Some, slice_get_within}
+use Rattle.xray_io.specs.Rows.{◌>>=◌}
 use Rattle.text_lines.specs.Lines.{numbered_lines}
 use Rattle.text_lines.specs.Words.{words_of}
 use Rattle.xray_image.specs.Program.{Program}
@@ -13,7 +14,7 @@ use Rattle.patch_script.specs.declared.command.Command.{Command}
 use Rattle.patch_script.specs.declared.fault.ScriptFault.{ScriptFault}
 use Rattle.patch_script.specs.declared.fault.ScriptFault.TheVariants as faults
 use Rattle.patch_script.specs.Plans.{Plan, plan_of, IsOrderly}
-use Rattle.patch_script.specs.Refusals.{Lines, commands_of, has_go, holds_for_good, names_no_function, names_no_thread, is_misplaced, breaks_hold, breaks_log, waits_for_itself, IsAdmitted, judged, spoken, command_in, with_line, read_lines, ended, ◌>>=◌}
+use Rattle.patch_script.specs.Refusals.{Lines, commands_of, has_go, holds_for_good, names_no_function, names_no_thread, is_misplaced, breaks_hold, breaks_log, waits_for_itself, IsAdmitted, judged, spoken, command_in, with_line, read_lines, ended}
 use Rattle.patch_script.proofs.Lists.{slice_get-append_left, slice_get-append_right}
 use Rattle.patch_script.proofs.Places.{take_all}
 

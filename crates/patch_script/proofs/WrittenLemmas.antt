@@ -7,6 +7,7 @@ use Rattle.std.proofs.lemmas.Bool.{and_from, lt-leb}
 use Rattle.std.proofs.lemmas.List.{length-append}
 use Rattle.std.proofs.lemmas.List.FromFn.{length-enumerate_from}
 use Rattle.std.proofs.Math.Seq.{take-append_seam}
+use Rattle.xray_io.specs.Rows.{◌>>=◌}
 use Rattle.text_lines.specs.Words.{words_of}
 use Rattle.text_lines.specs.Written.{is_written_word, are_written_words, written_line, WrittenNumbersRead, WrittenTextsRead}
 use Rattle.xray_image.specs.Program.{Program}
@@ -16,7 +17,7 @@ use Rattle.patch_script.specs.declared.fault.ScriptFault.{ScriptFault}
 use Rattle.patch_script.specs.declared.fault.ScriptFault.TheVariants as faults
 use Rattle.patch_script.specs.Language.{command_of, on_two}
 use Rattle.patch_script.specs.Plans.{IsOrderly}
-use Rattle.patch_script.specs.Refusals.{Lines, commands_of, has_go, holds_for_good, names_no_function, names_no_thread, is_misplaced, breaks_hold, breaks_log, waits_for_itself, IsAdmitted, judged, spoken, command_in, with_line, read_lines, ended, ◌>>=◌}
+use Rattle.patch_script.specs.Refusals.{Lines, commands_of, has_go, holds_for_good, names_no_function, names_no_thread, is_misplaced, breaks_hold, breaks_log, waits_for_itself, IsAdmitted, judged, spoken, command_in, with_line, read_lines, ended}
 use Rattle.patch_script.specs.WrittenScripts.{command_words, script_text, written_plan, HasWords, WrittenScriptsRead}
 use Rattle.patch_script.proofs.Lists.{slice_get-append_right}
 

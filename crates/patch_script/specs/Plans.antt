@@ -2,6 +2,7 @@
 use Rattle.std.specs.Prelude.{◌≡◌, ◌<◌, ◌≤◌, ℕ, ◌+◌, List, [], length, take, slice_get, Bool, true, false, Result, Ok, Option, Some, find, option_map}
 use Rattle.std.specs.List.{list_any}
 use Rattle.std.specs.Str.Lines.{lines}
+use Rattle.xray_io.specs.Rows.{◌>>=◌}
 use Rattle.text_lines.specs.Lines.{numbered_lines}
 use Rattle.xray_image.specs.Program.{Program}
 use Rattle.sled_words.specs.Words.{code_word_count}
@@ -11,7 +12,7 @@ use Rattle.patch_script.specs.declared.fault.ScriptFault.{ScriptFault}
 use Rattle.patch_script.specs.declared.micro.Micro.{Micro}
 use Rattle.patch_script.specs.declared.micro.Micro.TheVariants.{Store, Await, End}
 use Rattle.patch_script.specs.Limits.{most_commands}
-use Rattle.patch_script.specs.Refusals.{Lines, commands_of, has_go, holds_for_good, IsAdmitted, read_lines, ended, ◌>>=◌}
+use Rattle.patch_script.specs.Refusals.{Lines, commands_of, has_go, holds_for_good, IsAdmitted, read_lines, ended}
 
 -- what contracts see of a `Script`: its commands with their lines, and the program and threads that they are for
 pub record Plan : Type 0 where

@@ -3,6 +3,7 @@
 use Rattle.std.specs.Prelude.{◌≡◌, ℕ, ◌||◌, ◌&&◌, ◌==◌, Bool, true, false, not, nat_lt, nat_le, List, [], ◌∷◌, ◌++◌, length, map, Option, Some, None, is_some, Result, Ok, Err, if◌then◌else◌}
 use Rattle.std.specs.Option.{option_map_or}
 use Rattle.std.specs.List.{list_any}
+use Rattle.xray_io.specs.Rows.{First, NeedsPart, InTurn}
 use Rattle.text_lines.specs.Words.{is_clean, words_of}
 use Rattle.xray_image.specs.Program.{Program}
 use Rattle.xray_image.specs.Ids.{id_count}
@@ -99,18 +100,18 @@ pub record IsAdmitted (program : Program) (threads : ℕ) (before : List Command
 -- the lines with one more, or the first row that refuses it
 abbrev pub judged : Program → ℕ → Lines → ℕ → Command → Result Lines ScriptFault
 judged program threads before number command =
-    if names_no_function program command then Err (Function number)
-    else if names_no_thread threads command then Err (Thread number)
-    else if is_misplaced (commands_of before) command then Err (Go number)
-    else if breaks_hold (commands_of before) command then Err (Hold number)
-    else if breaks_log (commands_of before) command then Err (Log number)
-    else if waits_for_itself (commands_of before) command then Err (SelfWait number)
-    else Ok (before ++ (number, command) ∷ [])
+    First (names_no_function program command) (Err (Function number))
+    (First (names_no_thread threads command) (Err (Thread number))
+    (First (is_misplaced (commands_of before) command) (Err (Go number))
+    (First (breaks_hold (commands_of before) command) (Err (Hold number))
+    (First (breaks_log (commands_of before) command) (Err (Log number))
+    (First (waits_for_itself (commands_of before) command) (Err (SelfWait number))
+    (Ok (before ++ (number, command) ∷ [])))))))
 
 -- words that aren't a command are refused earlier
 abbrev pub spoken : Program → ℕ → Lines → ℕ → Option Command → Result Lines ScriptFault
-spoken program threads before number None = Err (Syntax number)
-spoken program threads before number (Some command) = judged program threads before number command
+spoken program threads before number said =
+    NeedsPart said (Err (Syntax number)) (λ command. judged program threads before number command)
 
 -- the command of a line, which has to be clean
 abbrev pub command_in : List ℕ → Option Command
@@ -119,20 +120,13 @@ command_in line = if is_clean line then command_of (words_of line) else None
 -- A line without words is skipped. The 1,025th line with words is refused before anything else is checked.
 abbrev pub with_line : Program → ℕ → Lines → ℕ × List ℕ → Result Lines ScriptFault
 with_line program threads before (number, line) =
-    if length (words_of line) == 0 then Ok before
-    else if nat_le most_commands (length before) then Err (Limit number)
-    else spoken program threads before number (command_in line)
-
-infixl 10 ◌>>=◌
-abbrev pub ◌>>=◌ : {A B : Type 0} → Result A ScriptFault → (A → Result B ScriptFault) → Result B ScriptFault
-(Ok x) >>= f = f x
-(Err e) >>= f = Err e
+    First (length (words_of line) == 0) (Ok before)
+    (First (nat_le most_commands (length before)) (Err (Limit number))
+    (spoken program threads before number (command_in line)))
 
 -- the commands of all lines, after those before them, or the first refusal
 abbrev pub read_lines : Program → ℕ → Lines → List (ℕ × List ℕ) → Result Lines ScriptFault
-read_lines program threads before [] = Ok before
-read_lines program threads before (line ∷ behind) =
-    with_line program threads before line >>= λ lines. read_lines program threads lines behind
+read_lines program threads before lines = InTurn (λ said line. with_line program threads said line) before lines
 
 -- ---- the rows at the end of the text
 
@@ -144,6 +138,6 @@ holds_for_good script _ = false
 -- what is missing at the end is refused with the number after the last line
 abbrev pub ended : ℕ → Lines → Result Lines ScriptFault
 ended number lines =
-    if not (has_go (commands_of lines)) then Err (Go number)
-    else if list_any (holds_for_good (commands_of lines)) (commands_of lines) then Err (Hold number)
-    else Ok lines
+    First (not (has_go (commands_of lines))) (Err (Go number))
+    (First (list_any (holds_for_good (commands_of lines)) (commands_of lines)) (Err (Hold number))
+    (Ok lines))

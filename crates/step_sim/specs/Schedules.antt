@@ -1,8 +1,8 @@
 -- Schedules as texts: what their lines say, and what is wrong with a text.
 use Rattle.std.specs.Prelude.{ℕ, ◌&&◌, ◌≤◌, Bool, true, false, nat_eq, nat_le, List, [], ◌∷◌, ◌++◌, length, Option, Some, None, Result, Ok, Err, codes, if◌then◌else◌}
-use Rattle.std.specs.Cmp.Lexicographic.{pointwise}
 use Rattle.std.specs.List.{flat_map}
 use Rattle.std.specs.Str.Lines.{lines}
+use Rattle.text_lines.specs.Keywords.{is_word}
 use Rattle.text_lines.specs.Lines.{numbered_lines}
 use Rattle.text_lines.specs.Numbers.{number_of}
 use Rattle.text_lines.specs.Words.{is_clean, words_of}
@@ -12,6 +12,10 @@ use Rattle.step_sim.specs.declared.line.Said.{Said}
 use Rattle.step_sim.specs.declared.line.Said.TheVariants.{Nothing, Loads, Steps, Unknown}
 use Rattle.step_sim.specs.declared.turns.Turns.{Turns}
 use Rattle.step_sim.specs.declared.turns.Turns.TheVariants.{Thread, Patcher}
+
+-- the most lines of a schedule
+abbrev pub most_lines : ℕ
+most_lines = 1048576
 
 -- ---- what a line says
 
@@ -24,10 +28,6 @@ loads_of words = Unknown
 abbrev pub steps_of : List (List ℕ) → Said
 steps_of (count ∷ []) = Steps (number_of count)
 steps_of words = Unknown
-
--- two words are the same
-abbrev pub is_word : List ℕ → List ℕ → Bool
-is_word word other = pointwise nat_eq word other
 
 -- what words say: `t T K`, or `p K`
 abbrev pub said_by : List (List ℕ) → Said
@@ -86,10 +86,10 @@ line_faults threads (number, line) =
 
 -- ---- a text
 
--- all that is wrong with a text: that it has more than 1,048,576 lines, and then what is wrong with each line
+-- all that is wrong with a text: that it has too many lines, and then what is wrong with each line
 abbrev pub faults_of : ℕ → List ℕ → List ScheduleFault
 faults_of threads text =
-    unless (nat_le (length (lines text)) 1048576) faults.Limit ++ flat_map (line_faults threads) (numbered_lines text)
+    unless (nat_le (length (lines text)) most_lines) faults.Limit ++ flat_map (line_faults threads) (numbered_lines text)
 
 -- the turns of all lines, in order
 abbrev pub turns_of : List ℕ → List Turns

@@ -1,33 +1,35 @@
 -- The table of refusals accepts exactly the accepted files.
 use Rattle.std.proofs.Common.{◌≡◌, ℕ, suc, ◌+◌, ◌<◌, ◌≤◌, ◌%◌, inl, inr, List, [], ◌∷◌, length, map, Option, Some, None, Ok, Err, refl, sym, ap, subst, ◌∙◌}
-use Rattle.std.specs.Prelude.{◌↔◌, ◌⊎◌, MatchOption, slice_get}
+use Rattle.std.specs.Prelude.{◌↔◌, ◌⊎◌, slice_get}
 use Rattle.std.proofs.lemmas.Option.{none-some, same_Some, slice_get_within, get_or_from_slice_get, slice_get_read}
+use Rattle.xray_io.specs.Rows.{Is, Needs, NeedsPart, IsOneWay, is_one, needs_one, needs_each_one, needs_part_one}
 use Rattle.xray_image.specs.declared.fault.ImageFault.{ImageFault}
 use Rattle.xray_image.specs.declared.fault.ImageFault.TheVariants as faults
 use Rattle.xray_image.specs.declared.unit.Unit.{Unit}
 use Rattle.xray_image.specs.Units.{Piece, SledPlace, places_from}
 use Rattle.xray_image.specs.Container.{MapEntry, Parts, base_address, function_count, parts_of}
 use Rattle.xray_image.specs.Program.{Program, AreFunctions, IsEntryOf, EachSled, Reaches, BranchesReach, program_of, IsAccepted}
-use Rattle.xray_image.specs.Table.{Verdict, Needs, NeedsUnits, StandUpTo, ReadsProgram, ReadsParts, ReadsAs, BranchesRightly}
+use Rattle.xray_image.specs.Table.{Verdict, NeedsUnits, StandUpTo, ReadsProgram, ReadsParts, ReadsAs, BranchesRightly}
 use Rattle.xray_image.proofs.Pieces.{OneInstruction}
 use Rattle.xray_image.proofs.Standing.{stand_are, units_stand}
-use Rattle.xray_image.proofs.TableRows.{IsOneWay, OneAnswer, needs_one, needs_each_one, needs_units_one, option_one}
+use Rattle.xray_image.proofs.TableRows.{OneAnswer, needs_units_one}
 
 -- ---- one verdict
 
 program_one : (entries : List MapEntry) (places : List SledPlace) (program : Program) → IsOneWay (ReadsProgram entries places program)
 program_one entries places program =
-    needs_each_one _ _ _ (needs_each_one _ _ _ (needs_each_one _ _ _ (needs_each_one _ _ _ (needs_each_one _ _ _
-    (record { same = λ v w a b. a ∙ sym b })))))
+    needs_each_one _ _ _ (λ i. is_one _) (needs_each_one _ _ _ (λ i. is_one _) (needs_each_one _ _ _ (λ i. is_one _)
+    (needs_each_one _ _ _ (λ i. is_one _) (needs_each_one _ _ _ (λ i. is_one _) (is_one (Ok program))))))
 
 parts_one : OneInstruction → OneAnswer → (bytes : List ℕ) → IsOneWay (ReadsParts bytes)
-parts_one first answer bytes = option_one (parts_of bytes) _ _ (λ parts.
-    needs_one _ _ _ (needs_units_one first answer (base_address bytes) parts.code _ (λ pieces.
+parts_one first answer bytes = needs_part_one (parts_of bytes) _ _ (is_one _) (λ parts.
+    needs_one _ _ _ (is_one _) (needs_units_one first answer (base_address bytes) parts.code _ (λ pieces.
     program_one parts.entries (places_from (base_address bytes) pieces) (program_of bytes parts pieces))))
 
 reads_one : OneInstruction → OneAnswer → (bytes : List ℕ) → IsOneWay (ReadsAs bytes)
 reads_one first answer bytes =
-    needs_one _ _ _ (needs_one _ _ _ (needs_one _ _ _ (needs_one _ _ _ (needs_one _ _ _ (needs_one _ _ _ (needs_one _ _ _ (needs_one _ _ _
+    needs_one _ _ _ (is_one _) (needs_one _ _ _ (is_one _) (needs_one _ _ _ (is_one _) (needs_one _ _ _ (is_one _)
+    (needs_one _ _ _ (is_one _) (needs_one _ _ _ (is_one _) (needs_one _ _ _ (is_one _) (needs_one _ _ _ (is_one _)
     (parts_one first answer bytes))))))))
 
 -- no file has two verdicts
@@ -81,11 +83,11 @@ module _ (bytes : List ℕ) (program : Program) (a : IsAccepted bytes program) w
 
   rows_of_parts : ReadsParts bytes (Ok program)
   rows_of_parts =
-      from_some (parts_of bytes) _ _ a.parts a.reaches
+      from_some (parts_of bytes) _ _ (Ok program) a.parts a.reaches
       (inr (a.nothing_behind, inr (a.pieces, units_stand (base_address bytes) a.parts.code a.pieces a.units a.even_sleds, rows_of_program)))
     where
-      from_some : {X : Type 0} (o : Option X) (P : Type 0) (Q : X → Type 0) (x : X) → o ≡ Some x → Q x → MatchOption o P Q
-      from_some {X = X} o P Q x e q = subst (λ (r : Option X). MatchOption r P Q) (sym e) q
+      from_some : {X : Type 0} (o : Option X) (decides : Verdict → Type 0) (there : X → Verdict → Type 0) (v : Verdict) (x : X) → o ≡ Some x → there x v → NeedsPart o decides there v
+      from_some {X = X} o decides there v x e q = subst (λ (r : Option X). NeedsPart r decides there v) (sym e) q
 
   rows_of_file : ReadsAs bytes (Ok program)
   rows_of_file =
@@ -129,7 +131,7 @@ units_ok : (base : ℕ) (code : List ℕ) (follows : List Piece → Verdict → 
 units_ok base code follows p (inl a) = absurd (ok_is_no_fault p a.0 a.2)
 units_ok base code follows p (inr a) = a
 
-option_ok : {X : Type 0} (o : Option X) (fault : ImageFault) (there : X → Verdict → Type 0) (p : Program) → MatchOption o (◌≡◌ {A = Verdict} (Ok p) (Err fault)) (λ x. there x (Ok p))
+option_ok : {X : Type 0} (o : Option X) (fault : ImageFault) (there : X → Verdict → Type 0) (p : Program) → NeedsPart o (Is (Err fault)) there (Ok p)
     → (x : X) × (o ≡ Some x) × there x (Ok p)
 option_ok None fault there p m = absurd (ok_is_no_fault p fault m)
 option_ok (Some x) fault there p m = (x, refl, m)
@@ -165,7 +167,7 @@ ReadsPieces bytes parts pieces = ReadsProgram parts.entries (places_from (base_a
 
 -- what the parts read as
 abbrev ReadsUnits : List ℕ → Parts → Verdict → Type 0
-ReadsUnits bytes parts = Needs (parts.rest ≡ []) faults.Trailing (NeedsUnits (base_address bytes) parts.code (ReadsPieces bytes parts))
+ReadsUnits bytes parts = Needs (parts.rest ≡ []) (Is (Err faults.Trailing)) (NeedsUnits (base_address bytes) parts.code (ReadsPieces bytes parts))
 
 -- what is true of one program is true of an equal one
 moved : (P : Program → Type 0) (p q : Program) → p ≡ q → P q → P p

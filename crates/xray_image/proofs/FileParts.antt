@@ -1,15 +1,16 @@
 -- Reading the parts of a file.
 use Rattle.std.proofs.Common.{◌≡◌, ℕ, ◌+◌, ◌<◌, ◌≤◌, inl, inr, Bool, cond, List, [], length, take, drop, Option, Some, None, Err, refl, sym, ap, subst, ◌∙◌, arith}
-use Rattle.std.specs.Prelude.{◌⊎◌, option_and_then, MatchOption}
+use Rattle.std.specs.Prelude.{◌⊎◌, option_and_then}
 use Rattle.std.specs.Option.{option_map}
 use Rattle.std.proofs.lemmas.Bool.{le-ltb, lt-ltb}
 use Rattle.std.proofs.lemmas.List.{length-drop, drop-drop}
+use Rattle.xray_io.specs.Rows.{Is, Needs, NeedsPart}
 use Rattle.xray_image.specs.declared.fault.ImageFault.{ImageFault}
 use Rattle.xray_image.specs.declared.fault.ImageFault.TheVariants as faults
 use Rattle.xray_image.specs.Units.{places_from}
 use Rattle.xray_image.specs.Container.{Function, MapEntry, Parts, base_address, code_length, function_count, entry_count, function_at, map_entry_at, several, parts_of}
 use Rattle.xray_image.specs.Program.{program_of}
-use Rattle.xray_image.specs.Table.{Verdict, Needs, NeedsUnits, ReadsProgram, ReadsParts}
+use Rattle.xray_image.specs.Table.{Verdict, NeedsUnits, ReadsProgram, ReadsParts}
 
 -- the parts with these functions, and with the entries after them
 abbrev with_entries : List ℕ → List Function → Option (List MapEntry × List ℕ) → Option Parts
@@ -20,11 +21,11 @@ with_functions bytes o = option_and_then (λ functions. with_entries bytes funct
 
 -- the table from the parts on
 abbrev pub Rows : List ℕ → Option Parts → Verdict → Type 0
-Rows bytes o verdict =
-    MatchOption o (verdict ≡ Err faults.Short)
-    (λ parts. Needs (parts.rest ≡ []) faults.Trailing
+Rows bytes o =
+    NeedsPart o (Is (Err faults.Short))
+    (λ parts. Needs (parts.rest ≡ []) (Is (Err faults.Trailing))
     (NeedsUnits (base_address bytes) parts.code
-    (λ pieces. ReadsProgram parts.entries (places_from (base_address bytes) pieces) (program_of bytes parts pieces))) verdict)
+    (λ pieces. ReadsProgram parts.entries (places_from (base_address bytes) pieces) (program_of bytes parts pieces))))
 
 module _ (bytes : List ℕ) (long : 64 ≤ length bytes) where
   parts_when : code_length bytes ≤ length (drop 64 bytes) → parts_of bytes ≡ with_functions bytes (several function_at (function_count bytes) (drop (code_length bytes) (drop 64 bytes)))

@@ -1,6 +1,6 @@
 -- The table decides each file in some way.
 use Rattle.std.proofs.Common.{◌≡◌, ◌≢◌, ℕ, zero, suc, ◌+◌, ◌-◌, ◌%◌, ◌<◌, ◌≤◌, ◌^◌, inl, inr, List, [], ◌∷◌, ◌++◌, length, get_or, take, drop, map, Option, Some, None, Ok, Err, refl, sym, ap, subst, ◌∙◌, arith}
-use Rattle.std.specs.Prelude.{◌⊎◌, All, MatchOption, Result, codes, slice_get}
+use Rattle.std.specs.Prelude.{◌⊎◌, All, Result, codes, slice_get}
 use Rattle.std.proofs.lemmas.Bool.{cases_eq, cases_lt}
 use Rattle.std.proofs.lemmas.List.{get_or_past, length-append, length-map}
 use Rattle.std.proofs.lemmas.List.Elements.{All-tail, All-take, All-drop}
@@ -10,6 +10,7 @@ use Rattle.subset_decode.specs.declared.instr.Instr.{Instr}
 use Rattle.subset_decode.specs.declared.fault.DecodeFault.{DecodeFault}
 use Rattle.subset_decode.specs.Encoding.{Begins}
 use Rattle.subset_decode.specs.Refusals.{Answers}
+use Rattle.xray_io.specs.Rows.{Is, Needs, NeedsEach, NeedsPart}
 use Rattle.xray_image.specs.declared.fault.ImageFault.{ImageFault}
 use Rattle.xray_image.specs.declared.fault.ImageFault.TheVariants as faults
 use Rattle.xray_image.specs.declared.fault.Which.TheVariants as limits
@@ -18,7 +19,7 @@ use Rattle.xray_image.specs.Units.{Piece, Instruction, JumpSled, ReturnSled, Ali
 use Rattle.xray_image.specs.private.SledPieces.{IsSled}
 use Rattle.xray_image.specs.Container.{Function, MapEntry, Parts, base_address, code_length, entry_count, entry_index, function_count, magic, parts_of, version}
 use Rattle.xray_image.specs.Program.{BranchReaches, IsEntryOf, IsFunction, Program, Reaches, program_of}
-use Rattle.xray_image.specs.Table.{BeginsAsSled, BranchesRightly, FitsAt, FunctionIsFit, HasOneAddress, Needs, NeedsEach, NeedsUnits, ReadsAs, ReadsParts, ReadsProgram, StandUpTo, StandsAt, UnitFault, Verdict, place_of_unit}
+use Rattle.xray_image.specs.Table.{BeginsAsSled, BranchesRightly, FitsAt, FunctionIsFit, HasOneAddress, NeedsUnits, ReadsAs, ReadsParts, ReadsProgram, StandUpTo, StandsAt, UnitFault, Verdict, place_of_unit}
 use Rattle.xray_image.proofs.Acceptance.{code_is}
 use Rattle.xray_image.proofs.Known.{Known, known_below, known_both, known_branch, known_entry, known_front, known_function, known_item, known_list, known_most, known_option, known_reach}
 use Rattle.xray_image.proofs.Nops.{IsBytes, nop_found}
@@ -216,7 +217,7 @@ SomeVerdict reads = (verdict : Verdict) × reads verdict
 
 -- a row decides if its condition is known and what follows decides
 some_needs : (condition : Type 0) (fault : ImageFault) (follows : Verdict → Type 0) → Known condition → (condition → SomeVerdict follows)
-    → SomeVerdict (Needs condition fault follows)
+    → SomeVerdict (Needs condition (Is (Err fault)) follows)
 some_needs condition fault follows (inl holds) rest = let r = rest holds in (r.0, inr (holds, r.1))
 some_needs condition fault follows (inr fails) rest = (Err fault, inl (fails, refl))
 
@@ -237,10 +238,10 @@ first_below C known (suc n) = by_rest (first_below C known n) (known n)
 
 -- a row over all numbers decides if from some number on nothing is asked
 some_needs_each : (condition : ℕ → Type 0) (fault : ℕ → ImageFault) (follows : Verdict → Type 0) → ((i : ℕ) → Known (condition i)) → (n : ℕ)
-    → ((i : ℕ) → n ≤ i → condition i) → SomeVerdict follows → SomeVerdict (NeedsEach condition fault follows)
+    → ((i : ℕ) → n ≤ i → condition i) → SomeVerdict follows → SomeVerdict (NeedsEach condition (λ i. Is (Err (fault i))) follows)
 some_needs_each condition fault follows known n beyond rest = by_first (first_below condition known n)
   where
-    by_first : FirstBelow condition n → SomeVerdict (NeedsEach condition fault follows)
+    by_first : FirstBelow condition n → SomeVerdict (NeedsEach condition (λ i. Is (Err (fault i))) follows)
     by_first (inl (i, fails, below)) = (Err (fault i), inl (i, fails, below, refl))
     by_first (inr below) = (rest.0, inr (from_below condition n below beyond, rest.1))
 
@@ -276,10 +277,10 @@ some_needs_units some one base code all follows rest =
         )
 
 -- a row over a part that may be missing decides
-some_option : {X : Type 0} (o : Option X) (missing : Verdict) (there : X → Verdict → Type 0) → ((x : X) → o ≡ Some x → SomeVerdict (there x))
-    → SomeVerdict (λ v. MatchOption o (v ≡ missing) (λ x. there x v))
-some_option None missing there some = (missing, refl)
-some_option (Some x) missing there some = some x refl
+some_part : {X : Type 0} (o : Option X) (fault : ImageFault) (follows : X → Verdict → Type 0) → ((x : X) → o ≡ Some x → SomeVerdict (follows x))
+    → SomeVerdict (NeedsPart o (Is (Err fault)) follows)
+some_part None fault follows some = (Err fault, refl)
+some_part (Some x) fault follows some = some x refl
 
 -- ---- the table
 
@@ -335,7 +336,7 @@ code_bytes bytes parts e all =
 -- what the parts read as
 some_parts : SomeAnswer → OneAnswer → (bytes : List ℕ) → AreBytes bytes → SomeVerdict (ReadsParts bytes)
 some_parts some one bytes all =
-    some_option (parts_of bytes) (Err faults.Short) _
+    some_part (parts_of bytes) faults.Short _
     (λ parts e. some_needs (parts.rest ≡ []) faults.Trailing _ (known_list parts.rest [])
     (λ nothing_behind. some_needs_units some one (base_address bytes) parts.code (code_bytes bytes parts e all) _
     (λ pieces. some_program parts.entries (places_from (base_address bytes) pieces) (program_of bytes parts pieces))))

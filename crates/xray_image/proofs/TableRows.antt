@@ -1,60 +1,21 @@
--- The rows of the table of refusals: if what follows decides in one way, so does the row.
+-- The row of the units: if what follows decides in one way, so does the row.
 use Rattle.std.proofs.Common.{◌≡◌, ℕ, ◌+◌, ◌-◌, ◌<◌, inl, inr, List, [], length, Option, Some, None, Err, sym, ap, subst, ◌∙◌, arith}
-use Rattle.std.specs.Prelude.{Result, MatchOption}
+use Rattle.std.specs.Prelude.{Result}
 use Rattle.std.proofs.lemmas.Bool.{cases_lt}
+use Rattle.xray_io.specs.Rows.{IsOneWay}
 use Rattle.subset_decode.specs.declared.instr.Instr.{Instr}
 use Rattle.subset_decode.specs.declared.fault.DecodeFault.{DecodeFault}
 use Rattle.subset_decode.specs.Refusals.{Answers}
 use Rattle.xray_image.specs.declared.fault.ImageFault.{ImageFault}
 use Rattle.xray_image.specs.declared.fault.ImageFault.TheVariants as faults
 use Rattle.xray_image.specs.Units.{Piece}
-use Rattle.xray_image.specs.Table.{Verdict, Needs, NeedsEach, NeedsUnits, UnitFault, StopsAt, StandUpTo}
+use Rattle.xray_image.specs.Table.{Verdict, NeedsUnits, UnitFault, StopsAt, StandUpTo}
 use Rattle.xray_image.proofs.Pieces.{OneInstruction}
 use Rattle.xray_image.proofs.Standing.{IsFront, stuck_at_end, one_front}
-
--- a part of the table has at most one verdict
-pub record IsOneWay (Part : Verdict → Type 0) : Type 0 where
-  pub same : (v w : Verdict) → Part v → Part w → v ≡ w
 
 -- bytes have at most one answer
 abbrev pub OneAnswer : Type 0
 OneAnswer = (bytes : List ℕ) (a b : Result Instr DecodeFault) → Answers bytes a → Answers bytes b → a ≡ b
-
--- ---- a condition
-
-pub needs_one : (condition : Type 0) (fault : ImageFault) (follows : Verdict → Type 0) → IsOneWay follows → IsOneWay (Needs condition fault follows)
-needs_one condition fault follows one = record { same = both }
-  where
-    both : (v w : Verdict) → Needs condition fault follows v → Needs condition fault follows w → v ≡ w
-    both v w (inl a) (inl b) = a.1 ∙ sym b.1
-    both v w (inl a) (inr b) = absurd (a.0 b.0)
-    both v w (inr a) (inl b) = absurd (b.0 a.0)
-    both v w (inr a) (inr b) = one.same v w a.1 b.1
-
--- ---- a condition on each number
-
--- there is only one least number for which a condition doesn't hold
-least_same : (condition : ℕ → Type 0) (i j : ℕ) → (condition i → ⊥) → ((k : ℕ) → k < i → condition k) → (condition j → ⊥) → ((k : ℕ) → k < j → condition k) → i ≡ j
-least_same condition i j fails below fails' below' =
-    elim (cases_lt i j) [
-      | inl lt ↦ absurd (fails (below' i lt))
-      | inr ge ↦ elim (cases_lt j i) [ inl gt ↦ absurd (fails' (below j gt)) | inr le ↦ omega arith ]
-    ]
-
-pub needs_each_one : (condition : ℕ → Type 0) (fault : ℕ → ImageFault) (follows : Verdict → Type 0) → IsOneWay follows → IsOneWay (NeedsEach condition fault follows)
-needs_each_one condition fault follows one = record { same = both }
-  where
-    both : (v w : Verdict) → NeedsEach condition fault follows v → NeedsEach condition fault follows w → v ≡ w
-    both v w (inl a) (inl b) = a.3 ∙ ap (λ (i : ℕ). Err (fault i)) (least_same condition a.0 b.0 a.1 a.2 b.1 b.2) ∙ sym b.3
-    both v w (inl a) (inr b) = absurd (a.1 (b.0 a.0))
-    both v w (inr a) (inl b) = absurd (b.1 (a.0 b.0))
-    both v w (inr a) (inr b) = one.same v w a.1 b.1
-
--- ---- a part that may be missing
-
-pub option_one : {X : Type 0} (o : Option X) (missing : Verdict) (there : X → Verdict → Type 0) → ((x : X) → IsOneWay (there x)) → IsOneWay (λ v. MatchOption o (v ≡ missing) (λ x. there x v))
-option_one None missing there one = record { same = λ v w a b. a ∙ sym b }
-option_one (Some x) missing there one = record { same = λ v w a b. (one x).same v w a b }
 
 -- ---- the units
 

@@ -1,5 +1,6 @@
 -- The refusals of image files: each check, in order, and what follows if it fails.
-use Rattle.std.specs.Prelude.{◌≡◌, ◌≢◌, ◌<◌, ◌≤◌, ◌+◌, ◌-◌, ◌%◌, ◌⊎◌, ℕ, List, [], ◌∷◌, ◌++◌, length, take, Some, Result, Ok, Err, codes, map, slice_get, slice_index, MatchOption, ⊤}
+use Rattle.std.specs.Prelude.{◌≡◌, ◌≢◌, ◌<◌, ◌≤◌, ◌+◌, ◌-◌, ◌%◌, ◌⊎◌, ℕ, List, [], ◌∷◌, ◌++◌, length, take, Some, Result, Ok, Err, codes, map, slice_get, slice_index, ⊤}
+use Rattle.xray_io.specs.Rows.{Is, Needs, NeedsEach, NeedsPart}
 use Rattle.subset_decode.specs.declared.fault.DecodeFault.{DecodeFault}
 use Rattle.subset_decode.specs.Encoding.{Begins}
 use Rattle.subset_decode.specs.Refusals.{Answers}
@@ -15,18 +16,6 @@ use Rattle.xray_image.specs.Program.{Program, IsFunction, IsEntryOf, Reaches, Br
 -- what a file reads as: the program that it holds, or the reason why it is refused
 abbrev pub Verdict : Type 0
 Verdict = Result Program ImageFault
-
--- ---- rows of the table
-
--- A condition that has to hold. If it doesn't, the file is refused with this fault. If it does, what follows decides.
-abbrev pub Needs : Type 0 → ImageFault → (Verdict → Type 0) → Verdict → Type 0
-Needs condition fault follows verdict = ((condition → ⊥) × (verdict ≡ Err fault)) ⊎ (condition × follows verdict)
-
--- The same for a condition on each number from 0 on. The least number for which it doesn't hold decides.
-abbrev pub NeedsEach : (ℕ → Type 0) → (ℕ → ImageFault) → (Verdict → Type 0) → Verdict → Type 0
-NeedsEach condition fault follows verdict =
-    ((i : ℕ) × (condition i → ⊥) × ((j : ℕ) → j < i → condition j) × (verdict ≡ Err (fault i)))
-    ⊎ (((i : ℕ) → condition i) × follows verdict)
 
 -- ---- units
 
@@ -106,31 +95,31 @@ place_of_unit base units i = slice_index (addresses units) i - base
 
 -- after the units: the functions, the map's order, its entries, the distances and the branches
 abbrev pub ReadsProgram : List MapEntry → List SledPlace → Program → Verdict → Type 0
-ReadsProgram entries places program verdict =
-    NeedsEach (FunctionIsFit program.base program.units program.functions) (λ i. faults.Names i)
-    (NeedsEach (HasOneAddress places entries) (λ i. faults.MapOrder i)
-    (NeedsEach (FitsAt places entries (IsEntryOf program.functions)) (λ i. faults.Odd i)
-    (NeedsEach (FitsAt places entries (Reaches program.trampolines)) (λ i. faults.Far i)
-    (NeedsEach (BranchesRightly program.units) (λ i. faults.Target (place_of_unit program.base program.units i))
-    (λ v. v ≡ Ok program))))) verdict
+ReadsProgram entries places program =
+    NeedsEach (FunctionIsFit program.base program.units program.functions) (λ i. Is (Err (faults.Names i)))
+    (NeedsEach (HasOneAddress places entries) (λ i. Is (Err (faults.MapOrder i)))
+    (NeedsEach (FitsAt places entries (IsEntryOf program.functions)) (λ i. Is (Err (faults.Odd i)))
+    (NeedsEach (FitsAt places entries (Reaches program.trampolines)) (λ i. Is (Err (faults.Far i)))
+    (NeedsEach (BranchesRightly program.units) (λ i. Is (Err (faults.Target (place_of_unit program.base program.units i))))
+    (Is (Ok program))))))
 
 -- after the header: the parts, no bytes after them, and the units of the code
 abbrev pub ReadsParts : List ℕ → Verdict → Type 0
-ReadsParts bytes verdict =
-    MatchOption (parts_of bytes) (verdict ≡ Err faults.Short)
-    (λ parts. Needs (parts.rest ≡ []) faults.Trailing
+ReadsParts bytes =
+    NeedsPart (parts_of bytes) (Is (Err faults.Short))
+    (λ parts. Needs (parts.rest ≡ []) (Is (Err faults.Trailing))
     (NeedsUnits (base_address bytes) parts.code
-    (λ pieces. ReadsProgram parts.entries (places_from (base_address bytes) pieces) (program_of bytes parts pieces))) verdict)
+    (λ pieces. ReadsProgram parts.entries (places_from (base_address bytes) pieces) (program_of bytes parts pieces))))
 
 -- What the bytes of a file read as: the program that they hold, or the first refusal of the table.
 abbrev pub ReadsAs : List ℕ → Verdict → Type 0
 ReadsAs bytes =
-    Needs (64 ≤ length bytes) faults.Short
-    (Needs (magic bytes ≡ codes "XRIM") faults.Magic
-    (Needs (version bytes ≡ 1) faults.Version
-    (Needs (code_length bytes ≤ most_code) (faults.Limit limits.Code)
-    (Needs ((0 < function_count bytes) × (function_count bytes ≤ most_functions)) (faults.Limit limits.Functions)
-    (Needs (entry_count bytes ≤ most_sleds) (faults.Limit limits.Sleds)
-    (Needs (entry_index bytes < function_count bytes) (faults.Limit limits.Entry)
-    (Needs ((base_address bytes % 16 ≡ 0) × (base_address bytes ≤ highest_base)) (faults.Limit limits.Base)
+    Needs (64 ≤ length bytes) (Is (Err faults.Short))
+    (Needs (magic bytes ≡ codes "XRIM") (Is (Err faults.Magic))
+    (Needs (version bytes ≡ 1) (Is (Err faults.Version))
+    (Needs (code_length bytes ≤ most_code) (Is (Err (faults.Limit limits.Code)))
+    (Needs ((0 < function_count bytes) × (function_count bytes ≤ most_functions)) (Is (Err (faults.Limit limits.Functions)))
+    (Needs (entry_count bytes ≤ most_sleds) (Is (Err (faults.Limit limits.Sleds)))
+    (Needs (entry_index bytes < function_count bytes) (Is (Err (faults.Limit limits.Entry)))
+    (Needs ((base_address bytes % 16 ≡ 0) × (base_address bytes ≤ highest_base)) (Is (Err (faults.Limit limits.Base)))
     (ReadsParts bytes))))))))

@@ -6,6 +6,7 @@ pub mod Memory
 pub mod Outputs
 pub mod Piece
 pub mod Reads
+pub mod Rows
 pub mod Sink
 pub mod Text
 pub mod World

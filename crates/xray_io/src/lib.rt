@@ -9,7 +9,6 @@ mod desk_file;
 mod digits;
 mod faults;
 mod gate;
-mod laws;
 mod memory;
 mod outputs;
 mod piece;
@@ -23,7 +22,6 @@ pub use desk::Desk;
 pub use desk_file::DeskFile;
 pub use faults::{Failed, NoMemory, ReadError, ReadFail, Wall, WriteFault};
 pub use gate::{Gate, OpenGate};
-pub use laws::text_adds_up;
 pub use memory::{MemDesk, MemSink};
 pub use outputs::write_output;
 pub use piece::Piece;
@@ -31,6 +29,3 @@ pub use sink::Sink;
 pub use system::{ErrSink, FileDesk, OutSink};
 pub use text::{Text, write_pieces};
 pub use whole::{read_whole, write_all};
-
-#[cfg(test)]
-mod tests;
