@@ -10,6 +10,7 @@ pub mod WantedWords
 pub mod OneThread
 pub mod AllThreads
 pub mod Bounds
+pub mod ScheduleFaults
 pub mod SaidTurns
 pub mod SomeReplay
 pub mod PoolLemmas
