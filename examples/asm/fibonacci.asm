@@ -7,7 +7,7 @@ fn main never
     ret
 fn fib always
     mov ecx, 0
-    add rdi, rcx            # sets ZF where rdi is 0
+    add rdi, rcx            # sets ZF if rdi is 0
     jnz nz
     ret
 nz:

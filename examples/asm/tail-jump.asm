@@ -1,4 +1,4 @@
-# A tail jump: a tail sled with the jump behind it, and no exit sled, since b returns in the place of a.
+# A tail jump: a tail sled, then the jump, and no exit sled, since b returns in place of a.
 base 0x1000
 fn a always
     tailjmp b

@@ -22,17 +22,6 @@ number_in_map names word =
 pub position_within : {X : Type 0} (p : X → Bool) (xs : List X) (i : ℕ) → Some i ≡ position p xs → i < length xs
 position_within p xs i h = grind arith
 
--- the texts of a table
-pub find_map : {Y : Type 0} (word : List ℕ) (table : List (Bor (List ℕ) × Y))
-    → option_map (λ (e : List ℕ × Y). e.1) (find (λ e. bytes_eq e.0 word) (map (λ (e : Bor (List ℕ) × Y). (e.0.now, e.1)) table)) ≡ option_map (λ (e : Bor (List ℕ) × Y). e.1) (find (λ e. bytes_eq e.0.now word) table)
-find_map word [] = refl
-find_map {Y} word (e ∷ table) =
-    elim (bytes_eq e.0.now word) as (λ t. option_map (λ (e : List ℕ × Y). e.1) (cond t (Some (e.0.now, e.1)) (find (λ e. bytes_eq e.0 word) (map (λ (e : Bor (List ℕ) × Y). (e.0.now, e.1)) table)))
-    ≡ option_map (λ (e : Bor (List ℕ) × Y). e.1) (cond t (Some e) (find (λ e. bytes_eq e.0.now word) table))) [
-      | true ↦ refl
-      | false ↦ find_map word table
-    ]
-
 -- a name by its parts
 pub name_by_parts : (word : List ℕ) (bytes : Bool) → 0 < length word → length word ≤ 255 → is_decimal (get_or word 0 0) ≡ false → bytes ≡ list_all is_name_byte word → bytes ≡ is_name word
 name_by_parts word bytes some few first all = rw (le-leb 1 (length word) some, le-leb (length word) 255 few, first) all

@@ -1,6 +1,6 @@
 -- The lines of the language: which words say what.
-use Rattle.std.specs.Prelude.{ℕ, List, [], ◌∷◌, Option, Some, None, codes, find, option_map, option_and_then}
-use Rattle.std.specs.Str.{bytes_eq}
+use Rattle.std.specs.Prelude.{ℕ, List, [], ◌∷◌, Option, Some, None, codes, option_map, option_and_then}
+use Rattle.text_lines.specs.Keywords.{in_table}
 use Rattle.subset_decode.specs.declared.instr.Instr.{Instr}
 use Rattle.subset_decode.specs.declared.instr.Instr.TheVariants as instrs
 use Rattle.asm_text.specs.declared.statement.Choice.{Choice}
@@ -13,10 +13,6 @@ use Rattle.asm_text.specs.Names.{name_of, before_end}
 use Rattle.asm_text.specs.Registers.{register32, register64, before_comma}
 use Rattle.asm_text.specs.Statements.{Plain, Go, TailJump, Return, Statement, Base, Entry, Func, Label, Does}
 
--- the table's value for a word
-abbrev pub in_table : {X : Type 0} → List (List ℕ × X) → List ℕ → Option X
-in_table table word = option_map (λ entry. entry.1) (find (λ entry. bytes_eq entry.0 word) table)
-
 -- the first words of lines, except labels
 abbrev pub keywords : List (List ℕ × Keyword)
 keywords =
@@ -26,6 +22,7 @@ keywords =
     ∷ (codes "call", words.Call) ∷ (codes "jmp", words.Jmp) ∷ (codes "jnz", words.Jnz)
     ∷ (codes "tailjmp", words.TailJump) ∷ (codes "ret", words.Ret) ∷ (codes "out", words.Out) ∷ []
 
+-- the keyword that a word is
 abbrev pub keyword_of : List ℕ → Option Keyword
 keyword_of word = in_table keywords word
 

@@ -271,8 +271,12 @@ entry_in_line (Func name choice) = None
 entry_in_line (Label name) = None
 entry_in_line (Does operation) = None
 
+-- the base of a text that gives none
+abbrev pub default_base : ℕ
+default_base = 4096
+
 abbrev pub base_of : Lines → ℕ
-base_of lines = unwrap_or (slice_get (filter_map (λ line. base_in line.1) lines) 0) 4096
+base_of lines = unwrap_or (slice_get (filter_map (λ line. base_in line.1) lines) 0) default_base
 
 abbrev pub number_of_function : Option (List ℕ) → List Function → ℕ
 number_of_function None all = 0

@@ -3,6 +3,7 @@ use Rattle.std.specs.Prelude.{◌≡◌, ◌≤◌, ℕ, Bool, true, false, List
 use Rattle.std.specs.List.{AllZip, enumerate_from, list_all}
 use Rattle.text_lines.specs.Written.{are_written_words, written_text}
 use Rattle.xray_image.specs.Ids.{id_count}
+use Rattle.xray_image.specs.Limits.{most_functions}
 use Rattle.asm_text.specs.Statements.{Statement, Base, Entry, Func, Label, Does}
 use Rattle.asm_text.specs.Language.{statement_of}
 use Rattle.asm_text.specs.Layout.{Lines, is_always, is_function}
@@ -28,10 +29,11 @@ pub record IsOrderly (said : Lines) : Type 0 where
   pub resolved : (before : Lines) (line : ℕ × Statement) (behind : Lines) → said ≡ before ++ line ∷ behind → is_unresolved said line.1 behind ≡ false
   pub ends : ends_early said ≡ false
 
--- At most 1,024 lines in order say what is written in them. So few lines exceed no limit.
+-- Lines in order say what is written in them, if there are no more of them than functions may be. So few lines exceed no
+-- limit.
 abbrev pub WrittenTextsRead : Type 0
 WrittenTextsRead = (all : List (List (List ℕ))) (statements : List Statement) → AllZip Says all statements
-    → IsOrderly (enumerate_from 1 statements) → length statements ≤ 1024
+    → IsOrderly (enumerate_from 1 statements) → length statements ≤ most_functions
     → said_by (written_text all) ≡ Ok (enumerate_from 1 statements)
 
 -- a function, if the line begins one, says always

@@ -1,10 +1,10 @@
 //! The first words of lines.
 
-ghost use Rattle.std.specs.Prelude.{◌≡◌, option_map, find, map};
-ghost use Rattle.std.specs.Str.{bytes_eq};
-ghost use Rattle.asm_text.specs.Language.{in_table, keyword_of, choice_of};
+ghost use Rattle.std.specs.Prelude.{◌≡◌};
+ghost use Rattle.asm_text.specs.Language.{keyword_of, choice_of};
 
 use crate::statement::Choice;
+use text_lines::keyword_in;
 
 /// A word that begins a line and is no label.
 #[derive(Clone, Copy, Debug, PartialEq, Eq)]
@@ -42,21 +42,6 @@ const KEYWORDS: [(&[u8], Keyword); 14] = [
     (b"ret", Keyword::Ret),
     (b"out", Keyword::Out),
 ];
-
-/// The keyword of a table's first entry for a word.
-fn keyword_at(table: &[(&[u8], Keyword)], word: &[u8]) -> Option<Keyword>
-    ensures { result ≡ option_map (λ e. e.1) (find (λ e. bytes_eq e.0.now word.now) table.now) }
-{
-    let entry = table.iter().find(|entry| entry.0 == word)?;
-    Some(entry.1)
-}
-
-/// The keyword that a table has for a word.
-fn keyword_in(table: &[(&[u8], Keyword)], word: &[u8]) -> Option<Keyword>
-    ensures { result ≡ in_table (map (λ e. (e.0.now, e.1)) table.now) word.now }
-{
-    keyword_at(table, word)
-}
 
 /// The keyword that a word is, if it is one.
 pub(crate) fn keyword_of(word: &[u8]) -> Option<Keyword>

@@ -5,7 +5,7 @@ ghost use Rattle.asm_text.specs.Names.{name_of};
 ghost use Rattle.asm_text.specs.Registers.{register64, before_comma};
 ghost use Rattle.asm_text.specs.Statements.{Go, Does};
 ghost use Rattle.asm_text.specs.Language.{says, label_of};
-ghost use Rattle.asm_text.specs.private.Views.{statement_spoken, AreOperands, LineGives};
+ghost use Rattle.asm_text.specs.private.Views.{statement_spoken, LineGives};
 
 use crate::fault::AsmFault;
 use crate::keyword::{Keyword, choice_of, keyword_of};
@@ -13,39 +13,13 @@ use crate::names::{before_end, name_of};
 use crate::numbers::number_of;
 use crate::registers::{RegisterWord, register32, register64};
 use crate::statement::{Branch, Choice, Spoken, Written};
-use text_lines::{Line, Words};
+use text_lines::{Line, Operands, Words, read_operands};
 
 /// The byte that ends a label.
 const COLON: u8 = b':';
 
 /// The byte that ends the first of two operands.
 const COMMA: u8 = b',';
-
-/// The words after a keyword.
-#[derive(Clone, Copy)]
-enum Operands<'a> {
-    Zero,
-    One(&'a [u8]),
-    Two(&'a [u8], &'a [u8]),
-    /// Three words or more. No line has as many.
-    Many,
-}
-
-/// Takes the words that are left.
-fn read_operands<'a>(mut words: Words<'a>) -> Operands<'a>
-    ensures { AreOperands words.entry result }
-{
-    let Some(first) = words.next() else {
-        return Operands::Zero;
-    };
-    let Some(second) = words.next() else {
-        return Operands::One(first);
-    };
-    match words.next() {
-        None => Operands::Two(first, second),
-        Some(_) => Operands::Many,
-    }
-}
 
 /// An instruction line that goes to a name.
 fn branch_line<'a>(branch: Branch, word: &'a [u8]) -> Option<Spoken<'a>>

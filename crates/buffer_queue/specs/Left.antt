@@ -2,10 +2,7 @@
 use Rattle.std.specs.Prelude.{◌≡◌, ◌<◌, ◌+◌, ◌-◌, ◌==◌, ℕ, true, List, [], ◌∷◌, ◌++◌, All, filter, length, replicate, slice_index_or, sum_by}
 use Rattle.fdr_buffer.specs.Filled.{Filled, empty_buffer}
 use Rattle.machine_step.specs.declared.setup.Setup.{Setup}
-
--- how many buffers a pool has beside those in its threads' hands
-abbrev pub spare_of : Setup → ℕ
-spare_of setup = setup.max - setup.threads
+use Rattle.machine_step.specs.Buffers.{spare_of}
 
 -- those of the buffers that a thread has sealed
 abbrev pub of_thread : ℕ → List Filled → List Filled
@@ -38,8 +35,8 @@ pub record IsUsed (size bound : ℕ) (buffer : Filled) : Type 0 where
   pub below : buffer.thread < bound
 
 -- What is left in a pool. The rows have the buffers that each thread has sealed, thread 1 first. Fresh buffers come
--- first, and sealed ones after them. Those of a thread are the last that it sealed, in their order. If the threads
--- have sealed more than there are spare buffers, exactly the excess is absent; else none is.
+-- first, and sealed ones after them. Those of a thread are the last that it sealed, in their order. If the threads have
+-- sealed more than there are spare buffers, exactly the excess is absent; otherwise none is.
 pub record IsLeft (setup : Setup) (rows : List (List Filled)) (left : List Filled) : Type 0 where
   pub fresh : ℕ
   pub used : List Filled
@@ -49,6 +46,6 @@ pub record IsLeft (setup : Setup) (rows : List (List Filled)) (left : List Fille
   pub last : (place : ℕ) → IsSuffix (of_thread (place + 1) used) (row_at rows place)
   pub absent : absent_from 1 rows used ≡ sealed_in_all rows - spare_of setup
 
--- what is left in a pool comes behind what a list held
+-- what is left in a pool comes after what a list held
 abbrev pub AddsLeft : Setup → List (List Filled) → List Filled → List Filled → Type 0
 AddsLeft setup rows old new = (left : List Filled) × (new ≡ old ++ left) × IsLeft setup rows left

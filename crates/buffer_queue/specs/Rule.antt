@@ -1,4 +1,4 @@
--- The rule of the pool: what holds between any two steps, of what is queued and of what the passes know. A thread's
+-- The rule of the pool: what is true between any two steps about what is queued and what the passes know. A thread's
 -- number is the place of its pass in the list of views. At place 0 is the pass that only opens the pool.
 use Rattle.std.specs.Prelude.{◌≡◌, ◌<◌, ◌≤◌, ◌⊎◌, ◌+◌, ℕ, Bool, true, false, List, [], ◌∷◌, ◌++◌, All, length, replicate, slice_index_or}
 use mathlib.Core.Option.{some}
@@ -13,7 +13,7 @@ abbrev pub one_if : Bool → ℕ
 one_if true = 1
 one_if false = 0
 
--- how many passes stand between a put and the take after it
+-- how many passes are between a put and the take after it
 abbrev pub turning : List View → ℕ
 turning [] = 0
 turning (v ∷ views) = one_if v.between + turning views
@@ -57,11 +57,11 @@ pub record Fits (state : PoolState) (place : ℕ) (v : View) : Type 0 where
   pub rests : v.live ≡ false → v.between ≡ false
   pub opened : v.opens ≡ false
 
--- What holds of an opened pool. First, of its passes: there is one for each thread, none is made twice, and what each
--- knows is so. Then of its stages: while fresh buffers are queued, pass 1 is alone and nothing is sealed; while
--- buffers are drained, pass 1 has all other passes and stands between no put and take. Last, of its buffers, both
--- drained and queued: fresh ones come first; those of a thread are the last that it sealed, and all of them while a
--- fresh one is left; and there are as many as were queued fresh, and one more for each pass between a put and a take.
+-- What is true of an opened pool. Its passes: there is one for each thread, none is made twice, and what each knows is
+-- so. Its stages: while fresh buffers are queued, pass 1 is alone and nothing is sealed; while buffers are drained,
+-- pass 1 has all other passes and isn't between a put and a take. Its buffers, both drained and queued: fresh ones come
+-- first; those of a thread are the last that it sealed, and all of them while a fresh one is left; and there are as
+-- many as were queued fresh, and one more for each pass between a put and a take.
 pub record KeepsOpen (items : List Filled) (views : List View) : Type 0 where
   pub state : PoolState
   pub fresh : ℕ

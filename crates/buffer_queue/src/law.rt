@@ -8,8 +8,7 @@ use crossbeam_queue::protocol::{Join, Lesson, Outcome, Protocol, Split};
 use fdr_buffer::Buffer;
 use std::marker::{Brand, PhantomData};
 
-/// The rule of the pool. It speaks of what is queued and of what all passes know, between any two
-/// steps.
+/// The rule of the pool: what is queued and what all passes know, between any two steps.
 pub struct PoolRule;
 
 impl Protocol<Buffer, View> for PoolRule {
@@ -23,7 +22,7 @@ impl Protocol<Buffer, View> for PoolRule {
 
 pub(crate) type Queue = RuledArrayQueue<Buffer, View, PoolRule>;
 
-/// The setup that a pool is opened with. The call that opens it picks it.
+/// The setup that a pool is opened with. The call that opens the pool chooses it.
 pub(crate) trait Opening {
     ghost use Rattle.machine_step.specs.declared.setup.Setup.{Setup};
 

@@ -9,7 +9,7 @@ use crate::law::Queue;
 use crate::pass::PoolPass;
 use crate::stocking::{first_pass, give_all, head_pass, stock_all};
 use crate::turning::{put, take};
-use fdr_buffer::Buffer;
+use fdr_buffer::{Buffer, LARGEST_SIZE, LEAST_SIZE};
 use machine_step::Setup;
 use std::alloc::Global;
 use std::marker::Model;
@@ -47,8 +47,8 @@ impl Pool {
     ) -> Result<(Pool, Vec<(PoolPass, Buffer)>), NoMemory>
         requires threads { 1 ≤ setup.now.threads }
         requires enough { setup.now.threads ≤ setup.now.max }
-        requires least { 72 ≤ setup.now.size }
-        requires most { setup.now.size ≤ 1048576 }
+        requires least { LEAST_SIZE ≤ setup.now.size }
+        requires most { setup.now.size ≤ LARGEST_SIZE }
         ensures setup { IfOk result (λ made. made.0.setup ≡ setup.now) }
         ensures hands { IfOk result (λ made. AreNew made.0 1 setup.now.threads made.1.items) }
     {
@@ -67,10 +67,11 @@ impl Pool {
     }
 
     /// Seals a thread's full buffer: puts it at the back of the queue, and takes the buffer at the
-    /// front. Always gives one. What it holds is stale, and may be the segment of any thread.
+    /// front. There always is one. What it holds is stale, and may be a segment of any thread.
     ///
-    /// The full buffer is one of the thread's segments, with the next serial number. Takes no memory,
-    /// and has no refusal. It may spin while another thread is about to end a put or a take.
+    /// The full buffer is one of the thread's segments, with the next serial number. The call has
+    /// no refusal, and no answer for want of memory. It may spin while another thread is about to
+    /// end a put or a take.
     pub fn turn<R: Wait>(&self, rt: &R, pass: &mut PoolPass, full: Buffer) -> Buffer
         requires pass { IsOf self.now pass.old }
         requires size { full.size ≡ self.now.setup.size }
@@ -87,8 +88,8 @@ impl Pool {
         next
     }
 
-    /// Moves all that is queued behind other buffers, in the queue's order. All threads have to hand
-    /// their passes back, thread 1 first, and `into` has to have room for `max` more buffers.
+    /// Moves all that is queued to the end of `into`, in the queue's order. All threads have to
+    /// hand their passes back, thread 1 first, and `into` needs room for `max` more buffers.
     pub fn drain<R: Wait>(self, rt: &R, passes: Vec<PoolPass>, into: &mut Vec<Buffer>)
         requires passes { AreOf self 1 passes.items }
         requires all { vec_len passes ≡ self.setup.threads }

@@ -10,7 +10,7 @@ use crate::law::{Gives, Opening, Opens, Queue, Stocks};
 use crate::pass::PoolPass;
 use crate::view::View;
 use crossbeam_queue::Pass;
-use fdr_buffer::Buffer;
+use fdr_buffer::{Buffer, LARGEST_SIZE, LEAST_SIZE};
 use machine_step::Setup;
 use std::alloc::Global;
 use std::marker::Brand;
@@ -63,7 +63,7 @@ fn stock<R: Wait>(rt: &R, queue: &Queue, head: &mut Pass<Buffer, View>, fresh: B
     }
 }
 
-/// Queues all fresh buffers but one for each thread's hand.
+/// Queues all fresh buffers except one for each thread's hand.
 pub(crate) fn stock_all<R: Wait>(
     rt: &R,
     alloc: Global,
@@ -75,8 +75,8 @@ pub(crate) fn stock_all<R: Wait>(
     requires head { view head ≡ head_view setup.now 1 0 }
     requires room { ruled_capacity queue.now ≡ setup.now.max }
     requires enough { setup.now.threads ≤ setup.now.max }
-    requires least { 72 ≤ setup.now.size }
-    requires most { setup.now.size ≤ 1048576 }
+    requires least { LEAST_SIZE ≤ setup.now.size }
+    requires most { setup.now.size ≤ LARGEST_SIZE }
     ensures queue { IfOk result (λ pass. IsPassOf queue.now pass) }
     ensures head { IfOk result (λ pass. view pass ≡ head_view setup.now 1 (setup.now.max - setup.now.threads)) }
 {
@@ -113,8 +113,8 @@ pub(crate) fn give_all(
     requires head { view head.old ≡ head_view setup.now 1 (setup.now.max - setup.now.threads) }
     requires threads { 1 ≤ setup.now.threads }
     requires enough { setup.now.threads ≤ setup.now.max }
-    requires least { 72 ≤ setup.now.size }
-    requires most { setup.now.size ≤ 1048576 }
+    requires least { LEAST_SIZE ≤ setup.now.size }
+    requires most { setup.now.size ≤ LARGEST_SIZE }
     ensures queue { IfOk result (λ hands. IsSamePass head.old head.new) }
     ensures head { IfOk result (λ hands.
         view head.new ≡ head_view setup.now setup.now.threads (setup.now.max - setup.now.threads)) }

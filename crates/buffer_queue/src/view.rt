@@ -16,7 +16,7 @@ pub struct View {
     /// The buffers that the thread has sealed, the first one first. In clauses this is a list of any
     /// length.
     pub sealed: [Buffer; 0],
-    /// Whether it stands between a put and the take after it.
+    /// Whether it is between a put and the take after it.
     pub between: bool,
     /// Of pass 1: how many passes were made, its own among them.
     pub given: u32,

@@ -1,16 +1,14 @@
 -- What clap makes of a row: its arguments, each file at its place and each option by its name.
-use Rattle.std.proofs.Common.{◌≡◌, ◌∙◌, ◌+◌, ◌<◌, ◌≤◌, ◌==◌, ◌&&◌, ◌||◌, ℕ, Bool, true, false, cond, not, suc, refl, sym, ap, arith, min, List, [], ◌∷◌, ◌++◌, map, fold, length, Option, Some, None, nat_lt, append-nil, append_assoc, true≢false, is_some, count_by, inl, inr, ◌⊎◌}
-use Rattle.std.specs.List.{find, list_all, list_any}
-use Rattle.std.specs.Option.{option_map_or}
+use Rattle.std.proofs.Common.{◌≡◌, ◌∙◌, ◌+◌, ◌≤◌, ◌==◌, ℕ, Bool, true, false, cond, suc, refl, sym, ap, arith, min, List, [], ◌∷◌, ◌++◌, map, fold, length, Option, Some, None, nat_lt, append-nil, append_assoc, true≢false, is_some, count_by, inl, inr, ◌⊎◌}
+use Rattle.std.specs.List.{list_all, list_any}
 use Rattle.std.specs.Prelude.{if◌then◌else◌, option_and_then}
 use Rattle.std.specs.Str.{bytes_eq}
 use Rattle.std.proofs.lemmas.Bool.{lt-ltb, ne_eqb}
 use Rattle.std.proofs.lemmas.Bool.Decides.{eqb_tells}
-use Rattle.std.proofs.Math.Bool.{or-false}
 use Rattle.clap.specs.Lexer.{usize_max}
 use Rattle.clap.specs.Faults.{is_simple_and_free}
-use Rattle.clap.specs.Walk.{Row, Rule, Text, arg_by_id, arg_by_index, arg_by_long, has_long, is_early_multiple, nothing_held, rows_after}
-use Rattle.clap.specs.Simple.{App, Shape, built, filled, filled_from, with_index, with_rule, on_top}
+use Rattle.clap.specs.Walk.{Rule, Text, arg_by_id, arg_by_index, arg_by_long, is_early_multiple, nothing_held, rows_after}
+use Rattle.clap.specs.Simple.{App, filled, filled_from, with_index, with_rule, on_top}
 use Rattle.clap.proofs.FaultLemmas.{leaf_fault}
 use Rattle.command_words.specs.private.Clapped.{after, app_by, bare_app, clap_rows, file_rule, option_rule}
 use Rattle.command_words.specs.Items.{items_of}

@@ -1,18 +1,18 @@
 -- What clap makes of words is the line that they say by the definition.
-use Rattle.std.proofs.Common.{◌≡◌, ◌∙◌, ◌&&◌, ◌||◌, Bool, cond, true, false, not, refl, sym, ap, ap₂, List, [], ◌∷◌, ◌++◌, map, Option, Some, None, true≢false}
-use Rattle.std.specs.List.{cons_option, filter_map, list_all, list_any}
+use Rattle.std.proofs.Common.{◌≡◌, ◌∙◌, ◌&&◌, ◌||◌, Bool, true, false, not, refl, sym, ap, ap₂, List, [], ◌∷◌, ◌++◌, map, Option, Some, None, true≢false}
+use Rattle.std.specs.List.{filter_map, list_all, list_any}
 use Rattle.std.specs.Prelude.{if◌then◌else◌, option_and_then, option_map, slice_get}
 use Rattle.std.specs.Str.{bytes_eq}
 use Rattle.clap.specs.Takes.{is_given}
-use Rattle.clap.specs.Walk.{Row, Rule, Text, first_of}
+use Rattle.clap.specs.Walk.{Text, first_of}
 use Rattle.command_words.specs.private.Clapped.{app_by, clap_rows, given_in, line_in, names_in}
 use Rattle.command_words.specs.Items.{Item, File, Given, Bare, dashed, files_of, items_of, values_of}
 use Rattle.command_words.specs.Lines.{Line, comes_once, fit, given_by, have_only, is_cut, line_by, line_of, outputs_differ}
-use Rattle.command_words.specs.Rows.{CommandRow, FileRow, OptionRow, are_distinct, is_optional, is_row, labels_of, option_names}
+use Rattle.command_words.specs.Rows.{CommandRow, FileRow, are_distinct, is_optional, is_row, labels_of, option_names}
 use Rattle.command_words.proofs.Arguments.{Each, run}
 use Rattle.command_words.proofs.Built.{built_option, row_is_distinct, rows_are, rules_by, rules_from}
 use Rattle.command_words.proofs.Levels.{complete, lacks}
-use Rattle.command_words.proofs.Pairs.{Optional, Pair, apart, named_pair, optional, other, pairs_of, row_of, rows_of, run_is, taken, takes, undashed, within, written}
+use Rattle.command_words.proofs.Pairs.{Optional, Pair, apart, named_pair, optional, other, pairs_of, rows_of, run_is, taken, takes, undashed, written}
 use Rattle.command_words.proofs.Texts.{and_parts, any_alike, distinct_parts, each_append, each_mapped, each_with, found_alike, other_way, same_text}
 use Rattle.command_words.proofs.WordShapes.{IsText}
 

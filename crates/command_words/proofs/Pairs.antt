@@ -1,5 +1,5 @@
 -- What a run over items gives the arguments of a row: each value with what it is for, in the order of the items.
-use Rattle.std.proofs.Common.{◌≡◌, ◌∙◌, ◌+◌, ◌≤◌, ◌==◌, ◌&&◌, ◌||◌, ◌⊎◌, ℕ, Bool, cond, true, false, suc, zero, refl, sym, ap, ap₂, arith, inl, inr, List, [], ◌∷◌, ◌++◌, length, map, Option, Some, None, append-nil, append_assoc, true≢false, nat_le}
+use Rattle.std.proofs.Common.{◌≡◌, ◌∙◌, ◌+◌, ◌≤◌, ◌==◌, ◌&&◌, ◌||◌, ◌⊎◌, ℕ, Bool, true, false, suc, refl, sym, ap, ap₂, arith, inl, inr, List, [], ◌∷◌, ◌++◌, length, map, Option, Some, None, append-nil, append_assoc, true≢false, nat_le}
 use Rattle.std.specs.List.{cons_option, filter_map, list_all, list_any}
 use Rattle.std.specs.Prelude.{if◌then◌else◌, option_and_then}
 use Rattle.std.specs.Str.{bytes_eq}
@@ -14,8 +14,8 @@ use Rattle.clap.specs.declared.builder.value_parser.Reading.TheVariants.{AsWritt
 use Rattle.clap.specs.declared.parser.matches.ValueSource.TheVariants.{CommandLine}
 use Rattle.command_words.specs.Items.{Item, File, Given, Bare, dashed, values_of}
 use Rattle.command_words.specs.Rows.{FileRow, are_distinct}
-use Rattle.command_words.proofs.Arguments.{Each, arg_by_option, run, run_none, used_by, used_one}
-use Rattle.command_words.proofs.Built.{at_place, built_file, built_option, first_built, long_is, option_named, rules_from}
+use Rattle.command_words.proofs.Arguments.{Each, run, run_none, used_one}
+use Rattle.command_words.proofs.Built.{at_place, built_file, built_option, long_is, rules_from}
 use Rattle.command_words.proofs.Texts.{all_alike, distinct_parts, each_all, each_among, each_append, each_mapped, each_with, equal_texts, not_all, other_way, same_text}
 
 -- what a value is for, and the value

@@ -1,5 +1,5 @@
 -- What is made of the line that words say.
-use Rattle.std.proofs.Common.{◌≡◌, ◌∙◌, ap, sym, List, Option, Some, None, option_map}
+use Rattle.std.proofs.Common.{◌≡◌, ◌∙◌, ap, sym, List, Option, option_map}
 use Rattle.std.specs.Prelude.{option_and_then}
 use Rattle.command_words.specs.Items.{Item}
 use Rattle.command_words.specs.Lines.{Line, line_of}

@@ -1,5 +1,5 @@
 -- What the words after a command say, by its row: its files, and the options that they give, each with its value.
-use Rattle.std.specs.Prelude.{ℕ, ◌==◌, ◌&&◌, List, [], ◌∷◌, length, Bool, true, false, if◌then◌else◌, Option, Some, None, count_by, find, nat_le, option_map, slice_get}
+use Rattle.std.specs.Prelude.{ℕ, ◌==◌, ◌&&◌, List, [], ◌∷◌, length, Bool, false, if◌then◌else◌, Option, Some, None, count_by, find, nat_le, option_map, slice_get}
 use Rattle.std.specs.List.{filter_map, list_all}
 use Rattle.std.specs.Option.{option_map_or}
 use Rattle.std.specs.Str.{bytes_eq}

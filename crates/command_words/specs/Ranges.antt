@@ -1,31 +1,33 @@
 -- The ranges of what a command holds. They are what the machine that replays a schedule asks of its setup and of its
 -- threads' limits.
 use Rattle.std.specs.Prelude.{◌≢◌, ◌+◌, ◌*◌, ◌≤◌, ℕ, IfSome}
+use Rattle.fdr_buffer.specs.declared.buffer.TheConstants.{LARGEST_SIZE, LEAST_SIZE, MOST_BUFFERS}
 use Rattle.command_words.specs.declared.run_options.Bounds.{Bounds}
 use Rattle.command_words.specs.declared.run_options.Buffers.{Buffers}
 use Rattle.command_words.specs.declared.run_options.RunOptions.{RunOptions}
 use Rattle.command_words.specs.declared.run_options.Stamps.{Stamps}
+use Rattle.command_words.specs.Limits.{most_cpus, most_fuel, most_passings, most_pid, most_stay, most_threads, trace_limit}
 use Rattle.command_words.specs.Words.{Command, Sim, Run, Plain, Extract, Asm, Account, Stack, Convert}
 
--- there may be this many threads: at least one, and at most 16
+-- there may be this many threads: at least one, and at most `most_threads`
 abbrev pub IsThreadCount : ℕ → Type 0
-IsThreadCount threads = (1 ≤ threads) × (threads ≤ 16)
+IsThreadCount threads = (1 ≤ threads) × (threads ≤ most_threads)
 
 -- threads may have these limits
 pub record AreBounds (bounds : Bounds) : Type 0 where
   pub threads : IsThreadCount bounds.threads
-  pub fuel : bounds.fuel ≤ 1000000000
-  pub passings : bounds.passings ≤ 1048576
+  pub fuel : bounds.fuel ≤ most_fuel
+  pub passings : bounds.passings ≤ most_passings
 
 -- passings may be stamped in this way
 pub record AreStamps (stamps : Stamps) : Type 0 where
-  pub cpus : (1 ≤ stamps.cpus) × (stamps.cpus ≤ 65535)
-  pub migrate : (1 ≤ stamps.migrate) × (stamps.migrate ≤ 1048576)
+  pub cpus : (1 ≤ stamps.cpus) × (stamps.cpus ≤ most_cpus)
+  pub migrate : (1 ≤ stamps.migrate) × (stamps.migrate ≤ most_stay)
 
 -- a run may have these buffers
 pub record AreBuffers (buffers : Buffers) : Type 0 where
-  pub size : (72 ≤ buffers.size) × (buffers.size ≤ 1048576)
-  pub max : (1 ≤ buffers.max) × (buffers.max ≤ 1024)
+  pub size : (LEAST_SIZE ≤ buffers.size) × (buffers.size ≤ LARGEST_SIZE)
+  pub max : (1 ≤ buffers.max) × (buffers.max ≤ MOST_BUFFERS)
 
 -- A run may have these options. Each is in its range, there is a buffer for each thread, and all of them fit a trace
 -- file.
@@ -34,8 +36,8 @@ pub record AreRunOptions (options : RunOptions) : Type 0 where
   pub stamps : AreStamps options.stamps
   pub buffers : AreBuffers options.buffers
   pub enough : options.bounds.threads ≤ options.buffers.max
-  pub room : options.buffers.max * (options.buffers.size + 16) + 32 ≤ 67108864
-  pub pid : options.pid ≤ 2147483647
+  pub room : options.buffers.max * (options.buffers.size + 16) + 32 ≤ trace_limit
+  pub pid : options.pid ≤ most_pid
 
 -- all that a command holds is in its range, and no two outputs have the same name
 abbrev pub HasRanges : Command → Type 0

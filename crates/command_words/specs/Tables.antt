@@ -1,5 +1,7 @@
 -- The one table of options and the one of commands.
 use Rattle.std.specs.Prelude.{ℕ, List, [], ◌∷◌, Some, None, codes}
+use Rattle.fdr_buffer.specs.declared.buffer.TheConstants.{LARGEST_SIZE, LEAST_SIZE, MOST_BUFFERS}
+use Rattle.command_words.specs.Limits.{most_cpus, most_fuel, most_passings, most_pid, most_stay, most_threads}
 use Rattle.command_words.specs.Numbers.{Number, Listed}
 use Rattle.command_words.specs.Rows.{CommandRow, FileRow, OptionRow}
 use Rattle.command_words.specs.declared.rows.Role.TheVariants.{Input, OptionalInput, Output}
@@ -8,23 +10,23 @@ use Rattle.command_words.specs.declared.rows.Role.TheVariants.{Input, OptionalIn
 
 -- how many threads there are
 abbrev pub threads_option : OptionRow
-threads_option = record { name = codes "threads"; values = Number 1 16; default = Some 1 }
+threads_option = record { name = codes "threads"; values = Number 1 most_threads; default = Some 1 }
 
 -- the most instructions that each thread makes
 abbrev pub fuel_option : OptionRow
-fuel_option = record { name = codes "fuel"; values = Number 0 1000000000; default = Some 10000000 }
+fuel_option = record { name = codes "fuel"; values = Number 0 most_fuel; default = Some 10000000 }
 
 -- the most passings that each thread makes
 abbrev pub passings_option : OptionRow
-passings_option = record { name = codes "passings"; values = Number 0 1048576; default = Some 1048576 }
+passings_option = record { name = codes "passings"; values = Number 0 most_passings; default = Some most_passings }
 
 -- the size of a buffer of events in bytes
 abbrev pub buffer_size_option : OptionRow
-buffer_size_option = record { name = codes "buffer-size"; values = Number 72 1048576; default = Some 16384 }
+buffer_size_option = record { name = codes "buffer-size"; values = Number LEAST_SIZE LARGEST_SIZE; default = Some 16384 }
 
 -- how many buffers there are
 abbrev pub buffer_max_option : OptionRow
-buffer_max_option = record { name = codes "buffer-max"; values = Number 1 1024; default = Some 100 }
+buffer_max_option = record { name = codes "buffer-max"; values = Number 1 MOST_BUFFERS; default = Some 100 }
 
 -- by how many cycles each instruction advances the counter
 abbrev pub tick_option : OptionRow
@@ -40,15 +42,15 @@ frequency_option = record { name = codes "frequency"; values = Number 0 18446744
 
 -- how many CPUs a thread moves between
 abbrev pub cpus_option : OptionRow
-cpus_option = record { name = codes "cpus"; values = Number 1 65535; default = Some 1 }
+cpus_option = record { name = codes "cpus"; values = Number 1 most_cpus; default = Some 1 }
 
 -- how many passings a thread makes before it moves to the next CPU
 abbrev pub migrate_option : OptionRow
-migrate_option = record { name = codes "migrate"; values = Number 1 1048576; default = Some 1048576 }
+migrate_option = record { name = codes "migrate"; values = Number 1 most_stay; default = Some most_stay }
 
 -- the number of the process
 abbrev pub pid_option : OptionRow
-pid_option = record { name = codes "pid"; values = Number 0 2147483647; default = Some 1 }
+pid_option = record { name = codes "pid"; values = Number 0 most_pid; default = Some 1 }
 
 -- the wall time in seconds; if it isn't given, it is the one that is passed in
 abbrev pub wall_option : OptionRow

@@ -4,6 +4,7 @@ use Rattle.std.specs.Option.{option_map_or}
 use Rattle.std.specs.Str.{bytes_eq}
 use Rattle.xray_io.specs.declared.faults.Wall.{Wall}
 use Rattle.command_words.specs.Items.{items_of}
+use Rattle.command_words.specs.Limits.{trace_limit}
 use Rattle.command_words.specs.Lines.{Line, line_of, number_in, value_in}
 use Rattle.command_words.specs.Numbers.{number_of}
 use Rattle.command_words.specs.Reports.{account_options_in, choice_in, report_files_in, stack_formats}
@@ -63,11 +64,11 @@ wall_in wall line = option_map_or
     (λ value. option_map (λ secs. record { secs = secs; micros = 0 }) (number_of wall_option.values value))
     (value_in wall_option.name line) (Some wall)
 
--- There is a buffer for each thread. A trace file of 67,108,864 bytes has room for its header of 32 bytes and for all
+-- There is a buffer for each thread. The longest trace file has room for its header of 32 bytes and for all
 -- buffers, each with 16 more.
 abbrev pub have_room : RunOptions → Bool
 have_room options = nat_le options.bounds.threads options.buffers.max
-    && nat_le (options.buffers.max * (options.buffers.size + 16) + 32) 67108864
+    && nat_le (options.buffers.max * (options.buffers.size + 16) + 32) trace_limit
 
 -- all options of a run
 abbrev pub run_options_in : Wall → Line → Option RunOptions

@@ -24,5 +24,5 @@ mod words;
 
 pub use laws::commands_follow_their_rows;
 pub use report_options::{AccountFormat, AccountOptions, SortColumn, SortOrder, StackFormat};
-pub use run_options::{Bounds, Buffers, RunOptions, Stamps};
+pub use run_options::{Bounds, Buffers, RunOptions, Stamps, TRACE_LIMIT};
 pub use words::{Command, read_words};

@@ -1,6 +1,7 @@
 //! The one table of options and the one of commands.
 
 use crate::rows::{CommandRow, FileRow, OptionRow, Role, Values};
+use fdr_buffer::{LARGEST_SIZE, LEAST_SIZE, MOST_BUFFERS};
 
 /// How many threads there are.
 pub(crate) const THREADS: OptionRow = OptionRow {
@@ -33,8 +34,8 @@ pub(crate) const PASSINGS: OptionRow = OptionRow {
 pub(crate) const BUFFER_SIZE: OptionRow = OptionRow {
     name: "buffer-size",
     values: Values::Number {
-        least: 72,
-        most: 1_048_576,
+        least: LEAST_SIZE as u64,
+        most: LARGEST_SIZE as u64,
     },
     default: Some(16_384),
 };
@@ -44,7 +45,7 @@ pub(crate) const BUFFER_MAX: OptionRow = OptionRow {
     name: "buffer-max",
     values: Values::Number {
         least: 1,
-        most: 1_024,
+        most: MOST_BUFFERS as u64,
     },
     default: Some(100),
 };

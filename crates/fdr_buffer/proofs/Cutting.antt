@@ -4,6 +4,7 @@ use Rattle.std.proofs.lemmas.Bool.{cases_Bool, le-leb}
 use Rattle.std.specs.List.{flat_map, AllByRecursion}
 use Rattle.std.specs.Prelude.{if◌then◌else◌}
 use Rattle.fdr_record.specs.declared.event.Event.{Event}
+use Rattle.fdr_buffer.specs.declared.buffer.TheConstants.{LEAST_SIZE}
 use Rattle.fdr_buffer.specs.Segments.{has_room, segments_from, segments}
 
 -- the last segment and the next event
@@ -85,10 +86,10 @@ hold_some size [] = tt
 hold_some size (event ∷ events) = from_some size (event ∷ []) events (one_not_empty event)
 
 -- every buffer has room for one event
-one_has_room : (size : ℕ) (event : Event) → 72 ≤ size → has_room size (event ∷ []) ≡ true
+one_has_room : (size : ℕ) (event : Event) → LEAST_SIZE ≤ size → has_room size (event ∷ []) ≡ true
 one_has_room size event least = le-leb _ _ (omega arith)
 
-from_room : (size : ℕ) (opened events : List Event) → 72 ≤ size → has_room size opened ≡ true → AllByRecursion (λ s. has_room size s ≡ true) (segments_from size opened events)
+from_room : (size : ℕ) (opened events : List Event) → LEAST_SIZE ≤ size → has_room size opened ≡ true → AllByRecursion (λ s. has_room size s ≡ true) (segments_from size opened events)
 from_room size opened [] least fits = (fits, tt)
 from_room size opened (event ∷ events) least fits =
     elim (cases_Bool (has_room size (opened ++ event ∷ []))) [
@@ -96,6 +97,6 @@ from_room size opened (event ∷ events) least fits =
       | inr full ↦ rw full (fits, from_room size (event ∷ []) events least (one_has_room size event least))
     ]
 
-pub hold_room : (size : ℕ) (events : List Event) → 72 ≤ size → AllByRecursion (λ s. has_room size s ≡ true) (segments size events)
+pub hold_room : (size : ℕ) (events : List Event) → LEAST_SIZE ≤ size → AllByRecursion (λ s. has_room size s ≡ true) (segments size events)
 hold_room size [] least = tt
 hold_room size (event ∷ events) least = from_room size (event ∷ []) events least (one_has_room size event least)

@@ -9,6 +9,7 @@ use Rattle.std.proofs.lemmas.List.Elements.{All-from_recursion, All-push}
 use Rattle.xray_io.specs.declared.faults.Wall.{Wall}
 use Rattle.fdr_record.specs.declared.event.Event.{Event}
 use Rattle.fdr_record.specs.Records.{record_bytes}
+use Rattle.fdr_buffer.specs.declared.buffer.TheConstants.{LEAST_SIZE, LARGEST_SIZE}
 use Rattle.fdr_buffer.specs.declared.buffer.Buffer.TheInside.{Inside}
 use Rattle.fdr_buffer.specs.Segments.{bytes_of, is_out_of_reach, records_of, records_behind, segment_bytes, preamble, body, has_room, EventFits}
 use Rattle.fdr_buffer.specs.declared.lead.Lead.{Lead}
@@ -131,7 +132,7 @@ more_is a b events event g begun h =
     filled_is b (events ++ event ∷ []) h ∙ rw (still_begun a b event g begun, begun, g.size, g.thread, g.serial, g.wall, g.pid) refl
 
 -- a buffer without events
-pub holds_none : (a : Inside) → 72 ≤ length a.bytes.items → length a.bytes.items ≤ 1048576 → a.used ≤ length a.bytes.items → PreambleFits (filled_with a []) → take a.used a.bytes.items ≡ used_bytes (filled_with a []) → a.last ≡ None → a.count ≡ 0 → Holds a []
+pub holds_none : (a : Inside) → LEAST_SIZE ≤ length a.bytes.items → length a.bytes.items ≤ LARGEST_SIZE → a.used ≤ length a.bytes.items → PreambleFits (filled_with a []) → take a.used a.bytes.items ≡ used_bytes (filled_with a []) → a.last ≡ None → a.count ≡ 0 → Holds a []
 holds_none a least most within preamble bytes last count = record {
   least = least;
   most = most;
@@ -215,7 +216,7 @@ begin_leaves a now bytes used thread serial wall pid seen filled (thread_fits, s
 abbrev pub unbegun : Vec ℕ Global → Inside
 unbegun bytes = record { bytes = bytes; used = 0; thread = 0; serial = 0; wall = record { secs = 0; micros = 0 }; pid = 0; count = 0; last = None }
 
-pub new_leaves : (bytes : Vec ℕ Global) (size : ℕ) → 72 ≤ size → size ≤ 1048576 → vec_len bytes ≡ size → IsFilled (unbegun bytes) × (filled_in (unbegun bytes) ≡ empty_buffer size)
+pub new_leaves : (bytes : Vec ℕ Global) (size : ℕ) → LEAST_SIZE ≤ size → size ≤ LARGEST_SIZE → vec_len bytes ≡ size → IsFilled (unbegun bytes) × (filled_in (unbegun bytes) ≡ empty_buffer size)
 new_leaves bytes size least most e =
     let b = unbegun bytes in
     let long : length bytes.items ≡ size = sym bytes.ok.0 ∙ e in

@@ -1,5 +1,5 @@
 -- A buffer, as contracts see it.
-use Rattle.std.specs.Prelude.{ℕ, Bool, false, List, [], ◌∷◌, Option, Some, None, if◌then◌else◌}
+use Rattle.std.specs.Prelude.{ℕ, Bool, false, List, [], ◌∷◌, Option, Some, None, if◌then◌else◌, length, nat_lt}
 use Rattle.xray_io.specs.declared.faults.Wall.{Wall}
 use Rattle.fdr_record.specs.declared.event.Event.{Event}
 use Rattle.fdr_buffer.specs.Segments.{body}
@@ -22,6 +22,10 @@ empty_buffer size = record { size = size; begun = false; thread = 0; serial = 0;
 -- the bytes of a buffer that are used
 abbrev pub used_bytes : Filled → List ℕ
 used_bytes buffer = if buffer.begun then body buffer.thread buffer.wall buffer.pid buffer.events else []
+
+-- whether a buffer holds an event
+abbrev pub has_event : Filled → Bool
+has_event buffer = nat_lt 0 (length buffer.events)
 
 -- the last event of a list, or an earlier event if the list is empty
 abbrev pub last_behind : Option Event → List Event → Option Event

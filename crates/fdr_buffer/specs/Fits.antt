@@ -1,6 +1,6 @@
 -- What fits a buffer, and the records that it is read from later.
 use Rattle.std.specs.Prelude.{◌<◌, ◌≤◌, ◌^◌, length, All}
-use Rattle.fdr_buffer.specs.declared.buffer.TheConstants.{LARGEST}
+use Rattle.fdr_buffer.specs.declared.buffer.TheConstants.{LARGEST_SIZE}
 use Rattle.fdr_buffer.specs.Segments.{EventFits}
 use Rattle.fdr_buffer.specs.Filled.{Filled, used_bytes}
 
@@ -16,4 +16,4 @@ pub record BufferFits (buffer : Filled) : Type 0 where
   pub preamble : PreambleFits buffer
   pub events : All EventFits buffer.events
   pub within : length (used_bytes buffer) ≤ buffer.size
-  pub most : buffer.size ≤ LARGEST
+  pub most : buffer.size ≤ LARGEST_SIZE

@@ -13,10 +13,13 @@ use std::marker::Model;
 use xray_io::{NoMemory, Wall};
 
 /// The least size of a buffer, in bytes: its preamble, and the records of one event.
-pub const LEAST: u32 = 72;
+pub const LEAST_SIZE: u32 = 72;
 
 /// The largest size of a buffer, in bytes.
-pub const LARGEST: u32 = 1_048_576;
+pub const LARGEST_SIZE: u32 = 1_048_576;
+
+/// The most buffers of a run.
+pub const MOST_BUFFERS: u32 = 1_024;
 
 /// The bytes of one segment of a thread's events. First comes a preamble that says which thread it
 /// is, when the segment began, and in which process. The records of the events follow. LLVM's
@@ -55,8 +58,8 @@ impl Buffer {
     /// A buffer of `size` bytes that holds no segment yet. `NoMemory` means that an allocation was
     /// refused.
     pub fn new(alloc: Global, size: u32) -> Result<Buffer, NoMemory>
-        requires least { LEAST ≤ size }
-        requires most { size ≤ LARGEST }
+        requires least { LEAST_SIZE ≤ size }
+        requires most { size ≤ LARGEST_SIZE }
         ensures { IfOk result (λ buffer. buffer ≡ empty_buffer size) }
     {
         Ok(Buffer {
@@ -84,8 +87,8 @@ impl Buffer {
           events = [];
         } }
         // The size of a buffer is in its range.
-        ensures least { LEAST ≤ self.old.size }
-        ensures most { self.old.size ≤ LARGEST }
+        ensures least { LEAST_SIZE ≤ self.old.size }
+        ensures most { self.old.size ≤ LARGEST_SIZE }
     {
         self.used = put_preamble(&mut self.bytes, thread, wall, pid);
         self.thread = thread;

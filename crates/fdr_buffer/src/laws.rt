@@ -4,7 +4,7 @@ ghost use Rattle.std.specs.Prelude.{◌≡◌, ◌≢◌, ◌≤◌, [], ◌∷�
 ghost use Rattle.std.specs.List.{flat_map};
 ghost use Rattle.xray_io.specs.declared.faults.Wall.{Wall};
 ghost use Rattle.fdr_record.specs.declared.event.Event.{Event};
-ghost use Rattle.fdr_buffer.specs.declared.buffer.TheConstants.{LEAST};
+ghost use Rattle.fdr_buffer.specs.declared.buffer.TheConstants.{LEAST_SIZE};
 ghost use Rattle.fdr_buffer.specs.Segments.{body, has_room, segments};
 
 /// One more event begins the first segment, or joins the last one if there is room, or else begins
@@ -25,7 +25,7 @@ pub fn a_segment_grows()
 
 /// Every buffer has room for one event.
 pub fn one_event_fits()
-    ensures { (size : ℕ) (event : Event) → LEAST ≤ size → IsTrue (has_room size (event ∷ [])) }
+    ensures { (size : ℕ) (event : Event) → LEAST_SIZE ≤ size → IsTrue (has_room size (event ∷ [])) }
 {}
 
 /// No segment is empty, and together they hold all events in order. Each has room in a buffer of
@@ -33,7 +33,7 @@ pub fn one_event_fits()
 pub fn segments_hold_all()
     ensures all { (size : ℕ) (events : List Event) → flat_map (λ s. s) (segments size events) ≡ events }
     ensures some { (size : ℕ) (events : List Event) → All (λ s. s ≢ []) (segments size events) }
-    ensures room { (size : ℕ) (events : List Event) → LEAST ≤ size
+    ensures room { (size : ℕ) (events : List Event) → LEAST_SIZE ≤ size
         → All (λ s. IsTrue (has_room size s)) (segments size events) }
 {}
 

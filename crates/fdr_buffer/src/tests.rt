@@ -41,7 +41,7 @@ fn check_segments(
     events: &[Event],
     records: &[&[u8]],
 ) -> Result<(), Fail> {
-    assert!(rt; LEAST <= size && size <= LARGEST);
+    assert!(rt; LEAST_SIZE <= size && size <= LARGEST_SIZE);
     let mut buffer = Buffer::new(alloc, size)?;
     assert!(rt; !buffer.begun() && buffer.bytes().is_empty());
     buffer.begin(1, 0, EPOCH, 1);

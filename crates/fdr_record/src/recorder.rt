@@ -14,8 +14,8 @@ pub trait Recorder {
     /// as its thread, its size and the pool that its buffers come from.
     ghost follows: { Self → Self → Type 0 };
 
-    /// Notes an event behind the others. Its function's id has to be below 2^28, since a function
-    /// record has 28 bits for it, and fewer than 2^32 - 1 events may stand before it.
+    /// Notes an event after the others. Its function's id has to be below 2^28, since a function
+    /// record has 28 bits for it. Fewer than 2^32 - 1 events may come before it.
     fn note(&mut self, event: Event)
         requires id { event.func < 2 ^ 28 }
         requires room { (events : List Event) × stands self.old events × (length events < 2 ^ 32 - 1) }

@@ -6,9 +6,9 @@ use Rattle.machine_step.specs.PlainStep.{Passing, PlainRun, State}
 use Rattle.machine_step.specs.Traced.{Traced, sleds_of}
 use Rattle.machine_step.specs.Whole.{AreWhole}
 
--- The thread has ended as its plain run does, whatever values its loads gave: with the end of the run, and with the
--- registers, zero flag, stack, output and counts of its last state. Each passing of the run has its mark, and the marks
--- are those of the loads. With these loads no passing decoded a torn sled.
+-- The thread has ended as its plain run does: with the end of the run, and with the registers, zero flag, stack, output
+-- and counts of its last state. Each passing of the run has its mark, and the marks are those of the loads. With these
+-- loads no passing decoded a torn sled.
 pub record EndsAsPlain (t : Traced) (passed : List Passing) (end : End) (last : State) (loads : List Load) : Type 0 where
   pub run : PlainRun t.program t.limits t.thread passed end last
   pub registers : t.registers ≡ last.registers

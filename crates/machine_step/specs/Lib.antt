@@ -9,4 +9,5 @@ pub mod Whole
 pub mod Ended
 pub mod Texts
 pub mod EndedText
+pub mod Buffers
 pub mod private

@@ -79,10 +79,10 @@ pub fn some_marks_follow()
         → (marks : List Mark) × MarksFollow program code start bound thread hold (sleds_of passed) marks total }
 {}
 
-/// A traced thread ends as its plain run does, whatever values its loads gave. This is the one law
-/// on a `Cpu` for a caller with an order of loads of its own. What the thread was given, and where
-/// it stands, are clauses of `Cpu::new`, `opened`, `give` and `want`. That it comes to an end is the
-/// clause `nearer` of `opened` and `give`.
+/// A traced thread ends as its plain run does, whatever allowed values its loads gave. A caller
+/// with an order of loads of its own needs no other law on a `Cpu`. What the thread was given, and
+/// where it stands, are clauses of `Cpu::new`, `opened`, `give` and `want`. That it comes to an end
+/// is the clause `nearer` of `opened` and `give`.
 pub fn a_traced_thread_ends_as_its_plain_run()
     ensures { (bytes : List ℕ) (t : Traced) (passed : List Passing) (loads : List Load) (end : End)
         → IsAccepted bytes t.program → HasLoaded t passed loads → t.want ≡ Done end → StandsAs t t.want

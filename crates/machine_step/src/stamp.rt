@@ -35,13 +35,33 @@ pub(crate) fn event_at(
     })
 }
 
-/// The processor on which a thread is in its passing of this number.
+/// The processor on which a thread is in its passing of this number. It divides only if the thread
+/// has moved, or if there are fewer processors than threads.
 fn cpu_at(thread: u32, passing: u32, limits: Limits) -> u16
     requires stamps { (1 ≤ limits.cpus) × (1 ≤ limits.migrate) }
     ensures { result ≡ (thread + passing / limits.migrate) % limits.cpus }
 {
-    let moves = u64::from(passing / limits.migrate);
-    ((u64::from(thread) + moves) % u64::from(limits.cpus)) as u16
+    if limits.cpus == 1 {
+        return 0;
+    }
+    let turn = u64::from(thread) + u64::from(moves_before(passing, limits.migrate));
+    if turn < u64::from(limits.cpus) {
+        turn as u16
+    } else {
+        (turn % u64::from(limits.cpus)) as u16
+    }
+}
+
+/// How often a thread has moved to the next processor before its passing of this number.
+fn moves_before(passing: u32, migrate: u32) -> u32
+    requires { 1 ≤ migrate }
+    ensures { result ≡ passing / migrate }
+{
+    if passing < migrate {
+        0
+    } else {
+        passing / migrate
+    }
 }
 
 /// The counter after this many instructions. It wraps at 2^64.

@@ -6,7 +6,6 @@ pub mod Allowing
 pub mod Awaiting
 mod CodeRows
 pub mod Lists
-pub mod Words
 pub mod Holding
 pub mod Steps
 pub mod Firsts

@@ -1,15 +1,11 @@
 -- The lines of scripts: which words say which command.
-use Rattle.std.specs.Prelude.{ℕ, Bool, List, [], ◌∷◌, Option, Some, None, codes, find, option_map, option_and_then, nat_eq}
-use Rattle.std.specs.Cmp.Lexicographic.{pointwise}
+use Rattle.std.specs.Prelude.{ℕ, List, [], ◌∷◌, Option, Some, None, codes, option_map, option_and_then}
+use Rattle.text_lines.specs.Keywords.{in_table}
 use Rattle.text_lines.specs.Numbers.{number_of}
 use Rattle.patch_script.specs.declared.command.Command.{Command}
 use Rattle.patch_script.specs.declared.command.Command.TheVariants as commands
 use Rattle.patch_script.specs.declared.keyword.Keyword.{Keyword}
 use Rattle.patch_script.specs.declared.keyword.Keyword.TheVariants as words
-
--- two words are the same
-abbrev pub is_word : List ℕ → List ℕ → Bool
-is_word word other = pointwise nat_eq word other
 
 -- the first words of commands
 abbrev pub keywords : List (List ℕ × Keyword)
@@ -21,10 +17,7 @@ keywords =
     ∷ (codes "hold", words.Hold) ∷ (codes "go", words.Go)
     ∷ (codes "release", words.Release) ∷ (codes "await", words.Await) ∷ []
 
--- the keyword that a table has for a word
-abbrev pub in_table : List (List ℕ × Keyword) → List ℕ → Option Keyword
-in_table table word = option_map (λ entry. entry.1) (find (λ entry. is_word entry.0 word) table)
-
+-- the keyword that a word is
 abbrev pub keyword_of : List ℕ → Option Keyword
 keyword_of word = in_table keywords word
 

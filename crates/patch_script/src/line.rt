@@ -4,37 +4,10 @@ ghost use Rattle.std.specs.Prelude.{◌≡◌, ◌==◌, ◌∷◌, [], not, len
 ghost use Rattle.text_lines.specs.Words.{words_of};
 ghost use Rattle.patch_script.specs.Language.{says, command_of};
 ghost use Rattle.patch_script.specs.Refusals.{command_in};
-ghost use Rattle.patch_script.specs.private.Operands.{AreOperands};
 
 use crate::command::Command;
 use crate::keyword::{Keyword, keyword_of};
-use text_lines::{Line, Words, parse_number};
-
-/// The words after a keyword.
-#[derive(Clone, Copy)]
-pub(crate) enum Operands<'a> {
-    Zero,
-    One(&'a [u8]),
-    Two(&'a [u8], &'a [u8]),
-    /// Three words or more. No command has as many.
-    Many,
-}
-
-/// Takes the words that are left.
-fn read_operands<'a>(mut words: Words<'a>) -> Operands<'a>
-    ensures { AreOperands words.entry result }
-{
-    let Some(first) = words.next() else {
-        return Operands::Zero;
-    };
-    let Some(second) = words.next() else {
-        return Operands::One(first);
-    };
-    match words.next() {
-        None => Operands::Two(first, second),
-        Some(_) => Operands::Many,
-    }
-}
+use text_lines::{Line, Operands, Words, parse_number, read_operands};
 
 /// The command that a keyword is by itself.
 fn says_alone(keyword: Keyword) -> Option<Command>

@@ -1,6 +1,6 @@
 //! Commands in their places among the micro steps.
 
-ghost use Rattle.std.specs.Prelude.{◌≡◌, ◌<◌, ◌≤◌, ◌+◌, ◌-◌, ◌^◌, ℕ, false, List, [], ◌∷◌, ◌++◌, length, slice_get, Some, None, IfOk, OnOk, if◌then◌else◌};
+ghost use Rattle.std.specs.Prelude.{◌≡◌, ◌<◌, ◌≤◌, ◌+◌, ◌-◌, ◌^◌, ◌↔◌, ℕ, false, List, [], ◌∷◌, ◌++◌, length, slice_get, Some, None, IsTrue, IfOk, OnOk, if◌then◌else◌};
 ghost use Rattle.xray_image.specs.declared.sled.Sled.{Sled};
 ghost use Rattle.patch_script.specs.Micros.{micro_at, steps_of, patch_sled, unpatch_sled};
 ghost use Rattle.patch_script.specs.Plans.{is_waiting};
@@ -154,17 +154,48 @@ impl PlacedCommands {
         if going { self.start } else { self.total }
     }
 
-    /// The micro step at a place.
-    pub(crate) fn micro(&self, place: u64) -> Micro
+    /// The micro step at a place. Looks for its command at the number `near` first, and leaves its
+    /// number there. Any number gives the same answer.
+    pub(crate) fn micro_near(&self, place: u64, near: &mut u32) -> Micro
         requires { ArePlaced self.now }
         ensures { result ≡ micro_at self.now.image.value (commands_of (lines_in self.now)) place }
     {
         if place >= self.total {
             return Micro::End;
         }
-        let number = self.number_at(place);
-        let placed = self.commands[number];
-        self.step(number as u32, placed, place - placed.before)
+        let number = self.number_near(place, *near);
+        *near = number as u32;
+        self.micro_of(number, place)
+    }
+
+    /// The number of the command that the micro step at a place belongs to. Looks at the command with
+    /// the number `near`, then at the one after it, and then among all.
+    fn number_near(&self, place: u64, near: u32) -> usize
+        requires sound { ArePlaced self.now }
+        requires within { place < self.now.total }
+        ensures { IsAt self.now place result }
+    {
+        let here = near as usize;
+        let next = here + 1;
+        if self.has_step(here, place) {
+            here
+        } else if self.has_step(next, place) {
+            next
+        } else {
+            self.number_at(place)
+        }
+    }
+
+    /// Whether the micro step at a place belongs to the command with this number.
+    fn has_step(&self, number: usize, place: u64) -> bool
+        requires { ArePlaced self.now }
+        ensures { IsTrue result ↔ IsAt self.now place number }
+    {
+        match self.commands.get(number) {
+            Some(placed) => placed.before <= place
+                && place - placed.before < placed.command.step_count(placed.sleds.len()),
+            None => false,
+        }
     }
 
     /// The number of the command that the micro step at a place belongs to.
@@ -176,6 +207,16 @@ impl PlacedCommands {
         self.commands
             .partition_point(|placed| placed.before <= place)
             - 1
+    }
+
+    /// The micro step at a place, which belongs to the command with this number.
+    fn micro_of(&self, number: usize, place: u64) -> Micro
+        requires sound { ArePlaced self.now }
+        requires at { IsAt self.now place number }
+        ensures { result ≡ micro_at self.now.image.value (commands_of (lines_in self.now)) place }
+    {
+        let placed = self.commands[number];
+        self.step(number as u32, placed, place - placed.before)
     }
 
     /// A micro step of the command with this number.

@@ -89,7 +89,21 @@ impl Script {
         ensures within { IsWithin self.now result }
         ensures end { (result ≡ Micro.End) ↔ (total_of self.now.program (commands_of self.now.lines) ≤ p) }
     {
-        self.placed.micro(p)
+        self.micro_near(p, &mut 0)
+    }
+
+    /// The same as `micro`. `near` is a guess at the command that the micro step belongs to: the
+    /// number of a command, counted from 0. Any number gives the same answer. If it is that command,
+    /// or the one before it, the call doesn't search. Leaves the number of that command in `near`,
+    /// unless the answer is `End`.
+    ///
+    /// A caller that goes through the micro steps in order keeps `near` between its calls.
+    pub fn micro_near(&self, p: u64, near: &mut u32) -> Micro
+        ensures micro { result ≡ micro_at self.now.program (commands_of self.now.lines) p }
+        ensures within { IsWithin self.now result }
+        ensures end { (result ≡ Micro.End) ↔ (total_of self.now.program (commands_of self.now.lines) ≤ p) }
+    {
+        self.placed.micro_near(p, near)
     }
 
     /// The passing, counted from 0, before which the script holds a thread. The answer is `None`

@@ -40,9 +40,9 @@ pub fn run_script<R: Wait, G: Gate + Sync>(
     let backoff = Backoff::new();
     'steps: for _ in rt.forever() {
         match table.next_micro(seat) {
-            Micro::Store { .. } => {
+            Micro::Store { word, value } => {
                 gate.before_store(seat.place());
-                table.store_next(seat);
+                table.make_store(seat, word, value);
             }
             Micro::Await { .. } => {
                 if table.look(seat) {

@@ -112,3 +112,7 @@ is_store micro word value is (inr other) = let both : Store word value ≡ End =
 pub is_await : (micro : Micro) (thread count : ℕ) → micro ≡ Await thread count → ((word : ℕ) × (value : ℕ) × (micro ≡ Store word value)) ⊎ (micro ≡ End) → ⊥
 is_await micro thread count is (inl (word, value, other)) = let both : Await thread count ≡ Store word value = sym is ∙ other in cc
 is_await micro thread count is (inr other) = let both : Await thread count ≡ End = sym is ∙ other in cc
+
+-- two awaits of one micro step are of the same thread, for the same count
+pub same_await : (thread count thread' count' : ℕ) → Await thread count ≡ Await thread' count' → (thread ≡ thread') × (count ≡ count')
+same_await thread count thread' count' same = (cc, cc)

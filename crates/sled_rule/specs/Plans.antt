@@ -1,5 +1,7 @@
 -- A script as the table's rule speaks of it: what is where, and when.
-use Rattle.std.specs.Prelude.{◌≡◌, ℕ}
+use Rattle.std.specs.Prelude.{◌≡◌, ℕ, ◌+◌, ◌*◌}
+use Rattle.xray_image.specs.Limits.{most_sleds}
+use Rattle.sled_words.specs.declared.words.TheConstants.{MAX_THREADS}
 use Rattle.sled_words.specs.Words.{code_word_count}
 use Rattle.patch_script.specs.declared.micro.Micro.{Micro}
 use Rattle.patch_script.specs.declared.micro.Micro.TheVariants.{Store, Await}
@@ -31,6 +33,10 @@ micro_in plan place = micro_at plan.program (commands_of plan.lines) place
 -- how many words there are before the progress words
 unfoldable pub code_words : Plan → ℕ
 code_words plan = code_word_count plan.program plan.threads
+
+-- the most words before the progress words: those of the most sleds, and of the most threads
+abbrev pub most_code_words : ℕ
+most_code_words = 4 * most_sleds + 2 + MAX_THREADS
 
 -- the micro step at a place is a store, or an await
 abbrev pub IsStoreAt : Plan → ℕ → Type 0

@@ -46,6 +46,7 @@ impl CodeTable {
         let PatchSeat {
             place: _,
             given: _,
+            near: _,
             seat: last,
         } = seat;
         let closed = table.close_with(last);

@@ -47,6 +47,7 @@ impl CodeTable {
         let seat = PatchSeat {
             place: 0,
             given: 0,
+            near: 0,
             seat,
         };
         Ok((table, seat))

@@ -18,14 +18,17 @@ use patch_script::{Micro, stores_give_the_code};
 
 impl CodeTable {
     /// The micro step at the place, which is made next. The answer is `End` exactly when all were
-    /// made.
-    pub fn next_micro(&self, seat: &PatchSeat) -> Micro
-        requires own { IsPatcherOf self.now seat.now }
-        ensures micro { micro_in (script_of self.now) (patch_view seat.now).place ≡ result }
+    /// made. The seat keeps where the step was found, so that the next one needs no search.
+    #[inline]
+    pub fn next_micro(&self, seat: &mut PatchSeat) -> Micro
+        requires own { IsPatcherOf self.now seat.old }
+        ensures own { IsPatcherOf self.now seat.new }
+        ensures same { patch_view seat.new ≡ patch_view seat.old }
+        ensures micro { micro_in (script_of self.now) (patch_view seat.old).place ≡ result }
         ensures within { IsWithin (script_of self.now) result }
-        ensures end { (result ≡ Micro.End) ↔ ((patch_view seat.now).place ≡ total_in (script_of self.now)) }
+        ensures end { (result ≡ Micro.End) ↔ ((patch_view seat.old).place ≡ total_in (script_of self.now)) }
     {
-        self.script.micro(seat.place)
+        self.script.micro_near(seat.place, &mut seat.near)
     }
 
     /// Whether the place is the one where threads start.
@@ -43,16 +46,27 @@ impl CodeTable {
         ensures own { IsPatcherOf self.now seat.new }
         ensures view { patch_view seat.new ≡ advanced (patch_view seat.old) }
     {
-        stores_give_the_code();
         match self.next_micro(seat) {
-            Micro::Store { word, value } => {
-                self.table
-                    .shared
-                    .store::<Patching>(&mut seat.seat, word as usize, value);
-                seat.place += 1;
-            }
+            Micro::Store { word, value } => self.make_store(seat, word, value),
             Micro::Await { .. } | Micro::End => unreachable!(),
         }
+    }
+
+    /// Makes the micro step at the place, which is a store of this value in this word, as
+    /// `next_micro` has answered.
+    #[inline]
+    pub fn make_store(&self, seat: &mut PatchSeat, word: u32, value: u64)
+        requires own { IsPatcherOf self.now seat.old }
+        requires next { micro_in (script_of self.now) (patch_view seat.old).place ≡ Micro.Store word value }
+        requires within { IsWithin (script_of self.now) (Micro.Store word value) }
+        ensures own { IsPatcherOf self.now seat.new }
+        ensures view { patch_view seat.new ≡ advanced (patch_view seat.old) }
+    {
+        stores_give_the_code();
+        self.table
+            .shared
+            .store::<Patching>(&mut seat.seat, word as usize, value);
+        seat.place += 1;
     }
 
     /// Looks whether the thread that the micro step at the place awaits has made its passings. If
@@ -68,16 +82,26 @@ impl CodeTable {
             → count ≤ slice_index (patch_view seat.old).known thread → result ≡ true }
     {
         match self.next_micro(seat) {
-            Micro::Await { thread, count } => {
-                let value = self.load_progress(&mut seat.seat, thread, count);
-                if value < u64::from(count) {
-                    false
-                } else {
-                    seat.place += 1;
-                    true
-                }
-            }
+            Micro::Await { thread, count } => self.look_for(seat, thread, count),
             Micro::Store { .. } | Micro::End => unreachable!(),
+        }
+    }
+
+    /// Looks whether a thread has made so many passings, as the micro step at the place awaits it.
+    fn look_for(&self, seat: &mut PatchSeat, thread: u32, count: u32) -> bool
+        requires own { IsPatcherOf self.now seat.old }
+        requires next { micro_in (script_of self.now) (patch_view seat.old).place ≡ Micro.Await thread count }
+        requires within { IsWithin (script_of self.now) (Micro.Await thread count) }
+        ensures own { IsPatcherOf self.now seat.new }
+        ensures looked { IsLooked (patch_view seat.old) result (patch_view seat.new) }
+        ensures known { count ≤ slice_index (patch_view seat.old).known thread → result ≡ true }
+    {
+        let value = self.load_progress(&mut seat.seat, thread, count);
+        if value < u64::from(count) {
+            false
+        } else {
+            seat.place += 1;
+            true
         }
     }
 

@@ -15,6 +15,8 @@ use atomic_table::Seat;
 pub struct PatchSeat {
     pub(crate) place: u64,
     pub(crate) given: u32,
+    /// The number of the command that a micro step was last found at.
+    pub(crate) near: u32,
     pub(crate) seat: Seat<(), View>,
     ghost is: { (seat.me.0 ≡ Patch (patch_of seat.me.0)) × (seat.me.1 ≡ []) },
     ghost at: { (place ≡ (patch_of seat.me.0).place) × (given ≡ (patch_of seat.me.0).given) },

@@ -2,13 +2,14 @@
 
 ghost use Rattle.std.specs.Prelude.{◌≡◌, ◌+◌, ◌*◌, ◌<◌, ◌≤◌};
 ghost use Rattle.patch_script.specs.Limits.{most_micros};
-ghost use Rattle.sled_rule.specs.Plans.{code_words, total_in};
+ghost use Rattle.sled_rule.specs.Plans.{code_words, most_code_words, total_in};
 ghost use Rattle.sled_rule.specs.Rule.{slot_count};
 
 use crate::law::CodeRule;
 use crate::views::View;
 use atomic_table::Table;
 use patch_script::Script;
+use sled_words::MAX_THREADS;
 use std::alloc::Global;
 
 /// How many words a progress word takes in the table: a cache line of 64 bytes.
@@ -28,9 +29,9 @@ pub struct CodeTable {
     pub(crate) table: Table<(), View, Script, CodeRule, Global>,
     ghost key: { table.shared.key ≡ script },
     ghost all_threads: { threads ≡ script.threads },
-    ghost few_threads: { threads ≤ 16 },
+    ghost few_threads: { threads ≤ MAX_THREADS },
     ghost counted: { code_len ≡ code_words script },
-    ghost few_words: { code_len ≤ 16402 },
+    ghost few_words: { code_len ≤ most_code_words },
     ghost few_steps: { total_in script ≤ most_micros },
     ghost no_slots: { table.shared.table_id.slots ≡ 0 },
     ghost sized: { table.shared.table_id.words ≡ slot_count script },

@@ -1,4 +1,4 @@
--- The assembler text: 64 functions. Each function but the last calls functions behind it.
+-- The assembler text: 64 functions. Each function except the last calls functions after it.
 use Rattle.std.specs.Prelude.{ℕ, zero, suc, ◌+◌, List, [], ◌∷◌, ◌++◌, Option, Some, None, codes, decimal, nat_lt, min, if◌then◌else◌}
 use Rattle.std.specs.List.{flat_map}
 use Rattle.text_lines.specs.Written.{written_text}

@@ -3,7 +3,7 @@ ghost use Rattle.std.specs.Prelude.{◌≡◌, ◌++◌, OnOk, decimal};
 
 use xray_io::NoMemory;
 
-/// Adds a number in decimal digits, with some bytes before it and behind it.
+/// Adds a number in decimal digits, with some bytes before it and after it.
 pub(crate) fn add_number(
     text: &mut Vec<u8>,
     before: &[u8],

@@ -14,7 +14,7 @@ const FUNCTIONS: u64 = 64;
 /// The number of the last function.
 const LAST: u64 = FUNCTIONS - 1;
 
-/// How far behind a function the one that it calls may be.
+/// How many functions after its caller a called function may come.
 const REACH: u64 = 4;
 
 /// How many values a byte has.

@@ -26,7 +26,8 @@ use Rattle.step_sim.specs.Pool.{AllPooledRunOut, Fresh, Item, Pooled, Pooling, S
 use Rattle.step_sim.specs.Recorded.{numbers_from, pooling_of, segments_at}
 use Rattle.step_sim.specs.Plays.{turns}
 use Rattle.step_sim.specs.Replay.{Cast, Moment, marks_at, of_thread, thread_turn}
-use Rattle.step_sim.specs.Replayed.{IsReplayOf, LoseOldest, cast_with, passed_of, pooling_with, spare_of}
+use Rattle.step_sim.specs.Replayed.{IsReplayOf, LoseOldest, cast_with, passed_of, pooling_with}
+use Rattle.machine_step.specs.Buffers.{spare_of}
 use Rattle.step_sim.specs.Schedules.{AreTurnsOf}
 use Rattle.step_sim.proofs.Counting.{fresh_serials}
 use Rattle.step_sim.proofs.EndedRuns.{enumerated_map, no_run, of_thread_at, some_run}

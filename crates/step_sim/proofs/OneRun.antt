@@ -14,7 +14,8 @@ use Rattle.step_sim.specs.declared.turns.Turns.{Turns}
 use Rattle.step_sim.specs.Pool.{Pooled, PooledReplay, segments_among}
 use Rattle.step_sim.specs.Recorded.{numbers_from, pooling_of}
 use Rattle.step_sim.specs.Replay.{marks_at}
-use Rattle.step_sim.specs.Replayed.{IsReplayOf, cast_of, cast_with, passed_of, pooling_with, spare_of}
+use Rattle.step_sim.specs.Replayed.{IsReplayOf, cast_of, cast_with, passed_of, pooling_with}
+use Rattle.machine_step.specs.Buffers.{spare_of}
 use Rattle.step_sim.proofs.Bounds.{OneEnd}
 use Rattle.step_sim.proofs.PooledReplay.{same_queue}
 

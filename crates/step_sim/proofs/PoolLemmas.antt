@@ -9,6 +9,7 @@ use Rattle.std.proofs.lemmas.Option.{get_or_from_slice_get, slice_get-get_or, sl
 use Rattle.std.specs.List.{flat_map}
 use Rattle.xray_io.specs.declared.faults.Wall.{Wall}
 use Rattle.fdr_record.specs.declared.event.Event.{Event}
+use Rattle.fdr_buffer.specs.declared.buffer.TheConstants.{LEAST_SIZE}
 use Rattle.fdr_buffer.specs.Filled.{Filled, empty_buffer}
 use Rattle.fdr_buffer.specs.Segments.{has_room, segments}
 use Rattle.step_sim.specs.declared.pool.Pool.{Pool}
@@ -684,7 +685,7 @@ turn_loses pool thread n event hand taken sealed (stamp, threads, events, stock,
 
 -- the buffer that was first has room for an event
 pub turn_has_room : (pool : Pool) (thread : ℕ) (event : Event) (hand taken : Filled) → CanNote pool thread
-    → IsFull pool thread event → ((size : ℕ) (events : List Event) → 72 ≤ size → All (λ s. IsTrue (has_room size s)) (segments size events))
+    → IsFull pool thread event → ((size : ℕ) (events : List Event) → LEAST_SIZE ≤ size → All (λ s. IsTrue (has_room size s)) (segments size events))
     → hand ≡ get_or pool.hands.items (thread - 1) hand → taken ∷ [] ≡ take 1 (pool.queue ++ hand ∷ [])
     → IsTrue (has_room taken.size (event ∷ []))
 turn_has_room pool thread event hand taken (stamp, threads, events, stock, holds, some, few, room) full fits is front =
@@ -873,7 +874,7 @@ fresh_serials : (thread n : ℕ) → serials_of thread (replicate n Fresh) ≡ [
 fresh_serials thread zero = refl
 fresh_serials thread (suc n) = fresh_serials thread n
 
-pub pool_begins : (stamp : Stamp) (threads spare : ℕ) (pool : Pool) → 72 ≤ stamp.size → pool.wall ≡ stamp.wall → pool.pid ≡ stamp.pid
+pub pool_begins : (stamp : Stamp) (threads spare : ℕ) (pool : Pool) → LEAST_SIZE ≤ stamp.size → pool.wall ≡ stamp.wall → pool.pid ≡ stamp.pid
     → pool.hands.items ≡ replicate threads (empty_buffer stamp.size) → pool.queue ≡ replicate spare (empty_buffer stamp.size)
     → pool.sealed.items ≡ replicate threads 0 → pool.first.items ≡ replicate threads 0
     → PoolHolds stamp threads (λ _. []) (first_stock spare) pool

@@ -21,7 +21,8 @@ use Rattle.step_sim.specs.declared.patcher.Patcher.{Patcher}
 use Rattle.step_sim.specs.declared.pool.Pool.{Pool}
 use Rattle.step_sim.specs.declared.turns.Turns.{Turns}
 use Rattle.step_sim.specs.Replay.{marks_at, of_thread}
-use Rattle.step_sim.specs.Replayed.{IsReplayOf, IsSimulated, cast_of, cast_with, passed_of, spare_of}
+use Rattle.step_sim.specs.Replayed.{IsReplayOf, IsSimulated, cast_of, cast_with, passed_of}
+use Rattle.machine_step.specs.Buffers.{spare_of}
 use Rattle.step_sim.specs.Pool.{AllPooledRunOut, Pooled, PooledReplay, pooled_lines, segments_among}
 use Rattle.step_sim.specs.Recorded.{is_of, numbers_from, pooling_of, segments_held}
 use Rattle.step_sim.specs.Schedules.{AreTurnsOf}

@@ -17,7 +17,8 @@ use Rattle.step_sim.specs.declared.turns.Turns.{Turns}
 use Rattle.step_sim.specs.Pool.{Pooled, PooledReplay, Pooling, segments_among}
 use Rattle.step_sim.specs.Recorded.{numbers_from, pooling_of}
 use Rattle.step_sim.specs.Replay.{Cast, Replay, marks_at}
-use Rattle.step_sim.specs.Replayed.{IsReplayOf, cast_of, cast_with, passed_of, spare_of}
+use Rattle.step_sim.specs.Replayed.{IsReplayOf, cast_of, cast_with, passed_of}
+use Rattle.machine_step.specs.Buffers.{spare_of}
 use Rattle.step_sim.proofs.PooledReplay.{has_buffers}
 
 -- ---- the laws below

@@ -4,6 +4,7 @@ use Rattle.xray_image.specs.Program.{Program}
 use Rattle.patch_script.specs.declared.command.Command.{Command}
 use Rattle.fdr_buffer.specs.Filled.{Filled}
 use Rattle.machine_step.specs.declared.setup.Setup.{Setup}
+use Rattle.machine_step.specs.Buffers.{spare_of}
 use Rattle.machine_step.specs.PlainStep.{Passing}
 use Rattle.machine_step.specs.Traced.{Traced, sleds_of}
 use Rattle.traced_run.specs.Kept.{segment_count}
@@ -26,10 +27,6 @@ passed_of runs = map (λ run. run.passed) runs
 -- what is replayed if the threads run in this way
 abbrev pub cast_with : Program → List Command → List ThreadRun → Cast
 cast_with program script runs = cast_of program script (map sleds_of (passed_of runs))
-
--- the buffers of a setup besides one per thread
-abbrev pub spare_of : Setup → ℕ
-spare_of setup = setup.max - setup.threads
 
 abbrev pub pooling_with : Program → List Command → Setup → List ThreadRun → Pooling
 pooling_with program script setup runs =

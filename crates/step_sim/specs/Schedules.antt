@@ -1,8 +1,8 @@
 -- Schedules as texts: what their lines say, and the refusals, in the order of the checks.
-use Rattle.std.specs.Prelude.{ℕ, ◌&&◌, ◌≤◌, Bool, true, false, not, nat_eq, nat_le, nat_lt, List, [], ◌∷◌, ◌++◌, length, Option, Some, None, Result, Ok, Err, codes, if◌then◌else◌}
-use Rattle.std.specs.Cmp.Lexicographic.{pointwise}
+use Rattle.std.specs.Prelude.{ℕ, ◌&&◌, ◌≤◌, Bool, true, false, not, nat_le, nat_lt, List, [], ◌∷◌, ◌++◌, length, Option, Some, None, Result, Ok, Err, codes, if◌then◌else◌}
 use Rattle.std.specs.Str.Lines.{lines}
 use Rattle.xray_io.specs.Rows.{First, InTurn}
+use Rattle.text_lines.specs.Keywords.{is_word}
 use Rattle.text_lines.specs.Lines.{numbered_lines}
 use Rattle.text_lines.specs.Numbers.{number_of}
 use Rattle.text_lines.specs.Words.{is_clean, words_of}
@@ -12,6 +12,10 @@ use Rattle.step_sim.specs.declared.line.Said.{Said}
 use Rattle.step_sim.specs.declared.line.Said.TheVariants.{Nothing, Loads, Steps, Unknown}
 use Rattle.step_sim.specs.declared.turns.Turns.{Turns}
 use Rattle.step_sim.specs.declared.turns.Turns.TheVariants.{Thread, Patcher}
+
+-- the most lines of a schedule
+abbrev pub most_lines : ℕ
+most_lines = 1048576
 
 -- ---- what a line says
 
@@ -24,10 +28,6 @@ loads_of words = Unknown
 abbrev pub steps_of : List (List ℕ) → Said
 steps_of (count ∷ []) = Steps (number_of count)
 steps_of words = Unknown
-
--- two words are the same
-abbrev pub is_word : List ℕ → List ℕ → Bool
-is_word word other = pointwise nat_eq word other
 
 -- what words say: `t T K`, or `p K`
 abbrev pub said_by : List (List ℕ) → Said
@@ -81,10 +81,10 @@ line_rows threads before (number, line) =
 
 -- ---- a text
 
--- The turns of all lines, in order, or the first refusal. A text has at most 1,048,576 lines.
+-- The turns of all lines, in order, or the first refusal. That the text has too many lines is looked for first.
 abbrev pub schedule_of : ℕ → List ℕ → Result (List Turns) ScheduleFault
 schedule_of threads text =
-    First (nat_lt 1048576 (length (lines text))) (Err faults.Limit)
+    First (nat_lt most_lines (length (lines text))) (Err faults.Limit)
     (InTurn (λ before line. line_rows threads before line) [] (numbered_lines text))
 
 -- turns that a schedule may give to this many threads: at least one, of one of the threads or of the patcher

@@ -3,7 +3,7 @@ use Rattle.std.specs.Prelude.{◌≡◌, ◌≤◌, ℕ, List, [], ◌∷◌, le
 use Rattle.text_lines.specs.Written.{written_text}
 use Rattle.step_sim.specs.declared.turns.Turns.{Turns}
 use Rattle.step_sim.specs.declared.turns.Turns.TheVariants.{Thread, Patcher}
-use Rattle.step_sim.specs.Schedules.{AreTurnsOf, schedule_of}
+use Rattle.step_sim.specs.Schedules.{AreTurnsOf, most_lines, schedule_of}
 
 -- the words of the line of turns
 abbrev pub turn_words : Turns → List (List ℕ)
@@ -22,4 +22,4 @@ HasWords (Patcher count) = count ≤ 4294967295
 -- turns that a schedule may give to the threads are read as they are written
 abbrev pub WrittenSchedulesRead : Type 0
 WrittenSchedulesRead = (threads : ℕ) (turns : List Turns) → threads ≤ 4294967295 → All (AreTurnsOf threads) turns → All HasWords turns
-    → length turns ≤ 1048576 → schedule_of threads (schedule_text turns) ≡ Ok turns
+    → length turns ≤ most_lines → schedule_of threads (schedule_text turns) ≡ Ok turns

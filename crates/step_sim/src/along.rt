@@ -44,8 +44,8 @@ pub fn no_replay_tears_a_sled()
     ensures named { (cast : Cast) (schedule : List Line) (last : Moment) → All NamesThread schedule
         → Plays (moment_rules cast) (length cast.passings) (first_moment cast) schedule last
         → TearsNoSled cast last }
-    // So it is with the runs that a text leaves which is a schedule: it names only threads from 1 on.
-    // These are the loads of the very moment at which the replay has left these runs.
+    // The same holds for the runs that a schedule's text leaves, since it names only threads from 1
+    // on. The loads are those of the moment at which the replay leaves these runs.
     ensures runs { (program : Program) (script : List Command) (text : List ℕ) (schedule : List Line)
         (setup : Setup) (runs : List ThreadRun) → schedule_of setup.threads text ≡ Ok schedule
         → (replay : IsReplayOf program script schedule setup runs) → (i : ℕ) (run : ThreadRun)

@@ -12,7 +12,8 @@ ghost use Rattle.traced_run.specs.Runs.{ThreadRun};
 ghost use Rattle.step_sim.specs.declared.turns.Turns.{Turns as Line};
 ghost use Rattle.step_sim.specs.Pool.{Pooled, PooledReplay, Pooling};
 ghost use Rattle.step_sim.specs.Replay.{Cast, Replay, marks_at};
-ghost use Rattle.step_sim.specs.Replayed.{IsReplayOf, LoseOldest, spare_of};
+ghost use Rattle.step_sim.specs.Replayed.{IsReplayOf, LoseOldest};
+ghost use Rattle.machine_step.specs.Buffers.{spare_of};
 ghost use Rattle.step_sim.specs.Schedules.{AreTurnsOf, schedule_of};
 
 use machine_step::{one_end, some_end};

@@ -7,7 +7,7 @@ ghost use Rattle.step_sim.specs.private.Readings.{listed};
 
 use crate::fault::ScheduleFault;
 use crate::turns::Turns;
-use text_lines::{Line, Words, parse_number};
+use text_lines::{Line, Operands, Words, parse_number, read_operands};
 
 /// What the words of a line say. A number is `None` if its word isn't one.
 #[derive(Clone, Copy)]
@@ -31,13 +31,11 @@ pub(crate) enum Said {
 }
 
 /// What the words after `t` say.
-fn loads_of(mut words: Words) -> Said
+fn loads_of(words: Words) -> Said
     ensures { result ≡ loads_of words.entry }
 {
-    let thread = words.next();
-    let count = words.next();
-    match (thread, count, words.next()) {
-        (Some(thread), Some(count), None) => Said::Loads {
+    match read_operands(words) {
+        Operands::Two(thread, count) => Said::Loads {
             thread: parse_number(thread),
             count: parse_number(count),
         },
@@ -46,12 +44,11 @@ fn loads_of(mut words: Words) -> Said
 }
 
 /// What the words after `p` say.
-fn steps_of(mut words: Words) -> Said
+fn steps_of(words: Words) -> Said
     ensures { result ≡ steps_of words.entry }
 {
-    let count = words.next();
-    match (count, words.next()) {
-        (Some(count), None) => Said::Steps {
+    match read_operands(words) {
+        Operands::One(count) => Said::Steps {
             count: parse_number(count),
         },
         _ => Said::Unknown,

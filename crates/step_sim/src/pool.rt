@@ -6,7 +6,7 @@ ghost use Rattle.fdr_buffer.specs.Filled.{Filled, empty_buffer};
 ghost use Rattle.step_sim.specs.Recorded.{CanLose, is_of, lost_behind, numbers_from, segments_held};
 
 use crate::ring::Ring;
-use fdr_buffer::{Buffer, a_segment_grows, segments_hold_all};
+use fdr_buffer::{Buffer, LARGEST_SIZE, LEAST_SIZE, a_segment_grows, segments_hold_all};
 use fdr_record::Event;
 use machine_step::Setup;
 use std::alloc::Global;
@@ -22,7 +22,7 @@ pub(crate) struct Pool {
     queue: Ring<Buffer>,
     /// How many buffers each thread has put into the queue.
     sealed: Vec<u32>,
-    /// How many of those were taken away again.
+    /// How many of these were taken away again.
     first: Vec<u32>,
     wall: Wall,
     pid: u32,
@@ -51,8 +51,8 @@ impl Pool {
 
     /// The buffers before the first event. None of them is begun.
     pub(crate) fn new(alloc: Global, setup: &Setup) -> Result<Pool, NoMemory>
-        requires least { 72 ≤ setup.now.size }
-        requires most { setup.now.size ≤ 1048576 }
+        requires least { LEAST_SIZE ≤ setup.now.size }
+        requires most { setup.now.size ≤ LARGEST_SIZE }
         requires enough { setup.now.threads ≤ setup.now.max }
         ensures { IfOk result (PoolHolds (stamp_of setup.now) setup.now.threads (λ _. [])
             (first_stock (setup.now.max - setup.now.threads))) }
@@ -168,8 +168,8 @@ pub(crate) fn room_for<T>(alloc: Global, count: u32) -> Result<Vec<T>, NoMemory>
 
 /// This many buffers of a size, none of them begun.
 fn fresh_buffers(alloc: Global, count: u32, size: u32) -> Result<Vec<Buffer>, NoMemory>
-    requires least { 72 ≤ size }
-    requires most { size ≤ 1048576 }
+    requires least { LEAST_SIZE ≤ size }
+    requires most { size ≤ LARGEST_SIZE }
     ensures { IfOk result (λ buffers. buffers.items ≡ replicate count (empty_buffer size)) }
 {
     let mut buffers = Vec::with_capacity(alloc, count as usize)?;

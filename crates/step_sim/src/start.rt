@@ -14,7 +14,7 @@ use crate::replay::{SimEnd, play};
 use crate::schedule::Schedule;
 use crate::sim_fault::SimFault;
 use crate::thread::new_thread;
-use fdr_buffer::{Buffer, segments_hold_all};
+use fdr_buffer::{Buffer, LARGEST_SIZE, LEAST_SIZE, MOST_BUFFERS, segments_hold_all};
 use machine_step::{Cpu, Setup, Steps, one_end};
 use patch_script::Script;
 use sled_words::MAX_THREADS;
@@ -64,8 +64,8 @@ impl<'a, 's> SimStart<'a, 's> {
         requires threads { script.now.threads ≡ setup.now.threads }
         requires few { setup.now.threads ≤ MAX_THREADS }
         requires stamps { (1 ≤ setup.now.limits.cpus) × (1 ≤ setup.now.limits.migrate) }
-        requires sizes { (72 ≤ setup.now.size) × (setup.now.size ≤ 1048576) }
-        requires buffers { (setup.now.threads ≤ setup.now.max) × (setup.now.max ≤ 1024) }
+        requires sizes { (LEAST_SIZE ≤ setup.now.size) × (setup.now.size ≤ LARGEST_SIZE) }
+        requires buffers { (setup.now.threads ≤ setup.now.max) × (setup.now.max ≤ MOST_BUFFERS) }
         ensures waits { (line : ℕ) → (result ≡ Err (Waits line)) ↔ (waiting_line script.now.lines ≡ Some line) }
         ensures start { IfOk result (λ start. start
             ≡ record { program = steps.now; script = commands_of script.now.lines; setup = setup.now }) }
@@ -89,12 +89,12 @@ impl<'a, 's> SimStart<'a, 's> {
         })
     }
 
-    /// Replays a schedule. Its lines are taken in order; their turns are loads of the threads and
-    /// micro steps of the patcher. After them thread 1 runs to its end, then thread 2, up to the
-    /// last. The threads start after the micro steps before the script's `go`. The turns of a
-    /// thread that has ended do nothing, and neither do those of the patcher after the script's
-    /// last step. Micro steps that are left when all threads have ended aren't made, since no load
-    /// would see them. A replay always comes to an end.
+    /// Replays a schedule. Its lines are taken in order. Their turns are loads of the threads and
+    /// micro steps of the patcher. After them thread 1 runs to its end, then thread 2, and so on.
+    /// The threads start after the micro steps before the script's `go`. The turns of a thread that
+    /// has ended do nothing, and neither do those of the patcher after the script's last step.
+    /// Micro steps that are left when all threads have ended aren't made, since no load would see
+    /// them. A replay always comes to an end.
     pub fn play(self, schedule: &Schedule) -> SimEnd<'a>
         requires { All (AreTurnsOf self.setup.threads) schedule.now }
         ensures { IsSimulated self.entry.program self.entry.script schedule.now self.entry.setup

@@ -13,12 +13,17 @@ use std::sync::Wait;
 use std::thread::{self, Threads};
 use xray_io::OpenGate;
 
+/// How many words keep what two threads write apart: 128 bytes, since processors fetch cache lines in pairs.
+const APART: usize = 16;
+
 /// A thread that fetches.
 #[derive(Drop)]
 pub struct Fetcher {
     seat: WorkSeat,
     /// Each bit that was 1 in a value that the thread found.
     pub found: u64,
+    /// Keeps the fetchers of a list in cache lines of their own.
+    apart: [u64; APART],
 }
 
 /// A fetcher for each thread, in order.
@@ -38,7 +43,11 @@ pub fn seats_of_all(
     let mut fetchers = Vec::with_capacity(alloc, threads as usize)?;
     'seats: for given in 0..threads {
         let seat = table.split(patcher);
-        fetchers.push(Fetcher { seat, found: 0 })?;
+        fetchers.push(Fetcher {
+            seat,
+            found: 0,
+            apart: [0; APART],
+        })?;
     }
     Ok(fetchers)
 }

@@ -1,9 +1,10 @@
 -- Small texts worked by hand: what the definitions make of them.
-use Rattle.std.proofs.Common.{◌≡◌, true, false, [], ◌∷◌, ◌++◌, Some, None, refl}
+use Rattle.std.proofs.Common.{◌≡◌, ℕ, true, false, [], ◌∷◌, ◌++◌, Some, None, refl}
 use Rattle.std.specs.Prelude.{codes}
 use Rattle.text_lines.specs.Lines.{numbered_lines}
 use Rattle.text_lines.specs.Words.{is_clean, words_of}
 use Rattle.text_lines.specs.Numbers.{number_of, numeral}
+use Rattle.text_lines.specs.Keywords.{in_table}
 
 -- "go" CR LF, LF, "p 2": three lines, and the CR is no part of the first
 three_lines : numbered_lines (codes "go" ++ 13 ∷ 10 ∷ 10 ∷ codes "p 2") ≡ (1, codes "go") ∷ (2, []) ∷ (3, codes "p 2") ∷ []
@@ -48,3 +49,10 @@ letters = refl
 
 no_hexadecimal_digit : numeral 16 (codes "fg") ≡ None
 no_hexadecimal_digit = refl
+
+-- the first entry of a word counts, and a word that no entry has gives nothing
+first_entry : in_table {K = ℕ} ((codes "go", 1) ∷ (codes "hold", 2) ∷ (codes "go", 3) ∷ []) (codes "go") ≡ Some 1
+first_entry = refl
+
+no_entry : in_table {K = ℕ} ((codes "go", 1) ∷ (codes "hold", 2) ∷ []) (codes "hol") ≡ None
+no_entry = refl

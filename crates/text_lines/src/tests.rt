@@ -88,3 +88,39 @@ fn digits_of_a_radix_are_letters_above_nine(rt: HostRuntime) {
         assert_eq!(rt; parse_digits(16, word), expected);
     }
 }
+
+/// How many words follow the first one of a line, and what a table has for that word.
+fn first_words(line: &[u8]) -> (Option<u8>, u8) {
+    let table: [(&[u8], u8); 3] = [(b"go", 1), (b"hold", 2), (b"go", 3)];
+    let mut words = Line {
+        number: 1,
+        bytes: line,
+    }
+    .words();
+    let keyword = match words.next() {
+        Some(word) => keyword_in(&table, word),
+        None => None,
+    };
+    let count = match read_operands(words) {
+        Operands::Zero => 0,
+        Operands::One(_) => 1,
+        Operands::Two(_, _) => 2,
+        Operands::Many => 3,
+    };
+    (keyword, count)
+}
+
+#[test]
+fn keywords_and_the_words_after_them(rt: HostRuntime) {
+    let rows: [(&[u8], (Option<u8>, u8)); 6] = [
+        (b"", (None, 0)),
+        (b"go", (Some(1), 0)),
+        (b" hold 1 20", (Some(2), 2)),
+        (b"gO x", (None, 1)),
+        (b"hol", (None, 0)),
+        (b"go 1 2 3 4", (Some(1), 3)),
+    ];
+    for (line, expected) in rows {
+        assert_eq!(rt; first_words(line), expected);
+    }
+}

@@ -7,14 +7,13 @@ use Rattle.std.proofs.lemmas.List.Concat.{flat_map-cons}
 use Rattle.std.proofs.lemmas.List.Elements.{filter-append, recursion_from_All}
 use Rattle.std.proofs.lemmas.List.Sorted.{IsPermutation-append_right, IsPermutation-filter_both, IsPermutation-refl, IsPermutation-trans}
 use Rattle.fdr_record.specs.declared.event.Event.{Event}
-use Rattle.fdr_buffer.specs.Filled.{Filled, empty_buffer}
+use Rattle.fdr_buffer.specs.Filled.{Filled, empty_buffer, has_event}
 use Rattle.fdr_buffer.proofs.Cutting.{hold_some}
 use Rattle.buffer_queue.specs.Left.{IsLeft, IsUsed, of_thread}
 use Rattle.machine_step.specs.declared.setup.Setup.{Setup}
 use Rattle.traced_run.specs.Kept.{buffer_of, kept_buffers, segments_of, stamp_of, thread_buffers}
 use Rattle.traced_run.specs.Runs.{ThreadRun, events_of}
 use Rattle.thread_run.specs.Recordings.{Recording}
-use Rattle.thread_run.specs.Runs.{has_event}
 use Rattle.thread_run.proofs.Pooled.{AreHands, hands_of}
 
 -- ---- filters

@@ -11,9 +11,10 @@ use Rattle.xray_image.specs.Program.{IsAccepted, Program}
 use Rattle.patch_script.specs.Plans.{Plan}
 use Rattle.patch_script.specs.Refusals.{commands_of}
 use Rattle.fdr_record.specs.declared.event.Event.{Event}
-use Rattle.fdr_buffer.specs.Filled.{Filled}
+use Rattle.fdr_buffer.specs.Filled.{Filled, has_event}
 use Rattle.fdr_buffer.specs.Segments.{segments}
-use Rattle.buffer_queue.specs.Left.{IsLeft, absent_from, of_thread, sealed_in_all, spare_of}
+use Rattle.buffer_queue.specs.Left.{IsLeft, absent_from, of_thread, sealed_in_all}
+use Rattle.machine_step.specs.Buffers.{spare_of}
 use Rattle.buffer_queue.specs.Passes.{PoolIs}
 use Rattle.machine_step.specs.declared.end.End.{End}
 use Rattle.machine_step.specs.declared.limits.Limits.{Limits}
@@ -30,7 +31,7 @@ use Rattle.traced_run.specs.Runs.{ThreadRun}
 use Rattle.thread_run.specs.declared.worker.Worker.{Worker}
 use Rattle.thread_run.specs.Following.{MarksFollowScript}
 use Rattle.thread_run.specs.Recordings.{HasSameOwner, Recording, StandsFor, segments_begun, segments_in}
-use Rattle.thread_run.specs.Runs.{AreWorkersOfRun, HaveRunBeside, IsWorkerOfRun, has_event, lost_beside}
+use Rattle.thread_run.specs.Runs.{AreWorkersOfRun, HaveRunBeside, IsWorkerOfRun, lost_beside}
 use Rattle.thread_run.specs.Workers.{HasEnded, HasRunOut, HaveRun, IsGoing, cpu_of, recorder_of}
 use Rattle.thread_run.proofs.Notes.{begun_are}
 use Rattle.thread_run.proofs.Order.{IsBetween, all_between, in_order}

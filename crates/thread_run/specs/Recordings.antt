@@ -27,7 +27,8 @@ abbrev pub segments_begun : Recording → ℕ
 segments_begun r = length r.pass.sealed + (if r.hand.begun then 1 else 0)
 
 -- It holds what it keeps of these events. If they are cut into no segment, it has sealed no buffer, and its hand isn't
--- begun. Else it has sealed the buffers of all segments but the last, in order, and holds the last one in its hand.
+-- begun. Otherwise it has sealed the buffers of all segments except the last, in order, and holds the last one in its
+-- hand.
 pub data StandsFor (r : Recording) (events : List Event) : Type 0 where
   unbegun : segments_in r events ≡ [] → r.pass.sealed ≡ [] → r.hand ≡ empty_buffer r.pass.setup.size → StandsFor r events
   begun : (whole : List (List Event)) → (last : List Event) → segments_in r events ≡ whole ++ last ∷ []
@@ -57,7 +58,7 @@ pub record StandsForMore (old new : Recording) (event : Event) : Type 0 where
   pub same : HasSameOwner old new
   pub stands : (events : List Event) → StandsFor old events → StandsFor new (events ++ event ∷ [])
 
--- the segments of a pass's thread begin so
+-- this is how the segments of a pass's thread begin
 pub record IsPreambleOf (pass : PassIs) (preamble : Preamble) : Type 0 where
   pub thread : preamble.thread ≡ pass.thread
   pub wall : preamble.wall ≡ pass.setup.wall

@@ -1,11 +1,11 @@
 -- Whole runs of threads beside a script.
-use Rattle.std.specs.Prelude.{◌≡◌, ◌+◌, ◌-◌, ◌==◌, ℕ, Bool, List, [], ◌∷◌, Some, IsPermutation, count_by, filter, length, nat_lt, slice_get}
+use Rattle.std.specs.Prelude.{◌≡◌, ◌+◌, ◌-◌, ◌==◌, ℕ, List, [], ◌∷◌, Some, IsPermutation, count_by, filter, slice_get}
 use Rattle.xray_image.specs.Program.{Program}
 use Rattle.patch_script.specs.declared.command.Command.{Command}
 use Rattle.patch_script.specs.Plans.{Plan}
-use Rattle.buffer_queue.specs.Left.{spare_of}
+use Rattle.machine_step.specs.Buffers.{spare_of}
 use Rattle.buffer_queue.specs.Passes.{PoolIs, IsOf}
-use Rattle.fdr_buffer.specs.Filled.{Filled}
+use Rattle.fdr_buffer.specs.Filled.{Filled, has_event}
 use Rattle.machine_step.specs.declared.setup.Setup.{Setup}
 use Rattle.machine_step.specs.Traced.{Traced, sleds_of}
 use Rattle.sled_rule.specs.Seats.{script_of}
@@ -25,10 +25,6 @@ pub record FollowsScript (program : Program) (script : List Command) (setup : Se
   pub follow : (i : ℕ) (run : ThreadRun) → slice_get runs i ≡ Some run
       → MarksFollowScript program script (i + 1) (sleds_of run.passed) run.marks
   pub losses : AreLost setup.size (spare_of setup) runs
-
--- whether a buffer holds an event
-abbrev pub has_event : Filled → Bool
-has_event buffer = nat_lt 0 (length buffer.events)
 
 -- Threads have run beside a script, and these are what their runs leave. The buffers that hold events are those of the
 -- segments that are left, in any order.
@@ -50,7 +46,7 @@ pub record IsWorkerOfRun (plan : Plan) (pool : PoolIs) (number : ℕ) (worker : 
   pub pass : IsOf pool (recorder_of worker).pass
   pub owner : (recorder_of worker).pass.thread ≡ number
 
--- workers of all numbers from 1 on, of each of which this holds
+-- workers of all numbers from 1 on, each of which satisfies this
 abbrev pub AreWorkersOfRun : Plan → PoolIs → (Worker Recording → Type 0) → List (Worker Recording) → Type 0
 AreWorkersOfRun plan pool Is workers =
     (i : ℕ) (worker : Worker Recording) → slice_get workers i ≡ Some worker → IsWorkerOfRun plan pool (i + 1) worker × Is worker

@@ -21,8 +21,8 @@ pub(crate) struct Preamble {
     pub(crate) pid: u32,
 }
 
-/// A buffer for the thread's next segment. The hand is sealed if it holds a segment; else it is that
-/// buffer itself.
+/// A buffer for the thread's next segment. If the hand holds a segment, it is sealed. Otherwise the
+/// hand itself is that buffer.
 fn exchange<T: Wait>(rt: &T, pool: &Pool, pass: &mut PoolPass, hand: Buffer) -> Buffer
     requires pass { IsOf pool.now pass.old }
     requires size { hand.size ≡ pool.now.setup.size }
@@ -52,7 +52,8 @@ pub(crate) fn next_segment<T: Wait>(
     requires next { hand.begun ≡ true → IsNextOf pass.old hand }
     requires id { event.now.func < 2 ^ 28 }
     ensures pass { pass.new ≡ sealed_with pass.old hand }
-    ensures next { result ≡ buffer_of (stamp_of pass.old.setup) pass.old.thread (length pass.new.sealed, event.now ∷ []) }
+    ensures next { result
+        ≡ buffer_of (stamp_of pass.old.setup) pass.old.thread (length pass.new.sealed, event.now ∷ []) }
 {
     let mut next = exchange(rt, pool, pass, hand);
     next.begin(preamble.thread, pass.sealed(), preamble.wall, preamble.pid);

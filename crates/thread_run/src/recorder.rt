@@ -16,14 +16,14 @@ use std::sync::Wait;
 /// Records the events of one thread in the buffers of a pool that all threads share.
 ///
 /// The thread fills the buffer in its hand. If an event has no room there, the thread seals the
-/// buffer, gets another one by `Pool::turn`, and begins its next segment in it. So the thread always
-/// has its last segment, and the pool has those before it that weren't overwritten.
+/// buffer, gets another one by `Pool::turn`, and begins its next segment in it. So the thread
+/// always has its last segment, and the pool has the earlier ones that weren't overwritten.
 #[derive(Drop)]
 pub struct FdrRecorder<'p, T> {
     rt: &'p T,
     pool: &'p Pool,
     pass: PoolPass,
-    /// The buffer in the thread's hand. It is gone only within `turn`.
+    /// The buffer in the thread's hand. It is missing only within `turn`.
     hand: Option<Buffer>,
     preamble: Preamble,
 }
@@ -105,7 +105,8 @@ impl<'p, T> FdrRecorder<'p, T> {
         requires begun { IsTrue self.old.hand.begun }
         requires room { IsTrue (has_room self.old.hand.size (self.old.hand.events ++ event.now ∷ [])) }
         requires id { event.now.func < 2 ^ 28 }
-        ensures { self.new ≡ record self.old { hand = record self.old.hand { events = self.old.hand.events ++ event.now ∷ [] } } }
+        ensures { self.new
+            ≡ record self.old { hand = record self.old.hand { events = self.old.hand.events ++ event.now ∷ [] } } }
     {
         match &mut self.hand {
             Some(hand) => hand.put(event),

@@ -18,7 +18,7 @@ use crate::running::run_threads;
 use crate::thread::new_cpu;
 use crate::worker::Worker;
 use buffer_queue::{Pool, PoolPass};
-use fdr_buffer::Buffer;
+use fdr_buffer::{Buffer, LARGEST_SIZE, LEAST_SIZE};
 use machine_step::{Cpu, Setup, Steps, one_end};
 use sled_patch::run_prefix;
 use sled_rule::{CodeTable, PatchSeat};
@@ -55,8 +55,8 @@ struct Gathered<'s> {
 /// Runs all threads of a table's script, and the script beside them, from the first micro step on.
 /// The threads share one pool of buffers.
 ///
-/// Takes all memory before the first thread starts; `NoMemory` comes when some of it was refused. No
-/// clause says that the call returns.
+/// Takes its memory before the first thread starts. `NoMemory` means that an allocation was
+/// refused. No clause says that the call returns.
 pub fn run<'s, T: Threads + Wait + Sync, G: Gate + Sync>(
     rt: &T,
     alloc: Global,
@@ -73,7 +73,7 @@ pub fn run<'s, T: Threads + Wait + Sync, G: Gate + Sync>(
     requires some { 1 ≤ setup.now.threads }
     requires few { setup.now.threads ≤ MAX_THREADS }
     requires stamps { (1 ≤ setup.now.limits.cpus) × (1 ≤ setup.now.limits.migrate) }
-    requires sizes { (72 ≤ setup.now.size) × (setup.now.size ≤ 1048576) }
+    requires sizes { (LEAST_SIZE ≤ setup.now.size) × (setup.now.size ≤ LARGEST_SIZE) }
     requires enough { setup.now.threads ≤ setup.now.max }
     ensures own { IsPatcherOf table.now patcher.new }
     ensures left { IfOk result (λ end. HaveRunBeside steps.now (commands_of (script_of table.now).lines) setup.now
@@ -161,7 +161,7 @@ fn new_workers<'s, 't, 'p, T: Wait>(
     Ok(workers)
 }
 
-/// Room for what threads have when they have ended, and nothing of it.
+/// Room for what threads have when they have ended, with nothing in it.
 fn room_for<'s>(alloc: Global, setup: &Setup) -> Result<Gathered<'s>, NoMemory>
     ensures { IfOk result (IsRoom setup.now) }
 {
@@ -239,7 +239,7 @@ fn left_by<'s, R: Wait>(
     }
 }
 
-/// Moves the buffers of the threads' hands behind others.
+/// Moves the buffers of the threads' hands to the end of others.
 fn add_hands(hands: Vec<Buffer>, buffers: &mut Vec<Buffer>)
     requires room { vec_len buffers.old + vec_len hands ≤ vec_capacity buffers.old }
     ensures { buffers.new.items ≡ buffers.old.items ++ hands.items }

@@ -1,6 +1,6 @@
 //! One traced thread of a run.
 
-ghost use Rattle.std.specs.Prelude.{◌≡◌, ◌<◌, ◌+◌, ◌-◌, ◌^◌, ◌++◌, [], List, length, true, false, IfSome};
+ghost use Rattle.std.specs.Prelude.{◌≡◌, ◌≢◌, ◌<◌, ◌+◌, ◌-◌, ◌^◌, ◌++◌, [], List, length, true, false, IfSome};
 ghost use Rattle.fdr_record.specs.declared.event.Event.{Event};
 ghost use Rattle.machine_step.specs.Events.{events_in};
 ghost use Rattle.sled_rule.specs.Seats.{patch_view, work_view, script_of, IsPatcherOf, IsWorkerOf};
@@ -23,14 +23,9 @@ pub enum Turn {
     Held,
 }
 
-/// What a load led to.
-#[derive(Clone, Copy)]
-enum Progress {
-    /// The thread wants another word, or it has made its passing.
-    Loaded,
-    /// It wants the same word again: its release word, which is 0.
-    Held,
-}
+/// How many words keep two workers of a list apart: 128 bytes, since processors fetch cache lines
+/// in pairs.
+const APART: usize = 16;
 
 /// A traced thread, with its seat of a code table and a recorder of its events.
 #[derive(Drop)]
@@ -39,6 +34,8 @@ pub struct Worker<'s, 't, R> {
     seat: WorkSeat,
     table: &'t CodeTable,
     recorder: R,
+    /// Nothing is kept here. It gives each worker cache lines of its own.
+    apart: [u64; APART],
 }
 
 impl<'s, 't, R: Recorder> Worker<'s, 't, R> {
@@ -61,6 +58,7 @@ impl<'s, 't, R: Recorder> Worker<'s, 't, R> {
             seat,
             table,
             recorder,
+            apart: [0; APART],
         }
     }
 
@@ -91,14 +89,14 @@ impl<'s, 't, R: Recorder> Worker<'s, 't, R> {
         ensures held { (result ≡ Turn.Held) → IsGoing R.stands self.new × HasMade true self.old self.new }
         ensures done { (result ≡ Turn.Done) → HasEnded R.stands self.new × HasMade false self.old self.new }
     {
+        let mut want = self.cpu.want();
         'loads: loop {
-            match self.cpu.want() {
-                Want::Gate(passing) => self.open(gate, passing),
-                Want::Load(word) => {
-                    if let Progress::Held = self.load(word) {
-                        return Turn::Held;
-                    }
-                }
+            match want {
+                Want::Gate(passing) => want = self.open(gate, passing),
+                Want::Load(word) => match self.load(word) {
+                    Want::Load(same) if same == word => return Turn::Held,
+                    next => want = next,
+                },
                 Want::Done(_) => {
                     self.finish();
                     return Turn::Done;
@@ -107,43 +105,51 @@ impl<'s, 't, R: Recorder> Worker<'s, 't, R> {
         }
     }
 
-    /// Passes the gate, and lets the thread into the passing that it wants to be let into.
-    fn open<G: Gate>(&mut self, gate: &G, passing: u32)
+    /// Passes the gate, and lets the thread into the passing that it wants to be let into. Answers
+    /// what the thread wants then.
+    fn open<G: Gate>(&mut self, gate: &G, passing: u32) -> Want
         requires going { IsGoing R.stands self.old }
         requires gate { (cpu_of self.old).want ≡ Want.Gate passing }
         ensures same { IsSameWorker R.follows self.old self.new }
         ensures going { IsGoing R.stands self.new }
         ensures loads { loads_of self.new ≡ loads_of self.old }
         ensures nearer { loads_left (cpu_of self.new) < loads_left (cpu_of self.old) }
+        ensures want { result ≡ (cpu_of self.new).want }
+        ensures there { IsLoadable (cpu_of self.new) (cpu_of self.new).want }
     {
         gate.before(self.cpu.thread(), passing);
         self.cpu.opened();
+        self.cpu.want()
     }
 
     /// Makes the load of the word that the thread wants. If that ends the passing, counts it.
-    fn load(&mut self, word: u32) -> Progress
+    /// Answers what the thread wants then: the same word again if its release word held it.
+    fn load(&mut self, word: u32) -> Want
         requires going { IsGoing R.stands self.old }
         requires wants { (cpu_of self.old).want ≡ Want.Load word }
         requires there { IsLoadable (cpu_of self.old) (cpu_of self.old).want }
         ensures same { IsSameWorker R.follows self.old self.new }
         ensures going { IsGoing R.stands self.new }
-        ensures held { (result ≡ Progress.Held) → HasMade true self.old self.new }
-        ensures loaded { (result ≡ Progress.Loaded) → HasMade false self.old self.new }
-        ensures nearer { (result ≡ Progress.Loaded)
+        ensures held { (result ≡ Want.Load word) → HasMade true self.old self.new }
+        ensures loaded { (result ≢ Want.Load word) → HasMade false self.old self.new }
+        ensures nearer { (result ≢ Want.Load word)
             → loads_left (cpu_of self.new) < loads_left (cpu_of self.old) }
+        ensures want { result ≡ (cpu_of self.new).want }
+        ensures there { IsLoadable (cpu_of self.new) (cpu_of self.new).want }
     {
         self.take(word);
-        match self.cpu.want() {
-            Want::Load(next) if next == word => Progress::Held,
-            Want::Load(_) => Progress::Loaded,
+        let next = self.cpu.want();
+        match next {
+            Want::Load(_) => next,
             Want::Gate(_) | Want::Done(_) => {
                 self.tell();
-                Progress::Loaded
+                next
             }
         }
     }
 
-    /// Loads a word, gives its value to the thread, and notes the event that comes of it.
+    /// Loads a word, gives its value to the thread, and notes the event that results, if there is
+    /// one.
     fn take(&mut self, word: u32)
         requires going { IsGoing R.stands self.old }
         requires wants { (cpu_of self.old).want ≡ Want.Load word }

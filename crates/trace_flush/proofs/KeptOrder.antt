@@ -6,12 +6,12 @@ use Rattle.std.proofs.lemmas.List.Concat.{flat_map-cons}
 use Rattle.std.proofs.lemmas.List.Elements.{All-from_recursion, recursion_from_All, filter-append}
 use Rattle.std.proofs.lemmas.List.Kept.{AllPairs-cons}
 use Rattle.fdr_record.specs.declared.event.Event.{Event}
-use Rattle.fdr_buffer.specs.Filled.{Filled}
+use Rattle.fdr_buffer.specs.Filled.{Filled, has_event}
 use Rattle.fdr_buffer.specs.Segments.{segments}
 use Rattle.machine_step.specs.declared.setup.Setup.{Setup}
 use Rattle.traced_run.specs.Kept.{buffer_of, kept_buffers, segments_of, stamp_of, thread_buffers}
 use Rattle.traced_run.specs.Runs.{ThreadRun, events_of}
-use Rattle.trace_flush.specs.Arranged.{IsBefore, has_event}
+use Rattle.trace_flush.specs.Arranged.{IsBefore}
 
 -- each of the first list comes before each of the second
 abbrev AllBefore : List Filled → List Filled → Type 0

@@ -40,7 +40,7 @@ thread_blocks setup (thread, run) = map (block_of setup thread) (kept_of setup.s
 
 -- The bytes are the trace of a run. By the grammar of trace files, they are a header with the setup's frequency and
 -- size of buffers, and blocks. The blocks of each thread are the last whole segments of exactly the entries and exits
--- that its marks record. Only its oldest segments may be missing, which are lost. If the run has lost no segment, the
+-- that its marks record. Only its lost segments are missing, which are its oldest. If the run has lost no segment, the
 -- blocks hold all of these events. The blocks are ordered by thread, and those of a thread by segment. There are no
 -- others.
 pub record IsTraceOf (setup : Setup) (runs : List ThreadRun) (bytes : List ℕ) : Type 0 where

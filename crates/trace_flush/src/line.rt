@@ -16,7 +16,7 @@ pub struct AuditLine {
     /// How many segments its events were cut into, including the recycled ones. Each segment had a
     /// buffer.
     pub segments: u32,
-    /// How many of its segments were lost because their buffers were taken again. These are its
+    /// How many of its segments were lost because their buffers were used again. These are its
     /// first ones.
     pub first: u32,
 }
@@ -33,7 +33,7 @@ fn end(cpu: &Cpu) -> End
 }
 
 /// Adds the lines of the threads of a run, by the numbers of their segments and of their lost
-/// segments. `lines` has to have room for them.
+/// segments. `lines` needs room for them.
 pub fn add_audit_lines(cpus: &[Cpu], segments: &[u32], first: &[u32], lines: &mut Vec<AuditLine>)
     requires done { All (λ cpu. IsDone cpu.want) cpus.now }
     requires segments { length segments.now ≡ length cpus.now }

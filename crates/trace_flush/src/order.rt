@@ -1,11 +1,11 @@
 //! The order of a flush.
 
 ghost use Rattle.std.specs.Prelude.{◌≡◌, All, List, IsPermutation, IsTrue, AllPairs, filter};
-ghost use Rattle.fdr_buffer.specs.Filled.{Filled};
+ghost use Rattle.fdr_buffer.specs.Filled.{Filled, has_event};
 ghost use Rattle.machine_step.specs.declared.setup.Setup.{Setup};
 ghost use Rattle.traced_run.specs.Kept.{kept_buffers};
 ghost use Rattle.traced_run.specs.Runs.{ThreadRun};
-ghost use Rattle.trace_flush.specs.Arranged.{has_event, IsBefore};
+ghost use Rattle.trace_flush.specs.Arranged.{IsBefore};
 
 use fdr_buffer::{Buffer, segments_hold_all};
 

@@ -9,6 +9,7 @@ use Rattle.xray_image.specs.Program.{IsAccepted, Program}
 use Rattle.handler_word.specs.declared.mark.Mark.{Mark}
 use Rattle.handler_word.specs.MarkList.{is_recorded}
 use Rattle.fdr_record.specs.declared.event.Event.{Event}
+use Rattle.fdr_buffer.specs.declared.buffer.TheConstants.{LEAST_SIZE}
 use Rattle.fdr_buffer.specs.Fits.{BufferFits}
 use Rattle.fdr_buffer.specs.Segments.{EventFits, body, has_room, segments}
 use Rattle.machine_step.specs.declared.setup.Setup.{Setup}
@@ -62,7 +63,7 @@ segments_fit size (s ∷ segs) (here, rest) fit =
 
 -- the laws of segments
 abbrev pub HaveRoom : Type 0
-HaveRoom = (size : ℕ) (events : List Event) → 72 ≤ size → All (λ s. IsTrue (has_room size s)) (segments size events)
+HaveRoom = (size : ℕ) (events : List Event) → LEAST_SIZE ≤ size → All (λ s. IsTrue (has_room size s)) (segments size events)
 
 abbrev pub BodiesHaveRoom : Type 0
 BodiesHaveRoom =

@@ -1,4 +1,4 @@
--- The threads of a run, however their loads fall between the patcher's stores.
+-- The threads of a run, whatever the order of their loads and the patcher's stores.
 use Rattle.std.specs.Prelude.{◌≡◌, ◌+◌, ℕ, List, length, slice_get, Some}
 use Rattle.xray_image.specs.Program.{Program}
 use Rattle.handler_word.specs.declared.mark.Mark.{Mark}

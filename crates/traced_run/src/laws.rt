@@ -17,8 +17,8 @@ use fdr_buffer::{a_body_has_room, segments_hold_all};
 
 /// No event of a thread falls between its segments. The events of as many of the first segments as
 /// are lost, and then those of the segments that are left, are all events that its marks record.
-/// That the first ones are those that are lost is said where a run is made: of a replay it is the
-/// law `lost_segments_are_the_oldest` of `step_sim`.
+/// Whatever makes a run says that the lost segments are the first ones: for a replay it is the law
+/// `lost_segments_are_the_oldest` of `step_sim`.
 pub fn lost_and_left_segments_hold_all()
     ensures { (size : ℕ) (run : ThreadRun)
         → flat_map (λ s. s) (take run.lost (segments_of size run)) ++ flat_map (λ s. s) (kept_of size run)
@@ -39,8 +39,8 @@ pub fn a_run_without_losses_is_whole()
     segments_hold_all();
 }
 
-/// The ids of a plain run's passings fit the records of events. So do their stamps, if there is a
-/// processor, and no more of them than the field can count.
+/// The ids of a plain run's passings fit the records of events. So do their stamps, if there is at
+/// least one processor, and at most as many as the field can count.
 pub fn passings_fit()
     ensures ids { (bytes : List ℕ) (program : Program) (limits : Limits) (thread : ℕ)
         (passed : List Passing) (end : End) (last : State) → IsAccepted bytes program
@@ -61,8 +61,8 @@ pub fn a_run_fits_its_buffers()
     a_body_has_room();
 }
 
-/// However many spare buffers the threads of a run share, some losses of theirs are those of a queue
-/// with these buffers.
+/// However many spare buffers the threads of a run share, there are losses that are those of a
+/// queue with these buffers.
 pub fn some_losses_are_of_a_queue()
     ensures { (size spare : ℕ) (runs : List ThreadRun)
         → (others : List ThreadRun) × (without_losses others ≡ without_losses runs) × AreLost size spare others }

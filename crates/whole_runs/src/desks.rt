@@ -4,7 +4,7 @@ ghost use Rattle.xray_io.specs.Desk.{Untold};
 
 use xray_io::{Desk, Failed, MemDesk, ReadFail};
 
-/// A desk that reads and writes one byte a call.
+/// A desk that reads and writes one byte per call.
 #[derive(Drop)]
 pub struct Trickle {
     desk: MemDesk,

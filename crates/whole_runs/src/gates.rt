@@ -11,7 +11,7 @@ use xray_io::Gate;
 /// The text of the image of the first example.
 const OUTPUTS_AN_A: &str = "base 0x1000\nfn main always\nmov eax, 65\nout 1\nret\n";
 
-/// How often a gate looks for what it waits for before it gives up.
+/// How often a gate looks for what it waits for, before it gives up.
 const TURNS: u32 = 5_000_000;
 
 /// A sign that one thread gives and others see.

@@ -25,7 +25,7 @@ pub(crate) struct RunningSums {
 }
 
 impl RunningSums {
-    /// No numbers yet. Asks for the room of `room` numbers.
+    /// No numbers yet. Asks for room for `room` numbers.
     pub(crate) fn with_room(alloc: Global, room: usize) -> Result<RunningSums, AllocError>
         ensures sums { IfOk result (λ sums. sums_in sums ≡ []) }
         ensures total { IfOk result (λ sums. sums.total ≡ 0) }

@@ -44,8 +44,8 @@ pub(crate) struct UnitTable {
 }
 
 impl UnitTable {
-    /// A table without units, for a code whose first byte has the address `base`. It asks for the
-    /// room of all units that a code of this length may have.
+    /// A table without units, for a code whose first byte has the address `base`. It asks for
+    /// room for as many units as a code of this length may have.
     pub(crate) fn new(alloc: Global, base: u64, code: &[u8]) -> Result<UnitTable, AllocError>
         requires low { base < 2 ^ 63 }
         requires short { length code.now < 2 ^ 32 }

@@ -1,5 +1,5 @@
 -- Reads and writes, one after the other.
-use Rattle.std.proofs.Common.{◌≡◌, ℕ, ◌+◌, ◌-◌, ◌<◌, ◌≤◌, List, [], ◌∷◌, ◌++◌, Vec, Result, Ok, Err, Option, length, take, drop, refl, sym, ap, subst, ◌∙◌, arith, length-take}
+use Rattle.std.proofs.Common.{◌≡◌, ℕ, ◌+◌, ◌-◌, ◌<◌, ◌≤◌, List, [], ◌∷◌, ◌++◌, Vec, Result, Ok, Err, Option, length, take, drop, refl, sym, ap, subst, arith, length-take}
 use Rattle.std.specs.Result.{IsErrAnd}
 use Rattle.std.specs.declared.alloc.Global.{Global}
 use Rattle.std.proofs.lemmas.List.{drop-drop, take-append-drop, take_rest}
@@ -11,7 +11,7 @@ use Rattle.xray_io.specs.Calls.{Call, Read, Write, Wrote, Went, Composes, went_o
 use Rattle.xray_io.specs.Faults.{Rose}
 use Rattle.xray_io.specs.Reads.{IsPiece, IsReading, Reads, ReadsUpTo}
 use Rattle.xray_io.specs.Sink.{Adds}
-use Rattle.xray_io.specs.Writes.{Answer, Sends, adds_none, sends_rest}
+use Rattle.xray_io.specs.Writes.{Sends, adds_none, sends_rest}
 
 -- ---- reads
 

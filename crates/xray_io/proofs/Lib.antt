@@ -3,4 +3,3 @@ pub mod Gathering
 pub mod HexDigits
 pub mod Pieces
 pub mod Reading
-pub mod Writing

@@ -1,5 +1,5 @@
 -- The calls of a desk and of a sink, in the order in which they were made.
-use Rattle.std.specs.Prelude.{ℕ, List, [], ◌∷◌, ◌++◌, Result}
+use Rattle.std.specs.Prelude.{ℕ, List, [], ◌++◌, Result}
 use Rattle.xray_io.specs.declared.faults.Failed.{Failed}
 use Rattle.xray_io.specs.declared.faults.ReadFail.{ReadFail}
 

@@ -1,5 +1,5 @@
 -- A name of a desk as a sink.
-use Rattle.std.specs.Prelude.{◌≡◌, ◌≢◌, ℕ, List, [], ◌++◌, map, Option, Some, None, refl}
+use Rattle.std.specs.Prelude.{◌≡◌, ◌≢◌, ℕ, List, [], map, Option, Some, None, refl}
 use mathlib.Core.Path.{sym, ap, subst, ◌∙◌}
 use mathlib.Core.List.{map-append}
 use Rattle.xray_io.specs.Calls.{Call, Write, append_call, HoldsOfNone, Composes}

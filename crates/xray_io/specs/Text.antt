@@ -7,7 +7,6 @@ use Rattle.std.proofs.lemmas.List.{append-nil, length-append}
 use Rattle.xray_io.specs.Calls.{Write, HoldsOfNone, Composes}
 use Rattle.xray_io.specs.Writes.{Answer, Sends, WritesText, sends_nothing, sends_on, sends_rest, sends_stop, sends_failed}
 use Rattle.xray_io.specs.declared.faults.WriteFault.{WriteFault}
-use Rattle.xray_io.specs.Sink.{Adds, AddsPrefix}
 use Rattle.xray_io.specs.declared.text.Text.{Text}
 
 -- the sink that it writes to
@@ -25,32 +24,6 @@ waiting text = text.waiting
 -- the most bytes that a Text lets wait
 abbrev pub most_waiting : ℕ
 most_waiting = 4096
-
--- Since its sink was at `start`, the Text was given these bytes. A prefix was written, and the rest waits.
-pub record Gathers {S : Type 0} (written : S → Option (List ℕ)) (start : Option (List ℕ)) (text : Text S) (given : List ℕ) : Type 0 where
-  pub front : List ℕ
-  pub told : Adds start (written (sink_of text)) front
-  pub rest : given ≡ front ++ waiting text
-
--- it was given these bytes more
-abbrev pub Gains : {S : Type 0} → (S → Option (List ℕ)) → Text S → Text S → List ℕ → Type 0
-Gains written old new bytes = (start : Option (List ℕ)) (given : List ℕ) → Gathers written start old given → Gathers written start new (given ++ bytes)
-
--- a call failed: of all that the Text was given, these bytes at the end, a prefix was written
-abbrev pub Breaks : {S : Type 0} → (S → Option (List ℕ)) → Text S → S → List ℕ → Type 0
-Breaks written old sink bytes = (start : Option (List ℕ)) (given : List ℕ) → Gathers written start old given → AddsPrefix start (written sink) (given ++ bytes)
-
--- a Text that nothing is done to was given nothing more
-abbrev pub GainsNothing : {S : Type 0} → (S → Option (List ℕ)) → Type 0
-GainsNothing {S = S} written = (text : Text S) → Gains written text text []
-
--- what one call gains and then another gains is gained by both
-abbrev pub GainsAddUp : {S : Type 0} → (S → Option (List ℕ)) → Type 0
-GainsAddUp {S = S} written = (first second third : Text S) (x y : List ℕ) → Gains written first second x → Gains written second third y → Gains written first third (x ++ y)
-
--- bytes are gained, and then a call fails before the last bytes: a prefix of the whole is written
-abbrev pub BreaksOnTheWay : {S : Type 0} → (S → Option (List ℕ)) → Type 0
-BreaksOnTheWay {S = S} written = (first second : Text S) (sink : S) (x y z whole : List ℕ) → Gains written first second x → Breaks written second sink y → (x ++ y) ++ z ≡ whole → Breaks written first sink whole
 
 -- these bytes only wait: the sink wasn't called
 pub record Waits {S : Type 0} (old new : Text S) (bytes : List ℕ) (answer : Answer) : Type 0 where

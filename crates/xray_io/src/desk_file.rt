@@ -25,23 +25,17 @@ impl<'a, D: Desk> DeskFile<'a, D> {
 }
 
 impl<D: Desk> Sink for DeskFile<'_, D> {
-    ghost use Rattle.xray_io.specs.DeskFile.{desk_of, name_of, bytes_of, WritesOn, AppendsAlong, writes_nothing, writes_both, appends_nothing, appends_both};
+    ghost use Rattle.xray_io.specs.DeskFile.{desk_of, name_of, bytes_of, AppendsAlong, appends_nothing, appends_both};
 
     ghost written = { λ file. bytes_of (D.held (desk_of file) (name_of file)) };
 
     ghost faults = { λ file. D.write_faults (desk_of file) };
-
-    ghost follows = { WritesOn D.held D.read_faults };
 
     ghost along = { AppendsAlong D.held D.read_faults D.along };
 
     fn write(&mut self, bytes: &[u8]) -> Result<usize, Failed> {
         self.desk.append(self.name, bytes)
     }
-
-    ghost follows_itself = { writes_nothing D.held D.read_faults };
-
-    ghost follows_along = { writes_both D.held D.read_faults };
 
     ghost along_none = { appends_nothing D.held D.read_faults D.along D.along_none };
 

@@ -344,8 +344,6 @@ impl Sink for MemSink {
 
     ghost faults = { sink_faults };
 
-    ghost follows = { λ _ _. Unit {0} };
-
     ghost along = { λ _ _ _. Unit {0} };
 
     /// Fails exactly when this call is to fail or an allocation is refused. Otherwise it takes all
@@ -372,7 +370,6 @@ impl Sink for MemSink {
         ensures failed { OnErr result (Rose (sink_faults self.old) (sink_faults self.new)) }
         ensures later { sink_faults self.old ≤ sink_faults self.new }
         ensures calm { OnOk result (sink_faults self.new ≡ sink_faults self.old) }
-        ensures follows { Unit {0} }
         ensures along { Unit {0} }
     {
         if self.calls.count_call() {
@@ -388,10 +385,6 @@ impl Sink for MemSink {
             }
         }
     }
-
-    ghost follows_itself = { λ _. tt };
-
-    ghost follows_along = { λ _ _ _ _ _. tt };
 
     ghost along_none = { λ _. tt };
 

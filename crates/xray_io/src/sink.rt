@@ -14,12 +14,8 @@ pub trait Sink {
     /// How many writes have failed.
     ghost faults: { Self → ℕ };
 
-    /// What stays the same of all that the sink writes to, from one state of the sink to a later
-    /// one.
-    ghost follows: { Self → Self → Type 0 };
-
     /// These writes, in this order and no others, lead from the first state of the sink to the
-    /// second.
+    /// second, and what the sink writes to stays the same otherwise.
     ghost along: { Self → Self → List Write → Type 0 };
 
     /// Writes a prefix of `bytes` at the end, and answers its length. The length is 0 only if
@@ -33,16 +29,7 @@ pub trait Sink {
         ensures failed { OnErr result (Rose (faults self.old) (faults self.new)) }
         ensures later { faults self.old ≤ faults self.new }
         ensures calm { OnOk result (faults self.new ≡ faults self.old) }
-        ensures follows { follows self.old self.new }
         ensures along { along self.old self.new (Wrote (length bytes.now) result ∷ []) };
-
-    /// Each state follows itself.
-    ghost follows_itself: { (sink : Self) → follows sink sink };
-
-    /// If a second state follows the first and a third follows the second, then the third follows
-    /// the first.
-    ghost follows_along: { (first second third : Self) →
-        follows first second → follows second third → follows first third };
 
     /// No writes lead from a state to itself.
     ghost along_none: { HoldsOfNone along };

@@ -183,7 +183,7 @@ impl<R: Files + AllocGlobal> Desk for FileDesk<R> {
     }
 }
 
-/// The standard output, or another stream that text is printed to.
+/// A stream that text is printed to, as the standard output is.
 #[derive(Drop)]
 pub struct OutSink<P> {
     to: P,
@@ -191,11 +191,11 @@ pub struct OutSink<P> {
 }
 
 impl<P: Print> OutSink<P> {
-    /// A sink over the standard output, which the runtime prints to.
-    pub fn new(rt: P) -> Self
+    /// A sink over a stream: over the standard output if `to` is the runtime.
+    pub fn new(to: P) -> Self
         ensures { ⟦<OutSink<P> as Sink>⟧.faults result ≡ 0 }
     {
-        OutSink { to: rt, faults: 0 }
+        OutSink { to, faults: 0 }
     }
 }
 
@@ -204,17 +204,11 @@ impl<P: Print> Sink for OutSink<P> {
 
     ghost faults = { λ sink. sink.faults };
 
-    ghost follows = { λ _ _. Unit {0} };
-
     ghost along = { λ _ _ _. Unit {0} };
 
     fn write(&mut self, bytes: &[u8]) -> Result<usize, Failed> {
         write_some(&mut io::writer(&self.to), bytes, &mut self.faults)
     }
-
-    ghost follows_itself = { λ _. tt };
-
-    ghost follows_along = { λ _ _ _ _ _. tt };
 
     ghost along_none = { λ _. tt };
 
@@ -222,45 +216,7 @@ impl<P: Print> Sink for OutSink<P> {
 }
 
 /// The standard error, as `rt.stderr()` gives it.
-#[derive(Drop)]
-pub struct ErrSink<P> {
-    to: P,
-    faults: u64,
-}
-
-impl<P: Print> ErrSink<P> {
-    /// A sink over the standard error.
-    pub fn new(stderr: P) -> Self
-        ensures { ⟦<ErrSink<P> as Sink>⟧.faults result ≡ 0 }
-    {
-        ErrSink {
-            to: stderr,
-            faults: 0,
-        }
-    }
-}
-
-impl<P: Print> Sink for ErrSink<P> {
-    ghost written = { λ _. None };
-
-    ghost faults = { λ sink. sink.faults };
-
-    ghost follows = { λ _ _. Unit {0} };
-
-    ghost along = { λ _ _ _. Unit {0} };
-
-    fn write(&mut self, bytes: &[u8]) -> Result<usize, Failed> {
-        write_some(&mut io::writer(&self.to), bytes, &mut self.faults)
-    }
-
-    ghost follows_itself = { λ _. tt };
-
-    ghost follows_along = { λ _ _ _ _ _. tt };
-
-    ghost along_none = { λ _. tt };
-
-    ghost along_both = { λ _ _ _ _ _ _ _. tt };
-}
+pub type ErrSink<P> = OutSink<P>;
 
 /// Writes a prefix of the bytes. An error is a fault, and so is a write that took none of them.
 fn write_some<W: Write>(to: &mut W, bytes: &[u8], faults: &mut u64) -> Result<usize, Failed>

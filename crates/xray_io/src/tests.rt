@@ -81,17 +81,11 @@ impl Sink for Sips {
 
     ghost faults = { λ _. 2 ^ 64 };
 
-    ghost follows = { λ _ _. Unit {0} };
-
     ghost along = { λ _ _ _. Unit {0} };
 
     fn write(&mut self, bytes: &[u8]) -> Result<usize, Failed> {
         self.sink.write(&bytes[..bytes.len().min(3)])
     }
-
-    ghost follows_itself = { λ _. tt };
-
-    ghost follows_along = { λ _ _ _ _ _. tt };
 
     ghost along_none = { λ _. tt };
 

@@ -1,9 +1,7 @@
 //! Text, gathered on its way to a sink.
-ghost use Rattle.std.specs.Prelude.{◌≡◌, ℕ, ◌+◌, ◌<◌, ◌≤◌, [], List, length, replicate, Option, OnOk, OnErr};
+ghost use Rattle.std.specs.Prelude.{◌≡◌, ◌+◌, ◌<◌, ◌≤◌, [], length, replicate, OnOk};
 ghost use Rattle.std.specs.Fmt.{decimal};
 ghost use Rattle.xray_io.specs.Piece.{piece_text, text_of, hexadecimal, right_aligned};
-ghost use Rattle.xray_io.specs.Faults.{Rose};
-ghost use Rattle.xray_io.specs.Sink.{Adds, AddsPrefix};
 ghost use Rattle.xray_io.specs.Writes.{Sends, WritesText};
 
 use crate::digits::{MOST_DIGITS, ZERO, put_digits};
@@ -28,11 +26,10 @@ pub struct Text<'a, S> {
 }
 
 impl<'a, S: Sink> Text<'a, S> {
-    ghost use Rattle.xray_io.specs.Text.{sink_of, loan_of, waiting, most_waiting, Gathers, Gains, Breaks, AddsText, Waits};
+    ghost use Rattle.xray_io.specs.Text.{sink_of, loan_of, waiting, most_waiting, AddsText, Waits};
 
     /// An empty text for this sink.
     pub fn new(sink: &'a mut S) -> Self
-        ensures empty { Gathers S.written (S.written sink.old) result [] }
         ensures sink { sink_of result ≡ sink.old }
         ensures waits { waiting result ≡ [] }
         ensures loan { loan_of result ≡ sink.entry.ghost_name }
@@ -46,10 +43,6 @@ impl<'a, S: Sink> Text<'a, S> {
     /// Writes what waits.
     fn flush(&mut self) -> Result<(), WriteFault>
         ensures empty { OnOk result (waiting self.new ≡ []) }
-        ensures failed { OnErr result
-            (Rose (S.faults (sink_of self.old)) (S.faults (sink_of self.new))) }
-        ensures later { S.faults (sink_of self.old) ≤ S.faults (sink_of self.new) }
-        ensures follows { S.follows (sink_of self.old) (sink_of self.new) }
         ensures loan { loan_of self.new ≡ loan_of self.old }
         ensures sends { Sends S.written S.faults S.along (sink_of self.old) (sink_of self.new)
             (waiting self.old) (waiting self.new) result }
@@ -63,10 +56,6 @@ impl<'a, S: Sink> Text<'a, S> {
     fn make_room(&mut self, len: usize) -> Result<(), WriteFault>
         ensures room { OnOk result (most_waiting < length (waiting self.new) + len →
             waiting self.new ≡ []) }
-        ensures failed { OnErr result
-            (Rose (S.faults (sink_of self.old)) (S.faults (sink_of self.new))) }
-        ensures later { S.faults (sink_of self.old) ≤ S.faults (sink_of self.new) }
-        ensures follows { S.follows (sink_of self.old) (sink_of self.new) }
         ensures loan { loan_of self.new ≡ loan_of self.old }
         ensures fits { length (waiting self.old) + len ≤ most_waiting →
             Waits self.old self.new [] result }
@@ -84,11 +73,6 @@ impl<'a, S: Sink> Text<'a, S> {
     fn put(&mut self, bytes: &[u8]) -> Result<(), WriteFault>
         requires room { most_waiting < length (waiting self.old) + length bytes.now →
             waiting self.old ≡ [] }
-        ensures failed { OnErr result
-            (Rose (S.faults (sink_of self.old)) (S.faults (sink_of self.new))) }
-        ensures later { S.faults (sink_of self.old) ≤ S.faults (sink_of self.new) }
-        ensures follows { S.follows (sink_of self.old) (sink_of self.new) }
-        ensures loan { loan_of self.new ≡ loan_of self.old }
         ensures adds { AddsText S.written S.faults S.along self.old self.new bytes.now result }
         ensures few { OnOk result (length (waiting self.new) ≤ most_waiting) }
     {
@@ -101,13 +85,6 @@ impl<'a, S: Sink> Text<'a, S> {
 
     /// Adds these bytes. They only wait if there is room for them beside those that wait.
     pub fn bytes(&mut self, bytes: &[u8]) -> Result<(), WriteFault>
-        ensures gains { OnOk result (Gains S.written self.old self.new bytes.now) }
-        ensures breaks { OnErr result (Breaks S.written self.old (sink_of self.new) bytes.now) }
-        ensures failed { OnErr result
-            (Rose (S.faults (sink_of self.old)) (S.faults (sink_of self.new))) }
-        ensures later { S.faults (sink_of self.old) ≤ S.faults (sink_of self.new) }
-        ensures follows { S.follows (sink_of self.old) (sink_of self.new) }
-        ensures loan { loan_of self.new ≡ loan_of self.old }
         ensures adds { AddsText S.written S.faults S.along self.old self.new bytes.now result }
         ensures few { OnOk result (length (waiting self.new) ≤ most_waiting) }
     {
@@ -117,13 +94,6 @@ impl<'a, S: Sink> Text<'a, S> {
 
     /// Adds a number in decimal digits, without leading zeros.
     pub fn number(&mut self, n: u128) -> Result<(), WriteFault>
-        ensures gains { OnOk result (Gains S.written self.old self.new (decimal n)) }
-        ensures breaks { OnErr result (Breaks S.written self.old (sink_of self.new) (decimal n)) }
-        ensures failed { OnErr result
-            (Rose (S.faults (sink_of self.old)) (S.faults (sink_of self.new))) }
-        ensures later { S.faults (sink_of self.old) ≤ S.faults (sink_of self.new) }
-        ensures follows { S.follows (sink_of self.old) (sink_of self.new) }
-        ensures loan { loan_of self.new ≡ loan_of self.old }
         ensures adds { AddsText S.written S.faults S.along self.old self.new (decimal n) result }
     {
         let mut digits = itoa::Buffer::new();
@@ -132,11 +102,6 @@ impl<'a, S: Sink> Text<'a, S> {
 
     /// Adds a byte `count` times, several at a time.
     fn fill(&mut self, byte: u8, count: usize) -> Result<(), WriteFault>
-        ensures failed { OnErr result
-            (Rose (S.faults (sink_of self.old)) (S.faults (sink_of self.new))) }
-        ensures later { S.faults (sink_of self.old) ≤ S.faults (sink_of self.new) }
-        ensures follows { S.follows (sink_of self.old) (sink_of self.new) }
-        ensures loan { loan_of self.new ≡ loan_of self.old }
         ensures adds { AddsText S.written S.faults S.along self.old self.new (replicate count byte) result }
     {
         let filled = [byte; FILLED];
@@ -152,14 +117,6 @@ impl<'a, S: Sink> Text<'a, S> {
     /// Adds a number in decimal digits, with spaces before it up to `width` places. A longer number
     /// is added whole.
     pub fn right(&mut self, n: u128, width: usize) -> Result<(), WriteFault>
-        ensures gains { OnOk result (Gains S.written self.old self.new (right_aligned n width)) }
-        ensures breaks { OnErr result
-            (Breaks S.written self.old (sink_of self.new) (right_aligned n width)) }
-        ensures failed { OnErr result
-            (Rose (S.faults (sink_of self.old)) (S.faults (sink_of self.new))) }
-        ensures later { S.faults (sink_of self.old) ≤ S.faults (sink_of self.new) }
-        ensures follows { S.follows (sink_of self.old) (sink_of self.new) }
-        ensures loan { loan_of self.new ≡ loan_of self.old }
         ensures adds { AddsText S.written S.faults S.along self.old self.new (right_aligned n width) result }
     {
         let mut digits = itoa::Buffer::new();
@@ -171,14 +128,6 @@ impl<'a, S: Sink> Text<'a, S> {
     /// Adds a number in lower-case hexadecimal digits, with zeros before it up to `digits` digits.
     /// A longer number is added whole.
     pub fn hex(&mut self, n: u64, digits: usize) -> Result<(), WriteFault>
-        ensures gains { OnOk result (Gains S.written self.old self.new (hexadecimal n digits)) }
-        ensures breaks { OnErr result
-            (Breaks S.written self.old (sink_of self.new) (hexadecimal n digits)) }
-        ensures failed { OnErr result
-            (Rose (S.faults (sink_of self.old)) (S.faults (sink_of self.new))) }
-        ensures later { S.faults (sink_of self.old) ≤ S.faults (sink_of self.new) }
-        ensures follows { S.follows (sink_of self.old) (sink_of self.new) }
-        ensures loan { loan_of self.new ≡ loan_of self.old }
         ensures adds { AddsText S.written S.faults S.along self.old self.new (hexadecimal n digits) result }
     {
         let mut buffer = [0; MOST_DIGITS];
@@ -189,14 +138,6 @@ impl<'a, S: Sink> Text<'a, S> {
 
     /// Adds a piece.
     pub fn piece(&mut self, piece: &Piece) -> Result<(), WriteFault>
-        ensures gains { OnOk result (Gains S.written self.old self.new (piece_text piece.now)) }
-        ensures breaks { OnErr result
-            (Breaks S.written self.old (sink_of self.new) (piece_text piece.now)) }
-        ensures failed { OnErr result
-            (Rose (S.faults (sink_of self.old)) (S.faults (sink_of self.new))) }
-        ensures later { S.faults (sink_of self.old) ≤ S.faults (sink_of self.new) }
-        ensures follows { S.follows (sink_of self.old) (sink_of self.new) }
-        ensures loan { loan_of self.new ≡ loan_of self.old }
         ensures adds { AddsText S.written S.faults S.along self.old self.new (piece_text piece.now) result }
     {
         match *piece {
@@ -209,14 +150,6 @@ impl<'a, S: Sink> Text<'a, S> {
 
     /// Adds pieces, one after the other.
     pub fn pieces(&mut self, pieces: &[Piece]) -> Result<(), WriteFault>
-        ensures gains { OnOk result (Gains S.written self.old self.new (text_of pieces.now)) }
-        ensures breaks { OnErr result
-            (Breaks S.written self.old (sink_of self.new) (text_of pieces.now)) }
-        ensures failed { OnErr result
-            (Rose (S.faults (sink_of self.old)) (S.faults (sink_of self.new))) }
-        ensures later { S.faults (sink_of self.old) ≤ S.faults (sink_of self.new) }
-        ensures follows { S.follows (sink_of self.old) (sink_of self.new) }
-        ensures loan { loan_of self.new ≡ loan_of self.old }
         ensures adds { AddsText S.written S.faults S.along self.old self.new (text_of pieces.now) result }
     {
         for piece in pieces {
@@ -227,16 +160,6 @@ impl<'a, S: Sink> Text<'a, S> {
 
     /// Writes what still waits. Then the sink has all of the text.
     pub fn done(self) -> Result<(), WriteFault>
-        ensures all { OnOk result ((start : Option (List ℕ)) (given : List ℕ) →
-            Gathers S.written start self.entry given →
-            Adds start (S.written self.exit.0.now) given) }
-        ensures breaks { OnErr result ((start : Option (List ℕ)) (given : List ℕ) →
-            Gathers S.written start self.entry given →
-            AddsPrefix start (S.written self.exit.0.now) given) }
-        ensures failed { OnErr result
-            (Rose (S.faults (sink_of self.entry)) (S.faults self.exit.0.now)) }
-        ensures later { S.faults (sink_of self.entry) ≤ S.faults self.exit.0.now }
-        ensures follows { S.follows (sink_of self.entry) self.exit.0.now }
         ensures writes { WritesText S.written S.faults S.along (sink_of self.entry)
             self.exit.0.now (waiting self.entry) result }
     {
@@ -248,13 +171,6 @@ impl<'a, S: Sink> Text<'a, S> {
 /// Writes the text of these pieces. On `WriteFault` a prefix of it was written, and the sink
 /// counted a fault.
 pub fn write_pieces<S: Sink>(sink: &mut S, pieces: &[Piece]) -> Result<(), WriteFault>
-    ensures all { OnOk result
-        (Adds (S.written sink.old) (S.written sink.new) (text_of pieces.now)) }
-    ensures front { OnErr result
-        (AddsPrefix (S.written sink.old) (S.written sink.new) (text_of pieces.now)) }
-    ensures failed { OnErr result (Rose (S.faults sink.old) (S.faults sink.new)) }
-    ensures later { S.faults sink.old ≤ S.faults sink.new }
-    ensures follows { S.follows sink.old sink.new }
     ensures writes { WritesText S.written S.faults S.along sink.old sink.new (text_of pieces.now) result }
 {
     let mut text = Text::new(sink);

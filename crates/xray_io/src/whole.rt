@@ -4,7 +4,6 @@ ghost use Rattle.xray_io.specs.Calls.{Went};
 ghost use Rattle.xray_io.specs.Desk.{Absent, Holds, IsFront};
 ghost use Rattle.xray_io.specs.Faults.{Rose};
 ghost use Rattle.xray_io.specs.Reads.{IsPiece, IsReading};
-ghost use Rattle.xray_io.specs.Sink.{Adds, AddsPrefix};
 ghost use Rattle.xray_io.specs.Writes.{WritesText};
 
 use crate::{Desk, ReadError, Sink, WriteFault};
@@ -127,13 +126,7 @@ fn add_piece<D: Desk>(
 
 /// Writes all of `bytes`. On `WriteFault` a prefix of them was written, and the sink counted a
 /// fault.
-#[tactic(auto, using(crate::proofs::Writing::adds_on, crate::proofs::Writing::front_failed))]
 pub fn write_all<S: Sink>(sink: &mut S, bytes: &[u8]) -> Result<(), WriteFault>
-    ensures all { OnOk result (Adds (S.written sink.old) (S.written sink.new) bytes.now) }
-    ensures front { OnErr result (AddsPrefix (S.written sink.old) (S.written sink.new) bytes.now) }
-    ensures failed { OnErr result (Rose (S.faults sink.old) (S.faults sink.new)) }
-    ensures later { S.faults sink.old ≤ S.faults sink.new }
-    ensures follows { S.follows sink.old sink.new }
     ensures writes { WritesText S.written S.faults S.along sink.old sink.new bytes.now result }
 {
     let mut done = 0;

@@ -5,7 +5,7 @@ use Rattle.asm_text.specs.FaultWords.{asm_words}
 use Rattle.xray_io.specs.Desk.{Entry}
 use Rattle.xray_program.specs.Asm.{AsmComes}
 use Rattle.xray_program.specs.Commands.{TellsAll}
-use Rattle.xray_program.specs.Inputs.{text_form}
+use Rattle.xray_program.specs.Inputs.{text_form, text_limit}
 use Rattle.xray_program.specs.Outcomes.{Done}
 use Rattle.xray_program.specs.Taking.{Sound}
 use Rattle.xray_program.proofs.Meanings.{AnyOutcome, HoldsBytes, IsAlone, SomeOutcome, decided_by, judged_by, some_take, take_alone}
@@ -13,13 +13,13 @@ use Rattle.xray_program.proofs.Meanings.{AnyOutcome, HoldsBytes, IsAlone, SomeOu
 pub asm_alone : (held : List ℕ → Entry) (text image : List ℕ) (threshold : ℕ) → TellsAll held
     → IsAlone AnyOutcome (AsmComes Sound held text image threshold)
 asm_alone held text image threshold told =
-    take_alone (text_form threshold) (decided_by (codes "text") 4194304 (λ bytes. assembled bytes threshold) asm_words) AnyOutcome held text
+    take_alone (text_form threshold) (decided_by (codes "text") text_limit (λ bytes. assembled bytes threshold) asm_words) AnyOutcome held text
     (λ file outcome. outcome ≡ Done ((image, file) ∷ []) []) (told text)
     (λ bytes file reads a b sort x y. y ∙ sym x)
 
 pub asm_some : (held : List ℕ → Entry) (text image : List ℕ) (threshold : ℕ) → TellsAll held → HoldsBytes held
     → SomeOutcome (AsmComes Sound held text image threshold)
 asm_some held text image threshold told holds =
-    some_take (text_form threshold) (judged_by (codes "text") 4194304 (λ bytes. assembled bytes threshold) asm_words) held text
+    some_take (text_form threshold) (judged_by (codes "text") text_limit (λ bytes. assembled bytes threshold) asm_words) held text
     (λ file outcome. outcome ≡ Done ((image, file) ∷ []) []) (told text) holds
     (λ bytes file reads. (Done ((image, file) ∷ []) [], refl))

@@ -18,7 +18,8 @@ use Rattle.patch_script.specs.declared.command.Command.{Command as PatchCommand}
 use Rattle.patch_script.specs.Refusals.{commands_of}
 use Rattle.step_sim.specs.FaultWords.{waits_words}
 use Rattle.step_sim.specs.Replay.{of_thread}
-use Rattle.step_sim.specs.Replayed.{IsReplayOf, LoseOldest, spare_of}
+use Rattle.step_sim.specs.Replayed.{IsReplayOf, LoseOldest}
+use Rattle.machine_step.specs.Buffers.{spare_of}
 use Rattle.step_sim.specs.Schedules.{schedule_of}
 use Rattle.step_sim.specs.declared.turns.Turns.{Turns}
 use Rattle.trace_flush.specs.Audit.{audit_text}

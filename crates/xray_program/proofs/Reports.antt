@@ -10,8 +10,9 @@ use Rattle.xray_image.specs.Program.{Program}
 use Rattle.xray_io.specs.Calls.{Call, Composes, Went, went_on}
 use Rattle.xray_io.specs.Desk.{Entry}
 use Rattle.xray_io.specs.World.{DeskView}
+use Rattle.command_words.specs.Limits.{trace_limit}
 use Rattle.xray_program.specs.Commands.{TellsAll}
-use Rattle.xray_program.specs.Inputs.{image_form, trace_form}
+use Rattle.xray_program.specs.Inputs.{image_form, image_limit, trace_form}
 use Rattle.xray_program.specs.Order.{ReadsAll, StopsAt}
 use Rattle.xray_program.specs.Outcomes.{Outcome}
 use Rattle.xray_program.specs.Reports.{TakeReport, report_inputs}
@@ -82,20 +83,20 @@ all_accepted held trace (Some image) t before after (Some program) same given ta
 
 -- the image was read whole, or there is none
 image_read : {S X : Type 0} (along : S → S → List Call → Type 0) → Composes along → (first second third : S) (trace : List ℕ) (image : Option (List ℕ))
-    (value : X) → Went (along first second) (ReadsAll ((trace, 67108864) ∷ []))
-    → (let result : Result X Stop = Ok value in Went (along second third) (IsMaybeTaking image 4194304 result))
+    (value : X) → Went (along first second) (ReadsAll ((trace, trace_limit) ∷ []))
+    → (let result : Result X Stop = Ok value in Went (along second third) (IsMaybeTaking image image_limit result))
     → Went (along first third) (ReadsAll (report_inputs trace image))
 image_read along both first second third trace None value went then =
-    went_on along both first second third (ReadsAll ((trace, 67108864) ∷ [])) (λ calls. calls ≡ []) (ReadsAll (report_inputs trace None)) went then
+    went_on along both first second third (ReadsAll ((trace, trace_limit) ∷ [])) (λ calls. calls ≡ []) (ReadsAll (report_inputs trace None)) went then
     (λ calls later p none. subst (ReadsAll (report_inputs trace None)) (sym (ap (λ (l : List Call). calls ++ l) none ∙ append-nil calls)) p)
 image_read along both first second third trace (Some image) value went then =
-    read_on along both first second third ((trace, 67108864) ∷ []) image 4194304 went then
+    read_on along both first second third ((trace, trace_limit) ∷ []) image image_limit went then
 
 -- both gave values
 pub both_read : {S : Type 0} (along : S → S → List Call → Type 0) → Composes along → (first second third : S) (before after : DeskView)
     (held : List ℕ → Entry) (trace : List ℕ) (image : Option (List ℕ)) (t : Trace) (program : Option Program) → before.held ≡ held
-    → Gives trace_form (held trace) t → IsMaybeTaken image_form image before after (Ok program) → Went (along first second) (ReadsAll ((trace, 67108864) ∷ []))
-    → (let result : Result (Option Program) Stop = Ok program in Went (along second third) (IsMaybeTaking image 4194304 result))
+    → Gives trace_form (held trace) t → IsMaybeTaken image_form image before after (Ok program) → Went (along first second) (ReadsAll ((trace, trace_limit) ∷ []))
+    → (let result : Result (Option Program) Stop = Ok program in Went (along second third) (IsMaybeTaking image image_limit result))
     → Went (along first third) (λ calls. AcceptsFirst (λ reads. StopsReport reads held trace image) (length (report_inputs trace image))
     × ReadsAll (report_inputs trace image) calls)
 both_read along both first second third before after held trace image t program same given taken went then =
@@ -105,15 +106,15 @@ both_read along both first second third before after held trace image t program 
 pub image_stopped : {S Y : Type 0} (along : S → S → List Call → Type 0) → Composes along → (first second third : S) (before after : DeskView)
     (held : List ℕ → Entry) (trace : List ℕ) (image : Option (List ℕ)) (t : Trace) → Gives trace_form (held trace) t
     → (result : Result Y Stop) (stop : Stop) → IsErrAnd result (λ s. s ≡ stop)
-    → IsMaybeTaken image_form image before after (Err stop) → Went (along first second) (ReadsAll ((trace, 67108864) ∷ []))
-    → (let taken : Result (Option Program) Stop = Err stop in Went (along second third) (IsMaybeTaking image 4194304 taken))
+    → IsMaybeTaken image_form image before after (Err stop) → Went (along first second) (ReadsAll ((trace, trace_limit) ∷ []))
+    → (let taken : Result (Option Program) Stop = Err stop in Went (along second third) (IsMaybeTaking image image_limit taken))
     → Went (along first third) (AreTakings (λ reads. StopsReport reads held trace image) (report_inputs trace image) result)
 image_stopped along both first second third before after held trace None t given result stop is taken went then = absurd (never taken)
   where
     never : (let one : Result (Option Program) Stop = Err stop in let other : Result (Option Program) Stop = Ok None in one ≡ other) → ⊥
     never e = cc
 image_stopped along both first second third before after held trace (Some image) t given result stop is taken went then =
-    stop_handed along both first second third image_form before after (report_inputs trace (Some image)) ((trace, 67108864) ∷ []) [] image result stop
+    stop_handed along both first second third image_form before after (report_inputs trace (Some image)) ((trace, trace_limit) ∷ []) [] image result stop
     (λ reads. StopsReport reads held trace (Some image)) (trace_accepted held trace (Some image) t given) is refl taken went then
 
 -- what comes if a turn fails, or if nothing is asked of what follows, comes whatever follows the inputs
@@ -188,7 +189,7 @@ pub report_alone : IsDecided image_form → (Sort : Outcome → Type 0) (held : 
     (next : Trace → Option Program → Outcome → Type 0) → TellsAll held → ((t : Trace) (program : Option Program) → IsAlone Sort (next t program))
     → IsAlone Sort (TakeReport Sound held trace image next)
 report_alone is Sort held trace image next told one =
-    take_alone trace_form (decided_by (codes "trace") 67108864 trace_of trace_words) Sort held trace
+    take_alone trace_form (decided_by (codes "trace") trace_limit trace_of trace_words) Sort held trace
     (λ t. TakeMaybe image_form 1 Sound held image (λ program. next t program)) (told trace) (λ _ t _.
     maybe_alone image_form is Sort held image (λ program. next t program) told (one t None) (λ _ program _. one t (Some program)))
 
@@ -196,6 +197,6 @@ pub report_some : IsJudged image_form → (held : List ℕ → Entry) (trace : L
     (next : Trace → Option Program → Outcome → Type 0) → TellsAll held → HoldsBytes held
     → ((t : Trace) (program : Option Program) → SomeOutcome (next t program)) → SomeOutcome (TakeReport Sound held trace image next)
 report_some is held trace image next told holds some =
-    some_take trace_form (judged_by (codes "trace") 67108864 trace_of trace_words) held trace
+    some_take trace_form (judged_by (codes "trace") trace_limit trace_of trace_words) held trace
     (λ t. TakeMaybe image_form 1 Sound held image (λ program. next t program)) (told trace) holds (λ _ t _.
     some_maybe image_form is held image (λ program. next t program) told holds (some t None) (λ _ program _. some t (Some program)))

@@ -6,7 +6,7 @@ use Rattle.patch_script.specs.Plans.{plan_of}
 use Rattle.xray_image.specs.Program.{Program}
 use Rattle.xray_io.specs.Desk.{Entry}
 use Rattle.xray_program.specs.Commands.{TellsAll}
-use Rattle.xray_program.specs.Inputs.{image_form, script_form}
+use Rattle.xray_program.specs.Inputs.{image_form, script_form, script_limit}
 use Rattle.xray_program.specs.Outcomes.{Outcome}
 use Rattle.xray_program.specs.Run.{FollowsPlan, RunComes, RunsBeside}
 use Rattle.xray_program.specs.Taking.{Sound, Take}
@@ -22,7 +22,7 @@ pub run_refuses : IsDecided image_form → (held : List ℕ → Entry) (i s t a 
     → IsAlone IsRefusal (RunComes Sound held i s t a setup)
 run_refuses is held i s t a setup told =
     take_alone image_form is IsRefusal held i (AfterImage held s t a setup) (told i) (λ bytes program reads.
-    take_alone (script_form program setup.threads) (decided_by (codes "script") 1048576 (plan_of program setup.threads) script_words) IsRefusal held s
+    take_alone (script_form program setup.threads) (decided_by (codes "script") script_limit (plan_of program setup.threads) script_words) IsRefusal held s
     (λ plan. RunsBeside t a setup program plan) (told s) (λ _ plan _.
     leaves_no_refusal (Traces (FollowsPlan setup program plan) program setup t a)))
 
@@ -32,7 +32,7 @@ pub run_some : IsJudged image_form → SomeRuns → (held : List ℕ → Entry) 
     → SomeOutcome (RunComes Sound held i s t a setup)
 run_some is some held i s t a setup told holds =
     some_take image_form is held i (AfterImage held s t a setup) (told i) holds (λ bytes program reads.
-    some_take (script_form program setup.threads) (judged_by (codes "script") 1048576 (plan_of program setup.threads) script_words) held s
+    some_take (script_form program setup.threads) (judged_by (codes "script") script_limit (plan_of program setup.threads) script_words) held s
     (λ plan. RunsBeside t a setup program plan) (told s) holds (λ text plan said.
     let runs = some bytes text program plan setup reads said in
     some_leaves (Traces (FollowsPlan setup program plan) program setup t a) (written_of t a setup runs.0) (state_texts 1 runs.0)

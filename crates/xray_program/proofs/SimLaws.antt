@@ -13,7 +13,7 @@ use Rattle.traced_run.specs.Runs.{ThreadRun}
 use Rattle.xray_image.specs.Program.{Program, IsAccepted}
 use Rattle.xray_io.specs.Desk.{Entry}
 use Rattle.xray_program.specs.Commands.{TellsAll}
-use Rattle.xray_program.specs.Inputs.{image_form, script_form, schedule_form}
+use Rattle.xray_program.specs.Inputs.{image_form, script_form, schedule_form, script_limit, schedule_limit}
 use Rattle.xray_program.specs.Outcomes.{Outcome}
 use Rattle.xray_program.specs.Sim.{Replayed, Replays, SimComes}
 use Rattle.xray_program.specs.Taking.{Leaves, Sound, Take}
@@ -58,9 +58,9 @@ pub sim_alone : IsDecided image_form → OneRun → (held : List ℕ → Entry) 
     → IsAlone AnyOutcome (SimComes Sound held i s c t a setup)
 sim_alone is one held i s c t a setup told =
     take_alone image_form is AnyOutcome held i (AfterImage held s c t a setup) (told i) (λ bytes program reads.
-    take_alone (script_form program setup.threads) (decided_by (codes "script") 1048576 (plan_of program setup.threads) script_words) AnyOutcome held s
+    take_alone (script_form program setup.threads) (decided_by (codes "script") script_limit (plan_of program setup.threads) script_words) AnyOutcome held s
     (AfterScript held s c t a setup program) (told s) (λ _ plan _.
-    take_alone (schedule_form setup.threads) (decided_by (codes "schedule") 16777216 (schedule_of setup.threads) schedule_words) AnyOutcome held c
+    take_alone (schedule_form setup.threads) (decided_by (codes "schedule") schedule_limit (schedule_of setup.threads) schedule_words) AnyOutcome held c
     (λ turns. Replays s t a setup program plan turns) (told c) (λ _ turns _.
     one_replays one bytes s t a setup program plan turns reads)))
 
@@ -87,8 +87,8 @@ pub sim_some : IsJudged image_form → StillRun → (held : List ℕ → Entry) 
     → HoldsBytes held → SomeOutcome (SimComes Sound held i s c t a setup)
 sim_some is some held i s c t a setup told holds =
     some_take image_form is held i (AfterImage held s c t a setup) (told i) holds (λ bytes program reads.
-    some_take (script_form program setup.threads) (judged_by (codes "script") 1048576 (plan_of program setup.threads) script_words) held s
+    some_take (script_form program setup.threads) (judged_by (codes "script") script_limit (plan_of program setup.threads) script_words) held s
     (AfterScript held s c t a setup program) (told s) holds (λ _ plan _.
-    some_take (schedule_form setup.threads) (judged_by (codes "schedule") 16777216 (schedule_of setup.threads) schedule_words) held c
+    some_take (schedule_form setup.threads) (judged_by (codes "schedule") schedule_limit (schedule_of setup.threads) schedule_words) held c
     (λ turns. Replays s t a setup program plan turns) (told c) holds (λ _ turns _.
     some_replays some bytes s t a setup program plan turns reads)))

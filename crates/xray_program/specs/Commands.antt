@@ -28,7 +28,7 @@ Comes reads held (Account trace image options) = AccountComes reads held trace i
 Comes reads held (Stack trace image format) = StackComes reads held trace image format
 Comes reads held (Convert trace image) = ConvertComes reads held trace image
 
--- whether only one outcome comes of it, over what a desk holds; that isn't so if threads run in an order of their own
+-- whether only one outcome comes of it, over what a desk holds; this fails if threads run in an order of their own
 abbrev pub is_decided : Command → Bool
 is_decided (Sim image script schedule trace audit options) = true
 is_decided (Run image script trace audit options) = false
@@ -60,7 +60,7 @@ ComesOf reads said held outcome = MatchOption said (outcome ≡ BadLine) (λ com
 abbrev pub Means : Option Command → (List ℕ → Entry) → Outcome → Type 0
 Means said held outcome = ComesOf Sound said held outcome
 
--- the turn of this name had come: it is what can't be read, if reads fail
+-- the turn of this name had come: if reads may fail, it may be what can't be read
 abbrev pub HadItsTurn : Option Command → (List ℕ → Entry) → List ℕ → Type 0
 HadItsTurn said held name = ComesOf Faulty said held (Unread name)
 

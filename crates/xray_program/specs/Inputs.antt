@@ -1,5 +1,6 @@
 -- The kinds of input.
 use Rattle.std.specs.Prelude.{◌≡◌, Result, Ok, Err, ℕ, List, [], Option, codes, unwrap_or}
+use Rattle.command_words.specs.Limits.{trace_limit}
 use Rattle.xray_image.specs.Program.{Program, IsAccepted}
 use Rattle.xray_image.specs.declared.fault.ImageFault.{ImageFault}
 use Rattle.xray_image.specs.FaultWords.{image_words}
@@ -16,6 +17,22 @@ use Rattle.fdr_file.specs.Traces.{trace_of}
 use Rattle.trace_words.specs.TraceWords.{trace_words}
 use Rattle.xray_program.specs.Taking.{Form}
 
+-- ---- the most bytes of each kind; `trace_limit` has those of a trace
+
+abbrev pub image_limit : ℕ
+image_limit = 4194304
+
+abbrev pub text_limit : ℕ
+text_limit = 4194304
+
+abbrev pub script_limit : ℕ
+script_limit = 1048576
+
+abbrev pub schedule_limit : ℕ
+schedule_limit = 16777216
+
+-- ---- the kinds
+
 -- the words of a refusal, if a fault has them
 abbrev pub refused_for : Option (List ℕ) → List ℕ
 refused_for words = unwrap_or words []
@@ -24,7 +41,7 @@ refused_for words = unwrap_or words []
 abbrev pub image_form : Form Program
 image_form = record {
   kind = codes "image";
-  limit = 4194304;
+  limit = image_limit;
   Reads = IsAccepted;
   Refuses = λ bytes refusal. (fault : ImageFault) × ReadsAs bytes (Err fault) × (refusal ≡ refused_for (image_words fault));
 }
@@ -41,16 +58,16 @@ form_by {X} {F} kind limit judge words = record {
 
 -- the text of `asm`, which reads as the image file that it is assembled to
 abbrev pub text_form : ℕ → Form (List ℕ)
-text_form threshold = form_by (codes "text") 4194304 (λ bytes. assembled bytes threshold) asm_words
+text_form threshold = form_by (codes "text") text_limit (λ bytes. assembled bytes threshold) asm_words
 
 -- the script of a run, for a program and a number of threads
 abbrev pub script_form : Program → ℕ → Form Plan
-script_form program threads = form_by (codes "script") 1048576 (plan_of program threads) script_words
+script_form program threads = form_by (codes "script") script_limit (plan_of program threads) script_words
 
 -- the schedule of a replay, for a number of threads
 abbrev pub schedule_form : ℕ → Form (List Turns)
-schedule_form threads = form_by (codes "schedule") 16777216 (schedule_of threads) schedule_words
+schedule_form threads = form_by (codes "schedule") schedule_limit (schedule_of threads) schedule_words
 
 -- a trace
 abbrev pub trace_form : Form Trace
-trace_form = form_by (codes "trace") 67108864 trace_of trace_words
+trace_form = form_by (codes "trace") trace_limit trace_of trace_words

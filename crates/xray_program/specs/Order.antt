@@ -6,6 +6,7 @@ use Rattle.xray_io.specs.Outputs.{IsMaking, Makes}
 use Rattle.xray_io.specs.Reads.{Reads, ReadsSome, ReadsUpTo, ReadsUpToFault}
 use Rattle.xray_io.specs.World.{DeskView}
 use Rattle.xray_io.specs.declared.faults.WriteFault.{WriteFault}
+use Rattle.xray_program.specs.Inputs.{image_limit, text_limit, script_limit, schedule_limit}
 use Rattle.xray_program.specs.Reports.{report_inputs}
 use Rattle.xray_program.specs.Commands.{ComesOf}
 use Rattle.xray_program.specs.Taking.{AcceptsFirst, AllAccepted, DeskReads}
@@ -17,11 +18,11 @@ use Rattle.command_words.specs.Words.{Command, Sim, Run, Plain, Extract, Asm, Ac
 -- its inputs in the order of the words, each with its name and the most bytes that it may have; one that the words
 -- leave out isn't listed
 abbrev pub inputs_of : Command → List (List ℕ × ℕ)
-inputs_of (Sim image script schedule trace audit options) = (image, 4194304) ∷ (script, 1048576) ∷ (schedule, 16777216) ∷ []
-inputs_of (Run image script trace audit options) = (image, 4194304) ∷ (script, 1048576) ∷ []
-inputs_of (Plain image bounds) = (image, 4194304) ∷ []
-inputs_of (Extract image) = (image, 4194304) ∷ []
-inputs_of (Asm text image threshold) = (text, 4194304) ∷ []
+inputs_of (Sim image script schedule trace audit options) = (image, image_limit) ∷ (script, script_limit) ∷ (schedule, schedule_limit) ∷ []
+inputs_of (Run image script trace audit options) = (image, image_limit) ∷ (script, script_limit) ∷ []
+inputs_of (Plain image bounds) = (image, image_limit) ∷ []
+inputs_of (Extract image) = (image, image_limit) ∷ []
+inputs_of (Asm text image threshold) = (text, text_limit) ∷ []
 inputs_of (Account trace image options) = report_inputs trace image
 inputs_of (Stack trace image format) = report_inputs trace image
 inputs_of (Convert trace image) = report_inputs trace image
@@ -39,8 +40,8 @@ ReadsAll [] calls = calls ≡ []
 ReadsAll (input ∷ inputs) calls =
     (mine : List Call) × (later : List Call) × (calls ≡ mine ++ later) × ReadsWhole input.0 input.1 mine × ReadsAll inputs later
 
--- Inputs of which this comes. Those before one of them were read whole, and each was accepted. This is said of the calls
--- of that one, and no other input was asked for.
+-- Of the inputs of which this comes, those before one of them were read whole, and each was accepted. `Last` holds of
+-- the calls for that one, and no later input was asked for.
 pub record StopsAt (comes : DeskReads → Outcome → Type 0) (inputs : List (List ℕ × ℕ)) (name : List ℕ) (Last : (limit : ℕ) → List Call → Type 0) (calls : List Call) : Type 0 where
   pub earlier : List (List ℕ × ℕ)
   pub limit : ℕ
@@ -74,7 +75,7 @@ pub record FailsAtOutput (outputs : List (List ℕ × List ℕ)) (desk desk_now 
   pub fault : WriteFault
   pub fails : IsMaking name bytes (desk.held name) (desk_now.held name) (Err fault) last
 
--- the output of this name failed; or all were made, and out failed, which is named `output`
+-- the output of this name failed; or all outputs were made, and out failed, which is named `output`
 abbrev pub IsUnmade : List (List ℕ × List ℕ) → (desk desk_now : DeskView) → List ℕ → List Call → Type 0
 IsUnmade outputs desk desk_now name calls =
     FailsAtOutput outputs desk desk_now name calls ⊎ ((name ≡ codes "output") × MakesAll outputs calls)
@@ -101,9 +102,9 @@ comes_over said desk reads = ComesOf reads said desk.held
 abbrev pub inputs_said : Option Command → List (List ℕ × ℕ)
 inputs_said said = option_map_or inputs_of said []
 
--- The calls of a call that ended in this way. If the words say no command, there are none. A refusal comes of the last
--- input that was read, or it comes late, though each input was accepted. Memory runs out before any call; or at an
--- input, and those before it were accepted; or later, and all were.
+-- The calls of a call that ended in this way. If the words say no command, there are none. A refusal is of the last
+-- input that was read, or it is late, though each input was accepted. Memory runs out before any call; or at an input,
+-- and those before it were accepted; or later, and all were accepted.
 abbrev pub InOrder : Option Command → (desk desk_now : DeskView) → Ending → List Call → Type 0
 InOrder said desk desk_now (With BadLine) calls = calls ≡ []
 InOrder said desk desk_now (With (Unread name)) calls =

@@ -12,8 +12,8 @@ pub record Form (X : Type 0) : Type 1 where
   pub Refuses : List ℕ → List ℕ → Type 0
 
 -- How inputs are taken: no read of a name that the desk holds fails; or any read may fail; or each input is accepted,
--- so that no turn fails; or each up to the one at this place is, and nothing is asked of what follows that one. Places
--- count from 0, in the order of the words.
+-- so no turn fails; or each input up to the one at this place is accepted, and nothing is asked of what follows it.
+-- Places count from 0, in the order of the words.
 pub data DeskReads : Type 0 where
   Sound : DeskReads
   Faulty : DeskReads
@@ -27,7 +27,7 @@ IsUnreadable Faulty entry = ⊤
 IsUnreadable AllAccepted entry = ⊥
 IsUnreadable (AcceptedUpTo place) entry = ⊥
 
--- bytes aren't an input, for this reason; that isn't so if each input is accepted
+-- bytes aren't an input, for this reason; if each input is accepted, this can't be
 abbrev pub IsNoInput : DeskReads → Type 0 → Type 0
 IsNoInput Sound Reason = Reason
 IsNoInput Faulty Reason = Reason
@@ -41,7 +41,7 @@ Follows Faulty place Next = Next
 Follows AllAccepted place Next = Next
 Follows (AcceptedUpTo last) place Next = (place ≡ last) ⊎ Next
 
--- the first inputs of which this comes, this many, are accepted
+-- the first `count` inputs of which this comes are accepted
 abbrev pub AcceptsFirst : (DeskReads → Outcome → Type 0) → (count : ℕ) → Type 0
 AcceptsFirst comes zero = ⊤
 AcceptsFirst comes (suc last) = (outcome : Outcome) → comes (AcceptedUpTo last) outcome
@@ -60,8 +60,8 @@ Judge {X} form place reads name bytes next outcome =
     × (IsNoInput reads ((refusal : List ℕ) × form.Refuses bytes refusal × (outcome ≡ Refused name form.kind refusal))
     ⊎ ((value : X) × form.Reads bytes value × Follows reads place (next value outcome))))
 
--- The input at this place is taken in its turn. It can't be read, or the bytes that it holds are judged, and then it is the turn of
--- what follows.
+-- The input at this place is taken in its turn. It can't be read; or the bytes that it holds are judged, and then it is
+-- the turn of what follows.
 abbrev pub Take : {X : Type 0} → Form X → (place : ℕ) → DeskReads → (List ℕ → Entry) → List ℕ → (X → Outcome → Type 0) → Outcome → Type 0
 Take form place reads held name next outcome =
     (IsUnreadable reads (held name) × (outcome ≡ Unread name))
@@ -89,7 +89,7 @@ Leaves Are outcome = (outputs : List (List ℕ × List ℕ)) × (text : List ℕ
 abbrev pub Prints : (List ℕ → Type 0) → Outcome → Type 0
 Prints Is = Leaves (λ outputs text. (outputs ≡ []) × Is text)
 
--- outputs and a text are left, and all is well unless a trouble is found
+-- outputs and a text are left; all is well, unless something is found to be wrong
 abbrev pub ended_by : List (List ℕ × List ℕ) → (text : List ℕ) → (trouble : Option (List ℕ)) → Outcome
 ended_by outputs text None = Done outputs text
 ended_by outputs text (Some trouble) = Fell outputs text trouble

@@ -1,4 +1,4 @@
--- What a command leaves that runs traced threads, whatever makes their runs lawful.
+-- What is left by a command that runs traced threads, whatever makes their runs lawful.
 use Rattle.std.specs.Prelude.{◌≡◌, ◌+◌, ℕ, List, [], ◌∷◌, ◌++◌, Ok, Some, slice_get}
 use Rattle.xray_io.specs.Desk.{made_to_hold}
 use Rattle.xray_io.specs.Sink.{Adds}
@@ -7,7 +7,7 @@ use Rattle.xray_image.specs.Program.{Program, IsAccepted}
 use Rattle.patch_script.specs.Micros.{hold_of}
 use Rattle.patch_script.specs.Plans.{Plan, plan_of}
 use Rattle.patch_script.specs.Refusals.{commands_of}
-use Rattle.buffer_queue.specs.Left.{spare_of}
+use Rattle.machine_step.specs.Buffers.{spare_of}
 use Rattle.machine_step.specs.declared.setup.Setup.{Setup}
 use Rattle.machine_step.specs.Loads.{Load}
 use Rattle.machine_step.specs.Texts.{state_text}
@@ -27,8 +27,7 @@ state_texts number (run ∷ runs) = state_text number run.end run.last run.marks
 abbrev pub written_of : (trace audit : List ℕ) → Setup → List ThreadRun → List (List ℕ × List ℕ)
 written_of trace audit setup runs = (trace, trace_bytes setup runs) ∷ (audit, audit_text setup (accounts_of setup runs)) ∷ []
 
--- All that there is of lawful runs of the threads is written: the trace, the audit, and as text the state texts, thread
--- 1 first.
+-- What lawful runs of the threads leave is written: the trace, the audit, and as text the state texts, thread 1 first.
 pub record Traces (Lawful : List ThreadRun → Type 0) (program : Program) (setup : Setup) (trace audit : List ℕ)
     (outputs : List (List ℕ × List ℕ)) (text : List ℕ) : Type 0 where
   pub runs : List ThreadRun
@@ -42,11 +41,11 @@ pub record Traces (Lawful : List ThreadRun → Type 0) (program : Program) (setu
 -- which are lawful, such that:
 -- - each thread goes as its plain run does;
 -- - by its loads no passing of a thread decodes a torn sled, and its marks are those of its loads;
--- - of each thread that has segments of events the last one is left, and of all other segments exactly as many are lost as
---   there are more of them than spare buffers;
+-- - each thread that has segments of events keeps its last one; if there are more other segments than spare buffers,
+--   exactly the excess is lost, and otherwise none is;
 -- - the trace holds the trace of these runs: a header with the setup's numbers, and for each thread the last whole
 --   segments of exactly the entries and exits that its marks record, and all of them if no segment was lost;
--- - the audit holds what these runs come to: each thread's end, segments, lost segments and marks;
+-- - the audit holds how these runs ended: each thread's end, segments, lost segments and marks;
 -- - the state texts of these runs were written on out, thread 1 first.
 pub record IsTraced (Lawful : Program → Plan → List ThreadRun → (ℕ → List Load) → Type 0) (image script trace audit : List ℕ)
     (setup : Setup) (before after : World) : Type 0 where

@@ -35,12 +35,12 @@ use xray_io::{Desk, Gate, Sink, Wall};
 /// Does what `words` say, with the files of `desk`. `words` don't hold the program's own name.
 /// Answers the program's status.
 ///
-/// Status 0: all is done. 1: the words say no command. 2: an input isn't of its form. 3: an input
+/// Status 0: all is done. 1: the words say no command. 2: an input isn't in its format. 3: an input
 /// can't be read. 4: an output of the command, or `out`, failed. 5: memory ran out. 6: an input has
 /// more bytes than its limit. 7: all was written, and something is wrong all the same.
 ///
-/// On 1 to 7 a line on `err` says so. Outputs and `out` are written only on 0, 4 and 7. On 4 all
-/// that comes before what failed is whole, and nothing after it is touched. No other name of the
+/// On 1 to 7 a line on `err` says so. Outputs and `out` are written only on 0, 4 and 7. On 4
+/// everything before what failed is whole, and nothing after it is touched. No other name of the
 /// desk changes. The call waits for nobody.
 pub fn xray_still<D: Desk, O: Sink, E: Sink>(
     alloc: Global,
@@ -181,7 +181,7 @@ fn perform_any<'a, T: Threads + Wait + Sync, D: Desk, O: Sink, G: Gate + Sync>(
     }
 }
 
-/// Does what the words say, which wait for nobody, and leaves err as it is.
+/// Does what the words say, and leaves err as it is. Their command waits for nobody.
 fn perform_words<'a, D: Desk, O: Sink>(
     alloc: Global,
     words: &'a [String],
@@ -205,7 +205,7 @@ fn perform_words<'a, D: Desk, O: Sink>(
     }
 }
 
-/// Does what a command says that waits for nobody. Each command has a line.
+/// Does what a command says that waits for nobody.
 fn perform_command<'a, D: Desk, O: Sink>(
     alloc: Global,
     command: Command<'a>,

@@ -128,7 +128,7 @@ fn append<P: Printed, D: Desk>(desk: &mut D, name: &str, text: &P) -> Result<(),
 }
 
 /// Creates and writes the outputs, each in its turn, and then writes the text on out. After a
-/// failure nothing more is done. If all was written and there is a trouble, the trouble is
+/// failure nothing more is done. If all was written, but something is wrong all the same, that is
 /// reported.
 pub(crate) fn deliver<'a, W: Outputs<'a>, P: Printed, D: Desk, O: Sink>(
     desk: &mut D,

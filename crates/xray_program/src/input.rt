@@ -21,7 +21,7 @@ pub(crate) trait Kind {
     /// The most bytes of such an input, what bytes read as, and why they are refused.
     ghost form: { Self → Form Self.Value };
 
-    /// What a value has to do with the inputs that were taken before it.
+    /// What a value has to satisfy, given the inputs that were taken before it.
     ghost fits: { Self → Self.Value → Type 0 };
 
     /// The word for it in a line on err.

@@ -4,6 +4,7 @@ ghost use Rattle.command_words.specs.Ranges.{IsThreadCount};
 use crate::image_file::ImageFile;
 use crate::input::Kind;
 use asm_text::{AsmFault, assemble};
+use command_words::TRACE_LIMIT;
 use fdr_file::{Trace, read_trace};
 use patch_script::{Script, ScriptFault, read_script};
 use std::alloc::Global;
@@ -22,9 +23,6 @@ const SCRIPT_LIMIT: u64 = 1_048_576;
 
 /// The most bytes of a schedule.
 const SCHEDULE_LIMIT: u64 = 16_777_216;
-
-/// The most bytes of a trace.
-const TRACE_LIMIT: u64 = 67_108_864;
 
 /// An image file.
 #[derive(Drop)]

@@ -53,8 +53,8 @@ pub fn some_meaning()
     some_losses_are_of_a_queue();
 }
 
-/// The inputs of a command, whose turns come one after another, are the files that its row in the
-/// table of commands says are read, in the order of their names.
+/// The inputs of a command, whose turns come one after another, are the files that are read by its
+/// row in the table of commands, in the order of their names.
 pub fn inputs_follow_the_rows()
     ensures { (command : Command) → map (λ input. input.0) (inputs_of command)
         ≡ inputs_in (row_of command).files (names_of command) }

@@ -4,7 +4,7 @@ ghost use Rattle.command_words.specs.Words.{outputs_of};
 ghost use Rattle.patch_script.specs.Refusals.{commands_of};
 ghost use Rattle.machine_step.specs.declared.setup.Setup.{Setup};
 ghost use Rattle.thread_run.specs.Runs.{HaveRunBeside};
-ghost use Rattle.trace_flush.specs.Arranged.{has_event};
+ghost use Rattle.fdr_buffer.specs.Filled.{has_event};
 ghost use Rattle.traced_run.specs.Kept.{kept_buffers};
 ghost use Rattle.traced_run.specs.Runs.{ThreadRun};
 ghost use Rattle.xray_io.specs.Calls.{Went};
@@ -22,6 +22,7 @@ use crate::run_inputs::{Run, RunInputs};
 use crate::setups::setup_of;
 use crate::stop::Stop;
 use crate::traced::{RunLeft, deliver_run, room_for};
+use fdr_buffer::{LARGEST_SIZE, LEAST_SIZE};
 use machine_step::{Setup, Steps};
 use patch_script::Script;
 use sled_rule::CodeTable;
@@ -118,7 +119,7 @@ fn run_beside<'s, T: Threads + Wait + Sync, G: Gate + Sync>(
     requires some { 1 ≤ setup.now.threads }
     requires few { setup.now.threads ≤ 16 }
     requires stamps { (1 ≤ setup.now.limits.cpus) × (1 ≤ setup.now.limits.migrate) }
-    requires sizes { (72 ≤ setup.now.size) × (setup.now.size ≤ 1048576) }
+    requires sizes { (LEAST_SIZE ≤ setup.now.size) × (setup.now.size ≤ LARGEST_SIZE) }
     requires enough { setup.now.threads ≤ setup.now.max }
     ensures left { IfOk result (λ end. HaveRunBeside steps.now (commands_of script.lines) setup.now
         end.cpus.items end.segments.items end.first.items end.buffers.items) }

@@ -5,7 +5,7 @@ ghost use Rattle.xray_program.specs.Setups.{limits_of, plain_limits, setup_of};
 use command_words::{Bounds, RunOptions, Stamps};
 use machine_step::{Limits, Setup};
 
-/// The stamps of a plain run. No event of it is seen: the counter stands still, on one CPU.
+/// The stamps of a plain run. No event of it is seen, so the counter stands still, on one CPU.
 const UNSTAMPED: Stamps = Stamps {
     tick: 0,
     tsc: 0,

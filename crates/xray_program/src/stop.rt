@@ -16,7 +16,7 @@ const PROGRAM: Piece = Piece::Bytes(b"xray: ");
 /// The end of a line.
 const LINE_FEED: Piece = Piece::Bytes(b"\n");
 
-/// What ends a call before all is done. It has the name of the input or output that is to blame.
+/// What ends a call before all is done. It names the input or output that is to blame.
 #[derive(Clone, Copy, Debug)]
 pub(crate) enum Stop<'a> {
     /// The words say no command.
@@ -106,7 +106,7 @@ fn refused_line<'x>(name: &'x str, kind: &'x str, words: &Words<'x>) -> [Piece<'
     ]
 }
 
-/// The line on err for a trouble in what was written.
+/// The line on err if all was written, but something is wrong all the same.
 fn fallen_line<'x>(trouble: &Words<'x>) -> [Piece<'x>; 6]
     ensures { text_of result ≡ err_line (words_text trouble.now) }
 {

@@ -1,4 +1,4 @@
-//! A command: what it takes, and what it does with that.
+//! A command: which inputs it takes, and what it does with them.
 ghost use Rattle.std.specs.Prelude.{◌≡◌, ◌≤◌, ℕ, List, Some, IfOk};
 ghost use Rattle.command_words.specs.Words.{Command, outputs_of};
 ghost use Rattle.xray_io.specs.Calls.{Went};

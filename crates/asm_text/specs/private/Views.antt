@@ -16,8 +16,6 @@ use Rattle.asm_text.specs.declared.statement.Operation.{Operation as Checked}
 use Rattle.asm_text.specs.declared.statement.Operation.TheVariants as checked
 use Rattle.asm_text.specs.declared.statement.Statement.{Statement as Said}
 use Rattle.asm_text.specs.declared.statement.Statement.TheVariants as said
-use Rattle.asm_text.specs.declared.line.Operands.{Operands}
-use Rattle.asm_text.specs.declared.line.Operands.TheVariants as operands
 use Rattle.asm_text.specs.Statements.{Operation, Plain, Go, TailJump, Return, Statement, Base, Entry, Func, Label, Does}
 use Rattle.asm_text.specs.Layout.{Lines}
 use Rattle.asm_text.specs.Refusals.{with_line, judged, operation_reserves, operation_exceeds, names_reserved, is_out_of_range}
@@ -77,13 +75,6 @@ statement_said (said.Entry name) = Entry name.now
 statement_said (said.Function name choice) = Func name.now choice
 statement_said (said.Label name) = Label name.now
 statement_said (said.Does operation) = Does (operation_checked operation)
-
--- the words after a keyword
-abbrev pub AreOperands : List (List ℕ) → Operands → Type 0
-AreOperands words operands.Zero = words ≡ []
-AreOperands words (operands.One first) = words ≡ first.now ∷ []
-AreOperands words (operands.Two first second) = words ≡ first.now ∷ second.now ∷ []
-AreOperands words operands.Many = 2 < length words
 
 -- what reading a line means for the text, whatever lines come before it
 abbrev pub LineGives : ℕ → List ℕ → Result (Option Spoken) AsmFault → Type 0

@@ -1,7 +1,7 @@
 -- What the fields of a buffer say, and what is true of them.
 use Rattle.std.specs.Prelude.{◌≡◌, ◌≤◌, List, [], length, take, drop, nat_lt, All}
 use Rattle.fdr_record.specs.declared.event.Event.{Event}
-use Rattle.fdr_buffer.specs.declared.buffer.TheConstants.{LEAST, LARGEST}
+use Rattle.fdr_buffer.specs.declared.buffer.TheConstants.{LEAST_SIZE, LARGEST_SIZE}
 use Rattle.fdr_buffer.specs.declared.buffer.Buffer.TheInside.{Inside}
 use Rattle.fdr_buffer.specs.Segments.{preamble_length, EventFits}
 use Rattle.fdr_buffer.specs.Filled.{Filled, used_bytes, last_of}
@@ -22,8 +22,8 @@ filled_in a = filled_with a (events_told a)
 
 -- the fields are those of a buffer with these events
 pub record Holds (a : Inside) (events : List Event) : Type 0 where
-  pub least : LEAST ≤ length a.bytes.items
-  pub most : length a.bytes.items ≤ LARGEST
+  pub least : LEAST_SIZE ≤ length a.bytes.items
+  pub most : length a.bytes.items ≤ LARGEST_SIZE
   pub within : a.used ≤ length a.bytes.items
   pub preamble : PreambleFits (filled_with a events)
   pub bytes : take a.used a.bytes.items ≡ used_bytes (filled_with a events)

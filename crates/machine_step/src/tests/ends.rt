@@ -79,25 +79,25 @@ const FIBONACCI: [u8; 326] = [
     0x58, 0x52, 0x49, 0x4D, 1, 0, 0, 0, 0, 0x10, 0, 0, 0, 0, 0, 0, 0x6D, 0, 0, 0, 2, 0, 0, 0, 4, 0,
     0, 0, 0, 0, 0, 0, 0, 0x10, 0x20, 0, 0, 0, 0, 0, 0x10, 0x10, 0x20, 0, 0, 0, 0, 0, 0x20, 0x10,
     0x20, 0, 0, 0, 0, 0, 0x30, 0x10, 0x20, 0, 0, 0, 0, 0,
-    // main: mov edi, 20; call fib; ret; an alignment byte
+    // `main` puts 20 into rdi, calls `fib` and returns. One byte aligns what follows
     0xBF, 0x14, 0, 0, 0, 0xE8, 2, 0, 0, 0, 0xC3, 0x90,
-    // fib: an entry sled
+    // the entry sled of `fib`
     0xEB, 9, 0x66, 0x0F, 0x1F, 0x84, 0, 0, 2, 0, 0,
-    // mov ecx, 0; add rdi, rcx; jnz positive
+    // adds 0 to rdi, which sets the zero flag if rdi is 0, and skips the first exit if it isn't
     0xB9, 0, 0, 0, 0, 0x48, 1, 0xCF, 0x0F, 0x85, 0x0C, 0, 0, 0,
-    // an alignment byte; an exit sled
+    // the first exit, for 0: a byte that aligns the sled, and the sled
     0x90, 0xC3, 0x2E, 0x66, 0x0F, 0x1F, 0x84, 0, 0, 2, 0, 0,
-    // positive: mov ecx, 1; sub rdi, rcx; jnz large
+    // takes 1 from rdi, and skips the second exit unless that leaves 0
     0xB9, 1, 0, 0, 0, 0x48, 0x29, 0xCF, 0x0F, 0x85, 0x0E, 0, 0, 0,
-    // add rax, rcx
+    // adds 1 to rax
     0x48, 1, 0xC8,
-    // an exit sled
+    // the second exit, for 1
     0xC3, 0x2E, 0x66, 0x0F, 0x1F, 0x84, 0, 0, 2, 0, 0,
-    // large: push rdi; call fib
+    // keeps rdi on the stack, and calls `fib` with it
     0x57, 0xE8, 0xB9, 0xFF, 0xFF, 0xFF,
-    // pop rdi; mov ecx, 1; sub rdi, rcx; call fib
+    // gets it back, takes 1 more from it, and calls `fib` again
     0x5F, 0xB9, 1, 0, 0, 0, 0x48, 0x29, 0xCF, 0xE8, 0xAB, 0xFF, 0xFF, 0xFF,
-    // an alignment byte; an exit sled
+    // the third exit, for all other numbers
     0x90, 0xC3, 0x2E, 0x66, 0x0F, 0x1F, 0x84, 0, 0, 2, 0, 0,
     // main at 0x1000
     0, 0x10, 0, 0, 0, 0, 0, 0, 4, 0x6D, 0x61, 0x69, 0x6E,

@@ -1,6 +1,7 @@
 -- What the buffers of a replay hold, for the contracts of private functions.
 use Rattle.std.specs.Prelude.{◌≡◌, ◌<◌, ◌≤◌, ◌+◌, ◌-◌, ◌^◌, ◌++◌, ℕ, zero, suc, List, [], ◌∷◌, length, map, slice_get, true, false, ◌≢◌, unwrap_or, All, ⊤, Some}
 use Rattle.fdr_record.specs.declared.event.Event.{Event}
+use Rattle.fdr_buffer.specs.declared.buffer.TheConstants.{LEAST_SIZE}
 use Rattle.fdr_buffer.specs.Filled.{Filled, empty_buffer}
 use Rattle.fdr_buffer.specs.Segments.{has_room, segments}
 use Rattle.step_sim.specs.declared.pool.Pool.{Pool}
@@ -40,7 +41,7 @@ pub data IsHand (stamp : Stamp) (thread : ℕ) (segs : List (List Event)) (hand 
 
 -- a pool holds these events of this many threads, with this stock
 pub record PoolHolds (stamp : Stamp) (threads : ℕ) (events : Histories) (stock : Stock) (pool : Pool) : Type 0 where
-  pub least : 72 ≤ stamp.size
+  pub least : LEAST_SIZE ≤ stamp.size
   pub wall : pool.wall ≡ stamp.wall
   pub pid : pool.pid ≡ stamp.pid
   pub hand_count : length pool.hands.items ≡ threads

@@ -8,7 +8,7 @@ use Rattle.traced_run.specs.Kept.{stamp_of}
 use Rattle.step_sim.specs.declared.start.SimStart.TheInside.{Inside}
 use Rattle.step_sim.specs.Pool.{first_stock}
 use Rattle.step_sim.specs.private.Holding.{PoolHolds}
-use Rattle.step_sim.specs.Replayed.{spare_of}
+use Rattle.machine_step.specs.Buffers.{spare_of}
 use Rattle.step_sim.specs.private.Standing.{AllHaveBegun, IsPatcherAt}
 use Rattle.step_sim.specs.Starts.{Start}
 

@@ -171,7 +171,7 @@ const A_TAIL_CALL: &[u8] = &[
     5, 0, 0, 0, 0, 0, 0, 0, 0, 0, 0, 0, 0, 0, 0, 0, // the processor and its counter
     0x10, 0, 0, 0, 0, 0, 0, 0, // entry of a
     0x14, 0, 0, 0, 0, 0, 0, 0, // tail exit of a
-    0x20, 0, 0, 0, 1, 0, 0, 0, // entry of b, behind the jump
+    0x20, 0, 0, 0, 1, 0, 0, 0, // entry of b, after the jump
     0x22, 0, 0, 0, 0, 0, 0, 0, // exit of b
 ];
 

@@ -42,7 +42,7 @@ pub record Writes (outputs : List (List ℕ × List ℕ)) (text : List ℕ) (des
   pub whole : AreWhole outputs desk.held desk_now.held
   pub printed : Adds out.written out_now.written text
 
--- outputs and a text were written, and all is well unless there is a trouble; or one of them failed
+-- outputs and a text were written, and all is well unless something is wrong all the same; or one of them failed
 abbrev pub Delivers : List (List ℕ × List ℕ) → (text : List ℕ) → (trouble : Option (List ℕ)) → (desk desk_now : DeskView)
     → (out out_now : SinkView) → (Way : List Call → Type 0) → Result (Unit {0}) Stop → Type 0
 Delivers outputs text trouble desk desk_now out out_now Way (Ok done) =

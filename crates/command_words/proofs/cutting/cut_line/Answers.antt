@@ -1,4 +1,4 @@
-use Rattle.std.proofs.Common.{◌≡◌, ◌∙◌, ap, sym, refl, List, map, option_map, string_bytes, Option, Some, None, true, false, Bor, ℕ}
+use Rattle.std.proofs.Common.{◌≡◌, ◌∙◌, ap, sym, List, map, option_map, Option, Some, None, true, false, Bor, ℕ}
 use Rattle.std.specs.Prelude.{String, if◌then◌else◌}
 use Rattle.std.specs.declared.alloc.Global.{Global}
 use Rattle.clap.specs.Simple.{App}

@@ -1,4 +1,4 @@
-use Rattle.std.proofs.Common.{◌≡◌, ◌∙◌, ◌<◌, arith, length, ap, option_copied, Some, None}
+use Rattle.std.proofs.Common.{◌∙◌, ◌<◌, arith, length, ap, option_copied}
 use Rattle.command_words.specs.private.Clapped.{rows_in}
 use Rattle.command_words.proofs.Gathering.{names_from, none_more, one_more, value_of_row}
 use Rattle.command_words.proofs.cutting.files_in.Goals as goal

@@ -6,7 +6,6 @@ use Rattle.clap.specs.declared.error.kind.ErrorKind.TheVariants.{OutOfMemory}
 use Rattle.clap.specs.Kinds.{HasKind, Kinds}
 use Rattle.clap.specs.Walk.{Row}
 use Rattle.clap.proofs.WalkLemmas.{both}
-use Rattle.command_words.proofs.Cuts.{cut_is}
 use Rattle.command_words.specs.private.Clapped.{after}
 use Rattle.command_words.proofs.cutting.matches_of.Goals as goal
 

@@ -1,6 +1,6 @@
 use Rattle.std.proofs.Common.{rules, ap₂, refl, ◌≡◌, ◌∙◌}
 use Rattle.std.proofs.lemmas.Result.{IfOk-weaker}
-use Rattle.clap.specs.Simple.{app_of, with_rule}
+use Rattle.clap.specs.Simple.{with_rule}
 use Rattle.clap.specs.Walk.{rule_of}
 use Rattle.command_words.specs.private.Clapped.{file_rule}
 use Rattle.command_words.specs.Views.{file_view}

@@ -2,8 +2,7 @@ use Rattle.std.proofs.Common.{List, ap, subst, sym, ◌∙◌, rules}
 use Rattle.std.specs.Prelude.{All, IsPermutation, IsTrue, filter}
 use Rattle.std.proofs.lemmas.List.Sorted.{IsPermutation-refl}
 use Rattle.std.proofs.lemmas.Fn.{always_returns_same, filter_same}
-use Rattle.fdr_buffer.specs.Filled.{Filled}
-use Rattle.trace_flush.specs.Arranged.{has_event}
+use Rattle.fdr_buffer.specs.Filled.{Filled, has_event}
 use Rattle.traced_run.specs.Kept.{kept_buffers}
 use Rattle.trace_flush.proofs.KeptOrder.{kept_filled, kept_ordered}
 use Rattle.trace_flush.proofs.OneOrder.{place, in_order, one_order}

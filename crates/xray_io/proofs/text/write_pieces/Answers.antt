@@ -1,21 +1,16 @@
 use Rattle.std.proofs.Common.{rules}
-use Rattle.std.proofs.lemmas.Result.{on_ok_weaker}
-use Rattle.xray_io.specs.Text.{writes_all}
+use Rattle.xray_io.specs.Text.{writes_all, writes_failed}
 use Rattle.xray_io.proofs.text.write_pieces.Goals as goal
 
-pub returns-in_err-pieces-clause-front : goal.returns-in_err-pieces-clause-front
-returns-in_err-pieces-clause-front g c =
-    let front = c.in_err-pieces.ensures.breaks _ _ c.new-text.ensures.empty in
+pub returns-in_err-pieces : goal.returns-in_err-pieces
+returns-in_err-pieces g c =
+    let failed =
+    writes_failed {along = g.S.Sink.along} c.args.sink.now c.new-text.result c.pieces.new.self c.new-text.ensures.sink c.new-text.ensures.waits
+    c.in_err-pieces.ensures.adds c.from_residual.result c.from_residual.ensures.1 in
     search rules
 
-pub returns-clause-all : goal.returns-clause-all
-returns-clause-all g c =
-    let gathers = c.in_ok-pieces.ensures.gains _ _ c.new-text.ensures.empty in
-    let adds = on_ok_weaker c.done.result (λ all. all _ _ gathers) c.done.ensures.all in
-    search rules
-
-pub returns-clause-writes : goal.returns-clause-writes
-returns-clause-writes g c =
+pub returns : goal.returns
+returns g c =
     let writes =
     writes_all {along = g.S.Sink.along} g.met.S.Sink.along_both c.args.sink.now _ c.new-text.result c.pieces.new.self c.new-text.ensures.sink c.new-text.ensures.waits
     c.in_ok-pieces.ensures.adds c.done.ensures.writes in

@@ -1,14 +1,10 @@
-use Rattle.std.proofs.Common.{◌-◌, ◌≤◌, length, take, drop, Ok}
-use Rattle.xray_io.specs.Sink.{Adds}
+use Rattle.std.proofs.Common.{◌-◌, ◌≤◌, length, drop, Ok}
 use Rattle.xray_io.specs.Writes.{Sends}
 use Rattle.xray_io.proofs.whole.write_all.Given as goal
 
 abbrev pub invariant-writing : goal.invariant-writing
 invariant-writing g l = record {
   within : l.done ≤ length l.bytes;
-  adds : Adds (g.S.Sink.written l.fn.sink) (g.S.Sink.written l.sink) (take l.done l.bytes);
-  later : g.S.Sink.faults l.fn.sink ≤ g.S.Sink.faults l.sink;
-  follows : g.S.Sink.follows l.fn.sink l.sink;
   sends : Sends g.S.Sink.written g.S.Sink.faults g.S.Sink.along l.fn.sink l.sink l.bytes (drop l.done l.bytes) (Ok tt);
 }
 

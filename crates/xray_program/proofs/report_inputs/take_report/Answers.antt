@@ -1,5 +1,6 @@
 use Rattle.std.proofs.Common.{[], option_map, refl}
 use Rattle.xray_io.specs.World.{desk_view}
+use Rattle.command_words.specs.Limits.{trace_limit}
 use Rattle.xray_program.specs.Inputs.{trace_form}
 use Rattle.xray_program.specs.Reports.{image_input, report_inputs}
 use Rattle.xray_program.specs.private.ReportTakes.{StopsReport}
@@ -44,7 +45,7 @@ returns-in_err-image-clause-calls g c =
     let along = g.D.Desk.along in
     let both = g.met.D.Desk.along_both in
     let image = option_map (λ n. n.now) c.args.image in
-    let one = read_on along both c.args.desk.now c.args.desk.now c.take.new.desk [] c.args.trace.now 67108864
+    let one = read_on along both c.args.desk.now c.args.desk.now c.take.new.desk [] c.args.trace.now trace_limit
     (no_reads along g.met.D.Desk.along_none c.args.desk.now) c.in_ok-trace.ensures.calls in
     image_stopped along both c.args.desk.now c.take.new.desk c.take_maybe.new.desk (seen c.take.new.desk) (seen c.take_maybe.new.desk)
     (g.D.Desk.held c.args.desk.now) c.args.trace.now image c.in_ok-trace.trace c.in_ok-trace.ensures.taken c.from_residual-in_err-image.result _ c.from_residual-in_err-image.ensures.1 c.in_err-image.ensures.taken one c.in_err-image.ensures.calls
@@ -55,7 +56,7 @@ returns-clause-calls g c =
     let along = g.D.Desk.along in
     let both = g.met.D.Desk.along_both in
     let image = option_map (λ n. n.now) c.args.image in
-    let one = read_on along both c.args.desk.now c.args.desk.now c.take.new.desk [] c.args.trace.now 67108864
+    let one = read_on along both c.args.desk.now c.args.desk.now c.take.new.desk [] c.args.trace.now trace_limit
     (no_reads along g.met.D.Desk.along_none c.args.desk.now) c.in_ok-trace.ensures.calls in
     both_read along both c.args.desk.now c.take.new.desk c.take_maybe.new.desk (seen c.take.new.desk) (seen c.take_maybe.new.desk) (g.D.Desk.held c.args.desk.now)
     c.args.trace.now image c.in_ok-trace.trace c.in_ok-image.image c.take.ensures.held c.in_ok-trace.ensures.taken c.in_ok-image.ensures.taken one c.in_ok-image.ensures.calls

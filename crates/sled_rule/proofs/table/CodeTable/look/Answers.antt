@@ -1,19 +1,27 @@
-use Rattle.std.proofs.Common.{sym, ◌∙◌, arith}
-use Rattle.sled_rule.specs.Seats.{patch_view, script_of}
-use Rattle.sled_rule.proofs.Laws.{await_within, is_await}
-use Rattle.sled_rule.proofs.Staying.{looked_within}
+use Rattle.std.proofs.Common.{◌≡◌, ◌≤◌, ℕ, ap, sym, subst, true, ◌∙◌}
+use Rattle.std.specs.Prelude.{slice_index}
+use Rattle.patch_script.specs.declared.micro.Micro.TheVariants.{Await}
+use Rattle.sled_rule.specs.declared.views.PatchView.{PatchView}
+use Rattle.sled_rule.specs.Plans.{micro_in}
+use Rattle.sled_rule.specs.Seats.{patch_view, script_of, IsLooked}
+use Rattle.sled_rule.proofs.Laws.{is_await, same_await}
 use Rattle.sled_rule.proofs.table.CodeTable.look.Goals as goal
 
-pub overflow_add-seat : goal.overflow_add-seat
-overflow_add-seat c =
-    let few = c.args.self.now.few_steps in let at = c.args.seat.now.at.0 in
-    let within = await_within (script_of c.args.self.now) (patch_view c.args.seat.now).place c.in-Await.thread c.in-Await.count c.in-Await.ensures.micro in
-    omega arith
+pub look_for-requires-clause-next : goal.look_for-requires-clause-next
+look_for-requires-clause-next c =
+    ap (λ (p : PatchView). micro_in (script_of c.args.self.now) p.place) c.next_micro.ensures.same ∙ c.in-Await.ensures.micro
 
-pub invariant_of-seat-clause-within : goal.invariant_of-seat-clause-within
-invariant_of-seat-clause-within c =
-    looked_within (script_of c.args.self.now) (patch_view c.args.seat.now) c.in-Await.thread c.in-Await.count c.load_progress-value.result _
-    c.load_progress-value.ensures.view c.requires.own.1 c.in-Await.ensures.micro
+pub returns-in-Await-clause-looked : goal.returns-in-Await-clause-looked
+returns-in-Await-clause-looked c =
+    subst (λ (p : PatchView). IsLooked p c.look_for.result (patch_view c.look_for.new.seat)) c.next_micro.ensures.same c.look_for.ensures.looked
+
+pub returns-in-Await-clause-known : goal.returns-in-Await-clause-known
+returns-in-Await-clause-known c thread count step reached =
+    let same = same_await c.in-Await.thread c.in-Await.count thread count (sym c.in-Await.ensures.micro ∙ step) in
+    c.look_for.ensures.known
+    (subst (λ (p : PatchView). c.in-Await.count ≤ slice_index p.known c.in-Await.thread) (sym c.next_micro.ensures.same)
+    (subst (λ (n : ℕ). n ≤ slice_index (patch_view c.args.seat.now).known c.in-Await.thread) (sym same.1)
+    (subst (λ (t : ℕ). count ≤ slice_index (patch_view c.args.seat.now).known t) (sym same.0) reached)))
 
 pub unreachable-requires : goal.unreachable-requires
 unreachable-requires c =

@@ -1,7 +1,7 @@
 use Rattle.std.proofs.Common.{arith}
 use Rattle.std.proofs.lemmas.Map.Text.{text_keys}
 use mathlib.Core.Path.{fun_ext}
-use Rattle.xray_io.proofs.Gathering.{at_fault}
+use Rattle.xray_io.specs.Faults.{at_fault}
 use Rattle.xray_io.proofs.memory.MemDesk.add.Goals as goal
 
 pub returns-in_err-extend_from_slice-clause-others : goal.returns-in_err-extend_from_slice-clause-others

@@ -1,12 +1,8 @@
-use Rattle.std.proofs.Common.{◌≡◌, ◌≤◌, take, Ok}
+use Rattle.std.proofs.Common.{take, Ok}
 use Rattle.xray_io.specs.Piece.{text_of}
-use Rattle.xray_io.specs.Text.{sink_of, loan_of, AddsText}
+use Rattle.xray_io.specs.Text.{AddsText}
 use Rattle.xray_io.proofs.text.Text.pieces.Given as goal
 
 abbrev pub invariant-loop-piece : goal.invariant-loop-piece
-invariant-loop-piece g l = record {
-  adds : AddsText g.S.Sink.written g.S.Sink.faults g.S.Sink.along l.fn.self l.self (text_of (take l.piece-index l.pieces)) (Ok tt);
-  later : g.S.Sink.faults (sink_of l.fn.self) ≤ g.S.Sink.faults (sink_of l.self);
-  follows : g.S.Sink.follows (sink_of l.fn.self) (sink_of l.self);
-  loan : loan_of l.self ≡ loan_of l.fn.self;
-}
+invariant-loop-piece g l =
+    AddsText g.S.Sink.written g.S.Sink.faults g.S.Sink.along l.fn.self l.self (text_of (take l.piece-index l.pieces)) (Ok tt)

@@ -1,6 +1,6 @@
 use Rattle.std.proofs.Common.{[], ◌∷◌, refl, le_refl, ◌∙◌, arith}
 use Rattle.xray_io.specs.World.{desk_view}
-use Rattle.xray_program.specs.Inputs.{image_form, script_form, schedule_form}
+use Rattle.xray_program.specs.Inputs.{image_form, script_form, schedule_form, image_limit, script_limit, schedule_limit}
 use Rattle.xray_program.specs.Setups.{setup_of}
 use Rattle.xray_program.specs.Sim.{Replays}
 use Rattle.xray_program.proofs.SimTurns.{AfterImage, AfterScript, AfterSchedule, Comes, given_before, to_schedule, to_script}
@@ -66,7 +66,7 @@ returns-in_err-image-clause-calls g c =
     let held = g.D.Desk.held c.args.desk.now in
     let comes = Comes held s.image.now s.script.now s.schedule.now s.files.trace.now s.files.audit.now (setup_of s.options) in
     stop_handed g.D.Desk.along g.met.D.Desk.along_both c.args.desk.now c.args.desk.now c.take.new.desk image_form (seen c.args.desk.now) (seen c.take.new.desk)
-    _ [] ((s.script.now, 1048576) ∷ (s.schedule.now, 16777216) ∷ []) s.image.now c.from_residual.result _ comes
+    _ [] ((s.script.now, script_limit) ∷ (s.schedule.now, schedule_limit) ∷ []) s.image.now c.from_residual.result _ comes
     tt c.from_residual.ensures.1 refl
     c.in_err-image.ensures.taken (no_reads g.D.Desk.along g.met.D.Desk.along_none c.args.desk.now) c.in_err-image.ensures.calls
 
@@ -79,10 +79,10 @@ returns-in_err-script-clause-calls g c =
     let held = g.D.Desk.held c.args.desk.now in
     let comes = Comes held s.image.now s.script.now s.schedule.now s.files.trace.now s.files.audit.now (setup_of s.options) in
     let program = c.in_ok-image.image in
-    let one = read_on along both c.args.desk.now c.args.desk.now c.take.new.desk [] s.image.now 4194304
+    let one = read_on along both c.args.desk.now c.args.desk.now c.take.new.desk [] s.image.now image_limit
     (no_reads along g.met.D.Desk.along_none c.args.desk.now) c.in_ok-image.ensures.calls in
     stop_handed along both c.args.desk.now c.take.new.desk c.take-2.new.desk (script_form c.in_ok-image.image s.options.bounds.threads) (seen c.take.new.desk)
-    (seen c.take-2.new.desk) _ ((s.image.now, 4194304) ∷ []) ((s.schedule.now, 16777216) ∷ []) s.script.now c.from_residual-in_err-script.result _ comes
+    (seen c.take-2.new.desk) _ ((s.image.now, image_limit) ∷ []) ((s.schedule.now, schedule_limit) ∷ []) s.script.now c.from_residual-in_err-script.result _ comes
     (accepts image_form 0 comes held s.image.now (AfterImage held s.script.now s.schedule.now s.files.trace.now s.files.audit.now (setup_of s.options)) program (leads comes) c.in_ok-image.ensures.taken)
     c.from_residual-in_err-script.ensures.1 refl c.in_err-script.ensures.taken one c.in_err-script.ensures.calls
 
@@ -97,11 +97,11 @@ returns-in_err-schedule-clause-calls g c =
     let program = c.in_ok-image.image in
     let plan = c.in_ok-script.script in
     let given = given_before (script_form program s.options.bounds.threads) held (g.D.Desk.held c.take.new.desk) s.script.now plan c.take.ensures.held c.in_ok-script.ensures.taken in
-    let one = read_on along both c.args.desk.now c.args.desk.now c.take.new.desk [] s.image.now 4194304
+    let one = read_on along both c.args.desk.now c.args.desk.now c.take.new.desk [] s.image.now image_limit
     (no_reads along g.met.D.Desk.along_none c.args.desk.now) c.in_ok-image.ensures.calls in
-    let two = read_on along both c.args.desk.now c.take.new.desk c.take-2.new.desk ((s.image.now, 4194304) ∷ []) s.script.now 1048576 one c.in_ok-script.ensures.calls in
+    let two = read_on along both c.args.desk.now c.take.new.desk c.take-2.new.desk ((s.image.now, image_limit) ∷ []) s.script.now script_limit one c.in_ok-script.ensures.calls in
     stop_handed along both c.args.desk.now c.take-2.new.desk c.take-3.new.desk (schedule_form s.options.bounds.threads) (seen c.take-2.new.desk)
-    (seen c.take-3.new.desk) _ ((s.image.now, 4194304) ∷ (s.script.now, 1048576) ∷ []) [] s.schedule.now c.from_residual-in_err-schedule.result _ comes
+    (seen c.take-3.new.desk) _ ((s.image.now, image_limit) ∷ (s.script.now, script_limit) ∷ []) [] s.schedule.now c.from_residual-in_err-schedule.result _ comes
     (accepts (script_form program s.options.bounds.threads) 1 comes held s.script.now (AfterScript held s.script.now s.schedule.now s.files.trace.now s.files.audit.now (setup_of s.options) program) plan
     (to_script held s.image.now s.script.now s.schedule.now s.files.trace.now s.files.audit.now (setup_of s.options) program c.in_ok-image.ensures.taken) given)
     c.from_residual-in_err-schedule.ensures.1 refl c.in_err-schedule.ensures.taken two c.in_err-schedule.ensures.calls
@@ -118,10 +118,10 @@ returns-clause-calls g c =
     let turns = c.in_ok-schedule.schedule in
     let given = given_before (script_form program s.options.bounds.threads) held (g.D.Desk.held c.take.new.desk) s.script.now plan c.take.ensures.held c.in_ok-script.ensures.taken in
     let read = given_before (schedule_form s.options.bounds.threads) held (g.D.Desk.held c.take-2.new.desk) s.schedule.now turns (c.take-2.ensures.held ∙ c.take.ensures.held) c.in_ok-schedule.ensures.taken in
-    let one = read_on along both c.args.desk.now c.args.desk.now c.take.new.desk [] s.image.now 4194304
+    let one = read_on along both c.args.desk.now c.args.desk.now c.take.new.desk [] s.image.now image_limit
     (no_reads along g.met.D.Desk.along_none c.args.desk.now) c.in_ok-image.ensures.calls in
-    let two = read_on along both c.args.desk.now c.take.new.desk c.take-2.new.desk ((s.image.now, 4194304) ∷ []) s.script.now 1048576 one c.in_ok-script.ensures.calls in
-    let three = read_on along both c.args.desk.now c.take-2.new.desk c.take-3.new.desk ((s.image.now, 4194304) ∷ (s.script.now, 1048576) ∷ []) s.schedule.now 16777216 two
+    let two = read_on along both c.args.desk.now c.take.new.desk c.take-2.new.desk ((s.image.now, image_limit) ∷ []) s.script.now script_limit one c.in_ok-script.ensures.calls in
+    let three = read_on along both c.args.desk.now c.take-2.new.desk c.take-3.new.desk ((s.image.now, image_limit) ∷ (s.script.now, script_limit) ∷ []) s.schedule.now schedule_limit two
     c.in_ok-schedule.ensures.calls in
     all_taken (accepts (schedule_form s.options.bounds.threads) 2 comes held s.schedule.now
     (AfterSchedule s.script.now s.files.trace.now s.files.audit.now (setup_of s.options) program plan) turns

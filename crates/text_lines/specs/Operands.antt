@@ -1,7 +1,7 @@
 -- The words after a keyword, as they were counted.
 use Rattle.std.specs.Prelude.{◌≡◌, ◌<◌, ℕ, List, [], ◌∷◌, length}
-use Rattle.patch_script.specs.declared.line.Operands.{Operands}
-use Rattle.patch_script.specs.declared.line.Operands.TheVariants.{Zero, One, Two, Many}
+use Rattle.text_lines.specs.declared.operands.Operands.{Operands}
+use Rattle.text_lines.specs.declared.operands.Operands.TheVariants.{Zero, One, Two, Many}
 
 -- the words are these
 abbrev pub AreOperands : List (List ℕ) → Operands → Type 0
