@@ -22,8 +22,8 @@ lines_decide threads before ((number, line) ∷ left) =
     by_tests : (clean well named : Bool)
         → (First (not clean) (Err (faults.Syntax number)) (First (not well) (Err (faults.Syntax number)) (First (not named) (Err (faults.Thread number))
         (Ok (before ++ turns_said (said_by (words_of line)))))) >>= λ after. InTurn (λ turns line. line_rows threads turns line) after left)
-        ≡ decided ((unless clean (faults.Syntax number) ++ unless well (faults.Syntax number) ++ unless named (faults.Thread number)) ++ flat_map (line_faults threads) left)
-        (before ++ turns_said (said_by (words_of line)) ++ flat_map line_turns left)
+        ≡ decided ((unless clean (faults.Syntax number) ++ (unless well (faults.Syntax number) ++ unless named (faults.Thread number))) ++ flat_map (line_faults threads) left)
+        (before ++ (turns_said (said_by (words_of line)) ++ flat_map line_turns left))
     by_tests false well named = refl
     by_tests true false named = refl
     by_tests true true false = refl
