@@ -1,8 +1,8 @@
 #!/usr/bin/env python3
-"""Runs commands one at a time, and says what time and what memory each of them took alone.
+"""Runs commands one at a time, and reports the time and the memory that each of them took by itself.
 
-The system counts what a process held that began a command as the command's own, and a bench may hold a lot. So this file runs
-as a process of its own, which holds little, and begins the command: some 16 MB, below which no peak is reported.
+The system counts the memory of the process that starts a command as the command's own, and a bench may hold a lot. So this
+file runs as a separate process that holds little, and starts the command. It holds about 16 MB; no peak below that is reported.
 """
 import dataclasses
 import os
@@ -14,7 +14,7 @@ import time
 
 @dataclasses.dataclass(frozen=True)
 class Measured:
-    """A run's status, its processor time and the time that went by in seconds, and its peak of memory in bytes."""
+    """A run's status, its processor time and elapsed time in seconds, and its peak of memory in bytes."""
 
     status: int
     processor: float
@@ -23,7 +23,7 @@ class Measured:
 
 
 def measured(words, folder, output=None):
-    """Runs a command in a folder; what it prints goes to a file there, or nowhere, and its standard error to `err`."""
+    """Runs a command in a folder. What it prints goes to a file there, or nowhere, and its standard error to `err`."""
     reading, writing = os.pipe()
     with open(os.devnull if output is None else folder / output, "wb") as out, open(folder / "err", "wb") as err:
         words = [sys.executable, os.path.abspath(__file__), str(writing), *map(str, words)]
@@ -35,7 +35,7 @@ def measured(words, folder, output=None):
 
 
 def best(words, folder, runs, output=None):
-    """The run with the least processor time; a run that fails ends the bench."""
+    """The run with the least processor time. A run that fails ends the bench."""
     every = [measured(words, folder, output) for _ in range(runs)]
     if any(run.status != 0 for run in every):
         sys.exit(f"{' '.join(map(str, words))}: {(folder / 'err').read_text(errors='replace')[:500]}")
@@ -47,7 +47,7 @@ def megabytes(count):
 
 
 def run_alone(writing, words):
-    """Runs a command, and prints what it took on a descriptor."""
+    """Runs a command, and prints what it took to a descriptor."""
     begin = time.perf_counter()
     process = subprocess.Popen(words)
     _, status, used = os.wait4(process.pid, 0)
@@ -57,7 +57,7 @@ def run_alone(writing, words):
 
 
 def built_program():
-    """The program that a bench measures where none is named."""
+    """The program that a bench measures if none is named."""
     return pathlib.Path(__file__).resolve().parent.parent / "crates/xray/out/xray"
 
 

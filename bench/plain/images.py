@@ -24,7 +24,7 @@ def two_registers(code, dst, src):
 
 
 def encode(line, labels, place):
-    """The bytes of an instruction; `place` counts from the code's start."""
+    """The bytes of an instruction. `place` counts from the code's start."""
     name, *operands = line
     if name == "mov":
         return opcode(0xB8, operands[0]) + struct.pack("<I", operands[1])
@@ -42,9 +42,9 @@ def encode(line, labels, place):
 
 
 def lay_out(functions, labels):
-    """The code, the functions' places, the sleds, and where each label stands.
+    """The code, the functions' places, the sleds, and the place of each label.
 
-    `labels` says the last of these by an earlier pass.
+    `labels` has the places of the labels from an earlier pass.
     """
     code, starts, sleds, found = bytearray(), [], [], {}
 
@@ -89,7 +89,7 @@ RAX, RCX, RDX, RDI = 0, 1, 2, 7
 
 
 def counting_loop(rounds):
-    """Three instructions a round: adds up the numbers from `rounds` down to 1 in rax."""
+    """Three instructions per round: adds up the numbers from `rounds` down to 1 in rax."""
     lines = [
         ("mov", RCX, rounds),
         ("mov", RDX, 1),

@@ -1,7 +1,7 @@
 //! The plain machine in ordinary Rust, to measure `xray plain` against: `plain IMAGE THREADS FUEL`.
 //!
 //! It reads an image without judging it, decodes its units once into steps whose branches are
-//! resolved, and runs each thread with a `match` a step, as `machine_step` does. It prints the same
+//! resolved, and runs each thread with a `match` per step, as `machine_step` does. It prints the same
 //! text.
 
 use std::fmt::Write;
@@ -35,7 +35,7 @@ struct Image {
     base: u64,
     entry: u32,
     steps: Vec<Step>,
-    /// For each byte of the code the number of the unit that begins there, or that of `Nowhere`.
+    /// For each byte of the code, the number of the unit that begins there, or that of `Nowhere`.
     places: Vec<u32>,
 }
 
@@ -45,8 +45,8 @@ fn number(bytes: &[u8], at: usize, length: usize) -> u64 {
     u64::from_le_bytes(field)
 }
 
-/// What stands at a place of the code, with branches that name their target's place in the code,
-/// and how long it is.
+/// What is at a place of the code, and how long it is. Branches name their target's place in the
+/// code.
 fn decode(code: &[u8], at: usize, base: u64) -> (Step, usize) {
     let distance = |from: usize| number(code, from, 4) as u32 as i32;
     let target = |from: usize| (from as i64 + 4 + i64::from(distance(from))) as u32;

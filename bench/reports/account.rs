@@ -14,7 +14,7 @@ const NEW_BUFFER: u8 = 0;
 const NEW_CPU: u8 = 2;
 const TSC_WRAP: u8 = 3;
 
-/// What the calls of a function come to, over all threads.
+/// The calls of a function, over all threads.
 #[derive(Default)]
 struct Function {
     durations: Vec<u64>,

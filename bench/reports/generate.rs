@@ -2,9 +2,9 @@
 //!
 //! The file has 3,836 full blocks of 16,384 bytes, thread by thread: 7,825,440 events. Each thread
 //! goes up and down a graph of calls among 50 functions, at most 20 deep, and each exit ends the
-//! innermost call. Wall times rise from block to block, seconds and microseconds both, so that
-//! LLVM's reader keeps the blocks in their order; and all threads begin at one counter, below which
-//! LLVM's account takes no event.
+//! innermost call. Wall times rise from block to block, in both seconds and microseconds, so LLVM's
+//! reader keeps the blocks in their order. All threads begin at the same counter, since LLVM's
+//! account takes no event below the first one.
 
 const BLOCKS: u32 = 3836;
 const BUFFER_LENGTH: usize = 16_384;
@@ -22,7 +22,7 @@ const PID: u8 = 0x13;
 const ENTRY: u32 = 0;
 const EXIT: u32 = 1;
 
-/// Random numbers by a linear congruential generator, of which the upper bits are taken.
+/// Random numbers: the upper bits of a linear congruential generator.
 struct Draw(u64);
 
 impl Draw {
@@ -60,7 +60,7 @@ impl Thread {
     }
 }
 
-/// What a function calls: one function mostly, and seldom one of two others.
+/// What a function calls: mostly one function, and rarely one of two others.
 fn callee(caller: u32, draw: &mut Draw) -> u32 {
     let choice = match draw.below(10) {
         0 => 2,

@@ -55,8 +55,7 @@ fn number(bytes: &[u8], at: usize, length: usize) -> u64 {
     u64::from_le_bytes(field)
 }
 
-/// What stands at a place of the code, with branches that name the place of their target, and how
-/// long it is.
+/// What is at a place of the code, and how long it is. Branches name the place of their target.
 fn decode(code: &[u8], at: usize, sled: usize) -> (Step, usize) {
     let target =
         |from: usize| (from as i64 + 4 + number(code, from, 4) as u32 as i32 as i64) as usize;
@@ -248,7 +247,7 @@ const TSC_WRAP: u8 = 0x07;
 const WALL_TIME: u8 = 0x09;
 const PID: u8 = 0x13;
 
-/// What a run was asked to record: the counter's step and start, and where threads run.
+/// What events depend on: the counter's step and start, and the CPUs of the threads.
 #[derive(Clone, Copy)]
 struct Stamps {
     tick: u64,
@@ -517,7 +516,7 @@ impl<'i> Machine<'i> {
         }
     }
 
-    /// Runs to the end, tells the patcher so, and answers what is printed.
+    /// Runs to the end, reports that to the patcher, and answers what is printed.
     fn finish(&mut self) -> String {
         let end = self.run();
         self.table.progress[self.number - 1]

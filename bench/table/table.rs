@@ -23,7 +23,7 @@ struct Table {
 
 const UNPATCHED: [u64; 4] = [0x09EB, 0x841F_0F66, 0, 512];
 const PATCHED: [u64; 4] = [0xBA41, 1, 0xE8, 0x1F_FFF5];
-/// In which order the parts of a sled are stored: the head comes last.
+/// The order in which the parts of a sled are stored: the head comes last.
 const ORDER: [usize; 4] = [1, 2, 3, 0];
 
 impl Table {

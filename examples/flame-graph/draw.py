@@ -3,9 +3,9 @@
 
 usage: xray stack TRACE IMAGE --format flame | examples/flame-graph/draw.py > GRAPH.svg
 
-A line of the input is a path, a space and the path's own time. A box of the graph is a path: it is as wide as the time of its
-calls, it stands on its caller, and what it doesn't have above it is its own time. Boxes stand in the order of their names. A
-pointer that rests on a box shows its function, its time and its part of all.
+A line of the input is a path, a space and the path's own time. A box of the graph is a path. It is as wide as its calls took
+time, and it stands on the box of its caller. The part with no box above it is its own time. Boxes are in the order of their
+names. Point at a box to see its function, its time and its share of the whole.
 """
 import dataclasses
 import html
@@ -24,7 +24,7 @@ COLORS = ["#e5704b", "#e8894f", "#eba154", "#eeb85a", "#e2614d", "#f0c75f", "#d9
 
 @dataclasses.dataclass
 class Box:
-    """A path by its last function; the time is that of all of its calls."""
+    """A path by its last function. The time is that of all of its calls."""
 
     name: str
     own: int = 0

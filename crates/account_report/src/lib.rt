@@ -12,6 +12,3 @@ pub use order::order_rows;
 pub use report::{account, latencies};
 pub use row::{AccountRow, SortKey};
 pub use text::{AccountFormat, write_account};
-
-#[cfg(test)]
-mod tests;

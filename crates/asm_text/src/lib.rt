@@ -36,6 +36,3 @@ pub use assembling::assemble;
 pub use fault::AsmFault;
 pub use laws::{an_assembled_file_is_accepted, each_sled_is_of_its_function};
 pub use written::{a_written_text_is_read, functions_that_say_always_have_ids};
-
-#[cfg(test)]
-mod tests;

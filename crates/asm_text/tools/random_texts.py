@@ -1,19 +1,19 @@
 #!/usr/bin/env python3
-"""Compares `xray asm` with a model of it on random texts, and says where they differ.
+"""Compares `xray asm` with a model of it on random texts, and reports where they differ.
 
 usage: crates/asm_text/tools/random_texts.py [PROGRAM] [--texts N] [--seed N]
     PROGRAM: the built program, crates/xray/out/xray if left out
     --texts: how many texts, 1000 if left out
-    --seed: what the texts and thresholds are drawn by, 1 if left out
+    --seed: the seed of the texts and thresholds, 1 if left out
 
 The model is written from docs/formats alone, with statuses and lines on standard error from docs/COMMANDS.md. It
 shares nothing with the assembler or its definitions. Most texts are small programs with all lines of the language,
-written in all ways, and many with a fault; the others are at a limit of the language or one past it.
+written in all allowed ways, and many have a fault. The others are at a limit of the language or one past it.
 
-Of each text all bytes of the image are compared, or the refusal's line on standard error, the status, and that no image
-was made. `extract` and `plain` have to accept each image. The last line says how many texts became images, and how many
-were refused by each refusal. A difference is told with what was expected and what came; then the text and its images
-are kept, in the folder that the work is done in, and the status is 1.
+For each text all bytes of the image are compared; or the refusal's line on standard error, the status, and that no
+image was made. `extract` and `plain` have to accept each image. The last line says how many texts became images, and
+how often each refusal came up. A difference is reported with what was expected and what was found. Then the text and
+its images are kept, in the folder that the work is done in, and the status is 1.
 """
 import argparse
 import collections
@@ -87,7 +87,7 @@ class Refusal(enum.Enum):
 
 
 class Refused(Exception):
-    """A text is refused, with the line for all but its length."""
+    """A text is refused. All refusals except that of its length have a line."""
 
     def __init__(self, refusal, line=None):
         super().__init__(refusal, line)
@@ -99,39 +99,39 @@ class Refused(Exception):
 
 
 def lines_of(text):
-    """The lines of a text: each has an LF, which the last may lack, and a CR before an LF is no part of it."""
+    """The lines of a text: each ends with an LF, which the last may lack, and a CR before an LF isn't part of it."""
     *ended, last = text.split(b"\n")
     lines = [line.removesuffix(b"\r") for line in ended]
     return lines + [last] if last else lines
 
 
 def words_of(line):
-    """The words before a line's comment; None where a byte stands there that may not."""
+    """The words before a line's comment, or None if a byte there isn't allowed."""
     said, _, _ = line.partition(b"#")
     return said.decode("ascii").split() if re.fullmatch(rb"[\t\x20-\x7E]*", said) else None
 
 
 @dataclasses.dataclass(frozen=True)
 class Register:
-    """A register by its number; those that may not be named have none."""
+    """A register by its number. Registers that may not be named have none."""
 
     number: int | None
 
     @property
     def low(self):
-        """The three bits that stand in an opcode or an operand byte."""
+        """The three bits in an opcode or an operand byte."""
         return self.number % 8
 
     @property
     def is_extended(self):
-        """The fourth bit, which stands in a prefix byte."""
+        """The fourth bit, which is in a prefix byte."""
         return self.number >= 8
 
 
 UNNAMED = Register(None)
 
 
-# Each of these reads a word as an operand, and is None where the word is none of its kind.
+# Each of these reads a word as an operand, and gives None if the word isn't of its kind.
 
 
 def as_register(word, names):
@@ -178,7 +178,7 @@ def as_choice(word):
     return {"always": Choice.ALWAYS, "never": Choice.NEVER}.get(word)
 
 
-# What the words behind each keyword have to be, by how many there are.
+# What the words after each keyword have to be, by how many there are.
 OPERANDS = {
     ("base", 1): [as_number],
     ("entry", 1): [as_name],
@@ -242,11 +242,11 @@ def statement(line, words):
     return None if None in operands else Statement(line, keyword, operands)
 
 
-# ---- The model: instructions, and where the units of a line stand
+# ---- The model: instructions, and the places of a line's units
 
 
 def encoding(said, distance=0):
-    """The bytes of a line's instruction, a branch with its distance; none for a line that has no instruction."""
+    """The bytes of a line's instruction, with the distance of a branch. None for a line without an instruction."""
     relative = struct.pack("<i", distance)
     match said.keyword, said.operands:
         case "mov", [target, immediate]:
@@ -277,14 +277,14 @@ def prefix(register):
     return b"\x41" if register.is_extended else b""
 
 
-# The lines that have a sled where their function is instrumented, and the two bytes that each kind begins with.
+# The lines that have a sled if their function is instrumented, and the two bytes that each kind begins with.
 SLEDS = {"fn": Sled.ENTRY, "ret": Sled.EXIT, "tailjmp": Sled.TAIL}
 HEADS = {Sled.ENTRY: b"\xEB\x09", Sled.EXIT: b"\xC3\x2E", Sled.TAIL: b"\xEB\x09"}
 
 
 @dataclasses.dataclass(frozen=True)
 class Placed:
-    """A line with the place of its first byte, that of its sled if it has one, and the place behind it."""
+    """A line with the place of its first byte, that of its sled if it has one, and the place after it."""
 
     said: Statement
     first: int
@@ -297,7 +297,7 @@ class Placed:
         return self.sled if self.said.is_function and self.sled is not None else self.first
 
     def code(self, places):
-        """The bytes of the line's units, by the places that names stand for; a distance counts from their end."""
+        """The bytes of the line's units, by the places that names stand for. A distance counts from their end."""
         distance = places[self.said.name] - self.end if self.said.keyword in BRANCHES else 0
         if self.sled is None:
             return encoding(self.said, distance)
@@ -307,7 +307,7 @@ class Placed:
 
 
 def placed(said, place, is_instrumented):
-    """A line whose units begin at a place. An exit sled is all of its `ret`; a tail sled has its jump behind it."""
+    """A line whose units begin at a place. An exit sled is all of its `ret`. A tail sled has its jump after it."""
     length = len(encoding(said))
     if not is_instrumented or said.keyword not in SLEDS:
         return Placed(said, place, None, place + length)
@@ -434,7 +434,7 @@ def is_instrumented(function, threshold):
 
 
 def layout(functions, threshold):
-    """All lines of the functions where they stand."""
+    """All lines of the functions, with their places."""
     rows = []
     place = 0
     for function in functions:
@@ -446,7 +446,7 @@ def layout(functions, threshold):
 
 
 def places_of(rows):
-    """The place that each name stands for: a label is where the next line that is none starts."""
+    """The place that each name stands for. A label is where the next line starts that isn't a label."""
     places = {}
     names = []
     for row in rows:
@@ -499,12 +499,12 @@ def assembled(text, threshold):
 NAMES = ["main", "a", "A", "_", ".L0", "$x", "f1", "x.y$z_9", "ret", "fn", "always", "never", "rax", "n" * NAME_LIMIT]
 NAMED_LOW = [word for word in LOW if word not in RESERVED]
 NAMED_WIDE = [word for word in WIDE if word not in RESERVED]
-# What follows the name in a `fn` line; nothing comes more often, since a threshold is for that.
+# What follows the name in a `fn` line. Nothing is more frequent, since thresholds need it.
 CHOICES = ["", "", " always", " never"]
 
 
 def program(draw):
-    """A text in which all is right: some functions of a few instructions, and labels among them."""
+    """A text without a fault: some functions of a few instructions, with labels among them."""
     names = draw.sample(NAMES, draw.randint(1, 8))
     functions = names[: draw.randint(1, 4)]
     address = 16 * up_to(draw, BASE_LIMIT // 16)
@@ -515,13 +515,13 @@ def program(draw):
         lines.append(f"fn {function}{draw.choice(CHOICES)}".split(" "))
         lines += [instruction(draw, names) for _ in range(draw.randint(1, 6))]
     for label in names[len(functions) :]:
-        # Behind the first `fn`, and before the last instruction.
+        # After the first `fn`, and before the last instruction.
         lines.insert(draw.randrange(first + 1, len(lines)), [label + ":"])
     return lines
 
 
 def instruction(draw, names):
-    """An instruction line; those with sleds come more often."""
+    """An instruction line. Those with sleds are more frequent."""
     keyword = draw.choice([*INSTRUCTIONS, "ret", "tailjmp"])
     if keyword == "mov":
         return [keyword, draw.choice(NAMED_LOW) + ",", spelled(draw, up_to(draw, MOV_LIMIT))]
@@ -549,7 +549,7 @@ def spelled(draw, value):
 
 # ---- Random texts: faults
 
-# Lines that say nothing, each for another reason.
+# Lines that aren't of the language, each for another reason.
 STRANGE = [
     "nop", "Ret", "ret ret", "ret: ret", "a :", ":", "a::", "1a:", "a-b:", "n" * (NAME_LIMIT + 1) + ":",
     "fn", "FN a", "fn 1a", "fn a b", "fn a Always", "fn a always never", "fn a,", "fn a:",
@@ -577,7 +577,7 @@ def strange_line(draw, lines):
 
 
 def stray_line(draw, lines):
-    """A line that is right, but perhaps not where it stands."""
+    """A line that is right, but perhaps in a wrong place."""
     name = draw.choice(NAMES)
     right = [["base", "32"], ["entry", name], ["fn", name], [name + ":"], instruction(draw, NAMES)]
     insert(draw, lines, draw.choice(right))
@@ -608,14 +608,14 @@ def late_function(draw, lines):
 
 
 def unknown_name(draw, lines):
-    """Another name in a line that goes to one, which may be of nothing, or of no function."""
+    """Another name in a line that goes to a name. It may be undefined, or not a function."""
     users = [words for words in lines if words[0] in ("entry", *BRANCHES) and len(words) > 1]
     if users:
         draw.choice(users)[1] = draw.choice(NAMES)
 
 
 def entry_at_label(draw, lines):
-    """An `entry` in front of all lines that names a label."""
+    """An `entry` before all lines that names a label."""
     labels = [words[0].removesuffix(":") for words in lines if words[0].endswith(":")]
     if labels:
         lines.insert(0, ["entry", draw.choice(labels)])
@@ -665,7 +665,7 @@ FAULT_SHARE = 0.45
 
 
 def small_text(draw):
-    """A program, perhaps with a fault, or with two, of which one has to be told."""
+    """A program, perhaps with a fault, or with two faults, one of which has to be reported."""
     lines = program(draw)
     if draw.random() < FAULT_SHARE:
         for fault in draw.choices(FAULTS, k=draw.choice([1, 2])):
@@ -686,7 +686,7 @@ DAMAGE_SHARE = 0.08
 
 
 def written(draw, lines):
-    """The bytes of lines with blanks, comments, empty lines and ends of all kinds, and now and then with a damage."""
+    """The bytes of lines with blanks, comments, empty lines and ends of all kinds, sometimes damaged."""
     ends = draw.choice(ENDS)
     text = b""
     for words in lines:
@@ -719,7 +719,7 @@ def damaged(draw, text):
     return text[:at] + draw.choice([odd + text[at:], text[at + 1 :], odd + text[at + 1 :], b""])
 
 
-# ---- Random texts: at a limit, or so much past it as is said
+# ---- Random texts: at a limit, or past it by the given amount
 
 # Lines of one instruction, with their bytes.
 FILLERS = {
@@ -735,7 +735,7 @@ FILLERS = {
 }
 # Lines with sleds, with their bytes at an even place.
 WITH_SLEDS = {"ret": SLED_LENGTH, "tailjmp a": SLED_LENGTH + 5, "fn b": SLED_LENGTH}
-# Fillers of any length end so far before the limit, and single bytes go the rest of the way.
+# Fillers of any length end this far before the limit, and single bytes do the rest.
 ROOM = 64
 
 
@@ -744,7 +744,7 @@ def joined(lines):
 
 
 def full_code(draw, past):
-    """As much code as there may be, now and then a byte less, since no sled ends at some places."""
+    """As much code as allowed, sometimes a byte less, since sleds can't end at some places."""
     says = draw.choice(CHOICES)
     place = 0 if says == " never" else SLED_LENGTH
     ends = FILLERS if says == " never" else FILLERS | WITH_SLEDS
@@ -761,7 +761,7 @@ def full_code(draw, past):
 
 
 def full_sled_map(draw, past):
-    """As many sleds as there may be."""
+    """As many sleds as allowed."""
     left = SLED_LIMIT + past
     lines = []
     functions = 0
@@ -782,7 +782,7 @@ def full_sled_map(draw, past):
 
 
 def full_function_list(draw, past):
-    """As many functions as there may be."""
+    """As many functions as allowed."""
     lines = []
     for function in range(FUNCTION_LIMIT + past):
         lines.append(f"fn f{function}{draw.choice(CHOICES)}")
@@ -791,13 +791,13 @@ def full_function_list(draw, past):
 
 
 def full_length(draw, past):
-    """A text as long as it may be, by a comment."""
+    """A text as long as allowed, by a comment."""
     text = written(draw, program(draw))
     return text + b"#" * (TEXT_LIMIT + past - len(text))
 
 
 def longest_name(draw, past):
-    """A name as long as it may be, of a function or a label."""
+    """A name as long as allowed, of a function or a label."""
     function, label = draw.sample(["short", "n" * (NAME_LIMIT + past)], 2)
     return joined([f"entry {function}", f"fn {function}", f"{label}:", f"jmp {label}"])
 
@@ -812,9 +812,9 @@ def largest_number(draw, past):
 
 LIMITS = [full_code, full_sled_map, full_function_list, full_length, longest_name, largest_number]
 LIMIT_TURNS = [(kind, past) for kind in LIMITS for past in (0, 1)]
-# One in so many texts is at a limit or one past it, by turns.
+# One in this many texts is at a limit or one past it, by turns.
 LIMIT_EVERY = 20
-# The functions of small texts have so few instructions that many of these decide; None leaves the option out.
+# The functions of small texts have few instructions, so many of these decide. None leaves the option out.
 THRESHOLDS = [None, None, 0, 1, 2, 3, 4, 5, 6, 7, THRESHOLD_LIMIT]
 
 
@@ -852,7 +852,7 @@ class Case:
 
 @dataclasses.dataclass(frozen=True)
 class Outcome:
-    """What a run leaves; the image is None where there is no such file."""
+    """What a run leaves. The image is None if there is no such file."""
 
     status: int
     output: bytes
@@ -861,7 +861,7 @@ class Outcome:
 
 
 def random_case(draw, number):
-    """The text of a number, a small one or one in its turn at a limit."""
+    """The text with a number: a small one, or at times one at a limit."""
     turn, rest = divmod(number, LIMIT_EVERY)
     if rest == 0:
         kind, past = LIMIT_TURNS[turn % len(LIMIT_TURNS)]
@@ -899,7 +899,7 @@ def came(xray, folder, case):
 
 
 def differences(one, two):
-    """A line for each part in which the outcome that came second isn't the one that was expected."""
+    """A line for each part in which the second outcome isn't the expected one."""
     for part in ("status", "output", "error"):
         expects, comes = getattr(one, part), getattr(two, part)
         if expects != comes:
@@ -913,7 +913,7 @@ def differences(one, two):
 
 
 def image_differences(one, two):
-    """A line for each part of the file in which two images differ: where they begin to, and how they go on."""
+    """A line for each part of the file in which two images differ: where the difference begins, and how each goes on."""
     others = parts_of(two)
     for part, content in parts_of(one).items():
         if content != others[part]:
@@ -952,7 +952,7 @@ def unaccepted(xray, folder, case):
 
 
 def compared(xray, folder, case):
-    """Why the text is refused, or None, and a line for each difference; without any, no file is left."""
+    """Why the text is refused, or None, and a line for each difference. If nothing differs, no file is left."""
     refusal, expects = expected(case)
     comes = came(xray, folder, case)
     told = list(differences(expects, comes))
@@ -967,7 +967,7 @@ def compared(xray, folder, case):
 
 
 def compare_all(xray, folder, texts, seed):
-    """How often each refusal came, None for images, and how many texts made a difference; each is printed."""
+    """How often each refusal came up, with None for images, and how many texts differed. All differences are printed."""
     draw = random.Random(seed)
     counts = collections.Counter()
     differ = 0

@@ -11,8 +11,6 @@ mod law;
 mod pass;
 mod pool;
 mod stocking;
-#[cfg(test)]
-mod tests;
 mod turning;
 mod view;
 

@@ -18,8 +18,6 @@ mod report_options;
 mod rows;
 mod run_options;
 mod tables;
-#[cfg(test)]
-mod tests;
 mod words;
 
 pub use laws::commands_follow_their_rows;

@@ -11,6 +11,3 @@ mod writing;
 
 pub use buffer::{Buffer, LARGEST_SIZE, LEAST_SIZE, MOST_BUFFERS};
 pub use laws::{a_body_has_room, a_segment_grows, one_event_fits, segments_hold_all};
-
-#[cfg(test)]
-mod tests;

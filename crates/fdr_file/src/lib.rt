@@ -20,6 +20,3 @@ pub use laws::{a_file_reads_back, a_place_is_decoded, a_trace_is_read, what_is_r
 pub use reading::read_trace;
 pub use trace::{Block, Blocks, Events, Trace};
 pub use writing::write_file;
-
-#[cfg(test)]
-mod tests;

@@ -21,6 +21,3 @@ pub use reading::take_rec;
 pub use rec::{Rec, rec_len};
 pub use recorder::Recorder;
 pub use writing::put_rec;
-
-#[cfg(test)]
-mod tests;

@@ -8,6 +8,3 @@ mod runs;
 pub use mark::Mark;
 pub use marks::Marks;
 pub use runs::{add_runs, write_runs};
-
-#[cfg(test)]
-mod tests;

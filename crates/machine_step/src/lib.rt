@@ -37,6 +37,3 @@ pub use setup::Setup;
 pub use state_text::{add_marks, write_state};
 pub use steps::Steps;
 pub use want::Want;
-
-#[cfg(test)]
-mod tests;

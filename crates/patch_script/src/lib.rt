@@ -19,8 +19,6 @@ mod refusal;
 mod script;
 mod sleds;
 mod standing;
-#[cfg(test)]
-mod tests;
 mod written;
 
 pub use command::Command;

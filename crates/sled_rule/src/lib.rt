@@ -12,8 +12,6 @@ mod patcher;
 mod plays;
 mod seats;
 mod table;
-#[cfg(test)]
-mod tests;
 mod views;
 mod worker;
 

@@ -87,7 +87,7 @@ impl CodeTable {
         }
     }
 
-    /// Looks whether a thread has made so many passings, as the micro step at the place awaits it.
+    /// Looks whether a thread has made `count` passings, which the micro step at the place awaits.
     fn look_for(&self, seat: &mut PatchSeat, thread: u32, count: u32) -> bool
         requires own { IsPatcherOf self.now seat.old }
         requires next { micro_in (script_of self.now) (patch_view seat.old).place ≡ Micro.Await thread count }

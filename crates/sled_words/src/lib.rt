@@ -9,8 +9,6 @@
 mod bytes;
 mod layout;
 mod part;
-#[cfg(test)]
-mod tests;
 mod value;
 mod words;
 

@@ -8,8 +8,6 @@ mod laws;
 mod lines;
 mod schedule;
 mod script;
-#[cfg(test)]
-mod tests;
 mod text;
 
 pub use inputs::soak_inputs;

@@ -24,6 +24,3 @@ pub use scan::MOST_OPEN;
 pub use stack_row::{StackFault, StackRow};
 pub use stack_text::{StackForm, write_stack};
 pub use stacks_of::stacks;
-
-#[cfg(test)]
-mod tests;

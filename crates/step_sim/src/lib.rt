@@ -13,8 +13,6 @@ mod ring;
 mod schedule;
 mod sim_fault;
 mod start;
-#[cfg(test)]
-mod tests;
 mod thread;
 mod turns;
 mod written;

@@ -19,6 +19,3 @@ pub use laws::{an_encoding_reads_back, no_encoding_begins_another, one_answer, o
 pub use reading::decode;
 pub use reg::{REGISTERS, Reg};
 pub use writing::encode;
-
-#[cfg(test)]
-mod tests;

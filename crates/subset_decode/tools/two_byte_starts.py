@@ -1,7 +1,7 @@
 """Prints what each two bytes begin, as runs in ascending order, for src/tests/two_byte_starts.rt.
 
 It lists the encodings of the ten instructions with all sixteen registers, by the tables of the Intel
-SDM, volume 2, and asks of each start which of them go on. It knows no decoder.
+SDM, volume 2, and looks which of them continue each start. It has no decoder.
 """
 
 RESERVED = (4, 10)
@@ -34,7 +34,7 @@ def encodings():
 
 
 def answer(start, alive):
-    """The shortest front of the start that decides."""
+    """The shortest prefix of the start that decides."""
     for length in range(len(start) + 1):
         if length:
             byte = start[length - 1]

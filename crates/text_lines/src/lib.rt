@@ -11,8 +11,6 @@ mod keywords;
 mod laws;
 mod numerals;
 mod operands;
-#[cfg(test)]
-mod tests;
 mod text;
 mod tokens;
 

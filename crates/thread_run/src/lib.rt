@@ -18,6 +18,3 @@ pub use running::run_threads;
 pub use thread::new_cpu;
 pub use whole::{RunEnd, run};
 pub use worker::{Turn, Worker};
-
-#[cfg(test)]
-mod tests;

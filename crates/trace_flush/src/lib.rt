@@ -13,6 +13,3 @@ pub use header::trace_header;
 pub use laws::{a_run_is_audited, a_run_is_traced, audit_tells_its_run};
 pub use line::{AuditLine, add_audit_lines};
 pub use order::arrange;
-
-#[cfg(test)]
-mod tests;

@@ -1,4 +1,5 @@
 //! A run of the top call, and what it leaves.
+use example_images::OUTPUTS_AN_A;
 use std::alloc::Global;
 use std::sync::Wait;
 use std::test::Fail;
@@ -8,24 +9,7 @@ use xray_program::xray;
 
 /// The file of an image of 170 bytes. Its only function, at 0x1000, is an entry sled, `mov eax,
 /// 0x41`, `out 1, al`, and an exit sled.
-pub const IMAGE: [u8; 170] = [
-    // The header: the version, the base, the lengths, and the places of the trampolines.
-    b'X', b'R', b'I', b'M', 1, 0, 0, 0, 0x00, 0x10, 0, 0, 0, 0, 0, 0, //
-    29, 0, 0, 0, 1, 0, 0, 0, 2, 0, 0, 0, 0, 0, 0, 0, //
-    0x00, 0x10, 0x20, 0, 0, 0, 0, 0, 0x10, 0x10, 0x20, 0, 0, 0, 0, 0, //
-    0x20, 0x10, 0x20, 0, 0, 0, 0, 0, 0x30, 0x10, 0x20, 0, 0, 0, 0, 0, //
-    // The code.
-    0xEB, 0x09, 0x66, 0x0F, 0x1F, 0x84, 0x00, 0x00, 0x02, 0x00, 0x00, //
-    0xB8, 0x41, 0x00, 0x00, 0x00, 0xE6, 0x01, //
-    0xC3, 0x2E, 0x66, 0x0F, 0x1F, 0x84, 0x00, 0x00, 0x02, 0x00, 0x00, //
-    // The function.
-    0x00, 0x10, 0, 0, 0, 0, 0, 0, 4, b'm', b'a', b'i', b'n', //
-    // The map: the entry sled, and the exit sled.
-    0x00, 0x10, 0, 0, 0, 0, 0, 0, 0x00, 0x10, 0, 0, 0, 0, 0, 0, //
-    0, 1, 0, 0, 0, 0, 0, 0, 0, 0, 0, 0, 0, 0, 0, 0, //
-    0x12, 0x10, 0, 0, 0, 0, 0, 0, 0x00, 0x10, 0, 0, 0, 0, 0, 0, //
-    1, 1, 0, 0, 0, 0, 0, 0, 0, 0, 0, 0, 0, 0, 0, 0, //
-];
+pub const IMAGE: [u8; 170] = OUTPUTS_AN_A;
 
 /// Both sleds are patched before the thread starts, and unpatched once it runs.
 pub const SCRIPT: &str = "patch\ngo\nunpatch\n";

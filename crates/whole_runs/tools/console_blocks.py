@@ -1,13 +1,13 @@
 #!/usr/bin/env python3
-"""Runs the console blocks of the documents, and says where the program prints something else than they show.
+"""Runs the console blocks of the documents, and reports where the program doesn't print what they show.
 
 usage: crates/whole_runs/tools/console_blocks.py [PROGRAM]
     PROGRAM: the built program, crates/xray/out/xray if left out
 
 In a block ```console a line that begins with `$ ` is a command. The lines after it, up to the next command, are what it prints on
-standard output and standard error. Each document has one shell, so that a command finds the files and the folder that those
-before it left. README.md and the tour begin at the top of a copy of the examples; the manual and the pages on formats begin in a
-folder with the files of all examples. Each difference is printed with its document and line, and then the status is 1.
+standard output and standard error. Each document has one shell, so a command finds the files and the folder that earlier commands
+left. README.md and the tour begin at the top of a copy of the examples. The manual and the pages on formats begin in a folder with
+the files of all examples. Each difference is printed with its document and line, and then the status is 1.
 """
 import argparse
 import dataclasses
@@ -27,7 +27,7 @@ MARK = "---- console_blocks: done ----"
 
 @dataclasses.dataclass
 class Step:
-    """A command of a block, the line that it stands on, and what the document shows below it."""
+    """A command of a block, the number of its line, and what the document shows below it."""
 
     line: int
     command: str
@@ -75,7 +75,7 @@ def prepared(folder, name, program):
 
 
 def differences(name, program):
-    """How many commands a document has, and a report of each that prints something else."""
+    """How many commands a document has, and a report on each that prints something else."""
     steps = steps_of(ROOT / name)
     with tempfile.TemporaryDirectory(prefix="console_blocks.") as folder_name:
         outputs = printed(steps, *prepared(pathlib.Path(folder_name), name, program))

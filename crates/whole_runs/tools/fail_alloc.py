@@ -1,21 +1,21 @@
 #!/usr/bin/env python3
-"""Refuses each allocation of small runs in turn, and says where a run then does something else than report that.
+"""Refuses each allocation of small runs in turn, and reports where a run then does what it may not do.
 
 usage: crates/whole_runs/tools/fail_alloc.py [PROGRAM] [--with COMMANDS] [--most N]
     PROGRAM: the built program, crates/xray/out/xray if left out
-    --with: which commands are run, joined by commas, all of them if left out
+    --with: which commands are run, with commas between them; all of them if left out
     --most: how many allocations of a run are tried, 5,000 if left out
 
-Each command is run on the files of examples/. Its Nth allocation is refused, for N from 1 until a run makes fewer. It is
-refused alone, and in a second run together with all that come after it. A run may then
+Each command is run on the files of examples/. Its Nth allocation is refused, for N from 1 until a run makes fewer. In one run
+only this allocation is refused, and in a second run all later ones too. A run may then
 - end with status 5 and its line on standard error, with nothing on standard output and no file created;
 - be the same as without a refusal, if the program can do without that memory;
-- end with status 3 or 4 and report a fault of a file, if the memory was wanted to open it: the program counts each error of
-  the system as a fault. Nothing is then on standard output, and outputs that were created before hold all that they should.
-Anything else is reported, and then the status is 1. The run that no refusal hits has to be the same as one without the tool.
+- end with status 3 or 4 and report a fault of a file, if the memory was needed to open it: the program counts each error of
+  the system as a fault. Then nothing is on standard output, and outputs that were created before are whole.
+Anything else is reported, and then the status is 1. A run in which nothing is refused has to be the same as one without the tool.
 
-The allocations are those of the C library's functions, in all threads of the program. A library that is preloaded counts
-them, so this needs a C compiler, `cc`.
+The allocations are those of the C library's functions, in all threads of the program. A preloaded library counts them, so this
+needs a C compiler, `cc`.
 """
 import argparse
 import dataclasses
@@ -43,7 +43,7 @@ OUT_OF_MEMORY = (5, b"", b"xray: out of memory\n", {})
 # What a run reports on standard error if it couldn't read or write a file, by its status.
 FAULT = {3: re.compile(rb"xray: [^\n]*: read fault\n"), 4: re.compile(rb"xray: [^\n]*: write fault\n")}
 
-# Refuses the allocation of the number in REFUSE, and with AND_AFTER all after it. Then it writes a byte to the descriptor TOLD.
+# Refuses the allocation with the number REFUSE, and with AND_AFTER all later ones. Then it writes a byte to the descriptor TOLD.
 REFUSER = r"""
 #define _GNU_SOURCE
 #include <dlfcn.h>
@@ -90,7 +90,7 @@ int posix_memalign(void **made_at, size_t align, size_t size) {
 
 @dataclasses.dataclass(frozen=True)
 class Refusal:
-    """Which allocation is refused, and whether all that come after it are refused too."""
+    """Which allocation is refused, and whether all later ones are refused too."""
 
     number: int
     and_after: bool
@@ -144,7 +144,7 @@ def outcome(comes, alone):
 
 
 def differences(name, seen_with, most):
-    """The lines that report where a command's runs do something else, and how often each other thing happened."""
+    """The lines that report where a command's runs do what they may not do, and how often each other thing happened."""
     lines, counts = [], dict.fromkeys(["out of memory", "the same", "a fault of a file"], 0)
     _, alone = seen_with(None)
     if alone[0] != 0:

@@ -5,8 +5,8 @@ usage: crates/whole_runs/tools/full_trace.py PROGRAM
     PROGRAM: a built program
 
 Fourteen threads call an empty function over and over. In the first run each of them fills fourteen buffers to their last
-byte, and no buffer is used twice. In the second one each thread passes one sled more, so that it takes one buffer more. The
-last thread then takes all those of the first. What has to come is said here by where an event stands in its thread, without
+byte, and no buffer is used twice. In the second run each thread passes one more sled, so it takes one more buffer. The last
+thread then takes all buffers of the first. The expected bytes follow from the position of an event in its thread, without
 the model. A difference is reported, and then the status is 1.
 """
 import argparse
@@ -15,7 +15,7 @@ import subprocess
 import sys
 import tempfile
 
-sys.dont_write_bytecode = True  # the modules stand in the repository, and their compiled forms don't
+sys.dont_write_bytecode = True  # the modules are in the repository, and their compiled forms aren't
 from worked_runs import TRACED, image, lines  # noqa: E402
 
 IMAGE = image("fn main always / again: / call f / jmp again / fn f always / ret")
@@ -65,7 +65,7 @@ def block(thread, first, last):
 
 
 def trace(passings, lost):
-    """The trace of threads of so many passings; `lost` says how many of its segments a thread has lost."""
+    """The trace of threads that make this many passings. `lost` says how many of its segments a thread has lost."""
     header = bytes.fromhex("03 00 01 00 03 00 00 00") + bytes(8) + SIZE.to_bytes(8, "little") + bytes(8)
     starts = range(0, passings, ROOM)
     blocks = (
@@ -86,7 +86,7 @@ def audit(passings, lost):
 
 
 def differences(program, folder, passings, lost):
-    """What a replay of so many passings leaves, where that isn't what has to come."""
+    """What a replay of this many passings leaves, if that isn't what is expected."""
     words = f"sim i s c t a --passings {passings} {OPTIONS}".split()
     done = subprocess.run([program, *words], cwd=folder, capture_output=True, check=False)
     if done.returncode != 0:

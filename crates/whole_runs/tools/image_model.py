@@ -21,7 +21,7 @@ RESERVED = (RSP, R10)
 
 
 class Refused(Exception):
-    """An input isn't what it has to be; the words say why."""
+    """An input isn't what it has to be. The words say why."""
 
     def __init__(self, *words):
         super().__init__(*words)
@@ -35,8 +35,8 @@ class Refused(Exception):
 class Unit:
     """An instruction by its name, a sled ("entry" or "exit") or an alignment byte ("align").
 
-    `operands` are the registers and numbers of an instruction, the destination first, and the displacement of a sled;
-    `end` is the place behind it.
+    `operands` are the registers and numbers of an instruction, the destination first, or the displacement of a sled.
+    `end` is the place after it.
     """
 
     place: int
@@ -68,7 +68,7 @@ class Bytes:
 
 
 def named(*registers):
-    """The registers, the destination first, where all of them may be named."""
+    """The registers, the destination first. All of them may be named."""
     for register in registers:
         if register in RESERVED:
             raise Refused("Register", register)
@@ -114,7 +114,7 @@ def told_by(left):
 
 
 def sum_of(left, source_high, target_high):
-    """An `add` or a `sub` behind its prefix byte."""
+    """An `add` or a `sub`, after its prefix byte."""
     opcode = left.one()
     if opcode not in (0x01, 0x29):
         raise Refused("Unknown", opcode)
@@ -129,7 +129,7 @@ NOP = bytes.fromhex("660F1F8400")
 
 
 def unit(code, place):
-    """The unit at a place of the code, or why none stands there."""
+    """The unit at a place of the code, or why there is none."""
     is_entry = code[place] == 0xEB
     is_exit = code[place : place + 2] == b"\xC3\x2E"
     if is_entry or is_exit:

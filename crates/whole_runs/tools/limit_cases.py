@@ -76,7 +76,7 @@ def full_command_list(past):
 
 
 def full_micro_step_list(past):
-    """As many micro steps as there may be after `go`. The schedule leaves one of them, or none."""
+    """As many micro steps as allowed after `go`. The schedule leaves one of them, or none."""
     script = b"go\n" + b"patch\n" * (replay_model.COMMAND_LIMIT - 1)
     steps = 4 * image_model.SLED_LIMIT * (replay_model.COMMAND_LIMIT - 1)
     return replay(image=entered_file(image_model.SLED_LIMIT), script=script, schedule=b"p %d\n" % (steps - 1 + past))
@@ -96,7 +96,7 @@ def full_turns(past):
 
 
 def full_wait(past):
-    """A count that is no number is looked at before the script's waiting."""
+    """A count that isn't a number is reported before a script that waits."""
     most = replay_model.NUMBER_LIMIT
     return replay(script=b"hold 1 %d\ngo\nawait 1 %d\nrelease 1\n" % (most, most + past))
 
@@ -118,7 +118,7 @@ def full_passings(past):
 
 
 def full_threads(past):
-    """The last thread that there may be runs first."""
+    """The last thread allowed runs first."""
     return replay("--threads", 16 + past, schedule=b"t 16 1\np 1\nt 16 9\np 9\n")
 
 
@@ -128,7 +128,7 @@ def full_stack(past):
 
 
 def full_stack_without_fuel(past):
-    """The fuel ends one instruction before the stack would, or with it. The end is then the fuel's."""
+    """The fuel runs out one instruction before the stack is full, or with it. Then the end is `fuel`."""
     code = PUSH * (machine_model.STACK_LIMIT + 1)
     return Case([b"plain", b"i", b"--fuel", str(machine_model.STACK_LIMIT - past).encode()], {b"i": image_file(code)})
 
@@ -150,7 +150,7 @@ def largest_buffer_size(past):
 
 
 def largest_trace(past):
-    """127 full buffers of 528,400 bytes would be a trace of the greatest length that is read."""
+    """127 full buffers of 528,400 bytes would be a trace of the greatest length that can be read."""
     return traced("--buffer-max=127", "--buffer-size", 528_400 + past, script=TRACED)
 
 
@@ -180,7 +180,7 @@ def last_pid(past):
 
 
 def full_trace_file(past):
-    """A trace that is too long isn't looked at."""
+    """A trace that is too long isn't read."""
     header = trace_model.header_bytes(trace_model.Header(0, 72))
     return Case([b"account", b"t"], {b"t": header.ljust(model.TRACE_LIMIT + past, b"\1")})
 
@@ -210,7 +210,7 @@ TRACE_LIMITS = [
 ]  # fmt: skip
 
 
-# Limits that a run beside the script has, too.
+# Limits that a run beside the script also has.
 RUN_LIMITS = [
     full_outputs, full_script, full_command_list, full_wait, no_fuel, full_fuel, no_passings, full_passings, full_threads,
     least_buffer_size, largest_buffer_size, largest_trace, a_buffer_each, full_buffer_list, latest_wall, last_counter, last_cpu,
@@ -244,7 +244,7 @@ def is_known(case, forms):
 
 
 def with_outputs(case, forms):
-    """A replay of three files writes a trace too, where the program's replays do."""
+    """A replay of three files also writes a trace, if the program's replays do."""
     if case.words[0] == b"sim" and forms["sim"].outputs and b"t" not in case.words:
         case.words[4:4] = [b"t", b"a"]
         case.words.append(b"--wall=0")

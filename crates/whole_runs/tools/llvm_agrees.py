@@ -1,22 +1,22 @@
 #!/usr/bin/env python3
-"""Compares what LLVM's `llvm-xray` makes of traces with what the model makes of them, and says where they differ.
+"""Compares what LLVM's `llvm-xray` reads in traces with what the model reads in them, and reports where they differ.
 
 usage: crates/whole_runs/tools/llvm_agrees.py [PROGRAM] [--traces N] [--seed N] [--llvm-xray NAME]
-    PROGRAM: a built program that has `sim` and `run`; the traces are then those that it writes, and else the model's
-    --traces: how many traces, 300 if left out; without PROGRAM every other one is of random records that no replay writes
-    --seed: what all is drawn by, 1 if left out
+    PROGRAM: a built program that has `sim` and `run`, which writes the traces; without it the model writes them
+    --traces: how many traces, 300 if left out; without PROGRAM, every other one has random records that no replay writes
+    --seed: the seed of everything random, 1 if left out
     --llvm-xray: LLVM's program, llvm-xray-14 if left out
 
-Debian's package llvm-14 has LLVM's program. Where it is missing, this says so and passes.
+Debian's package llvm-14 has LLVM's program. If it is missing, this reports that and passes.
 
 Each trace is read by four commands of LLVM, and each answer is compared with the model's:
     convert    the events of each thread of each process, in order, and the header
     account    count, least, items, greatest and sum of each function with a pair
     stack      count and sum of each path of each thread
     fdr-dump   all records, in the file's order
-Function ids stand for names, so LLVM needs no map of sleds. Where LLVM is known to do something else, nothing is compared: each
-such case has a name in `Known`, and the last lines say how often it came. A difference is reported with the trace's file, which
-is kept, and the status is then 1.
+Function ids stand for names, so LLVM needs no sled map. If LLVM is known to do something else, nothing is compared. Each such case
+has a name in `Known`, and the last lines say how often it came up. A difference is reported with the trace's file, which is kept,
+and then the status is 1.
 """
 import argparse
 import collections
@@ -30,7 +30,7 @@ import subprocess
 import sys
 import tempfile
 
-sys.dont_write_bytecode = True  # the modules stand in the repository, and their compiled forms don't
+sys.dont_write_bytecode = True  # the modules are in the repository, and their compiled forms aren't
 import report_model as reports  # noqa: E402
 import trace_model as traces  # noqa: E402
 import xray_model as model  # noqa: E402
@@ -78,7 +78,7 @@ class Example:
 
     @property
     def has_bare_block(self):
-        """Whether a block has its preamble alone."""
+        """Whether a block has only its preamble."""
         kinds = [kind for kind, _ in self.records] + [traces.EXTENTS]
         return any(pair == (traces.PID, traces.EXTENTS) for pair in zip(kinds, kinds[1:]))
 
@@ -115,7 +115,7 @@ def check_order(blocks):
 
 
 def check_threads(example):
-    """Leaves out a trace of which LLVM takes the events of a thread in another order."""
+    """Leaves out a trace if LLVM takes the events of a thread in another order."""
     if len({thread for _, thread in example.groups}) < len(example.groups):
         raise LeftOut(Known.PROCESSES)
     for blocks in example.groups.values():
@@ -123,7 +123,7 @@ def check_threads(example):
 
 
 def check_calls(example):
-    """Leaves out a trace in which an exit closes calls above its own, and gives what is matched in each thread."""
+    """Leaves out a trace in which an exit closes calls inside its own, and gives the pairs of each thread."""
     matched = {}
     for thread in example.trace.threads:
         events = example.trace.events_of(thread)
@@ -160,11 +160,11 @@ class Llvm:
         self.path = path
 
     def text(self, *words):
-        """What a command prints on standard output; events that it refuses are left out by `-keep-going`."""
+        """What a command prints on standard output. `-keep-going` leaves out events that it refuses."""
         return subprocess.run([self.program, *words, self.path], capture_output=True, text=True).stdout
 
     def events(self):
-        """The header's lines, and each event with its process and thread. LLVM prints neither of these where it is 0."""
+        """The header's lines, and each event with its process and thread. LLVM doesn't print these two if they are 0."""
         text = self.text("convert", "-output-format=yaml", "-sort=0")
         item = re.compile(
             r"  - \{ type: 0, func-id: (\d+), function: '(\d+)', cpu: (\d+), (?:thread: (\d+), )?(?:process: (\d+), )?"
@@ -225,7 +225,7 @@ def convert_differences(example, llvm):
         try:
             check_order(blocks)
         except LeftOut as known:
-            # The order is left out, and the events are not.
+            # The order is left out, but the events aren't.
             left_out = known
             events, found = sorted(events, key=dataclasses.astuple), sorted(found, key=dataclasses.astuple)
         if found != events:
@@ -263,7 +263,7 @@ def account_differences(example, llvm):
 
 
 def check_counters(events):
-    """LLVM keeps the first counter other than 0, in its own order of threads."""
+    """LLVM keeps the first counter that isn't 0, in its own order of threads."""
     first = 0
     for _, event in events:
         first = first or event.tsc
@@ -329,7 +329,7 @@ COMPARISONS = {
 
 
 def replay_words(draw, threads):
-    """The options of a replay; a first counter above 0 lets LLVM's account take all events of several threads."""
+    """The options of a replay. With a first counter above 0, LLVM's account takes all events of several threads."""
     options = [["--threads", str(threads)], ["--fuel", "3000"], ["--wall", str(draw.choice([0, 1, 1_700_000_000]))]]
     options.append(["--tsc", str(draw.choice([1, 1, 1000, 1000, 0, (1 << 32) - 3, (1 << 64) - 50]))])
     options.append(["--buffer-size", str(draw.choice([72, 80, 120, 200, 400, 1000, 16_384]))])
@@ -341,7 +341,7 @@ def replay_words(draw, threads):
 
 
 def written_trace(draw, program, folder):
-    """The trace of a random replay or run, as the program writes it; without a program that of a replay, by the model."""
+    """The trace of a random replay or run, as the program writes it. Without a program, the trace of a replay, by the model."""
     while True:
         command = "sim" if program is None else draw.choice(["sim", "run"])
         threads = draw.choice([1, 1, 2, 3, 16])
@@ -356,7 +356,7 @@ def written_trace(draw, program, folder):
 
 
 def traced_by(program, folder, words, files):
-    """The trace that a program writes of these files."""
+    """The trace that a program writes from these files."""
     for name, content in files.items():
         (folder / name).write_bytes(content)
     subprocess.run([program, *words], cwd=folder, stdout=subprocess.DEVNULL, check=True)
@@ -364,7 +364,7 @@ def traced_by(program, folder, words, files):
 
 
 def random_records(draw):
-    """A trace of random records, mostly with a block, and no block without an event, since LLVM reads no others."""
+    """A trace of random records. It mostly has a block, and no block without an event, since LLVM reads no others."""
     draft = random_draft(draw)
     if draw.random() < 0.95:
         draft.blocks = [block for block in draft.blocks if any(record.kind == traces.FUNCTION for record in block[0])]

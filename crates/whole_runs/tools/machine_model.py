@@ -1,4 +1,4 @@
-"""A model of the plain machine: a thread of an image on which sleds are counted alone, and its plain text.
+"""A model of the plain machine: a thread of an image whose sleds are only counted, and its plain text.
 
 It is written from docs/formats and docs/COMMANDS.md alone, and shares nothing with the program or its definitions.
 """
@@ -14,11 +14,11 @@ SHOWN = {
 
 
 class Ended(Exception):
-    """A thread came to its end."""
+    """A thread has come to its end."""
 
 
 class Thread:
-    """A thread of an image, on which sleds are counted alone."""
+    """A thread of an image whose sleds are only counted."""
 
     def __init__(self, image, number, fuel, passings):
         self.image = image

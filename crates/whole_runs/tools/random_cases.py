@@ -1,4 +1,4 @@
-"""Random runs of `xray`: command lines, their inputs as files, pipes or folders, and outputs that may refuse all."""
+"""Random runs of `xray`: command lines, their inputs as files, pipes or folders, and outputs that may refuse everything."""
 import dataclasses
 
 import image_model
@@ -9,7 +9,7 @@ from random_traces import random_trace
 
 @dataclasses.dataclass
 class Case:
-    """The words, the files that there are before, what standard input has, and what can't be written."""
+    """The words, the files that exist before, what standard input has, and what can't be written."""
 
     words: list
     files: dict
@@ -23,11 +23,11 @@ class Case:
 NAMES = [
     b"i", b"image.xrim", b"./i", b"with space", "ungew\u00f6hnlich".encode(), b"a=b", b"-", b"new\nline", b"i#", b"n" * 255,
 ]  # fmt: skip
-STRANGE_NAMES = [b"--fuel", b"-x", b"--", b"--threads=3"]  # These take a word `--` in front.
+STRANGE_NAMES = [b"--fuel", b"-x", b"--", b"--threads=3"]  # These need a word `--` before them.
 MISSING = [b"missing", b"", b"folder", b"folder/", b"i/x", b"no/such", b"n" * 256, b"d/" * 2500 + b"x", b"/dev/null/x"]
 
 LARGEST_32, LARGEST_64 = (1 << 32) - 1, (1 << 64) - 1
-# By the fuel alone the model ends soon.
+# Only the fuel makes the model end soon.
 FUELS = [0, 1, 2, 3, 10, 100, 1000, 1000, 1000, 3000, 3000, 3000]
 PASSINGS = [0, 1, 2, 3, 50, 1_048_576, 1_048_576, 1_048_576]
 WRONG_VALUES = [
@@ -83,7 +83,7 @@ def run_options(draw, threads):
 
 
 def trace_options(draw, threads):
-    """The options of a replay that writes a trace, seldom with one that is refused."""
+    """The options of a replay that writes a trace, rarely with one that is refused."""
     options = run_options(draw, threads)
     if draw.random() < 0.7:
         options.append(option(draw, "buffer-size", spelled(draw, draw.choice(SIZES))))
@@ -127,7 +127,7 @@ def random_options(draw, command, threads, writes_traces):
 
 
 def random_words(draw, command, names, options):
-    """A command line that means the command with these names and options, and perhaps one with a fault."""
+    """A command line that says the command with these names and options, perhaps with a fault."""
     needs_dashes = [name in STRANGE_NAMES for name in names]
     items = [[name] for name in names]
     if any(needs_dashes):
@@ -143,7 +143,7 @@ def random_words(draw, command, names, options):
     words = [command.encode(), *[word for item in items for word in item], *behind]
     if draw.random() < 0.06:
         wrong = faulty(draw, words)
-        # A pipe that is read twice has nothing the second time, and the model knows of no times.
+        # A pipe that is read twice has nothing the second time, and the model doesn't know that.
         return wrong if wrong.count(STDIN) <= 1 else words
     return words
 
@@ -184,7 +184,7 @@ INPUT_NAMES = [b"i", b"s", b"c"]
 
 
 def id_count(file):
-    """How many function ids an image has, and one where it is refused."""
+    """How many function ids an image has, or 1 if it is refused."""
     try:
         return max(image_model.image_of(file).ids, default=0)
     except image_model.Refused:
@@ -235,7 +235,7 @@ def random_case(draw, forms, only=None):
 
 
 def random_output(draw, case, names):
-    """A name for an output: of no file, of one that is there, of another file of the command, or one that can't be written."""
+    """A name for an output: of a new file, of one that exists, of another file of the command, or one that can't be written."""
     match draw.randrange(24):
         case 0:
             return draw.choice(names)

@@ -23,7 +23,7 @@ def loaded(path):
 
 texts = loaded(ROOT / "crates/asm_text/tools/random_texts.py")
 
-# ---- An image file as its parts, of which each may be damaged
+# ---- An image file as its parts, each of which may be damaged
 
 ENTRY_SLED = bytes.fromhex("EB09660F1F8400")
 EXIT_SLED = bytes.fromhex("C32E660F1F8400")
@@ -32,7 +32,7 @@ PLAIN_REGISTERS = [number for number in range(16) if number not in model.RESERVE
 
 @dataclasses.dataclass
 class Draft:
-    """The parts of an image file; the counts are those of the parts, but for what `counts` adds to them."""
+    """The parts of an image file. The header has their counts, plus what `counts` adds to them."""
 
     base: int
     code: bytearray
@@ -89,7 +89,7 @@ def number_32(draw):
 
 
 def straight(draw, registers=PLAIN_REGISTERS):
-    """The bytes of an instruction that is no branch."""
+    """The bytes of an instruction that isn't a branch."""
     one, two = draw.choice(registers), draw.choice(registers)
     high = b"\x41" if one >= 8 else b""
     sum_prefix = 0x48 + 4 * (two >= 8) + (one >= 8)
@@ -109,7 +109,7 @@ BRANCHES = [b"\xE8", b"\xE9", b"\x0F\x85"]
 
 
 class Units:
-    """Random units, one behind the other, with what has to be told of them: places, ends of branches, and sleds."""
+    """Random units, one after the other, with their places, the ends of branches, and the sleds."""
 
     def __init__(self, draw, base):
         self.draw = draw
@@ -150,7 +150,7 @@ class Units:
         self.sleds.append((self.places[-1], kind))
 
     def add_address(self):
-        """A push of an address for a `ret`, perhaps of no unit."""
+        """A push of an address for a `ret`, perhaps one where no unit begins."""
         target = self.base + self.draw.choice([*self.places, self.draw.randrange(len(self.code) + 9)])
         register = self.draw.choice([0, 1, 2, 3])
         self.add(bytes([0xB8 + register]) + struct.pack("<I", target % (1 << 32)))
@@ -162,7 +162,7 @@ class Units:
 
 
 def units_draft(draw):
-    """Random units, so that there are branches and sleds which no text has."""
+    """Random units, so there are branches and sleds that no text has."""
     base = 16 * texts.up_to(draw, model.BASE_LIMIT // 16)
     units = Units(draw, base)
     for _ in range(draw.randint(1, 25)):
@@ -193,7 +193,7 @@ def calling_draft(draw):
         later = names[at + 1 :]
         lines.append(f"fn {name} {'never' if draw.random() < 0.12 else 'always'}")
         for _ in range(draw.randint(0, 3)):
-            # A call that goes back is a recursion, which the fuel or the stack ends.
+            # A call back is a recursion, which the fuel or the stack ends.
             callees = later if later and draw.random() < 0.95 else names
             lines += [draw.choice(BETWEEN_CALLS), f"call {draw.choice(callees)}"] if later else [draw.choice(BETWEEN_CALLS)]
         lines.append(f"tailjmp {draw.choice(later)}" if later and draw.random() < 0.3 else "ret")
@@ -228,7 +228,7 @@ def other_header(draw, draft):
         case 6:
             draft.entry = draw.choice([len(draft.functions), len(draft.functions) - 1, 0xFFFFFFFF])
         case 7:
-            # All that is said by addresses moves with the base.
+            # All addresses move with the base.
             by = draw.choice([8, 16, -draft.base, model.BASE_LIMIT - draft.base])
             draft.base += by
             draft.functions = [[start + by, name] for start, name in draft.functions]
@@ -239,7 +239,7 @@ def other_header(draw, draft):
 
 
 def far_trampoline(draw, draft):
-    """A trampoline at the edge of what one of the sleds reaches, or one past it."""
+    """A trampoline at the end of the reach of one of the sleds, or one past it."""
     if draft.entries:
         address, _, kind, *_ = draw.choice([draft.entries[0], draft.entries[-1], draw.choice(draft.entries)])
         edge = draw.choice([-(1 << 31), -(1 << 31) - 1, (1 << 31) - 1, 1 << 31])
@@ -270,11 +270,11 @@ ENDS = [
 
 
 def other_end(draw, draft):
-    """Bytes behind the code's last unit."""
+    """Bytes after the code's last unit."""
     draft.code += bytes.fromhex(draw.choice(ENDS))
 
 
-# Names with a byte that no name has, many of them next to bytes that one may have; the last is a name.
+# Names with a byte that isn't allowed, many of them next to bytes that are; the last is a name.
 WRONG_NAMES = [b"", b"a b", b"a-b", b"a\x80", b"'", b"a\0", b"@", b"`", b"[", b"/", b":", b"{", b"1"]
 
 
@@ -338,7 +338,7 @@ PARTS = [
 
 
 def other_file(draw, file):
-    """A file that is cut or longer, or has another byte."""
+    """A file that is cut or lengthened, or has another byte."""
     anywhere = draw.randint(0, len(file))
     at = draw.choice([0, 4, 63, 64, len(file) - 1, len(file) - 32, anywhere, anywhere])
     at = max(0, min(at, len(file)))

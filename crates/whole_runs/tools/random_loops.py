@@ -1,14 +1,14 @@
 """Random runs of long loops that are patched all the time while threads run them, for `random_runs.py --loops`.
 
 Each image is an endless loop over functions with sleds, which the limit of passings ends. The patcher never waits, or
-now and then for a thread. Many buffers are small, so most of these runs lose segments.
+only now and then for a thread. Many buffers are small, so most of these runs lose segments.
 """
 import random_cases
 from random_images import texts
 
 
 def loop_text(draw):
-    """A function that calls others for ever."""
+    """A function that calls others forever."""
     names = [f"f{number}" for number in range(draw.randint(1, 12))]
     calls = [f"call {draw.choice(names)}" for _ in range(draw.randint(1, 6))]
     lines = ["base 0x1000", "fn main never", "again:", *calls, "jmp again"]
@@ -21,7 +21,7 @@ def loop_text(draw):
 
 
 def patching(draw, ids, threads):
-    """A script that patches and unpatches as long as it may."""
+    """A script that patches and unpatches as often as it may."""
     lines = draw.choice(["set_handler init go", "patch set_handler init go", "init go set_handler"]).split()
     for at in range(draw.choice([100, 500, 1000])):
         one = draw.randint(1, ids)

@@ -1,34 +1,34 @@
 #!/usr/bin/env python3
-"""Compares `xray` with a model of it on random inputs and command lines, and says where they differ.
+"""Compares `xray` with a model of it on random inputs and command lines, and reports where they differ.
 
 usage: crates/whole_runs/tools/random_runs.py [PROGRAM] [--with COMMANDS] [--of COMMAND] [--lines] [--loops]
            [--runs N] [--seed N] [--jobs N]
     PROGRAM: the built program, crates/xray/out/xray if left out
-    --with: which of sim, run, account, stack and convert PROGRAM has, joined by commas, all if left out; without sim a
-        replay has three files and writes no trace
-    --of: this command alone
-    --lines: random command lines over sound files alone (random_lines.py)
+    --with: which of sim, run, account, stack and convert PROGRAM has, with commas between them; all if left out. Without
+        sim, a replay has three files and writes no trace
+    --of: only this command
+    --lines: only random command lines, over sound files (random_lines.py)
     --loops: runs of long loops that are patched all the time (random_loops.py)
     --runs: how many runs, 1000 if left out
-    --seed: what all is drawn by, 1 if left out
+    --seed: the seed of everything random, 1 if left out
     --jobs: how many runs at a time, 2 if left out
 
 The model is xray_model.py, written from docs/formats and docs/COMMANDS.md alone. The images are of random programs, by
 the assembler's own model, of random units, or of functions that call each other. Many are damaged in one place or two:
 a field of the header, the code, a function, a name, a map entry, a trampoline, a branch, or the file's length. Traces
 are random blocks in any spelling that the format allows, many of them damaged too. Assembler texts, scripts, schedules
-and command lines are written in all ways, and many are wrong. Inputs are files, pipes, folders, or aren't there; an
-output may be there already, and it or standard output may refuse all. Some runs are at a limit, or one past it.
-Compared are the status, standard output and standard error, and all files that are there at the end. A trace that the
-program wrote is then reported on by each report that the program has.
+and command lines are written in all allowed ways, and many are wrong. Inputs are files, pipes or folders, or don't
+exist. An output may exist already, and it or standard output may refuse everything. Some runs are at a limit, or one
+past it. The status, standard output, standard error, and all files at the end are compared. Each report that the
+program has is then run on a trace that the program wrote.
 
-Of a `run`, whose order nobody states, the audit's marks and lost segments are taken. The marks of each thread have to
-follow the script, and the losses have to be such as there may be. The trace, the rest of the audit and standard output
-have to be what comes of these marks and losses, byte by byte. If no audit could be written, TRACE has to be a trace.
+Nobody states the order of a `run`, so the audit's marks and lost segments are taken as given. The marks of each thread
+have to follow the script, and the losses have to be possible. The trace, the rest of the audit and standard output have
+to be what follows from these marks and losses, byte by byte. If no audit could be written, TRACE has to be a trace.
 
-The last lines say how often each answer, each end of a thread and each mark came, how many runs have passings of
-patched and of unpatched sleds, how many lost segments, and how many reports on written traces there were. A difference
-is reported with the folder that its files are kept in, and the status is then 1.
+The last lines say how often each answer, each end of a thread and each mark came up; how many runs have passings of
+patched and of unpatched sleds; how many lost segments; and how many reports on written traces there were. A difference
+is reported with the folder in which its files are kept, and then the status is 1.
 """
 import argparse
 import collections
@@ -43,7 +43,7 @@ import sys
 import tempfile
 import time
 
-sys.dont_write_bytecode = True  # the modules stand in the repository, and their compiled forms don't
+sys.dont_write_bytecode = True  # the modules are in the repository, and their compiled forms aren't
 import run_model  # noqa: E402
 import trace_model  # noqa: E402
 import xray_model as model  # noqa: E402
@@ -56,7 +56,7 @@ from random_loops import loop_case  # noqa: E402
 
 # One run in this many is at a limit or one past it, by turns.
 LIMIT_EVERY = 40
-# A run that takes more seconds than this doesn't end.
+# A run that takes more seconds than this counts as endless.
 LONGEST_RUN = 300
 
 
@@ -100,7 +100,7 @@ class Loops:
         return loop_case(random.Random(f"{self.seed} {number}"))
 
 
-# ---- What is expected, and what comes
+# ---- What is expected, and what is found
 
 
 def assemble(text, threshold):
@@ -124,7 +124,7 @@ def files_expected(case, expects):
 
 
 def is_as_expected(content, expected):
-    """Whether a file has these bytes; None is those of any trace."""
+    """Whether a file has these bytes. None means the bytes of any trace."""
     if expected is not None or content is None:
         return content == expected
     try:
@@ -211,7 +211,7 @@ class Result:
 
     @property
     def is_mixed(self):
-        """Whether its threads passed sleds that were patched and such as weren't."""
+        """Whether its threads passed both patched and unpatched sleds."""
         found = {mark for mark, _ in self.marks}
         return "." in found and len(found) > 1
 
@@ -260,7 +260,7 @@ def judged(xray, folder, case, forms):
 
 
 def compared(xray, folder, number, cases):
-    """The result of a run by its number; without a difference, no file is left."""
+    """The result of a run by its number. If nothing differs, no file is left."""
     case = cases.get(number)
     here = folder / str(number)
     here.mkdir()
@@ -302,7 +302,7 @@ def cases_of(given):
 
 
 class Summary:
-    """What came of all runs."""
+    """The results of all runs."""
 
     def __init__(self):
         self.answers, self.ends, self.marks = (collections.Counter() for _ in range(3))

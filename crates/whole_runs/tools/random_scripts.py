@@ -1,4 +1,4 @@
-"""Random scripts and schedules for comparisons with the model: right ones, and such as have a fault or two."""
+"""Random scripts and schedules for comparisons with the model: right ones, and some with a fault or two."""
 from random_images import texts
 
 # ---- Scripts
@@ -9,7 +9,7 @@ def spelled(draw, number):
 
 
 def command(draw, ids, log):
-    """A command that may stand anywhere, where this is left to be done with the log."""
+    """A command that may be anywhere, if this is still to be done with the log."""
     if log and draw.random() < (0.3 if log[0] == "init" else 0.08):
         return [log.pop(0)]
     words = ["patch", "patch", "unpatch", "set_handler", "remove_handler"]
@@ -20,7 +20,7 @@ def command(draw, ids, log):
 
 
 def commands(draw, ids):
-    """Commands up to `go`, and behind it."""
+    """Commands up to `go`, and after it."""
     log = ["init", "finalize"]
     before = []
     if draw.random() < 0.7:
@@ -31,7 +31,7 @@ def commands(draw, ids):
 
 
 def waits(draw, threads, before, behind):
-    """Adds a thread that is held, with its release, and perhaps somebody who waits for it."""
+    """Adds a thread that is held, with its release, and perhaps an await for it."""
     thread, passing = draw.randint(1, threads), draw.choice([0, 1, 2, 5, 4_294_967_295])
     before.insert(draw.randint(0, len(before)), ["hold", str(thread), str(passing)])
     at = draw.randint(0, len(behind))
@@ -54,14 +54,14 @@ def live_commands(draw, ids, threads):
         at, thread = draw.randint(0, len(behind)), draw.choice(numbers)
         count = draw.choice([0, 1, 2, 3, 4, 6, 10, 30, 100, 1000])
         if ["release", str(thread)] in behind[at:] and draw.random() < 0.95:
-            # A thread that is held doesn't make more passings than these.
+            # A held thread doesn't make more passings than these.
             count = min(count, holds[thread])
         behind.insert(at, ["await", str(thread), str(count)])
     return [*before, ["go"], *behind]
 
 
 def live_script(draw, ids, threads):
-    """A script for threads that run by themselves, seldom with a fault."""
+    """A script for threads that run by themselves, rarely with a fault."""
     lines = live_commands(draw, ids, threads)
     while draw.random() < 0.04:
         lines = faulty(draw, lines, draw.choice(WRONG_COMMANDS).split())
@@ -79,14 +79,14 @@ WRONG_COMMANDS = [
 
 
 def one_too_many(draw, ids, threads):
-    """A command on the function or the thread behind the last."""
+    """A command on the function or the thread after the last."""
     name = draw.choice(["patch_function", "unpatch_function", "hold", "release", "await"])
     number = ids + 1 if name.endswith("function") else threads + 1
     return [name, str(number), *["0"] * (name in ("hold", "await"))]
 
 
 def faulty(draw, lines, wrong):
-    """Lines with this wrong one, or with one that is missing, there twice or elsewhere; often it is one that waits."""
+    """Lines with this wrong one; or with a line missing, repeated or moved, often one that waits."""
     waiting = [at for at, (name, *_) in enumerate(lines) if name in ("hold", "release", "await")]
     at = draw.choice(waiting) if waiting and draw.random() < 0.7 else draw.randrange(len(lines))
     line = lines[at]
@@ -99,7 +99,7 @@ def faulty(draw, lines, wrong):
 
 
 def random_script(draw, ids, threads):
-    """A script for an image with so many function ids and for so many threads, or nearly one."""
+    """A script for an image with this many function ids and for this many threads, or nearly one."""
     before, behind = commands(draw, ids)
     fault_share = 0.12
     if draw.random() < 0.15:

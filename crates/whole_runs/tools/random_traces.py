@@ -12,7 +12,7 @@ from trace_model import (
 
 @dataclasses.dataclass
 class Record:
-    """A record by its kind, its fields, and the bytes behind them, as far as it has room for these."""
+    """A record by its kind, its fields, and the bytes after them, as far as it has room for these."""
 
     kind: int | str
     fields: tuple
@@ -29,7 +29,7 @@ class Record:
 
 @dataclasses.dataclass
 class Draft:
-    """A trace as its parts; a block's extents name its own bytes and `more`."""
+    """A trace as its parts. A block's extents name its own bytes and `more`."""
 
     header: list  # version, type, flags, frequency, size, reserved
     blocks: list  # [records, more]
@@ -48,12 +48,12 @@ def counter(draw):
 
 
 def rest(draw):
-    """What stands behind the fields of a record, which nobody looks at."""
+    """What comes after the fields of a record, which nobody reads."""
     return draw.choice([b"", b"", b"", draw.randbytes(METADATA_LENGTH), b"\xFF" * METADATA_LENGTH])
 
 
 class Calls:
-    """The events of a thread: mostly calls that end, some that don't, and exits of what isn't open."""
+    """The events of a thread: mostly calls that end, some that don't, and exits of calls that aren't open."""
 
     def __init__(self, draw):
         self.draw = draw
@@ -78,7 +78,7 @@ class Calls:
 
 
 class Threads:
-    """The threads of a trace, each with calls that go on from block to block."""
+    """The threads of a trace, each with calls that continue from block to block."""
 
     def __init__(self, draw):
         self.draw = draw
@@ -106,7 +106,7 @@ class Threads:
         return Record(TSC_WRAP, (counter(draw),), rest(draw))
 
     def bases(self, is_first):
-        """What stands before a function record: the CPU before the first, and mostly nothing before the others."""
+        """What comes before a function record: the CPU before the first, and mostly nothing before the others."""
         first = [Record(NEW_CPU, (self.draw.choice([0, 0, 1, 65_535]), counter(self.draw)), rest(self.draw))]
         return (first if is_first else []) + [self.base() for _ in range(self.draw.choice([0] * 12 + [1, 2]))]
 
@@ -135,7 +135,7 @@ def other_extents(draw, draft):
 
 
 def odd_record(draw):
-    """A record that stands seldom or never where it is put."""
+    """A record at a place where it rarely or never is."""
     match draw.randrange(4):
         case 0:
             return Record(draw.choice([1, 5, 6, 8, 10, 127]), (draw.randrange(WORD_64),))
@@ -150,7 +150,7 @@ def odd_record(draw):
 
 
 def other_records(draw, draft):
-    """A record that is lost, there twice, elsewhere or another one."""
+    """A record that is missing, repeated, moved or replaced."""
     if not draft.blocks:
         return
     records = draw.choice(draft.blocks)[0]
@@ -169,7 +169,7 @@ def other_records(draw, draft):
 
 
 def other_file(draw, content):
-    """A file that is cut or longer, or has another byte, often in a header or in a block's head."""
+    """A file that is cut or lengthened, or has another byte, often in the header or at the start of a block."""
     heads = [HEADER_LENGTH, HEADER_LENGTH + 16, HEADER_LENGTH + 32, HEADER_LENGTH + 64, HEADER_LENGTH + 80]
     anywhere = draw.randint(0, len(content))
     at = min(len(content), draw.choice([0, 2, draw.choice(heads), anywhere, anywhere]))

@@ -20,7 +20,7 @@ NUMBER_LIMIT = 4_294_967_295
 
 
 def word_lines(text):
-    """The lines of a text as their words; None for a line with a byte that may stand in a comment alone."""
+    """The lines of a text as their words. None for a line with a byte that is allowed only in comments."""
     *ended, last = text.split(b"\n")
     lines = [line.removesuffix(b"\r") for line in ended] + ([last] if last else [])
     said = [line.partition(b"#")[0] for line in lines]
@@ -84,7 +84,7 @@ class ScriptReader:
         return Command(line, name, numbers)
 
     def fault(self, command):
-        """Why a command may not follow those before it; the first of the rows that applies."""
+        """Why a command may not follow those before it: the first of the rows that applies."""
         match command.name, command.numbers:
             case ("patch_function" | "unpatch_function"), (number,) if not 1 <= number <= self.ids:
                 return "Function"
@@ -215,11 +215,11 @@ class Words:
 
 
 class Torn(Exception):
-    """A passing has read a patched head and something else than a patched sled behind it."""
+    """A passing has read a patched head, and then something else than a patched sled."""
 
 
 class TracedThread(Thread):
-    """A thread that loads the words of the sleds that it passes; `record` is called with what it records."""
+    """A thread that loads the words of the sleds that it passes. `record` is called with what it records."""
 
     def __init__(self, image, number, options, words, record):
         super().__init__(image, number, options["fuel"], options["passings"])
@@ -233,7 +233,7 @@ class TracedThread(Thread):
         self.load()
 
     def load(self):
-        """Makes the load that the thread stands before, and goes on up to the next one or to its end."""
+        """Makes the load that the thread is before, and goes on up to the next one or to its end."""
         next(self.course, None)
 
     def loads(self):
@@ -304,7 +304,7 @@ def replayed(image, commands, turns, options):
     words = Words(image)
     start = next(number for number, command in enumerate(commands) if command.name == "go")
     collections.deque(words.stores(commands[:start]), maxlen=0)
-    # What unpatching leaves of a head depends on what was stored before, so the rest goes over the same words.
+    # What unpatching leaves in a head depends on what was stored before, so the rest uses the same words.
     left = words.stores(commands[start:])
     buffers = Buffers(options["threads"], options["buffer-size"], options["buffer-max"])
     threads = [TracedThread(image, number + 1, options, words, buffers.record) for number in range(options["threads"])]

@@ -15,7 +15,7 @@ COLUMN = 10
 
 
 def namer(image):
-    """How functions are named: by the image, where there is one and it has the id, or by their number."""
+    """How functions are named: by the image, if there is one and it has the id, and otherwise by their number."""
     names = {} if image is None else dict(zip(image.ids, (entry.function for entry in image.entries)))
     starts = {} if image is None else dict(image.functions)
     return lambda function: starts[names[function]].decode("ascii") if function in names else f"#{function}"
@@ -28,7 +28,7 @@ def namer(image):
 class Pair:
     """An entry and the exit that ended it, by their positions among a thread's events.
 
-    `above` are the positions that were open just before the entry; the last of them is the parent.
+    `above` are the positions that were open just before the entry. The last of them is the parent.
     """
 
     function: int
@@ -40,7 +40,7 @@ class Pair:
 
 @dataclasses.dataclass(frozen=True)
 class Matched:
-    """What the events of a thread come to: the pairs by their exits, how deep the open list got, and what is in no pair."""
+    """What the events of a thread say: the pairs by their exits, how deep the open list got, and what is in no pair."""
 
     pairs: list
     depth: int
@@ -120,7 +120,7 @@ def account_of(trace):
 
 
 def ordered_rows(rows, sort, is_descending, top):
-    """Rows of one key stand by ascending id in both directions."""
+    """Rows with the same key are in ascending order of ids, in both directions."""
     field = SORT_FIELDS.get(sort, sort)
     sign = -1 if is_descending else 1
     rows = sorted(rows, key=lambda row: (sign * getattr(row, field), row.funcid))
@@ -149,7 +149,7 @@ def row_words(row):
 
 @dataclasses.dataclass
 class StackRow:
-    """The calls of a path, how long they were, and how long without the calls that they made themselves."""
+    """The calls of a path, how long they took, and how long without the calls that they made."""
 
     count: int = 0
     sum: int = 0
@@ -195,7 +195,7 @@ def said(flag):
 
 
 def yaml_text(trace, image, options):
-    """The events as they stand in the file, block by block."""
+    """The events in the order of the file, block by block."""
     name_of = namer(image)
     items = [
         f"  - {{ type: 0, func-id: {event.function}, function: '{name_of(event.function)}', cpu: {event.cpu}, "

@@ -1,8 +1,8 @@
 """A model of runs of threads beside a patcher: which marks follow a script, and which segments may be lost.
 
 It is written from docs/formats and docs/COMMANDS.md alone, and shares nothing with the program or its definitions. No
-schedule states the order of a run, so the model doesn't say what comes of one. It judges the marks and the losses that
-a run shows, and says what the run leaves if it has these.
+schedule states the order of a run, so the model can't say what its outcome is. It judges the marks and the losses that
+a run shows, and says what a run with these leaves.
 """
 import bisect
 import collections
@@ -14,7 +14,7 @@ from trace_model import Buffers
 
 
 class Unlawful(Exception):
-    """What a run shows is no outcome of its script."""
+    """What a run shows can't be an outcome of its script."""
 
 
 # ---- What a run shows
@@ -29,7 +29,7 @@ class Shown:
 
 
 def shown_by(audit):
-    """What the threads of an audit show, thread 1 first, or None for bytes that are no audit."""
+    """What the threads of an audit show, thread 1 first, or None if the bytes aren't an audit."""
     head, *lines = audit.decode("ascii", errors="replace").splitlines() or [""]
     if head != "xray-audit 1":
         return None
@@ -65,7 +65,7 @@ class Course:
         self.words = words
         self.release = {thread: words.state + thread for thread in range(1, threads + 1)}
         self.holds = {command.thread: command.numbers[1] for command in commands if command.name == "hold"}
-        # For each word the places from which on it has another value, and the values.
+        # For each word, the places at which its value changes, and the values from there on.
         self.places = [[0] for _ in range(words.state + 1 + threads)]
         self.values = [[value] for value in words.values] + [[0] for _ in range(threads)]
         self.awaits = collections.defaultdict(list)
@@ -88,7 +88,7 @@ class Course:
     def make(self, step):
         match step:
             case Await(thread, count):
-                # A smaller count behind a greater one bounds nothing.
+                # A smaller count after a greater one bounds nothing.
                 if not self.awaits[thread] or count > self.awaits[thread][-1][0]:
                     self.awaits[thread].append((count, self.total))
             case (word, value):
@@ -111,7 +111,7 @@ class Course:
         return max(place, places[at]) if at < len(values) else None
 
     def loads(self, thread, passing, sled, mark):
-        """The words that a passing with a mark loads, each with what its value has to be."""
+        """The words that a passing with a mark loads, each with a test of its value."""
         if self.holds.get(thread) == passing:
             yield self.release[thread], (1).__eq__
         head = 4 * sled + HEAD
@@ -131,9 +131,9 @@ class Course:
         return lambda head: head % 256 == 0xC3
 
     def check(self, thread, sleds, marks):
-        """Sees that a thread which passes these sleds may have these marks.
+        """Checks that a thread which passes these sleds may have these marks.
 
-        Each load is made as early as it may be. If the marks have any places at all, they have these.
+        Each load is made as early as it may be. If there are places for the marks at all, these are.
         """
         place = self.start
         for passing, (sled, mark) in enumerate(zip(sleds, marks)):
@@ -150,7 +150,7 @@ class Course:
 
 
 def may_lose(options, segments, lost):
-    """Whether threads with so many segments may lose so many of them.
+    """Whether threads with this many segments may lose this many of them.
 
     All threads share one pool of buffers. Each keeps its last segment, and no segment is lost while a buffer is unused.
     """
@@ -178,7 +178,7 @@ class MarkedThread(TracedThread):
 
 
 class Segments(Buffers):
-    """The segments of the threads of a run, of which those are lost that it shows."""
+    """The segments of the threads of a run, without those that are lost."""
 
     def record(self, thread, event):
         self.threads[thread - 1].add(event)

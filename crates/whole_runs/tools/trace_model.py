@@ -46,7 +46,7 @@ class Header:
 
 @dataclasses.dataclass
 class Block:
-    """A buffer of a trace file; the wall time is in seconds and microseconds."""
+    """A buffer of a trace file. The wall time is in seconds and microseconds."""
 
     thread: int
     wall: tuple
@@ -81,7 +81,7 @@ def function_record(event, delta):
 
 
 def event_bytes(event, before):
-    """The records of an event; `before` is the event before it in its buffer, or None."""
+    """The records of an event. `before` is the event before it in its buffer, or None."""
     if before is None or event.cpu != before.cpu:
         return metadata(NEW_CPU, event.cpu, event.tsc) + function_record(event, 0)
     if not 0 <= event.tsc - before.tsc < WORD_32:
@@ -165,7 +165,7 @@ class Buffers:
         self.queue = collections.deque([None] * (most - threads))
 
     def record(self, thread, event):
-        """A full buffer goes to the back of the queue; what the front one held is lost."""
+        """A full buffer goes to the end of the queue. What the first one held is lost."""
         recorded = self.threads[thread - 1]
         if recorded.add(event) and len(recorded.segments) > 1:
             self.queue.append(recorded)
@@ -192,7 +192,7 @@ class Reader:
         self.at = HEADER_LENGTH
 
     def record(self):
-        """The kind and the fields of the record at the present place, which isn't cut."""
+        """The kind and the fields of the record at the current place, which isn't cut."""
         first = self.content[self.at]
         if first % 2 == 0:
             word, delta = struct.unpack_from("<II", self.content, self.at)
@@ -206,7 +206,7 @@ class Reader:
         return kind, struct.unpack_from(FIELDS[kind], self.content, self.at + 1)
 
     def length(self):
-        """How many bytes the record at the present place has."""
+        """How many bytes the record at the current place has."""
         return METADATA_LENGTH if self.content[self.at] % 2 == 1 else FUNCTION_LENGTH
 
 
@@ -227,7 +227,7 @@ def trace_of(content):
 
 
 def block_of(reader):
-    """The block that begins at the present place."""
+    """The block that begins at the current place."""
     begin = reader.at
     left = len(reader.content) - begin
     if left < METADATA_LENGTH:
@@ -283,7 +283,7 @@ def events_in(records):
 
 # ---- The audit
 
-# The words of the second line that are options of the same name; `wall` follows these.
+# The words of the second line that have the names of options; `wall` follows them.
 AUDITED = [
     "threads", "buffer-size", "buffer-max", "fuel", "passings", "tick", "tsc", "cpus", "migrate", "pid",
 ]  # fmt: skip

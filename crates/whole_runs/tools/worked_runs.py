@@ -1,13 +1,13 @@
 #!/usr/bin/env python3
-"""Compares the model of `xray` with results that were worked by hand, and says where they differ.
+"""Compares the model of `xray` with results that were worked by hand, and reports where they differ.
 
 usage: crates/whole_runs/tools/worked_runs.py [PROGRAM] [--with COMMANDS]
-    PROGRAM: a built program, which is then compared with the same results; without it the model alone is
-    --with: which of sim, account, stack and convert PROGRAM has, joined by commas, all of them if left out; without sim a
+    PROGRAM: a built program, which is compared with the same results; without it only the model is
+    --with: which of sim, account, stack and convert PROGRAM has, with commas between them; all if left out. Without sim, a
         replay has three files and writes no trace
 
-The images are made of assembler texts by the assembler's own model. Each run says its words, its inputs i (image), s
-(script) and c (schedule), and what has to come of it: the status, and standard output or its lines of marks, or the line on
+The images are made from assembler texts by the assembler's own model. Each run has its words, its inputs i (image), s
+(script) and c (schedule), and what is expected: the status, and standard output or its lines of marks, or the line on
 standard error. The stores that scripts make are compared too. A difference is reported, and then the status is 1.
 worked_traces.py does the same with traces and the reports on them.
 """
@@ -18,7 +18,7 @@ import subprocess
 import sys
 import tempfile
 
-sys.dont_write_bytecode = True  # the modules stand in the repository, and their compiled forms don't
+sys.dont_write_bytecode = True  # the modules are in the repository, and their compiled forms aren't
 import image_model  # noqa: E402
 import replay_model  # noqa: E402
 import xray_model as model  # noqa: E402
@@ -26,7 +26,7 @@ from random_images import texts  # noqa: E402
 
 
 def lines(said):
-    """A text whose lines are parted by `/`, as bytes."""
+    """A text with `/` between its lines, as bytes."""
     return "".join(line.strip() + "\n" for line in said.split("/") if line.strip()).encode("ascii")
 
 
@@ -48,7 +48,7 @@ output 41
 
 @dataclasses.dataclass(frozen=True)
 class Run:
-    """A run; `comes` is standard output, or its lines of marks, parted by ` / `, or the line on standard error."""
+    """A run. `comes` is standard output, or its lines of marks with ` / ` between them, or the line on standard error."""
 
     comes: str
     image: bytes = STRAIGHT_LINE
@@ -83,10 +83,10 @@ RUNS = [
     marked(".2", "go"),
     # Unpatching in the middle of a passing.
     marked("+1 .1", TRACED + " / unpatch", "t 1 1 / p 2"),
-    # Patching in the middle: all but the head, and then the head.
+    # Patching in the middle of a passing: all except the head, and then the head.
     marked(".2", "set_handler / init / go / patch", "p 3 / t 1 1"),
     marked(".1 +1", "set_handler / init / go / patch", "p 3 / t 1 1 / p 5"),
-    # Without a handler, and with a log that is finalized.
+    # Without a handler, and with a finalized log.
     marked("n2", "patch / init / go"),
     marked("f2", "patch / set_handler / init / finalize / go"),
     marked("n1 .1", "patch / go / unpatch", "t 1 1 / p 2"),
@@ -144,7 +144,7 @@ RUNS = [
     bad("plain i --thread 1"), bad("run i s t a --threads 4 --buffer-max 3"), bad("sim i s c t"),
 ]  # fmt: skip
 
-# Scripts over the straight line, how many micro steps stand before `go`, and the first or the last stores, as (word, value).
+# Scripts for the straight line, how many micro steps come before `go`, and the first or the last stores, as (word, value).
 STORES = [
     (TRACED, 11, [(1, 1), (2, 0xE8), (3, 0x1FFFF5), (0, 0xBA41), (5, 1), (6, 0xE9), (7, 0x1FFFF3), (4, 0xBA41)]),
     ("go / unpatch", 0, [(0, 0x09EB), (4, 0x2EC3)]),

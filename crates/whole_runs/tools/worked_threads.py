@@ -1,15 +1,15 @@
 #!/usr/bin/env python3
-"""Runs `xray run` again and again on examples that were worked by hand, and says where a run differs from them.
+"""Runs `xray run` again and again on examples that were worked by hand, and reports where a run differs from them.
 
 usage: crates/whole_runs/tools/worked_threads.py [PROGRAM] [--times N]
     PROGRAM: the built program, crates/xray/out/xray if left out
     --times: how often each example is run, 100 if left out
 
-Threads of the system run in another order each time. The scripts of most examples order them by holds and awaits, so
-that each run has to leave the same bytes. A program that ran its threads one after the other, or that patched before or
-after them alone, would not come to the end of some of them, or would leave other marks. Then each output fails: names
-that can't be created or written, and files that may not grow past a size, for every size up to that of the whole file.
-A difference is reported, and then the status is 1.
+Threads of the system run in a different order each time. The scripts of most examples put them in order by holds and
+awaits, so each run has to leave the same bytes. A program that ran its threads one after the other, or patched only
+before or after them, would hang on some examples, or leave other marks. Then each output fails: names that can't be
+created or written, and files that may not grow past a size, for every size up to that of the whole file. A difference
+is reported, and then the status is 1.
 """
 import argparse
 import functools
@@ -20,14 +20,14 @@ import subprocess
 import sys
 import tempfile
 
-sys.dont_write_bytecode = True  # the modules stand in the repository, and their compiled forms don't
+sys.dont_write_bytecode = True  # the modules are in the repository, and their compiled forms aren't
 from random_images import ROOT  # noqa: E402
 from worked_runs import CALL, REGISTERS, STRAIGHT_LINE, TRACED, lines  # noqa: E402
 from worked_traces import (  # noqa: E402
     CSV_HEAD, FIBONACCI, SETUP, Programmed, Row, Run, audited, block, header, run_differences,
 )  # fmt: skip
 
-LONGEST_RUN = 120  # seconds, after which a run doesn't end
+LONGEST_RUN = 120  # the seconds after which a run counts as endless
 PART = 4096  # how many bytes of an output are written at once
 RECORDED_CALL = [
     "10 00 00 00 00 00 00 00", "20 00 00 00 01 00 00 00", "22 00 00 00 00 00 00 00", "12 00 00 00 01 00 00 00",
@@ -35,7 +35,7 @@ RECORDED_CALL = [
 
 
 def beside(shows, *reports, file=CALL, script=TRACED, options="", **comes):
-    """An example whose first run is a `run`, of which `comes` says what it leaves."""
+    """An example whose first run is a `run`. `comes` says what it leaves."""
     words = f"run i s t a --wall 0 {options}".strip()
     return Row(shows, {"i": file, "s": lines(script)}, (Run(words, **comes), *reports))
 
@@ -122,7 +122,7 @@ ORDERED = [
 
 
 def sixteen_holds():
-    """Sixteen threads, each held, that go to their ends alone: by turns with patched and with unpatched sleds.
+    """Sixteen threads, each held, that run to their ends one at a time: by turns with patched and with unpatched sleds.
 
     Thread t is held before its passing t mod 4. The last thread goes first.
     """
@@ -166,7 +166,7 @@ def recursion(options, recycled, size, *reports):
 
 
 def wrapped(options, recycled, kept):
-    """Threads that fill four buffers each, of one event, of which so many are lost and so many left."""
+    """Threads that each fill four buffers of one event. This many are lost, and this many are left."""
     size = len(header()) + kept * (16 + 72)
     has = (f"recycled {recycled}",)
     return beside("buffers are used again", options=f"--buffer-size 72 {options}", has=has, sizes={"t": size})
@@ -179,7 +179,7 @@ UNORDERED = [
     # Each thread seals three segments, and one buffer is spare.
     wrapped("--threads 2 --buffer-max 3", 5, 3),
     wrapped("--threads 1 --buffer-max 2", 2, 2),
-    # No buffer is spare: each thread takes its own again, or one that another has just sealed.
+    # No buffer is spare: each thread takes its own again, or one that another thread has just sealed.
     wrapped("--threads 4 --buffer-max 4", 12, 4),
     wrapped("--threads 16 --buffer-max 16", 48, 16),
     wrapped("--threads 16 --buffer-max 17", 47, 17),
@@ -223,7 +223,7 @@ REFUSED = [
 
 
 def limited(size):
-    """Lets no file grow past a size; a write that would do so fails."""
+    """Lets no file grow past a size. A write that would do so fails."""
     resource.setrlimit(resource.RLIMIT_FSIZE, (size, size))
     signal.signal(signal.SIGXFSZ, signal.SIG_IGN)
 
@@ -274,7 +274,7 @@ def output_differences(failing):
 
 
 def size_differences(failing):
-    """For each size a run in which no output may grow past it: the first output that is longer keeps its prefix."""
+    """For each size, a run in which no output may grow past it. The first output that is longer keeps its prefix."""
     whole = failing.whole()
     words = failing.row.runs[0].words
     for size in sizes_of(max(len(whole[name]) for name in ("t", "a", "out"))):
@@ -285,14 +285,14 @@ def size_differences(failing):
 
 
 def sizes_of(longest):
-    """All sizes of a short file, and those about the ends of the parts in which a longer one is written."""
+    """All sizes of a short file, and those near the ends of the parts in which a longer one is written."""
     if longest < 3000:
         return range(longest + 1)
     return [*range(100), *(part + by for part in range(PART, longest, PART) for by in (-1, 0, 1)), longest - 1, longest]
 
 
 def left_by(whole, failed, size):
-    """What a run leaves of which this output, or none, is cut at a size."""
+    """What a run leaves if this output, or none, is cut at a size."""
     if failed is None:
         return 0, "", whole
     names = ("i", "s", "t", "a", "out")
@@ -303,7 +303,7 @@ def left_by(whole, failed, size):
     return 4, f"xray: {'output' if failed == 'out' else failed}: write fault\n", left
 
 
-# An example with the longest output for each: the trace, the audit, and what is printed. The trace of the last has many
+# For each of the trace, the audit and what is printed, an example in which it is longest. The trace of the last has many
 # parts.
 LONGEST = [
     HELD,

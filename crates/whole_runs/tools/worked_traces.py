@@ -1,13 +1,13 @@
 #!/usr/bin/env python3
-"""Compares the model of `xray` with traces, audits and reports that were worked by hand, and says where they differ.
+"""Compares the model of `xray` with traces, audits and reports that were worked by hand, and reports where they differ.
 
 usage: crates/whole_runs/tools/worked_traces.py [PROGRAM] [--with COMMANDS]
-    PROGRAM: a built program, which is then compared with the same results; without it the model alone is
-    --with: which of sim, account, stack and convert PROGRAM has, joined by commas; all of them if left out
+    PROGRAM: a built program, which is compared with the same results; without it only the model is
+    --with: which of sim, account, stack and convert PROGRAM has, with commas between them; all if left out
 
-Each row begins with some files and goes through runs over them, in order. A replay leaves a trace t and an audit a, which the
-reports after it read. A run says what it prints, or some of the lines, and which files it leaves. Traces are written here as
-hexadecimal bytes, record by record. A difference is reported, and then the status is 1.
+Each row begins with some files and goes through runs over them, in order. A replay leaves a trace t and an audit a, which later
+reports read. A run has what it prints, or some of these lines, and which files it leaves. Traces are written as hexadecimal
+bytes, record by record. A difference is reported, and then the status is 1.
 """
 import argparse
 import dataclasses
@@ -17,7 +17,7 @@ import subprocess
 import sys
 import tempfile
 
-sys.dont_write_bytecode = True  # the modules stand in the repository, and their compiled forms don't
+sys.dont_write_bytecode = True  # the modules are in the repository, and their compiled forms aren't
 import image_model  # noqa: E402
 import replay_model  # noqa: E402
 import trace_model  # noqa: E402
@@ -44,7 +44,7 @@ def header(size="00 40 00 00"):
 
 
 def block(*records, thread="01", pid="01"):
-    """A block of a thread with a wall time of 0; a record is its first bytes, and that of a function has eight."""
+    """A block of a thread with a wall time of 0. A record is given by its first bytes. A function record has eight."""
     used = padded(f"01 {thread}") + padded("09") + padded(f"13 {pid}")
     for said in records:
         raw = bytes.fromhex(said)
@@ -61,12 +61,12 @@ ENTERED, LEFT, JUMPED = 0, 1, 2
 
 
 def calls(*events, thread="01"):
-    """A block of events on CPU 0, each an action, a function and how far the counter went on from 0."""
+    """A block of events on CPU 0, each an action, a function and how far the counter has advanced from 0."""
     return block("05", *(counted(*event) for event in events), thread=thread)
 
 
 def calls_of(durations):
-    """A block of calls of function 1, one after the other, that take so long."""
+    """A block of calls of function 1, one after the other, that take this long."""
     return calls(*(event for duration in durations for event in ((ENTERED, 1, 0), (LEFT, 1, duration))))
 
 
@@ -75,10 +75,10 @@ def calls_of(durations):
 
 @dataclasses.dataclass(frozen=True)
 class Run:
-    """What comes of a run: lines parted by ` / `, on standard error unless the status is 0.
+    """The outcome of a run: lines with ` / ` between them, on standard error unless the status is 0.
 
-    `has` are lines that stand among others on standard output or in the audit; `leaves` are bytes of files, and `sizes`
-    their lengths.
+    `has` are some of the lines on standard output or in the audit. `leaves` are bytes of files, and `sizes` their
+    lengths.
     """
 
     words: str
@@ -97,7 +97,7 @@ class Row:
 
 
 def replayed(shows, *runs, file=STRAIGHT_LINE, script=TRACED, schedule="", options="", **comes):
-    """A row whose first run is a replay, of which `comes` says what it leaves."""
+    """A row whose first run is a replay. `comes` says what it leaves."""
     words = f"sim i s c t a --wall 0 {options}".strip()
     return Row(shows, {"i": file, "s": lines(script), "c": lines(schedule)}, (Run(words, **comes), *runs))
 
@@ -304,7 +304,7 @@ NESTED = calls((ENTERED, 1, 0), (ENTERED, 2, 1), (LEFT, 2, 2), (ENTERED, 3, 0), 
 LONG_NAME = "n" * 255
 
 REPORTS = [
-    # Cut anywhere, the header is short, or the first block is. Cut between them, the header stands alone.
+    # Cut anywhere, the header is short, or the first block is. Cut between them, only the header is left.
     *(
         reported(f"a trace of {size} bytes", CUT[:size], refused("account t", f"t: trace Short {0 if size < 32 else 32}"))
         for size in range(len(CUT)) if size != 32
@@ -400,7 +400,7 @@ REPORTS = [
 ]  # fmt: skip
 
 
-# Refusals, each with a file that comes to it.
+# Refusals, each with a file that is refused for it.
 PREAMBLE = [padded("01 01"), padded("09"), padded("13 01")]
 
 
@@ -492,7 +492,7 @@ def said(text):
 
 
 def run_differences(world, run):
-    """What a run comes to and shouldn't."""
+    """What a run does that it shouldn't."""
     outcome = world.run(run.words)
     if outcome.status != run.status:
         yield f"status {outcome.status}, {said(outcome.error)}"

@@ -1,11 +1,10 @@
 """A model of `xray`: how words are read, what each command does, and what is left on each status.
 
-It is written from docs/formats and docs/COMMANDS.md alone, and shares nothing with the program or its definitions. It
-is made to be read and not to be fast. What is read and made stands in modules of its own: images (image_model), plain runs
-(machine_model), scripts and replays (replay_model), runs beside a script (run_model), traces (trace_model) and reports on them
-(report_model). What `asm` makes of a text is handed in: crates/asm_text/tools/random_texts.py has a model of that. What `run`
-shows of its order is handed in, too. worked_runs.py and worked_traces.py compare the model with results that were worked by
-hand.
+It is written from docs/formats and docs/COMMANDS.md alone, and shares nothing with the program or its definitions. It is made to
+be read, not to be fast. Other modules have its parts: images (image_model), plain runs (machine_model), scripts and replays
+(replay_model), runs beside a script (run_model), traces (trace_model) and reports on them (report_model). What `asm` makes from
+a text is passed in: crates/asm_text/tools/random_texts.py has a model of that. What `run` shows of its order is passed in too.
+worked_runs.py and worked_traces.py compare the model with results that were worked by hand.
 """
 import dataclasses
 import re
@@ -28,12 +27,12 @@ LARGEST_64 = (1 << 64) - 1
 
 
 class BadLine(Exception):
-    """The words are no command."""
+    """The words aren't a command."""
 
 
 @dataclasses.dataclass(frozen=True)
 class Numbers:
-    """The range of an option's value, and what holds without the option."""
+    """The range of an option's value, and the value without the option."""
 
     least: int
     most: int
@@ -46,7 +45,7 @@ class Numbers:
 
 
 class Choice:
-    """The words of which an option's value is one; the first holds without the option."""
+    """The words that an option's value may be. Without the option it is the first."""
 
     def __init__(self, *words):
         self.words = words
@@ -105,18 +104,18 @@ FORMS = {
 }
 # Commands that a program may lack.
 LATER = ("sim", "run", "account", "stack", "convert")
-# `sim` of a program that writes no traces: it prints the state texts alone.
+# `sim` of a program that writes no traces: it only prints the state texts.
 REPLAY = Form(range(3, 4), (), RUN_OPTIONS)
 
 
 def forms_with(commands):
-    """The commands of a program that has those of `LATER` which are named here, and no others of them."""
+    """The commands of a program that has only these of `LATER`."""
     forms = {name: form for name, form in FORMS.items() if name in commands or name not in LATER}
     return {"sim": REPLAY, **forms}
 
 
 def command_of(words, forms):
-    """The command, its files and its options; the words are bytes."""
+    """The command, its files and its options. The words are bytes."""
     try:
         words = [word.decode("utf-8") for word in words]
     except UnicodeDecodeError:
@@ -182,7 +181,7 @@ class Outcome:
 
 
 class Failed(Exception):
-    """An input or an output fails; what was written before that stands."""
+    """An input or an output fails. What was written before stays."""
 
     def __init__(self, status, reason, written=None):
         super().__init__(status, reason)
@@ -257,7 +256,7 @@ def run_beside(world, names, options):
 
 
 def traced(world, options, ended, buffers):
-    """What comes of threads at their ends and of the buffers of what they recorded."""
+    """What is made of threads at their ends and of the buffers of what they recorded."""
     wall = world.wall if options["wall"] is None else (options["wall"], 0)
     trace = buffers.trace(Header(options["frequency"], options["buffer-size"]), wall, options["pid"])
     lines = [audit_line(*both) for both in zip(ended, buffers.threads)]
@@ -322,7 +321,7 @@ def done(words, world, assemble, forms):
 
 
 def outcome(words, world, assemble=None, forms=FORMS):
-    """What a run of the program leaves; `assemble` makes the image of a text by a threshold, or raises `Refused`."""
+    """What a run of the program leaves. `assemble` makes the image of a text by a threshold, or raises `Refused`."""
     try:
         return done(words, world, assemble, forms)
     except BadLine:

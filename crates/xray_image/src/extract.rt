@@ -97,6 +97,3 @@ fn truth_bytes(holds: bool) -> &'static [u8]
 {
     if holds { b"true" } else { b"false" }
 }
-
-#[cfg(test)]
-mod tests;

@@ -27,6 +27,3 @@ pub use image::{Image, read_image};
 pub use laws::{one_reading, one_unit_list, one_verdict, some_verdict};
 pub use sled::{Sled, SledKind};
 pub use unit::{Unit, What};
-
-#[cfg(test)]
-mod tests;

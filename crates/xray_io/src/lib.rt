@@ -29,6 +29,3 @@ pub use sink::Sink;
 pub use system::{ErrSink, FileDesk, OutSink};
 pub use text::{Text, write_pieces};
 pub use whole::{read_whole, write_all};
-
-#[cfg(test)]
-mod tests;

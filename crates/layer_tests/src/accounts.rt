@@ -1,0 +1,260 @@
+//! Rows that were worked by hand, orders with ties, and texts.
+
+use account_report::*;
+use fdr_file::{Block, Blocks, Events, Header, Trace};
+use fdr_record::{Event, Kind};
+use std::alloc::Global;
+use std::test::Fail;
+use xray_io::{MemSink, Wall};
+
+const HEADER: Header = Header {
+    version: 3,
+    constant: true,
+    nonstop: true,
+    frequency: 0,
+    size: 16_384,
+};
+
+/// An event: its thread, its kind, its function and its counter.
+type Said = (u32, Kind, u32, u64);
+
+/// A trace with a block for each event.
+fn trace_of(alloc: Global, events: &[Said]) -> Result<Trace, Fail> {
+    let mut blocks = Vec::new(alloc);
+    for &(thread, kind, func, tsc) in events {
+        let event = Event {
+            cpu: 0,
+            func,
+            kind,
+            tsc,
+        };
+        blocks.push(Block {
+            thread,
+            wall: Wall { secs: 0, micros: 0 },
+            pid: 1,
+            events: Events::new(Vec::from_slice(alloc, &[event])?),
+        })?;
+    }
+    Ok(Trace {
+        header: HEADER,
+        blocks: Blocks::new(blocks),
+    })
+}
+
+/// The text of rows, without an image.
+fn printed(alloc: Global, rows: &[AccountRow], format: AccountFormat) -> Result<String, Fail> {
+    let mut sink = MemSink::new(alloc, Vec::new(alloc));
+    write_account(rows, latencies(rows), None, format, &mut sink).map_err(|_| "write fault")?;
+    Ok(String::from_str(alloc, std::str::from_utf8(sink.bytes())?)?)
+}
+
+const CSV_HEAD: &str = "funcid,count,min,med,90p,99p,max,sum,entries,exits,function\n";
+
+/// Events, and the lines of their rows.
+const ROWS: [(&[Said], &str); 9] = [
+    (&[], ""),
+    // Each exit ends the innermost call of its function.
+    (
+        &[
+            (1, Kind::Entry, 1, 0),
+            (1, Kind::Entry, 1, 10),
+            (1, Kind::Entry, 1, 20),
+            (1, Kind::Exit, 1, 30),
+            (1, Kind::Exit, 1, 45),
+        ],
+        "1,2,10,35,35,35,35,45,1,0,#1\n",
+    ),
+    // The counter wraps.
+    (
+        &[(1, Kind::Entry, 3, u64::MAX), (1, Kind::TailExit, 3, 0)],
+        "3,1,1,1,1,1,1,1,0,0,#3\n",
+    ),
+    // Exits without an entry, and an entry without an exit.
+    (
+        &[(1, Kind::Exit, 2, 5), (1, Kind::TailExit, 2, 6)],
+        "2,0,-,-,-,-,-,-,0,2,#2\n",
+    ),
+    (&[(1, Kind::Entry, 2, 5)], "2,0,-,-,-,-,-,-,1,0,#2\n"),
+    // A call that ends with the one that it was made in, and then its own exit.
+    (
+        &[
+            (1, Kind::Entry, 9, 0),
+            (1, Kind::Entry, 2, 1),
+            (1, Kind::Exit, 9, 10),
+            (1, Kind::Exit, 2, 12),
+        ],
+        "2,0,-,-,-,-,-,-,1,1,#2\n9,1,10,10,10,10,10,10,0,0,#9\n",
+    ),
+    // Two threads with one function.
+    (
+        &[
+            (1, Kind::Entry, 7, 0),
+            (2, Kind::Entry, 7, 100),
+            (1, Kind::Exit, 7, 1),
+            (2, Kind::Exit, 7, 102),
+        ],
+        "7,2,1,2,2,2,2,3,0,0,#7\n",
+    ),
+    // A duration of no cycles, and the greatest id.
+    (
+        &[(4, Kind::Entry, u32::MAX, 8), (4, Kind::Exit, u32::MAX, 8)],
+        "4294967295,1,0,0,0,0,0,0,0,0,#4294967295\n",
+    ),
+    // A sum that doesn't fit 64 bits.
+    (
+        &[
+            (1, Kind::Entry, 1, 1),
+            (1, Kind::Exit, 1, 0),
+            (1, Kind::Entry, 1, 1),
+            (1, Kind::Exit, 1, 0),
+        ],
+        "1,2,18446744073709551615,18446744073709551615,18446744073709551615,18446744073709551615,\
+         18446744073709551615,36893488147419103230,0,0,#1\n",
+    ),
+];
+
+#[test]
+fn a_row_tells_of_the_pairs_of_its_function_and_of_what_is_in_none(
+    rt: HostRuntime,
+) -> Result<(), Fail> {
+    for (events, lines) in ROWS {
+        let rows = account(rt.alloc(), &trace_of(rt.alloc(), events)?)?;
+        let text = printed(rt.alloc(), &rows, AccountFormat::Csv)?;
+        assert_eq!(rt; text.as_str().strip_prefix(CSV_HEAD), Some(lines));
+    }
+    Ok(())
+}
+
+#[test]
+fn percentiles_are_items_of_the_ascending_durations(rt: HostRuntime) -> Result<(), Fail> {
+    for (longest, shortest, line) in [
+        (4, 4, "1,1,4,4,4,4,4,4,0,0,#1\n"),
+        (10, 1, "1,10,1,6,10,10,10,55,0,0,#1\n"),
+        (100, 1, "1,100,1,51,91,100,100,5050,0,0,#1\n"),
+    ] {
+        let mut events = Vec::new(rt.alloc());
+        for duration in (shortest..=longest).rev() {
+            events.push((1, Kind::Entry, 1, 0))?;
+            events.push((1, Kind::Exit, 1, duration))?;
+        }
+        let rows = account(rt.alloc(), &trace_of(rt.alloc(), &events)?)?;
+        let text = printed(rt.alloc(), &rows, AccountFormat::Csv)?;
+        assert_eq!(rt; text.as_str().strip_prefix(CSV_HEAD), Some(line));
+    }
+    Ok(())
+}
+
+/// A row with a number in one of its columns.
+fn row_with(key: SortKey, func: u32, number: u64) -> AccountRow {
+    let mut row = AccountRow {
+        func,
+        count: 1,
+        min: 1,
+        med: 1,
+        p90: 1,
+        p99: 1,
+        max: 1,
+        sum: 1,
+        entries: 0,
+        exits: 0,
+    };
+    match key {
+        SortKey::FuncId => {}
+        SortKey::Count => row.count = number,
+        SortKey::Min => row.min = number,
+        SortKey::Med => row.med = number,
+        SortKey::P90 => row.p90 = number,
+        SortKey::P99 => row.p99 = number,
+        SortKey::Max => row.max = number,
+        SortKey::Sum => row.sum = u128::from(number),
+    }
+    row
+}
+
+/// The functions of the rows that are kept, in an order.
+fn ordered(
+    alloc: Global,
+    key: SortKey,
+    descending: bool,
+    top: Option<u32>,
+) -> Result<Vec<u32>, Fail> {
+    let mut rows = Vec::new(alloc);
+    for (func, number) in [(1, 5), (2, 3), (3, 5), (4, 2)] {
+        rows.push(row_with(key, func, number))?;
+    }
+    order_rows(&mut rows, key, descending, top);
+    let mut functions = Vec::new(alloc);
+    for row in &rows {
+        functions.push(row.func)?;
+    }
+    Ok(functions)
+}
+
+#[test]
+fn rows_of_one_number_stand_by_their_functions_both_ways(rt: HostRuntime) -> Result<(), Fail> {
+    for key in [
+        SortKey::Count,
+        SortKey::Min,
+        SortKey::Med,
+        SortKey::P90,
+        SortKey::P99,
+        SortKey::Max,
+        SortKey::Sum,
+    ] {
+        let rising = ordered(rt.alloc(), key, false, None)?;
+        assert_eq!(rt; rising.as_slice(), [4, 2, 1, 3].as_slice());
+        let falling = ordered(rt.alloc(), key, true, Some(3))?;
+        assert_eq!(rt; falling.as_slice(), [1, 3, 2].as_slice());
+    }
+    for (descending, top, functions) in [
+        (false, None, &[1, 2, 3, 4][..]),
+        (true, Some(5), &[4, 3, 2, 1]),
+        (true, Some(1), &[4]),
+        (false, Some(0), &[]),
+    ] {
+        let kept = ordered(rt.alloc(), SortKey::FuncId, descending, top)?;
+        assert_eq!(rt; kept.as_slice(), functions);
+    }
+    Ok(())
+}
+
+const TEXT_HEAD: &str = "    funcid      count        min        med        90p        99p        \
+    max        sum    entries      exits function\n";
+
+const ONE_PAIR: &str = "         1          1          2          2          2          2          \
+    2          2          0          0 #1\n";
+
+#[test]
+fn columns_end_in_one_place_and_a_longer_number_stands_whole(rt: HostRuntime) -> Result<(), Fail> {
+    let alloc = rt.alloc();
+    let none = printed(alloc, &[], AccountFormat::Text)?;
+    let head = none
+        .as_str()
+        .strip_prefix("Functions with latencies: 0\n")
+        .ok_or("another line")?;
+    assert_eq!(rt; head, TEXT_HEAD);
+    let events = [(1, Kind::Entry, 1, 0), (1, Kind::Exit, 1, 2)];
+    let rows = account(alloc, &trace_of(alloc, &events)?)?;
+    let one = printed(alloc, &rows, AccountFormat::Text)?;
+    let lines = one
+        .as_str()
+        .strip_prefix("Functions with latencies: 1\n")
+        .ok_or("another line")?;
+    assert_eq!(rt; lines.strip_prefix(TEXT_HEAD), Some(ONE_PAIR));
+    let wide = [
+        AccountRow {
+            max: 12_345_678_901,
+            ..row_with(SortKey::Sum, 3, 12_345_678_901)
+        },
+        row_with(SortKey::Count, 4, 0),
+    ];
+    let text = printed(alloc, &wide, AccountFormat::Text)?;
+    let lines = text.as_str().strip_prefix("Functions with latencies: 1\n");
+    let rows = lines.ok_or("another line")?.strip_prefix(TEXT_HEAD);
+    assert_eq!(rt; rows, Some(WIDE));
+    Ok(())
+}
+
+const WIDE: &str = "         3          1          1          1          1          1 12345678901 \
+    12345678901          0          0 #3\n         4          0          -          -          -          \
+    -          -          -          0          0 #4\n";

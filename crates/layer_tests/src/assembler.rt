@@ -1,0 +1,295 @@
+//! Images worked by hand, the refusals, and the limits.
+
+use asm_text::*;
+use std::alloc::{AllocError, Global};
+use std::test::Fail;
+use text_lines::count_lines;
+use xray_image::read_image;
+
+/// The code of a move, an output, and a return.
+const MOVE: &[u8] = &[
+    0xEB, 0x09, 0x66, 0x0F, 0x1F, 0x84, 0x00, 0x00, 0x02, 0x00, 0x00, 0xB8, 0x41, 0x00, 0x00, 0x00,
+    0xE6, 0x01, 0xC3, 0x2E, 0x66, 0x0F, 0x1F, 0x84, 0x00, 0x00, 0x02, 0x00, 0x00,
+];
+
+/// The code of an exit sled that needs its alignment byte.
+const ODD_EXIT: &[u8] = &[
+    0xEB, 0x09, 0x66, 0x0F, 0x1F, 0x84, 0x00, 0x00, 0x02, 0x00, 0x00, 0xE6, 0x00, 0x90, 0xC3, 0x2E,
+    0x66, 0x0F, 0x1F, 0x84, 0x00, 0x00, 0x02, 0x00, 0x00,
+];
+
+/// The code of a call over an alignment byte.
+const CALL: &[u8] = &[
+    0xEB, 0x09, 0x66, 0x0F, 0x1F, 0x84, 0x00, 0x00, 0x02, 0x00, 0x00, 0xE8, 0x0C, 0x00, 0x00, 0x00,
+    0xC3, 0x2E, 0x66, 0x0F, 0x1F, 0x84, 0x00, 0x00, 0x02, 0x00, 0x00, 0x90, 0xEB, 0x09, 0x66, 0x0F,
+    0x1F, 0x84, 0x00, 0x00, 0x02, 0x00, 0x00, 0x90, 0xC3, 0x2E, 0x66, 0x0F, 0x1F, 0x84, 0x00, 0x00,
+    0x02, 0x00, 0x00,
+];
+
+/// The code of a tail jump to the next function.
+const TAIL: &[u8] = &[
+    0xEB, 0x09, 0x66, 0x0F, 0x1F, 0x84, 0x00, 0x00, 0x02, 0x00, 0x00, 0x90, 0xEB, 0x09, 0x66, 0x0F,
+    0x1F, 0x84, 0x00, 0x00, 0x02, 0x00, 0x00, 0xE9, 0x00, 0x00, 0x00, 0x00, 0xEB, 0x09, 0x66, 0x0F,
+    0x1F, 0x84, 0x00, 0x00, 0x02, 0x00, 0x00, 0x90, 0xC3, 0x2E, 0x66, 0x0F, 0x1F, 0x84, 0x00, 0x00,
+    0x02, 0x00, 0x00,
+];
+
+/// The code of labels and of branches both ways, after a function without sleds.
+const FIBONACCI: &[u8] = &[
+    0xBF, 0x14, 0x00, 0x00, 0x00, 0xE8, 0x02, 0x00, 0x00, 0x00, 0xC3, 0x90, 0xEB, 0x09, 0x66, 0x0F,
+    0x1F, 0x84, 0x00, 0x00, 0x02, 0x00, 0x00, 0xB9, 0x00, 0x00, 0x00, 0x00, 0x48, 0x01, 0xCF, 0x0F,
+    0x85, 0x0C, 0x00, 0x00, 0x00, 0x90, 0xC3, 0x2E, 0x66, 0x0F, 0x1F, 0x84, 0x00, 0x00, 0x02, 0x00,
+    0x00, 0xB9, 0x01, 0x00, 0x00, 0x00, 0x48, 0x29, 0xCF, 0x0F, 0x85, 0x0E, 0x00, 0x00, 0x00, 0x48,
+    0x01, 0xC8, 0xC3, 0x2E, 0x66, 0x0F, 0x1F, 0x84, 0x00, 0x00, 0x02, 0x00, 0x00, 0x57, 0xE8, 0xB9,
+    0xFF, 0xFF, 0xFF, 0x5F, 0xB9, 0x01, 0x00, 0x00, 0x00, 0x48, 0x29, 0xCF, 0xE8, 0xAB, 0xFF, 0xFF,
+    0xFF, 0x90, 0xC3, 0x2E, 0x66, 0x0F, 0x1F, 0x84, 0x00, 0x00, 0x02, 0x00, 0x00,
+];
+
+/// The verdict on a text of fewer than 2,000,000 lines.
+fn verdict(alloc: Global, text: &[u8], threshold: u32) -> Result<Vec<u8>, AsmFault> {
+    if count_lines(text) > 2_000_000 {
+        return Err(AsmFault::NoMemory);
+    }
+    assemble(alloc, text, threshold)
+}
+
+/// The code of an image file.
+fn code(file: &[u8]) -> &[u8] {
+    if file.len() < 64 {
+        return file;
+    }
+    let length = file[16] as usize + 256 * file[17] as usize + 65_536 * file[18] as usize;
+    if file.len() < 64 + length {
+        return file;
+    }
+    &file[64..64 + length]
+}
+
+#[test]
+fn five_images_have_their_bytes(rt: HostRuntime) -> Result<(), Fail> {
+    let rows: [(&[u8], usize, &[u8]); 5] = [
+        (
+            b"base 0x1000\nfn main always\nmov eax, 65\nout 1\nret\n",
+            170,
+            MOVE,
+        ),
+        (b"base 0x1000\nfn main always\nout 0\nret\n", 166, ODD_EXIT),
+        (
+            b"base 0x1000\nfn main always\ncall f\nret\nfn f always\nret\n",
+            266,
+            CALL,
+        ),
+        (
+            b"base 0x1000\nfn a always\ntailjmp b\nfn b always\nret\n",
+            263,
+            TAIL,
+        ),
+        (
+            b"base 0x1000\nentry main\nfn main never\nmov edi, 20\ncall fib\nret\n\
+              fn fib always\nmov ecx, 0\nadd rdi, rcx\njnz nz\nret\nnz:\n\
+              mov ecx, 1\nsub rdi, rcx\njnz big\nadd rax, rcx\nret\nbig:\npush rdi\n\
+              call fib\npop rdi\nmov ecx, 1\nsub rdi, rcx\ncall fib\nret\n",
+            326,
+            FIBONACCI,
+        ),
+    ];
+    for (text, length, expected) in rows {
+        let file = verdict(rt.alloc(), text, 1)?;
+        assert_eq!(rt; file.len(), length);
+        assert_eq!(rt; code(&file), expected);
+    }
+    Ok(())
+}
+
+#[test]
+fn first_image_is_that_of_the_first_run(rt: HostRuntime) -> Result<(), Fail> {
+    let text = b"base 0x1000\nfn main always\nmov eax, 65\nout 1\nret\n";
+    let file = verdict(rt.alloc(), text, 1)?;
+    let expected = &[
+        0x58, 0x52, 0x49, 0x4D, 0x01, 0x00, 0x00, 0x00, 0x00, 0x10, 0x00, 0x00, 0x00, 0x00, 0x00,
+        0x00, 0x1D, 0x00, 0x00, 0x00, 0x01, 0x00, 0x00, 0x00, 0x02, 0x00, 0x00, 0x00, 0x00, 0x00,
+        0x00, 0x00, 0x00, 0x10, 0x20, 0x00, 0x00, 0x00, 0x00, 0x00, 0x10, 0x10, 0x20, 0x00, 0x00,
+        0x00, 0x00, 0x00, 0x20, 0x10, 0x20, 0x00, 0x00, 0x00, 0x00, 0x00, 0x30, 0x10, 0x20, 0x00,
+        0x00, 0x00, 0x00, 0x00, 0xEB, 0x09, 0x66, 0x0F, 0x1F, 0x84, 0x00, 0x00, 0x02, 0x00, 0x00,
+        0xB8, 0x41, 0x00, 0x00, 0x00, 0xE6, 0x01, 0xC3, 0x2E, 0x66, 0x0F, 0x1F, 0x84, 0x00, 0x00,
+        0x02, 0x00, 0x00, 0x00, 0x10, 0x00, 0x00, 0x00, 0x00, 0x00, 0x00, 0x04, 0x6D, 0x61, 0x69,
+        0x6E, 0x00, 0x10, 0x00, 0x00, 0x00, 0x00, 0x00, 0x00, 0x00, 0x10, 0x00, 0x00, 0x00, 0x00,
+        0x00, 0x00, 0x00, 0x01, 0x00, 0x00, 0x00, 0x00, 0x00, 0x00, 0x00, 0x00, 0x00, 0x00, 0x00,
+        0x00, 0x00, 0x00, 0x12, 0x10, 0x00, 0x00, 0x00, 0x00, 0x00, 0x00, 0x00, 0x10, 0x00, 0x00,
+        0x00, 0x00, 0x00, 0x00, 0x01, 0x01, 0x00, 0x00, 0x00, 0x00, 0x00, 0x00, 0x00, 0x00, 0x00,
+        0x00, 0x00, 0x00, 0x00, 0x00,
+    ];
+    assert_eq!(rt; file.as_slice(), expected.as_slice());
+    Ok(())
+}
+
+#[test]
+fn threshold_decides_where_the_function_does_not(rt: HostRuntime) -> Result<(), Fail> {
+    let with_sleds = verdict(rt.alloc(), b"fn a\nret", 1)?;
+    assert_eq!(rt; with_sleds.len(), 161);
+    assert_eq!(rt;
+        code(&with_sleds),
+        [
+            0xEB, 0x09, 0x66, 0x0F, 0x1F, 0x84, 0x00, 0x00, 0x02, 0x00, 0x00, 0x90, 0xC3, 0x2E,
+            0x66, 0x0F, 0x1F, 0x84, 0x00, 0x00, 0x02, 0x00, 0x00,
+        ]
+        .as_slice()
+    );
+    assert_eq!(rt; with_sleds.get(91).copied(), Some(0));
+    let without = verdict(rt.alloc(), b"fn a\nret", 2)?;
+    assert_eq!(rt; without.len(), 75);
+    assert_eq!(rt; code(&without), [0xC3].as_slice());
+    Ok(())
+}
+
+#[test]
+fn assembled_file_is_read_back(rt: HostRuntime) -> Result<(), Fail> {
+    // The exit sled of f, main, and its tail sled each come after an alignment byte.
+    let text = b"entry main\nfn f always\nret\nfn main always\ntailjmp f\n";
+    let file = verdict(rt.alloc(), text, 1)?;
+    let image = read_image(rt.alloc(), &file)?;
+    assert_eq!(rt; image.base(), 4096);
+    assert_eq!(rt; image.entry(), 4120);
+    assert_eq!(rt; image.function_count(), 2);
+    assert_eq!(rt; image.sled_count(), 4);
+    assert_eq!(rt; image.name_of(1), Some("f"));
+    assert_eq!(rt; image.name_of(2), Some("main"));
+    assert_eq!(rt; image.name_of(3), None);
+    Ok(())
+}
+
+#[test]
+fn each_refusal_names_its_line(rt: HostRuntime) {
+    let rows: [(&[u8], AsmFault); 28] = [
+        (b"", AsmFault::Syntax(1)),
+        (b"mov eax, 1", AsmFault::Syntax(1)),
+        (b"fn a", AsmFault::Syntax(2)),
+        (b"fn a\n", AsmFault::Syntax(2)),
+        (b"fn a\nfn b\nret", AsmFault::Syntax(2)),
+        (b"fn a\nret\nbase 16", AsmFault::Syntax(3)),
+        (b"base 16\nbase 16\nfn a\nret", AsmFault::Syntax(2)),
+        (b"entry a\nentry a\nfn a\nret", AsmFault::Syntax(2)),
+        (b"x:\nfn a\nret", AsmFault::Syntax(1)),
+        (b"fn a\nmov eax,1\nret", AsmFault::Syntax(2)),
+        (b"fn a\nout 0X1\nret", AsmFault::Syntax(2)),
+        (b"fn a\nout 18446744073709551616", AsmFault::Syntax(2)),
+        (b"fn 1a\nret", AsmFault::Syntax(1)),
+        (b"fn a\nb: ret", AsmFault::Syntax(2)),
+        (b"fn a\nret\r", AsmFault::Syntax(2)),
+        (b"mov r10d, 1", AsmFault::Syntax(1)),
+        (b"fn a\nmov r10d, 99999999999\nret", AsmFault::Register(2)),
+        (b"fn a\nadd rax, esp\nret", AsmFault::Register(2)),
+        (b"base 0x1001\nfn a\nret", AsmFault::Range(1)),
+        (b"base 0x7FFF00000010\nfn a\nret", AsmFault::Range(1)),
+        (b"fn a\nout 256\nret", AsmFault::Range(2)),
+        (b"fn a\nmov eax, 0x100000000\nret", AsmFault::Range(2)),
+        (b"fn a\nret\nfn a\nret", AsmFault::Repeat(3)),
+        (b"fn a\nret\na:\nret", AsmFault::Repeat(3)),
+        (b"fn a\njmp b\nret", AsmFault::Label(2)),
+        (b"fn a\ntailjmp b\nret", AsmFault::Label(2)),
+        (b"entry b\nfn a\nb:\nret", AsmFault::Label(1)),
+        (b"fn a\njmp b\nret\nb:", AsmFault::Label(4)),
+    ];
+    for (text, expected) in rows {
+        assert_eq!(rt; verdict(rt.alloc(), text, 1).err(), Some(expected));
+    }
+}
+
+#[test]
+fn highest_numbers_are_taken(rt: HostRuntime) -> Result<(), Fail> {
+    let text = b"base 0x7FFF00000000\nfn a never\nmov r15d, 4294967295\nout 255\nret\n";
+    let file = verdict(rt.alloc(), text, 1)?;
+    let base = file.get(8..16).ok_or("no base")?;
+    assert_eq!(rt;
+        base,
+        [0x00, 0x00, 0x00, 0x00, 0xFF, 0x7F, 0x00, 0x00].as_slice()
+    );
+    let expected = [0x41, 0xBF, 0xFF, 0xFF, 0xFF, 0xFF, 0xE6, 0xFF, 0xC3];
+    assert_eq!(rt; code(&file), expected.as_slice());
+    Ok(())
+}
+
+#[test]
+fn blanks_comments_and_line_ends_change_nothing(rt: HostRuntime) -> Result<(), Fail> {
+    let plain = verdict(
+        rt.alloc(),
+        b"base 0x1000\nfn main always\nmov eax, 65\nout 1\nret\n",
+        1,
+    )?;
+    for text in [
+        b"base 4096\r\n\r\nfn main always\r\nmov eax, 65\r\nout 1\r\nret".as_slice(),
+        b"\tbase\t0x1000 # \xff\x00\r\nfn  main\talways\n#\nmov eax,\t0x41\nout 01#\n ret ",
+    ] {
+        let file = verdict(rt.alloc(), text, 1)?;
+        assert_eq!(rt; file.as_slice(), plain.as_slice());
+    }
+    Ok(())
+}
+
+#[test]
+fn labels_stand_for_their_three_places(rt: HostRuntime) -> Result<(), Fail> {
+    // Labels before an alignment byte, and at the end of a function, before the alignment byte of
+    // the next one.
+    let text = b"fn a always\njmp x\npush rax\nx:\ny:\nret\nz:\nfn b always\njmp x\njmp z\nret\n";
+    let file = verdict(rt.alloc(), text, 1)?;
+    let expected: &[u8] = &[
+        0xEB, 0x09, 0x66, 0x0F, 0x1F, 0x84, 0x00, 0x00, 0x02, 0x00, 0x00, 0xE9, 0x01, 0x00, 0x00,
+        0x00, 0x50, 0x90, 0xC3, 0x2E, 0x66, 0x0F, 0x1F, 0x84, 0x00, 0x00, 0x02, 0x00, 0x00, 0x90,
+        0xEB, 0x09, 0x66, 0x0F, 0x1F, 0x84, 0x00, 0x00, 0x02, 0x00, 0x00, 0xE9, 0xE3, 0xFF, 0xFF,
+        0xFF, 0xE9, 0xEB, 0xFF, 0xFF, 0xFF, 0x90, 0xC3, 0x2E, 0x66, 0x0F, 0x1F, 0x84, 0x00, 0x00,
+        0x02, 0x00, 0x00,
+    ];
+    assert_eq!(rt; code(&file), expected);
+    Ok(())
+}
+
+/// A line, `count` times, after other lines.
+fn repeated(alloc: Global, front: &[u8], line: &[u8], count: u32) -> Result<Vec<u8>, AllocError> {
+    let mut text = Vec::from_slice(alloc, front)?;
+    for _ in 0..count {
+        text.extend_from_slice(line)?;
+    }
+    Ok(text)
+}
+
+/// The text of `count` functions of two lines each.
+fn functions(alloc: Global, count: u32) -> Result<Vec<u8>, AllocError> {
+    let mut text = Vec::new(alloc);
+    for i in 0..count {
+        let name = format!(in alloc; "fn f{i} never\nret\n")?;
+        text.extend_from_slice(name.as_bytes())?;
+    }
+    Ok(text)
+}
+
+#[test]
+fn limits_are_reached_and_not_passed(rt: HostRuntime) -> Result<(), Fail> {
+    let alloc = rt.alloc();
+    let full = verdict(alloc, &functions(alloc, 1024)?, 1)?;
+    assert_eq!(rt; code(&full).len(), 1024);
+    let more = functions(alloc, 1025)?;
+    assert_eq!(rt; verdict(alloc, &more, 1).err(), Some(AsmFault::Limit(2049)));
+    let full = verdict(alloc, &repeated(alloc, b"fn a\n", b"ret\n", 4095)?, 1)?;
+    assert_eq!(rt; code(&full).len(), 12 * 4096 - 1);
+    let more = repeated(alloc, b"fn a\n", b"ret\n", 4096)?;
+    assert_eq!(rt;
+        verdict(alloc, &more, 9999).err(),
+        Some(AsmFault::Limit(4097))
+    );
+    Ok(())
+}
+
+#[test]
+fn code_of_a_mebibyte_is_the_most(rt: HostRuntime) -> Result<(), Fail> {
+    let alloc = rt.alloc();
+    let mut text = repeated(alloc, b"fn a never\n", b"jnz a\n", 174_762)?;
+    text.extend_from_slice(b"ret\nret\nret\nret\n")?;
+    let full = verdict(alloc, &text, 1)?;
+    assert_eq!(rt; code(&full).len(), 1_048_576);
+    text.extend_from_slice(b"ret\n")?;
+    assert_eq!(rt;
+        verdict(alloc, &text, 1).err(),
+        Some(AsmFault::Limit(174_768))
+    );
+    Ok(())
+}

@@ -1,0 +1,161 @@
+//! The calls of a table one after the other, on an image with one function that prints an A.
+
+ghost use Rattle.std.specs.Prelude.{◌≡◌, ◌<◌, ◌≤◌, ◌*◌, ◌+◌, length, IfOk};
+ghost use Rattle.sled_words.specs.Words.{word_count};
+ghost use Rattle.sled_rule.specs.Plans.{code_words};
+ghost use Rattle.sled_rule.specs.Seats.{patch_view, script_of, work_view, AllMet, IsPatcherOf, IsWorkerOf};
+ghost use Rattle.sled_rule.specs.Views.{ended_count, first_patch};
+
+use example_images::OUTPUTS_AN_A;
+use patch_script::{Micro, read_script};
+use sled_rule::{CodeTable, PatchSeat, WorkSeat};
+use std::process::Abort;
+use std::test::Fail;
+use text_lines::count_lines;
+use xray_image::read_image;
+
+/// The patcher at the start of a script for one thread.
+fn begin<R: Abort + AllocGlobal>(rt: &R, text: &[u8]) -> Result<(CodeTable, PatchSeat), Fail>
+    ensures own { IfOk result (λ t. IsPatcherOf t.0 t.1) }
+    ensures first { IfOk result (λ t. patch_view t.1 ≡ first_patch (script_of t.0)) }
+    ensures one { IfOk result (λ t. (script_of t.0).threads ≡ 1) }
+{
+    assert!(rt; count_lines(text) < 100);
+    let image = read_image(rt.alloc(), &OUTPUTS_AN_A)?;
+    let script = read_script(rt.alloc(), text, &image, 1)?;
+    let made = CodeTable::new(rt.alloc(), &image, script, 1)?;
+    Ok(made)
+}
+
+/// Makes `stores` stores. They are what the script says next.
+fn store(rt: &impl Abort, table: &CodeTable, seat: &mut PatchSeat, stores: u32)
+    requires { IsPatcherOf table.now seat.old }
+    ensures own { IsPatcherOf table.now seat.new }
+    ensures given { (patch_view seat.new).given ≡ (patch_view seat.old).given }
+{
+    for _ in 0..stores {
+        match table.next_micro(seat) {
+            Micro::Store { .. } => table.store_next(seat),
+            Micro::Await { .. } | Micro::End => panic!(rt; "no store"),
+        }
+    }
+}
+
+/// Looks at an await. It is what the script says next.
+fn look(rt: &impl Abort, table: &CodeTable, seat: &mut PatchSeat) -> bool
+    requires { IsPatcherOf table.now seat.old }
+    ensures own { IsPatcherOf table.now seat.new }
+{
+    match table.next_micro(seat) {
+        Micro::Await { .. } => table.look(seat),
+        Micro::Store { .. } | Micro::End => panic!(rt; "no await"),
+    }
+}
+
+/// Ends the only thread and the table.
+fn finish(table: CodeTable, mut seat: PatchSeat, mut worker: WorkSeat, into: &mut [u64])
+    requires own { IsPatcherOf table seat }
+    requires own_worker { IsWorkerOf table worker }
+    requires one { (patch_view seat).given ≡ 1 }
+    requires thread { (work_view worker).thread ≡ 1 }
+    requires going { (work_view worker).count ≡ 0 }
+    requires room { length into.old ≡ word_count (script_of table).program (script_of table).threads }
+{
+    table.ended(&mut worker);
+    table.meet(&mut seat, worker);
+    table.close(seat, into);
+}
+
+/// The head of the first sled, as a thread finds it after hearing of all stores so far.
+fn told_head(table: &CodeTable, patcher: &mut PatchSeat, worker: &mut WorkSeat) -> u64
+    requires patcher { IsPatcherOf table.now patcher.old }
+    requires worker { IsWorkerOf table.now worker.old }
+    requires some { 0 < code_words (script_of table.now) }
+    ensures worker { IsWorkerOf table.now worker.new }
+    ensures told { (patch_view patcher.old).place ≤ (work_view worker.new).seen }
+{
+    let note = table.note(patcher);
+    table.hear(worker, note);
+    table.fetch(worker, 0)
+}
+
+#[test]
+fn a_thread_fetches_what_was_stored(rt: HostRuntime) -> Result<(), Fail> {
+    let (table, mut seat) = begin(&rt, b"go\npatch\n")?;
+    assert!(rt; table.is_at_start(&seat));
+    assert!(rt; table.code_word_count() == 11);
+    let mut worker = table.split(&mut seat);
+    assert!(rt; table.fetch(&mut worker, 0) == 0x09EB);
+    store(&rt, &table, &mut seat, 4);
+    assert!(rt; table.fetch(&mut worker, 0) == 0xBA41);
+    assert!(rt; table.fetch(&mut worker, 1) == 1);
+    assert!(rt; table.fetch(&mut worker, 4) == 0x2EC3);
+    store(&rt, &table, &mut seat, 4);
+    assert!(rt; table.fetch(&mut worker, 4) == 0xBA41);
+    assert!(rt; seat.place() == 8);
+    Ok(())
+}
+
+#[test]
+fn the_last_words_are_those_of_the_script_and_the_counts(rt: HostRuntime) -> Result<(), Fail> {
+    let (table, mut seat) = begin(&rt, b"go\npatch\n")?;
+    assert!(rt; table.is_at_start(&seat));
+    assert!(rt; table.word_count() == 12);
+    let worker = table.split(&mut seat);
+    store(&rt, &table, &mut seat, 8);
+    let mut last = [0; 12];
+    finish(table, seat, worker, &mut last);
+    let words = [
+        0xBA41,
+        1,
+        0xE8,
+        0x1F_FFF5,
+        0xBA41,
+        1,
+        0xE9,
+        0x1F_FFF3,
+        0,
+        0,
+        0,
+        u64::MAX,
+    ];
+    assert_eq!(rt; last.as_slice(), words.as_slice());
+    Ok(())
+}
+
+#[test]
+fn an_await_is_passed_once_the_thread_has_made_its_passings(rt: HostRuntime) -> Result<(), Fail> {
+    let (table, mut seat) = begin(&rt, b"go\nawait 1 1\npatch\n")?;
+    assert!(rt; table.is_at_start(&seat));
+    let mut worker = table.split(&mut seat);
+    assert!(rt; !look(&rt, &table, &mut seat));
+    assert!(rt; seat.place() == 0);
+    table.passed(&mut worker);
+    assert!(rt; look(&rt, &table, &mut seat));
+    assert!(rt; seat.place() == 1);
+    Ok(())
+}
+
+#[test]
+fn a_thread_that_hears_a_note_fetches_nothing_older(rt: HostRuntime) -> Result<(), Fail> {
+    let (table, mut seat) = begin(&rt, b"go\npatch\n")?;
+    assert!(rt; table.is_at_start(&seat));
+    assert!(rt; table.code_word_count() == 11);
+    let mut worker = table.split(&mut seat);
+    store(&rt, &table, &mut seat, 4);
+    assert!(rt; told_head(&table, &mut seat, &mut worker) == 0xBA41);
+    Ok(())
+}
+
+#[test]
+fn a_patcher_that_heeds_a_tally_passes_its_await(rt: HostRuntime) -> Result<(), Fail> {
+    let (table, mut seat) = begin(&rt, b"go\nawait 1 1\n")?;
+    assert!(rt; table.is_at_start(&seat));
+    let mut worker = table.split(&mut seat);
+    table.passed(&mut worker);
+    let tally = table.tally(&mut worker);
+    table.heed(&mut seat, tally);
+    assert!(rt; look(&rt, &table, &mut seat));
+    assert!(rt; seat.place() == 1);
+    Ok(())
+}

@@ -1,0 +1,250 @@
+use command_words::*;
+use std::alloc::{AllocError, Global};
+use std::process::Abort;
+use std::test::Fail;
+use xray_io::Wall;
+
+/// The wall time that is passed in.
+const NOON: Wall = Wall {
+    secs: 43_200,
+    micros: 5,
+};
+
+/// Command lines and what they say, by hand. Each has words with bars between them, and then the
+/// command, with each name in brackets and its numbers in the order of the table of options.
+const SAID: &str = "\
+plain => none
+ => none
+Plain|i => none
+plain|i => plain [i] 1 10000000 1048576
+plain|- => plain [-] 1 10000000 1048576
+plain| => plain [] 1 10000000 1048576
+plain|a=b => plain [a=b] 1 10000000 1048576
+plain|a b => plain [a b] 1 10000000 1048576
+plain|help => plain [help] 1 10000000 1048576
+plain|--|-h => plain [-h] 1 10000000 1048576
+plain|--|-- => plain [--] 1 10000000 1048576
+plain|--fuel=3|--|i => plain [i] 1 3 1048576
+plain|i|--passings|0 => plain [i] 1 10000000 0
+plain|-- => none
+plain|--|i|--fuel=3 => none
+plain|--fuel|--|3|i => none
+plain|i|--fuel => none
+plain|i|j => none
+plain|-f|3|i => none
+plain|-fuel=3|i => none
+plain|--=3|i => none
+plain|---fuel=3|i => none
+plain|--fue=3|i => none
+plain|--threshold=3|i => none
+plain|i|--fuel=+7 => plain [i] 1 7 1048576
+plain|i|--fuel|007 => plain [i] 1 7 1048576
+plain|i|--fuel=1000000000 => plain [i] 1 1000000000 1048576
+plain|i|--threads=16 => plain [i] 16 10000000 1048576
+plain|i|--threads=17 => none
+plain|i|--threads=0 => none
+plain|i|--fuel=1000000001 => none
+plain|i|--fuel=18446744073709551616 => none
+plain|i|--passings=1048577 => none
+plain|i|--fuel= => none
+plain|i|--fuel=+ => none
+plain|i|--fuel| => none
+plain|i|--fuel=3=4 => none
+plain|i|--fuel=0x3 => none
+plain|i|--fuel|-3 => none
+plain|i|--fuel=-3 => none
+plain|i|--fuel=3|--fuel=3 => none
+plain|i|--fuel|3|--fuel=4 => none
+asm|t|i => asm [t] [i] 1
+asm|--threshold|4294967295|t|i => asm [t] [i] 4294967295
+asm|t|i|--threshold=4294967296 => none
+asm|t|t => none
+asm|t|--|t => none
+asm|t|./t => asm [t] [./t] 1
+asm|t => none
+asm|t|i|--threads=1 => none
+extract|i => extract [i]
+extract|i|--fuel=1 => none
+--help => none
+help => none
+extract|-V => none
+extract|--version => none
+sim|i|s|c|t|a => sim [i] [s] [c] [t] [a] 1 10000000 1048576 16384 100 1 0 0 1 1048576 1 43200.5
+sim|s|s|s|t|a|--wall=0 => sim [s] [s] [s] [t] [a] 1 10000000 1048576 16384 100 1 0 0 1 1048576 1 0.0
+sim|i|s|c|t|a|--threads=2|--fuel=3|--passings=4|--buffer-size=72|--buffer-max=2|--tick=18446744073709551615\
+|--tsc=5|--frequency=6|--cpus=65535|--migrate=1|--pid=2147483647|--wall=7 \
+=> sim [i] [s] [c] [t] [a] 2 3 4 72 2 18446744073709551615 5 6 65535 1 2147483647 7.0
+sim|i|s|c => none
+sim|i|s|c|t|t => none
+sim|i|s|c|t|s => none
+sim|i|s|c|c|a => none
+sim|i|s|c|t|a|b => none
+sim|i|s|c|t|a|--threshold=1 => none
+sim|i|s|c|t|a|--threads=4|--buffer-max=3 => none
+sim|i|s|c|t|a|--buffer-size=65519|--buffer-max=1024 \
+=> sim [i] [s] [c] [t] [a] 1 10000000 1048576 65519 1024 1 0 0 1 1048576 1 43200.5
+sim|i|s|c|t|a|--buffer-size=65520|--buffer-max=1024 => none
+sim|i|s|c|t|a|--buffer-size=71 => none
+sim|i|s|c|t|a|--buffer-size=1048577 => none
+sim|i|s|c|t|a|--buffer-max=1025 => none
+sim|i|s|c|t|a|--cpus=0 => none
+sim|i|s|c|t|a|--migrate=1048577 => none
+sim|i|s|c|t|a|--pid=2147483648 => none
+sim|i|s|c|t|a|--wall=18446744073709551616 => none
+run|i|s|t|a|--wall=7|--threads|2 => run [i] [s] [t] [a] 2 10000000 1048576 16384 100 1 0 0 1 1048576 1 7.0
+run|i|s|c|t|a => none
+run|i|s|t|t => none
+run|i|s|s|a => none
+account|t => account [t] None FuncId Ascending None Text
+account|t|t|--sort|funcid => account [t] Some(\"t\") FuncId Ascending None Text
+account|--sort=sum|t|i|--sortorder=desc|--top=0|--format|csv => account [t] Some(\"i\") Sum Descending Some(0) Csv
+account|t|--sort|99p|--top|4294967295 => account [t] None P99 Ascending Some(4294967295) Text
+account|t|--sort=90 => none
+account|t|--sort= => none
+account|t|--sort=0 => none
+account|t|--format=yaml => none
+account|t|--top=4294967296 => none
+account|t|i|j => none
+account|t|--sort=sum|--sort=sum => none
+account => none
+stack|t => stack [t] None Human
+stack|t|i|--format=flame => stack [t] Some(\"i\") Flame
+stack|t|--format=yaml => none
+convert|t => convert [t] None
+convert|t|i|--format|yaml => convert [t] Some(\"i\")
+convert|t|--format=human => none
+";
+
+/// Words as a program gets them, from a line with bars between the words.
+fn words_of(alloc: Global, line: &str) -> Result<Vec<String>, AllocError> {
+    let mut words = Vec::new(alloc);
+    for word in line.split('|') {
+        words.push(String::from_str(alloc, word)?)?;
+    }
+    Ok(words)
+}
+
+/// The command that words say, with each name in brackets, and its numbers. `none` if they say no
+/// command.
+fn shown(alloc: Global, words: &[String]) -> Result<String, AllocError> {
+    match read_words(alloc, NOON, words)? {
+        None => String::from_str(alloc, "none"),
+        Some(Command::Plain { image, bounds }) => {
+            let Bounds {
+                threads,
+                fuel,
+                passings,
+            } = bounds;
+            format!(in alloc; "plain [{image}] {threads} {fuel} {passings}")
+        }
+        Some(Command::Extract { image }) => format!(in alloc; "extract [{image}]"),
+        Some(
+            Command::Asm {
+                text,
+                image,
+                threshold,
+            },
+        ) => format!(in alloc; "asm [{text}] [{image}] {threshold}"),
+        Some(
+            Command::Account {
+                trace,
+                image,
+                options,
+            },
+        ) => {
+            let AccountOptions {
+                sort,
+                order,
+                top,
+                format,
+            } = options;
+            format!(in alloc; "account [{trace}] {image:?} {sort:?} {order:?} {top:?} {format:?}")
+        }
+        Some(
+            Command::Stack {
+                trace,
+                image,
+                format,
+            },
+        ) => format!(in alloc; "stack [{trace}] {image:?} {format:?}"),
+        Some(Command::Convert { trace, image }) => {
+            format!(in alloc; "convert [{trace}] {image:?}")
+        }
+        Some(
+            Command::Run {
+                image,
+                script,
+                trace,
+                audit,
+                options,
+            },
+        ) => {
+            let options = shown_options(alloc, options)?;
+            let options = options.as_str();
+            format!(in alloc; "run [{image}] [{script}] [{trace}] [{audit}] {options}")
+        }
+        Some(
+            Command::Sim {
+                image,
+                script,
+                schedule,
+                trace,
+                audit,
+                options,
+            },
+        ) => {
+            let options = shown_options(alloc, options)?;
+            let options = options.as_str();
+            format!(in alloc; "sim [{image}] [{script}] [{schedule}] [{trace}] [{audit}] {options}")
+        }
+    }
+}
+
+/// The numbers of a run's options, in the order of the table.
+fn shown_options(alloc: Global, options: RunOptions) -> Result<String, AllocError> {
+    let Bounds {
+        threads,
+        fuel,
+        passings,
+    } = options.bounds;
+    let Buffers { size, max } = options.buffers;
+    let Stamps {
+        tick,
+        tsc,
+        frequency,
+        cpus,
+        migrate,
+    } = options.stamps;
+    let Wall { secs, micros } = options.wall;
+    let pid = options.pid;
+    format!(in alloc;
+        "{threads} {fuel} {passings} {size} {max} {tick} {tsc} {frequency} {cpus} {migrate} {pid} {secs}.{micros}"
+    )
+}
+
+#[test]
+fn command_lines_say_what_stands_here(rt: HostRuntime) -> Result<(), Fail> {
+    let alloc = rt.alloc();
+    let mut rows = 0u32;
+    for row in SAID.lines() {
+        if let Some((line, said)) = row.split_once(" => ") {
+            let words = words_of(alloc, line)?;
+            assert_eq!(rt; shown(alloc, &words)?.as_str(), said);
+            rows = rows.wrapping_add(1);
+        }
+    }
+    assert_eq!(rt; rows, 97);
+    Ok(())
+}
+
+#[test]
+fn a_long_word_is_a_name(rt: HostRuntime) -> Result<(), Fail> {
+    let alloc = rt.alloc();
+    let mut long = String::from_str(alloc, "extract|--|--fuel=")?;
+    for _ in 0..1_048_576u32 {
+        long.push_str("9")?;
+    }
+    let words = words_of(alloc, &long)?;
+    assert_eq!(rt; shown(alloc, &words)?.len() + 1, long.len());
+    Ok(())
+}

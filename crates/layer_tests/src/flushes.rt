@@ -1,0 +1,304 @@
+//! The audits of threads that have ended, and buffers in the order of a flush.
+
+use example_images::OUTPUTS_AN_A;
+use fdr_buffer::Buffer;
+use fdr_record::{Event, Kind};
+use machine_step::{Cpu, End, Limits, Setup, Steps, Want};
+use std::alloc::Global;
+use std::test::Fail;
+use trace_flush::{AuditLine, arrange, audit_tells_its_run, write_audit};
+use xray_image::{Image, read_image};
+use xray_io::{MemSink, Wall, WriteFault};
+
+/// What a run is made with unless a test says otherwise.
+const DEFAULT_SETUP: Setup = Setup {
+    threads: 1,
+    size: 16_384,
+    max: 100,
+    limits: Limits {
+        fuel: 10_000_000,
+        passings: 1_048_576,
+        tick: 1,
+        tsc: 0,
+        cpus: 1,
+        migrate: 1_048_576,
+    },
+    pid: 1,
+    wall: Wall { secs: 0, micros: 0 },
+    frequency: 0,
+};
+
+/// The parts of the patched entry sled and of the patched exit sled.
+const ENTRY: [(u32, u64); 4] = [(0, 0xBA41), (1, 1), (2, 0xE8), (3, 0x1F_FFF5)];
+
+const EXIT: [(u32, u64); 4] = [(4, 0xBA41), (5, 1), (6, 0xE9), (7, 0x1F_FFF3)];
+
+/// How many threads run the image.
+const THREADS: u32 = 2;
+
+/// The words of the handler and of the log's state: with no handler, and with one whose log records
+/// or has ended.
+const NO_HANDLER: [(u32, u64); 1] = [(8, 0)];
+
+const RECORDS: [(u32, u64); 2] = [(8, 1), (9, 2)];
+
+const HAS_ENDED: [(u32, u64); 2] = [(8, 1), (9, 4)];
+
+/// The image of these bytes.
+fn image_of(alloc: Global) -> Result<Image, Fail> {
+    Ok(read_image(alloc, &OUTPUTS_AN_A)?)
+}
+
+/// Lets a thread into its next passing, and gives it the values of the words that it loads.
+fn pass(cpu: &mut Cpu, sled: &[(u32, u64)], rest: &[(u32, u64)]) -> Result<(), Fail> {
+    if let Want::Gate(_) = cpu.want() {
+        cpu.opened();
+    }
+    for (word, value) in sled.iter().chain(rest.iter()) {
+        match cpu.want() {
+            Want::Load(wanted) if wanted == *word && cpu.allowed(*value) => {
+                cpu.give(*value);
+            }
+            _ => Err("another word or value")?,
+        }
+    }
+    Ok(())
+}
+
+/// A thread that has passed both sleds. It loaded these words before those of the entry sled and of
+/// the exit sled.
+fn passed_thread<'a>(
+    alloc: Global,
+    steps: &'a Steps<'a>,
+    thread: u32,
+    limits: Limits,
+    entry: &[(u32, u64)],
+    exit: &[(u32, u64)],
+) -> Result<Cpu<'a>, Fail> {
+    if thread == 0 || thread > THREADS || limits.cpus == 0 || limits.migrate == 0 {
+        Err("no such thread")?;
+    }
+    let mut cpu = Cpu::new(alloc, steps, thread, THREADS, None, limits)?;
+    pass(&mut cpu, &ENTRY, entry)?;
+    pass(&mut cpu, &EXIT, exit)?;
+    Ok(cpu)
+}
+
+/// Thread 1 of two, which has passed both sleds and recorded that.
+fn one_thread<'a>(
+    alloc: Global,
+    steps: &'a Steps<'a>,
+    limits: Limits,
+) -> Result<Vec<Cpu<'a>>, Fail> {
+    let mut cpus = Vec::new(alloc);
+    cpus.push(passed_thread(alloc, steps, 1, limits, &RECORDS, &RECORDS)?)?;
+    Ok(cpus)
+}
+
+/// Two threads that have passed both sleds: the first one recorded its entry, the other one nothing.
+fn two_threads<'a>(
+    alloc: Global,
+    steps: &'a Steps<'a>,
+    limits: Limits,
+) -> Result<Vec<Cpu<'a>>, Fail> {
+    let mut cpus = Vec::new(alloc);
+    cpus.push(passed_thread(alloc, steps, 1, limits, &RECORDS, &HAS_ENDED)?)?;
+    cpus.push(passed_thread(alloc, steps, 2, limits, &NO_HANDLER, &HAS_ENDED)?)?;
+    Ok(cpus)
+}
+
+/// Writes the audit of threads. All of them have ended, and each has a line.
+fn audit_of(
+    setup: &Setup,
+    lines: &[AuditLine],
+    cpus: &[Cpu],
+    sink: &mut MemSink,
+) -> Result<Result<(), WriteFault>, Fail> {
+    if lines.len() != cpus.len() {
+        Err("a thread without its line")?;
+    }
+    if !cpus.iter().all(|cpu| matches!(cpu.want(), Want::Done(_))) {
+        Err("a thread that hasn't ended")?;
+    }
+    Ok(write_audit(setup, lines, cpus, sink))
+}
+
+#[test]
+fn the_audit_of_a_thread_that_records_all(rt: HostRuntime) -> Result<(), Fail> {
+    let alloc = rt.alloc();
+    let image = image_of(alloc)?;
+    let steps = Steps::new(alloc, &image)?;
+    let cpus = one_thread(alloc, &steps, DEFAULT_SETUP.limits)?;
+    let line = AuditLine {
+        thread: 1,
+        end: End::Returned,
+        segments: 1,
+        first: 0,
+    };
+    let mut sink = MemSink::new(alloc, Vec::new(alloc));
+    audit_of(&DEFAULT_SETUP, &[line], &cpus, &mut sink)??;
+    let text = b"xray-audit 1\n\
+        threads=1 buffer-size=16384 buffer-max=100 fuel=10000000 passings=1048576 tick=1 tsc=0 \
+        cpus=1 migrate=1048576 pid=1 wall=0.0 frequency=0\n\
+        thread 1 returned passings 2 recorded 2 segments 1 first 0\n\
+        marks +2\n\
+        recycled 0\n";
+    assert_eq!(rt; sink.bytes(), text.as_slice());
+    Ok(())
+}
+
+#[test]
+fn the_audit_of_two_threads_that_lost_segments(rt: HostRuntime) -> Result<(), Fail> {
+    audit_tells_its_run();
+    let alloc = rt.alloc();
+    let image = image_of(alloc)?;
+    let steps = Steps::new(alloc, &image)?;
+    let limits = Limits {
+        fuel: 2,
+        passings: 1_048_575,
+        tick: 18_446_744_073_709_551_615,
+        tsc: 5,
+        cpus: 65_535,
+        migrate: 3,
+    };
+    let setup = Setup {
+        threads: 2,
+        size: 72,
+        max: 3,
+        limits,
+        pid: 2_147_483_647,
+        wall: Wall {
+            secs: 1_700_000_000,
+            micros: 42,
+        },
+        frequency: 2_400_000_000,
+    };
+    let cpus = two_threads(alloc, &steps, limits)?;
+    let lines = [
+        AuditLine {
+            thread: 1,
+            end: End::Fuel,
+            segments: 4,
+            first: 3,
+        },
+        AuditLine {
+            thread: 2,
+            end: End::OutputFull,
+            segments: 4_294_967_295,
+            first: 4_294_967_294,
+        },
+    ];
+    let mut sink = MemSink::new(alloc, Vec::new(alloc));
+    audit_of(&setup, &lines, &cpus, &mut sink)??;
+    let text = b"xray-audit 1\n\
+        threads=2 buffer-size=72 buffer-max=3 fuel=2 passings=1048575 tick=18446744073709551615 \
+        tsc=5 cpus=65535 migrate=3 pid=2147483647 wall=1700000000.42 frequency=2400000000\n\
+        thread 1 fuel passings 2 recorded 1 segments 4 first 3\n\
+        marks +1 f1\n\
+        thread 2 output-full passings 2 recorded 0 segments 4294967295 first 4294967294\n\
+        marks n1 f1\n\
+        recycled 4294967297\n";
+    assert_eq!(rt; sink.bytes(), text.as_slice());
+    Ok(())
+}
+
+/// Threads of the image that end before their first passing, and their lines.
+fn threads_at_once<'a>(
+    alloc: Global,
+    count: u32,
+    steps: &'a Steps<'a>,
+) -> Result<(Vec<AuditLine>, Vec<Cpu<'a>>), Fail> {
+    let limits = Limits {
+        passings: 0,
+        ..DEFAULT_SETUP.limits
+    };
+    let mut lines = Vec::new(alloc);
+    let mut cpus = Vec::new(alloc);
+    for _ in 0..count {
+        cpus.push(Cpu::new(alloc, steps, 1, 1, None, limits)?)?;
+        lines.push(AuditLine {
+            thread: 1,
+            end: End::Passings,
+            segments: 0,
+            first: 0,
+        })?;
+    }
+    Ok((lines, cpus))
+}
+
+#[test]
+fn a_sink_that_fails_in_mid_text_has_a_front_of_it(rt: HostRuntime) -> Result<(), Fail> {
+    let alloc = rt.alloc();
+    let image = image_of(alloc)?;
+    let steps = Steps::new(alloc, &image)?;
+    let (lines, cpus) = threads_at_once(alloc, 80, &steps)?;
+    let mut whole = MemSink::new(alloc, Vec::new(alloc));
+    audit_of(&DEFAULT_SETUP, &lines, &cpus, &mut whole)??;
+    assert!(rt; whole.bytes().ends_with(b"\nmarks -\nrecycled 0\n"));
+
+    // The text is longer than what is gathered for one write, and the second write fails.
+    let mut broken = MemSink::new(alloc, vec![in alloc; 1]?);
+    assert_eq!(rt;
+        audit_of(&DEFAULT_SETUP, &lines, &cpus, &mut broken)?,
+        Err(WriteFault)
+    );
+    assert!(rt; !broken.bytes().is_empty());
+    assert!(rt; broken.bytes().len() < whole.bytes().len());
+    assert!(rt; whole.bytes().starts_with(broken.bytes()));
+    Ok(())
+}
+
+/// A buffer that was begun for a segment of a thread, with this many events.
+fn buffer_of(alloc: Global, thread: u32, serial: u32, events: u32) -> Result<Buffer, Fail> {
+    let mut buffer = Buffer::new(alloc, 1_000)?;
+    buffer.begin(thread, serial, DEFAULT_SETUP.wall, DEFAULT_SETUP.pid);
+    for _ in 0..events {
+        let event = Event {
+            cpu: 0,
+            func: 1,
+            kind: Kind::Entry,
+            tsc: 7,
+        };
+        if !buffer.begun() || !buffer.fits(&event) {
+            Err("no room")?;
+        }
+        buffer.put(&event);
+    }
+    Ok(buffer)
+}
+
+#[test]
+fn buffers_with_an_event_stand_by_thread_and_segment(rt: HostRuntime) -> Result<(), Fail> {
+    let alloc = rt.alloc();
+    let mut buffers = Vec::new(alloc);
+    for (thread, serial, events) in [
+        (2, 0, 1),
+        (1, 10, 2),
+        (3, 7, 0),
+        (1, 9, 1),
+        (16, 1, 5),
+        (2, 4_294_967_295, 1),
+        (1, 11, 0),
+    ] {
+        buffers.push(buffer_of(alloc, thread, serial, events)?)?;
+    }
+    buffers.push(Buffer::new(alloc, 72)?)?;
+    arrange(&mut buffers);
+    let mut left = Vec::new(alloc);
+    for buffer in &buffers {
+        left.push((buffer.thread(), buffer.serial(), buffer.events()))?;
+    }
+    let ordered = [
+        (1, 9, 1),
+        (1, 10, 2),
+        (2, 0, 1),
+        (2, 4_294_967_295, 1),
+        (16, 1, 5),
+    ];
+    assert_eq!(rt; left.as_slice(), ordered.as_slice());
+
+    let mut none = Vec::new(alloc);
+    arrange(&mut none);
+    assert!(rt; none.is_empty());
+    Ok(())
+}

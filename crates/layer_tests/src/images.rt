@@ -1,0 +1,461 @@
+//! Image files: what one says, and why others are refused.
+
+mod extracts;
+
+use example_images::OUTPUTS_AN_A;
+use std::alloc::{AllocError, Global};
+use std::test::Fail;
+use subset_decode::{DecodeFault, Instr, Reg};
+use xray_image::{
+    ImageFault, Sled, SledKind, Unit, What, Which, one_reading, one_unit_list, one_verdict,
+    read_image,
+};
+
+/// Why the bytes are refused, if they are.
+fn fault_of(rt: &HostRuntime, bytes: &[u8]) -> Option<ImageFault> {
+    read_image(rt.alloc(), bytes).err()
+}
+
+#[test]
+fn an_image_tells_its_units_and_sleds(rt: HostRuntime) -> Result<(), Fail> {
+    one_unit_list();
+    one_reading();
+    one_verdict();
+    let image = read_image(rt.alloc(), &OUTPUTS_AN_A)?;
+    assert_eq!(rt; image.base(), 0x1000);
+    assert_eq!(rt; image.entry(), 0x1000);
+    assert_eq!(rt; image.function_count(), 1);
+    assert_eq!(rt; image.trampoline(SledKind::Entry), 0x20_1000);
+    assert_eq!(rt; image.trampoline(SledKind::Exit), 0x20_1010);
+    assert_eq!(rt; image.trampoline(SledKind::Tail), 0x20_1020);
+
+    let rax = Reg::new(0).ok_or("rax")?;
+    let units = [
+        (0x1000, What::Sled(0)),
+        (
+            0x100B,
+            What::Plain(Instr::Mov {
+                dst: rax,
+                imm: 0x41,
+            }),
+        ),
+        (0x1010, What::Plain(Instr::Out { port: 1 })),
+        (0x1012, What::Sled(1)),
+    ];
+    assert_eq!(rt; image.unit_count(), 4);
+    for i in 0..4 {
+        let (address, what) = units[i as usize];
+        assert!(rt; i < image.unit_count());
+        assert_eq!(rt; image.unit(i), Unit { address, what });
+        assert_eq!(rt; image.unit_at(address), Some(i));
+    }
+    for address in [0, 0xFFF, 0x1001, 0x1011, 0x1013, 0x101D, u64::MAX] {
+        assert_eq!(rt; image.unit_at(address), None);
+    }
+
+    let entry = Sled {
+        address: 0x1000,
+        function: 0x1000,
+        id: 1,
+        kind: SledKind::Entry,
+        always: true,
+        shift: 0x200,
+    };
+    let exit = Sled {
+        address: 0x1012,
+        kind: SledKind::Exit,
+        ..entry
+    };
+    assert_eq!(rt; image.sled_count(), 2);
+    assert_eq!(rt; image.sled(0), entry);
+    assert_eq!(rt; image.sled(1), exit);
+    Ok(())
+}
+
+/// Changed bytes of that image, the length to which it is cut or extended by a zero, and why it is
+/// refused.
+type Damage = (&'static [(usize, u8)], usize, ImageFault);
+
+/// The length of that image.
+const WHOLE: usize = 170;
+
+/// The damaged file.
+fn damaged(alloc: Global, changes: &[(usize, u8)], length: usize) -> Result<Vec<u8>, AllocError> {
+    let mut bytes = OUTPUTS_AN_A.to_vec(alloc)?;
+    bytes.push(0)?;
+    for (place, byte) in changes {
+        if *place < bytes.len() {
+            bytes[*place] = *byte;
+        }
+    }
+    bytes.truncate(length);
+    Ok(bytes)
+}
+
+/// Each row of the table of refusals.
+const DAMAGES: [Damage; 24] = [
+    (&[], 63, ImageFault::Short),
+    (&[], 169, ImageFault::Short),
+    (&[], 171, ImageFault::Trailing),
+    (&[(0, 0x59)], WHOLE, ImageFault::Magic),
+    (&[(4, 0x02)], WHOLE, ImageFault::Version),
+    (
+        &[(16, 0xFF), (17, 0xFF), (18, 0xFF), (19, 0xFF)],
+        WHOLE,
+        ImageFault::Limit(Which::Code),
+    ),
+    (&[(20, 0)], WHOLE, ImageFault::Limit(Which::Functions)),
+    (&[(21, 4)], WHOLE, ImageFault::Limit(Which::Functions)),
+    (&[(25, 0x10)], WHOLE, ImageFault::Limit(Which::Sleds)),
+    (&[(28, 1)], WHOLE, ImageFault::Limit(Which::Entry)),
+    (&[(8, 0x08)], WHOLE, ImageFault::Limit(Which::Base)),
+    // the base 0x7FFF_0000_0010
+    (
+        &[(8, 0x10), (9, 0), (12, 0xFF), (13, 0x7F)],
+        WHOLE,
+        ImageFault::Limit(Which::Base),
+    ),
+    (&[(65, 0x08)], WHOLE, ImageFault::Sled(0)),
+    (&[(84, 0x67)], WHOLE, ImageFault::Sled(18)),
+    (
+        &[(75, 0x0F)],
+        WHOLE,
+        ImageFault::Code(11, DecodeFault::Unknown(65)),
+    ),
+    (&[(102, 0x20)], WHOLE, ImageFault::Names(0)),
+    (&[(93, 0x0B)], WHOLE, ImageFault::Names(0)),
+    (&[(138, 0x14)], WHOLE, ImageFault::MapOrder(1)),
+    (&[(154, 0)], WHOLE, ImageFault::Odd(1)),
+    (&[(122, 3)], WHOLE, ImageFault::Odd(0)),
+    (&[(124, 2)], WHOLE, ImageFault::Odd(0)),
+    (&[(146, 0x0B)], WHOLE, ImageFault::Odd(1)),
+    // the entry trampoline 0x2_0000_0000
+    (&[(33, 0), (34, 0), (36, 2)], WHOLE, ImageFault::Far(0)),
+    // a jump to 0x1051
+    (&[(75, 0xE9)], WHOLE, ImageFault::Target(11)),
+];
+
+/// Two adjacent rows each. The two rows `Short` (of the parts) and `Trailing` can't both apply.
+const TWICE_DAMAGED: [Damage; 15] = [
+    (&[(0, 0x59)], 63, ImageFault::Short),
+    (&[(0, 0x59), (4, 2)], WHOLE, ImageFault::Magic),
+    (&[(4, 2), (19, 0xFF)], WHOLE, ImageFault::Version),
+    (
+        &[(19, 0xFF), (20, 0)],
+        WHOLE,
+        ImageFault::Limit(Which::Code),
+    ),
+    (
+        &[(20, 0), (25, 0x10)],
+        WHOLE,
+        ImageFault::Limit(Which::Functions),
+    ),
+    (
+        &[(25, 0x10), (28, 1)],
+        WHOLE,
+        ImageFault::Limit(Which::Sleds),
+    ),
+    (
+        &[(28, 1), (8, 0x08)],
+        WHOLE,
+        ImageFault::Limit(Which::Entry),
+    ),
+    (&[(8, 0x08)], 169, ImageFault::Limit(Which::Base)),
+    (&[(65, 0x08)], 169, ImageFault::Short),
+    (&[(75, 0x0F)], 171, ImageFault::Trailing),
+    (&[(65, 0x08), (102, 0x20)], WHOLE, ImageFault::Sled(0)),
+    (&[(102, 0x20), (138, 0x14)], WHOLE, ImageFault::Names(0)),
+    (&[(138, 0x14), (122, 1)], WHOLE, ImageFault::MapOrder(1)),
+    (
+        &[(33, 0), (34, 0), (36, 2), (154, 0)],
+        WHOLE,
+        ImageFault::Odd(1),
+    ),
+    (
+        &[(33, 0), (34, 0), (36, 2), (75, 0xE9)],
+        WHOLE,
+        ImageFault::Far(0),
+    ),
+];
+
+#[test]
+fn a_damaged_image_is_refused_as_the_table_says(rt: HostRuntime) -> Result<(), Fail> {
+    for (changes, length, fault) in DAMAGES {
+        let bytes = damaged(rt.alloc(), changes, length)?;
+        assert_eq!(rt; fault_of(&rt, &bytes), Some(fault), "{changes:?}");
+    }
+    Ok(())
+}
+
+#[test]
+fn of_two_faults_the_first_of_the_table_is_told(rt: HostRuntime) -> Result<(), Fail> {
+    for (changes, length, fault) in TWICE_DAMAGED {
+        let bytes = damaged(rt.alloc(), changes, length)?;
+        assert_eq!(rt; fault_of(&rt, &bytes), Some(fault), "{changes:?}");
+    }
+    Ok(())
+}
+
+/// Adds a number in `length` bytes, lowest byte first.
+fn put(bytes: &mut Vec<u8>, number: u64, length: usize) -> Result<(), AllocError> {
+    let mut rest = number;
+    for _byte in 0..length {
+        bytes.push((rest % 256) as u8)?;
+        rest /= 256;
+    }
+    Ok(())
+}
+
+/// The header of a code at 0x1000 with these counts of functions and map entries, and the code. The
+/// entry function is the first.
+fn front(
+    alloc: Global,
+    code: &[u8],
+    functions: usize,
+    entries: usize,
+) -> Result<Vec<u8>, AllocError> {
+    let mut bytes = b"XRIM".to_vec(alloc)?;
+    put(&mut bytes, 1, 4)?;
+    put(&mut bytes, 0x1000, 8)?;
+    put(&mut bytes, code.len() as u64, 4)?;
+    put(&mut bytes, functions as u64, 4)?;
+    put(&mut bytes, entries as u64, 4)?;
+    put(&mut bytes, 0, 4)?;
+    for trampoline in [0x20_1000, 0x20_1010, 0x20_1020, 0x20_1030] {
+        put(&mut bytes, trampoline, 8)?;
+    }
+    bytes.extend_from_slice(code)?;
+    Ok(bytes)
+}
+
+/// Adds a function entry.
+fn add_function(bytes: &mut Vec<u8>, start: u64, name: &[u8]) -> Result<(), AllocError> {
+    put(bytes, start, 8)?;
+    put(bytes, name.len() as u64, 1)?;
+    bytes.extend_from_slice(name)?;
+    Ok(())
+}
+
+/// Adds a map entry.
+fn add_entry(bytes: &mut Vec<u8>, sled: u64, function: u64, kind: u8) -> Result<(), AllocError> {
+    put(bytes, sled, 8)?;
+    put(bytes, function, 8)?;
+    put(bytes, u64::from(kind), 16)
+}
+
+/// The file of a code at 0x1000, with functions by their starts and names, and with map entries by
+/// sled, function and kind.
+fn file(
+    alloc: Global,
+    code: &[u8],
+    functions: &[(u64, &str)],
+    entries: &[(u64, u64, u8)],
+) -> Result<Vec<u8>, AllocError> {
+    let mut bytes = front(alloc, code, functions.len(), entries.len())?;
+    for (start, name) in functions {
+        add_function(&mut bytes, *start, name.as_bytes())?;
+    }
+    for (sled, function, kind) in entries {
+        add_entry(&mut bytes, *sled, *function, *kind)?;
+    }
+    Ok(bytes)
+}
+
+/// Codes of one function without a map, and why they are refused, if they are.
+const CODES: [(&[u8], Option<ImageFault>); 14] = [
+    // `mov r10d, 1` and `ret`: register 10 can't be named
+    (
+        &[0x41, 0xBA, 1, 0, 0, 0, 0xC3],
+        Some(ImageFault::Code(0, DecodeFault::Register(10))),
+    ),
+    // an instruction that is cut by the code's end
+    (
+        &[0x90, 0xB8, 0x41],
+        Some(ImageFault::Code(1, DecodeFault::Short)),
+    ),
+    // a return as the last byte, and the start of sleds
+    (&[0xC3], None),
+    (&[0xC3, 0x2E], Some(ImageFault::Sled(0))),
+    (&[0xEB], Some(ImageFault::Sled(0))),
+    // whole sleds at odd places
+    (
+        &[0x90, 0xEB, 0x09, 0x66, 0x0F, 0x1F, 0x84, 0, 0, 2, 0, 0],
+        Some(ImageFault::Sled(1)),
+    ),
+    (
+        &[0x90, 0xC3, 0x2E, 0x66, 0x0F, 0x1F, 0x84, 0, 0, 2, 0, 0],
+        Some(ImageFault::Sled(1)),
+    ),
+    // a sled without an entry
+    (
+        &[0xEB, 0x09, 0x66, 0x0F, 0x1F, 0x84, 0, 0, 2, 0, 0],
+        Some(ImageFault::MapOrder(0)),
+    ),
+    // jumps to the code's end, to themselves, into themselves, and below 0
+    (&[0xE9, 0, 0, 0, 0], Some(ImageFault::Target(0))),
+    (&[0xE9, 0xFB, 0xFF, 0xFF, 0xFF], None),
+    (&[0xE9, 0xFC, 0xFF, 0xFF, 0xFF], Some(ImageFault::Target(0))),
+    (&[0xE9, 0, 0, 0, 0x80], Some(ImageFault::Target(0))),
+    // conditional jumps to the next unit, and past the code
+    (&[0x0F, 0x85, 0, 0, 0, 0, 0x90], None),
+    (
+        &[0x90, 0x0F, 0x85, 1, 0, 0, 0, 0x90],
+        Some(ImageFault::Target(1)),
+    ),
+];
+
+#[test]
+fn code_is_refused_at_its_first_bad_unit_or_branch(rt: HostRuntime) -> Result<(), Fail> {
+    for (code, fault) in CODES {
+        let bytes = file(rt.alloc(), code, &[(0x1000, "main")], &[])?;
+        assert_eq!(rt; fault_of(&rt, &bytes), fault, "{code:?}");
+    }
+    Ok(())
+}
+
+/// A function `main` at 0x1000 that calls a function `f` at 0x101C.
+const CALLS_F: [u8; 51] = [
+    // an entry sled, the call at 11, an exit sled at 16, padding
+    0xEB, 0x09, 0x66, 0x0F, 0x1F, 0x84, 0, 0, 2, 0, 0, 0xE8, 0x0C, 0, 0, 0, 0xC3, 0x2E, 0x66, 0x0F,
+    0x1F, 0x84, 0, 0, 2, 0, 0, 0x90,
+    // an entry sled at 28, padding, an exit sled at 40
+    0xEB, 0x09, 0x66, 0x0F, 0x1F, 0x84, 0, 0, 2, 0, 0, 0x90, 0xC3, 0x2E, 0x66, 0x0F, 0x1F, 0x84, 0,
+    0, 2, 0, 0,
+];
+
+/// Its map.
+const CALLS_F_MAP: [(u64, u64, u8); 4] = [
+    (0x1000, 0x1000, 0),
+    (0x1010, 0x1000, 1),
+    (0x101C, 0x101C, 0),
+    (0x1028, 0x101C, 1),
+];
+
+/// The functions of that code, and others.
+const FUNCTIONS: [(&[(u64, &str)], Option<ImageFault>); 8] = [
+    (&[(0x1000, "main"), (0x101C, "f")], None),
+    (
+        &[(0x1000, "main"), (0x101C, "main")],
+        Some(ImageFault::Names(1)),
+    ),
+    // the name of an earlier function that isn't the one before
+    (
+        &[(0x1000, "f"), (0x1010, "g"), (0x101C, "f")],
+        Some(ImageFault::Names(2)),
+    ),
+    // not at a unit, and not above the one before
+    (
+        &[(0x1000, "main"), (0x101D, "f")],
+        Some(ImageFault::Names(1)),
+    ),
+    (
+        &[(0x1000, "main"), (0x101C, "f"), (0x101C, "g")],
+        Some(ImageFault::Names(2)),
+    ),
+    (
+        &[(0x1000, "main"), (0x101C, "")],
+        Some(ImageFault::Names(1)),
+    ),
+    (
+        &[(0x1000, "a"), (0x101C, "a b")],
+        Some(ImageFault::Names(1)),
+    ),
+    // the sled at 0x1010 lies in `g`
+    (
+        &[(0x1000, "main"), (0x1010, "g"), (0x101C, "f")],
+        Some(ImageFault::Odd(1)),
+    ),
+];
+
+#[test]
+fn functions_have_to_fit_the_units_and_the_map(rt: HostRuntime) -> Result<(), Fail> {
+    for (functions, fault) in FUNCTIONS {
+        let bytes = file(rt.alloc(), &CALLS_F, functions, &CALLS_F_MAP)?;
+        assert_eq!(rt; fault_of(&rt, &bytes), fault, "{functions:?}");
+    }
+    let mut code = CALLS_F;
+    code[12] = 0x0D;
+    let functions = [(0x1000, "main"), (0x101C, "f")];
+    let bytes = file(rt.alloc(), &code, &functions, &CALLS_F_MAP)?;
+    assert_eq!(rt; fault_of(&rt, &bytes), Some(ImageFault::Target(11)));
+    Ok(())
+}
+
+/// The file of a code of alignment bytes, with one function.
+fn file_of_code(alloc: Global, length: usize) -> Result<Vec<u8>, AllocError> {
+    let code = vec![in alloc; 0x90_u8; length]?;
+    file(alloc, &code, &[(0x1000, "main")], &[])
+}
+
+/// The last digit of a number, as text.
+fn digit(number: usize) -> u8 {
+    b'0' + (number % 10) as u8
+}
+
+/// The file of a code of alignment bytes, with a function at each. Its name is its number in four
+/// digits.
+fn file_of_functions(alloc: Global, count: usize) -> Result<Vec<u8>, AllocError> {
+    let code = vec![in alloc; 0x90_u8; count]?;
+    let mut bytes = front(alloc, &code, count, 0)?;
+    for number in 0..count {
+        let name = [
+            digit(number / 1000),
+            digit(number / 100),
+            digit(number / 10),
+            digit(number),
+        ];
+        add_function(&mut bytes, (number as u64).wrapping_add(0x1000), &name)?;
+    }
+    Ok(bytes)
+}
+
+/// The file of a code of entry sleds with padding between them, all in one function.
+fn file_of_sleds(alloc: Global, count: usize) -> Result<Vec<u8>, AllocError> {
+    let mut code = Vec::new(alloc);
+    for _sled in 0..count {
+        code.extend_from_slice(&[0xEB, 0x09, 0x66, 0x0F, 0x1F, 0x84, 0, 0, 2, 0, 0, 0x90])?;
+    }
+    let mut bytes = front(alloc, &code, 1, count)?;
+    add_function(&mut bytes, 0x1000, b"main")?;
+    for number in 0..count {
+        let sled = (number as u64).wrapping_mul(12).wrapping_add(0x1000);
+        add_entry(&mut bytes, sled, 0x1000, 0)?;
+    }
+    Ok(bytes)
+}
+
+/// The file of a code of two alignment bytes, with two functions. Their names have these lengths.
+fn file_of_names(alloc: Global, first: usize, second: usize) -> Result<Vec<u8>, AllocError> {
+    let mut bytes = front(alloc, &[0x90, 0x90], 2, 0)?;
+    add_function(&mut bytes, 0x1000, &vec![in alloc; b'n'; first]?)?;
+    add_function(&mut bytes, 0x1001, &vec![in alloc; b'n'; second]?)?;
+    Ok(bytes)
+}
+
+#[test]
+fn an_image_at_its_limits_is_read(rt: HostRuntime) -> Result<(), Fail> {
+    let alloc = rt.alloc();
+    let files = [
+        (file_of_code(alloc, 1_048_576)?, None),
+        (
+            file_of_code(alloc, 1_048_577)?,
+            Some(ImageFault::Limit(Which::Code)),
+        ),
+        (file_of_functions(alloc, 1024)?, None),
+        (
+            file_of_functions(alloc, 1025)?,
+            Some(ImageFault::Limit(Which::Functions)),
+        ),
+        (file_of_sleds(alloc, 4096)?, None),
+        (
+            file_of_sleds(alloc, 4097)?,
+            Some(ImageFault::Limit(Which::Sleds)),
+        ),
+        (file_of_names(alloc, 255, 254)?, None),
+        (file_of_names(alloc, 255, 255)?, Some(ImageFault::Names(1))),
+    ];
+    for (bytes, fault) in &files {
+        assert_eq!(rt; fault_of(&rt, bytes), *fault, "{}", bytes.len());
+    }
+    Ok(())
+}

@@ -1,0 +1,122 @@
+//! Encodings by the GNU assembler 2.40, the bytes at which each fault is decided, and all starts of
+//! two bytes.
+
+mod two_byte_starts;
+
+use std::test::*;
+use subset_decode::*;
+use two_byte_starts::{RUNS, Start};
+
+/// The register with this number, which can be named.
+fn reg(number: u8) -> Result<Reg, Fail> {
+    Ok(Reg::new(number).ok_or("the register has a name")?)
+}
+
+#[test]
+fn encodings_are_the_assemblers(rt: HostRuntime) -> Result<(), Fail> {
+    let (rax, rcx, rbx, rdi) = (reg(0)?, reg(1)?, reg(3)?, reg(7)?);
+    let (r8, r9, r11, r12, r15) = (reg(8)?, reg(9)?, reg(11)?, reg(12)?, reg(15)?);
+    assert_eq!(rt; r15.number(), 15);
+    for (instr, code) in [
+        (
+            Instr::Mov { dst: rax, imm: 65 },
+            b"\xB8\x41\0\0\0".as_slice(),
+        ),
+        (
+            Instr::Mov {
+                dst: r9,
+                imm: 0x1234_5678,
+            },
+            b"\x41\xB9\x78\x56\x34\x12".as_slice(),
+        ),
+        (
+            Instr::Add { dst: rax, src: rcx },
+            b"\x48\x01\xC8".as_slice(),
+        ),
+        (
+            Instr::Add { dst: rbx, src: r15 },
+            b"\x4C\x01\xFB".as_slice(),
+        ),
+        (Instr::Add { dst: r9, src: rdi }, b"\x49\x01\xF9".as_slice()),
+        (Instr::Add { dst: r8, src: r11 }, b"\x4D\x01\xD8".as_slice()),
+        (
+            Instr::Sub { dst: rcx, src: r12 },
+            b"\x4C\x29\xE1".as_slice(),
+        ),
+        (Instr::Push { reg: rbx }, b"\x53".as_slice()),
+        (Instr::Push { reg: r12 }, b"\x41\x54".as_slice()),
+        (Instr::Pop { reg: rdi }, b"\x5F".as_slice()),
+        (Instr::Pop { reg: r8 }, b"\x41\x58".as_slice()),
+        (
+            Instr::Call { rel: 0x1234_5678 },
+            b"\xE8\x78\x56\x34\x12".as_slice(),
+        ),
+        (Instr::Call { rel: -16 }, b"\xE8\xF0\xFF\xFF\xFF".as_slice()),
+        (
+            Instr::Jmp { rel: i32::MAX },
+            b"\xE9\xFF\xFF\xFF\x7F".as_slice(),
+        ),
+        (Instr::Jnz { rel: 259 }, b"\x0F\x85\x03\x01\0\0".as_slice()),
+        (
+            Instr::Jnz { rel: -253 },
+            b"\x0F\x85\x03\xFF\xFF\xFF".as_slice(),
+        ),
+        (Instr::Ret, b"\xC3".as_slice()),
+        (Instr::Out { port: 255 }, b"\xE6\xFF".as_slice()),
+    ] {
+        assert_eq!(rt; encode(&instr).as_slice(), code);
+        assert_eq!(rt; decode(code, 0), Ok((instr, code.len())));
+    }
+    Ok(())
+}
+
+#[test]
+fn the_shortest_front_that_decides_gives_the_fault(rt: HostRuntime) {
+    for (bytes, fault) in [
+        (b"".as_slice(), DecodeFault::Short),
+        (b"\x41".as_slice(), DecodeFault::Short),
+        (b"\x0F\x85\0\0\0".as_slice(), DecodeFault::Short),
+        (b"\x41\xB8\0\0\0".as_slice(), DecodeFault::Short),
+        (b"\x0F\x84".as_slice(), DecodeFault::Unknown(132)),
+        (b"\x4A\x01\xC0".as_slice(), DecodeFault::Unknown(74)),
+        (b"\x48\x01\x05".as_slice(), DecodeFault::Unknown(5)),
+        (b"\x48\x01\xC4".as_slice(), DecodeFault::Register(4)),
+        (b"\x49\x01\xD2".as_slice(), DecodeFault::Register(10)),
+        (b"\x49\x01\xE2".as_slice(), DecodeFault::Register(10)),
+        (b"\x4C\x29\xD4".as_slice(), DecodeFault::Register(4)),
+        (b"\xBC".as_slice(), DecodeFault::Register(4)),
+        (b"\x54".as_slice(), DecodeFault::Register(4)),
+        (b"\x41\xBA".as_slice(), DecodeFault::Register(10)),
+    ] {
+        assert_eq!(rt; decode(bytes, 0), Err(fault), "at {bytes:?}");
+    }
+}
+
+#[test]
+fn the_place_is_counted_from_the_start_of_the_bytes(rt: HostRuntime) {
+    let code = b"\xE6\x01\xC3\x0F\x84";
+    assert_eq!(rt; decode(code, 2), Ok((Instr::Ret, 3)));
+    assert_eq!(rt; decode(code, 3), Err(DecodeFault::Unknown(132)));
+    assert_eq!(rt; decode(code, 5), Err(DecodeFault::Short));
+}
+
+#[test]
+fn every_start_of_two_bytes_is_decoded_as_the_table_says(rt: HostRuntime) {
+    for start in 0..=u16::MAX {
+        let [first, second] = start.to_be_bytes();
+        let wanted = match RUNS.iter().find(|run| start <= run.0).map(|run| run.1) {
+            Some(Start::First) => Err(DecodeFault::Unknown(first)),
+            Some(Start::Second) => Err(DecodeFault::Unknown(second)),
+            Some(Start::Rsp) => Err(DecodeFault::Register(4)),
+            Some(Start::R10) => Err(DecodeFault::Register(10)),
+            Some(Start::One) => Ok(1),
+            Some(Start::Two) => Ok(2),
+            Some(Start::Short) | None => Err(DecodeFault::Short),
+        };
+        assert_eq!(rt;
+            decode(&[first, second], 0).map(|found| found.1),
+            wanted,
+            "at {start:04x}"
+        );
+    }
+}

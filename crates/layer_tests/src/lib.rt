@@ -1,0 +1,50 @@
+//! Tests of the libraries, a module for each crate. The crate has only tests.
+//!
+//! They are outside the crates that they test because a crate is proved once more together with its
+//! own tests. Here each library is proved once.
+#![tactic(auto)]
+
+#[cfg(test)]
+mod accounts;
+#[cfg(test)]
+mod assembler;
+#[cfg(test)]
+mod buffers;
+#[cfg(test)]
+mod code_table;
+#[cfg(test)]
+mod command_lines;
+#[cfg(test)]
+mod devices;
+#[cfg(test)]
+mod drawn_inputs;
+#[cfg(test)]
+mod flushes;
+#[cfg(test)]
+mod images;
+#[cfg(test)]
+mod instructions;
+#[cfg(test)]
+mod lines;
+#[cfg(test)]
+mod machine;
+#[cfg(test)]
+mod marks;
+#[cfg(test)]
+mod patching;
+#[cfg(test)]
+mod pools;
+#[cfg(test)]
+mod records;
+#[cfg(test)]
+mod replaying;
+#[cfg(test)]
+mod running;
+#[cfg(test)]
+mod scripts;
+#[cfg(test)]
+mod sleds;
+#[cfg(test)]
+mod stacks;
+#[cfg(test)]
+mod trace_files;

@@ -1,0 +1,298 @@
+//! Runs of scripts over the table of an image with one function that prints an A.
+
+ghost use Rattle.std.specs.Prelude.{◌≡◌, ◌+◌, ◌*◌, ◌<◌, ◌≤◌, [], length, IfOk};
+ghost use Rattle.std.specs.Thread.{IsSync};
+ghost use Rattle.sled_words.specs.Words.{word_count};
+ghost use Rattle.sled_rule.specs.Plans.{code_words};
+ghost use Rattle.sled_rule.specs.Seats.{patch_view, script_of, work_view, AllMet, IsPatcherOf, IsWorkerOf};
+ghost use Rattle.sled_rule.specs.Views.{ended_count, first_patch};
+
+use example_images::OUTPUTS_AN_A;
+use patch_script::read_script;
+use sled_patch::{run_prefix, run_script};
+use sled_rule::{CodeTable, PatchSeat, WorkSeat};
+use sled_words::code_bytes;
+use std::sync::Wait;
+use std::test::Fail;
+use std::thread::{Threads, join};
+use text_lines::count_lines;
+use xray_image::read_image;
+use xray_io::OpenGate;
+
+#[test]
+fn unpatching_leaves_the_head_of_a_return_and_what_was_patched_behind_it(
+    rt: HostRuntime,
+) -> Result<(), Fail> {
+    let image = read_image(rt.alloc(), &OUTPUTS_AN_A)?;
+    let text = b"patch\nunpatch\ngo\n";
+    assert!(rt; count_lines(text) < 100);
+    let script = read_script(rt.alloc(), text, &image, 1)?;
+    let (table, mut seat) = CodeTable::new(rt.alloc(), &image, script, 1)?;
+    assert!(rt; table.word_count() == 12);
+    run_prefix(&table, &mut seat);
+    assert!(rt; seat.place() == 10);
+    let mut last = [0; 12];
+    table.close(seat, &mut last);
+    let code = code_bytes(rt.alloc(), &image, &last)?;
+    let bytes = [
+        0xEB, 0x09, 1, 0, 0, 0, 0xE8, 0xF5, 0xFF, 0x1F, 0, 0xB8, 0x41, 0, 0, 0, 0xE6, 0x01, 0xC3,
+        0xBA, 1, 0, 0, 0, 0xE9, 0xF3, 0xFF, 0x1F, 0,
+    ];
+    assert_eq!(rt; code.as_slice(), bytes.as_slice());
+    Ok(())
+}
+
+#[test]
+fn unpatching_a_sled_that_was_never_patched_leaves_the_code_as_it_was(
+    rt: HostRuntime,
+) -> Result<(), Fail> {
+    let image = read_image(rt.alloc(), &OUTPUTS_AN_A)?;
+    let text = b"go\nunpatch\n";
+    assert!(rt; count_lines(text) < 100);
+    let script = read_script(rt.alloc(), text, &image, 1)?;
+    let (table, mut seat) = CodeTable::new(rt.alloc(), &image, script, 1)?;
+    assert!(rt; table.word_count() == 12);
+    run_script(&rt, &table, &mut seat, &OpenGate);
+    assert!(rt; seat.place() == 2);
+    let mut last = [0; 12];
+    table.close(seat, &mut last);
+    let code = code_bytes(rt.alloc(), &image, &last)?;
+    assert_eq!(rt; code.as_slice(), image.code());
+    Ok(())
+}
+
+/// Stores that wait for both threads in between.
+const LIVE: &[u8] = b"go\nawait 1 10\npatch\nawait 2 20\nunpatch\nawait 1 30\npatch\nawait 2 40\n";
+
+/// The words of both sleds before any store.
+const FIRST: [u64; 8] = [0x09EB, 0x841F_0F66, 0, 512, 0x2EC3, 0x841F_0F66, 0, 512];
+
+/// The micro steps of the script: the word and the value of each store, and nothing for an await.
+const STEPS: [Option<(u32, u64)>; 22] = [
+    None,
+    Some((1, 1)),
+    Some((2, 0xE8)),
+    Some((3, 0x1F_FFF5)),
+    Some((0, 0xBA41)),
+    Some((5, 1)),
+    Some((6, 0xE9)),
+    Some((7, 0x1F_FFF3)),
+    Some((4, 0xBA41)),
+    None,
+    Some((0, 0x09EB)),
+    Some((4, 0xBAC3)),
+    None,
+    Some((1, 1)),
+    Some((2, 0xE8)),
+    Some((3, 0x1F_FFF5)),
+    Some((0, 0xBA41)),
+    Some((5, 1)),
+    Some((6, 0xE9)),
+    Some((7, 0x1F_FFF3)),
+    Some((4, 0xBA41)),
+    None,
+];
+
+/// The value of a word after the first micro steps.
+fn value_at(place: usize, word: u32) -> u64 {
+    let mut value = FIRST.get(word as usize).copied().unwrap_or(0);
+    for step in STEPS.iter().take(place) {
+        if let Some((stored, other)) = step {
+            if *stored == word {
+                value = *other;
+            }
+        }
+    }
+    value
+}
+
+/// The first place, from `from` on, at which a word has a value.
+fn place_of(word: u32, value: u64, from: usize) -> Option<usize> {
+    (from..23).find(|place| value_at(*place, word) == value)
+}
+
+/// A thread that has ended, and whether each value that it fetched was lawful.
+#[derive(Drop)]
+struct Walked {
+    seat: WorkSeat,
+    lawful: bool,
+}
+
+/// Fetches the words of both sleds again and again, and ends. A value is lawful if its word had it
+/// at some place, and these places never fall.
+fn walk(table: &CodeTable, mut seat: WorkSeat) -> Walked
+    requires own { IsWorkerOf table.now seat }
+    requires words { 8 ≤ code_words (script_of table.now) }
+    requires fresh { (work_view seat).count ≡ 0 }
+    ensures own { IsWorkerOf table.now result.seat }
+    ensures ended { (work_view result.seat).count ≡ ended_count }
+    ensures thread { (work_view result.seat).thread ≡ (work_view seat).thread }
+{
+    let mut from = 0;
+    let mut lawful = true;
+    'rounds: for round in 0..5000u32 {
+        let word = round % 8;
+        let value = table.fetch(&mut seat, word);
+        match place_of(word, value, from) {
+            Some(place) => from = place,
+            None => lawful = false,
+        }
+        table.passed(&mut seat);
+    }
+    table.ended(&mut seat);
+    Walked { seat, lawful }
+}
+
+/// Runs the script to its end.
+fn patch<R: Wait>(rt: &R, table: &CodeTable, mut seat: PatchSeat) -> PatchSeat
+    requires own { IsPatcherOf table.now seat }
+    ensures own { IsPatcherOf table.now result }
+    ensures given { (patch_view result).given ≡ (patch_view seat).given }
+{
+    run_script(rt, table, &mut seat, &OpenGate);
+    seat
+}
+
+/// What the threads of a run leave.
+#[derive(Drop)]
+struct Run {
+    patcher: PatchSeat,
+    first: Walked,
+    second: Walked,
+}
+
+/// Lets two threads fetch while a third one runs the script.
+fn run_beside<R: Threads + Wait + Sync>(
+    rt: &R,
+    table: &CodeTable,
+    patcher: PatchSeat,
+    first: WorkSeat,
+    second: WorkSeat,
+) -> Run
+    requires own { IsPatcherOf table.now patcher }
+    requires own_first { IsWorkerOf table.now first }
+    requires own_second { IsWorkerOf table.now second }
+    requires words { 8 ≤ code_words (script_of table.now) }
+    requires fresh_first { (work_view first).count ≡ 0 }
+    requires fresh_second { (work_view second).count ≡ 0 }
+    ensures own { IsPatcherOf table.now result.patcher }
+    ensures given { (patch_view result.patcher).given ≡ (patch_view patcher).given }
+    ensures own_first { IsWorkerOf table.now result.first.seat }
+    ensures own_second { IsWorkerOf table.now result.second.seat }
+    ensures ended_first { (work_view result.first.seat).count ≡ ended_count }
+    ensures ended_second { (work_view result.second.seat).count ≡ ended_count }
+    ensures first { (work_view result.first.seat).thread ≡ (work_view first).thread }
+    ensures second { (work_view result.second.seat).thread ≡ (work_view second).thread }
+{
+    let (patcher, both) = join(
+        rt,
+        || patch(rt, table, patcher),
+        || -> (Walked, Walked)
+            requires shared { IsSync R.row }
+            requires own_first { IsWorkerOf table.now first }
+            requires own_second { IsWorkerOf table.now second }
+            requires words { 8 ≤ code_words (script_of table.now) }
+            requires fresh_first { (work_view first).count ≡ 0 }
+            requires fresh_second { (work_view second).count ≡ 0 }
+            ensures own_first { IsWorkerOf table.entry.now result.0.seat }
+            ensures own_second { IsWorkerOf table.entry.now result.1.seat }
+            ensures ended_first { (work_view result.0.seat).count ≡ ended_count }
+            ensures ended_second { (work_view result.1.seat).count ≡ ended_count }
+            ensures first { (work_view result.0.seat).thread ≡ (work_view first).thread }
+            ensures second { (work_view result.1.seat).thread ≡ (work_view second).thread }
+        { walk_both(rt, table, first, second) },
+    );
+    let (first, second) = both;
+    Run {
+        patcher,
+        first,
+        second,
+    }
+}
+
+/// Lets two threads fetch at the same time.
+fn walk_both<R: Threads + Sync>(
+    rt: &R,
+    table: &CodeTable,
+    first: WorkSeat,
+    second: WorkSeat,
+) -> (Walked, Walked)
+    requires own_first { IsWorkerOf table.now first }
+    requires own_second { IsWorkerOf table.now second }
+    requires words { 8 ≤ code_words (script_of table.now) }
+    requires fresh_first { (work_view first).count ≡ 0 }
+    requires fresh_second { (work_view second).count ≡ 0 }
+    ensures own_first { IsWorkerOf table.now result.0.seat }
+    ensures own_second { IsWorkerOf table.now result.1.seat }
+    ensures ended_first { (work_view result.0.seat).count ≡ ended_count }
+    ensures ended_second { (work_view result.1.seat).count ≡ ended_count }
+    ensures first { (work_view result.0.seat).thread ≡ (work_view first).thread }
+    ensures second { (work_view result.1.seat).thread ≡ (work_view second).thread }
+{
+    join(rt, || walk(table, first), || walk(table, second))
+}
+
+/// Ends both threads and the table.
+fn finish(
+    table: CodeTable,
+    mut seat: PatchSeat,
+    first: WorkSeat,
+    second: WorkSeat,
+    into: &mut [u64],
+)
+    requires own { IsPatcherOf table seat }
+    requires own_first { IsWorkerOf table first }
+    requires own_second { IsWorkerOf table second }
+    requires two { (patch_view seat).given ≡ 2 }
+    requires one { (work_view first).thread ≡ 1 }
+    requires other { (work_view second).thread ≡ 2 }
+    requires ended_first { (work_view first).count ≡ ended_count }
+    requires ended_second { (work_view second).count ≡ ended_count }
+    requires room { length into.old ≡ word_count (script_of table).program (script_of table).threads }
+{
+    table.meet(&mut seat, first);
+    table.meet(&mut seat, second);
+    table.close(seat, into);
+}
+
+#[test]
+fn two_threads_fetch_lawful_words_while_a_third_patches(rt: HostRuntime) -> Result<(), Fail> {
+    let image = read_image(rt.alloc(), &OUTPUTS_AN_A)?;
+    assert!(rt; count_lines(LIVE) < 100);
+    let script = read_script(rt.alloc(), LIVE, &image, 2)?;
+    let (table, mut seat) = CodeTable::new(rt.alloc(), &image, script, 2)?;
+    assert!(rt; table.word_count() == 14);
+    assert!(rt; table.code_word_count() == 12);
+    assert!(rt; table.is_at_start(&seat));
+    let first = table.split(&mut seat);
+    let second = table.split(&mut seat);
+    let run = run_beside(&rt, &table, seat, first, second);
+    assert!(rt; run.first.lawful && run.second.lawful);
+    assert!(rt; run.patcher.place() == 22);
+    let mut last = [0; 14];
+    finish(
+        table,
+        run.patcher,
+        run.first.seat,
+        run.second.seat,
+        &mut last,
+    );
+    let words = [
+        0xBA41,
+        1,
+        0xE8,
+        0x1F_FFF5,
+        0xBA41,
+        1,
+        0xE9,
+        0x1F_FFF3,
+        0,
+        0,
+        0,
+        0,
+        u64::MAX,
+        u64::MAX,
+    ];
+    assert_eq!(rt; last.as_slice(), words.as_slice());
+    Ok(())
+}

@@ -1,0 +1,179 @@
+//! Tests of the pool.
+
+ghost use Rattle.std.specs.Prelude.{◌≡◌, ◌<◌, ◌≤◌, ◌+◌, ◌^◌, length};
+ghost use Rattle.buffer_queue.specs.Passes.{IsOf, new_hand};
+
+use buffer_queue::{Pool, PoolPass};
+use fdr_buffer::Buffer;
+use fdr_record::{Event, Kind};
+use machine_step::{Limits, Setup};
+use std::alloc::Global;
+use std::sync::Wait;
+use std::test::Fail;
+use std::thread::{Threads, join};
+use xray_io::Wall;
+
+/// A setup with small buffers.
+fn setup_of(threads: u32, max: u32) -> Setup
+    ensures threads { result.threads ≡ threads }
+    ensures max { result.max ≡ max }
+    ensures size { result.size ≡ 128 }
+{
+    Setup {
+        threads,
+        size: 128,
+        max,
+        limits: Limits {
+            fuel: 1,
+            passings: 1,
+            tick: 1,
+            tsc: 0,
+            cpus: 1,
+            migrate: 1,
+        },
+        pid: 1,
+        wall: Wall { secs: 0, micros: 0 },
+        frequency: 1,
+    }
+}
+
+/// Begins the thread's next segment in its hand, with one event, and seals it.
+fn seal_one<R: Wait>(rt: &R, pool: &Pool, pass: &mut PoolPass, thread: u32, hand: Buffer) -> Buffer
+    requires pass { IsOf pool.now pass.old }
+    requires thread { pass.old.thread ≡ thread }
+    requires few { length pass.old.sealed < 100 }
+    requires size { hand.size ≡ pool.now.setup.size }
+    ensures pass { IsOf pool.now pass.new }
+    ensures thread { pass.new.thread ≡ thread }
+    ensures count { length pass.new.sealed ≡ length pass.old.sealed + 1 }
+    ensures size { result.size ≡ pool.now.setup.size }
+{
+    let mut hand = hand;
+    hand.begin(thread, pass.sealed(), Wall { secs: 0, micros: 0 }, 1);
+    let event = Event {
+        kind: Kind::Entry,
+        func: 1,
+        cpu: 0,
+        tsc: pass.sealed() as u64,
+    };
+    if hand.fits(&event) {
+        hand.put(&event);
+    }
+    pool.turn(rt, pass, hand)
+}
+
+/// Seals three segments of a thread that has sealed none.
+fn seal_three<R: Wait>(rt: &R, pool: &Pool, pass: PoolPass, thread: u32, hand: Buffer) -> PoolPass
+    requires hand { (pass, hand) ≡ new_hand pool.now thread }
+    ensures pass { IsOf pool.now result }
+    ensures thread { result.thread ≡ thread }
+    ensures count { length result.sealed ≡ 3 }
+{
+    let mut pass = pass;
+    let hand = seal_one(rt, pool, &mut pass, thread, hand);
+    let hand = seal_one(rt, pool, &mut pass, thread, hand);
+    let _hand = seal_one(rt, pool, &mut pass, thread, hand);
+    pass
+}
+
+/// What is left of `max` buffers after thread 1, alone, has sealed three segments.
+fn run_one<R: Wait>(rt: &R, alloc: Global, max: u32) -> Result<Vec<Buffer>, Fail>
+    requires max { (1 ≤ max) × (max ≤ 8) }
+{
+    let setup = setup_of(1, max);
+    let (pool, mut hands) = Pool::new(rt, alloc, &setup)?;
+    let mut passes = Vec::with_capacity(alloc, 1)?;
+    let mut left = Vec::with_capacity(alloc, max as usize)?;
+    let (pass, hand) = hands.remove(0);
+    passes.push_reserved(seal_three(rt, &pool, pass, 1, hand));
+    pool.drain(rt, passes, &mut left);
+    Ok(left)
+}
+
+/// Seals three segments of each of two threads at the same time.
+fn seal_both<R: Threads + Wait + Sync>(
+    rt: &R,
+    pool: &Pool,
+    first: PoolPass,
+    first_hand: Buffer,
+    second: PoolPass,
+    second_hand: Buffer,
+) -> (PoolPass, PoolPass)
+    requires first { (first, first_hand) ≡ new_hand pool.now 1 }
+    requires second { (second, second_hand) ≡ new_hand pool.now 2 }
+    ensures first { IsOf pool.now result.0 × (result.0.thread ≡ 1) }
+    ensures second { IsOf pool.now result.1 × (result.1.thread ≡ 2) }
+{
+    join(
+        rt,
+        || seal_three(rt, pool, first, 1, first_hand),
+        || seal_three(rt, pool, second, 2, second_hand),
+    )
+}
+
+/// What is left of five buffers after two threads, at the same time, have sealed three segments each.
+fn run_two<R: Threads + Wait + Sync>(rt: &R, alloc: Global) -> Result<Vec<Buffer>, Fail> {
+    let setup = setup_of(2, 5);
+    let (pool, mut hands) = Pool::new(rt, alloc, &setup)?;
+    let mut passes = Vec::with_capacity(alloc, 2)?;
+    let mut left = Vec::with_capacity(alloc, 5)?;
+    let (first, first_hand) = hands.remove(0);
+    let (second, second_hand) = hands.remove(0);
+    let (first, second) = seal_both(rt, &pool, first, first_hand, second, second_hand);
+    passes.push_reserved(first);
+    passes.push_reserved(second);
+    pool.drain(rt, passes, &mut left);
+    Ok(left)
+}
+
+/// Whether the segments of a thread follow one another, up to its segment 2.
+fn are_last(left: &[Buffer], thread: u32) -> bool {
+    let mut next = None;
+    for buffer in left {
+        if buffer.thread() != thread {
+            continue;
+        }
+        let serial = buffer.serial();
+        if next.is_some() && next != Some(serial) {
+            return false;
+        }
+        next = Some(serial.wrapping_add(1));
+    }
+    next.is_none() || next == Some(3)
+}
+
+#[test]
+fn a_thread_keeps_the_last_segments(rt: HostRuntime) -> Result<(), Fail> {
+    let left = run_one(&rt, rt.alloc(), 3)?;
+    assert!(rt; left.len() == 2);
+    assert!(rt; left[0].begun() && left[0].thread() == 1 && left[0].serial() == 1);
+    assert!(rt; left[1].begun() && left[1].thread() == 1 && left[1].serial() == 2);
+    assert!(rt; left[1].events() == 1 && left[1].bytes().len() == 72);
+    Ok(())
+}
+
+#[test]
+fn fresh_buffers_come_first(rt: HostRuntime) -> Result<(), Fail> {
+    let left = run_one(&rt, rt.alloc(), 5)?;
+    assert!(rt; left.len() == 4);
+    assert!(rt; !left[0].begun());
+    assert!(rt; left[1].serial() == 0 && left[2].serial() == 1 && left[3].serial() == 2);
+    Ok(())
+}
+
+#[test]
+fn a_pool_without_spare_buffers_leaves_none(rt: HostRuntime) -> Result<(), Fail> {
+    let left = run_one(&rt, rt.alloc(), 1)?;
+    assert!(rt; left.len() == 0);
+    Ok(())
+}
+
+#[test]
+fn two_threads_share_a_pool(rt: HostRuntime) -> Result<(), Fail> {
+    let left = run_two(&rt, rt.alloc())?;
+    assert!(rt; left.len() == 3);
+    assert!(rt; left[0].begun() && left[1].begun() && left[2].begun());
+    assert!(rt; are_last(left.as_slice(), 1));
+    assert!(rt; are_last(left.as_slice(), 2));
+    Ok(())
+}

@@ -1,0 +1,72 @@
+//! Schedules of texts, and why other texts aren't schedules.
+
+use std::alloc::{AllocError, Global};
+use std::test::Fail;
+use step_sim::*;
+
+mod buffers;
+mod replays;
+mod sizes;
+
+#[test]
+fn a_schedule_has_the_turns_of_its_lines(rt: HostRuntime) -> Result<(), Fail> {
+    let text = b"# two threads\n\tt 02 7\r\np 4294967295 # all\n\n t 1 1";
+    let schedule = read_schedule(rt.alloc(), text, 2)?;
+    let expected = [
+        Turns::Thread {
+            thread: 2,
+            count: 7,
+        },
+        Turns::Patcher {
+            count: 4_294_967_295,
+        },
+        Turns::Thread {
+            thread: 1,
+            count: 1,
+        },
+    ];
+    assert_eq!(rt; schedule.lines(), expected.as_slice());
+    Ok(())
+}
+
+#[test]
+fn a_text_is_refused_by_its_first_fault(rt: HostRuntime) {
+    let rows: [(&[u8], ScheduleFault); 12] = [
+        (b"p 0", ScheduleFault::Syntax(1)),
+        (b"t 1", ScheduleFault::Syntax(1)),
+        (b"t 1 1 1", ScheduleFault::Syntax(1)),
+        (b"p", ScheduleFault::Syntax(1)),
+        (b"go", ScheduleFault::Syntax(1)),
+        (b"p 1\np -1\nt 3 1", ScheduleFault::Syntax(2)),
+        (b"p 4294967296", ScheduleFault::Syntax(1)),
+        (b"\n# \xff\np 1 \xff", ScheduleFault::Syntax(3)),
+        (b"t 3 1", ScheduleFault::Thread(1)),
+        (b"t 0 1\np 0", ScheduleFault::Thread(1)),
+        (b"p 1\r\nt x 1", ScheduleFault::Thread(2)),
+        (b"t x 0", ScheduleFault::Syntax(1)),
+    ];
+    for (text, expected) in rows {
+        assert_eq!(rt; read_schedule(rt.alloc(), text, 2).err(), Some(expected));
+    }
+}
+
+/// A text of `lines` lines, with these bytes in its first line.
+fn lines_of(alloc: Global, first: &[u8], lines: usize) -> Result<Vec<u8>, AllocError> {
+    let mut text = Vec::from_slice(alloc, first)?;
+    text.extend_from_slice(&vec![in alloc; b'\n'; lines]?)?;
+    Ok(text)
+}
+
+#[test]
+fn a_text_has_at_most_1048576_lines(rt: HostRuntime) -> Result<(), Fail> {
+    let rows: [(&[u8], usize, Option<ScheduleFault>); 3] = [
+        (b"p 1", 1_048_576, None),
+        (b"p 0", 1_048_576, Some(ScheduleFault::Syntax(1))),
+        (b"p 0", 1_048_577, Some(ScheduleFault::Limit)),
+    ];
+    for (first, lines, expected) in rows {
+        let text = lines_of(rt.alloc(), first, lines)?;
+        assert_eq!(rt; read_schedule(rt.alloc(), &text, 1).err(), expected);
+    }
+    Ok(())
+}

@@ -1,0 +1,259 @@
+//! What replays leave in their buffers, byte by byte.
+
+use super::replays::LIMITS;
+use super::*;
+use example_images::{CALLS, OUTPUTS_AN_A};
+use machine_step::{Limits, Setup, Steps};
+use patch_script::read_script;
+use std::process::Abort;
+use xray_image::read_image;
+use xray_io::Wall;
+
+/// A function `main` that prints a 0: an entry sled, `out 0, al`, an exit sled.
+const OUTPUTS_A_0: [u8; 166] = [
+    88, 82, 73, 77, 1, 0, 0, 0, 0, 16, 0, 0, 0, 0, 0, 0, 25, 0, 0, 0, 1, 0, 0, 0, 2, 0, 0, 0, 0, 0,
+    0, 0, 0, 16, 32, 0, 0, 0, 0, 0, 16, 16, 32, 0, 0, 0, 0, 0, 32, 16, 32, 0, 0, 0, 0, 0, 48, 16,
+    32, 0, 0, 0, 0, 0, 235, 9, 102, 15, 31, 132, 0, 0, 2, 0, 0, 230, 0, 144, 195, 46, 102, 15, 31,
+    132, 0, 0, 2, 0, 0, 0, 16, 0, 0, 0, 0, 0, 0, 4, 109, 97, 105, 110, 0, 16, 0, 0, 0, 0, 0, 0, 0,
+    16, 0, 0, 0, 0, 0, 0, 0, 1, 0, 0, 0, 0, 0, 0, 0, 0, 0, 0, 0, 0, 0, 0, 14, 16, 0, 0, 0, 0, 0, 0,
+    0, 16, 0, 0, 0, 0, 0, 0, 1, 1, 0, 0, 0, 0, 0, 0, 0, 0, 0, 0, 0, 0, 0, 0,
+];
+
+/// A function `a` that ends in a jump to a function `b`. `a` has an entry sled and a tail sled, and
+/// `b` an entry sled and an exit sled.
+const TAIL_CALLS: [u8; 263] = [
+    88, 82, 73, 77, 1, 0, 0, 0, 0, 16, 0, 0, 0, 0, 0, 0, 51, 0, 0, 0, 2, 0, 0, 0, 4, 0, 0, 0, 0, 0,
+    0, 0, 0, 16, 32, 0, 0, 0, 0, 0, 16, 16, 32, 0, 0, 0, 0, 0, 32, 16, 32, 0, 0, 0, 0, 0, 48, 16,
+    32, 0, 0, 0, 0, 0, 235, 9, 102, 15, 31, 132, 0, 0, 2, 0, 0, 144, 235, 9, 102, 15, 31, 132, 0,
+    0, 2, 0, 0, 233, 0, 0, 0, 0, 235, 9, 102, 15, 31, 132, 0, 0, 2, 0, 0, 144, 195, 46, 102, 15,
+    31, 132, 0, 0, 2, 0, 0, 0, 16, 0, 0, 0, 0, 0, 0, 1, 97, 28, 16, 0, 0, 0, 0, 0, 0, 1, 98, 0, 16,
+    0, 0, 0, 0, 0, 0, 0, 16, 0, 0, 0, 0, 0, 0, 0, 1, 0, 0, 0, 0, 0, 0, 0, 0, 0, 0, 0, 0, 0, 0, 12,
+    16, 0, 0, 0, 0, 0, 0, 0, 16, 0, 0, 0, 0, 0, 0, 2, 1, 0, 0, 0, 0, 0, 0, 0, 0, 0, 0, 0, 0, 0, 0,
+    28, 16, 0, 0, 0, 0, 0, 0, 28, 16, 0, 0, 0, 0, 0, 0, 0, 1, 0, 0, 0, 0, 0, 0, 0, 0, 0, 0, 0, 0,
+    0, 0, 40, 16, 0, 0, 0, 0, 0, 0, 28, 16, 0, 0, 0, 0, 0, 0, 1, 1, 0, 0, 0, 0, 0, 0, 0, 0, 0, 0,
+    0, 0, 0, 0,
+];
+
+/// The script that traces everything from before the start.
+pub(super) const TRACED: &[u8] = b"patch\nset_handler\ninit\ngo";
+
+/// A replay of an image.
+#[derive(Clone, Copy)]
+struct Row<'a> {
+    image: &'a [u8],
+    limits: Limits,
+    threads: u32,
+    size: u32,
+    max: u32,
+}
+
+/// An image, traced on one thread with large buffers.
+fn one_thread(image: &[u8]) -> Row<'_> {
+    Row {
+        image,
+        limits: LIMITS,
+        threads: 1,
+        size: 16_384,
+        max: 100,
+    }
+}
+
+/// What a buffer holds: its thread, the number of the segment, and the records.
+#[derive(Clone, Copy)]
+struct Held<'a>(u32, u32, &'a [u8]);
+
+/// The first bytes of a buffer of thread 1, and those of one of thread 2.
+const PREAMBLES: [[u8; 48]; 2] = [
+    [
+        1, 1, 0, 0, 0, 0, 0, 0, 0, 0, 0, 0, 0, 0, 0, 0, 9, 0, 0, 0, 0, 0, 0, 0, 0, 0, 0, 0, 0, 0,
+        0, 0, 19, 1, 0, 0, 0, 0, 0, 0, 0, 0, 0, 0, 0, 0, 0, 0,
+    ],
+    [
+        1, 2, 0, 0, 0, 0, 0, 0, 0, 0, 0, 0, 0, 0, 0, 0, 9, 0, 0, 0, 0, 0, 0, 0, 0, 0, 0, 0, 0, 0,
+        0, 0, 19, 1, 0, 0, 0, 0, 0, 0, 0, 0, 0, 0, 0, 0, 0, 0,
+    ],
+];
+
+/// The bytes of a thread's buffer with these records.
+fn body(alloc: Global, thread: u32, records: &[u8]) -> Result<Vec<u8>, AllocError> {
+    let preamble = if thread == 2 {
+        &PREAMBLES[1]
+    } else {
+        &PREAMBLES[0]
+    };
+    let mut bytes = Vec::from_slice(alloc, preamble)?;
+    bytes.extend_from_slice(records)?;
+    Ok(bytes)
+}
+
+/// Replays an image without a schedule, and checks what is left.
+fn leaves(
+    rt: &impl Abort,
+    alloc: Global,
+    row: Row,
+    sealed: &[u32],
+    first: &[u32],
+    held: &[Held],
+) -> Result<(), Fail> {
+    let Row {
+        image,
+        limits,
+        threads,
+        size,
+        max,
+    } = row;
+    assert!(rt; threads == 1 || threads == 2);
+    assert!(rt; limits.cpus > 0 && limits.migrate > 0);
+    assert!(rt; size >= 72 && size <= 1_048_576);
+    assert!(rt; threads <= max && max <= 1_024);
+    let image = read_image(alloc, image)?;
+    let script = read_script(alloc, TRACED, &image, threads)?;
+    let schedule = read_schedule(alloc, b"", threads)?;
+    let setup = Setup {
+        threads,
+        size,
+        max,
+        limits,
+        pid: 1,
+        wall: Wall { secs: 0, micros: 0 },
+        frequency: 0,
+    };
+    let steps = Steps::new(alloc, &image)?;
+    let end = SimStart::new(alloc, &steps, &script, &setup)?.play(&schedule);
+    assert_eq!(rt; end.sealed.as_slice(), sealed);
+    assert_eq!(rt; end.first.as_slice(), first);
+    assert_eq!(rt; end.buffers.len(), held.len());
+    for (buffer, Held(thread, serial, records)) in end.buffers.iter().zip(held) {
+        assert_eq!(rt; buffer.thread(), *thread);
+        assert_eq!(rt; buffer.serial(), *serial);
+        assert_eq!(rt; buffer.bytes(), body(alloc, *thread, records)?.as_slice());
+    }
+    Ok(())
+}
+
+/// The records of a call of function 1 from counter 0 to counter 2, on processor 0.
+const A_CALL: &[u8] = &[
+    5, 0, 0, 0, 0, 0, 0, 0, 0, 0, 0, 0, 0, 0, 0, 0, // the processor and its counter
+    0x10, 0, 0, 0, 0, 0, 0, 0, // entry
+    0x12, 0, 0, 0, 2, 0, 0, 0, // exit
+];
+
+/// The entry of function 1 at counter 0, in its own segment.
+const ENTERED: &[u8] = &[
+    5, 0, 0, 0, 0, 0, 0, 0, 0, 0, 0, 0, 0, 0, 0, 0, 0x10, 0, 0, 0, 0, 0, 0, 0,
+];
+
+/// The exit of function 1 at counter 2, in its own segment.
+const LEFT: &[u8] = &[
+    5, 0, 0, 2, 0, 0, 0, 0, 0, 0, 0, 0, 0, 0, 0, 0, 0x12, 0, 0, 0, 0, 0, 0, 0,
+];
+
+/// The exit of function 2 at counter 1, in its own segment.
+const LEFT_F: &[u8] = &[
+    5, 0, 0, 1, 0, 0, 0, 0, 0, 0, 0, 0, 0, 0, 0, 0, 0x22, 0, 0, 0, 0, 0, 0, 0,
+];
+
+/// The calls of a function that ends in a jump, and of the one that it jumps to.
+const A_TAIL_CALL: &[u8] = &[
+    5, 0, 0, 0, 0, 0, 0, 0, 0, 0, 0, 0, 0, 0, 0, 0, // the processor and its counter
+    0x10, 0, 0, 0, 0, 0, 0, 0, // entry of a
+    0x14, 0, 0, 0, 0, 0, 0, 0, // tail exit of a
+    0x20, 0, 0, 0, 1, 0, 0, 0, // entry of b, after the jump
+    0x22, 0, 0, 0, 0, 0, 0, 0, // exit of b
+];
+
+/// A call whose exit is as far after its entry as a function record can say.
+const NEAR: &[u8] = &[
+    5, 0, 0, 0, 0, 0, 0, 0, 0, 0, 0, 0, 0, 0, 0, 0, 0x10, 0, 0, 0, 0, 0, 0, 0, //
+    0x12, 0, 0, 0, 0xFF, 0xFF, 0xFF, 0xFF,
+];
+
+/// A call whose exit is further away, and has its whole counter written.
+const FAR: &[u8] = &[
+    5, 0, 0, 0, 0, 0, 0, 0, 0, 0, 0, 0, 0, 0, 0, 0, 0x10, 0, 0, 0, 0, 0, 0, 0, //
+    7, 0, 0, 0, 0, 1, 0, 0, 0, 0, 0, 0, 0, 0, 0, 0, 0x12, 0, 0, 0, 0, 0, 0, 0,
+];
+
+/// A call in which the counter wraps.
+const WRAPPED: &[u8] = &[
+    5, 0, 0, 0xFF, 0xFF, 0xFF, 0xFF, 0xFF, 0xFF, 0xFF, 0xFF, 0, 0, 0, 0, 0, //
+    0x10, 0, 0, 0, 0, 0, 0, 0, //
+    7, 0, 0, 0, 0, 0, 0, 0, 0, 0, 0, 0, 0, 0, 0, 0, 0x12, 0, 0, 0, 0, 0, 0, 0,
+];
+
+/// A call in which the thread moves from processor 1 to processor 0.
+const MOVED: &[u8] = &[
+    5, 1, 0, 0, 0, 0, 0, 0, 0, 0, 0, 0, 0, 0, 0, 0, 0x10, 0, 0, 0, 0, 0, 0, 0, //
+    5, 0, 0, 2, 0, 0, 0, 0, 0, 0, 0, 0, 0, 0, 0, 0, 0x12, 0, 0, 0, 0, 0, 0, 0,
+];
+
+#[test]
+fn calls_on_one_thread_are_recorded(rt: HostRuntime) -> Result<(), Fail> {
+    let alloc = rt.alloc();
+    let whole = LIMITS;
+    let near = Limits {
+        tick: 4_294_967_295,
+        ..whole
+    };
+    let far = Limits {
+        tick: 4_294_967_296,
+        ..whole
+    };
+    let wrapping = Limits {
+        tsc: 18_446_744_073_709_551_615,
+        ..whole
+    };
+    let moving = Limits {
+        cpus: 2,
+        migrate: 1,
+        ..whole
+    };
+    let rows: [(&[u8], Limits, &[u8]); 6] = [
+        (&OUTPUTS_AN_A, whole, A_CALL),
+        (&TAIL_CALLS, whole, A_TAIL_CALL),
+        (&OUTPUTS_A_0, near, NEAR),
+        (&OUTPUTS_A_0, far, FAR),
+        (&OUTPUTS_A_0, wrapping, WRAPPED),
+        (&OUTPUTS_AN_A, moving, MOVED),
+    ];
+    for (image, limits, records) in rows {
+        let mut row = one_thread(image);
+        row.limits = limits;
+        leaves(&rt, alloc, row, &[0], &[0], &[Held(1, 0, records)])?;
+    }
+    Ok(())
+}
+
+#[test]
+fn a_full_buffer_goes_to_the_queue(rt: HostRuntime) -> Result<(), Fail> {
+    let alloc = rt.alloc();
+    let mut row = one_thread(&OUTPUTS_AN_A);
+    for size in [72, 79] {
+        row.size = size;
+        leaves(
+            &rt,
+            alloc,
+            row,
+            &[1],
+            &[0],
+            &[Held(1, 0, ENTERED), Held(1, 1, LEFT)],
+        )?;
+    }
+    row.size = 80;
+    leaves(&rt, alloc, row, &[0], &[0], &[Held(1, 0, A_CALL)])
+}
+
+#[test]
+fn the_oldest_segments_are_lost(rt: HostRuntime) -> Result<(), Fail> {
+    let alloc = rt.alloc();
+    let mut row = one_thread(&CALLS);
+    row.threads = 2;
+    row.size = 72;
+    row.max = 3;
+    let held = [Held(1, 3, LEFT), Held(2, 2, LEFT_F), Held(2, 3, LEFT)];
+    leaves(&rt, alloc, row, &[3, 3], &[3, 2], &held)?;
+    // If no buffer is queued, each thread gets its own back.
+    row.max = 2;
+    let held = [Held(1, 3, LEFT), Held(2, 3, LEFT)];
+    leaves(&rt, alloc, row, &[3, 3], &[3, 3], &held)
+}

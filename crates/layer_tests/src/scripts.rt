@@ -1,0 +1,118 @@
+//! Scripts for one small image: which are refused and where, and the micro steps of the others.
+
+use example_images::OUTPUTS_AN_A;
+use patch_script::*;
+use std::alloc::Global;
+use std::test::Fail;
+use text_lines::count_lines;
+use xray_image::{Image, read_image};
+
+/// The script of a text with fewer than 2,000 lines, for one thread.
+fn script_of(alloc: Global, text: &[u8], image: &Image) -> Result<Script, ScriptFault> {
+    if count_lines(text) > 2_000 {
+        return Err(ScriptFault::NoMemory);
+    }
+    read_script(alloc, text, image, 1)
+}
+
+/// Why the text isn't a script.
+fn fault_of(alloc: Global, text: &[u8], image: &Image) -> Option<ScriptFault> {
+    match script_of(alloc, text, image) {
+        Ok(_) => None,
+        Err(fault) => Some(fault),
+    }
+}
+
+/// The micro step of a store.
+fn store(word: u32, value: u64) -> Micro {
+    Micro::Store { word, value }
+}
+
+#[test]
+fn the_first_fault_of_a_script_is_told(rt: HostRuntime) -> Result<(), Fail> {
+    let image = read_image(rt.alloc(), &OUTPUTS_AN_A)?;
+    let rows: [(&[u8], Option<ScriptFault>); 17] = [
+        (b"", Some(ScriptFault::Go(1))),
+        (b"go\ngo\n", Some(ScriptFault::Go(2))),
+        (b"patch_function 2\ngo\n", Some(ScriptFault::Function(1))),
+        (b"go\nrelease 2\n", Some(ScriptFault::Thread(2))),
+        (b"go\nrelease 1\n", Some(ScriptFault::Hold(2))),
+        (b"hold 1 0\nhold 1 0\ngo\n", Some(ScriptFault::Hold(2))),
+        (b"hold 1 0\ngo\n", Some(ScriptFault::Hold(3))),
+        (b"init\ninit\ngo\n", Some(ScriptFault::Log(2))),
+        (b"finalize\ngo\n", Some(ScriptFault::Log(1))),
+        (b"patch 1\n", Some(ScriptFault::Syntax(1))),
+        (b"patch_function 0", Some(ScriptFault::Function(1))),
+        (b"patch\xFF\n", Some(ScriptFault::Syntax(1))),
+        (
+            b"hold 1 3\ngo\nawait 1 5\nrelease 1\n",
+            Some(ScriptFault::SelfWait(3)),
+        ),
+        (b"hold 1 3\ngo\nawait 1 3\nrelease 1\n", None),
+        (b"hold 1 3\ngo\nrelease 1\nawait 1 5\n", None),
+        (b"init\ngo\nfinalize\n", None),
+        (b"# traced\n\n patch_function 01\t# main\r\ngo", None),
+    ];
+    for (text, expected) in rows {
+        assert_eq!(rt; fault_of(rt.alloc(), text, &image), expected);
+    }
+    Ok(())
+}
+
+#[test]
+fn a_script_has_at_most_1024_commands(rt: HostRuntime) -> Result<(), Fail> {
+    let image = read_image(rt.alloc(), &OUTPUTS_AN_A)?;
+    let mut text = Vec::new(rt.alloc());
+    for _ in 0..1023 {
+        text.extend_from_slice(b"patch\n")?;
+    }
+    text.extend_from_slice(b"go\n# and no more\n")?;
+    let script = script_of(rt.alloc(), &text, &image)?;
+    assert_eq!(rt; script.total(), 8184);
+    text.extend_from_slice(b"what\n")?;
+    assert_eq!(rt;
+        fault_of(rt.alloc(), &text, &image),
+        Some(ScriptFault::Limit(1026))
+    );
+    Ok(())
+}
+
+#[test]
+fn micro_steps_are_found_by_their_places(rt: HostRuntime) -> Result<(), Fail> {
+    let image = read_image(rt.alloc(), &OUTPUTS_AN_A)?;
+    let text =
+        b"unpatch\nhold 1 2\npatch\nset_handler\ninit\ngo\nawait 1 2\nrelease 1\nunpatch_function 1\n";
+    let script = script_of(rt.alloc(), text, &image)?;
+    let steps = [
+        store(0, 0x09EB),
+        store(4, 0x2EC3),
+        store(1, 1),
+        store(2, 0xE8),
+        store(3, 0x1F_FFF5),
+        store(0, 0xBA41),
+        store(5, 1),
+        store(6, 0xE9),
+        store(7, 0x1F_FFF3),
+        store(4, 0xBA41),
+        store(8, 1),
+        store(9, 1),
+        store(9, 2),
+        Micro::Await {
+            thread: 1,
+            count: 2,
+        },
+        store(10, 1),
+        store(0, 0x09EB),
+        store(4, 0xBAC3),
+        Micro::End,
+    ];
+    for (place, expected) in steps.iter().enumerate() {
+        assert_eq!(rt; script.micro(place as u64), *expected);
+    }
+    assert_eq!(rt; script.start(), 13);
+    assert_eq!(rt; script.total(), 17);
+    assert_eq!(rt; script.hold_of(1), Some(2));
+    assert_eq!(rt; script.hold_of(2), None);
+    assert_eq!(rt; script.waits(), Some(2));
+    Ok(())
+}

@@ -1,0 +1,155 @@
+//! Stacks that were worked by hand, and their limit.
+
+use fdr_file::{Block, Blocks, Events, Header, Trace};
+use fdr_record::{Event, Kind};
+use stack_rebuild::*;
+use std::alloc::Global;
+use std::test::Fail;
+use xray_io::{MemSink, Wall};
+
+const HEADER: Header = Header {
+    version: 3,
+    constant: true,
+    nonstop: true,
+    frequency: 0,
+    size: 16_384,
+};
+
+/// An event: its thread, its kind, its function and its counter.
+type Said = (u32, Kind, u32, u64);
+
+/// A block of one event.
+fn block_of(alloc: Global, said: Said) -> Result<Block, Fail> {
+    let (thread, kind, func, tsc) = said;
+    let event = Event {
+        cpu: 0,
+        func,
+        kind,
+        tsc,
+    };
+    Ok(Block {
+        thread,
+        wall: Wall { secs: 0, micros: 0 },
+        pid: 1,
+        events: Events::new(Vec::from_slice(alloc, &[event])?),
+    })
+}
+
+/// A trace with a block for each event.
+fn trace_of(alloc: Global, events: &[Said]) -> Result<Trace, Fail> {
+    let mut blocks = Vec::new(alloc);
+    for said in events {
+        blocks.push(block_of(alloc, *said)?)?;
+    }
+    Ok(Trace {
+        header: HEADER,
+        blocks: Blocks::new(blocks),
+    })
+}
+
+/// A trace of calls of a thread that are made one in another, and of a call of thread 1.
+fn deep_trace(alloc: Global, thread: u32, count: usize) -> Result<Trace, Fail> {
+    let mut blocks = Vec::new(alloc);
+    for _ in 0..count {
+        blocks.push(block_of(alloc, (thread, Kind::Entry, 1, 0))?)?;
+    }
+    blocks.push(block_of(alloc, (1, Kind::Entry, 1, 0))?)?;
+    Ok(Trace {
+        header: HEADER,
+        blocks: Blocks::new(blocks),
+    })
+}
+
+/// The text of a trace's stacks without an image.
+fn printed(alloc: Global, trace: &Trace, form: StackForm) -> Result<String, Fail> {
+    let rows = stacks(alloc, trace).map_err(|_| "no stacks")?;
+    let mut sink = MemSink::new(alloc, Vec::new(alloc));
+    write_stack(&rows, None, form, &mut sink).map_err(|_| "write fault")?;
+    Ok(String::from_str(alloc, std::str::from_utf8(sink.bytes())?)?)
+}
+
+/// Events, and the lines of their stacks in the form for flame graphs.
+const ROWS: [(&[Said], &str); 6] = [
+    (&[], ""),
+    // Each exit ends the innermost call of its function; the outermost has no pair.
+    (
+        &[
+            (1, Kind::Entry, 1, 0),
+            (1, Kind::Entry, 1, 10),
+            (1, Kind::Entry, 1, 20),
+            (1, Kind::Exit, 1, 30),
+            (1, Kind::Exit, 1, 45),
+        ],
+        "#1;#1 25\n#1;#1;#1 10\n",
+    ),
+    // A tail exit ends a call, and what is called then isn't made in it.
+    (
+        &[
+            (1, Kind::Entry, 1, 0),
+            (1, Kind::TailExit, 1, 3),
+            (1, Kind::Entry, 2, 3),
+            (1, Kind::Exit, 2, 5),
+        ],
+        "#1 3\n#2 2\n",
+    ),
+    // Two threads with one path, and two calls of one.
+    (
+        &[
+            (2, Kind::Entry, 7, 0),
+            (1, Kind::Entry, 7, 100),
+            (2, Kind::Exit, 7, 1),
+            (1, Kind::Exit, 7, 102),
+            (2, Kind::Entry, 7, 5),
+            (2, Kind::Exit, 7, 9),
+        ],
+        "#7 7\n",
+    ),
+    // The counter goes back, so a child takes more than its parent: nothing is left.
+    (
+        &[
+            (1, Kind::Entry, 1, 10),
+            (1, Kind::Entry, 2, 0),
+            (1, Kind::Exit, 2, 50),
+            (1, Kind::Exit, 1, 20),
+        ],
+        "#1 0\n#1;#2 50\n",
+    ),
+    // What children's children took isn't taken off again.
+    (
+        &[
+            (1, Kind::Entry, 1, 0),
+            (1, Kind::Entry, 2, 1),
+            (1, Kind::Entry, 3, 2),
+            (1, Kind::Exit, 3, 6),
+            (1, Kind::Exit, 2, 8),
+            (1, Kind::Exit, 1, 10),
+        ],
+        "#1 3\n#1;#2 3\n#1;#2;#3 4\n",
+    ),
+];
+
+#[test]
+fn stacks_are_printed_by_their_paths(rt: HostRuntime) -> Result<(), Fail> {
+    for (events, lines) in ROWS {
+        let trace = trace_of(rt.alloc(), events)?;
+        assert_eq!(rt;
+            printed(rt.alloc(), &trace, StackForm::Flame)?.as_str(),
+            lines
+        );
+    }
+    let trace = trace_of(rt.alloc(), ROWS[1].0)?;
+    assert_eq!(rt;
+        printed(rt.alloc(), &trace, StackForm::Human)?.as_str(),
+        "     count        sum       self stack\n         1         35         25 #1;#1\n         1         10         10 #1;#1;#1\n"
+    );
+    Ok(())
+}
+
+#[test]
+fn a_thread_with_too_many_open_calls_is_named(rt: HostRuntime) -> Result<(), Fail> {
+    let full = deep_trace(rt.alloc(), 3, MOST_OPEN)?;
+    assert_eq!(rt; printed(rt.alloc(), &full, StackForm::Flame)?.as_str(), "");
+    let deep = deep_trace(rt.alloc(), 3, MOST_OPEN + 1)?;
+    assert_eq!(rt; stacks(rt.alloc(), &deep).err(), Some(StackFault::Deep(3)));
+    Ok(())
+}
