@@ -1,5 +1,5 @@
 -- The rows of a file decide as the list of all that is wrong with it does.
-use Rattle.std.proofs.Common.{◌≡◌, ℕ, ◌+◌, Bool, true, false, cond, eqb, leb, ltb, List, [], ◌∷◌, ◌++◌, length, map, Result, Ok, Err, not, refl, sym, ap, ◌∙◌, append_assoc, append-nil}
+use Rattle.std.proofs.Common.{◌≡◌, ℕ, ◌+◌, Bool, true, false, cond, eqb, leb, ltb, List, [], ◌∷◌, ◌++◌, length, map, Result, Ok, Err, inl, inr, not, refl, sym, ap, ◌∙◌, append_assoc, append-nil}
 use Rattle.std.specs.Prelude.{◌||◌, ◌&&◌}
 use Rattle.std.specs.List.{flat_map, list_any}
 use Rattle.std.proofs.lemmas.Bool.{cases_lt, le-leb, le-ltb, lt-leb, lt-ltb}
@@ -10,11 +10,10 @@ use Rattle.fdr_record.specs.declared.rec.Rec.TheVariants.{Extents}
 use Rattle.fdr_record.specs.declared.fault.RecFault.{RecFault}
 use Rattle.fdr_file.specs.declared.fault.TraceFault.{TraceFault}
 use Rattle.fdr_file.specs.declared.fault.TraceFault.TheVariants as faults
-use Rattle.fdr_file.specs.declared.header.Header.{Header}
 use Rattle.fdr_file.specs.declared.trace.Block.{Block}
 use Rattle.fdr_file.specs.declared.trace.Trace.{Trace}
-use Rattle.fdr_file.specs.Traces.{Standing, block_in, block_rows, block_standings, block_starts, extents_rows, header_in, header_rows, may_be, names_cpu, needs_cpu, record_in, record_rows, trace_of, type_in, version_in}
-use Rattle.fdr_file.specs.private.Faults.{block_faults, by_places, decided, extents_faults, faults_of, header_faults, record_faults, standing_faults, told_by, unless}
+use Rattle.fdr_file.specs.Traces.{Standing, block_in, block_rows, block_standings, block_starts, extents_rows, header_in, may_be, names_cpu, needs_cpu, record_in, record_rows, trace_of, type_in, version_in}
+use Rattle.fdr_file.specs.private.Faults.{block_faults, by_places, decided, extents_faults, standing_faults, told_by, unless}
 
 -- a number is below another one, or the other one is at most it
 below_is : (n m : ℕ) → ltb n m ≡ not (leb m n)
@@ -31,17 +30,18 @@ records_decide : {A : Type 0} (x : A) (before : List Rec) (said : List Standing)
     → (InTurn record_rows before said >>= λ _. Ok x) ≡ decided (standing_faults before said) x
 records_decide x before [] = refl
 records_decide x before ((at, Err fault) ∷ behind) = refl
-records_decide {A} x before ((at, Ok r) ∷ behind) = by_tests (may_be (length before) r) (list_any names_cpu before) (needs_cpu r)
+records_decide {A} x before ((at, Ok r) ∷ behind) =
+    by_tests (records_decide x (r ∷ before) behind) (may_be (length before) r) (list_any names_cpu before) (needs_cpu r)
   where
-    by_tests : (may named needs : Bool)
+    by_tests : (InTurn record_rows (r ∷ before) behind >>= λ _. Ok x) ≡ decided (standing_faults (r ∷ before) behind) x → (may named needs : Bool)
         → (First (not may) (Err (faults.Order at)) (First (needs && not named) (Err (faults.NoBase at)) (Ok (r ∷ before)))
         >>= (λ after. InTurn record_rows after behind) >>= λ _. Ok x)
         ≡ decided ((unless may (faults.Order at) ++ unless (named || not needs) (faults.NoBase at)) ++ standing_faults (r ∷ before) behind) x
-    by_tests false named needs = refl
-    by_tests true true true = records_decide x (r ∷ before) behind
-    by_tests true true false = records_decide x (r ∷ before) behind
-    by_tests true false true = refl
-    by_tests true false false = records_decide x (r ∷ before) behind
+    by_tests rest false named needs = refl
+    by_tests rest true true true = rest
+    by_tests rest true true false = rest
+    by_tests rest true false true = refl
+    by_tests rest true false false = rest
 
 -- the block that begins at a place
 extents_decide : (at : ℕ) (bytes : List ℕ) (a : Result Rec RecFault) → extents_rows (at, bytes) a ≡ decided (extents_faults (at, bytes) a) (block_in (at, bytes))
@@ -78,15 +78,14 @@ blocks_decide : (before : List Block) (left : List (ℕ × List ℕ)) → InTurn
 blocks_decide before [] = ap (λ (bs : List Block). let all : Result (List Block) TraceFault = Ok bs in all) (sym (append-nil before))
 blocks_decide before (start ∷ left) =
     ap (λ (r : Result (List Block) TraceFault). r >>= λ after. InTurn block_rows after left) (block_decides before start)
-    ∙ by_faults (block_faults start)
+    ∙ by_faults (blocks_decide (before ++ block_in start ∷ []) left) (block_faults start)
     ∙ ap (λ (fs : List TraceFault). decided fs (before ++ block_in start ∷ map block_in left)) (sym (flat_map-cons block_faults start left))
   where
-    by_faults : (found : List TraceFault)
+    by_faults : InTurn block_rows (before ++ block_in start ∷ []) left ≡ decided (flat_map block_faults left) ((before ++ block_in start ∷ []) ++ map block_in left) → (found : List TraceFault)
         → (decided found (before ++ block_in start ∷ []) >>= λ after. InTurn block_rows after left) ≡ decided (found ++ flat_map block_faults left) (before ++ block_in start ∷ map block_in left)
-    by_faults [] =
-        blocks_decide (before ++ block_in start ∷ []) left
-        ∙ ap (λ (bs : List Block). decided (flat_map block_faults left) bs) (append_assoc before (block_in start ∷ []) (map block_in left))
-    by_faults (fault ∷ later) = refl
+    by_faults rest [] =
+        rest ∙ ap (λ (bs : List Block). decided (flat_map block_faults left) bs) (append_assoc before (block_in start ∷ []) (map block_in left))
+    by_faults rest (fault ∷ later) = refl
 
 -- the trace of these blocks
 abbrev made : List ℕ → List Block → Trace
@@ -110,11 +109,3 @@ rows_decide bytes = rw (below_is (length bytes) 32) (by_tests (leb 32 (length by
     by_tests true true true =
         ap (λ (r : Result (List Block) TraceFault). r >>= λ bs. Ok (made bytes bs)) (blocks_decide [] (block_starts bytes))
         ∙ all (flat_map block_faults (block_starts bytes)) (map block_in (block_starts bytes))
-
--- a header that is refused
-pub header_refused : (bytes : List ℕ) (header : Header) (e : TraceFault) → decided (header_faults bytes) header ≡ Err e → trace_of bytes ≡ Err e
-header_refused bytes header e is = rows_decide bytes ∙ more (header_faults bytes) is
-  where
-    more : (wrong : List TraceFault) → decided wrong header ≡ Err e → decided (wrong ++ flat_map block_faults (block_starts bytes)) (told_by bytes) ≡ Err e
-    more [] h = absurd cc
-    more (fault ∷ later) h = ap (λ (f : TraceFault). Err f) cc

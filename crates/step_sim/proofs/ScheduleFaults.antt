@@ -17,19 +17,20 @@ use Rattle.step_sim.specs.private.Readings.{read_on}
 pub lines_decide : (threads : ℕ) (before : List Turns) (left : List (ℕ × List ℕ)) → InTurn (λ turns line. line_rows threads turns line) before left ≡ read_on threads before left
 lines_decide threads before [] = ap (λ (turns : List Turns). let all : Result (List Turns) ScheduleFault = Ok turns in all) (sym (append-nil before))
 lines_decide threads before ((number, line) ∷ left) =
-    by_tests (is_clean line) (is_well_formed (said_by (words_of line))) (names_threads threads (said_by (words_of line)))
+    by_tests (lines_decide threads (before ++ turns_said (said_by (words_of line))) left)
+    (is_clean line) (is_well_formed (said_by (words_of line))) (names_threads threads (said_by (words_of line)))
   where
-    by_tests : (clean well named : Bool)
+    by_tests : InTurn (λ turns line. line_rows threads turns line) (before ++ turns_said (said_by (words_of line))) left
+        ≡ read_on threads (before ++ turns_said (said_by (words_of line))) left → (clean well named : Bool)
         → (First (not clean) (Err (faults.Syntax number)) (First (not well) (Err (faults.Syntax number)) (First (not named) (Err (faults.Thread number))
         (Ok (before ++ turns_said (said_by (words_of line)))))) >>= λ after. InTurn (λ turns line. line_rows threads turns line) after left)
         ≡ decided ((unless clean (faults.Syntax number) ++ (unless well (faults.Syntax number) ++ unless named (faults.Thread number))) ++ flat_map (line_faults threads) left)
         (before ++ (turns_said (said_by (words_of line)) ++ flat_map line_turns left))
-    by_tests false well named = refl
-    by_tests true false named = refl
-    by_tests true true false = refl
-    by_tests true true true =
-        lines_decide threads (before ++ turns_said (said_by (words_of line))) left
-        ∙ ap (decided (flat_map (line_faults threads) left)) (append_assoc before (turns_said (said_by (words_of line))) (flat_map line_turns left))
+    by_tests rest false well named = refl
+    by_tests rest true false named = refl
+    by_tests rest true true false = refl
+    by_tests rest true true true =
+        rest ∙ ap (decided (flat_map (line_faults threads) left)) (append_assoc before (turns_said (said_by (words_of line))) (flat_map line_turns left))
 
 -- a text that has no more lines than it may have
 pub schedule_begins : (threads : ℕ) (text : List ℕ) → length (lines text) ≤ 1048576 → schedule_of threads text ≡ read_on threads [] (numbered_lines text)
