@@ -23,5 +23,7 @@ pub mod Stepping
 pub mod AlongCode
 pub mod Wholeness
 pub mod Endings
+pub mod EachPassing
 pub mod SomeMarks
+pub mod WantedWords
 mod WholeRows

@@ -1,18 +1,14 @@
 -- If a script lets a thread come to its end, there are marks that follow the script: those of a thread that makes each
 -- load as late as it may.
-use Rattle.std.proofs.Common.{◌≡◌, ◌≢◌, ℕ, zero, suc, ◌+◌, ◌<◌, ◌≤◌, ◌==◌, inl, inr, List, [], ◌∷◌, ◌++◌, length, Bool, true, false, Option, Some, None, refl, sym, ap, subst, ◌∙◌, arith, eqb-true, length-append}
-use Rattle.std.specs.Prelude.{All, MatchBool, slice_get}
+use Rattle.std.proofs.Common.{◌≡◌, ◌≢◌, ℕ, zero, suc, ◌+◌, ◌<◌, ◌≤◌, List, [], ◌∷◌, ◌++◌, length, true, Option, Some, None, refl, sym, ap, subst, ◌∙◌, arith, eqb-true, length-append}
+use Rattle.std.specs.Prelude.{All}
 use Rattle.std.proofs.lemmas.List.Elements.{All-append, All-cons, All-head, All-nil, All-tail}
 use Rattle.std.proofs.lemmas.Option.{slice_get_within}
-use Rattle.xray_image.specs.declared.sled.Sled.{Sled as XraySled}
-use Rattle.xray_image.specs.declared.unit.What.{What}
-use Rattle.xray_image.specs.declared.unit.What.TheVariants.{Plain, Sled, Pad}
 use Rattle.xray_image.specs.Program.{Program}
 use Rattle.sled_words.specs.ChangingCode.{LetsEnd}
 use Rattle.sled_words.specs.Words.{release_word}
 use Rattle.handler_word.specs.declared.mark.Mark.{Mark}
 use Rattle.machine_step.specs.declared.end.End.{End}
-use Rattle.machine_step.specs.declared.end.End.TheVariants as ends
 use Rattle.machine_step.specs.declared.limits.Limits.{Limits}
 use Rattle.machine_step.specs.declared.stage.Next.{Next}
 use Rattle.machine_step.specs.declared.stage.Next.TheVariants as nexts
@@ -20,52 +16,26 @@ use Rattle.machine_step.specs.declared.stage.Stage.TheVariants as stages
 use Rattle.machine_step.specs.declared.want.Want.TheVariants as wants
 use Rattle.machine_step.specs.Follows.{Follows, MarksFollow, none as no_loads, later as up_to, loaded as one_more}
 use Rattle.machine_step.specs.Loads.{Load, Marked, Reading, Wants, from_start, is_held_at, marks_from, marks_of, next_from, next_load}
-use Rattle.machine_step.specs.PlainStep.{Ends, Next as Onward, Passing, PlainRun, PlainStep, RunsTo, State, UnitStep, behind_passing, passing_at}
+use Rattle.machine_step.specs.PlainStep.{Passing, PlainRun, RunsTo, State}
 use Rattle.machine_step.specs.private.Stages.{behind_load, word_at}
 use Rattle.machine_step.specs.Traced.{sleds_of, steps_left}
+use Rattle.machine_step.proofs.EachPassing.{steps_each}
 use Rattle.machine_step.proofs.LoadFacts.{left_at, next_left, some_left, steps_left_at}
 use Rattle.machine_step.proofs.Loading.{Adds, InPassing, in_passing, marks_step, next_step, no_marks}
 use Rattle.machine_step.proofs.WordsAt.{same_stage}
 
 -- ---- the sleds that a plain run passes
 
-abbrev IsSled : Program → Passing → Type 0
+abbrev pub IsSled : Program → Passing → Type 0
 IsSled program p = p.sled < length program.sleds
 
-none_made : (program : Program) (made : List Passing) → made ≡ [] → All (IsSled program) made
-none_made program made none = subst (All (IsSled program)) (sym none) (All-nil (IsSled program))
-
-unit_sleds : (program : Program) (limits : Limits) (thread : ℕ) (s : State) (what : What) (made : List Passing) (next : Onward)
-    → UnitStep program limits thread s what made next → All (IsSled program) made
-unit_sleds program limits thread s (Plain instr) made next step = none_made program made step.0
-unit_sleds program limits thread s Pad made next step = none_made program made step.0
-unit_sleds program limits thread s (Sled k) made next step = by_left (s.passings == limits.passings) step
-  where
-    by_left : (left : Bool)
-        → MatchBool left ((made ≡ []) × (next ≡ Ends ends.Passings s))
-        ((sled : XraySled) × (slice_get program.sleds k ≡ Some sled)
-        × (made ≡ passing_at limits thread s k sled ∷ [])
-        × (next ≡ behind_passing limits (record s { passings = s.passings + 1 }) sled.kind))
-        → All (IsSled program) made
-    by_left true ended = none_made program made ended.0
-    by_left false (sled, found, is, goes) =
-        subst (All (IsSled program)) (sym is)
-        (All-cons (IsSled program) (passing_at limits thread s k sled) [] (slice_get_within program.sleds k sled found) (All-nil (IsSled program)))
-
-step_sleds : (program : Program) (limits : Limits) (thread : ℕ) (s : State) (made : List Passing) (next : Onward)
-    → PlainStep program limits thread s made next → All (IsSled program) made
-step_sleds program limits thread s made next (inl none) = none_made program made none.1
-step_sleds program limits thread s made next (inr (u, has, at, step)) = unit_sleds program limits thread s u.what made next step
-
-run_sleds : (program : Program) (limits : Limits) (thread n : ℕ) (s : State) (passed : List Passing) (end : End) (last : State)
+pub run_sleds : (program : Program) (limits : Limits) (thread n : ℕ) (s : State) (passed : List Passing) (end : End) (last : State)
     → RunsTo program limits thread n s passed end last → All (IsSled program) passed
-run_sleds program limits thread zero s passed end last step = step_sleds program limits thread s passed _ step
-run_sleds program limits thread (suc n) s passed end last (made, later, mid, step, rest, is) =
-    subst (All (IsSled program)) (sym is)
-    (All-append (IsSled program) made later (step_sleds program limits thread s made _ step) (run_sleds program limits thread n mid later end last rest))
+run_sleds program limits thread n s passed end last run =
+    steps_each (IsSled program) program limits thread n s passed end last (λ s k sled found. slice_get_within program.sleds k sled found) run
 
 -- the passing of a sled in such a list
-sled_within : (program : Program) (passed : List Passing) → All (IsSled program) passed → (before rest : List ℕ) (sled : ℕ)
+pub sled_within : (program : Program) (passed : List Passing) → All (IsSled program) passed → (before rest : List ℕ) (sled : ℕ)
     → sleds_of passed ≡ before ++ sled ∷ rest → sled < length program.sleds
 sled_within program [] all [] rest sled is = absurd cc
 sled_within program [] all (b ∷ before) rest sled is = absurd cc
@@ -95,7 +65,7 @@ all_marked program thread hold number (k ∷ sleds) loads none =
 
 -- ---- loads as late as they may be
 
-held_passing : (hold : Option ℕ) (passing : ℕ) → is_held_at hold passing ≡ true → hold ≡ Some passing
+pub held_passing : (hold : Option ℕ) (passing : ℕ) → is_held_at hold passing ≡ true → hold ≡ Some passing
 held_passing None passing held = absurd cc
 held_passing (Some at) passing held = ap Some (eqb-true at passing held)
 

@@ -1,94 +1,90 @@
 -- The words of a passing.
-use Rattle.std.proofs.Common.{◌≡◌, ℕ, ◌*◌, ◌<◌, ◌≤◌, length, Some, refl, sym, ap, ◌∙◌, subst, arith}
+use Rattle.std.proofs.Common.{◌≡◌, ℕ, zero, suc, ◌+◌, ◌-◌, ◌*◌, ◌<◌, ◌≤◌, true, false, if◌then◌else◌, ltb, lt-ltb, length, Some, refl, sym, ap, ◌∙◌, subst, arith}
 use Rattle.std.specs.Prelude.{slice_get}
+use Rattle.std.proofs.lemmas.Bool.{le-ltb}
 use Rattle.std.proofs.lemmas.Option.{slice_get_within}
 use Rattle.xray_image.specs.declared.sled.Sled.{Sled}
 use Rattle.xray_image.specs.Program.{Program}
 use Rattle.sled_words.specs.declared.part.Part.{Part}
 use Rattle.sled_words.specs.declared.part.Part.TheVariants as parts
-use Rattle.sled_words.specs.Words.{word_of, handler_word, state_word, release_word}
+use Rattle.sled_words.specs.Words.{word_of, part_number, handler_word, state_word, release_word}
 use Rattle.sled_words.specs.Allowed.{IsAllowed, IsAllowedPart}
 use Rattle.machine_step.specs.declared.stage.Stage.{Stage}
 use Rattle.machine_step.specs.declared.stage.Stage.TheVariants as stages
 use Rattle.machine_step.specs.private.Stages.{word_at, AllowsAt}
 
--- the word of a passing determines its stage
+-- ---- the word of a passing determines its stage
+
+-- the stage by the number of a sled's part, and by how far a word lies after the handler's
+part_stage : ℕ → Stage
+part_stage zero = stages.Head
+part_stage (suc zero) = stages.Id
+part_stage (suc (suc zero)) = stages.Opcode
+part_stage (suc (suc (suc n))) = stages.Offset
+
+other_stage : ℕ → Stage
+other_stage zero = stages.Handler
+other_stage (suc zero) = stages.State
+other_stage (suc (suc n)) = stages.Release
+
+stage_at : (sleds k word : ℕ) → Stage
+stage_at sleds k word = if ltb word (4 * sleds) then part_stage (word - 4 * k) else other_stage (word - 4 * sleds)
+
+of_part : (sleds k word part : ℕ) → k < sleds → part < 4 → word ≡ 4 * k + part → stage_at sleds k word ≡ part_stage part
+unfolding stage_at
+of_part sleds k word part below few is =
+    let within : ltb word (4 * sleds) ≡ true = lt-ltb word (4 * sleds) (omega (arith, below, few, is)) in
+    let left : word - 4 * k ≡ part = omega (arith, is) in
+    rw (within, left) refl
+
+of_other : (sleds k word more : ℕ) → word ≡ 4 * sleds + more → stage_at sleds k word ≡ other_stage more
+unfolding stage_at
+of_other sleds k word more is =
+    let without : ltb word (4 * sleds) ≡ false = le-ltb word (4 * sleds) (omega (arith, is)) in
+    let left : word - 4 * sleds ≡ more = omega (arith, is) in
+    rw (without, left) refl
+
+its_stage : (program : Program) (thread k : ℕ) (stage : Stage) → k < length program.sleds → 0 < thread
+    → stage_at (length program.sleds) k (word_at program thread k stage) ≡ stage
+unfolding part_stage other_stage
+its_stage program zero k stages.Release below some = absurd (omega (arith, some))
+its_stage program (suc before) k stages.Release below some = of_other (length program.sleds) k _ (suc (suc before)) (omega arith)
+its_stage program thread k stages.Head below some = of_part (length program.sleds) k _ 0 below (omega arith) refl
+its_stage program thread k stages.Id below some = of_part (length program.sleds) k _ 1 below (omega arith) refl
+its_stage program thread k stages.Opcode below some = of_part (length program.sleds) k _ 2 below (omega arith) refl
+its_stage program thread k stages.Offset below some = of_part (length program.sleds) k _ 3 below (omega arith) refl
+its_stage program thread k stages.Handler below some = of_other (length program.sleds) k _ 0 (omega arith)
+its_stage program thread k stages.State below some = of_other (length program.sleds) k _ 1 refl
+
 pub same_stage : (program : Program) (thread k : ℕ) (a b : Stage) → k < length program.sleds → 0 < thread
     → word_at program thread k a ≡ word_at program thread k b → a ≡ b
-same_stage program thread k stages.Release stages.Release below some same = refl
-same_stage program thread k stages.Release stages.Head below some same = absurd (omega arith)
-same_stage program thread k stages.Release stages.Id below some same = absurd (omega arith)
-same_stage program thread k stages.Release stages.Opcode below some same = absurd (omega arith)
-same_stage program thread k stages.Release stages.Offset below some same = absurd (omega arith)
-same_stage program thread k stages.Release stages.Handler below some same = absurd (omega arith)
-same_stage program thread k stages.Release stages.State below some same = absurd (omega arith)
-same_stage program thread k stages.Head stages.Release below some same = absurd (omega arith)
-same_stage program thread k stages.Head stages.Head below some same = refl
-same_stage program thread k stages.Head stages.Id below some same = absurd (omega arith)
-same_stage program thread k stages.Head stages.Opcode below some same = absurd (omega arith)
-same_stage program thread k stages.Head stages.Offset below some same = absurd (omega arith)
-same_stage program thread k stages.Head stages.Handler below some same = absurd (omega arith)
-same_stage program thread k stages.Head stages.State below some same = absurd (omega arith)
-same_stage program thread k stages.Id stages.Release below some same = absurd (omega arith)
-same_stage program thread k stages.Id stages.Head below some same = absurd (omega arith)
-same_stage program thread k stages.Id stages.Id below some same = refl
-same_stage program thread k stages.Id stages.Opcode below some same = absurd (omega arith)
-same_stage program thread k stages.Id stages.Offset below some same = absurd (omega arith)
-same_stage program thread k stages.Id stages.Handler below some same = absurd (omega arith)
-same_stage program thread k stages.Id stages.State below some same = absurd (omega arith)
-same_stage program thread k stages.Opcode stages.Release below some same = absurd (omega arith)
-same_stage program thread k stages.Opcode stages.Head below some same = absurd (omega arith)
-same_stage program thread k stages.Opcode stages.Id below some same = absurd (omega arith)
-same_stage program thread k stages.Opcode stages.Opcode below some same = refl
-same_stage program thread k stages.Opcode stages.Offset below some same = absurd (omega arith)
-same_stage program thread k stages.Opcode stages.Handler below some same = absurd (omega arith)
-same_stage program thread k stages.Opcode stages.State below some same = absurd (omega arith)
-same_stage program thread k stages.Offset stages.Release below some same = absurd (omega arith)
-same_stage program thread k stages.Offset stages.Head below some same = absurd (omega arith)
-same_stage program thread k stages.Offset stages.Id below some same = absurd (omega arith)
-same_stage program thread k stages.Offset stages.Opcode below some same = absurd (omega arith)
-same_stage program thread k stages.Offset stages.Offset below some same = refl
-same_stage program thread k stages.Offset stages.Handler below some same = absurd (omega arith)
-same_stage program thread k stages.Offset stages.State below some same = absurd (omega arith)
-same_stage program thread k stages.Handler stages.Release below some same = absurd (omega arith)
-same_stage program thread k stages.Handler stages.Head below some same = absurd (omega arith)
-same_stage program thread k stages.Handler stages.Id below some same = absurd (omega arith)
-same_stage program thread k stages.Handler stages.Opcode below some same = absurd (omega arith)
-same_stage program thread k stages.Handler stages.Offset below some same = absurd (omega arith)
-same_stage program thread k stages.Handler stages.Handler below some same = refl
-same_stage program thread k stages.Handler stages.State below some same = absurd (omega arith)
-same_stage program thread k stages.State stages.Release below some same = absurd (omega arith)
-same_stage program thread k stages.State stages.Head below some same = absurd (omega arith)
-same_stage program thread k stages.State stages.Id below some same = absurd (omega arith)
-same_stage program thread k stages.State stages.Opcode below some same = absurd (omega arith)
-same_stage program thread k stages.State stages.Offset below some same = absurd (omega arith)
-same_stage program thread k stages.State stages.Handler below some same = absurd (omega arith)
-same_stage program thread k stages.State stages.State below some same = refl
+same_stage program thread k a b below some same =
+    sym (its_stage program thread k a below some) ∙ ap (stage_at (length program.sleds) k) same ∙ its_stage program thread k b below some
 
--- the word of a part determines its sled and the part
+-- ---- the word of a part determines its sled and the part
+
+numbered_part : ℕ → Part
+numbered_part zero = parts.Head
+numbered_part (suc zero) = parts.Id
+numbered_part (suc (suc zero)) = parts.Opcode
+numbered_part (suc (suc (suc n))) = parts.Offset
+
+its_number : (part : Part) → (part_number part < 4) × (numbered_part (part_number part) ≡ part)
+unfolding numbered_part
+its_number parts.Head = (omega arith, refl)
+its_number parts.Id = (omega arith, refl)
+its_number parts.Opcode = (omega arith, refl)
+its_number parts.Offset = (omega arith, refl)
+
 same_part : (k j : ℕ) (a b : Part) → word_of k a ≡ word_of j b → (k ≡ j) × (a ≡ b)
-same_part k j parts.Head parts.Head same = (omega arith, refl)
-same_part k j parts.Head parts.Id same = absurd (omega arith)
-same_part k j parts.Head parts.Opcode same = absurd (omega arith)
-same_part k j parts.Head parts.Offset same = absurd (omega arith)
-same_part k j parts.Id parts.Head same = absurd (omega arith)
-same_part k j parts.Id parts.Id same = (omega arith, refl)
-same_part k j parts.Id parts.Opcode same = absurd (omega arith)
-same_part k j parts.Id parts.Offset same = absurd (omega arith)
-same_part k j parts.Opcode parts.Head same = absurd (omega arith)
-same_part k j parts.Opcode parts.Id same = absurd (omega arith)
-same_part k j parts.Opcode parts.Opcode same = (omega arith, refl)
-same_part k j parts.Opcode parts.Offset same = absurd (omega arith)
-same_part k j parts.Offset parts.Head same = absurd (omega arith)
-same_part k j parts.Offset parts.Id same = absurd (omega arith)
-same_part k j parts.Offset parts.Opcode same = absurd (omega arith)
-same_part k j parts.Offset parts.Offset same = (omega arith, refl)
+same_part k j a b same =
+    let one = its_number a in
+    let other = its_number b in
+    let numbers : part_number a ≡ part_number b = omega (arith, one.0, other.0, same) in
+    (omega (arith, numbers, same), sym one.1 ∙ ap numbered_part numbers ∙ other.1)
 
 part_below : (k n : ℕ) (part : Part) → k < n → word_of k part < 4 * n
-part_below k n parts.Head below = omega arith
-part_below k n parts.Id below = omega arith
-part_below k n parts.Opcode below = omega arith
-part_below k n parts.Offset below = omega arith
+part_below k n part below = omega (arith, (its_number part).0, below)
 
 -- ---- what is allowed at a stage is what is allowed for its word
 

@@ -1,4 +1,4 @@
-"""Prints what each two bytes begin, as runs in ascending order, for src/tests/two_byte_starts.rt.
+"""Prints what each two bytes begin, as runs in ascending order, for crates/layer_tests/src/instructions/two_byte_starts.rt.
 
 It lists the encodings of the ten instructions with all sixteen registers, by the tables of the Intel
 SDM, volume 2, and looks which of them continue each start. It has no decoder.

@@ -27,6 +27,7 @@ use Rattle.machine_step.specs.PlainStep.{Passing, PlainRun, State}
 use Rattle.machine_step.specs.Traced.{HasLoaded, IsFresh, IsKept, IsSameThread, IsThreadOf, IsWant, Traced, load_of, sleds_of, wanted_behind}
 use Rattle.machine_step.proofs.AlongCode.{next_allowed}
 use Rattle.machine_step.proofs.SomeMarks.{all_marked}
+use Rattle.machine_step.proofs.WantedWords.{release_wanted}
 use Rattle.sled_rule.specs.declared.views.Load.{Load as SeatLoad}
 use Rattle.sled_rule.specs.declared.views.PatchView.{PatchView}
 use Rattle.sled_rule.specs.declared.views.WorkView.{WorkView}
@@ -35,7 +36,6 @@ use Rattle.sled_rule.specs.Steps.{IsFetched}
 use Rattle.sled_rule.specs.Views.{counting, loading, next_work}
 use Rattle.thread_run.specs.Following.{HasFollowed, LoadsFollow, MarksFollowScript, given, is_held_by}
 use Rattle.thread_run.specs.Workers.{IsAlong, IsFreshIn, IsFreshThread, IsThreadIn}
-use Rattle.thread_run.proofs.Words.{release_wanted}
 
 -- ---- a script's plan
 

@@ -1,41 +1,30 @@
 -- What a run leaves in its buffers fits them.
-use Rattle.std.proofs.Common.{◌≡◌, ℕ, zero, suc, ◌+◌, ◌<◌, ◌≤◌, ◌^◌, List, [], ◌∷◌, ◌++◌, Bool, true, false, Some, refl, sym, subst, arith, length, drop, map}
-use Rattle.std.specs.Prelude.{All, IsTrue, filter, if◌then◌else◌, slice_get}
-use Rattle.std.specs.List.{AllByRecursion, enumerate_from, flat_map, zip}
+use Rattle.std.proofs.Common.{◌≡◌, ℕ, zero, suc, ◌+◌, ◌<◌, ◌≤◌, ◌^◌, List, [], ◌∷◌, ◌++◌, Some, refl, sym, subst, arith, length, drop}
+use Rattle.std.specs.Prelude.{All, IsTrue, slice_get}
+use Rattle.std.specs.List.{AllByRecursion, enumerate_from, flat_map}
 use Rattle.std.proofs.lemmas.List.Concat.{flat_map-cons}
-use Rattle.std.proofs.lemmas.List.Elements.{All-append, All-cons, All-drop, All-from_recursion, All-head, All-map, All-nil, All-tail, recursion_from_All}
+use Rattle.std.proofs.lemmas.List.Elements.{All-append, All-drop, All-from_recursion, All-map, All-nil, recursion_from_All}
 use Rattle.xray_io.specs.declared.faults.Wall.{Wall}
 use Rattle.xray_image.specs.Program.{IsAccepted, Program}
 use Rattle.handler_word.specs.declared.mark.Mark.{Mark}
-use Rattle.handler_word.specs.MarkList.{is_recorded}
 use Rattle.fdr_record.specs.declared.event.Event.{Event}
 use Rattle.fdr_buffer.specs.declared.buffer.TheConstants.{LEAST_SIZE}
 use Rattle.fdr_buffer.specs.Fits.{BufferFits}
 use Rattle.fdr_buffer.specs.Segments.{EventFits, body, has_room, segments}
 use Rattle.machine_step.specs.declared.setup.Setup.{Setup}
-use Rattle.machine_step.specs.Events.{event_of, recorded}
+use Rattle.machine_step.specs.Events.{recorded}
 use Rattle.machine_step.specs.PlainStep.{Passing}
 use Rattle.traced_run.specs.Fits.{PassingFits, SetupFits}
 use Rattle.traced_run.specs.Kept.{buffer_of, kept_buffers, segments_of, stamp_of, thread_buffers}
 use Rattle.traced_run.specs.Runs.{IsRun, ThreadRun, events_of}
 use Rattle.traced_run.proofs.FitPassings.{run_fits}
 use Rattle.traced_run.proofs.Oldest.{HoldAll}
+use Rattle.traced_run.proofs.RecordedEvents.{recorded_each}
 
 -- ---- events
 
 events_fit : (passed : List Passing) (marks : List Mark) → All PassingFits passed → All EventFits (recorded passed marks)
-events_fit [] marks fit = All-nil EventFits
-events_fit (p ∷ passed) [] fit = All-nil EventFits
-events_fit (p ∷ passed) (mark ∷ marks) fit =
-    by_mark (is_recorded mark) (events_fit passed marks (All-tail PassingFits p passed fit))
-  where
-    its : EventFits (event_of p)
-    its = let fits = All-head PassingFits p passed fit in record { cpu = fits.cpu; func = fits.id; tsc = fits.counter }
-
-    by_mark : (b : Bool) → All EventFits (recorded passed marks)
-        → All EventFits (map (λ (q : Passing × Mark). event_of q.0) (if b then (p, mark) ∷ filter (λ q. is_recorded q.1) (zip passed marks) else filter (λ q. is_recorded q.1) (zip passed marks)))
-    by_mark true rest = All-cons EventFits (event_of p) (recorded passed marks) its rest
-    by_mark false rest = rest
+events_fit = recorded_each PassingFits EventFits (λ p fits. record { cpu = fits.cpu; func = fits.id; tsc = fits.counter })
 
 -- ---- segments
 

@@ -1,13 +1,14 @@
 //! The top call.
-ghost use Rattle.std.specs.Prelude.{◌≡◌, OnOk, Some};
+ghost use Rattle.std.specs.Prelude.{◌≡◌, IfErr, IfOk, OnOk, Some};
 ghost use Rattle.command_words.specs.Items.{texts};
 ghost use Rattle.command_words.specs.Ranges.{HasRanges};
 ghost use Rattle.command_words.specs.Views.{command_view};
 ghost use Rattle.command_words.specs.Words.{reading};
 ghost use Rattle.xray_io.specs.World.{desk_view, sink_view};
-ghost use Rattle.xray_program.specs.Answers.{Answered};
+ghost use Rattle.xray_program.specs.Answers.{Answered, Says};
 ghost use Rattle.xray_program.specs.Commands.{IsStill};
-ghost use Rattle.xray_program.specs.private.Stops.{answer_of, told_of};
+ghost use Rattle.xray_program.specs.private.CallLaws.{CallLaws};
+ghost use Rattle.xray_program.specs.private.Stops.{answer_of, told_of, IsUnsaid};
 ghost use Rattle.xray_program.specs.private.Works.{Ends, FitsTraces, SaidFits};
 
 use crate::account::Account;
@@ -59,21 +60,9 @@ pub fn xray_still<D: Desk, O: Sink, E: Sink>(
         (record { desk = seen desk.new; out = got out.new; err = heard err.new })
         (D.along desk.old desk.new) result }
 {
-    // Called for their contracts: no thread of a replay decodes a torn sled, and none that runs
-    // beside a script; how many segments a replay loses, and which; the trace of a run reads back.
-    no_replay_tears_a_sled();
-    each_script_keeps_sleds();
-    what_follows_is_allowed();
-    a_replay_loses_few();
-    lost_segments_are_the_oldest();
-    a_run_is_traced();
-    match perform_words(alloc, words, wall, desk, out) {
-        Ok(()) => 0,
-        Err(stop) => {
-            stop.report(err);
-            stop.status()
-        }
-    }
+    what_runs_leave();
+    let ended = perform_words(alloc, words, wall, desk, out);
+    answer(ended, err)
 }
 
 /// Does what `words` say, with the files of `desk`. `words` don't hold the program's own name.
@@ -98,19 +87,49 @@ pub fn xray<T: Threads + Wait + Sync, D: Desk, O: Sink, E: Sink, G: Gate + Sync>
         (record { desk = seen desk.new; out = got out.new; err = heard err.new })
         (D.along desk.old desk.new) result }
 {
-    // Called for their contracts, as in `xray_still`.
+    what_runs_leave();
+    let ended = perform_any_words(rt, alloc, words, wall, desk, out, gate);
+    answer(ended, err)
+}
+
+/// A law: no thread of a replay decodes a torn sled, and none that runs beside a script. How many
+/// segments a replay loses, and which. The trace of a run reads back.
+fn what_runs_leave()
+    ensures { CallLaws }
+{
     no_replay_tears_a_sled();
     each_script_keeps_sleds();
     what_follows_is_allowed();
     a_replay_loses_few();
     lost_segments_are_the_oldest();
     a_run_is_traced();
-    match perform_any_words(rt, alloc, words, wall, desk, out, gate) {
+}
+
+/// The status of a call that ended so. If something stopped it, a line on `err` says what.
+fn answer<E: Sink>(ended: Result<(), Stop>, err: &mut E) -> u8
+    ensures status { result ≡ answer_of ended.entry }
+    ensures says { let heard = sink_view E.written E.faults in
+        Says (heard err.old) (heard err.new) (told_of ended.entry) }
+{
+    match ended {
         Ok(()) => 0,
         Err(stop) => {
             stop.report(err);
             stop.status()
         }
+    }
+}
+
+/// The command that words say, or why they say none.
+fn command_said<'a>(alloc: Global, wall: Wall, words: &'a [String]) -> Result<Command<'a>, Stop<'a>>
+    ensures said { IfOk result (λ command. reading wall (texts words.entry.now) ≡ Some (command_view command)) }
+    ensures ranges { IfOk result (λ command. HasRanges (command_view command)) }
+    ensures stops { IfErr result (IsUnsaid (reading wall (texts words.entry.now))) }
+{
+    match read_words(alloc, wall, words) {
+        Ok(Some(command)) => Ok(command),
+        Ok(None) => Err(Stop::BadLine),
+        Err(_) => Err(Stop::NoMemory),
     }
 }
 
@@ -130,12 +149,9 @@ fn perform_any_words<'a, T: Threads + Wait + Sync, D: Desk, O: Sink, G: Gate + S
         (D.along desk.old desk.new) (answer_of result) (told_of result) }
     ensures fits { OnOk result (SaidFits (reading wall (texts words.now))) }
 {
-    let Ok(any) = read_words(alloc, wall, words) else {
-        return Err(Stop::NoMemory);
-    };
-    match any {
-        Some(command) => perform_any(rt, alloc, command, desk, out, gate),
-        None => Err(Stop::BadLine),
+    match command_said(alloc, wall, words) {
+        Ok(command) => perform_any(rt, alloc, command, desk, out, gate),
+        Err(stop) => Err(stop),
     }
 }
 
@@ -196,12 +212,9 @@ fn perform_words<'a, D: Desk, O: Sink>(
         (D.along desk.old desk.new) (answer_of result) (told_of result) }
     ensures fits { OnOk result (SaidFits (reading wall (texts words.now))) }
 {
-    let Ok(said) = read_words(alloc, wall, words) else {
-        return Err(Stop::NoMemory);
-    };
-    match said {
-        Some(command) => perform_command(alloc, command, desk, out),
-        None => Err(Stop::BadLine),
+    match command_said(alloc, wall, words) {
+        Ok(command) => perform_command(alloc, command, desk, out),
+        Err(stop) => Err(stop),
     }
 }
 

@@ -1,5 +1,5 @@
-//! What each pair of bytes begins. `tools/two_byte_starts.py` made the table from a list of all
-//! encodings.
+//! What each pair of bytes begins. `tools/two_byte_starts.py` of `subset_decode` made the table from
+//! a list of all encodings.
 
 /// What two bytes begin.
 #[derive(Clone, Copy, Debug, PartialEq, Eq)]

@@ -4,14 +4,8 @@ use Rattle.trace_flush.proofs.audit.write_audit.Goals as goal
 
 pub returns-in_err-add_audit : goal.returns-in_err-add_audit
 returns-in_err-add_audit g c =
-    let failed =
-    writes_failed {along = g.S.Sink.along} c.args.sink.now c.new-text.result c.add_audit.new.text c.new-text.ensures.sink c.new-text.ensures.waits
-    c.in_err-add_audit.ensures c.from_residual.result c.from_residual.ensures.1 in
-    search rules
+    let made = c.new-text.ensures in let w = writes_failed {along = g.S.Sink.along} _ _ _ made.sink made.waits c.in_err-add_audit.ensures _ c.from_residual.ensures.1 in search rules
 
 pub returns : goal.returns
 returns g c =
-    let writes =
-    writes_all {along = g.S.Sink.along} g.met.S.Sink.along_both c.args.sink.now _ c.new-text.result c.add_audit.new.text c.new-text.ensures.sink c.new-text.ensures.waits
-    c.in_ok-add_audit.ensures c.done.ensures.writes in
-    search rules
+    let made = c.new-text.ensures in let w = writes_all {along = g.S.Sink.along} g.met.S.Sink.along_both _ _ _ _ made.sink made.waits c.in_ok-add_audit.ensures c.done.ensures.writes in search rules

@@ -1,6 +1,5 @@
-use Rattle.std.proofs.Common.{◌≡◌, ◌≤◌, ℕ, ap, sym, subst, true, ◌∙◌}
+use Rattle.std.proofs.Common.{◌≤◌, ℕ, ap, sym, subst, ◌∙◌}
 use Rattle.std.specs.Prelude.{slice_index}
-use Rattle.patch_script.specs.declared.micro.Micro.TheVariants.{Await}
 use Rattle.sled_rule.specs.declared.views.PatchView.{PatchView}
 use Rattle.sled_rule.specs.Plans.{micro_in}
 use Rattle.sled_rule.specs.Seats.{patch_view, script_of, IsLooked}
@@ -11,12 +10,12 @@ pub look_for-requires-clause-next : goal.look_for-requires-clause-next
 look_for-requires-clause-next c =
     ap (λ (p : PatchView). micro_in (script_of c.args.self.now) p.place) c.next_micro.ensures.same ∙ c.in-Await.ensures.micro
 
-pub returns-in-Await-clause-looked : goal.returns-in-Await-clause-looked
-returns-in-Await-clause-looked c =
+pub returns-clause-looked : goal.returns-clause-looked
+returns-clause-looked c =
     subst (λ (p : PatchView). IsLooked p c.look_for.result (patch_view c.look_for.new.seat)) c.next_micro.ensures.same c.look_for.ensures.looked
 
-pub returns-in-Await-clause-known : goal.returns-in-Await-clause-known
-returns-in-Await-clause-known c thread count step reached =
+pub returns-clause-known : goal.returns-clause-known
+returns-clause-known c thread count step reached =
     let same = same_await c.in-Await.thread c.in-Await.count thread count (sym c.in-Await.ensures.micro ∙ step) in
     c.look_for.ensures.known
     (subst (λ (p : PatchView). c.in-Await.count ≤ slice_index p.known c.in-Await.thread) (sym c.next_micro.ensures.same)

@@ -10,7 +10,7 @@ overflow_add-seat c =
     let within = await_within (script_of c.args.self.now) (patch_view c.args.seat.now).place c.args.thread c.args.count c.requires.next in
     omega arith
 
-pub invariant_of-seat-clause-within : goal.invariant_of-seat-clause-within
-invariant_of-seat-clause-within c =
+pub invariant_of-seat-else-value-from-clause-within : goal.invariant_of-seat-else-value-from-clause-within
+invariant_of-seat-else-value-from-clause-within c =
     looked_within (script_of c.args.self.now) (patch_view c.args.seat.now) c.args.thread c.args.count c.load_progress-value.result _
     c.load_progress-value.ensures.view c.requires.own.1 c.requires.next

@@ -10,8 +10,8 @@ pub make_store-requires-clause-next : goal.make_store-requires-clause-next
 make_store-requires-clause-next c =
     ap (λ (p : PatchView). micro_in (script_of c.args.self.now) p.place) c.next_micro.ensures.same ∙ c.in-Store.ensures.micro
 
-pub returns-in-Store-clause-view : goal.returns-in-Store-clause-view
-returns-in-Store-clause-view c = c.make_store.ensures.view ∙ ap advanced c.next_micro.ensures.same
+pub returns-clause-view : goal.returns-clause-view
+returns-clause-view c = c.make_store.ensures.view ∙ ap advanced c.next_micro.ensures.same
 
 pub unreachable-requires : goal.unreachable-requires
 unreachable-requires c =

@@ -1,4 +1,5 @@
--- The functions' ids of recorded events fit their records.
+-- The events that marks record. The ids of their functions fit their records, and there are at most as many events as
+-- marks.
 use Rattle.std.proofs.Common.{◌≡◌, suc, ◌<◌, ◌≤◌, ◌^◌, List, [], ◌∷◌, ◌++◌, Bool, true, false, subst, refl, arith, length, length-append, map, get_or}
 use Rattle.std.specs.Prelude.{All, filter, if◌then◌else◌}
 use Rattle.std.specs.List.{zip}
@@ -10,31 +11,28 @@ use Rattle.handler_word.specs.MarkList.{is_recorded}
 use Rattle.machine_step.specs.Events.{event_of, recorded}
 use Rattle.machine_step.specs.PlainStep.{Passing}
 
--- the id of a passing fits its record
-abbrev pub IsSmall : Passing → Type 0
-IsSmall p = p.id < 2 ^ 28
-
--- ---- events
-
-abbrev pub FitsRecord : Event → Type 0
-FitsRecord e = e.func < 2 ^ 28
-
-recorded_small : (passed : List Passing) (marks : List Mark) → All IsSmall passed → All FitsRecord (recorded passed marks)
-recorded_small [] marks small = All-nil FitsRecord
-recorded_small (p ∷ passed) [] small = All-nil FitsRecord
-recorded_small (p ∷ passed) (mark ∷ marks) small =
-    by_mark (is_recorded mark) (recorded_small passed marks (All-tail IsSmall p passed small))
+-- what is true of the event of each passing is true of those that are recorded
+pub recorded_each : (P : Passing → Type 0) (Q : Event → Type 0) → ((p : Passing) → P p → Q (event_of p)) → (passed : List Passing) (marks : List Mark)
+    → All P passed → All Q (recorded passed marks)
+recorded_each P Q of_passing [] marks all = All-nil Q
+recorded_each P Q of_passing (p ∷ passed) [] all = All-nil Q
+recorded_each P Q of_passing (p ∷ passed) (mark ∷ marks) all =
+    by_mark (is_recorded mark) (recorded_each P Q of_passing passed marks (All-tail P p passed all))
   where
-    by_mark : (b : Bool) → All FitsRecord (recorded passed marks)
-        → All FitsRecord (map (λ (q : Passing × Mark). event_of q.0) (if b then (p, mark) ∷ filter (λ q. is_recorded q.1) (zip passed marks) else filter (λ q. is_recorded q.1) (zip passed marks)))
-    by_mark true rest = All-cons FitsRecord (event_of p) (recorded passed marks) (All-head IsSmall p passed small) rest
+    by_mark : (b : Bool) → All Q (recorded passed marks)
+        → All Q (map (λ (q : Passing × Mark). event_of q.0) (if b then (p, mark) ∷ filter (λ q. is_recorded q.1) (zip passed marks) else filter (λ q. is_recorded q.1) (zip passed marks)))
+    by_mark true rest = All-cons Q (event_of p) (recorded passed marks) (of_passing p (All-head P p passed all)) rest
     by_mark false rest = rest
 
+abbrev FitsRecord : Event → Type 0
+FitsRecord e = e.func < 2 ^ 28
+
 -- the event that was added
-pub event_small : (passed : List Passing) (old new : List Mark) (event : Event) → All IsSmall passed
+pub event_small : (passed : List Passing) (old new : List Mark) (event : Event) → All (λ p. p.id < 2 ^ 28) passed
     → recorded passed new ≡ recorded passed old ++ event ∷ [] → event.func < 2 ^ 28
 event_small passed old new event small is =
-    let all : All FitsRecord (recorded passed old ++ event ∷ []) = subst (All FitsRecord) is (recorded_small passed new small) in
+    let all : All FitsRecord (recorded passed old ++ event ∷ []) =
+    subst (All FitsRecord) is (recorded_each (λ p. p.id < 2 ^ 28) FitsRecord (λ p fits. fits) passed new small) in
     let last : get_or (recorded passed old ++ event ∷ []) (length (recorded passed old)) event ≡ event =
     get_or_push (recorded passed old) event event (length (recorded passed old)) refl in
     subst FitsRecord last
