@@ -37,3 +37,18 @@ pub schedule_begins : (threads : ℕ) (text : List ℕ) → length (lines text) 
 schedule_begins threads text few =
     ap (λ t. First t (Err faults.Limit) (InTurn (λ turns line. line_rows threads turns line) [] (numbered_lines text))) (le-ltb 1048576 (length (lines text)) few)
     ∙ lines_decide threads [] (numbered_lines text)
+
+-- one more line, which gives turns
+pub line_read : (threads : ℕ) (before : List Turns) (turns : Turns) (line : ℕ × List ℕ) (left : List (ℕ × List ℕ))
+    → (let all : Result (List Turns) ScheduleFault = Ok (turns ∷ []) in all ≡ decided (line_faults threads line) (line_turns line))
+    → read_on threads before (line ∷ left) ≡ read_on threads (before ++ turns ∷ []) left
+line_read threads before turns line left is = more (line_faults threads line) (line_turns line) is
+  where
+    more : (found : List ScheduleFault) (said : List Turns) → (let all : Result (List Turns) ScheduleFault = Ok (turns ∷ []) in all ≡ decided found said)
+        → decided (found ++ flat_map (line_faults threads) left) (before ++ (said ++ flat_map line_turns left))
+        ≡ decided (flat_map (line_faults threads) left) ((before ++ turns ∷ []) ++ flat_map line_turns left)
+    more [] said e =
+        let same : turns ∷ [] ≡ said = cc in
+        ap (λ (ts : List Turns). decided (flat_map (line_faults threads) left) (before ++ (ts ++ flat_map line_turns left))) (sym same)
+        ∙ ap (decided (flat_map (line_faults threads) left)) (sym (append_assoc before (turns ∷ []) (flat_map line_turns left)))
+    more (fault ∷ later) said e = absurd cc
