@@ -1,5 +1,5 @@
 -- The text and the script of any number have few lines.
-use Rattle.std.proofs.Common.{◌≡◌, ℕ, suc, ◌≤◌, Bool, true, List, [], ◌∷◌, length, map, refl, sym, ap, subst, ◌∙◌, arith}
+use Rattle.std.proofs.Common.{◌≡◌, ℕ, suc, ◌≤◌, true, List, [], ◌∷◌, length, map, refl, sym, ap, subst, ◌∙◌, arith}
 use Rattle.std.specs.Prelude.{All, decimal}
 use Rattle.std.specs.List.{AllZip, list_all}
 use Rattle.std.specs.Str.Lines.{lines}
@@ -11,7 +11,7 @@ use Rattle.patch_script.specs.declared.command.Command.TheVariants as commands
 use Rattle.patch_script.specs.WrittenScripts.{command_words, script_text, HasWords}
 use Rattle.asm_text.specs.Statements.{Statement}
 use Rattle.asm_text.specs.WrittenTexts.{Says}
-use Rattle.soak_inputs.specs.Scripts.{changes, script}
+use Rattle.soak_inputs.specs.Scripts.{script}
 use Rattle.soak_inputs.specs.Texts.{all_lines, assembler_text}
 use Rattle.soak_inputs.proofs.OrderLemmas.{text_short}
 use Rattle.soak_inputs.proofs.SaidLemmas.{text_says}
