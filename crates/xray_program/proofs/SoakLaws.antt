@@ -2,7 +2,7 @@
 use Rattle.std.proofs.Common.{◌≡◌, ◌≤◌, ◌∙◌, ℕ, List, [], None, Ok, Result, refl, sym, ap, subst, arith}
 use Rattle.std.specs.List.{enumerate_from}
 use Rattle.account_report.specs.Account.{account_of}
-use Rattle.asm_text.specs.Assembling.{assembled, image_of, said_by, ◌>>=◌}
+use Rattle.asm_text.specs.Assembling.{assembled, image_of, said_by}
 use Rattle.asm_text.specs.Layout.{Lines}
 use Rattle.asm_text.specs.Programs.{program_said}
 use Rattle.asm_text.specs.Writing.{file_bytes}
@@ -56,15 +56,18 @@ pub record DrawnLaws : Type 0 where
 abbrev pub soak_program : (number : ℕ) → Program
 soak_program number = program_said 1 (soak_said number)
 
+-- its script, as it is read
+abbrev pub soak_plan : (number : ℕ) → Plan
+soak_plan number = written_plan (soak_program number) 4 (soak_commands number)
+
 -- it has enough functions for the script
 pub enough : InputLaws → (number : ℕ) → 64 ≤ id_count (soak_program number)
 enough laws number = omega (arith, laws.ids number 1)
 
 pub assembled_as : (text : List ℕ) (said : Lines) → said_by text ≡ Ok said → assembled text 1 ≡ Ok (file_bytes (image_of 1 said))
-assembled_as text said is = ap (λ r. r >>= λ s. Ok (file_bytes (image_of 1 s))) is
+assembled_as text said is = rw is refl
 
-pub inputs_read : InputLaws → (number : ℕ) → AreInputs number (soak_program number)
-    (written_plan (soak_program number) 4 (soak_commands number)) (soak_turns number)
+pub inputs_read : InputLaws → (number : ℕ) → AreInputs number (soak_program number) (soak_plan number) (soak_turns number)
 inputs_read laws number = record {
   image = file_bytes (image_of 1 (soak_said number));
   assembles = assembled_as (soak_text number) (soak_said number) (laws.said number);
@@ -76,7 +79,7 @@ inputs_read laws number = record {
 
 -- ---- one thing
 
-same_value : {X F : Type 0} (a b : X) → ◌≡◌ {A = Result X F} (Ok a) (Ok b) → a ≡ b
+pub same_value : {X F : Type 0} (a b : X) → ◌≡◌ {A = Result X F} (Ok a) (Ok b) → a ≡ b
 same_value a b e = cc
 
 -- the inputs of a number are read in only one way
@@ -132,7 +135,7 @@ some_summary : StillRun → DrawnLaws → (number : ℕ) → (text : List ℕ) �
 some_summary some laws number =
     let inputs = inputs_read laws.inputs number in
     let program = soak_program number in
-    let plan = written_plan program 4 (soak_commands number) in
+    let plan = soak_plan number in
     let run = some inputs.image program (commands_of plan.lines) (soak_turns number) soak_setup plan.lines inputs.accepted refl inputs.nobody_waits in
     let traced = laws.traced inputs.image program soak_setup run.0 inputs.accepted soak_fits run.1.run in (
       soak_summary number run.0 traced.trace,

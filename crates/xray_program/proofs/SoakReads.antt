@@ -1,5 +1,5 @@
 -- The inputs of a number as they are read, and the summary of their replay.
-use Rattle.std.proofs.Common.{◌≡◌, ◌≢◌, ◌⊎◌, ◌↔◌, ◌++◌, ◌∙◌, ◌≤◌, ℕ, List, [], length, None, Option, Some, Ok, Err, Result, inl, inr, refl, sym, ap, subst, absurd}
+use Rattle.std.proofs.Common.{◌≡◌, ◌≢◌, ◌⊎◌, ◌↔◌, ◌++◌, ◌∙◌, ◌≤◌, ℕ, List, [], length, None, Option, Some, Ok, Err, Result, inl, inr, refl, sym, ap, subst}
 use Rattle.std.specs.Prelude.{IfErr, IfOk, Vec}
 use Rattle.std.specs.declared.alloc.Global.{Global}
 use Rattle.account_report.specs.declared.row.AccountRow.{AccountRow}
@@ -13,9 +13,15 @@ use Rattle.fdr_buffer.specs.Filled.{Filled}
 use Rattle.fdr_file.specs.Files.{file_bytes}
 use Rattle.fdr_file.specs.Traces.{trace_of}
 use Rattle.machine_step.specs.Traced.{Traced}
-use Rattle.patch_script.specs.Plans.{Plan}
+use Rattle.patch_script.specs.Plans.{Plan, plan_of}
+use Rattle.patch_script.specs.declared.fault.ScriptFault.{ScriptFault}
+use Rattle.patch_script.specs.declared.fault.ScriptFault.TheVariants as script_faults
+use Rattle.soak_inputs.specs.Inputs.{soak_schedule, soak_script, soak_turns}
 use Rattle.step_sim.specs.FaultWords.{sim_words}
+use Rattle.step_sim.specs.Schedules.{schedule_of}
 use Rattle.step_sim.specs.Starts.{Start}
+use Rattle.step_sim.specs.declared.fault.ScheduleFault.{ScheduleFault}
+use Rattle.step_sim.specs.declared.fault.ScheduleFault.TheVariants as schedule_faults
 use Rattle.step_sim.specs.declared.turns.Turns.{Turns}
 use Rattle.step_sim.specs.declared.sim_fault.SimFault.{SimFault}
 use Rattle.step_sim.specs.declared.sim_fault.SimFault.TheVariants as sim_faults
@@ -29,7 +35,7 @@ use Rattle.xray_image.specs.Program.{Program}
 use Rattle.xray_program.specs.Sim.{Replayed}
 use Rattle.xray_program.specs.Soak.{AreInputs, IsSummary, soak_setup}
 use Rattle.xray_program.specs.private.Drawn.{IsReadBack, summary_with}
-use Rattle.xray_program.proofs.SoakLaws.{assembled_as, same_value}
+use Rattle.xray_program.proofs.SoakLaws.{InputLaws, assembled_as, enough, same_value, soak_plan, soak_program}
 
 -- ---- what readers answer
 
@@ -58,6 +64,12 @@ pub value_is : {X F : Type 0} (wanting : F) (answer : Result X F) (value x : X) 
 value_is {F = F} wanting answer value x (inl same) is = same_value {F = F} x value (sym is ∙ same)
 value_is wanting answer value x (inr same) is = absurd (no_value wanting x (sym same ∙ is))
 
+-- so each value that is handed on is this one
+pub each_value : {X F E : Type 0} (wanting : F) (handed : Result X E) (answer : Result X F) (value : X) → IfOk handed (λ v. answer ≡ Ok v)
+    → (answer ≡ Ok value) ⊎ (answer ≡ Err wanting) → IfOk handed (λ v. v ≡ value)
+each_value wanting (Ok v) answer value is either = value_is wanting answer value v either is
+each_value wanting (Err e) answer value is either = tt
+
 -- ---- the text
 
 abbrev pub Made : List ℕ → Result (Vec ℕ Global) AsmFault → Type 0
@@ -79,6 +91,22 @@ program_in text answer file held is = let P : Result (Vec ℕ Global) AsmFault �
 pub program_same : (text : List ℕ) (file : List ℕ) (said : Lines) (of : IsProgramOf text 1 file) → said_by text ≡ Ok said
     → program_said 1 of.said ≡ program_said 1 said
 program_same text file said of is = ap (program_said 1) (same_value {F = AsmFault} of.said said (sym of.read ∙ is))
+
+-- ---- the script and the schedule
+
+pub script_answer : InputLaws → (number : ℕ) (image : Program) (text : List ℕ) → image ≡ soak_program number → text ≡ soak_script number
+    → (answer : Result Plan ScriptFault) → (answer ≡ Err script_faults.NoMemory) ⊎ (answer ≡ plan_of image 4 text)
+    → (answer ≡ Ok (soak_plan number)) ⊎ (answer ≡ Err script_faults.NoMemory)
+script_answer laws number image text same_image same_text answer reads =
+    either_way script_faults.NoMemory answer (plan_of image 4 text) (soak_plan number) reads
+    (ap (plan_of image 4) same_text ∙ ap (λ (p : Program). plan_of p 4 (soak_script number)) same_image
+    ∙ laws.plan number (soak_program number) (enough laws number))
+
+pub schedule_answer : InputLaws → (number : ℕ) (text : List ℕ) → text ≡ soak_schedule number
+    → (answer : Result (List Turns) ScheduleFault) → (answer ≡ Err schedule_faults.NoMemory) ⊎ (answer ≡ schedule_of 4 text)
+    → (answer ≡ Ok (soak_turns number)) ⊎ (answer ≡ Err schedule_faults.NoMemory)
+schedule_answer laws number text same_text answer reads =
+    either_way schedule_faults.NoMemory answer (schedule_of 4 text) (soak_turns number) reads (ap (schedule_of 4) same_text ∙ laws.schedule number)
 
 -- ---- the replay
 
