@@ -1,12 +1,13 @@
 -- Lists in ascending order: there is only one with the same items.
-use Rattle.std.proofs.Common.{◌≡◌, ◌⊎◌, ◌+◌, ◌<◌, ◌∙◌, ℕ, zero, suc, List, [], ◌∷◌, length, map, refl, ap, sym, subst, arith, get_or, inl, inr}
-use Rattle.std.specs.Prelude.{Contains, IsPermutation}
+use Rattle.std.proofs.Common.{◌≡◌, ◌⊎◌, ◌<◌, ◌∙◌, ℕ, zero, suc, List, [], ◌∷◌, length, map, refl, ap, sym, subst, arith, get_or, inl, inr}
+use Rattle.std.specs.Prelude.{All, Contains, IsPermutation}
 use Rattle.std.specs.declared.cmp.Ordering.{Ordering}
 use Rattle.std.specs.declared.cmp.Ordering.TheVariants.{Less, Equal, Greater}
 use Rattle.std.specs.Ordering.{match_ordering, ordering_index, ordering_reverse}
 use Rattle.std.specs.Cmp.{IsTotalOrder}
 use Rattle.std.specs.List.{AllByRecursion}
 use Rattle.std.specs.List.Sorted.{IsStrictlySortedBy}
+use Rattle.std.proofs.lemmas.List.Elements.{All-head, All-tail}
 use Rattle.std.proofs.lemmas.List.Sorted.{Contains-permutation}
 use Rattle.stack_rebuild.specs.Ascending.{each_once, put_once}
 
@@ -28,6 +29,12 @@ Contains_from_in (y ∷ ys) x (inr is) = let there = Contains_from_in ys x is in
 pub in_permutation : {X : Type 0} (xs ys : List X) → IsPermutation xs ys → (z : X) → IsIn z xs → IsIn z ys
 in_permutation xs ys same z is =
     let there = Contains-permutation xs ys z same (Contains_from_in xs z is) in in_from_Contains ys z there.0 there.1 there.2
+
+-- what holds of each item
+pub all_in : {X : Type 0} (P : X → Type 0) (xs : List X) → All P xs → (z : X) → IsIn z xs → P z
+all_in P [] all z is = absurd is
+all_in P (x ∷ xs) all z (inl is) = subst P (sym is) (All-head P x xs all)
+all_in P (x ∷ xs) all z (inr is) = all_in P xs (All-tail P x xs all) z is
 
 pub in-map : {X Y : Type 0} (f : X → Y) (xs : List X) (x : X) → IsIn x xs → IsIn (f x) (map f xs)
 in-map f [] x is = is
@@ -149,12 +156,12 @@ is_each_once compare total exact ys xs strict to from =
 
 -- ---- the keys of a map
 
-all_in : {X : Type 0} (P : X → Type 0) (xs : List X) → AllByRecursion P xs → (z : X) → IsIn z xs → P z
-all_in P [] all z is = absurd is
-all_in P (x ∷ xs) all z (inl is) = subst P (sym is) all.0
-all_in P (x ∷ xs) all z (inr is) = all_in P xs all.1 z is
+pub each_in : {X : Type 0} (P : X → Type 0) (xs : List X) → AllByRecursion P xs → (z : X) → IsIn z xs → P z
+each_in P [] all z is = absurd is
+each_in P (x ∷ xs) all z (inl is) = subst P (sym is) all.0
+each_in P (x ∷ xs) all z (inr is) = each_in P xs all.1 z is
 
 pub strict_from_sorted : {X : Type 0} (compare : X → X → Ordering) (xs : List X) → IsStrictlySortedBy compare xs → Strict compare xs
 unfolding IsStrictlySortedBy
 strict_from_sorted compare [] sorted = tt
-strict_from_sorted {X} compare (x ∷ xs) sorted = (all_in (λ (y : X). compare x y ≡ Less) xs sorted.0, strict_from_sorted compare xs sorted.1)
+strict_from_sorted {X} compare (x ∷ xs) sorted = (each_in (λ (y : X). compare x y ≡ Less) xs sorted.0, strict_from_sorted compare xs sorted.1)

@@ -5,6 +5,7 @@ pub mod Frames
 pub mod Lines
 pub mod Nesting
 pub mod Opening
+pub mod Orders
 pub mod Pairing
 pub mod Results
 pub mod RowsOf

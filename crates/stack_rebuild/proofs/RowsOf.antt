@@ -1,29 +1,30 @@
 -- The rows of all paths, sorted.
-use Rattle.std.proofs.Common.{◌≡◌, ◌⊎◌, ◌+◌, ◌++◌, ◌<◌, ◌≤◌, ◌∙◌, ℕ, zero, suc, Bool, true, false, cond, ◌||◌, List, [], ◌∷◌, length, map, refl, ap, sym, subst, arith, nat_eq, nat_lt, get_or, inl, inr, count_by, sum_by, length-append}
+use Rattle.std.proofs.Common.{◌≡◌, ◌⊎◌, ◌+◌, ◌++◌, ◌<◌, ◌∙◌, ℕ, suc, Bool, true, false, cond, List, [], ◌∷◌, length, map, refl, ap, sym, subst, arith, nat_eq, nat_lt, get_or, inl, inr, count_by}
 use Rattle.std.specs.Prelude.{IsPermutation, All}
 use Rattle.std.specs.declared.cmp.Ordering.{Ordering}
 use Rattle.std.specs.declared.cmp.Ordering.TheVariants.{Less, Equal, Greater}
 use Rattle.std.specs.Ordering.{eq_by_cmp, is_eq, is_lt, ordering_reverse}
-use Rattle.std.specs.Cmp.{IsStrictWeakOrder, IsTotalOrder, eq_by_cmp_equiv}
+use Rattle.std.specs.Cmp.{IsStrictWeakOrder, eq_by_cmp_equiv}
 use Rattle.std.specs.Cmp.Lexicographic.{nat_list_cmp_total}
-use Rattle.std.specs.List.{AllByRecursion, IsDistinct, list_any}
+use Rattle.std.specs.List.{AllByRecursion, IsDistinct, range_with_len}
 use Rattle.std.specs.List.Sorted.{IsSortedBy}
 use Rattle.std.proofs.lemmas.Bool.Decides.{nat_tests}
-use Rattle.std.proofs.lemmas.List.{append-nil, map-append}
+use Rattle.std.proofs.lemmas.List.{map-append}
 use Rattle.std.proofs.lemmas.List.Elements.{All-append, All-cons, All-head, All-nil, All-tail}
 use Rattle.std.proofs.lemmas.List.MinMax.{ranks_by}
 use Rattle.std.proofs.lemmas.List.Sorted.{All-permutation, IsPermutation-map, IsPermutation-sym}
 use Rattle.std.proofs.lemmas.List.Sums.{sum_by-cons}
-use Rattle.std.proofs.lemmas.Map.Keys.{IsDistinct-head, IsDistinct-IsPermutation, IsDistinct-push, IsDistinct-tail}
+use Rattle.std.proofs.lemmas.Map.Keys.{IsDistinct-head, IsDistinct-IsPermutation, IsDistinct-cons, IsDistinct-tail}
 use Rattle.stack_rebuild.specs.declared.path_sums.Tally.{Tally}
 use Rattle.stack_rebuild.specs.declared.stack_row.StackRow.{StackRow}
 use Rattle.stack_rebuild.specs.Ascending.{each_once}
 use Rattle.stack_rebuild.specs.private.PathNumbers.{path_at}
-use Rattle.stack_rebuild.specs.private.Rows.{row_before, row_by, rows_at, rows_below}
+use Rattle.stack_rebuild.specs.private.Rows.{row_before, row_by, rows_at, rows_for}
 use Rattle.stack_rebuild.specs.private.Scanning.{AllNumbered, AreSums, no_tally, tally_of}
 use Rattle.stack_rebuild.specs.Stacks.{PathRow, Timed, has_path, path_cmp, row_of, told}
-use Rattle.stack_rebuild.proofs.Ascents.{IsIn, Strict, in-map, in_permutation, is_each_once, less_not_greater, map-in}
-use Rattle.stack_rebuild.proofs.Sums.{has_own, has_path-same, path_cmp_equal, path_cmp_same}
+use Rattle.stack_rebuild.proofs.Orders.{order_all, order_distinct, order_low}
+use Rattle.stack_rebuild.proofs.Ascents.{all_in, each_in, IsIn, Strict, in_permutation, is_each_once, map-in}
+use Rattle.stack_rebuild.proofs.Sums.{has_own, has_path-same, path_cmp_equal}
 
 abbrev paths_of_rows : List PathRow → List (List ℕ)
 paths_of_rows rows = map (λ (row : PathRow). row.path) rows
@@ -70,100 +71,103 @@ in-counted path (pair ∷ pairs) (inl is) =
 in-counted path (pair ∷ pairs) (inr is) =
     omega (arith, sum_by-cons (λ (p : Timed). cond (has_path path p) 1 0) pair pairs, in-counted path pairs is)
 
--- ---- the rows of the paths, by their numbers
+-- ---- the rows of paths, by their numbers
 
 row_is : (paths : List (List ℕ)) (tallies : List Tally) (pairs : List Timed) → AreSums paths tallies pairs → (n : ℕ) → n < length paths
     → row_by (path_at paths n) (get_or tallies n no_tally) ≡ row_of pairs (path_at paths n)
 row_is paths tallies pairs sums n low = ap (row_by (path_at paths n)) (sums.each n no_tally (omega (arith, low, sums.level)))
 
 -- each row is that of its path
-pub rows_are : (paths : List (List ℕ)) (tallies : List Tally) (pairs : List Timed) → AreSums paths tallies pairs → (n : ℕ) → n ≤ length paths
-    → All (λ (row : PathRow). row ≡ row_of pairs row.path) (rows_below paths tallies n)
-rows_are paths tallies pairs sums zero low = All-nil (λ (row : PathRow). row ≡ row_of pairs row.path)
-rows_are paths tallies pairs sums (suc n) low =
-    All-append (λ (row : PathRow). row ≡ row_of pairs row.path) (rows_below paths tallies n) (rows_at paths tallies n)
-    (rows_are paths tallies pairs sums n (omega (arith, low))) (by_count (nat_lt 0 (get_or tallies n no_tally).count))
+pub rows_are : (paths : List (List ℕ)) (tallies : List Tally) (pairs : List Timed) → AreSums paths tallies pairs → (numbers : List ℕ)
+    → All (λ (n : ℕ). n < length paths) numbers
+    → All (λ (row : PathRow). row ≡ row_of pairs row.path) (rows_for paths tallies numbers)
+rows_are paths tallies pairs sums [] low = All-nil (λ (row : PathRow). row ≡ row_of pairs row.path)
+rows_are paths tallies pairs sums (n ∷ numbers) low =
+    All-append (λ (row : PathRow). row ≡ row_of pairs row.path) (rows_at paths tallies n) (rows_for paths tallies numbers)
+    (by_count (nat_lt 0 (get_or tallies n no_tally).count))
+    (rows_are paths tallies pairs sums numbers (All-tail (λ (k : ℕ). k < length paths) n numbers low))
   where
     by_count : (b : Bool) → All (λ (row : PathRow). row ≡ row_of pairs row.path) (cond b (row_by (path_at paths n) (get_or tallies n no_tally) ∷ []) [])
     by_count true =
         All-cons (λ (row : PathRow). row ≡ row_of pairs row.path) (row_by (path_at paths n) (get_or tallies n no_tally)) []
-        (row_is paths tallies pairs sums n (omega (arith, low))) (All-nil (λ (row : PathRow). row ≡ row_of pairs row.path))
+        (row_is paths tallies pairs sums n (All-head (λ (k : ℕ). k < length paths) n numbers low)) (All-nil (λ (row : PathRow). row ≡ row_of pairs row.path))
     by_count false = All-nil (λ (row : PathRow). row ≡ row_of pairs row.path)
 
--- the path of a row has a lower number, and it has pairs
-rows-in : (paths : List (List ℕ)) (tallies : List Tally) (n : ℕ) (path : List ℕ) → IsIn path (paths_of_rows (rows_below paths tallies n))
-    → (k : ℕ) × (k < n) × (path_at paths k ≡ path) × (0 < (get_or tallies k no_tally).count)
-rows-in paths tallies zero path is = absurd is
-rows-in paths tallies (suc n) path is =
-    by_place (in-append (paths_of_rows (rows_below paths tallies n)) (paths_of_rows (rows_at paths tallies n)) path
-    (subst (IsIn path) (map-append (λ (row : PathRow). row.path) (rows_below paths tallies n) (rows_at paths tallies n)) is))
-    (rows-in paths tallies n path)
+-- the path of a row has one of the numbers, and it has pairs
+rows-in : (paths : List (List ℕ)) (tallies : List Tally) (numbers : List ℕ) (path : List ℕ) → IsIn path (paths_of_rows (rows_for paths tallies numbers))
+    → (k : ℕ) × IsIn k numbers × (path_at paths k ≡ path) × (0 < (get_or tallies k no_tally).count)
+rows-in paths tallies [] path is = absurd is
+rows-in paths tallies (n ∷ numbers) path is =
+    by_place (in-append (paths_of_rows (rows_at paths tallies n)) (paths_of_rows (rows_for paths tallies numbers)) path
+    (subst (IsIn path) (map-append (λ (row : PathRow). row.path) (rows_at paths tallies n) (rows_for paths tallies numbers)) is))
+    (rows-in paths tallies numbers path)
   where
     here : (b : Bool) → nat_lt 0 (get_or tallies n no_tally).count ≡ b
         → IsIn path (paths_of_rows (cond b (row_by (path_at paths n) (get_or tallies n no_tally) ∷ []) []))
-        → (k : ℕ) × (k < suc n) × (path_at paths k ≡ path) × (0 < (get_or tallies k no_tally).count)
-    here true some (inl at) = (n, omega arith, sym at, (let e : nat_lt 0 (get_or tallies n no_tally).count ≡ true = some in grind (arith, nat_tests)))
+        → (k : ℕ) × IsIn k (n ∷ numbers) × (path_at paths k ≡ path) × (0 < (get_or tallies k no_tally).count)
+    here true some (inl at) = (n, inl refl, sym at, (let e : nat_lt 0 (get_or tallies n no_tally).count ≡ true = some in grind (arith, nat_tests)))
     here true some (inr at) = absurd at
     here false some at = absurd at
 
-    by_place : IsIn path (paths_of_rows (rows_below paths tallies n)) ⊎ IsIn path (paths_of_rows (rows_at paths tallies n))
-        → (IsIn path (paths_of_rows (rows_below paths tallies n)) → (k : ℕ) × (k < n) × (path_at paths k ≡ path) × (0 < (get_or tallies k no_tally).count))
-        → (k : ℕ) × (k < suc n) × (path_at paths k ≡ path) × (0 < (get_or tallies k no_tally).count)
-    by_place (inl there) lower = let own = lower there in (own.0, omega (arith, own.1), own.2, own.3)
-    by_place (inr there) lower = here (nat_lt 0 (get_or tallies n no_tally).count) refl there
+    by_place : IsIn path (paths_of_rows (rows_at paths tallies n)) ⊎ IsIn path (paths_of_rows (rows_for paths tallies numbers))
+        → (IsIn path (paths_of_rows (rows_for paths tallies numbers))
+        → (k : ℕ) × IsIn k numbers × (path_at paths k ≡ path) × (0 < (get_or tallies k no_tally).count))
+        → (k : ℕ) × IsIn k (n ∷ numbers) × (path_at paths k ≡ path) × (0 < (get_or tallies k no_tally).count)
+    by_place (inl there) later = here (nat_lt 0 (get_or tallies n no_tally).count) refl there
+    by_place (inr there) later = let own = later there in (own.0, inr own.1, own.2, own.3)
 
-in-rows : (paths : List (List ℕ)) (tallies : List Tally) (n k : ℕ) → k < n → 0 < (get_or tallies k no_tally).count
-    → IsIn (path_at paths k) (paths_of_rows (rows_below paths tallies n))
-in-rows paths tallies zero k low some = absurd (omega (arith, low))
-in-rows paths tallies (suc n) k low some =
-    subst (IsIn (path_at paths k)) (sym (map-append (λ (row : PathRow). row.path) (rows_below paths tallies n) (rows_at paths tallies n)))
-    (by_place (nat_eq k n) refl (λ lower. in-rows paths tallies n k lower some))
+in-rows : (paths : List (List ℕ)) (tallies : List Tally) (numbers : List ℕ) (k : ℕ) → IsIn k numbers → 0 < (get_or tallies k no_tally).count
+    → IsIn (path_at paths k) (paths_of_rows (rows_for paths tallies numbers))
+in-rows paths tallies [] k is some = absurd is
+in-rows paths tallies (n ∷ numbers) k is some =
+    subst (IsIn (path_at paths k)) (sym (map-append (λ (row : PathRow). row.path) (rows_at paths tallies n) (rows_for paths tallies numbers)))
+    (by_place is (λ later. in-rows paths tallies numbers k later some))
   where
-    by_place : (b : Bool) → nat_eq k n ≡ b → (k < n → IsIn (path_at paths k) (paths_of_rows (rows_below paths tallies n)))
-        → IsIn (path_at paths k) (paths_of_rows (rows_below paths tallies n) ++ paths_of_rows (rows_at paths tallies n))
-    by_place true is later =
-        let same : k ≡ n = let e : nat_eq k n ≡ true = is in grind (arith, nat_tests) in
+    by_place : IsIn k (n ∷ numbers) → (IsIn k numbers → IsIn (path_at paths k) (paths_of_rows (rows_for paths tallies numbers)))
+        → IsIn (path_at paths k) (paths_of_rows (rows_at paths tallies n) ++ paths_of_rows (rows_for paths tallies numbers))
+    by_place (inl same) later =
         let counted : nat_lt 0 (get_or tallies n no_tally).count ≡ true =
         let high : 0 < (get_or tallies n no_tally).count = subst (λ (i : ℕ). 0 < (get_or tallies i no_tally).count) same some in grind (arith, nat_tests) in
-        append-right (paths_of_rows (rows_below paths tallies n)) (paths_of_rows (rows_at paths tallies n)) (path_at paths k)
+        append-left (paths_of_rows (rows_at paths tallies n)) (paths_of_rows (rows_for paths tallies numbers)) (path_at paths k)
         (subst (λ (b : Bool). IsIn (path_at paths k) (paths_of_rows (cond b (row_by (path_at paths n) (get_or tallies n no_tally) ∷ []) []))) (sym counted)
         (inl (ap (path_at paths) same)))
-    by_place false is later =
-        let lower : k < n = let e : nat_eq k n ≡ false = is in grind (arith, nat_tests) in
-        append-left (paths_of_rows (rows_below paths tallies n)) (paths_of_rows (rows_at paths tallies n)) (path_at paths k) (later lower)
+    by_place (inr there) later =
+        append-right (paths_of_rows (rows_at paths tallies n)) (paths_of_rows (rows_for paths tallies numbers)) (path_at paths k) (later there)
 
 -- no two rows have the same path
-none_any : (path : List ℕ) (others : List (List ℕ)) → ((z : List ℕ) → IsIn z others → path ≡ z → ⊥) → list_any (eq_by_cmp path_cmp path) others ≡ false
-none_any path [] apart = refl
-none_any path (other ∷ others) apart = by_first (eq_by_cmp path_cmp path other) refl (none_any path others (λ z is. apart z (inr is)))
+apart_in : (n : ℕ) (numbers : List ℕ) → AllByRecursion (λ (k : ℕ). nat_eq n k ≡ false) numbers → (k : ℕ) → IsIn k numbers → n ≡ k → ⊥
+apart_in n numbers apart k is same = let e : nat_eq n k ≡ false = each_in (λ (m : ℕ). nat_eq n m ≡ false) numbers apart k is in grind (arith, nat_tests)
+
+none_any : (path : List ℕ) (others : List (List ℕ)) → ((z : List ℕ) → IsIn z others → path ≡ z → ⊥)
+    → AllByRecursion (λ (other : List ℕ). eq_by_cmp path_cmp path other ≡ false) others
+none_any path [] apart = tt
+none_any path (other ∷ others) apart = (by_order (path_cmp path other) refl, none_any path others (λ z is. apart z (inr is)))
   where
-    equal_from : (o : Ordering) → is_eq o ≡ true → o ≡ Equal
-    equal_from Less is = let never : false ≡ true = is in cc
-    equal_from Equal is = refl
-    equal_from Greater is = let never : false ≡ true = is in cc
+    by_order : (o : Ordering) → path_cmp path other ≡ o → eq_by_cmp path_cmp path other ≡ false
+    by_order Less is = ap is_eq is
+    by_order Equal is = absurd (apart other (inl refl) (path_cmp_equal path other is))
+    by_order Greater is = ap is_eq is
 
-    by_first : (b : Bool) → eq_by_cmp path_cmp path other ≡ b → list_any (eq_by_cmp path_cmp path) others ≡ false
-        → (b || list_any (eq_by_cmp path_cmp path) others) ≡ false
-    by_first true is later = absurd (apart other (inl refl) (path_cmp_equal path other (equal_from (path_cmp path other) is)))
-    by_first false is later = later
-
-rows_distinct : (paths : List (List ℕ)) (tallies : List Tally) (pairs : List Timed) → AreSums paths tallies pairs → (n : ℕ) → n ≤ length paths
-    → IsDistinct (eq_by_cmp path_cmp) (paths_of_rows (rows_below paths tallies n))
+rows_distinct : (paths : List (List ℕ)) (tallies : List Tally) (pairs : List Timed) → AreSums paths tallies pairs → (numbers : List ℕ)
+    → All (λ (n : ℕ). n < length paths) numbers → IsDistinct nat_eq numbers → IsDistinct (eq_by_cmp path_cmp) (paths_of_rows (rows_for paths tallies numbers))
 unfolding IsDistinct
-rows_distinct paths tallies pairs sums zero low = tt
-rows_distinct paths tallies pairs sums (suc n) low =
-    subst (IsDistinct (eq_by_cmp path_cmp)) (sym (map-append (λ (row : PathRow). row.path) (rows_below paths tallies n) (rows_at paths tallies n)))
-    (by_count (nat_lt 0 (get_or tallies n no_tally).count) (rows_distinct paths tallies pairs sums n (omega (arith, low))))
+rows_distinct paths tallies pairs sums [] low apart = tt
+rows_distinct paths tallies pairs sums (n ∷ numbers) low apart =
+    subst (IsDistinct (eq_by_cmp path_cmp)) (sym (map-append (λ (row : PathRow). row.path) (rows_at paths tallies n) (rows_for paths tallies numbers)))
+    (by_count (nat_lt 0 (get_or tallies n no_tally).count)
+    (rows_distinct paths tallies pairs sums numbers (All-tail (λ (k : ℕ). k < length paths) n numbers low) apart.1))
   where
-    by_count : (b : Bool) → IsDistinct (eq_by_cmp path_cmp) (paths_of_rows (rows_below paths tallies n))
-        → IsDistinct (eq_by_cmp path_cmp) (paths_of_rows (rows_below paths tallies n) ++ paths_of_rows (cond b (row_by (path_at paths n) (get_or tallies n no_tally) ∷ []) []))
-    by_count true before =
-        IsDistinct-push (eq_by_cmp_equiv nat_list_cmp_total) (paths_of_rows (rows_below paths tallies n)) (path_at paths n) before
-        (none_any (path_at paths n) (paths_of_rows (rows_below paths tallies n))
-        (λ z is same. let there = rows-in paths tallies n z is in
-        let at : n ≡ there.0 = sums.apart.apart n there.0 (omega (arith, low)) (omega (arith, low, there.1)) (same ∙ sym there.2) in
-        omega (arith, at, there.1)))
-    by_count false before = subst (IsDistinct (eq_by_cmp path_cmp)) (sym (append-nil (paths_of_rows (rows_below paths tallies n)))) before
+    by_count : (b : Bool) → IsDistinct (eq_by_cmp path_cmp) (paths_of_rows (rows_for paths tallies numbers))
+        → IsDistinct (eq_by_cmp path_cmp) (paths_of_rows (cond b (row_by (path_at paths n) (get_or tallies n no_tally) ∷ []) []) ++ paths_of_rows (rows_for paths tallies numbers))
+    by_count true after =
+        IsDistinct-cons (eq_by_cmp path_cmp) (path_at paths n) (paths_of_rows (rows_for paths tallies numbers))
+        (none_any (path_at paths n) (paths_of_rows (rows_for paths tallies numbers))
+        (λ z is same. let there = rows-in paths tallies numbers z is in
+        apart_in n numbers apart.0 there.0 there.1
+        (sums.apart.apart n there.0 (All-head (λ (k : ℕ). k < length paths) n numbers low)
+        (all_in (λ (k : ℕ). k < length paths) numbers (All-tail (λ (k : ℕ). k < length paths) n numbers low) there.0 there.1) (same ∙ sym there.2))))
+        after
+    by_count false after = after
 
 -- ---- rows in order
 
@@ -229,28 +233,30 @@ numbered-at paths [] all z is = absurd is
 numbered-at paths (pair ∷ pairs) all z (inl is) = (all.0.0, all.0.1, all.0.2 ∙ sym is)
 numbered-at paths (pair ∷ pairs) all z (inr is) = numbered-at paths pairs all.1 z is
 
-pub rows_sorted : (paths : List (List ℕ)) (tallies : List Tally) (pairs : List Timed) (made sorted : List StackRow) → AreSums paths tallies pairs
-    → map told made ≡ rows_below paths tallies (length paths) → IsPermutation made sorted → IsSortedBy row_before sorted
+pub rows_sorted : (paths : List (List ℕ)) (tallies : List Tally) (pairs : List Timed) (order : List ℕ) (made sorted : List StackRow)
+    → AreSums paths tallies pairs → IsPermutation (range_with_len 0 (length paths)) order
+    → map told made ≡ rows_for paths tallies order → IsPermutation made sorted → IsSortedBy row_before sorted
     → map told sorted ≡ map (row_of pairs) (each_once path_cmp (paths_of_pairs pairs))
-rows_sorted paths tallies pairs made sorted sums is moved up =
-    let rows = rows_below paths tallies (length paths) in
+rows_sorted paths tallies pairs order made sorted sums numbers is moved up =
+    let rows = rows_for paths tallies order in
+    let low : All (λ (n : ℕ). n < length paths) order = order_low (length paths) order numbers in
     let same : IsPermutation rows (map told sorted) = subst (λ (rs : List PathRow). IsPermutation rs (map told sorted)) is (IsPermutation-map told made sorted moved) in
-    let own = All-permutation (λ (row : PathRow). row ≡ row_of pairs row.path) rows (map told sorted) same (rows_are paths tallies pairs sums (length paths) (omega arith)) in
+    let own = All-permutation (λ (row : PathRow). row ≡ row_of pairs row.path) rows (map told sorted) same (rows_are paths tallies pairs sums order low) in
     let moved_paths : IsPermutation (paths_of_rows rows) (paths_of_rows (map told sorted)) = IsPermutation-map (λ (row : PathRow). row.path) rows (map told sorted) same in
     let distinct = IsDistinct-IsPermutation (eq_by_cmp path_cmp) (eq_by_cmp_equiv nat_list_cmp_total).symm (paths_of_rows rows) (paths_of_rows (map told sorted)) moved_paths
-    (rows_distinct paths tallies pairs sums (length paths) (omega arith)) in
+    (rows_distinct paths tallies pairs sums order low (order_distinct (length paths) order numbers)) in
     let strict : Strict path_cmp (paths_of_rows (map told sorted)) =
     subst (Strict path_cmp) (sym (paths_told sorted)) (strict_rows sorted up (subst (IsDistinct (eq_by_cmp path_cmp)) (paths_told sorted) distinct)) in
     let back = IsPermutation-sym (paths_of_rows rows) (paths_of_rows (map told sorted)) moved_paths in
     let listed : paths_of_rows (map told sorted) ≡ each_once path_cmp (paths_of_pairs pairs) =
     is_each_once path_cmp nat_list_cmp_total path_cmp_equal (paths_of_rows (map told sorted)) (paths_of_pairs pairs) strict
-    (λ z there. let at = rows-in paths tallies (length paths) z (in_permutation (paths_of_rows (map told sorted)) (paths_of_rows rows) back z there) in
+    (λ z there. let at = rows-in paths tallies order z (in_permutation (paths_of_rows (map told sorted)) (paths_of_rows rows) back z there) in
     counted-in z pairs
-    (let tally : get_or tallies at.0 no_tally ≡ tally_of pairs z = sums.each at.0 no_tally (omega (arith, at.1, sums.level)) ∙ ap (tally_of pairs) at.2 in
+    (let tally : get_or tallies at.0 no_tally ≡ tally_of pairs z = sums.each at.0 no_tally (let within : at.0 < length paths = all_in (λ (n : ℕ). n < length paths) order low at.0 at.1 in omega (arith, sums.level)) ∙ ap (tally_of pairs) at.2 in
     omega (arith, at.3, ap {B = ℕ} (λ (t : Tally). t.count) tally)))
     (λ z there. let at = numbered-at paths pairs sums.numbered z there in
     in_permutation (paths_of_rows rows) (paths_of_rows (map told sorted)) moved_paths z
-    (subst (λ (p : List ℕ). IsIn p (paths_of_rows rows)) at.2 (in-rows paths tallies (length paths) at.0 at.1
+    (subst (λ (p : List ℕ). IsIn p (paths_of_rows rows)) at.2 (in-rows paths tallies order at.0 (order_all (length paths) order numbers at.0 at.1)
     (let tally : get_or tallies at.0 no_tally ≡ tally_of pairs z = sums.each at.0 no_tally (omega (arith, at.1, sums.level)) ∙ ap (tally_of pairs) at.2 in
     omega (arith, in-counted z pairs there, ap {B = ℕ} (λ (t : Tally). t.count) tally))))) in
     by_paths pairs (map told sorted) own ∙ ap (map (row_of pairs)) listed

@@ -1,14 +1,12 @@
-//! The open calls of a thread.
+//! The calls of a thread.
 
-ghost use Rattle.std.specs.Prelude.{◌≡◌, ◌<◌, ◌++◌, [], ◌∷◌, reverse, length, MatchOption, IfOk, OnOk, IsTrue, count_by};
-ghost use Rattle.stack_rebuild.specs.Calls.{cycles_between, from_innermost, pair_at, standing_after, next_standing};
-ghost use Rattle.stack_rebuild.specs.private.Counts.{AreCountsOf, is_of};
+ghost use Rattle.std.specs.Prelude.{◌≡◌, [], length, IfOk, OnOk};
+ghost use Rattle.stack_rebuild.specs.Calls.{cycles_between, pair_at, standing_after, next_standing};
 
 use crate::call::{Call, Pair};
-use crate::counts::{count_down, count_of, count_up};
+use crate::open_calls::OpenCalls;
 use fdr_record::{Event, Kind};
-use std::alloc::{AllocError, Global};
-use std::collections::HashMap;
+use std::alloc::Global;
 use std::marker::Model;
 use xray_io::NoMemory;
 
@@ -22,10 +20,7 @@ use xray_io::NoMemory;
 pub struct ThreadCalls {
     /// How many events there were.
     events: usize,
-    /// The open calls, outermost first.
-    calls: Vec<Call>,
-    /// How many calls of each function are open.
-    counts: HashMap<u32, usize>,
+    calls: OpenCalls,
 }
 
 impl Model for ThreadCalls {
@@ -33,11 +28,9 @@ impl Model for ThreadCalls {
 
     ghost Value = { Standing };
 
-    ghost use Rattle.stack_rebuild.specs.private.ThreadCalls.{standing_in, IsCounted};
+    ghost use Rattle.stack_rebuild.specs.private.ThreadCalls.{standing_in};
 
     ghost view = { standing_in };
-
-    ghost invariant = { IsCounted };
 }
 
 impl ThreadCalls {
@@ -47,8 +40,7 @@ impl ThreadCalls {
     {
         ThreadCalls {
             events: 0,
-            calls: Vec::new(alloc),
-            counts: HashMap::new(alloc),
+            calls: OpenCalls::new(alloc),
         }
     }
 
@@ -56,7 +48,7 @@ impl ThreadCalls {
     pub fn depth(&self) -> usize
         ensures { result ≡ length self.now.calls }
     {
-        self.calls.len()
+        self.calls.depth()
     }
 
     /// Takes the thread's next event, and answers the pair that it makes. After `NoMemory` no
@@ -76,15 +68,13 @@ impl ThreadCalls {
                     func: event.func,
                     tsc: event.tsc,
                 };
-                open_call(&mut self.calls, &mut self.counts, call)?;
+                self.calls.open_call(call)?;
                 Ok(None)
             }
-            Kind::Exit | Kind::TailExit => {
-                match end_call(&mut self.calls, &mut self.counts, event.func) {
-                    Some(call) => Ok(Some(pair_with(event, at, &call))),
-                    None => Ok(None),
-                }
-            }
+            Kind::Exit | Kind::TailExit => match self.calls.end_call(event.func)? {
+                Some(call) => Ok(Some(pair_with(event, at, &call))),
+                None => Ok(None),
+            },
         }
     }
 }
@@ -103,57 +93,5 @@ fn pair_with(event: &Event, at: usize, ended: &Call) -> Pair
         entry: ended.entry,
         exit: at,
         duration: event.tsc.wrapping_sub(ended.tsc),
-    }
-}
-
-/// Opens a call inside the open ones.
-fn open_call(
-    calls: &mut Vec<Call>,
-    counts: &mut HashMap<u32, usize>,
-    call: Call,
-) -> Result<(), AllocError>
-    requires { AreCountsOf calls.old.items counts.old }
-    ensures ok { OnOk result (calls.new.items ≡ calls.old.items ++ call ∷ []) }
-    ensures counted { AreCountsOf calls.new.items counts.new }
-{
-    calls.push(call)?;
-    match count_up(counts, call.func) {
-        Ok(()) => Ok(()),
-        Err(error) => {
-            calls.pop();
-            Err(error)
-        }
-    }
-}
-
-/// Ends the innermost open call of a function, and all calls that were made in it.
-fn end_call(calls: &mut Vec<Call>, counts: &mut HashMap<u32, usize>, func: u32) -> Option<Call>
-    requires { AreCountsOf calls.old.items counts.old }
-    ensures ended { MatchOption result
-        ((from_innermost func (reverse calls.old.items) ≡ [])
-        × (calls.new.items ≡ calls.old.items))
-        (λ call. from_innermost func (reverse calls.old.items)
-        ≡ call ∷ reverse calls.new.items) }
-    ensures counted { AreCountsOf calls.new.items counts.new }
-{
-    if !is_innermost(calls, func) && count_of(counts, func) == 0 {
-        return None;
-    }
-    'ending: while let Some(call) = calls.pop() {
-        count_down(counts, call.func);
-        if call.func == func {
-            return Some(call);
-        }
-    }
-    None
-}
-
-/// Whether the innermost open call is of this function.
-fn is_innermost(calls: &[Call], func: u32) -> bool
-    ensures { IsTrue result → 0 < count_by (is_of func) calls.now }
-{
-    match calls.last() {
-        Some(call) => call.func == func,
-        None => false,
     }
 }

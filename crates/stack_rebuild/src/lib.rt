@@ -6,6 +6,7 @@ mod calls;
 mod counts;
 mod laws;
 mod matching;
+mod open_calls;
 mod path_numbers;
 mod path_sums;
 mod refusal;

@@ -1,6 +1,7 @@
 //! Numbers for paths.
 
-ghost use Rattle.std.specs.Prelude.{◌≡◌, ◌<◌, ◌++◌, ℕ, [], ◌∷◌, length, IfOk, IfSome, IsTrue};
+ghost use Rattle.std.specs.Prelude.{◌≡◌, ◌<◌, ◌++◌, ℕ, [], ◌∷◌, length, IfOk, IfSome, IsTrue, IsPermutation};
+ghost use Rattle.std.specs.List.{range_with_len};
 ghost use Rattle.stack_rebuild.specs.private.PathNumbers.{AreApart, HasNumber, path_at, path_by};
 
 use std::alloc::{AllocError, Global};
@@ -168,6 +169,59 @@ impl PathNumbers {
         }
     }
 
+    /// The numbers of all paths, each once.
+    ///
+    /// They are in the order of the paths. No clause says so, since the rows are sorted in any
+    /// case, which takes little time if they are in order.
+    pub(crate) fn in_order(&self, alloc: Global) -> Result<Vec<usize>, NoMemory>
+        ensures { IfOk result (λ order.
+            IsPermutation (range_with_len 0 (length self.now)) order.items) }
+    {
+        let ranks = self.ranks(alloc)?;
+        let mut order = numbers_below(alloc, self.count())?;
+        order.sort_unstable_by_key(|number| ranks.get(*number).copied());
+        Ok(order)
+    }
+
+    /// For each number, how many paths come before its path.
+    fn ranks(&self, alloc: Global) -> Result<Vec<usize>, NoMemory> {
+        let mut ranks = vec![in alloc; 0; self.count()]?;
+        let mut ahead = Vec::new(alloc);
+        ahead.push(0)?;
+        'walking: for rank in 0..self.count() {
+            let Some(number) = ahead.pop() else {
+                break;
+            };
+            if let Some(place) = ranks.get_mut(number) {
+                *place = rank;
+            }
+            self.add_next(&mut ahead, number)?;
+        }
+        Ok(ranks)
+    }
+
+    /// Adds the numbers of the paths that go on from a path, from the last path to the first.
+    fn add_next(&self, ahead: &mut Vec<usize>, parent: usize) -> Result<(), NoMemory> {
+        let start = ahead.len();
+        let mut number = self.links_of(parent).child;
+        'adding: for _ in 0..self.steps.len() {
+            if number == 0 {
+                break;
+            }
+            ahead.push(number)?;
+            number = self.links_of(number).sibling;
+        }
+        let added = &mut ahead[start..];
+        added.sort_unstable_by(|one, other| self.func_of(*other).cmp(&self.func_of(*one)));
+        Ok(())
+    }
+
+    /// The last function of the path with this number.
+    fn func_of(&self, number: usize) -> Option<u32> {
+        let step = self.steps.get(number.checked_sub(1)?)?;
+        Some(step.func)
+    }
+
     /// The path with this number.
     pub(crate) fn path(&self, alloc: Global, number: usize) -> Result<Vec<u32>, NoMemory>
         requires { number < length self.now }
@@ -197,4 +251,15 @@ fn link(links: &mut Vec<Links>, parent: usize) -> Result<(), AllocError> {
         links.push(next)?;
     }
     Ok(())
+}
+
+/// The numbers below a count.
+fn numbers_below(alloc: Global, count: usize) -> Result<Vec<usize>, NoMemory>
+    ensures { IfOk result (λ numbers. numbers.items ≡ range_with_len 0 count) }
+{
+    let mut numbers = Vec::with_capacity(alloc, count)?;
+    'listing: for number in 0..count {
+        numbers.push(number)?;
+    }
+    Ok(numbers)
 }

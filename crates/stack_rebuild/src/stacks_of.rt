@@ -1,8 +1,8 @@
 //! The stacks of a trace.
 
-ghost use Rattle.std.specs.Prelude.{◌≡◌, ◌<◌, ◌++◌, length, map, IfOk, IfErr, OnOk, None};
+ghost use Rattle.std.specs.Prelude.{◌≡◌, ◌<◌, ◌++◌, length, map, All, IfOk, IfErr, OnOk, None};
 ghost use Rattle.std.specs.Ordering.{is_lt};
-ghost use Rattle.stack_rebuild.specs.private.Rows.{row_before, row_by, rows_at, rows_below};
+ghost use Rattle.stack_rebuild.specs.private.Rows.{row_before, row_by, rows_at, rows_for};
 ghost use Rattle.stack_rebuild.specs.private.Scanning.{AreSums};
 ghost use Rattle.stack_rebuild.specs.Stacks.{IsDeepFault, all_timed, deep_in, most_open, stack_of, told};
 
@@ -25,7 +25,8 @@ pub fn stacks(alloc: Global, trace: &Trace) -> Result<Vec<StackRow>, StackFault>
         IsDeepFault fault (deep_in most_open trace.now.blocks)) }
 {
     let sums = sums_of(alloc, trace.blocks.as_slice())?;
-    let mut rows = rows_of(alloc, &sums)?;
+    let order = sums.paths.in_order(alloc)?;
+    let mut rows = rows_of(alloc, &sums, order.as_slice())?;
     rows.sort_unstable_by(|row, other| compare(row, other));
     Ok(rows)
 }
@@ -45,14 +46,15 @@ fn sums_of(alloc: Global, blocks: &[Block]) -> Result<PathSums, StackFault>
     Ok(sums)
 }
 
-/// A row for each path that has a pair, in the order of the paths' numbers.
-fn rows_of(alloc: Global, sums: &PathSums) -> Result<Vec<StackRow>, NoMemory>
+/// A row for each of the paths with these numbers that has a pair, in the order of the numbers.
+fn rows_of(alloc: Global, sums: &PathSums, numbers: &[usize]) -> Result<Vec<StackRow>, NoMemory>
+    requires { All (λ number. number < length sums.now.paths) numbers.now }
     ensures { IfOk result (λ rows. map told rows.items
-        ≡ rows_below sums.now.paths sums.now.tallies.items (length sums.now.paths)) }
+        ≡ rows_for sums.now.paths sums.now.tallies.items numbers.now) }
 {
     let mut rows = Vec::new(alloc);
-    'listing: for number in 0..sums.paths.count() {
-        add_row(alloc, &mut rows, sums, number)?;
+    'listing: for number in numbers {
+        add_row(alloc, &mut rows, sums, *number)?;
     }
     Ok(rows)
 }

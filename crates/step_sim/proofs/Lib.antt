@@ -9,6 +9,7 @@ pub mod TurnLemmas
 pub mod OneThread
 pub mod AllThreads
 pub mod Bounds
+pub mod ScheduleFaults
 pub mod SaidTurns
 pub mod SomeReplay
 pub mod PoolLemmas

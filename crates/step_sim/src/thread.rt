@@ -67,6 +67,7 @@ fn next_word(cpu: &mut Cpu) -> Option<u32>
     ensures nearer { loads_left cpu.new ≤ loads_left cpu.old }
 {
     let_in(cpu);
+    passings_are_few(cpu);
     match cpu.want() {
         Want::Load(word) => Some(word),
         Want::Gate(_) | Want::Done(_) => None,

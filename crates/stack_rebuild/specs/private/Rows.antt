@@ -1,5 +1,6 @@
 -- Rows by the numbers of their paths, for the contracts of private functions.
-use Rattle.std.specs.Prelude.{◌++◌, Bool, ℕ, zero, suc, List, [], ◌∷◌, nat_lt, if◌then◌else◌, slice_index_or}
+use Rattle.std.specs.Prelude.{Bool, ℕ, List, [], ◌∷◌, nat_lt, if◌then◌else◌, slice_index_or}
+use Rattle.std.specs.List.{flat_map}
 use Rattle.std.specs.Ordering.{is_lt}
 use Rattle.stack_rebuild.specs.declared.path_sums.Tally.{Tally}
 use Rattle.stack_rebuild.specs.declared.stack_row.StackRow.{StackRow}
@@ -15,10 +16,9 @@ row_by path tally = record { path = path; count = tally.count; sum = tally.sum; 
 abbrev pub rows_at : List (List ℕ) → List Tally → ℕ → List PathRow
 rows_at paths tallies n = let tally = slice_index_or tallies n no_tally in if nat_lt 0 tally.count then row_by (path_at paths n) tally ∷ [] else []
 
--- the rows of the paths with lower numbers
-abbrev pub rows_below : List (List ℕ) → List Tally → ℕ → List PathRow
-rows_below paths tallies zero = []
-rows_below paths tallies (suc n) = rows_below paths tallies n ++ rows_at paths tallies n
+-- the rows of the paths with these numbers
+abbrev pub rows_for : List (List ℕ) → List Tally → List ℕ → List PathRow
+rows_for paths tallies numbers = flat_map (rows_at paths tallies) numbers
 
 -- whether a row's path comes before that of another row
 abbrev pub row_before : StackRow → StackRow → Bool
