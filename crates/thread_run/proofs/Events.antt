@@ -1,5 +1,5 @@
 -- The event that a load adds to those that a thread has recorded.
-use Rattle.std.proofs.Common.{◌≡◌, ℕ, ◌-◌, ◌<◌, ◌≤◌, ◌^◌, List, [], ◌∷◌, ◌++◌, subst, arith, length, length-append}
+use Rattle.std.proofs.Common.{◌≡◌, ◌-◌, ◌<◌, ◌≤◌, ◌^◌, List, [], ◌∷◌, ◌++◌, subst, arith, length, length-append}
 use Rattle.std.specs.Prelude.{All, IfSome, Option, Some, None}
 use Rattle.fdr_record.specs.declared.event.Event.{Event}
 use Rattle.handler_word.specs.declared.mark.Mark.{Mark}
