@@ -14,7 +14,8 @@ use Rattle.machine_step.specs.Traced.{IsAtEnd, IsDone, IsSameThread, MarksAdded,
 use Rattle.sled_rule.specs.declared.views.Load.{Load as SeatLoad}
 use Rattle.thread_run.specs.declared.worker.Worker.{Worker}
 use Rattle.thread_run.specs.Following.{is_held_by}
-use Rattle.thread_run.specs.Workers.{HasMade, HasTaken, IsSameWorker, cpu_of, loads_of}
+use Rattle.thread_run.specs.private.Steps.{HasTaken, IsBehind}
+use Rattle.thread_run.specs.Workers.{HasMade, IsSameWorker, cpu_of, loads_of}
 
 -- ---- the same worker
 
@@ -82,27 +83,21 @@ no_nearer old new word same was is added less =
     let left : loads_left new ≡ loads_left old = rw marks (rw same.program (rw same.limits (rw is (rw was refl)))) in
     omega (arith, less, left)
 
--- one more mark
-pub one_more : (old new : List Mark) (count : ℕ) (want : Want) → MarksAdded old new want → ((word : ℕ) → want ≡ Loads word → ⊥) → count ≡ length old
-    → count + 1 ≡ length new
-one_more old new count (Gate passing) (mark, e) other is = omega (arith, is, ap length e, length-append old (mark ∷ []))
-one_more old new count (Loads word) e other is = absurd (other word refl)
-one_more old new count (Done end) (mark, e) other is = omega (arith, is, ap length e, length-append old (mark ∷ []))
+-- the count of a seat after a load, before the passing that it ended is counted
+pub behind_after : (old new : List Mark) (count : ℕ) (want : Want) → MarksAdded old new want → count ≡ length old → IsBehind count new want
+behind_after old new count (Gate passing) (mark, e) is = omega (arith, is, ap length e, length-append old (mark ∷ []))
+behind_after old new count (Loads word) e is = is ∙ ap length (sym e)
+behind_after old new count (Done end) (mark, e) is = omega (arith, is, ap length e, length-append old (mark ∷ []))
 
--- no more marks
-pub no_more : (old new : List Mark) (count word : ℕ) (want : Want) → MarksAdded old new want → want ≡ Loads word → count ≡ length old → count ≡ length new
-no_more old new count word want added is count_is =
-    let marks : new ≡ old = subst (MarksAdded old new) is added in
-    count_is ∙ ap length (sym marks)
+-- a thread in its passing, and one whose passing has ended
+pub counts_all : (count : ℕ) (marks : List Mark) (found want : Want) (word : ℕ) → found ≡ want → found ≡ Loads word → IsBehind count marks want
+    → count ≡ length marks
+counts_all count marks found want word is load behind = subst (IsBehind count marks) (sym is ∙ load) behind
 
-pub gate_no_load : (passing word : ℕ) → ◌≡◌ {A = Want} (Gate passing) (Loads word) → ⊥
-gate_no_load passing word e = cc
-
-pub done_no_load : (end : End) (word : ℕ) → ◌≡◌ {A = Want} (Done end) (Loads word) → ⊥
-done_no_load end word e = cc
-
-pub same_load : (a b : ℕ) → ◌≡◌ {A = Want} (Loads a) (Loads b) → a ≡ b
-same_load a b e = cc
+pub leaves_one_out : (count : ℕ) (marks : List Mark) (found want : Want) → found ≡ want
+    → ((passing : ℕ) × (found ≡ Gate passing)) ⊎ ((end : End) × (found ≡ Done end)) → IsBehind count marks want → count + 1 ≡ length marks
+leaves_one_out count marks found want is (inl (passing, gate)) behind = subst (IsBehind count marks) (sym is ∙ gate) behind
+leaves_one_out count marks found want is (inr (end, done)) behind = subst (IsBehind count marks) (sym is ∙ done) behind
 
 -- a thread that wants nothing is at its end
 pub ended_so : (t : Traced) (want : Want) → t.want ≡ want → IsDone want → StandsAs t want → (end : End) × (t.want ≡ Done end) × IsAtEnd t end
@@ -123,10 +118,10 @@ opened_same old new e = record {
 -- ---- one load
 
 -- a thread that wants the same word again is held
-pub held_again : {R : Type 0} (stands : R → List Event → Type 0) (word : ℕ) (old new : Worker R) → (taken : HasTaken stands word old new)
+pub held_again : {R : Type 0} (word : ℕ) (old new : Worker R) → (taken : HasTaken word old new)
     → IsSameThread (cpu_of old) (cpu_of new) → (cpu_of old).want ≡ Loads word → (cpu_of new).want ≡ Loads word
     → is_held_by (cpu_of old).program (cpu_of old).thread (taken.load ∷ []) ≡ true
-held_again stands word old new taken same was is = by_held (is_held_by (cpu_of old).program (cpu_of old).thread (taken.load ∷ [])) refl
+held_again word old new taken same was is = by_held (is_held_by (cpu_of old).program (cpu_of old).thread (taken.load ∷ [])) refl
   where
     by_held : (held : Bool) → is_held_by (cpu_of old).program (cpu_of old).thread (taken.load ∷ []) ≡ held
         → is_held_by (cpu_of old).program (cpu_of old).thread (taken.load ∷ []) ≡ true
@@ -134,10 +129,10 @@ held_again stands word old new taken same was is = by_held (is_held_by (cpu_of o
     by_held false e = absurd (no_nearer (cpu_of old) (cpu_of new) word same was is taken.marks (taken.goes_on e))
 
 -- a thread that wants anything else isn't
-pub moved_on : {R : Type 0} (stands : R → List Event → Type 0) (word : ℕ) (old new : Worker R) → (taken : HasTaken stands word old new)
+pub moved_on : {R : Type 0} (word : ℕ) (old new : Worker R) → (taken : HasTaken word old new)
     → (cpu_of old).want ≡ Loads word → ((cpu_of new).want ≡ Loads word → ⊥)
     → is_held_by (cpu_of old).program (cpu_of old).thread (taken.load ∷ []) ≡ false
-moved_on stands word old new taken was moved = by_held (is_held_by (cpu_of old).program (cpu_of old).thread (taken.load ∷ [])) refl
+moved_on word old new taken was moved = by_held (is_held_by (cpu_of old).program (cpu_of old).thread (taken.load ∷ [])) refl
   where
     by_held : (held : Bool) → is_held_by (cpu_of old).program (cpu_of old).thread (taken.load ∷ []) ≡ held
         → is_held_by (cpu_of old).program (cpu_of old).thread (taken.load ∷ []) ≡ false
@@ -154,9 +149,3 @@ pub none_noted : {R : Type 0} (stands : R → List Event → Type 0) (recorder :
     → stands recorder [] → stands recorder (recorded passed marks)
 none_noted stands recorder passed marks none is =
     subst (λ (ms : List Mark). stands recorder (recorded passed ms)) (sym none) (subst (stands recorder) (sym (none_recorded passed)) is)
-
--- a want that is a gate or an end isn't a load
-pub no_load : (found want : Want) → found ≡ want → ((passing : ℕ) × (found ≡ Gate passing)) ⊎ ((end : End) × (found ≡ Done end))
-    → (word : ℕ) → want ≡ Loads word → ⊥
-no_load found want is (inl (passing, gate)) word wants = gate_no_load passing word (sym gate ∙ is ∙ wants)
-no_load found want is (inr (end, done)) word wants = done_no_load end word (sym done ∙ is ∙ wants)

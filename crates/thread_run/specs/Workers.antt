@@ -1,5 +1,5 @@
 -- What is true of a worker: a traced thread that makes its loads from a table by its seat, and notes its events.
-use Rattle.std.specs.Prelude.{◌≡◌, ◌≢◌, ◌<◌, ◌≤◌, ◌++◌, ℕ, List, [], ◌∷◌, length, All, Bool, true, false}
+use Rattle.std.specs.Prelude.{◌≡◌, ◌≢◌, ◌<◌, ◌≤◌, ◌++◌, ℕ, List, [], length, All, Bool}
 use Rattle.xray_image.specs.Program.{IsAccepted}
 use Rattle.sled_words.specs.Words.{release_word}
 use Rattle.patch_script.specs.Micros.{hold_of, start_of, total_of}
@@ -11,7 +11,7 @@ use Rattle.machine_step.specs.declared.want.Want.TheVariants.{Done}
 use Rattle.machine_step.specs.Events.{recorded}
 use Rattle.machine_step.specs.Loads.{Load}
 use Rattle.machine_step.specs.PlainStep.{Passing}
-use Rattle.machine_step.specs.Traced.{HasLoaded, IsAtEnd, IsSameThread, MarksAdded, Traced, loads_left, sleds_of}
+use Rattle.machine_step.specs.Traced.{HasLoaded, IsAtEnd, IsSameThread, Traced, sleds_of}
 use Rattle.sled_rule.specs.declared.seats.WorkSeat.{WorkSeat}
 use Rattle.sled_rule.specs.declared.table.CodeTable.{CodeTable}
 use Rattle.sled_rule.specs.declared.views.Load.{Load as SeatLoad}
@@ -107,18 +107,6 @@ pub record HasMade {R : Type 0} (held : Bool) (old new : Worker R) : Type 0 wher
   pub made : List SeatLoad
   pub loads : loads_of new ≡ loads_of old ++ made
   pub held_is : is_held_by (cpu_of old).program (cpu_of old).thread made ≡ held
-
--- It has made one more load, of this word. If that ended its passing, the thread has one more mark, which isn't counted
--- yet. If that held the thread, it wants the same word again.
-pub record HasTaken {R : Type 0} (stands : R → List Event → Type 0) (word : ℕ) (old new : Worker R) : Type 0 where
-  pub at : IsAtWork stands new
-  pub count : (work_view (seat_of new)).count ≡ length (cpu_of old).marks
-  pub marks : MarksAdded (cpu_of old).marks (cpu_of new).marks (cpu_of new).want
-  pub load : SeatLoad
-  pub word_is : load.word ≡ word
-  pub loads : loads_of new ≡ loads_of old ++ load ∷ []
-  pub held : is_held_by (cpu_of old).program (cpu_of old).thread (load ∷ []) ≡ true → cpu_of new ≡ cpu_of old
-  pub goes_on : is_held_by (cpu_of old).program (cpu_of old).thread (load ∷ []) ≡ false → loads_left (cpu_of new) < loads_left (cpu_of old)
 
 -- a worker has run to its end
 pub record HasRunOut {R : Type 0} (stands : R → List Event → Type 0) (follows : R → R → Type 0) (old new : Worker R) : Type 0 where

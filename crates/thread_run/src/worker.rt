@@ -1,8 +1,7 @@
 //! One traced thread of a run.
 
-ghost use Rattle.std.specs.Prelude.{◌≡◌, ◌≢◌, ◌<◌, ◌↔◌, ◌+◌, ◌-◌, ◌^◌, ◌++◌, [], List, length, true, false, IfSome, IsTrue};
+ghost use Rattle.std.specs.Prelude.{◌≡◌, ◌<◌, ◌↔◌, ◌+◌, ◌-◌, ◌^◌, ℕ, [], List, Some, length, true, false, IfSome, IsSome, IsTrue};
 ghost use Rattle.fdr_record.specs.declared.event.Event.{Event};
-ghost use Rattle.machine_step.specs.Events.{events_in};
 ghost use Rattle.sled_rule.specs.Seats.{patch_view, work_view, script_of, IsPatcherOf, IsWorkerOf};
 ghost use Rattle.sled_rule.specs.Plans.{start_in};
 ghost use Rattle.sled_rule.specs.Views.{giving};
@@ -39,7 +38,8 @@ pub struct Worker<'s, 't, R> {
 }
 
 impl<'s, 't, R: Recorder> Worker<'s, 't, R> {
-    ghost use Rattle.thread_run.specs.Workers.{cpu_of, seat_of, table_of, recorder_of, loads_of, HasEnded, HasMade, HasTaken, IsAtWork, IsFreshIn, IsFreshThread, IsGoing, IsSameWorker};
+    ghost use Rattle.thread_run.specs.Workers.{cpu_of, seat_of, table_of, recorder_of, loads_of, HasEnded, HasMade, IsAtWork, IsFreshIn, IsFreshThread, IsGoing, IsSameWorker};
+    ghost use Rattle.thread_run.specs.private.Steps.{CountIsBehind, HasTaken, Lacks};
 
     /// A worker before its first load.
     pub fn new(cpu: Cpu<'s>, seat: WorkSeat, table: &'t CodeTable, recorder: R) -> Self
@@ -93,12 +93,15 @@ impl<'s, 't, R: Recorder> Worker<'s, 't, R> {
         'loads: loop {
             match want {
                 Want::Gate(passing) => want = self.open(gate, passing),
-                Want::Load(word) => {
-                    want = self.load(word);
-                    if is_load(want, word) {
-                        return Turn::Held;
+                Want::Load(word) => match self.take(word) {
+                    Some(event) => want = self.note(event),
+                    None => {
+                        want = self.go_on();
+                        if is_load(want, word) {
+                            return Turn::Held;
+                        }
                     }
-                }
+                },
                 Want::Done(_) => {
                     self.finish();
                     return Turn::Done;
@@ -124,22 +127,56 @@ impl<'s, 't, R: Recorder> Worker<'s, 't, R> {
         self.cpu.want()
     }
 
-    /// Makes the load of the word that the thread wants. If that ends the passing, counts it.
-    /// Answers what the thread wants then: the same word again if its release word held it.
-    fn load(&mut self, word: u32) -> Want
+    /// Loads the word that the thread wants, and gives it the value. Answers the event that comes of
+    /// it, for the recorder. There is one only if the load ends the passing.
+    fn take(&mut self, word: u32) -> Option<Event>
         requires going { IsGoing R.stands self.old }
         requires wants { (cpu_of self.old).want ≡ Want.Load word }
         requires there { IsLoadable (cpu_of self.old) (cpu_of self.old).want }
         ensures same { IsSameWorker R.follows self.old self.new }
+        ensures taken { HasTaken word self.old self.new }
+        ensures lacks { Lacks R.stands result self.new }
+        ensures id { IfSome result (λ event. event.func < 2 ^ 28) }
+        ensures room { IfSome result (λ event. (events : List Event)
+            × R.stands (recorder_of self.new) events × (length events < 2 ^ 32 - 1)) }
+        ensures ends { IsSome result → (next : ℕ) → (cpu_of self.new).want ≡ Want.Load next → ⊥ }
+    {
+        let value = self.table.fetch(&mut self.seat, word);
+        let event = self.cpu.give(value);
+        // Called for its contract: the passings, and so the events, fit 32 bits.
+        self.cpu.passings();
+        event
+    }
+
+    /// Notes the event of a load, and goes on.
+    fn note(&mut self, event: Event) -> Want
+        requires lacks { Lacks R.stands (Some event) self.old }
+        requires behind { CountIsBehind self.old }
+        requires id { event.func < 2 ^ 28 }
+        requires room { (events : List Event)
+            × R.stands (recorder_of self.old) events × (length events < 2 ^ 32 - 1) }
+        ensures same { IsSameWorker R.follows self.old self.new }
         ensures going { IsGoing R.stands self.new }
-        ensures held { (result ≡ Want.Load word) → HasMade true self.old self.new }
-        ensures loaded { (result ≢ Want.Load word) → HasMade false self.old self.new }
-        ensures nearer { (result ≢ Want.Load word)
-            → loads_left (cpu_of self.new) < loads_left (cpu_of self.old) }
+        ensures cpu { cpu_of self.new ≡ cpu_of self.old }
+        ensures loads { loads_of self.new ≡ loads_of self.old }
         ensures want { result ≡ (cpu_of self.new).want }
         ensures there { IsLoadable (cpu_of self.new) (cpu_of self.new).want }
     {
-        self.take(word);
+        self.recorder.note(event);
+        self.go_on()
+    }
+
+    /// Counts the passing if the last load ended it. Answers what the thread wants next.
+    fn go_on(&mut self) -> Want
+        requires at { IsAtWork R.stands self.old }
+        requires behind { CountIsBehind self.old }
+        ensures same { IsSameWorker R.follows self.old self.new }
+        ensures going { IsGoing R.stands self.new }
+        ensures cpu { cpu_of self.new ≡ cpu_of self.old }
+        ensures loads { loads_of self.new ≡ loads_of self.old }
+        ensures want { result ≡ (cpu_of self.new).want }
+        ensures there { IsLoadable (cpu_of self.new) (cpu_of self.new).want }
+    {
         let next = self.cpu.want();
         match next {
             Want::Load(_) => next,
@@ -148,22 +185,6 @@ impl<'s, 't, R: Recorder> Worker<'s, 't, R> {
                 next
             }
         }
-    }
-
-    /// Loads a word, gives its value to the thread, and notes the event that results, if there is
-    /// one.
-    fn take(&mut self, word: u32)
-        requires going { IsGoing R.stands self.old }
-        requires wants { (cpu_of self.old).want ≡ Want.Load word }
-        requires there { IsLoadable (cpu_of self.old) (cpu_of self.old).want }
-        ensures same { IsSameWorker R.follows self.old self.new }
-        ensures loaded { HasTaken R.stands word self.old self.new }
-    {
-        let value = self.table.fetch(&mut self.seat, word);
-        let event = self.cpu.give(value);
-        // Called for its contract: the passings, and so the events, fit 32 bits.
-        self.cpu.passings();
-        note_any(&mut self.recorder, event);
     }
 
     /// Counts one more passing in the table.
@@ -211,19 +232,5 @@ fn is_load(want: Want, word: u32) -> bool
     match want {
         Want::Load(next) => next == word,
         Want::Gate(_) | Want::Done(_) => false,
-    }
-}
-
-/// Notes the event of a load, if there is one.
-fn note_any<R: Recorder>(recorder: &mut R, event: Option<Event>)
-    requires id { IfSome event (λ event. event.func < 2 ^ 28) }
-    requires room { IfSome event (λ event. (events : List Event)
-        × R.stands recorder.old events × (length events < 2 ^ 32 - 1)) }
-    ensures noted { (events : List Event) → R.stands recorder.old events
-        → R.stands recorder.new (events ++ events_in event) }
-    ensures follows { R.follows recorder.old recorder.new }
-{
-    if let Some(event) = event {
-        recorder.note(event);
     }
 }

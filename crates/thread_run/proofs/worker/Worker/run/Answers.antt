@@ -1,6 +1,10 @@
-use Rattle.std.proofs.Common.{true, false, refl, sym, ◌∙◌}
+use Rattle.std.proofs.Common.{◌≡◌, ◌<◌, append-nil, ap, subst, true, false, refl, sym, ◌∙◌}
 use Rattle.std.proofs.lemmas.Bool.{false≢true}
-use Rattle.thread_run.proofs.Turns.{made_none, made_then, worker_again, worker_then}
+use Rattle.machine_step.specs.declared.want.Want.TheVariants.{Load as Loads}
+use Rattle.machine_step.specs.Traced.{Traced, loads_left}
+use Rattle.sled_rule.specs.Seats.{work_view}
+use Rattle.thread_run.specs.Workers.{cpu_of, seat_of}
+use Rattle.thread_run.proofs.Turns.{behind_after, held_again, made_none, made_one, made_then, moved_on, worker_again, worker_then}
 use Rattle.thread_run.proofs.worker.Worker.run.Goals as goal
 
 pub loads-init : goal.loads-init
@@ -28,33 +32,94 @@ loads-preserved-in-Gate g c =
       there = c.open-want.ensures.there;
     }
 
-pub returns-then-is_load-clause-same : goal.returns-then-is_load-clause-same
-returns-then-is_load-clause-same g c =
-    worker_then g.R.Recorder.follows g.met.R.Recorder.follows_along c.args.self.now c.loads.self c.load-want.new.self c.loads.invariant.same c.load-want.ensures.same
+pub note-want-requires-clause-behind : goal.note-want-requires-clause-behind
+note-want-requires-clause-behind g c =
+    let taken = c.in-Some.ensures.taken in
+    behind_after c.loads.self.cpu.marks c.take.new.self.cpu.marks (work_view (seat_of c.take.new.self)).count c.take.new.self.cpu.want taken.marks taken.count
 
-pub returns-then-is_load-clause-held : goal.returns-then-is_load-clause-held
-returns-then-is_load-clause-held g c = λ is. (
-  c.load-want.ensures.going,
-  made_then true c.args.self.now c.loads.self c.load-want.new.self c.loads.invariant.same.thread c.loads.invariant.made (c.load-want.ensures.held (c.is_load.ensures.0 c.if-is_load.true)),
-)
+pub go_on-want-requires-clause-at : goal.go_on-want-requires-clause-at
+go_on-want-requires-clause-at g c =
+    let mid = c.take.new.self in
+    c.in-None.ensures.lacks.once mid.recorder (λ events stands. subst (g.R.Recorder.stands mid.recorder) (sym (append-nil events)) stands)
 
-pub loads-smaller : goal.loads-smaller
-loads-smaller g c = c.load-want.ensures.nearer (λ is. false≢true (sym c.if-is_load.false ∙ c.is_load.ensures.1 is))
-
-pub loads-preserved : goal.loads-preserved
-loads-preserved g c =
-    let first = c.args.self.now in
-    let mid = c.loads.self in
-    let new = c.load-want.new.self in
-    let kept = c.loads.invariant in
-    record {
-      going = c.load-want.ensures.going;
-      same = worker_then g.R.Recorder.follows g.met.R.Recorder.follows_along first mid new kept.same c.load-want.ensures.same;
-      made = made_then false first mid new kept.same.thread kept.made (c.load-want.ensures.loaded (λ is. false≢true (sym c.if-is_load.false ∙ c.is_load.ensures.1 is)));
-      want = c.load-want.ensures.want;
-      there = c.load-want.ensures.there;
-    }
+pub go_on-want-requires-clause-behind : goal.go_on-want-requires-clause-behind
+go_on-want-requires-clause-behind g c =
+    let taken = c.in-None.ensures.taken in
+    behind_after c.loads.self.cpu.marks c.take.new.self.cpu.marks (work_view (seat_of c.take.new.self)).count c.take.new.self.cpu.want taken.marks taken.count
 
 pub returns-in-Done-clause-same : goal.returns-in-Done-clause-same
 returns-in-Done-clause-same g c =
     worker_then g.R.Recorder.follows g.met.R.Recorder.follows_along c.args.self.now c.loads.self c.finish.new.self c.loads.invariant.same c.finish.ensures.same
+
+pub loads-smaller-in-Some : goal.loads-smaller-in-Some
+loads-smaller-in-Some g c =
+    let old = c.loads.self in
+    let taken = c.in-Some.ensures.taken in
+    let on = moved_on c.in-Load.word old c.take.new.self taken (sym c.loads.invariant.want ∙ c.in-Load.is) (c.in-Some.ensures.ends refl c.in-Load.word) in
+    subst (λ (t : Traced). loads_left t < loads_left (cpu_of old)) (sym c.note-want.ensures.cpu) (taken.goes_on on)
+
+pub loads-preserved-in-Some : goal.loads-preserved-in-Some
+loads-preserved-in-Some g c =
+    let first = c.args.self.now in
+    let old = c.loads.self in
+    let mid = c.take.new.self in
+    let new = c.note-want.new.self in
+    let kept = c.loads.invariant in
+    let taken = c.in-Some.ensures.taken in
+    let on = moved_on c.in-Load.word old mid taken (sym kept.want ∙ c.in-Load.is) (c.in-Some.ensures.ends refl c.in-Load.word) in
+    let same = worker_then g.R.Recorder.follows g.met.R.Recorder.follows_along old mid new c.in-Some.ensures.same c.note-want.ensures.same in
+    record {
+      going = c.note-want.ensures.going;
+      same = worker_then g.R.Recorder.follows g.met.R.Recorder.follows_along first old new kept.same same;
+      made = made_then false first old new kept.same.thread kept.made (made_one false old new taken.load (c.note-want.ensures.loads ∙ taken.loads) on);
+      want = c.note-want.ensures.want;
+      there = c.note-want.ensures.there;
+    }
+
+pub returns-then-is_load-clause-same : goal.returns-then-is_load-clause-same
+returns-then-is_load-clause-same g c =
+    let old = c.loads.self in
+    let new = c.go_on-want.new.self in
+    worker_then g.R.Recorder.follows g.met.R.Recorder.follows_along c.args.self.now old new c.loads.invariant.same
+    (worker_then g.R.Recorder.follows g.met.R.Recorder.follows_along old c.take.new.self new c.in-None.ensures.same c.go_on-want.ensures.same)
+
+pub returns-then-is_load-clause-held : goal.returns-then-is_load-clause-held
+returns-then-is_load-clause-held g c = λ is.
+    let old = c.loads.self in
+    let mid = c.take.new.self in
+    let new = c.go_on-want.new.self in
+    let kept = c.loads.invariant in
+    let taken = c.in-None.ensures.taken in
+    let again : mid.cpu.want ≡ Loads c.in-Load.word =
+    ap (λ (t : Traced). t.want) (sym c.go_on-want.ensures.cpu) ∙ sym c.go_on-want.ensures.want ∙ c.is_load.ensures.0 c.if-is_load.true in
+    let held = held_again c.in-Load.word old mid taken c.in-None.ensures.same.thread (sym kept.want ∙ c.in-Load.is) again in (
+      c.go_on-want.ensures.going,
+      made_then true c.args.self.now old new kept.same.thread kept.made (made_one true old new taken.load (c.go_on-want.ensures.loads ∙ taken.loads) held),
+    )
+
+pub loads-smaller : goal.loads-smaller
+loads-smaller g c =
+    let old = c.loads.self in
+    let taken = c.in-None.ensures.taken in
+    let on = moved_on c.in-Load.word old c.take.new.self taken (sym c.loads.invariant.want ∙ c.in-Load.is)
+    (λ again. false≢true (sym c.if-is_load.false ∙ c.is_load.ensures.1 (c.go_on-want.ensures.want ∙ ap (λ (t : Traced). t.want) c.go_on-want.ensures.cpu ∙ again))) in
+    subst (λ (t : Traced). loads_left t < loads_left (cpu_of old)) (sym c.go_on-want.ensures.cpu) (taken.goes_on on)
+
+pub loads-preserved : goal.loads-preserved
+loads-preserved g c =
+    let first = c.args.self.now in
+    let old = c.loads.self in
+    let mid = c.take.new.self in
+    let new = c.go_on-want.new.self in
+    let kept = c.loads.invariant in
+    let taken = c.in-None.ensures.taken in
+    let on = moved_on c.in-Load.word old mid taken (sym kept.want ∙ c.in-Load.is)
+    (λ again. false≢true (sym c.if-is_load.false ∙ c.is_load.ensures.1 (c.go_on-want.ensures.want ∙ ap (λ (t : Traced). t.want) c.go_on-want.ensures.cpu ∙ again))) in
+    let same = worker_then g.R.Recorder.follows g.met.R.Recorder.follows_along old mid new c.in-None.ensures.same c.go_on-want.ensures.same in
+    record {
+      going = c.go_on-want.ensures.going;
+      same = worker_then g.R.Recorder.follows g.met.R.Recorder.follows_along first old new kept.same same;
+      made = made_then false first old new kept.same.thread kept.made (made_one false old new taken.load (c.go_on-want.ensures.loads ∙ taken.loads) on);
+      want = c.go_on-want.ensures.want;
+      there = c.go_on-want.ensures.there;
+    }
