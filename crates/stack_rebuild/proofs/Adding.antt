@@ -6,7 +6,7 @@ use Rattle.std.proofs.lemmas.List.{append-nil, get_or-map, length-map, take-appe
 use Rattle.std.proofs.lemmas.List.Concat.{flat_map-append}
 use Rattle.std.proofs.lemmas.List.Elements.{filter-append}
 use Rattle.fdr_file.specs.declared.trace.Block.{Block}
-use Rattle.stack_rebuild.specs.declared.path_sums.Tally.{Tally}
+use Rattle.stack_rebuild.specs.declared.tally.Tally.{Tally}
 use Rattle.stack_rebuild.specs.declared.stack_row.StackFault.{StackFault}
 use Rattle.stack_rebuild.specs.declared.stack_row.StackFault.TheVariants.{Deep, NoMemory}
 use Rattle.stack_rebuild.specs.declared.thread_blocks.ThreadBlocks.{ThreadBlocks}

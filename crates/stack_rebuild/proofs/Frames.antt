@@ -13,7 +13,7 @@ use Rattle.fdr_record.specs.declared.event.Kind.{Kind}
 use Rattle.fdr_record.specs.declared.event.Kind.TheVariants.{Entry, Exit, TailExit}
 use Rattle.stack_rebuild.specs.declared.call.Call.{Call}
 use Rattle.stack_rebuild.specs.declared.call.Pair.{Pair}
-use Rattle.stack_rebuild.specs.declared.path_sums.Tally.{Tally}
+use Rattle.stack_rebuild.specs.declared.tally.Tally.{Tally}
 use Rattle.stack_rebuild.specs.declared.thread_stack.Frame.{Frame}
 use Rattle.stack_rebuild.specs.Calls.{Standing, cycles_between, from_innermost, left_open, next_standing, open_after, open_after_kind, open_calls, pair_at, pair_of_call, standing_after}
 use Rattle.stack_rebuild.specs.Stacks.{Timed, is_innermost, path_of, spent_in, timed_in}

@@ -3,7 +3,7 @@ use Rattle.std.specs.Prelude.{◌≡◌, ◌<◌, ◌≤◌, ◌+◌, ◌-◌, �
 use Rattle.std.specs.HashMap.{get, HashMap}
 use Rattle.std.specs.declared.hash.FoldHasher.{FoldHasher}
 use Rattle.std.specs.declared.hash.BuildHasherDefault.{BuildHasherDefault}
-use Rattle.stack_rebuild.specs.declared.path_numbers.Step.{Step}
+use Rattle.stack_rebuild.specs.declared.node.Step.{Step}
 
 -- the path with this number
 abbrev pub path_at : List (List ℕ) → ℕ → List ℕ

@@ -11,7 +11,7 @@ abbrev pub invariant-going : goal.invariant-going
 invariant-going l = record {
   within : AreWithin l.sums.paths l.stack.frames.items;
   stands : l.stack.calls ≡ standing_after (reverse (events_at l.blocks (take l.place-index l.places)));
-  follows : (pairs : List Timed) → AreSums l.fn.sums.paths l.fn.sums.tallies.items pairs
-      → Follows l.stack.calls l.stack.frames.items l.sums.paths l.sums.tallies.items pairs (reverse (events_at l.blocks (take l.place-index l.places)));
+  follows : (pairs : List Timed) → AreSums l.fn.sums.paths l.fn.sums.tallies pairs
+      → Follows l.stack.calls l.stack.frames.items l.sums.paths l.sums.tallies pairs (reverse (events_at l.blocks (take l.place-index l.places)));
   shallow : gets_deep MOST_OPEN (reverse (events_at l.blocks (take l.place-index l.places))) ≡ false;
 }
