@@ -1,17 +1,18 @@
 -- A command and its row in the table.
 use Rattle.std.proofs.Common.{◌≡◌, ◌∙◌, ◌&&◌, ℕ, Bool, true, false, List, [], ◌∷◌, Option, Some, None, refl, sym, ap}
-use Rattle.std.specs.Prelude.{if◌then◌else◌, option_and_then}
+use Rattle.std.specs.Prelude.{if◌then◌else◌, option_and_then, option_map}
 use Rattle.std.specs.Str.{bytes_eq}
 use Rattle.xray_io.specs.declared.faults.Wall.{Wall}
-use Rattle.command_words.specs.Files.{AreOfTheirRows, IsOfItsRow, OutputsAreOfTheRow, names_of, row_of}
+use Rattle.command_words.specs.Files.{AreOfTheirRows, IsOfItsRow, OutputsAreOfTheRow, named_in, names_of, row_of}
 use Rattle.command_words.specs.Items.{Item, files_of, items_of}
 use Rattle.command_words.specs.Lines.{Line, is_cut, line_by, line_of, number_in, outputs_differ}
+use Rattle.command_words.specs.Numbers.{number_of}
 use Rattle.command_words.specs.Reports.{account_options_in, choice_in, stack_formats}
 use Rattle.command_words.specs.Rows.{CommandRow}
 use Rattle.command_words.specs.Tables.{account_row, asm_row, convert_row, extract_row, plain_row, run_row, sim_row}
-use Rattle.command_words.specs.Tables.{convert_format_option, stack_format_option, stack_row, threshold_option}
-use Rattle.command_words.specs.Words.{Command, Sim, Run, Plain, Extract, Asm, Account, Stack, Convert}
-use Rattle.command_words.specs.Words.{account_in, asm_in, bounds_in, convert_in, extract_in, plain_in, run_in, run_options_in, sim_in, stack_in}
+use Rattle.command_words.specs.Tables.{convert_format_option, seeds, soak_row, stack_format_option, stack_row, threshold_option}
+use Rattle.command_words.specs.Words.{Command, Sim, Run, Plain, Extract, Asm, Account, Stack, Convert, Soak}
+use Rattle.command_words.specs.Words.{account_in, asm_in, bounds_in, convert_in, extract_in, plain_in, run_in, run_options_in, sim_in, soak_in, stack_in}
 use Rattle.command_words.specs.declared.report_options.AccountOptions.{AccountOptions}
 use Rattle.command_words.specs.declared.report_options.StackFormat.{StackFormat}
 use Rattle.command_words.specs.declared.run_options.Bounds.{Bounds}
@@ -21,7 +22,7 @@ use Rattle.command_words.proofs.Texts.{equal_texts}
 -- a command of this row names these files
 record IsOf (row : CommandRow) (names : List (List ℕ)) (command : Command) : Type 0 where
   row_is : row_of command ≡ row
-  names_are : names_of command ≡ names
+  names_are : names_of command ≡ named_in row.files names
 
 same : (one other : Command) → Some one ≡ Some other → one ≡ other
 same one other e = cc
@@ -140,6 +141,20 @@ convert_of line command says = go line.files (number_in convert_format_option li
     go [] yaml e f = absurd (never command (rw e at says))
     go (a ∷ b ∷ c ∷ names) yaml e f = absurd (never command (rw e at says))
 
+soak_of : (line : Line) (command : Command) → soak_in line ≡ Some command → IsOf soak_row line.files command
+soak_of line command says = go line.files refl
+  where
+    by_number : (seed : List ℕ) (number : Option ℕ) → option_map Soak number ≡ Some command → IsOf soak_row (seed ∷ []) command
+    by_number seed (Some number) says =
+        let is : Soak number ≡ command = same _ _ says in
+        rw (sym is) (record { row_is = refl; names_are = refl })
+    by_number seed None says = absurd (never command says)
+
+    go : (names : List (List ℕ)) → line.files ≡ names → IsOf soak_row line.files command
+    go (seed ∷ []) e = rw e (by_number seed (number_of seeds seed) (rw e at says))
+    go [] e = absurd (never command (rw e at says))
+    go (a ∷ b ∷ names) e = absurd (never command (rw e at says))
+
 -- the outputs of each
 pub outputs_of_row : OutputsAreOfTheRow
 outputs_of_row (Sim image script schedule trace audit options) = refl
@@ -153,6 +168,7 @@ outputs_of_row (Stack trace None format) = refl
 outputs_of_row (Stack trace (Some image) format) = refl
 outputs_of_row (Convert trace None) = refl
 outputs_of_row (Convert trace (Some image)) = refl
+outputs_of_row (Soak number) = refl
 
 -- ---- all words
 
@@ -177,7 +193,7 @@ branch word words command row mine other is later says = go (bytes_eq word row.w
         let of = is says in
         record {
           word_is = equal_texts word row.word e ∙ ap (λ (r : CommandRow). r.word) (sym of.row_is);
-          names_are = of.names_are;
+          names_are = of.names_are ∙ ap (λ (r : CommandRow). named_in r.files (files_of (items_of words))) (sym of.row_is);
         }
     go false e says = later says
 
@@ -192,4 +208,5 @@ of_their_rows wall word words command says =
     (branch word words command account_row _ _ (of_line account_in account_row items command (λ line. account_of line command))
     (branch word words command stack_row _ _ (of_line stack_in stack_row items command (λ line. stack_of line command))
     (branch word words command convert_row _ _ (of_line convert_in convert_row items command (λ line. convert_of line command))
-    (λ no. absurd (never command no))))))))) says
+    (branch word words command soak_row _ _ (of_line soak_in soak_row items command (λ line. soak_of line command))
+    (λ no. absurd (never command no)))))))))) says

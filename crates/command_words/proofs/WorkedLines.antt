@@ -2,7 +2,7 @@
 use Rattle.std.proofs.Common.{◌≡◌, ℕ, List, [], ◌∷◌, Option, Some, None, refl}
 use Rattle.std.specs.Prelude.{codes}
 use Rattle.xray_io.specs.declared.faults.Wall.{Wall}
-use Rattle.command_words.specs.Words.{Command, Sim, Plain, Extract, Asm, outputs_named, reading}
+use Rattle.command_words.specs.Words.{Command, Sim, Plain, Extract, Asm, Soak, outputs_named, reading}
 
 -- a wall time that is passed in
 noon : Wall
@@ -79,3 +79,13 @@ over_script = refl
 
 one_output : says (codes "sim" ∷ codes "i" ∷ codes "s" ∷ codes "c" ∷ codes "t" ∷ codes "t" ∷ []) ≡ None
 one_output = refl
+
+-- a number that stands in the place of a file: any of 64 bits
+seed : says (codes "soak" ∷ codes "+01" ∷ []) ≡ Some (Soak 1)
+seed = refl
+
+seed_of_65_bits : says (codes "soak" ∷ codes "18446744073709551616" ∷ []) ≡ None
+seed_of_65_bits = refl
+
+no_seed : says (codes "soak" ∷ []) ≡ None
+no_seed = refl

@@ -3,10 +3,10 @@ use Rattle.std.specs.Prelude.{◌≡◌, ℕ, List, [], ◌∷◌, if◌then◌e
 use Rattle.xray_io.specs.declared.faults.Wall.{Wall}
 use Rattle.command_words.specs.Items.{files_of, items_of}
 use Rattle.command_words.specs.Lines.{outputs_in}
-use Rattle.command_words.specs.Rows.{CommandRow, FileRow, is_output}
+use Rattle.command_words.specs.Rows.{CommandRow, FileRow, is_output, names_file}
 use Rattle.command_words.specs.Tables.{account_row, asm_row, convert_row, extract_row, plain_row, run_row, sim_row}
-use Rattle.command_words.specs.Tables.{stack_row}
-use Rattle.command_words.specs.Words.{Command, Sim, Run, Plain, Extract, Asm, Account, Stack, Convert, outputs_of, reading}
+use Rattle.command_words.specs.Tables.{soak_row, stack_row}
+use Rattle.command_words.specs.Words.{Command, Sim, Run, Plain, Extract, Asm, Account, Stack, Convert, Soak, outputs_of, reading}
 
 -- ---- a line for each command
 
@@ -20,6 +20,7 @@ row_of (Asm text image threshold) = asm_row
 row_of (Account trace image options) = account_row
 row_of (Stack trace image format) = stack_row
 row_of (Convert trace image) = convert_row
+row_of (Soak number) = soak_row
 
 -- a trace, and an image if one is named
 abbrev pub report_names : (trace : List ℕ) → (image : Option (List ℕ)) → List (List ℕ)
@@ -36,6 +37,7 @@ names_of (Asm text image threshold) = text ∷ image ∷ []
 names_of (Account trace image options) = report_names trace image
 names_of (Stack trace image format) = report_names trace image
 names_of (Convert trace image) = report_names trace image
+names_of (Soak number) = []
 
 -- ---- by the roles of the row
 
@@ -45,10 +47,16 @@ inputs_in (file ∷ files) (name ∷ names) =
     if is_output file then inputs_in files names else name ∷ inputs_in files names
 inputs_in _ _ = []
 
+-- the words that name files
+abbrev pub named_in : List FileRow → (words : List (List ℕ)) → List (List ℕ)
+named_in (file ∷ files) (word ∷ words) =
+    if names_file file.role then word ∷ named_in files words else named_in files words
+named_in _ _ = []
+
 -- A command that words say is the one of its row. Its files are those that the words name, in the order of the row.
 pub record IsOfItsRow (word : List ℕ) (words : List (List ℕ)) (command : Command) : Type 0 where
   pub word_is : word ≡ (row_of command).word
-  pub names_are : names_of command ≡ files_of (items_of words)
+  pub names_are : names_of command ≡ named_in (row_of command).files (files_of (items_of words))
 
 -- so is each command that words say
 abbrev pub AreOfTheirRows : Type 0

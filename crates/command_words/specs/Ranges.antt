@@ -1,13 +1,13 @@
 -- The ranges of what a command holds. They are what the machine that replays a schedule asks of its setup and of its
 -- threads' limits.
-use Rattle.std.specs.Prelude.{◌≢◌, ◌+◌, ◌*◌, ◌≤◌, ℕ, IfSome}
+use Rattle.std.specs.Prelude.{◌≢◌, ◌+◌, ◌*◌, ◌≤◌, ◌<◌, ◌^◌, ℕ, IfSome}
 use Rattle.fdr_buffer.specs.declared.buffer.TheConstants.{LARGEST_SIZE, LEAST_SIZE, MOST_BUFFERS}
 use Rattle.command_words.specs.declared.run_options.Bounds.{Bounds}
 use Rattle.command_words.specs.declared.run_options.Buffers.{Buffers}
 use Rattle.command_words.specs.declared.run_options.RunOptions.{RunOptions}
 use Rattle.command_words.specs.declared.run_options.Stamps.{Stamps}
 use Rattle.command_words.specs.Limits.{most_cpus, most_fuel, most_passings, most_pid, most_stay, most_threads, trace_limit}
-use Rattle.command_words.specs.Words.{Command, Sim, Run, Plain, Extract, Asm, Account, Stack, Convert}
+use Rattle.command_words.specs.Words.{Command, Sim, Run, Plain, Extract, Asm, Account, Stack, Convert, Soak}
 
 -- there may be this many threads: at least one, and at most `most_threads`
 abbrev pub IsThreadCount : ℕ → Type 0
@@ -49,3 +49,4 @@ HasRanges (Asm text image threshold) = threshold ≤ 4294967295
 HasRanges (Account trace image options) = IfSome options.top (λ top. top ≤ 4294967295)
 HasRanges (Stack trace image format) = Unit {0}
 HasRanges (Convert trace image) = Unit {0}
+HasRanges (Soak number) = number < 2 ^ 64

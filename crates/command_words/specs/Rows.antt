@@ -5,7 +5,7 @@ use Rattle.std.specs.Str.{bytes_eq}
 use Rattle.std.specs.Option.{option_map_or}
 use Rattle.command_words.specs.Numbers.{Values, is_among_values}
 use Rattle.command_words.specs.declared.rows.Role.{Role}
-use Rattle.command_words.specs.declared.rows.Role.TheVariants.{Input, OptionalInput, Output}
+use Rattle.command_words.specs.declared.rows.Role.TheVariants.{Input, OptionalInput, Output, Number}
 
 -- an option: its name, what its value may be, and the number that is used if it isn't given, if there is one
 pub record OptionRow : Type 0 where
@@ -29,12 +29,21 @@ abbrev pub may_be_absent : Role → Bool
 may_be_absent Input = false
 may_be_absent OptionalInput = true
 may_be_absent Output = false
+may_be_absent Number = false
 
 -- a file of this role is written
 abbrev pub is_written : Role → Bool
 is_written Input = false
 is_written OptionalInput = false
 is_written Output = true
+is_written Number = false
+
+-- the word in its place names a file
+abbrev pub names_file : Role → Bool
+names_file Input = true
+names_file OptionalInput = true
+names_file Output = true
+names_file Number = false
 
 abbrev pub is_optional : FileRow → Bool
 is_optional file = may_be_absent file.role

@@ -2,9 +2,10 @@
 use Rattle.std.specs.Prelude.{ℕ, List, [], ◌∷◌, Some, None, codes}
 use Rattle.fdr_buffer.specs.declared.buffer.TheConstants.{LARGEST_SIZE, LEAST_SIZE, MOST_BUFFERS}
 use Rattle.command_words.specs.Limits.{most_cpus, most_fuel, most_passings, most_pid, most_stay, most_threads}
-use Rattle.command_words.specs.Numbers.{Number, Listed}
+use Rattle.command_words.specs.Numbers.{Values, Number, Listed}
 use Rattle.command_words.specs.Rows.{CommandRow, FileRow, OptionRow}
 use Rattle.command_words.specs.declared.rows.Role.TheVariants.{Input, OptionalInput, Output}
+use Rattle.command_words.specs.declared.rows.Role.TheVariants as roles
 
 -- ---- the options
 
@@ -157,3 +158,12 @@ stack_row = record { word = codes "stack"; files = report_files; options = stack
 
 abbrev pub convert_row : CommandRow
 convert_row = record { word = codes "convert"; files = report_files; options = convert_format_option ∷ [] }
+
+-- ---- the number that inputs are drawn from
+
+-- it may be any of 64 bits
+abbrev pub seeds : Values
+seeds = Number 0 18446744073709551615
+
+abbrev pub soak_row : CommandRow
+soak_row = record { word = codes "soak"; files = record { label = codes "seed"; role = roles.Number } ∷ []; options = [] }

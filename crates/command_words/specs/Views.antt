@@ -12,7 +12,7 @@ use Rattle.command_words.specs.declared.words.Command.TheVariants as command_of
 use Rattle.command_words.specs.Lines.{Line}
 use Rattle.command_words.specs.Numbers.{Values, Number, Listed}
 use Rattle.command_words.specs.Rows.{CommandRow, FileRow, OptionRow}
-use Rattle.command_words.specs.Words.{Command, Sim, Run, Plain, Extract, Asm, Account, Stack, Convert}
+use Rattle.command_words.specs.Words.{Command, Sim, Run, Plain, Extract, Asm, Account, Stack, Convert, Soak}
 
 abbrev pub values_view : values.Values → Values
 values_view (values_of.Number least most) = Number least most
@@ -43,3 +43,4 @@ command_view (command_of.Asm text image threshold) = Asm text.now image.now thre
 command_view (command_of.Account trace image options) = Account trace.now (option_map (λ i. i.now) image) options
 command_view (command_of.Stack trace image format) = Stack trace.now (option_map (λ i. i.now) image) format
 command_view (command_of.Convert trace image) = Convert trace.now (option_map (λ i. i.now) image)
+command_view (command_of.Soak number) = Soak number

@@ -9,7 +9,7 @@ use Rattle.command_words.specs.Lines.{Line, line_of, number_in, value_in}
 use Rattle.command_words.specs.Numbers.{number_of}
 use Rattle.command_words.specs.Reports.{account_options_in, choice_in, report_files_in, stack_formats}
 use Rattle.command_words.specs.Tables.{account_row, asm_row, convert_row, extract_row, plain_row, run_row, sim_row}
-use Rattle.command_words.specs.Tables.{stack_row}
+use Rattle.command_words.specs.Tables.{seeds, soak_row, stack_row}
 use Rattle.command_words.specs.Tables.{convert_format_option, stack_format_option}
 use Rattle.command_words.specs.Tables.{threads_option, fuel_option, passings_option, buffer_size_option, buffer_max_option, threshold_option}
 use Rattle.command_words.specs.Tables.{tick_option, tsc_option, frequency_option, cpus_option, migrate_option, pid_option, wall_option}
@@ -29,6 +29,7 @@ pub data Command : Type 0 where
   Account : (trace : List ℕ) → (image : Option (List ℕ)) → (options : AccountOptions) → Command
   Stack : (trace : List ℕ) → (image : Option (List ℕ)) → (format : StackFormat) → Command
   Convert : (trace : List ℕ) → (image : Option (List ℕ)) → Command
+  Soak : (number : ℕ) → Command
 
 -- ---- the options of the commands that run threads
 
@@ -142,6 +143,13 @@ convert_in line = of_parts (report_files_in line.files) (number_in convert_forma
     of_parts (Some files) (Some yaml) = Some (Convert files.0 files.1)
     of_parts _ _ = None
 
+abbrev pub soak_in : Line → Option Command
+soak_in line = of_files line.files
+  where
+    of_files : List (List ℕ) → Option Command
+    of_files (seed ∷ []) = option_map Soak (number_of seeds seed)
+    of_files _ = None
+
 -- the command that words say at this wall time, if they say one
 abbrev pub reading : Wall → List (List ℕ) → Option Command
 reading wall [] = None
@@ -155,6 +163,7 @@ reading wall (word ∷ words) =
     else if bytes_eq word account_row.word then option_and_then account_in (line_of account_row items)
     else if bytes_eq word stack_row.word then option_and_then stack_in (line_of stack_row items)
     else if bytes_eq word convert_row.word then option_and_then convert_in (line_of convert_row items)
+    else if bytes_eq word soak_row.word then option_and_then soak_in (line_of soak_row items)
     else None
 
 -- ---- the outputs
@@ -169,6 +178,7 @@ outputs_of (Asm text image threshold) = image ∷ []
 outputs_of (Account trace image options) = []
 outputs_of (Stack trace image format) = []
 outputs_of (Convert trace image) = []
+outputs_of (Soak number) = []
 
 -- the names of the outputs that words ask for; they don't depend on the wall time
 abbrev pub outputs_named : Wall → List (List ℕ) → List (List ℕ)

@@ -36,6 +36,8 @@ pub(crate) enum Role {
     OptionalInput,
     /// It writes the file. No other file of the command may have its name.
     Output,
+    /// No file is named: the word in its place is a number.
+    Number,
 }
 
 impl Role {
@@ -45,7 +47,7 @@ impl Role {
     {
         match self {
             Role::OptionalInput => true,
-            Role::Input | Role::Output => false,
+            Role::Input | Role::Output | Role::Number => false,
         }
     }
 
@@ -55,7 +57,7 @@ impl Role {
     {
         match self {
             Role::Output => true,
-            Role::Input | Role::OptionalInput => false,
+            Role::Input | Role::OptionalInput | Role::Number => false,
         }
     }
 }

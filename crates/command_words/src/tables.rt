@@ -229,6 +229,18 @@ const NAMING_IMAGE: FileRow = FileRow {
     role: Role::OptionalInput,
 };
 
+/// The number that inputs are drawn from.
+const SEED: FileRow = FileRow {
+    label: "seed",
+    role: Role::Number,
+};
+
+/// What this number may be: any of 64 bits.
+pub(crate) const SEEDS: Values = Values::Number {
+    least: 0,
+    most: 18_446_744_073_709_551_615,
+};
+
 /// `account TRACE [IMAGE]`: prints how often the functions of a trace were called, and for how
 /// long.
 pub(crate) const ACCOUNT: CommandRow = CommandRow {
@@ -312,4 +324,12 @@ pub(crate) const RUN: CommandRow = CommandRow {
         PID,
         WALL,
     ],
+};
+
+/// `soak SEED`: replays a schedule over a large image and a script, all drawn from a number, and
+/// prints a summary.
+pub(crate) const SOAK: CommandRow = CommandRow {
+    word: "soak",
+    files: &[SEED],
+    options: &[],
 };

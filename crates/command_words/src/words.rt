@@ -4,10 +4,10 @@ ghost use Rattle.command_words.specs.Items.{items_of, texts};
 ghost use Rattle.command_words.specs.Lines.{line_of, outputs_differ};
 ghost use Rattle.command_words.specs.Ranges.{HasRanges};
 ghost use Rattle.command_words.specs.Tables.{account_row, asm_row, convert_row, extract_row, plain_row};
-ghost use Rattle.command_words.specs.Tables.{run_row, sim_row, stack_row};
+ghost use Rattle.command_words.specs.Tables.{run_row, sim_row, soak_row, stack_row};
 ghost use Rattle.command_words.specs.Views.{command_view, line_view};
 ghost use Rattle.command_words.specs.Words.{account_in, asm_in, convert_in, extract_in, plain_in};
-ghost use Rattle.command_words.specs.Words.{reading, run_in, sim_in, stack_in};
+ghost use Rattle.command_words.specs.Words.{reading, run_in, sim_in, soak_in, stack_in};
 
 use crate::cutting::cut_line;
 use crate::line::Line;
@@ -16,7 +16,7 @@ use crate::report_options::{
 };
 use crate::run_options::{Bounds, RunOptions, bounds_in, run_options_in};
 use crate::tables::{
-    ACCOUNT, ASM, CONVERT, CONVERT_FORMAT, EXTRACT, PLAIN, RUN, SIM, STACK, THRESHOLD,
+    ACCOUNT, ASM, CONVERT, CONVERT_FORMAT, EXTRACT, PLAIN, RUN, SEEDS, SIM, SOAK, STACK, THRESHOLD,
 };
 use std::alloc::{AllocError, Global};
 use xray_io::Wall;
@@ -98,6 +98,12 @@ pub enum Command<'a> {
         /// The image that names the functions, if there is one.
         image: Option<&'a str>,
     },
+    /// Replays a schedule over a large image and a script, all drawn from a number, and prints a
+    /// summary.
+    Soak {
+        /// The number.
+        number: u64,
+    },
 }
 
 /// The command that words say at a wall time, or `None` if they say none. The words are those after
@@ -133,6 +139,8 @@ pub fn read_words<'a>(
         read_stack(alloc, rest)
     } else if word == CONVERT.word {
         read_convert(alloc, rest)
+    } else if word == SOAK.word {
+        read_soak(alloc, rest)
     } else {
         Ok(None)
     }
@@ -238,6 +246,18 @@ fn read_convert<'a>(alloc: Global, words: &'a [String]) -> Result<Option<Command
 {
     match cut_line(alloc, &CONVERT, words)? {
         Some(line) => Ok(convert_in(&line)),
+        None => Ok(None),
+    }
+}
+
+/// `soak SEED`.
+fn read_soak<'a>(alloc: Global, words: &'a [String]) -> Result<Option<Command<'a>>, AllocError>
+    ensures reads { IfOk result (λ said. option_map command_view said
+        ≡ option_and_then soak_in (line_of soak_row (items_of (texts words.entry.now)))) }
+    ensures ranges { IfOk result (λ said. IfSome (option_map command_view said) HasRanges) }
+{
+    match cut_line(alloc, &SOAK, words)? {
+        Some(line) => Ok(soak_in(&line)),
         None => Ok(None),
     }
 }
@@ -356,4 +376,16 @@ fn convert_in<'a>(line: &Line<'a>) -> Option<Command<'a>>
     let ReportFiles { trace, image } = report_files_in(line)?;
     let _yaml = CONVERT_FORMAT.number_in(line)?;
     Some(Command::Convert { trace, image })
+}
+
+/// The run that a line of `soak` says.
+fn soak_in<'a>(line: &Line<'a>) -> Option<Command<'a>>
+    ensures reads { option_map command_view result ≡ soak_in (line_view line.now) }
+    ensures ranges { IfSome (option_map command_view result) HasRanges }
+{
+    let [seed] = line.files.as_slice() else {
+        return None;
+    };
+    let number = SEEDS.number_of(seed)?;
+    Some(Command::Soak { number })
 }

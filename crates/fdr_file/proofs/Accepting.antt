@@ -16,8 +16,10 @@ use Rattle.fdr_file.specs.declared.fault.TraceFault.{TraceFault}
 use Rattle.fdr_file.specs.declared.trace.Block.{Block}
 use Rattle.fdr_file.specs.declared.trace.Trace.{Trace}
 use Rattle.fdr_file.specs.Places.{starts}
-use Rattle.fdr_file.specs.Traces.{Standing, block_faults, block_in, block_length, block_standings, extents_in, header_faults, header_in, names_cpu, record_in, records_of, standing_faults, standings, trace_of}
+use Rattle.fdr_file.specs.Traces.{Standing, block_in, block_length, block_standings, extents_in, header_in, names_cpu, record_in, records_of, standings, trace_of}
+use Rattle.fdr_file.specs.private.Faults.{by_places, block_faults, header_faults, standing_faults}
 use Rattle.fdr_file.specs.Grammar.{AreBlocks, AreSpelled, BeginWithCpu, IsBlock, IsHeader, IsInner, IsTrace, block_records}
+use Rattle.fdr_file.proofs.TraceRows.{rows_decide}
 use Rattle.fdr_file.proofs.Decoding.{length_told, told_again}
 use Rattle.fdr_file.proofs.Walking.{starts_first, stands_first}
 use Rattle.fdr_file.proofs.Deciding.{IsBehind, extents_is}
@@ -163,7 +165,7 @@ pub trace_again : (bytes : List ℕ) (trace : Trace) → IsTrace bytes trace →
 trace_again bytes trace is =
     let header = header_reads is.front is.behind trace.header is.header in
     let blocks = blocks_stand 32 trace.blocks is.behind is.blocks in
-    ap trace_of is.parts ∙ rw (header.0, header.1, header.2, blocks.0, blocks.1) refl
+    rows_decide bytes ∙ ap by_places is.parts ∙ rw (header.0, header.1, header.2, blocks.0, blocks.1) refl
 
 pub one_trace : (bytes : List ℕ) (trace other : Trace) → IsTrace bytes trace → IsTrace bytes other → trace ≡ other
 one_trace bytes trace other is also =

@@ -4,6 +4,7 @@ use Rattle.std.specs.Prelude.{option_to_list, ◌||◌, ◌⊎◌, not, sum, is_
 use Rattle.std.specs.List.{list_any}
 use Rattle.std.proofs.lemmas.Bool.{cases_Bool, ltb-false, le-leb}
 use Rattle.xray_io.specs.declared.faults.Wall.{Wall}
+use Rattle.xray_io.specs.Rows.{◌>>=◌}
 use Rattle.fdr_file.specs.declared.header.Header.{Header}
 use Rattle.fdr_file.specs.declared.trace.Block.{Block}
 use Rattle.fdr_file.specs.declared.trace.Trace.{Trace}
@@ -23,8 +24,9 @@ use Rattle.fdr_file.specs.declared.events.Base.{Base}
 use Rattle.fdr_file.specs.declared.fault.TraceFault.{TraceFault}
 use Rattle.fdr_file.specs.declared.fault.TraceFault.TheVariants as faults
 use Rattle.fdr_file.specs.Events.{counter_at, cpu_of, deltas_since, events_behind, whole_counter}
-use Rattle.fdr_file.specs.Traces.{decided, extents_in, names_cpu, needs_cpu, record_faults, record_in, records_of, standing_faults, Standing, block_faults, block_in, block_of, block_standings, pid_named, block_length, record_length, standings, thread_named, wall_named, unless}
-use Rattle.fdr_file.specs.private.Reading.{◌>>=◌, Left, blocks_read, body_on, end_named, end_on, events_on, left_at, named_on, preamble_on, read_first, record_on, step_on}
+use Rattle.fdr_file.specs.Traces.{extents_in, names_cpu, needs_cpu, record_in, records_of, Standing, block_in, block_of, block_standings, pid_named, block_length, record_length, standings, thread_named, wall_named}
+use Rattle.fdr_file.specs.private.Faults.{decided, record_faults, standing_faults, block_faults, unless}
+use Rattle.fdr_file.specs.private.Reading.{Left, blocks_read, body_on, end_named, end_on, events_on, left_at, named_on, preamble_on, read_first, record_on, step_on}
 
 -- ---- the extents
 

@@ -21,8 +21,10 @@ use Rattle.fdr_file.specs.declared.fault.TraceFault.{TraceFault}
 use Rattle.fdr_file.specs.declared.fault.TraceFault.TheVariants as faults
 use Rattle.fdr_file.specs.declared.trace.Trace.{Trace}
 use Rattle.fdr_file.specs.Places.{starts}
-use Rattle.fdr_file.specs.Traces.{Standing, block_faults, block_in, block_length, block_of, block_standings, extents_faults, extents_in, faults_of, fault_at, flags_in, header_faults, header_in, may_be, names_cpu, needs_cpu, pid_named, record_faults, record_in, records_of, standing_faults, standings, thread_named, told_by, trace_of, type_in, unless, version_in, wall_named}
+use Rattle.fdr_file.specs.Traces.{Standing, block_in, block_length, block_of, block_standings, extents_in, fault_at, flags_in, header_in, may_be, names_cpu, needs_cpu, pid_named, record_in, records_of, standings, thread_named, trace_of, type_in, version_in, wall_named}
+use Rattle.fdr_file.specs.private.Faults.{block_faults, extents_faults, faults_of, header_faults, record_faults, standing_faults, told_by, unless}
 use Rattle.fdr_file.specs.Grammar.{AreBlocks, AreSpelled, BeginWithCpu, IsBlock, IsHeader, IsInner, IsTrace}
+use Rattle.fdr_file.proofs.TraceRows.{rows_decide}
 use Rattle.fdr_file.proofs.Decoding.{length_told, refused_again, told_again}
 use Rattle.fdr_file.proofs.Walking.{starts_first, stands_first}
 use Rattle.fdr_file.proofs.Deciding.{IsBehind, extents_is, none_wrong}
@@ -347,7 +349,7 @@ header_described bytes all clean =
 
 pub trace_described : Decodes → (bytes : List ℕ) (trace : Trace) → AreBytes bytes → trace_of bytes ≡ Ok trace → IsTrace bytes trace
 trace_described decodes bytes trace all is =
-    let whole = none_wrong (faults_of bytes) (told_by bytes) trace is in
+    let whole = none_wrong (faults_of bytes) (told_by bytes) trace (sym (rows_decide bytes) ∙ is) in
     let both = both_empty (header_faults bytes) (flat_map block_faults (starts block_length 0 32 (drop 32 bytes))) whole.0 in
     subst (IsTrace bytes) whole.1 (record {
       front = take 32 bytes;

@@ -1,6 +1,7 @@
 pub mod Decoding
 pub mod Walking
 pub mod Deciding
+pub mod TraceRows
 pub mod Gathered
 pub mod Accepting
 pub mod Returning

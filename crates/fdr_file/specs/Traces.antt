@@ -1,7 +1,8 @@
 -- The trace that the bytes of a file read as, and what is wrong with them.
-use Rattle.std.specs.Prelude.{ℕ, zero, suc, ◌+◌, ◌/◌, ◌%◌, ◌==◌, ◌||◌, Bool, true, false, List, [], ◌∷◌, ◌++◌, length, take, drop, map, Option, Some, None, is_some, Result, Ok, Err, nat_lt, nat_le, not, slice_index, if◌then◌else◌}
-use Rattle.std.specs.List.{filter_map, flat_map, list_any}
+use Rattle.std.specs.Prelude.{ℕ, zero, suc, ◌+◌, ◌/◌, ◌%◌, ◌==◌, ◌||◌, ◌&&◌, Bool, true, false, List, [], ◌∷◌, ◌++◌, length, take, drop, map, Option, Some, None, is_some, Result, Ok, Err, nat_lt, not, slice_index, if◌then◌else◌}
+use Rattle.std.specs.List.{filter_map, list_any}
 use Rattle.byteorder.specs.Endian.{little_number}
+use Rattle.xray_io.specs.Rows.{First, InTurn, ◌>>=◌}
 use Rattle.xray_io.specs.declared.faults.Wall.{Wall}
 use Rattle.fdr_record.specs.declared.rec.Rec.{Rec}
 use Rattle.fdr_record.specs.declared.rec.Rec.TheVariants.{NewBuffer, NewCpu, TscWrap, WallTime, Pid, Extents, Function}
@@ -16,15 +17,6 @@ use Rattle.fdr_file.specs.declared.trace.Block.{Block}
 use Rattle.fdr_file.specs.declared.trace.Trace.{Trace}
 use Rattle.fdr_file.specs.Places.{starts}
 use Rattle.fdr_file.specs.Events.{events_of}
-
--- this fault, unless the test passes
-abbrev pub unless : Bool → TraceFault → List TraceFault
-unless holds fault = if holds then [] else fault ∷ []
-
--- this value if nothing is wrong, or else the first fault
-abbrev pub decided : {A : Type 0} → List TraceFault → A → Result A TraceFault
-decided [] value = Ok value
-decided (fault ∷ later) value = Err fault
 
 -- ---- the header
 
@@ -48,11 +40,13 @@ header_in bytes = record {
   size = little_number 8 (drop 16 bytes);
 }
 
--- a header is whole, of version 3, and of the type of the Flight Data Recorder mode
-abbrev pub header_faults : List ℕ → List TraceFault
-header_faults bytes =
-    unless (nat_le 32 (length bytes)) (faults.Short 0) ++ unless (version_in bytes == 3) (faults.Version (version_in bytes))
-    ++ unless (type_in bytes == 1) (faults.Form (type_in bytes))
+-- A header is whole, of version 3, and of the type of the Flight Data Recorder mode.
+abbrev pub header_rows : {A : Type 0} → List ℕ → Result A TraceFault → Result A TraceFault
+header_rows bytes follows =
+    First (nat_lt (length bytes) 32) (Err (faults.Short 0))
+    (First (not (version_in bytes == 3)) (Err (faults.Version (version_in bytes)))
+    (First (not (type_in bytes == 1)) (Err (faults.Form (type_in bytes)))
+    follows))
 
 -- ---- the records of a block
 
@@ -116,21 +110,18 @@ may_be (suc zero) r = is_some (wall_named r)
 may_be (suc (suc zero)) r = is_some (pid_named r)
 may_be (suc (suc (suc n))) r = names_cpu r || needs_cpu r
 
--- what is wrong with a record at a place, after those before it
-abbrev pub record_faults : List Rec → ℕ → Rec → List TraceFault
-record_faults before at r =
-    unless (may_be (length before) r) (faults.Order at) ++ unless (list_any names_cpu before || not (needs_cpu r)) (faults.NoBase at)
-
 -- why no record is at a place: the block ends too early, or its action or kind isn't one
 abbrev pub fault_at : ℕ → RecFault → TraceFault
 fault_at at decoder_faults.Short = faults.Extents at
 fault_at at fault = faults.Bad at fault
 
--- what is wrong at the places after some records
-abbrev pub standing_faults : List Rec → List Standing → List TraceFault
-standing_faults before [] = []
-standing_faults before ((at, Ok r) ∷ behind) = record_faults before at r ++ standing_faults (r ∷ before) behind
-standing_faults before ((at, Err fault) ∷ behind) = fault_at at fault ∷ []
+-- what is at a place, after the records before it, the last of them first
+abbrev pub record_rows : List Rec → Standing → Result (List Rec) TraceFault
+record_rows before (at, Ok r) =
+    First (not (may_be (length before) r)) (Err (faults.Order at))
+    (First (needs_cpu r && not (list_any names_cpu before)) (Err (faults.NoBase at))
+    (Ok (r ∷ before)))
+record_rows before (at, Err fault) = Err (fault_at at fault)
 
 -- ---- blocks
 
@@ -145,19 +136,6 @@ block_length bytes = 16 + extents_in bytes
 -- what is at the places of the block that begins at a place
 abbrev pub block_standings : ℕ × List ℕ → List Standing
 block_standings (at, bytes) = standings (at + 16) (take (extents_in bytes) (drop 16 bytes))
-
--- what is wrong with the block that begins at a place: with its first record, with the number of bytes that it names,
--- and with its records
-abbrev pub extents_faults : ℕ × List ℕ → Result Rec RecFault → List TraceFault
-extents_faults (at, bytes) (Ok (Extents size)) =
-    unless (nat_le 48 size) (faults.Extents at) ++ unless (nat_le (16 + size) (length bytes)) (faults.Short at)
-    ++ standing_faults [] (block_standings (at, bytes))
-extents_faults (at, bytes) (Ok r) = faults.Order at ∷ []
-extents_faults (at, bytes) (Err fault) = faults.Bad at fault ∷ []
-
-abbrev pub block_faults : ℕ × List ℕ → List TraceFault
-block_faults (at, bytes) =
-    if nat_lt (length bytes) 16 then faults.Short at ∷ [] else extents_faults (at, bytes) (record_in bytes)
 
 -- the first item of a list
 abbrev pub first_or : {A : Type 0} → A → List A → A
@@ -177,20 +155,28 @@ block_of records = record {
 abbrev pub block_in : ℕ × List ℕ → Block
 block_in start = block_of (records_of (block_standings start))
 
+-- The block that begins at a place: its first record, the number of bytes that it names, and its records.
+abbrev pub extents_rows : ℕ × List ℕ → Result Rec RecFault → Result Block TraceFault
+extents_rows (at, bytes) (Ok (Extents size)) =
+    First (nat_lt size 48) (Err (faults.Extents at))
+    (First (nat_lt (length bytes) (16 + size)) (Err (faults.Short at))
+    (InTurn record_rows [] (block_standings (at, bytes)) >>= λ _. Ok (block_in (at, bytes))))
+extents_rows (at, bytes) (Ok r) = Err (faults.Order at)
+extents_rows (at, bytes) (Err fault) = Err (faults.Bad at fault)
+
+abbrev pub block_rows : List Block → ℕ × List ℕ → Result (List Block) TraceFault
+block_rows before (at, bytes) =
+    First (nat_lt (length bytes) 16) (Err (faults.Short at))
+    (extents_rows (at, bytes) (record_in bytes) >>= λ block. Ok (before ++ block ∷ []))
+
 -- ---- files
 
 -- each place where a block begins, after the 32 bytes of the header, with the bytes from there on
 abbrev pub block_starts : List ℕ → List (ℕ × List ℕ)
 block_starts bytes = starts block_length 0 32 (drop 32 bytes)
 
--- all that is wrong with a file, from its start on
-abbrev pub faults_of : List ℕ → List TraceFault
-faults_of bytes = header_faults bytes ++ flat_map block_faults (block_starts bytes)
-
--- what the bytes of a file say
-abbrev pub told_by : List ℕ → Trace
-told_by bytes = record { header = header_in bytes; blocks = map block_in (block_starts bytes) }
-
 -- The trace of a file, or the fault of the first place that has one.
 abbrev pub trace_of : List ℕ → Result Trace TraceFault
-trace_of bytes = decided (faults_of bytes) (told_by bytes)
+trace_of bytes =
+    header_rows bytes
+    (InTurn block_rows [] (block_starts bytes) >>= λ blocks. Ok (record { header = header_in bytes; blocks = blocks }))

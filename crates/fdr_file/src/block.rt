@@ -2,7 +2,8 @@
 
 ghost use Rattle.std.specs.Prelude.{◌≡◌, ◌≤◌, ◌<◌, ◌+◌, length, drop, IfOk};
 ghost use Rattle.fdr_file.specs.private.Reading.{Gives, Reads, body_on, end_on, left_at};
-ghost use Rattle.fdr_file.specs.Traces.{block_faults, block_in, block_length, decided};
+ghost use Rattle.fdr_file.specs.Traces.{block_in, block_length};
+ghost use Rattle.fdr_file.specs.private.Faults.{block_faults, decided};
 
 use crate::events::read_events;
 use crate::preamble::{PREAMBLE_BYTES, read_preamble};

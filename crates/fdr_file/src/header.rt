@@ -1,7 +1,8 @@
 //! The header of a trace file.
 
 ghost use Rattle.std.specs.Prelude.{◌≡◌, ◌≤◌, length, drop, Ok, Err};
-ghost use Rattle.fdr_file.specs.Traces.{decided, header_faults, header_in};
+ghost use Rattle.fdr_file.specs.Traces.{header_in};
+ghost use Rattle.fdr_file.specs.private.Faults.{decided, header_faults};
 
 use crate::TraceFault;
 use byteorder::{ByteOrder, LittleEndian};

@@ -113,6 +113,15 @@ stack|t|--format=yaml => none
 convert|t => convert [t] None
 convert|t|i|--format|yaml => convert [t] Some(\"i\")
 convert|t|--format=human => none
+soak => none
+soak|x => none
+soak|1 => soak 1
+soak|+007 => soak 7
+soak|--|18446744073709551615 => soak 18446744073709551615
+soak|18446744073709551616 => none
+soak|-1 => none
+soak|1|2 => none
+soak|1|--threads|4 => none
 ";
 
 /// Words as a program gets them, from a line with bars between the words.
@@ -170,6 +179,7 @@ fn shown(alloc: Global, words: &[String]) -> Result<String, AllocError> {
         Some(Command::Convert { trace, image }) => {
             format!(in alloc; "convert [{trace}] {image:?}")
         }
+        Some(Command::Soak { number }) => format!(in alloc; "soak {number}"),
         Some(
             Command::Run {
                 image,
@@ -233,7 +243,7 @@ fn command_lines_say_what_stands_here(rt: HostRuntime) -> Result<(), Fail> {
             rows = rows.wrapping_add(1);
         }
     }
-    assert_eq!(rt; rows, 97);
+    assert_eq!(rt; rows, 106);
     Ok(())
 }
 

@@ -3,13 +3,13 @@
 ghost use Rattle.std.specs.Prelude.{◌≡◌, ◌+◌, ◌*◌, ◌<◌, ◌≤◌};
 ghost use Rattle.patch_script.specs.Limits.{most_micros};
 ghost use Rattle.sled_rule.specs.Plans.{code_words, most_code_words, total_in};
+ghost use Rattle.sled_words.specs.declared.words.TheConstants.{MAX_THREADS};
 ghost use Rattle.sled_rule.specs.Rule.{slot_count};
 
 use crate::law::CodeRule;
 use crate::views::View;
 use atomic_table::Table;
 use patch_script::Script;
-use sled_words::MAX_THREADS;
 use std::alloc::Global;
 
 /// How many words a progress word takes in the table: a cache line of 64 bytes.

@@ -4,5 +4,6 @@ pub mod SaidLemmas
 pub mod OrderLemmas
 pub mod ScriptLemmas
 pub mod ScheduleLemmas
+pub mod LineCounts
 pub mod LoopLemmas
 mod Rows

@@ -34,10 +34,9 @@ id_least n = omega arith
 id_most : (n : ℕ) → 1 + n % 64 ≤ 64
 id_most n = omega arith
 
--- a change may follow whatever commands, fits its words, and holds nobody
+-- a change may follow whatever commands, and holds nobody
 record IsCalm (program : Program) (command : Command) : Type 0 where
   admitted : (before : List Command) → IsAdmitted program 4 before command
-  fits : HasWords command
   holds : (all : List Command) → holds_for_good all command ≡ false
   waits : is_waiting command ≡ false
 
@@ -45,28 +44,49 @@ calm : (program : Program) (a b c : Bool) (id : ℕ) → 64 ≤ id_count program
     → IsCalm program (cond a (commands.PatchFunction id) (cond b (commands.UnpatchFunction id) (cond c commands.RemoveHandler commands.SetHandler)))
 calm program true b c id ids least most = record {
   admitted = λ before. record { function = or_from (id == 0) (nat_lt (id_count program) id) (ne_eqb id 0 (λ e. omega (arith, e, least))) (le-ltb (id_count program) id (omega (arith, most, ids))); thread = refl; place = refl; hold = refl; log = refl; wait = refl };
-  fits = omega (arith, most);
   holds = λ all. refl;
   waits = refl;
 }
 calm program false true c id ids least most = record {
   admitted = λ before. record { function = or_from (id == 0) (nat_lt (id_count program) id) (ne_eqb id 0 (λ e. omega (arith, e, least))) (le-ltb (id_count program) id (omega (arith, most, ids))); thread = refl; place = refl; hold = refl; log = refl; wait = refl };
-  fits = omega (arith, most);
   holds = λ all. refl;
   waits = refl;
 }
 calm program false false true id ids least most = record {
   admitted = λ before. record { function = refl; thread = refl; place = refl; hold = refl; log = refl; wait = refl };
-  fits = tt;
   holds = λ all. refl;
   waits = refl;
 }
 calm program false false false id ids least most = record {
   admitted = λ before. record { function = refl; thread = refl; place = refl; hold = refl; log = refl; wait = refl };
-  fits = tt;
   holds = λ all. refl;
   waits = refl;
 }
+
+pub changes_count : (count x : ℕ) → length (changes count x) ≡ count
+unfolding changes
+changes_count zero x = refl
+changes_count (suc count) x = omega (arith, changes_count count (after_change x))
+
+-- the numbers of a change fit its words
+change_words : (a b c : Bool) (id : ℕ) → id ≤ 64
+    → HasWords (cond a (commands.PatchFunction id) (cond b (commands.UnpatchFunction id) (cond c commands.RemoveHandler commands.SetHandler)))
+change_words true b c id most = omega (arith, most)
+change_words false true c id most = omega (arith, most)
+change_words false false true id most = tt
+change_words false false false id most = tt
+
+changes_words : (count x : ℕ) → AllByRecursion HasWords (changes count x)
+unfolding changes
+changes_words zero x = tt
+changes_words (suc count) x =
+    let id = 1 + drawn 64 (next x) in (
+      change_words (drawn 4 x == 0) (drawn 4 x == 1) (drawn 4 x == 2) id (id_most (next (next x) / 2 ^ 33)),
+      changes_words count (after_change x),
+    )
+
+pub script_words : (x : ℕ) → All HasWords (script x)
+script_words x = All-from_recursion HasWords (script x) (tt, (tt, (tt, (tt, changes_words 100 x))))
 
 module _ (program : Program) (ids : 64 ≤ id_count program) where
   change_calm : (x : ℕ) → IsCalm program (change x)
@@ -87,10 +107,6 @@ module _ (program : Program) (ids : 64 ≤ id_count program) where
   none_holds : (script all : List Command) → AllByRecursion (IsCalm program) all → list_any (holds_for_good script) all ≡ false
   none_holds script [] h = refl
   none_holds script (c ∷ all) h = or_from (holds_for_good script c) (list_any (holds_for_good script) all) (h.0.holds script) (none_holds script all h.1)
-
-  all_fit : (all : List Command) → AllByRecursion (IsCalm program) all → AllByRecursion HasWords all
-  all_fit [] h = tt
-  all_fit (c ∷ all) h = (h.0.fits, all_fit all h.1)
 
   none_waits : (n : ℕ) (all : List Command) → AllByRecursion (IsCalm program) all → find (λ (line : ℕ × Command). is_waiting line.1) (enumerate_from n all) ≡ None
   none_waits n [] h = refl
@@ -119,11 +135,6 @@ module _ (program : Program) (ids : 64 ≤ id_count program) where
       (record { function = refl; thread = refl; place = refl; hold = refl; log = refl; wait = refl })
   admitted_at all h (suc (suc (suc (suc i)))) command at = (calm_at all i command h at).admitted (take (suc (suc (suc (suc i)))) (first_four all))
 
-  changes_count : (count x : ℕ) → length (changes count x) ≡ count
-  unfolding changes
-  changes_count zero x = refl
-  changes_count (suc count) x = omega (arith, changes_count count (after_change x))
-
   pub script_orderly : (x : ℕ) → IsOrderly (written_plan program 4 (script x))
   script_orderly x =
       let all = script x in
@@ -135,9 +146,6 @@ module _ (program : Program) (ids : 64 ≤ id_count program) where
         released = ap (λ (cs : List Command). list_any (holds_for_good cs) cs) same ∙ none_holds all (changes 100 x) quiet;
         few = omega (arith, length-enumerate_from 1 all, changes_count 100 x);
       }
-
-  pub script_fits : (x : ℕ) → All HasWords (script x)
-  script_fits x = All-from_recursion HasWords (script x) (tt, (tt, (tt, (tt, all_fit (changes 100 x) (changes_calm 100 x)))))
 
   pub script_waits : (x : ℕ) → waiting_line (enumerate_from 1 (script x)) ≡ None
   script_waits x = ap (option_map (λ (line : ℕ × Command). line.0)) (none_waits 5 (changes 100 x) (changes_calm 100 x))

@@ -68,4 +68,5 @@ def main():
             print(name, len(written), lines[:8])
 
 
-main()
+if __name__ == "__main__":
+    main()

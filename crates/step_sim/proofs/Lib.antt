@@ -6,15 +6,14 @@ pub mod OneReplay
 pub mod PooledReplay
 pub mod Queues
 pub mod TurnLemmas
-pub mod WantedWords
 pub mod OneThread
 pub mod AllThreads
 pub mod Bounds
+pub mod ScheduleFaults
 pub mod SaidTurns
 pub mod SomeReplay
 pub mod PoolLemmas
 pub mod Gathering
-pub mod SmallIds
 pub mod OneRecorded
 pub mod AllRecorded
 pub mod Recordings

@@ -18,10 +18,10 @@ use Rattle.fdr_buffer.specs.Segments.{has_room, segments, segments_from}
 use Rattle.machine_step.specs.Events.{event_of, recorded}
 use Rattle.machine_step.specs.Loads.{Load, Marked, Reading, Wants, from_handler, from_head, from_id, from_offset, from_opcode, from_release, from_start, from_state, is_held_at, marks_from}
 use Rattle.machine_step.specs.PlainStep.{Passing}
+use Rattle.traced_run.proofs.RecordedEvents.{recorded_short}
 use Rattle.step_sim.specs.Recorded.{events_at, segments_at}
 use Rattle.step_sim.specs.Replay.{Cast, Moment, of_thread, thread_turn, wanted_by}
 use Rattle.step_sim.proofs.ReplayAlong.{turn_with, turn_without}
-use Rattle.step_sim.proofs.SmallIds.{recorded_short}
 use Rattle.step_sim.proofs.TurnLemmas.{turn_own}
 
 -- ---- one passing

@@ -11,6 +11,7 @@ use Rattle.machine_step.specs.declared.end.End.{End}
 use Rattle.machine_step.specs.Loads.{Load, marks_of}
 use Rattle.machine_step.specs.PlainStep.{Passing, PlainRun, State}
 use Rattle.machine_step.specs.Traced.{HasLoaded, IsKept, IsSameThread, Traced, sleds_of}
+use Rattle.traced_run.proofs.RecordedEvents.{event_small, recorded_short}
 use Rattle.step_sim.specs.declared.patcher.Patcher.{Patcher}
 use Rattle.step_sim.specs.declared.pool.Pool.{Pool}
 use Rattle.step_sim.specs.Plays.{turns}
@@ -20,7 +21,6 @@ use Rattle.step_sim.proofs.Bounds.{marks_alike, run_alike}
 use Rattle.step_sim.proofs.OneThread.{KeepsLoads, ended_turn, none_wanted, rest_wants_none, same_again, same_then}
 use Rattle.step_sim.proofs.PooledReplay.{ended_still}
 use Rattle.step_sim.proofs.ReplayAlong.{turn_without}
-use Rattle.step_sim.proofs.SmallIds.{IsSmall, event_small, recorded_short}
 use Rattle.step_sim.proofs.TurnLemmas.{turn_other}
 use Rattle.step_sim.specs.Pool.{Pooled, PooledRunsOut, Stock, stock_behind}
 use Rattle.traced_run.specs.Kept.{Stamp}
@@ -123,7 +123,7 @@ its_run r pooled p old mid pool at same =
     )
 
 its_small : (r : Recording) (pooled : Pooled) (p : Patcher) (old : Traced) (pool : Pool) → RecordAt r pooled p old pool
-    → All IsSmall (of_thread r.passed old.thread)
+    → All (λ p. p.id < 2 ^ 28) (of_thread r.passed old.thread)
 its_small r pooled p old pool at =
     at.traced.small old.thread at.stands.thread.first (omega (arith, at.stands.thread.last, at.threads_are))
 

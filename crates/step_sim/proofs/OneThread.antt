@@ -10,6 +10,7 @@ use Rattle.machine_step.specs.declared.want.Want.TheVariants.{Load as Loads}
 use Rattle.machine_step.specs.Loads.{Load, next_load}
 use Rattle.machine_step.specs.PlainStep.{Passing}
 use Rattle.machine_step.specs.Traced.{HasLoaded, IsSameThread, IsWant, Traced, load_of, sleds_of, wanted_behind}
+use Rattle.machine_step.proofs.WantedWords.{wanted_within}
 use Rattle.step_sim.specs.declared.patcher.Patcher.{Patcher}
 use Rattle.step_sim.specs.Along.{IsAlong}
 use Rattle.step_sim.specs.Plays.{turns}
@@ -17,7 +18,6 @@ use Rattle.step_sim.specs.Replay.{Cast, Moment, RunsOut, of_thread, thread_turn,
 use Rattle.step_sim.specs.private.Standing.{IsPatcherAt, IsThreadAt, Play, Rests, StandAt}
 use Rattle.step_sim.proofs.ReplayAlong.{thread_keeps, thread_stays, turn_without}
 use Rattle.step_sim.proofs.TurnLemmas.{turn_length, turn_own, turns_more, turns_up_to}
-use Rattle.step_sim.proofs.WantedWords.{wanted_within}
 
 -- ---- the same thread
 
@@ -113,7 +113,7 @@ word_there p old mid word (cast, m, at) same keeps wants =
     let next : wanted_behind mid at.thread.passed (of_thread m.loads old.thread) ≡ Some word =
     subst (IsWant mid at.thread.passed (wanted_behind mid at.thread.passed (of_thread m.loads old.thread)) loaded.end) wants loaded.wants in
     let known : mid.thread ≤ mid.threads = omega (arith, same.thread, same.threads, at.thread.last) in
-    let within = wanted_within mid.program mid.limits mid.threads mid.thread mid.hold at.thread.passed _ word loaded.end loaded.last loaded.run known next in
+    let within = wanted_within mid.program mid.limits mid.thread mid.hold at.thread.passed _ loaded.end loaded.last loaded.run mid.threads word known next in
     let same_program : mid.program ≡ cast.program = same.program ∙ at.thread.program_is in
     let room : word_count mid.program mid.threads ≤ vec_len p.words =
     subst (λ (q : Program). word_count q mid.threads ≤ vec_len p.words) (sym same_program)

@@ -1,5 +1,7 @@
 -- A text that is a schedule gives turns only to its threads.
-use Rattle.std.proofs.Common.{◌≡◌, ◌<◌, ◌≤◌, ◌++◌, ℕ, Bool, true, false, List, [], ◌∷◌, Some, None, Ok, refl, arith}
+use Rattle.std.proofs.Common.{◌≡◌, ◌<◌, ◌≤◌, ◌++◌, ◌∙◌, ℕ, Bool, true, false, List, [], ◌∷◌, length, Some, None, Ok, Err, ltb, refl, sym, arith}
+use Rattle.std.specs.Str.Lines.{lines}
+use Rattle.xray_io.specs.Rows.{First, InTurn}
 use Rattle.std.specs.Prelude.{nat_le, ◌&&◌}
 use Rattle.std.specs.List.{All, flat_map}
 use Rattle.std.proofs.lemmas.List.Elements.{All-cons, All-nil, All-append}
@@ -10,9 +12,11 @@ use Rattle.step_sim.specs.declared.turns.Turns.{Turns}
 use Rattle.step_sim.specs.declared.turns.Turns.TheVariants.{Thread, Patcher}
 use Rattle.step_sim.specs.Along.{NamesThread}
 use Rattle.step_sim.specs.declared.fault.ScheduleFault.TheVariants as faults
-use Rattle.step_sim.specs.Schedules.{AreTurnsOf, decided, faults_of, is_count, is_thread, line_faults, line_turns, said_by, said_faults, schedule_of, turns_of, turns_said, unless}
+use Rattle.step_sim.specs.Schedules.{AreTurnsOf, is_count, is_thread, line_rows, said_by, schedule_of, turns_said}
+use Rattle.step_sim.specs.private.Faults.{decided, line_faults, line_turns, said_faults, unless}
 use Rattle.text_lines.specs.Lines.{numbered_lines}
 use Rattle.text_lines.specs.Words.{words_of}
+use Rattle.step_sim.proofs.ScheduleFaults.{lines_decide}
 
 -- ---- lists without faults
 
@@ -77,9 +81,15 @@ decided_so [] turns schedule is = (refl, cc)
 decided_so (fault ∷ later) turns schedule is = absurd cc
 
 pub turns_within : (threads : ℕ) (text : List ℕ) (schedule : List Turns) → schedule_of threads text ≡ Ok schedule → All (AreTurnsOf threads) schedule
-turns_within threads text schedule is =
-    let so = decided_so (faults_of threads text) (turns_of text) schedule is in
-    rw (← so.1) (turns_all threads (numbered_lines text) (right_none _ _ so.0))
+turns_within threads text schedule is = by_count (ltb 1048576 (length (lines text))) is
+  where
+    by_count : (long : Bool) → First long (Err faults.Limit) (InTurn (λ turns line. line_rows threads turns line) [] (numbered_lines text)) ≡ Ok schedule
+        → All (AreTurnsOf threads) schedule
+    by_count true e = absurd cc
+    by_count false e =
+        let so = decided_so (flat_map (line_faults threads) (numbered_lines text)) (flat_map line_turns (numbered_lines text)) schedule
+        (sym (lines_decide threads [] (numbered_lines text)) ∙ e) in
+        rw (← so.1) (turns_all threads (numbered_lines text) so.0)
 
 names_of : (threads : ℕ) (turns : Turns) → AreTurnsOf threads turns → NamesThread turns
 names_of threads (Thread thread count) of = of.0

@@ -17,6 +17,7 @@ use Rattle.machine_step.specs.Traced.{Traced, sleds_of}
 use Rattle.traced_run.specs.Kept.{buffers_behind, kept_buffers, segment_count, segments_of, thread_buffers}
 use Rattle.traced_run.specs.Left.{HasRun}
 use Rattle.traced_run.specs.Runs.{ThreadRun, events_of}
+use Rattle.traced_run.proofs.RecordedEvents.{recorded_short}
 use Rattle.step_sim.specs.declared.patcher.Patcher.{Patcher}
 use Rattle.step_sim.specs.declared.pool.Pool.{Pool}
 use Rattle.step_sim.specs.declared.turns.Turns.{Turns}
@@ -34,7 +35,6 @@ use Rattle.step_sim.proofs.EndedRuns.{AllRuns, all_runs, enumerated_buffers, enu
 use Rattle.step_sim.proofs.Gathering.{all_gathered, first_are, sealed_are}
 use Rattle.step_sim.proofs.PoolLemmas.{AllSaid, SomeSaid, nonempty_count}
 use Rattle.step_sim.proofs.Recordings.{Ended, first_of, recording}
-use Rattle.step_sim.proofs.SmallIds.{recorded_short}
 use Rattle.step_sim.proofs.LostRuns.{replay_loses}
 use Rattle.step_sim.proofs.StockRuns.{segments_same}
 

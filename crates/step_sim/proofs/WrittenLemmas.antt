@@ -13,8 +13,10 @@ use Rattle.step_sim.specs.declared.line.Said.{Said}
 use Rattle.step_sim.specs.declared.line.Said.TheVariants.{Loads, Steps}
 use Rattle.step_sim.specs.declared.turns.Turns.{Turns}
 use Rattle.step_sim.specs.declared.turns.Turns.TheVariants.{Thread, Patcher}
-use Rattle.step_sim.specs.Schedules.{AreTurnsOf, decided, faults_of, is_count, is_thread, line_faults, line_turns, said_by, said_faults, schedule_of, turns_of, turns_said, unless}
+use Rattle.step_sim.specs.Schedules.{AreTurnsOf, is_count, is_thread, said_by, schedule_of, turns_said}
+use Rattle.step_sim.specs.private.Faults.{decided, line_faults, line_turns, said_faults, unless}
 use Rattle.step_sim.specs.WrittenSchedules.{HasWords, schedule_text, turn_words, WrittenSchedulesRead}
+use Rattle.step_sim.proofs.ScheduleFaults.{schedule_begins}
 
 -- what the line of turns says
 abbrev said_of : Turns → Said
@@ -84,8 +86,7 @@ schedule_read texts numbers threads all low of fits few =
     let cut : lines text ≡ map written_line (map turn_words all) = texts.lines (map turn_words all) (all_written threads low texts numbers all of fits) in
     let count : length (map written_line (map turn_words all)) ≤ 1048576 =
     omega (arith, few, length-map (map turn_words all) written_line, length-map all turn_words) in
-    ap (λ ls. decided (unless (leb (length ls) 1048576) faults.Limit ++ flat_map (line_faults threads) (enumerate_from 1 ls)) (flat_map line_turns (enumerate_from 1 ls))) cut
-    ∙ ap (λ t. decided (unless t faults.Limit ++ flat_map (line_faults threads) (enumerate_from 1 (map written_line (map turn_words all)))) (flat_map line_turns (enumerate_from 1 (map written_line (map turn_words all)))))
-    (le-leb (length (map written_line (map turn_words all))) 1048576 count)
+    schedule_begins threads text (omega (arith, count, ap length cut))
+    ∙ ap (λ ls. decided (flat_map (line_faults threads) (enumerate_from 1 ls)) (flat_map line_turns (enumerate_from 1 ls))) cut
     ∙ ap (λ fs. decided fs (flat_map line_turns (enumerate_from 1 (map written_line (map turn_words all))))) (lines_fit threads low texts numbers 1 all of fits)
     ∙ ap Ok (lines_give threads low texts numbers 1 all of fits)

@@ -1,7 +1,7 @@
--- Schedules as texts: what their lines say, and what is wrong with a text.
-use Rattle.std.specs.Prelude.{ℕ, ◌&&◌, ◌≤◌, Bool, true, false, nat_eq, nat_le, List, [], ◌∷◌, ◌++◌, length, Option, Some, None, Result, Ok, Err, codes, if◌then◌else◌}
-use Rattle.std.specs.List.{flat_map}
+-- Schedules as texts: what their lines say, and the refusals, in the order of the checks.
+use Rattle.std.specs.Prelude.{ℕ, ◌&&◌, ◌≤◌, Bool, true, false, not, nat_le, nat_lt, List, [], ◌∷◌, ◌++◌, length, Option, Some, None, Result, Ok, Err, codes, if◌then◌else◌}
 use Rattle.std.specs.Str.Lines.{lines}
+use Rattle.xray_io.specs.Rows.{First, InTurn}
 use Rattle.text_lines.specs.Keywords.{is_word}
 use Rattle.text_lines.specs.Lines.{numbered_lines}
 use Rattle.text_lines.specs.Numbers.{number_of}
@@ -41,10 +41,7 @@ turns_said (Loads (Some thread) (Some count)) = Thread thread count ∷ []
 turns_said (Steps (Some count)) = Patcher count ∷ []
 turns_said said = []
 
-abbrev pub line_turns : ℕ × List ℕ → List Turns
-line_turns (number, line) = turns_said (said_by (words_of line))
-
--- ---- what is wrong with a line
+-- ---- the rows of a line
 
 -- K is a number from 1 on
 abbrev pub is_count : Option ℕ → Bool
@@ -70,39 +67,25 @@ names_threads threads (Loads thread count) = is_thread threads thread
 names_threads threads (Steps count) = true
 names_threads threads Unknown = true
 
--- this fault, unless the test passes
-abbrev pub unless : Bool → ScheduleFault → List ScheduleFault
-unless holds fault = if holds then [] else fault ∷ []
+-- the turns so far, with those of a line that says this
+abbrev pub said_rows : ℕ → List Turns → ℕ → Said → Result (List Turns) ScheduleFault
+said_rows threads before number said =
+    First (not (is_well_formed said)) (Err (faults.Syntax number))
+    (First (not (names_threads threads said)) (Err (faults.Thread number))
+    (Ok (before ++ turns_said said)))
 
--- what is wrong with what a line says: Syntax comes before Thread
-abbrev pub said_faults : ℕ → ℕ → Said → List ScheduleFault
-said_faults threads number said =
-    unless (is_well_formed said) (faults.Syntax number) ++ unless (names_threads threads said) (faults.Thread number)
-
--- all that is wrong with a line: a bad byte, and what it says
-abbrev pub line_faults : ℕ → ℕ × List ℕ → List ScheduleFault
-line_faults threads (number, line) =
-    unless (is_clean line) (faults.Syntax number) ++ said_faults threads number (said_by (words_of line))
+-- the turns so far, with those of a line, which has to be clean
+abbrev pub line_rows : ℕ → List Turns → ℕ × List ℕ → Result (List Turns) ScheduleFault
+line_rows threads before (number, line) =
+    First (not (is_clean line)) (Err (faults.Syntax number)) (said_rows threads before number (said_by (words_of line)))
 
 -- ---- a text
 
--- all that is wrong with a text: that it has too many lines, and then what is wrong with each line
-abbrev pub faults_of : ℕ → List ℕ → List ScheduleFault
-faults_of threads text =
-    unless (nat_le (length (lines text)) most_lines) faults.Limit ++ flat_map (line_faults threads) (numbered_lines text)
-
--- the turns of all lines, in order
-abbrev pub turns_of : List ℕ → List Turns
-turns_of text = flat_map line_turns (numbered_lines text)
-
--- these turns if nothing is wrong, or else the first fault
-abbrev pub decided : List ScheduleFault → List Turns → Result (List Turns) ScheduleFault
-decided [] turns = Ok turns
-decided (fault ∷ later) turns = Err fault
-
--- the schedule of a text, or its first fault
+-- The turns of all lines, in order, or the first refusal. That the text has too many lines is looked for first.
 abbrev pub schedule_of : ℕ → List ℕ → Result (List Turns) ScheduleFault
-schedule_of threads text = decided (faults_of threads text) (turns_of text)
+schedule_of threads text =
+    First (nat_lt most_lines (length (lines text))) (Err faults.Limit)
+    (InTurn (λ before line. line_rows threads before line) [] (numbered_lines text))
 
 -- turns that a schedule may give to this many threads: at least one, of one of the threads or of the patcher
 abbrev pub AreTurnsOf : ℕ → Turns → Type 0

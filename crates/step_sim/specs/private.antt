@@ -1,4 +1,5 @@
 -- What the contracts of private functions cite. No promise of this crate rests on it.
+pub mod Faults
 pub mod Holding
 pub mod Readings
 pub mod Recording

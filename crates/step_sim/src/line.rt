@@ -1,7 +1,8 @@
 //! A line of a schedule, as the turns that it gives.
 
 ghost use Rattle.std.specs.Prelude.{◌≡◌, IfOk, IfSome};
-ghost use Rattle.step_sim.specs.Schedules.{decided, line_faults, line_turns, loads_of, said_by, said_faults, steps_of, turns_said, AreTurnsOf};
+ghost use Rattle.step_sim.specs.Schedules.{loads_of, said_by, steps_of, turns_said, AreTurnsOf};
+ghost use Rattle.step_sim.specs.private.Faults.{decided, line_faults, line_turns, said_faults};
 ghost use Rattle.step_sim.specs.private.Readings.{listed};
 
 use crate::fault::ScheduleFault;

@@ -20,6 +20,7 @@ use machine_step::{Cpu, Setup, Steps, Want, some_end};
 use patch_script::Script;
 use sled_words::MAX_THREADS;
 use std::alloc::Global;
+use traced_run::{passings_are_few, some_file_holds};
 use xray_io::NoMemory;
 
 /// A thread before its first load.
@@ -36,8 +37,7 @@ pub(crate) fn new_thread<'a>(
     ensures { IfOk result
         (HasBegun steps.now (commands_of script.now.lines) setup.now.threads setup.now.limits number) }
 {
-    // Called for its contract: some accepted file holds the image.
-    steps.image();
+    some_file_holds(steps);
     some_end();
     let hold = script.hold_of(number);
     Cpu::new(alloc, steps, number, setup.threads, hold, setup.limits)
@@ -67,8 +67,7 @@ fn next_word(cpu: &mut Cpu) -> Option<u32>
     ensures nearer { loads_left cpu.new ≤ loads_left cpu.old }
 {
     let_in(cpu);
-    // Called for its contract: the passings, and so the events, fit 32 bits.
-    cpu.passings();
+    passings_are_few(cpu);
     match cpu.want() {
         Want::Load(word) => Some(word),
         Want::Gate(_) | Want::Done(_) => None,
@@ -91,8 +90,7 @@ fn make_load(cpu: &mut Cpu, patcher: &Patcher, pool: &mut Pool) -> bool
     a_replay_reads_along();
     match next_word(cpu) {
         Some(word) => {
-            // Called for its contract: the passings, and so the events, fit 32 bits.
-            cpu.passings();
+            passings_are_few(cpu);
             let thread = cpu.thread();
             let event = cpu.give(patcher.load(word));
             pool.note_any(thread, event);

@@ -1,5 +1,6 @@
 -- A worker may go to another thread, if its recorder may.
 use denote.Ref.{NamedLft}
+use denote.Builtin.{Array, u64}
 use denote.RattleType.{RattleType}
 use denote.Param.Send.{IsSend, sendable}
 use denote.Hole.{as_row}
@@ -22,5 +23,8 @@ a_seat = search (sendable, seat_send, as_row_send) depth 30
 a_table : (κ : NamedLft) → IsSend (as_row (shr_ref_field κ table.the_row tt))
 a_table κ = search (sendable, table_sync, as_row_send) depth 30
 
+an_array : IsSend (as_row (row_field (Array u64 tt 16)))
+an_array = search (sendable, as_row_send) depth 30
+
 pub worker_send : (κ ν : NamedLft) (R : RattleType) → IsSend R → IsSend (worker.the_row κ ν R)
-worker_send κ ν R r = declared_send (worker.the_type κ ν R) (a_cpu κ, (a_seat, (a_table ν, (as_row_send (row_field R) r, tt))))
+worker_send κ ν R r = declared_send (worker.the_type κ ν R) (a_cpu κ, (a_seat, (a_table ν, (as_row_send (row_field R) r, (an_array, tt)))))

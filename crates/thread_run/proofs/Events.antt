@@ -1,53 +1,11 @@
--- The events that a thread records. The ids of their functions fit their records, and there are at most as many events
--- as marks.
-use Rattle.std.proofs.Common.{◌≡◌, ℕ, suc, ◌-◌, ◌<◌, ◌≤◌, ◌^◌, List, [], ◌∷◌, ◌++◌, Bool, true, false, subst, refl, arith, length, length-append, map, get_or}
-use Rattle.std.specs.Prelude.{All, IfSome, Option, Some, None, filter, if◌then◌else◌}
-use Rattle.std.specs.List.{zip}
-use Rattle.std.proofs.lemmas.List.{get_or_push}
-use Rattle.std.proofs.lemmas.List.Elements.{All-cons, All-head, All-nil, All-tail}
+-- The event that a load adds to those that a thread has recorded.
+use Rattle.std.proofs.Common.{◌≡◌, ◌-◌, ◌<◌, ◌≤◌, ◌^◌, List, [], ◌∷◌, ◌++◌, subst, arith, length, length-append}
+use Rattle.std.specs.Prelude.{All, IfSome, Option, Some, None}
 use Rattle.fdr_record.specs.declared.event.Event.{Event}
 use Rattle.handler_word.specs.declared.mark.Mark.{Mark}
-use Rattle.handler_word.specs.MarkList.{is_recorded}
-use Rattle.machine_step.specs.Events.{event_of, events_in, recorded}
+use Rattle.machine_step.specs.Events.{events_in, recorded}
 use Rattle.machine_step.specs.PlainStep.{Passing}
-
-abbrev IsSmall : Passing → Type 0
-IsSmall p = p.id < 2 ^ 28
-
-abbrev FitsRecord : Event → Type 0
-FitsRecord e = e.func < 2 ^ 28
-
-recorded_small : (passed : List Passing) (marks : List Mark) → All IsSmall passed → All FitsRecord (recorded passed marks)
-recorded_small [] marks small = All-nil FitsRecord
-recorded_small (p ∷ passed) [] small = All-nil FitsRecord
-recorded_small (p ∷ passed) (mark ∷ marks) small =
-    by_mark (is_recorded mark) (recorded_small passed marks (All-tail IsSmall p passed small))
-  where
-    by_mark : (b : Bool) → All FitsRecord (recorded passed marks)
-        → All FitsRecord (map (λ (q : Passing × Mark). event_of q.0) (if b then (p, mark) ∷ filter (λ q. is_recorded q.1) (zip passed marks) else filter (λ q. is_recorded q.1) (zip passed marks)))
-    by_mark true rest = All-cons FitsRecord (event_of p) (recorded passed marks) (All-head IsSmall p passed small) rest
-    by_mark false rest = rest
-
--- the event that was added
-event_small : (passed : List Passing) (old new : List Mark) (event : Event) → All (λ p. p.id < 2 ^ 28) passed
-    → recorded passed new ≡ recorded passed old ++ event ∷ [] → event.func < 2 ^ 28
-event_small passed old new event small is =
-    let all : All FitsRecord (recorded passed old ++ event ∷ []) = subst (All FitsRecord) is (recorded_small passed new small) in
-    let last : get_or (recorded passed old ++ event ∷ []) (length (recorded passed old)) event ≡ event =
-    get_or_push (recorded passed old) event event (length (recorded passed old)) refl in
-    subst FitsRecord last
-    (all (length (recorded passed old)) event (omega (arith, length-append (recorded passed old) (event ∷ []))))
-
-recorded_short : (passed : List Passing) (marks : List Mark) → length (recorded passed marks) ≤ length marks
-recorded_short [] marks = omega arith
-recorded_short (p ∷ passed) [] = omega arith
-recorded_short (p ∷ passed) (mark ∷ marks) = by_mark (is_recorded mark) (recorded_short passed marks)
-  where
-    by_mark : (b : Bool) → length (recorded passed marks) ≤ length marks
-        → length (map (λ (q : Passing × Mark). event_of q.0) (if b then (p, mark) ∷ filter (λ q. is_recorded q.1) (zip passed marks) else filter (λ q. is_recorded q.1) (zip passed marks)))
-        ≤ suc (length marks)
-    by_mark true rest = omega (arith, rest)
-    by_mark false rest = omega (arith, rest)
+use Rattle.traced_run.proofs.RecordedEvents.{event_small, recorded_short}
 
 -- there is room for the event that was added
 few_before : (passed : List Passing) (old new : List Mark) (event : Event) → length new < 2 ^ 32
@@ -56,8 +14,7 @@ few_before passed old new event fits e =
     let all : length (recorded passed old ++ event ∷ []) ≤ length new = subst (λ (es : List Event). length es ≤ length new) e (recorded_short passed new) in
     omega (arith, all, length-append (recorded passed old) (event ∷ []), fits)
 
--- ---- the event of a load, if there is one
-
+-- the event of a load, if there is one
 pub any_small : (passed : List Passing) (old new : List Mark) (event : Option Event) → All (λ p. p.id < 2 ^ 28) passed
     → recorded passed new ≡ recorded passed old ++ events_in event → IfSome event (λ e. e.func < 2 ^ 28)
 any_small passed old new None small is = tt

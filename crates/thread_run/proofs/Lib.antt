@@ -1,4 +1,3 @@
-pub mod Words
 pub mod Events
 pub mod Loading
 pub mod Turns

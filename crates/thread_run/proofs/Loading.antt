@@ -1,14 +1,13 @@
 -- What one load makes of a thread and its seat.
 use Rattle.std.proofs.Common.{◌≡◌, ◌≢◌, ℕ, ◌+◌, ◌<◌, ◌≤◌, List, [], ◌∷◌, ◌++◌, Bool, true, false, ◌==◌, Option, Some, None, refl, sym, subst, ap, ◌∙◌, arith, length, eq-eqb}
 use Rattle.std.specs.Prelude.{◌&&◌, ◌||◌, All, Err, IfOk, Ok, Result}
-use Rattle.std.specs.List.{list_any}
 use Rattle.std.proofs.lemmas.Bool.{eqb-true}
 use Rattle.std.proofs.lemmas.List.Elements.{All-nil, All-push}
 use mathlib.Core.List.{map-append}
 use Rattle.xray_io.specs.declared.faults.NoMemory.{NoMemory}
 use Rattle.xray_image.specs.Program.{IsAccepted, Program}
 use Rattle.sled_words.specs.Allowed.{IsAllowed}
-use Rattle.sled_words.specs.Words.{code_word_count, progress_word, release_word}
+use Rattle.sled_words.specs.Words.{progress_word, release_word}
 use Rattle.patch_script.specs.declared.command.Command.{Command}
 use Rattle.patch_script.specs.Bounds.{bound_of}
 use Rattle.patch_script.specs.CodeAt.{code_at}
@@ -19,7 +18,7 @@ use Rattle.patch_script.proofs.Allowing.{keeps_sleds}
 use Rattle.patch_script.proofs.Awaiting.{bound_within}
 use Rattle.machine_step.specs.declared.want.Want.{Want}
 use Rattle.machine_step.specs.declared.want.Want.TheVariants.{Done, Load as Loads}
-use Rattle.machine_step.specs.Follows.{Follows, later, loaded, none}
+use Rattle.machine_step.specs.Follows.{later, loaded, none}
 use Rattle.machine_step.specs.Loads.{Load, marks_of, next_load}
 use Rattle.machine_step.specs.declared.end.End.{End}
 use Rattle.machine_step.specs.declared.limits.Limits.{Limits}
@@ -27,6 +26,7 @@ use Rattle.machine_step.specs.PlainStep.{Passing, PlainRun, State}
 use Rattle.machine_step.specs.Traced.{HasLoaded, IsFresh, IsKept, IsSameThread, IsThreadOf, IsWant, Traced, load_of, sleds_of, wanted_behind}
 use Rattle.machine_step.proofs.AlongCode.{next_allowed}
 use Rattle.machine_step.proofs.SomeMarks.{all_marked}
+use Rattle.machine_step.proofs.WantedWords.{release_wanted}
 use Rattle.sled_rule.specs.declared.views.Load.{Load as SeatLoad}
 use Rattle.sled_rule.specs.declared.views.PatchView.{PatchView}
 use Rattle.sled_rule.specs.declared.views.WorkView.{WorkView}
@@ -35,7 +35,6 @@ use Rattle.sled_rule.specs.Steps.{IsFetched}
 use Rattle.sled_rule.specs.Views.{counting, loading, next_work}
 use Rattle.thread_run.specs.Following.{HasFollowed, LoadsFollow, MarksFollowScript, given, is_held_by}
 use Rattle.thread_run.specs.Workers.{IsAlong, IsFreshIn, IsFreshThread, IsThreadIn}
-use Rattle.thread_run.proofs.Words.{release_wanted}
 
 -- ---- a script's plan
 

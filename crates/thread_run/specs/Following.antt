@@ -1,5 +1,5 @@
 -- The loads of a thread that runs while a script is patched.
-use Rattle.std.specs.Prelude.{◌≡◌, ◌≢◌, ◌&&◌, ◌==◌, ℕ, List, map, All, Bool}
+use Rattle.std.specs.Prelude.{◌&&◌, ◌==◌, ℕ, List, map, Bool}
 use Rattle.std.specs.List.{list_any}
 use Rattle.xray_image.specs.Program.{Program}
 use Rattle.sled_words.specs.Words.{release_word}

@@ -1,6 +1,6 @@
 -- What is true of a worker: a traced thread that makes its loads from a table by its seat, and notes its events.
-use Rattle.std.specs.Prelude.{◌≡◌, ◌≢◌, ◌<◌, ◌≤◌, ◌++◌, ℕ, List, [], ◌∷◌, length, All, Bool, Some, slice_get, true, false}
-use Rattle.xray_image.specs.Program.{IsAccepted, Program}
+use Rattle.std.specs.Prelude.{◌≡◌, ◌≢◌, ◌<◌, ◌≤◌, ◌++◌, ℕ, List, [], ◌∷◌, length, All, Bool, true, false}
+use Rattle.xray_image.specs.Program.{IsAccepted}
 use Rattle.sled_words.specs.Words.{release_word}
 use Rattle.patch_script.specs.Micros.{hold_of, start_of, total_of}
 use Rattle.patch_script.specs.Plans.{Plan}

@@ -1,6 +1,6 @@
 //! One traced thread of a run.
 
-ghost use Rattle.std.specs.Prelude.{◌≡◌, ◌≢◌, ◌<◌, ◌+◌, ◌-◌, ◌^◌, ◌++◌, [], List, length, true, false, IfSome};
+ghost use Rattle.std.specs.Prelude.{◌≡◌, ◌≢◌, ◌<◌, ◌↔◌, ◌+◌, ◌-◌, ◌^◌, ◌++◌, [], List, length, true, false, IfSome, IsTrue};
 ghost use Rattle.fdr_record.specs.declared.event.Event.{Event};
 ghost use Rattle.machine_step.specs.Events.{events_in};
 ghost use Rattle.sled_rule.specs.Seats.{patch_view, work_view, script_of, IsPatcherOf, IsWorkerOf};
@@ -93,10 +93,12 @@ impl<'s, 't, R: Recorder> Worker<'s, 't, R> {
         'loads: loop {
             match want {
                 Want::Gate(passing) => want = self.open(gate, passing),
-                Want::Load(word) => match self.load(word) {
-                    Want::Load(same) if same == word => return Turn::Held,
-                    next => want = next,
-                },
+                Want::Load(word) => {
+                    want = self.load(word);
+                    if is_load(want, word) {
+                        return Turn::Held;
+                    }
+                }
                 Want::Done(_) => {
                     self.finish();
                     return Turn::Done;
@@ -199,6 +201,16 @@ impl<'s, 't, R: Recorder> Worker<'s, 't, R> {
         ensures recorder { result.2 ≡ recorder_of self.entry }
     {
         (self.cpu, self.seat, self.recorder)
+    }
+}
+
+/// Whether what a thread wants is this word.
+fn is_load(want: Want, word: u32) -> bool
+    ensures { IsTrue result ↔ (want ≡ Want.Load word) }
+{
+    match want {
+        Want::Load(next) => next == word,
+        Want::Gate(_) | Want::Done(_) => false,
     }
 }
 

@@ -12,7 +12,8 @@ use Rattle.machine_step.specs.declared.setup.Setup.{Setup}
 use Rattle.machine_step.specs.Texts.{end_text, line_feed}
 use Rattle.machine_step.specs.Traced.{Traced}
 use Rattle.trace_flush.specs.declared.line.AuditLine.{AuditLine}
-use Rattle.trace_flush.specs.Audit.{Account, accounts, buffers_text, limits_text, stamps_text, thread_line, thread_lines}
+use Rattle.trace_flush.specs.Summary.{summary_line}
+use Rattle.trace_flush.specs.Audit.{Account, accounts, buffers_text, limits_text, stamps_text, thread_line}
 
 -- the pieces of a part are its text
 
@@ -46,35 +47,41 @@ pub line_pieces : (line : AuditLine) (marks : List Mark) (thread : ℕ) (name : 
 line_pieces line marks thread name passings recorded segments first same_thread same_name same_passings same_recorded same_segments same_first =
     rw (same_thread, same_name, same_passings, same_recorded, same_segments, same_first) (simp append_assoc)
 
+pub summary_pieces : (line : AuditLine) (marks : List Mark) (thread : ℕ) (name : List ℕ) (passings recorded first : ℕ)
+    → thread ≡ line.thread → name ≡ end_text line.end → passings ≡ length marks → recorded ≡ recorded_count marks → first ≡ line.first
+    → codes "thread " ++ (decimal thread ++ (codes " " ++ (name ++ (codes " passings " ++ (decimal passings ++ (codes " recorded " ++ (decimal recorded
+    ++ (codes " first " ++ (decimal first ++ (line_feed ++ []))))))))))
+    ≡ summary_line (line, marks)
+summary_pieces line marks thread name passings recorded first same_thread same_name same_passings same_recorded same_first =
+    rw (same_thread, same_name, same_passings, same_recorded, same_first) (simp append_assoc)
+
 -- the lines of accounts are those that they were made from
 pub lines_of_accounts : (lines : List AuditLine) (threads : List Traced) → length lines ≡ length threads
     → map (λ account. account.0) (accounts lines threads) ≡ lines
 lines_of_accounts lines threads same = firsts-zip lines (map (λ thread. thread.marks) threads) (length-map threads (λ thread. thread.marks) ∙ sym same)
 
--- one more account
-pub accounts_more : (lines : List AuditLine) (threads : List Traced) (i : ℕ) (line : AuditLine) (thread : Traced)
+-- the texts of accounts, one after another, if each has the text f: one more account
+pub accounts_more : (f : Account → List ℕ) (lines : List AuditLine) (threads : List Traced) (i : ℕ) (line : AuditLine) (thread : Traced)
     → i < length lines → i < length threads → ((d : AuditLine) → line ≡ get_or lines i d) → ((d : Traced) → thread ≡ get_or threads i d)
-    → flat_map thread_lines (take i (accounts lines threads)) ++ thread_lines (line, thread.marks)
-    ≡ flat_map thread_lines (take (i + 1) (accounts lines threads))
-accounts_more [] threads i line thread within also_within is_line is_thread = absurd (omega arith)
-accounts_more (first ∷ lines) [] i line thread within also_within is_line is_thread = absurd (omega arith)
-accounts_more (first ∷ lines) (head ∷ threads) zero line thread within also_within is_line is_thread =
+    → flat_map f (take i (accounts lines threads)) ++ f (line, thread.marks) ≡ flat_map f (take (i + 1) (accounts lines threads))
+accounts_more f [] threads i line thread within also_within is_line is_thread = absurd (omega arith)
+accounts_more f (first ∷ lines) [] i line thread within also_within is_line is_thread = absurd (omega arith)
+accounts_more f (first ∷ lines) (head ∷ threads) zero line thread within also_within is_line is_thread =
     let same_line : line ≡ first = is_line first in
     let same_thread : thread ≡ head = is_thread head in
-    rw (same_line, same_thread) (sym (append-nil (thread_lines (first, head.marks))))
-accounts_more (first ∷ lines) (head ∷ threads) (suc i) line thread within also_within is_line is_thread =
-    let rest = accounts_more lines threads i line thread (omega arith) (omega arith) is_line is_thread in
-    rw add-one (append_assoc (thread_lines (first, head.marks)) (flat_map thread_lines (take i (accounts lines threads))) (thread_lines (line, thread.marks))
-    ∙ ap (λ text. thread_lines (first, head.marks) ++ text) (rest ∙ rw add-one refl))
+    rw (same_line, same_thread) (sym (append-nil (f (first, head.marks))))
+accounts_more f (first ∷ lines) (head ∷ threads) (suc i) line thread within also_within is_line is_thread =
+    let rest = accounts_more f lines threads i line thread (omega arith) (omega arith) is_line is_thread in
+    rw add-one (append_assoc (f (first, head.marks)) (flat_map f (take i (accounts lines threads))) (f (line, thread.marks))
+    ∙ ap (λ text. f (first, head.marks) ++ text) (rest ∙ rw add-one refl))
 
 -- the accounts before this one, and the rest
-pub accounts_split : (told : List Account) (i : ℕ)
-    → flat_map thread_lines (take i told) ++ flat_map thread_lines (drop i told) ≡ flat_map thread_lines told
-accounts_split told i = sym (flat_map-append thread_lines (take i told) (drop i told)) ∙ ap (flat_map thread_lines) (take-append-drop i told)
+pub accounts_split : (f : Account → List ℕ) (told : List Account) (i : ℕ) → flat_map f (take i told) ++ flat_map f (drop i told) ≡ flat_map f told
+accounts_split f told i = sym (flat_map-append f (take i told) (drop i told)) ∙ ap (flat_map f) (take-append-drop i told)
 
 -- if there are as many accounts as lines, they are all of them
-pub accounts_all : (lines : List AuditLine) (threads : List Traced) (i : ℕ) → length lines ≡ length threads → i ≡ min (length lines) (length threads)
-    → flat_map thread_lines (take i (accounts lines threads)) ≡ flat_map thread_lines (accounts lines threads)
-accounts_all lines threads i same all =
-    ap (flat_map thread_lines) (take_all i (accounts lines threads)
+pub accounts_all : (f : Account → List ℕ) (lines : List AuditLine) (threads : List Traced) (i : ℕ) → length lines ≡ length threads
+    → i ≡ min (length lines) (length threads) → flat_map f (take i (accounts lines threads)) ≡ flat_map f (accounts lines threads)
+accounts_all f lines threads i same all =
+    ap (flat_map f) (take_all i (accounts lines threads)
     (omega (arith, length-zip lines (map (λ thread. thread.marks) threads), length-map threads (λ thread. thread.marks))))

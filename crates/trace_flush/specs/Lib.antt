@@ -2,4 +2,5 @@ pub mod Arranged
 pub mod Audit
 pub mod Flush
 pub mod Lines
+pub mod Summary
 pub mod Telling

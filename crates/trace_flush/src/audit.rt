@@ -162,7 +162,10 @@ fn add_line<S: Sink>(text: &mut Text<S>, line: &AuditLine, marks: &Marks) -> Res
 }
 
 /// Adds the line with the number of recycled segments.
-fn add_recycled<S: Sink>(text: &mut Text<S>, lines: &[AuditLine]) -> Result<(), WriteFault>
+pub(crate) fn add_recycled<S: Sink>(
+    text: &mut Text<S>,
+    lines: &[AuditLine],
+) -> Result<(), WriteFault>
     ensures { AddsText S.written S.faults S.along text.old text.new
         (recycled_line lines.now) result }
 {

@@ -1,5 +1,6 @@
 //! The end of a traced run: what is written once all threads have ended. The audit says what the
-//! run was made with, and how its threads ended. The trace has the buffers in the order of a flush.
+//! run was made with, and how its threads ended. A summary says less. The trace has the buffers in the
+//! order of a flush.
 #![tactic(auto)]
 
 mod audit;
@@ -7,9 +8,11 @@ mod header;
 mod laws;
 mod line;
 mod order;
+mod summary;
 
 pub use audit::write_audit;
 pub use header::trace_header;
 pub use laws::{a_run_is_audited, a_run_is_traced, audit_tells_its_run};
 pub use line::{AuditLine, add_audit_lines};
 pub use order::arrange;
+pub use summary::add_summary;

@@ -1,6 +1,6 @@
 //! Laws of runs. Each law is the contract of a function that does nothing.
 
-ghost use Rattle.std.specs.Prelude.{◌≡◌, ◌≤◌, ◌<◌, ◌^◌, ◌++◌, List, ℕ, All, Some, slice_get, take};
+ghost use Rattle.std.specs.Prelude.{◌≡◌, ◌≤◌, ◌<◌, ◌^◌, ◌++◌, List, ℕ, All, Some, length, slice_get, take};
 ghost use Rattle.std.specs.List.{flat_map};
 ghost use Rattle.xray_image.specs.Program.{IsAccepted, Program};
 ghost use Rattle.fdr_buffer.specs.Fits.{BufferFits};
@@ -14,6 +14,7 @@ ghost use Rattle.traced_run.specs.Losses.{AreLost, recycled_of, without_losses};
 ghost use Rattle.traced_run.specs.Runs.{IsRun, ThreadRun, events_of};
 
 use fdr_buffer::{a_body_has_room, segments_hold_all};
+use machine_step::{Cpu, Steps};
 
 /// No event of a thread falls between its segments. The events of as many of the first segments as
 /// are lost, and then those of the segments that are left, are all events that its marks record.
@@ -37,6 +38,20 @@ pub fn a_run_without_losses_is_whole()
         → flat_map (λ s. s) (kept_of size run) ≡ events_of run }
 {
     segments_hold_all();
+}
+
+/// Some accepted file holds the image of these steps.
+pub fn some_file_holds(steps: &Steps)
+    ensures { (bytes : List ℕ) × IsAccepted bytes steps.now }
+{
+    steps.image();
+}
+
+/// The passings of a thread, and so its events, fit 32 bits.
+pub fn passings_are_few(cpu: &Cpu)
+    ensures { length cpu.now.marks < 2 ^ 32 }
+{
+    cpu.passings();
 }
 
 /// The ids of a plain run's passings fit the records of events. So do their stamps, if there is at

@@ -51,6 +51,17 @@ const CSV_OF_ONE_NAME: &str = "funcid,count,min,med,90p,99p,max,sum,entries,exit
 const CSV_OF_THE_SLOWEST: &str = "funcid,count,min,med,90p,99p,max,sum,entries,exits,function\n\
     1,1,5,5,5,5,5,5,0,0,#1\n";
 
+/// The words of an account of the function that took longest.
+const SLOWEST: [&str; 7] = [
+    "account",
+    "t",
+    "--top",
+    "1",
+    "--sort=99p",
+    "--sortorder=desc",
+    "--format=csv",
+];
+
 #[test]
 fn an_account_is_printed_as_its_words_ask(rt: HostRuntime) -> Result<(), Fail> {
     for (parts, words, text) in [
@@ -71,19 +82,7 @@ fn an_account_is_printed_as_its_words_ask(rt: HostRuntime) -> Result<(), Fail> {
             &["account", "t", "i", "--format", "csv", "--sort", "funcid"],
             CSV_OF_ONE_NAME,
         ),
-        (
-            &TWO_FUNCTIONS,
-            &[
-                "account",
-                "t",
-                "--top",
-                "1",
-                "--sort=99p",
-                "--sortorder=desc",
-                "--format=csv",
-            ],
-            CSV_OF_THE_SLOWEST,
-        ),
+        (&TWO_FUNCTIONS, &SLOWEST, CSV_OF_THE_SLOWEST),
         (
             &TWO_FUNCTIONS,
             &["account", "t", "i", "--top", "0"],

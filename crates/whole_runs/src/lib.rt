@@ -21,6 +21,8 @@ mod runs;
 #[cfg(test)]
 mod sim;
 #[cfg(test)]
+mod soak;
+#[cfg(test)]
 mod stack;
 #[cfg(test)]
 mod trace_bytes;

@@ -1,5 +1,6 @@
 -- The contract of a call, from how it ends.
-use Rattle.std.proofs.Common.{◌≡◌, ◌≢◌, ◌⊎◌, ◌∙◌, ◌++◌, ℕ, List, [], ◌∷◌, Option, Some, None, inl, inr, refl, sym, ap, subst}
+use Rattle.std.proofs.Common.{◌≡◌, ◌≢◌, ◌⊎◌, ◌∙◌, ◌++◌, ℕ, List, [], ◌∷◌, Option, Some, None, Result, Ok, Err, inl, inr, refl, sym, ap, subst}
+use Rattle.std.specs.Prelude.{OnOk}
 use Rattle.xray_io.specs.Calls.{Call, Went}
 use Rattle.xray_io.specs.Desk.{Entry, Absent}
 use Rattle.xray_io.specs.Faults.{Rose}
@@ -9,12 +10,13 @@ use Rattle.xray_program.specs.Order.{InOrder, IsNoCall}
 use Rattle.xray_program.specs.Outcomes.{Outcome, BadLine, Unread, TooLong, Refused, Done, Fell, Ending, With, Unwritten, NoMemory, status_at, line_at, written_by}
 use Rattle.xray_program.specs.Outputs.{FailsWriting}
 use Rattle.command_words.specs.Words.{Command}
-use Rattle.xray_program.specs.private.Stops.{stop_status}
+use Rattle.xray_program.specs.private.CallLaws.{CallLaws}
+use Rattle.xray_program.specs.private.Stops.{answer_of, stop_status, told_of}
 use Rattle.xray_program.specs.private.Works.{Ends, KeepsOthers, SaidFits, StandsBehind}
 use Rattle.xray_program.specs.declared.stop.Stop.{Stop}
 use Rattle.xray_program.specs.declared.stop.Stop.TheVariants as stops
 use Rattle.xray_io.specs.World.{DeskView, World}
-use Rattle.xray_program.proofs.Headline.{CallLaws, beside, simulated}
+use Rattle.xray_program.proofs.Headline.{beside, simulated}
 use Rattle.xray_program.proofs.Ordering.{went_as}
 use Rattle.xray_program.proofs.Saying.{says_nothing}
 
@@ -274,3 +276,15 @@ stops_above (stops.Refused n kind words) e = cc
 stops_above (stops.Fell words) e = cc
 stops_above (stops.Unwritten n) e = cc
 stops_above stops.NoMemory e = cc
+
+fits_at : {P : Type 0} (ended : Result (Unit {0}) Stop) → OnOk ended P → answer_of ended ≡ 0 → P
+fits_at (Ok done) fits none = fits
+fits_at (Err stop) fits none = absurd (stops_above stop none)
+
+-- a call that answers the status of its end, and says its line
+pub answers_its_end : CallLaws → {Way : List Call → Type 0} {said : Option Command} {before after : World} {answer : ℕ} (ended : Result (Unit {0}) Stop)
+    → Ends said before.desk after.desk before.out after.out Way (answer_of ended) (told_of ended) → OnOk ended (SaidFits said)
+    → Says before.err after.err (told_of ended) → answer ≡ answer_of ended → Answered said before after Way answer
+answers_its_end laws {Way = Way} {said = said} {before = before} {after = after} {answer = answer} ended ends fits says is =
+    subst (Answered said before after Way) (sym is)
+    (answered laws Way said before after (answer_of ended) (told_of ended) (fits_at ended fits) ends says)

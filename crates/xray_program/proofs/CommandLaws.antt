@@ -8,7 +8,7 @@ use Rattle.xray_program.specs.Order.{inputs_of}
 use Rattle.xray_program.specs.Outcomes.{Outcome, BadLine, written_by}
 use Rattle.xray_program.specs.Setups.{setup_of}
 use Rattle.xray_program.specs.Taking.{Sound}
-use Rattle.command_words.specs.Words.{Command, Sim, Run, Plain, Extract, Asm, Account, Stack, Convert}
+use Rattle.command_words.specs.Words.{Command, Sim, Run, Plain, Extract, Asm, Account, Stack, Convert, Soak}
 use Rattle.xray_program.proofs.AccountLaws.{account_alone, account_some}
 use Rattle.xray_program.proofs.AsmLaws.{asm_alone, asm_some}
 use Rattle.xray_program.proofs.ConvertLaws.{convert_alone, convert_some}
@@ -19,6 +19,7 @@ use Rattle.xray_program.proofs.PlainLaws.{OneEnd, SomeEnd, plain_alone, plain_so
 use Rattle.xray_program.proofs.RunExists.{ScriptLetsEnd, SomeLosses, SomeMarks, some_runs}
 use Rattle.xray_program.proofs.RunLaws.{run_refuses, run_some}
 use Rattle.xray_program.proofs.SimLaws.{OneRun, StillRun, sim_alone, sim_some}
+use Rattle.xray_program.proofs.SoakLaws.{DrawnLaws, soak_alone, soak_some}
 use Rattle.xray_program.proofs.StackLaws.{stack_alone, stack_some}
 
 -- what the crates below say
@@ -36,6 +37,7 @@ pub record Existence : Type 0 where
   pub lets : ScriptLetsEnd
   pub marks : SomeMarks
   pub losses : SomeLosses
+  pub drawn : DrawnLaws
 
 -- ---- a line for each command
 
@@ -50,6 +52,7 @@ command_alone laws held told (Asm t i threshold) decided = asm_alone held t i th
 command_alone laws held told (Account t i options) decided = account_alone (image_decided laws.verdict laws.accepts) held t i options told
 command_alone laws held told (Stack t i format) decided = stack_alone (image_decided laws.verdict laws.accepts) held t i format told
 command_alone laws held told (Convert t i) decided = convert_alone (image_decided laws.verdict laws.accepts) held t i told
+command_alone laws held told (Soak number) decided = soak_alone (image_decided laws.verdict laws.accepts) laws.run number
 
 -- if a refusal comes of a command, nothing else does
 command_refuses : Laws → (held : List ℕ → Entry) → TellsAll held → (command : Command) → IsAlone IsRefusal (Comes Sound held command)
@@ -61,6 +64,7 @@ command_refuses laws held told (Asm t i threshold) = refusal_alone _ (command_al
 command_refuses laws held told (Account t i options) = refusal_alone _ (command_alone laws held told (Account t i options) refl)
 command_refuses laws held told (Stack t i format) = refusal_alone _ (command_alone laws held told (Stack t i format) refl)
 command_refuses laws held told (Convert t i) = refusal_alone _ (command_alone laws held told (Convert t i) refl)
+command_refuses laws held told (Soak number) = refusal_alone _ (command_alone laws held told (Soak number) refl)
 
 -- each command comes to something
 command_some : Existence → (held : List ℕ → Entry) → TellsAll held → HoldsBytes held → (command : Command) → SomeOutcome (Comes Sound held command)
@@ -72,6 +76,7 @@ command_some laws held told holds (Asm t i threshold) = asm_some held t i thresh
 command_some laws held told holds (Account t i options) = account_some (image_judged laws.verdict laws.accepts) held t i options told holds
 command_some laws held told holds (Stack t i format) = stack_some (image_judged laws.verdict laws.accepts) held t i format told holds
 command_some laws held told holds (Convert t i) = convert_some (image_judged laws.verdict laws.accepts) held t i told holds
+command_some laws held told holds (Soak number) = soak_some laws.run laws.drawn number
 
 -- ---- words
 
@@ -105,3 +110,4 @@ inputs_of_row (Stack t None format) = refl
 inputs_of_row (Stack t (Some i) format) = refl
 inputs_of_row (Convert t None) = refl
 inputs_of_row (Convert t (Some i)) = refl
+inputs_of_row (Soak number) = refl

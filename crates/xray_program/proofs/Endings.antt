@@ -12,7 +12,7 @@ use Rattle.xray_io.specs.Reads.{Reads, ReadsUpToFault}
 use Rattle.xray_program.specs.Order.{FailsAtOutput, InOrder, IsNoCall, IsUnmade, MakesAll, ReadsAll, ReadsWhole, StopsAt, inputs_of}
 use Rattle.xray_program.specs.Outcomes.{Outcome, BadLine, Unread, TooLong, Refused, Done, Fell, Ending, With, Unwritten, NoMemory, written_by}
 use Rattle.xray_program.specs.Outputs.{AreWhole, AreUntouched, FailsAt, FailsAtOut, FailsWriting, HoldsPrefix, WritesNothing}
-use Rattle.xray_program.specs.private.Stops.{answer_of, stop_line, stop_status, told_of}
+use Rattle.xray_program.specs.private.Stops.{IsUnsaid, answer_of, stop_line, stop_status, told_of}
 use Rattle.xray_program.specs.private.Takes.{IsStopAtInput, StopsTakings}
 use Rattle.xray_program.specs.Taking.{AcceptsFirst, DeskReads, Sound, AllAccepted, ended_by}
 use Rattle.command_words.specs.Words.{Command, outputs_of}
@@ -263,13 +263,13 @@ ends_with_work along both first second third command yields desk mid desk_now ou
     }
 
 -- words that say no command
-pub bad_line : (said : Option Command) (desk : DeskView) (out : SinkView) (Way : List Call → Type 0) → said ≡ None → Went Way IsNoCall
+bad_line : (said : Option Command) (desk : DeskView) (out : SinkView) (Way : List Call → Type 0) → said ≡ None → Went Way IsNoCall
     → Ends said desk desk out out Way (stop_status stops.BadLine) (stop_line stops.BadLine)
 bad_line said desk out Way is none =
     record { ending = With BadLine; status = refl; told = refl; stands = (is, (refl, refl)); names = λ name not. refl; order = none }
 
 -- memory ran out while the words were read
-pub unread_words : (said : Option Command) (desk : DeskView) (out : SinkView) (Way : List Call → Type 0)
+unread_words : (said : Option Command) (desk : DeskView) (out : SinkView) (Way : List Call → Type 0)
     → Went Way IsNoCall → Ends said desk desk out out Way (stop_status stops.NoMemory) (stop_line stops.NoMemory)
 unread_words said desk out Way none = record {
   ending = NoMemory;
@@ -279,3 +279,14 @@ unread_words said desk out Way none = record {
   names = λ name not. refl;
   order = went_as Way IsNoCall (InOrder said desk desk NoMemory) none (λ calls p. inl p);
 }
+
+-- words that say no command, for this reason
+pub unsaid : (said : Option Command) (desk : DeskView) (out : SinkView) {Way : List Call → Type 0} (stop : Stop) → IsUnsaid said stop
+    → Went Way IsNoCall → Ends said desk desk out out Way (stop_status stop) (stop_line stop)
+unsaid said desk out {Way = Way} stops.BadLine is none = bad_line said desk out Way is none
+unsaid said desk out {Way = Way} stops.NoMemory is none = unread_words said desk out Way none
+unsaid said desk out (stops.Unread name) is none = absurd is
+unsaid said desk out (stops.TooLong name) is none = absurd is
+unsaid said desk out (stops.Refused name kind words) is none = absurd is
+unsaid said desk out (stops.Fell words) is none = absurd is
+unsaid said desk out (stops.Unwritten name) is none = absurd is

@@ -41,6 +41,7 @@ use Rattle.xray_program.specs.Setups.{setup_of}
 use Rattle.xray_program.specs.Taking.{Form, Leaves, RefuseIf, Sound, Take}
 use Rattle.xray_program.specs.Traced.{IsTraced, Traces, written_of}
 use Rattle.command_words.specs.Words.{Command}
+use Rattle.xray_program.specs.private.CallLaws.{CallLaws}
 use Rattle.xray_program.specs.private.Works.{SaidFits}
 use Rattle.xray_io.specs.World.{World}
 use Rattle.xray_program.proofs.RunLoads.{leave_all}
@@ -73,48 +74,6 @@ left_alike Are outputs text (o, t, are, is) =
     let same_o : o ≡ outputs = cc in
     let same_t : t ≡ text = cc in
     subst (λ x. Are outputs x) same_t (subst (λ x. Are x t) same_o are)
-
--- a replay tears no sled
-abbrev pub TearsNone : Type 0
-TearsNone = (program : Program) (script : List PatchCommand) (text : List ℕ) (schedule : List Turns) (setup : Setup) (runs : List ThreadRun)
-    → schedule_of setup.threads text ≡ Ok schedule → (replay : IsReplayOf program script schedule setup runs)
-    → (i : ℕ) (run : ThreadRun) → slice_get runs i ≡ Some run
-    → DecodesWhole program (i + 1) (hold_of (i + 1) script) run (of_thread replay.last.moment.loads (i + 1))
-
--- the segments that a replay loses are each thread's oldest
-abbrev pub LosesOldest : Type 0
-LosesOldest = (program : Program) (script : List PatchCommand) (text : List ℕ) (schedule : List Turns) (setup : Setup) (runs : List ThreadRun)
-    → schedule_of setup.threads text ≡ Ok schedule → (replay : IsReplayOf program script schedule setup runs)
-    → LoseOldest setup.size runs replay.last.stock
-
--- the stores of any script keep sleds whole
-abbrev pub ScriptsKeep : Type 0
-ScriptsKeep = (program : Program) (script : List PatchCommand) (thread : ℕ) → KeepsSleds program thread (code_at program script)
-
--- loads that follow code which keeps sleds whole tear none
-abbrev pub FollowsWhole : Type 0
-FollowsWhole = (program : Program) (code : ℕ → ℕ → ℕ) (start : ℕ) (bound : ℕ → ℕ) (thread : ℕ) (hold : Option ℕ) (sleds : List ℕ)
-    (loads : List Load) (place : ℕ) → KeepsSleds program thread code → Follows program code start bound thread hold sleds loads place
-    → PassingsAreWhole program thread hold sleds loads
-
--- the trace of a run reads back
-abbrev pub TracesRuns : Type 0
-TracesRuns = (bytes : List ℕ) (program : Program) (setup : Setup) (runs : List ThreadRun) → IsAccepted bytes program → SetupFits setup
-    → IsRun program setup runs → IsTraceOf setup runs (trace_bytes setup runs)
-
--- as many segments are lost as the queue has no buffers for
-abbrev pub LosesAsQueued : Type 0
-LosesAsQueued = (program : Program) (script : List PatchCommand) (text : List ℕ) (schedule : List Turns) (setup : Setup) (runs : List ThreadRun)
-    → schedule_of setup.threads text ≡ Ok schedule → IsReplayOf program script schedule setup runs → AreLost setup.size (spare_of setup) runs
-
--- what the crates below say
-pub record CallLaws : Type 0 where
-  pub tears : TearsNone
-  pub loses : LosesAsQueued
-  pub oldest : LosesOldest
-  pub keeps : ScriptsKeep
-  pub follows : FollowsWhole
-  pub traced : TracesRuns
 
 -- both outputs of a run hold their bytes
 files_hold : (trace audit : List ℕ) (setup : Setup) (runs : List ThreadRun) (outputs : List (List ℕ × List ℕ)) (old new : List ℕ → Entry)

@@ -23,6 +23,9 @@ pub mod RunWritten
 pub mod Saying
 pub mod SimLaws
 pub mod SimTurns
+pub mod SoakLaws
+pub mod SoakReads
+pub mod SoakTexts
 pub mod StackLaws
 pub mod TextLists
 pub mod Turns

@@ -11,9 +11,10 @@ use Rattle.xray_program.specs.Plain.{PlainComes}
 use Rattle.xray_program.specs.Run.{RunComes}
 use Rattle.xray_program.specs.Setups.{setup_of}
 use Rattle.xray_program.specs.Sim.{SimComes}
+use Rattle.xray_program.specs.Soak.{SoakComes}
 use Rattle.xray_program.specs.Stack.{StackComes}
 use Rattle.xray_program.specs.Taking.{DeskReads, Sound, Faulty}
-use Rattle.command_words.specs.Words.{Command, Sim, Run, Plain, Extract, Asm, Account, Stack, Convert, outputs_of}
+use Rattle.command_words.specs.Words.{Command, Sim, Run, Plain, Extract, Asm, Account, Stack, Convert, Soak, outputs_of}
 
 -- ---- a line for each command
 
@@ -27,6 +28,7 @@ Comes reads held (Asm text image threshold) = AsmComes reads held text image thr
 Comes reads held (Account trace image options) = AccountComes reads held trace image options
 Comes reads held (Stack trace image format) = StackComes reads held trace image format
 Comes reads held (Convert trace image) = ConvertComes reads held trace image
+Comes reads held (Soak number) = SoakComes number
 
 -- whether only one outcome comes of it, over what a desk holds; this fails if threads run in an order of their own
 abbrev pub is_decided : Command → Bool
@@ -38,6 +40,7 @@ is_decided (Asm text image threshold) = true
 is_decided (Account trace image options) = true
 is_decided (Stack trace image format) = true
 is_decided (Convert trace image) = true
+is_decided (Soak number) = true
 
 -- whether it waits for nobody, and starts no thread
 abbrev pub is_still : Command → Bool
@@ -49,6 +52,7 @@ is_still (Asm text image threshold) = true
 is_still (Account trace image options) = true
 is_still (Stack trace image format) = true
 is_still (Convert trace image) = true
+is_still (Soak number) = true
 
 -- ---- what was said: a command, or none
 

@@ -11,6 +11,7 @@ pub mod Sim
 pub mod Run
 pub mod Reports
 pub mod Account
+pub mod Soak
 pub mod Stack
 pub mod Convert
 pub mod Commands

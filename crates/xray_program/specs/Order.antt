@@ -11,7 +11,7 @@ use Rattle.xray_program.specs.Reports.{report_inputs}
 use Rattle.xray_program.specs.Commands.{ComesOf}
 use Rattle.xray_program.specs.Taking.{AcceptsFirst, AllAccepted, DeskReads}
 use Rattle.xray_program.specs.Outcomes.{Outcome, BadLine, Unread, TooLong, Refused, Done, Fell, Ending, With, Unwritten, NoMemory}
-use Rattle.command_words.specs.Words.{Command, Sim, Run, Plain, Extract, Asm, Account, Stack, Convert}
+use Rattle.command_words.specs.Words.{Command, Sim, Run, Plain, Extract, Asm, Account, Stack, Convert, Soak}
 
 -- ---- a line for each command
 
@@ -26,6 +26,7 @@ inputs_of (Asm text image threshold) = (text, text_limit) ∷ []
 inputs_of (Account trace image options) = report_inputs trace image
 inputs_of (Stack trace image format) = report_inputs trace image
 inputs_of (Convert trace image) = report_inputs trace image
+inputs_of (Soak number) = []
 
 -- ---- inputs
 

@@ -1,4 +1,6 @@
 -- What the contracts of private functions cite. No promise of this crate rests on it.
+pub mod CallLaws
+pub mod Drawn
 pub mod Ends
 pub mod ReportTakes
 pub mod RunInputs

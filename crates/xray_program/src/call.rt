@@ -1,14 +1,15 @@
 //! The top call.
-ghost use Rattle.std.specs.Prelude.{◌≡◌, OnOk, Some};
+ghost use Rattle.std.specs.Prelude.{◌≡◌, IfErr, IfOk, OnOk, Some};
 ghost use Rattle.command_words.specs.Items.{texts};
 ghost use Rattle.command_words.specs.Ranges.{HasRanges};
 ghost use Rattle.command_words.specs.Views.{command_view};
 ghost use Rattle.command_words.specs.Words.{reading};
 ghost use Rattle.xray_io.specs.World.{desk_view, sink_view};
-ghost use Rattle.xray_program.specs.Answers.{Answered};
+ghost use Rattle.xray_program.specs.Answers.{Answered, Says};
 ghost use Rattle.xray_program.specs.Commands.{IsStill};
-ghost use Rattle.xray_program.specs.private.Stops.{answer_of, told_of};
-ghost use Rattle.xray_program.specs.private.Works.{Ends, FitsTraces, SaidFits};
+ghost use Rattle.xray_program.specs.private.CallLaws.{CallLaws};
+ghost use Rattle.xray_program.specs.private.Stops.{answer_of, told_of, IsUnsaid};
+ghost use Rattle.xray_program.specs.private.Works.{Ends, FitsTraces, IsOther, IsReport, SaidFits};
 
 use crate::account::Account;
 use crate::asm::Asm;
@@ -18,6 +19,7 @@ use crate::plain::Plain;
 use crate::run::perform_run;
 use crate::run_inputs::Run;
 use crate::sim::Sim;
+use crate::soak::Soak;
 use crate::stack::Stack;
 use crate::stop::Stop;
 use crate::traced::TraceFiles;
@@ -59,21 +61,9 @@ pub fn xray_still<D: Desk, O: Sink, E: Sink>(
         (record { desk = seen desk.new; out = got out.new; err = heard err.new })
         (D.along desk.old desk.new) result }
 {
-    // Called for their contracts: no thread of a replay decodes a torn sled, and none that runs
-    // beside a script; how many segments a replay loses, and which; the trace of a run reads back.
-    no_replay_tears_a_sled();
-    each_script_keeps_sleds();
-    what_follows_is_allowed();
-    a_replay_loses_few();
-    lost_segments_are_the_oldest();
-    a_run_is_traced();
-    match perform_words(alloc, words, wall, desk, out) {
-        Ok(()) => 0,
-        Err(stop) => {
-            stop.report(err);
-            stop.status()
-        }
-    }
+    what_runs_leave();
+    let ended = perform_words(alloc, words, wall, desk, out);
+    answer(ended, err)
 }
 
 /// Does what `words` say, with the files of `desk`. `words` don't hold the program's own name.
@@ -98,19 +88,49 @@ pub fn xray<T: Threads + Wait + Sync, D: Desk, O: Sink, E: Sink, G: Gate + Sync>
         (record { desk = seen desk.new; out = got out.new; err = heard err.new })
         (D.along desk.old desk.new) result }
 {
-    // Called for their contracts, as in `xray_still`.
+    what_runs_leave();
+    let ended = perform_any_words(rt, alloc, words, wall, desk, out, gate);
+    answer(ended, err)
+}
+
+/// A law: no thread of a replay decodes a torn sled, and none that runs beside a script. How many
+/// segments a replay loses, and which. The trace of a run reads back.
+fn what_runs_leave()
+    ensures { CallLaws }
+{
     no_replay_tears_a_sled();
     each_script_keeps_sleds();
     what_follows_is_allowed();
     a_replay_loses_few();
     lost_segments_are_the_oldest();
     a_run_is_traced();
-    match perform_any_words(rt, alloc, words, wall, desk, out, gate) {
+}
+
+/// The status of a call that ended so. If something stopped it, a line on `err` says what.
+fn answer<E: Sink>(ended: Result<(), Stop>, err: &mut E) -> u8
+    ensures status { result ≡ answer_of ended.entry }
+    ensures says { let heard = sink_view E.written E.faults in
+        Says (heard err.old) (heard err.new) (told_of ended.entry) }
+{
+    match ended {
         Ok(()) => 0,
         Err(stop) => {
             stop.report(err);
             stop.status()
         }
+    }
+}
+
+/// The command that words say, or why they say none.
+fn command_said<'a>(alloc: Global, wall: Wall, words: &'a [String]) -> Result<Command<'a>, Stop<'a>>
+    ensures said { IfOk result (λ command. reading wall (texts words.entry.now) ≡ Some (command_view command)) }
+    ensures ranges { IfOk result (λ command. HasRanges (command_view command)) }
+    ensures stops { IfErr result (IsUnsaid (reading wall (texts words.entry.now))) }
+{
+    match read_words(alloc, wall, words) {
+        Ok(Some(command)) => Ok(command),
+        Ok(None) => Err(Stop::BadLine),
+        Err(_) => Err(Stop::NoMemory),
     }
 }
 
@@ -130,12 +150,9 @@ fn perform_any_words<'a, T: Threads + Wait + Sync, D: Desk, O: Sink, G: Gate + S
         (D.along desk.old desk.new) (answer_of result) (told_of result) }
     ensures fits { OnOk result (SaidFits (reading wall (texts words.now))) }
 {
-    let Ok(any) = read_words(alloc, wall, words) else {
-        return Err(Stop::NoMemory);
-    };
-    match any {
-        Some(command) => perform_any(rt, alloc, command, desk, out, gate),
-        None => Err(Stop::BadLine),
+    match command_said(alloc, wall, words) {
+        Ok(command) => perform_any(rt, alloc, command, desk, out, gate),
+        Err(stop) => Err(stop),
     }
 }
 
@@ -196,12 +213,9 @@ fn perform_words<'a, D: Desk, O: Sink>(
         (D.along desk.old desk.new) (answer_of result) (told_of result) }
     ensures fits { OnOk result (SaidFits (reading wall (texts words.now))) }
 {
-    let Ok(said) = read_words(alloc, wall, words) else {
-        return Err(Stop::NoMemory);
-    };
-    match said {
-        Some(command) => perform_command(alloc, command, desk, out),
-        None => Err(Stop::BadLine),
+    match command_said(alloc, wall, words) {
+        Ok(command) => perform_command(alloc, command, desk, out),
+        Err(stop) => Err(stop),
     }
 }
 
@@ -229,20 +243,37 @@ fn perform_command<'a, D: Desk, O: Sink>(
             audit,
             options,
         } => {
-            perform(
-                alloc,
-                &Sim {
-                    image,
-                    script,
-                    schedule,
-                    files: TraceFiles { trace, audit },
-                    options,
-                },
-                desk,
-                out,
-            )
+            let files = TraceFiles { trace, audit };
+            let sim = Sim {
+                image,
+                script,
+                schedule,
+                files,
+                options,
+            };
+            perform(alloc, &sim, desk, out)
         }
         Command::Run { .. } => unreachable!(),
+        other => perform_other(alloc, other, desk, out),
+    }
+}
+
+/// Does what a command says that writes no trace and no audit.
+fn perform_other<'a, D: Desk, O: Sink>(
+    alloc: Global,
+    command: Command<'a>,
+    desk: &mut D,
+    out: &mut O,
+) -> Result<(), Stop<'a>>
+    requires other { IsOther (command_view command) }
+    ensures ends { let seen = desk_view D.held D.read_faults D.write_faults in
+        let got = sink_view O.written O.faults in
+        Ends (Some (command_view command.entry)) (seen desk.old) (seen desk.new) (got out.old) (got out.new)
+        (D.along desk.old desk.new) (answer_of result) (told_of result) }
+    ensures fits { OnOk result (FitsTraces (command_view command.entry)) }
+{
+    match command {
+        Command::Sim { .. } | Command::Run { .. } => unreachable!(),
         Command::Plain { image, bounds } => perform(alloc, &Plain { image, bounds }, desk, out),
         Command::Extract { image } => perform(alloc, &Extract { image }, desk, out),
         Command::Asm {
@@ -250,51 +281,60 @@ fn perform_command<'a, D: Desk, O: Sink>(
             image,
             threshold,
         } => {
-            perform(
-                alloc,
-                &Asm {
-                    text,
-                    image,
-                    threshold,
-                },
-                desk,
-                out,
-            )
+            let asm = Asm {
+                text,
+                image,
+                threshold,
+            };
+            perform(alloc, &asm, desk, out)
         }
+        Command::Soak { number } => perform(alloc, &Soak { number }, desk, out),
+        report => perform_report(alloc, report, desk, out),
+    }
+}
+
+/// Makes the report on a trace that a command says.
+fn perform_report<'a, D: Desk, O: Sink>(
+    alloc: Global,
+    command: Command<'a>,
+    desk: &mut D,
+    out: &mut O,
+) -> Result<(), Stop<'a>>
+    requires report { IsReport (command_view command) }
+    ensures ends { let seen = desk_view D.held D.read_faults D.write_faults in
+        let got = sink_view O.written O.faults in
+        Ends (Some (command_view command.entry)) (seen desk.old) (seen desk.new) (got out.old) (got out.new)
+        (D.along desk.old desk.new) (answer_of result) (told_of result) }
+    ensures fits { OnOk result (FitsTraces (command_view command.entry)) }
+{
+    match command {
         Command::Account {
             trace,
             image,
             options,
         } => {
-            perform(
-                alloc,
-                &Account {
-                    trace,
-                    image,
-                    options,
-                },
-                desk,
-                out,
-            )
+            let account = Account {
+                trace,
+                image,
+                options,
+            };
+            perform(alloc, &account, desk, out)
         }
         Command::Stack {
             trace,
             image,
             format,
         } => {
-            perform(
-                alloc,
-                &Stack {
-                    trace,
-                    image,
-                    format,
-                },
-                desk,
-                out,
-            )
+            let stack = Stack {
+                trace,
+                image,
+                format,
+            };
+            perform(alloc, &stack, desk, out)
         }
         Command::Convert { trace, image } => {
             perform(alloc, &Convert { trace, image }, desk, out)
         }
+        _ => unreachable!(),
     }
 }

@@ -7,9 +7,13 @@ ghost use Rattle.xray_program.specs.Order.{inputs_of};
 ghost use Rattle.xray_program.specs.Outcomes.{Outcome, written_by};
 ghost use Rattle.command_words.specs.Words.{Command};
 
+use asm_text::an_assembled_file_is_accepted;
+use fdr_file::a_trace_is_read;
 use machine_step::{one_end, some_end, some_marks_follow};
 use patch_script::each_script_lets_threads_end;
+use soak_inputs::{the_schedule_is_read, the_script_is_read, the_text_is_assembled};
 use step_sim::{one_run, some_run};
+use trace_flush::a_run_is_traced;
 use traced_run::some_losses_are_of_a_queue;
 use xray_image::{one_verdict, some_verdict};
 
@@ -51,6 +55,12 @@ pub fn some_meaning()
     each_script_lets_threads_end();
     some_marks_follow();
     some_losses_are_of_a_queue();
+    the_text_is_assembled();
+    the_script_is_read();
+    the_schedule_is_read();
+    an_assembled_file_is_accepted();
+    a_run_is_traced();
+    a_trace_is_read();
 }
 
 /// The inputs of a command, whose turns come one after another, are the files that are read by its

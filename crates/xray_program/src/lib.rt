@@ -1,11 +1,12 @@
 //! The top call: all that the program does, from the words of its command line to what it writes.
 //!
 //! The words are read first, together with the wall time (`command_words`). A command is one module
-//! (`sim`, `run`, `plain`, `extract`, `asm`, `account`, `stack`, `convert`), which implements `Work`. It
-//! takes its inputs in the order of the words (`input`). Each is read, measured and judged before
-//! the next is opened, so the first that fails decides. Then it does its work, and writes its
-//! outputs and its text (`delivery`). What is written of traced threads is in `traced`. Last, if
-//! something stopped the call, a line on err says what (`stop`).
+//! (`sim`, `run`, `plain`, `extract`, `asm`, `account`, `stack`, `convert`, `soak`), which implements
+//! `Work`. It takes its inputs in the order of the words (`input`). Each is read, measured and
+//! judged before the next is opened, so the first that fails decides. Then it does its work, and
+//! writes its outputs and its text (`delivery`). What is written of traced threads is in `traced`.
+//! The inputs of `soak` are `drawn`, and its text is a `summary`. Last, if something stopped the
+//! call, a line on err says what (`stop`).
 //!
 //! The meaning of a command is one relation: `Comes` of `specs/Commands.antt`. The contract of the
 //! call is one record: `Answered` of `specs/Answers.antt`, over what was said, the world before the
@@ -19,6 +20,7 @@ mod asm;
 mod call;
 mod convert;
 mod delivery;
+mod drawn;
 mod extract;
 mod image_file;
 mod input;
@@ -31,8 +33,10 @@ mod run_inputs;
 mod setups;
 mod sim;
 mod sim_inputs;
+mod soak;
 mod stack;
 mod stop;
+mod summary;
 mod text;
 mod traced;
 mod work;

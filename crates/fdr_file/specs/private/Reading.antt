@@ -1,6 +1,7 @@
 -- Reading a trace from its first byte to its last, for the contracts of the reader's private functions.
 use Rattle.std.specs.Prelude.{◌≡◌, ◌⊎◌, ◌≤◌, ◌<◌, ℕ, ◌+◌, ◌^◌, ◌%◌, List, [], ◌∷◌, ◌++◌, length, drop, map, Option, Some, None, Result, Ok, Err, option_to_list, nat_lt, if◌then◌else◌}
 use Rattle.std.specs.List.{flat_map}
+use Rattle.xray_io.specs.Rows.{◌>>=◌}
 use Rattle.xray_io.specs.declared.faults.Wall.{Wall}
 use Rattle.fdr_record.specs.declared.event.Event.{Event}
 use Rattle.fdr_record.specs.declared.rec.Rec.{Rec}
@@ -13,12 +14,8 @@ use Rattle.fdr_file.specs.declared.fault.TraceFault.TheVariants as faults
 use Rattle.fdr_file.specs.declared.header.Header.{Header}
 use Rattle.fdr_file.specs.declared.trace.Block.{Block}
 use Rattle.fdr_file.specs.declared.trace.Trace.{Trace}
-use Rattle.fdr_file.specs.Traces.{Standing, block_faults, block_in, decided, fault_at, record_in, record_length, pid_named, standings, thread_named, wall_named}
-
-infixl 10 ◌>>=◌
-abbrev pub ◌>>=◌ : {A B : Type 0} → Result A TraceFault → (A → Result B TraceFault) → Result B TraceFault
-(Ok x) >>= f = f x
-(Err e) >>= f = Err e
+use Rattle.fdr_file.specs.Traces.{Standing, block_in, fault_at, record_in, record_length, pid_named, standings, thread_named, wall_named}
+use Rattle.fdr_file.specs.private.Faults.{block_faults, decided}
 
 -- what a function answered, as a view of it, is what reading gives
 abbrev pub Reads : {A B : Type 0} → (A → B) → Result A TraceFault → Result B TraceFault → Type 0

@@ -3,7 +3,7 @@ use Rattle.std.specs.Prelude.{ℕ, List, ◌++◌, Option, Result, Ok, Err, opti
 use Rattle.std.specs.List.{flat_map}
 use Rattle.step_sim.specs.declared.fault.ScheduleFault.{ScheduleFault}
 use Rattle.step_sim.specs.declared.turns.Turns.{Turns}
-use Rattle.step_sim.specs.Schedules.{decided, line_faults, line_turns}
+use Rattle.step_sim.specs.private.Faults.{decided, line_faults, line_turns}
 
 -- an answer with its turns as a list
 abbrev pub listed : Result (Option Turns) ScheduleFault → Result (List Turns) ScheduleFault

@@ -1,5 +1,6 @@
 -- What ends a call before all is done: its status and its line on err.
-use Rattle.std.specs.Prelude.{ℕ, List, [], Result, Ok, Err}
+use Rattle.std.specs.Prelude.{◌≡◌, ℕ, List, [], Option, None, Result, Ok, Err}
+use Rattle.command_words.specs.Words.{Command}
 use Rattle.fault_words.specs.Words.{words_text}
 use Rattle.xray_program.specs.Outcomes.{BadLine, Unread, TooLong, Refused, Unwritten, NoMemory, err_line, line_of, line_at}
 use Rattle.xray_program.specs.declared.stop.Stop.{Stop}
@@ -24,6 +25,12 @@ stop_line (stops.Unwritten name) = line_at (Unwritten name.now [])
 stop_line stops.NoMemory = line_at NoMemory
 stop_line (stops.TooLong name) = line_of (TooLong name.now)
 stop_line (stops.Fell trouble) = err_line (words_text trouble)
+
+-- why words say no command: they say none, or memory ran out while they were read
+abbrev pub IsUnsaid : Option Command → Stop → Type 0
+IsUnsaid said stops.BadLine = said ≡ None
+IsUnsaid said stops.NoMemory = Unit {0}
+IsUnsaid said stop = ⊥
 
 -- the status and the line of a call that went like this: 0 and none if nothing stopped it
 abbrev pub answer_of : {X : Type 0} → Result X Stop → ℕ

@@ -6,6 +6,7 @@ use Rattle.fdr_file.specs.declared.fault.TraceFault.{TraceFault}
 use Rattle.fdr_file.specs.declared.trace.Block.{Block}
 use Rattle.fdr_file.specs.declared.trace.Trace.{Trace}
 use Rattle.fdr_file.proofs.Deciding.{file_ends, file_more, file_refused}
+use Rattle.fdr_file.proofs.TraceRows.{rows_decide}
 use Rattle.fdr_file.proofs.reading.read_trace.Goals as goal
 
 pub returns-in_err-block : goal.returns-in_err-block
@@ -14,7 +15,7 @@ returns-in_err-block c =
     let some : 0 < length bytes = omega (arith, length-drop c.reading.at c.args.bytes.now) in
     let p = err_from_is_err_and c.from_residual-in_err-block.result c.from_residual-in_err-block.ensures.1 in
     record {
-      reads = rw (p.1, p.2) (file_refused _ c.in_ok-header.header c.reading.blocks.items c.reading.at bytes _ c.reading.invariant.left some c.in_err-block.ensures.reads);
+      reads = rw (p.1, p.2) (file_refused _ c.in_ok-header.header c.reading.blocks.items c.reading.at bytes _ (rows_decide c.args.bytes.now ∙ c.reading.invariant.left) some c.in_err-block.ensures.reads);
     }
 
 pub reading-preserved : goal.reading-preserved
@@ -26,4 +27,4 @@ reading-preserved c = record {
 pub returns : goal.returns
 returns c =
     let end = drop_of_length-le c.args.bytes.now c.reading-test.false in
-    record { reads = inr (sym (rw end at c.reading.invariant.left ∙ file_ends c.in_ok-header.header c.reading.blocks.items c.reading.at ∙ ap (λ (all : List Block). let made : Result Trace TraceFault = Ok (record { header = c.in_ok-header.header; blocks = all }) in made) (sym c.new.ensures))) }
+    record { reads = inr (sym (rows_decide c.args.bytes.now ∙ rw end at c.reading.invariant.left ∙ file_ends c.in_ok-header.header c.reading.blocks.items c.reading.at ∙ ap (λ (all : List Block). let made : Result Trace TraceFault = Ok (record { header = c.in_ok-header.header; blocks = all }) in made) (sym c.new.ensures))) }

@@ -34,7 +34,7 @@ pub note_any-requires : goal.note_any-requires
 note_any-requires c =
     let said = c.in-Some.ensures in
     can_note c.args.patcher.now c.args.cpu.now c.next_word.new.cpu c.give-event.new.self c.args.pool.now c.give-event.result c.thread-thread.result
-    c.requires.records said.thread said.loads c.give-event.ensures.event c.thread-thread.ensures (omega (arith, c.passings.ensures))
+    c.requires.records said.thread said.loads c.give-event.ensures.event c.thread-thread.ensures (omega (arith, c.passings_are_few.ensures))
 
 pub returns-in-Some-clause-records : goal.returns-in-Some-clause-records
 returns-in-Some-clause-records c = λ r pooled at.

@@ -1,7 +1,6 @@
 use Rattle.std.proofs.Common.{ap, refl, subst, ◌≤◌, ◌∙◌, sym}
 use Rattle.patch_script.specs.Micros.{total_of}
 use Rattle.patch_script.specs.Refusals.{commands_of}
-use Rattle.machine_step.specs.Traced.{IsDone, StandsAs}
 use Rattle.sled_rule.specs.declared.views.WorkView.{WorkView}
 use Rattle.sled_rule.specs.Seats.{work_view, script_of}
 use Rattle.sled_rule.specs.Views.{ended_count}

@@ -1,7 +1,7 @@
-use Rattle.std.proofs.Common.{◌≡◌, ◌<◌, ℕ, true, false, ap, refl, sym, subst, ◌∙◌}
+use Rattle.std.proofs.Common.{◌<◌, true, false, ap, sym, subst, ◌∙◌}
 use Rattle.machine_step.specs.Traced.{IsLoadable, Traced, loads_left}
 use Rattle.sled_rule.specs.Seats.{work_view}
-use Rattle.thread_run.specs.Workers.{cpu_of, loads_of, seat_of}
+use Rattle.thread_run.specs.Workers.{cpu_of, seat_of}
 use Rattle.thread_run.proofs.Turns.{held_again, made_one, moved_on, no_load, one_more, worker_then}
 use Rattle.thread_run.proofs.worker.Worker.load.Goals as goal
 

@@ -1,8 +1,8 @@
 use Rattle.std.proofs.Common.{ap, refl, sym, subst, length, ◌∙◌}
-use Rattle.std.specs.Prelude.{List, ◌≡◌}
+use Rattle.std.specs.Prelude.{List}
 use Rattle.handler_word.specs.declared.mark.Mark.{Mark}
 use Rattle.machine_step.specs.Events.{recorded}
-use Rattle.machine_step.specs.Traced.{IsSameThread, Traced}
+use Rattle.machine_step.specs.Traced.{Traced}
 use Rattle.sled_rule.specs.Seats.{work_view, script_of}
 use Rattle.thread_run.proofs.Loading.{along_same, same_in}
 use Rattle.thread_run.proofs.Turns.{opened_same}

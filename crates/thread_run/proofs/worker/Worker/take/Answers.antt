@@ -6,8 +6,6 @@ use Rattle.sled_rule.specs.declared.views.WorkView.{WorkView}
 use Rattle.machine_step.specs.Events.{recorded}
 use Rattle.machine_step.specs.Traced.{Allows, IsLoadable}
 use Rattle.machine_step.specs.declared.want.Want.{Want}
-use Rattle.fdr_record.specs.declared.event.Event.{Event}
-use Rattle.std.specs.Prelude.{List}
 use Rattle.sled_rule.specs.Seats.{work_view, script_of}
 use Rattle.traced_run.proofs.FitPassings.{run_ids}
 use Rattle.thread_run.specs.Following.{given}

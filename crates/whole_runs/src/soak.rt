@@ -1,0 +1,91 @@
+//! `soak`: what it prints, and which words it takes.
+use crate::runs::{Run, run_words};
+use std::process::Abort;
+use std::sync::Wait;
+use std::test::Fail;
+use std::thread::Threads;
+use xray_io::MemDesk;
+
+/// What the model of `tools/soak_runs.py` prints for seed 1.
+const SUMMARY_OF_1: &str = "soak 1\n\
+    thread 1 returned passings 37324 recorded 402 first 0\n\
+    thread 2 returned passings 37324 recorded 492 first 0\n\
+    thread 3 returned passings 37324 recorded 464 first 0\n\
+    thread 4 returned passings 37324 recorded 694 first 0\n\
+    recycled 0\n\
+    trace 16912\n\
+    pairs 935 entries 128 exits 54\n";
+
+/// What comes of these words over a desk that holds nothing.
+fn soak<R: Threads + Wait + Sync + AllocGlobal>(
+    rt: &R,
+    words: &[&str],
+    out_failing: &[u64],
+) -> Result<Run, Fail> {
+    let alloc = rt.alloc();
+    let mut desk = MemDesk::new(alloc, Vec::new(alloc));
+    run_words(rt, words, &mut desk, out_failing, &[])
+}
+
+/// Checks that the words are refused.
+fn assert_bad<R: Abort + Threads + Wait + Sync + AllocGlobal>(
+    rt: &R,
+    words: &[&str],
+) -> Result<(), Fail> {
+    let run = soak(rt, words, &[])?;
+    assert_eq!(rt; run.status, 1);
+    assert_eq!(rt; run.err.as_str(), "xray: bad command line\n");
+    assert_eq!(rt; run.out.as_str(), "");
+    Ok(())
+}
+
+#[test]
+fn a_number_has_the_same_summary_in_each_run(rt: HostRuntime) -> Result<(), Fail> {
+    for word in ["1", "+01"] {
+        let run = soak(&rt, &["soak", word], &[])?;
+        assert_eq!(rt; run.err.as_str(), "");
+        assert_eq!(rt; run.status, 0);
+        assert_eq!(rt; run.out.as_str(), SUMMARY_OF_1);
+    }
+    Ok(())
+}
+
+#[test]
+fn each_number_is_soaked(rt: HostRuntime) -> Result<(), Fail> {
+    for word in [
+        "0",
+        "2",
+        "3",
+        "4",
+        "5",
+        "6",
+        "7",
+        "8",
+        "9",
+        "18446744073709551615",
+    ] {
+        let run = soak(&rt, &["soak", word], &[])?;
+        assert_eq!(rt; run.err.as_str(), "");
+        assert_eq!(rt; run.status, 0);
+        let (first, _) = run.out.as_str().split_once('\n').ok_or("no line")?;
+        assert_eq!(rt; first.strip_prefix("soak "), Some(word));
+    }
+    Ok(())
+}
+
+#[test]
+fn other_words_are_refused(rt: HostRuntime) -> Result<(), Fail> {
+    assert_bad(&rt, &["soak"])?;
+    assert_bad(&rt, &["soak", "x"])?;
+    assert_bad(&rt, &["soak", "18446744073709551616"])?;
+    assert_bad(&rt, &["soak", "1", "2"])
+}
+
+#[test]
+fn an_output_that_fails_is_named(rt: HostRuntime) -> Result<(), Fail> {
+    let run = soak(&rt, &["soak", "1"], &[0])?;
+    assert_eq!(rt; run.status, 4);
+    assert_eq!(rt; run.err.as_str(), "xray: output: write fault\n");
+    assert_eq!(rt; run.out.as_str(), "");
+    Ok(())
+}

@@ -1,0 +1,158 @@
+-- `soak`: one thing comes of it, and something in any case.
+use Rattle.std.proofs.Common.{◌≡◌, ◌≤◌, ◌∙◌, ℕ, List, [], None, Ok, Result, refl, sym, ap, subst, arith}
+use Rattle.std.specs.List.{enumerate_from}
+use Rattle.account_report.specs.Account.{account_of}
+use Rattle.asm_text.specs.Assembling.{assembled, image_of, said_by}
+use Rattle.asm_text.specs.Layout.{Lines}
+use Rattle.asm_text.specs.Programs.{program_said}
+use Rattle.asm_text.specs.Writing.{file_bytes}
+use Rattle.fdr_file.specs.Grammar.{IsTrace}
+use Rattle.fdr_file.specs.Traces.{trace_of}
+use Rattle.fdr_file.specs.declared.trace.Trace.{Trace}
+use Rattle.machine_step.specs.declared.setup.Setup.{Setup}
+use Rattle.patch_script.specs.Plans.{Plan, plan_of, waiting_line}
+use Rattle.patch_script.specs.Refusals.{commands_of}
+use Rattle.patch_script.specs.WrittenScripts.{written_plan}
+use Rattle.soak_inputs.specs.Inputs.{soak_commands, soak_schedule, soak_script, soak_text, soak_turns}
+use Rattle.soak_inputs.specs.Said.{soak_said}
+use Rattle.step_sim.specs.Schedules.{schedule_of}
+use Rattle.step_sim.specs.declared.turns.Turns.{Turns}
+use Rattle.trace_flush.specs.Flush.{IsTraceOf, trace_bytes}
+use Rattle.traced_run.specs.Fits.{SetupFits}
+use Rattle.traced_run.specs.Runs.{IsRun, ThreadRun}
+use Rattle.xray_image.specs.Ids.{id_count}
+use Rattle.xray_image.specs.Program.{IsAccepted, Program}
+use Rattle.xray_program.specs.Inputs.{image_form}
+use Rattle.xray_program.specs.Soak.{AreInputs, IsSummary, SoakComes, soak_setup, soak_summary}
+use Rattle.xray_program.proofs.Meanings.{AnyOutcome, IsAlone, IsDecided, SomeOutcome, leaves_alone, some_leaves}
+use Rattle.xray_program.proofs.SimLaws.{OneRun, StillRun}
+
+-- what the crates below say: of the inputs of a number, of assembled images, and of the traces of runs
+abbrev pub Assembles : Type 0
+Assembles = (text : List ℕ) (threshold : ℕ) (said : Lines) → said_by text ≡ Ok said
+    → IsAccepted (file_bytes (image_of threshold said)) (program_said threshold said)
+
+abbrev pub RunTraced : Type 0
+RunTraced = (bytes : List ℕ) (program : Program) (setup : Setup) (runs : List ThreadRun)
+    → IsAccepted bytes program → SetupFits setup → IsRun program setup runs → IsTraceOf setup runs (trace_bytes setup runs)
+
+pub record InputLaws : Type 0 where
+  pub said : (number : ℕ) → said_by (soak_text number) ≡ Ok (soak_said number)
+  pub ids : (number threshold : ℕ) → id_count (program_said threshold (soak_said number)) ≡ 64
+  pub plan : (number : ℕ) (program : Program) → 64 ≤ id_count program
+      → plan_of program 4 (soak_script number) ≡ Ok (written_plan program 4 (soak_commands number))
+  pub waits : (number : ℕ) (program : Program) → 64 ≤ id_count program → waiting_line (enumerate_from 1 (soak_commands number)) ≡ None
+  pub schedule : (number : ℕ) → schedule_of 4 (soak_schedule number) ≡ Ok (soak_turns number)
+  pub assembles : Assembles
+
+pub record DrawnLaws : Type 0 where
+  pub inputs : InputLaws
+  pub traced : RunTraced
+  pub reads : (bytes : List ℕ) (trace : Trace) → IsTrace bytes trace → trace_of bytes ≡ Ok trace
+
+-- ---- the inputs
+
+-- the program of a number
+abbrev pub soak_program : (number : ℕ) → Program
+soak_program number = program_said 1 (soak_said number)
+
+-- its script, as it is read
+abbrev pub soak_plan : (number : ℕ) → Plan
+soak_plan number = written_plan (soak_program number) 4 (soak_commands number)
+
+-- it has enough functions for the script
+pub enough : InputLaws → (number : ℕ) → 64 ≤ id_count (soak_program number)
+enough laws number = omega (arith, laws.ids number 1)
+
+pub assembled_as : (text : List ℕ) (said : Lines) → said_by text ≡ Ok said → assembled text 1 ≡ Ok (file_bytes (image_of 1 said))
+assembled_as text said is = rw is refl
+
+pub inputs_read : InputLaws → (number : ℕ) → AreInputs number (soak_program number) (soak_plan number) (soak_turns number)
+inputs_read laws number = record {
+  image = file_bytes (image_of 1 (soak_said number));
+  assembles = assembled_as (soak_text number) (soak_said number) (laws.said number);
+  accepted = laws.assembles (soak_text number) 1 (soak_said number) (laws.said number);
+  script_reads = laws.plan number (soak_program number) (enough laws number);
+  nobody_waits = laws.waits number (soak_program number) (enough laws number);
+  schedule_reads = laws.schedule number;
+}
+
+-- ---- one thing
+
+pub same_value : {X F : Type 0} (a b : X) → ◌≡◌ {A = Result X F} (Ok a) (Ok b) → a ≡ b
+same_value a b e = cc
+
+-- the inputs of a number are read in only one way
+one_program : IsDecided image_form → (number : ℕ) (program other : Program) (plan plan' : Plan) (turns turns' : List Turns)
+    → AreInputs number program plan turns → AreInputs number other plan' turns' → program ≡ other
+one_program is number program other plan plan' turns turns' x y =
+    let image = same_value x.image y.image (sym x.assembles ∙ y.assembles) in
+    is.one y.image program other (subst (λ (bytes : List ℕ). IsAccepted bytes program) image x.accepted) y.accepted
+
+one_plan : IsDecided image_form → (number : ℕ) (program other : Program) (plan plan' : Plan) (turns turns' : List Turns)
+    → AreInputs number program plan turns → AreInputs number other plan' turns' → plan ≡ plan'
+one_plan is number program other plan plan' turns turns' x y =
+    let same = one_program is number program other plan plan' turns turns' x y in
+    same_value plan plan' (sym x.script_reads ∙ ap (λ (p : Program). plan_of p 4 (soak_script number)) same ∙ y.script_reads)
+
+one_turns : (number : ℕ) (program other : Program) (plan plan' : Plan) (turns turns' : List Turns)
+    → AreInputs number program plan turns → AreInputs number other plan' turns' → turns ≡ turns'
+one_turns number program other plan plan' turns turns' x y = same_value turns turns' (sym x.schedule_reads ∙ y.schedule_reads)
+
+one_summary : IsDecided image_form → OneRun → (number : ℕ) (t u : List ℕ) → IsSummary number t → IsSummary number u → u ≡ t
+one_summary is one number t u x y =
+    let program = one_program is number x.program y.program x.plan y.plan x.turns y.turns x.inputs y.inputs in
+    let plan = one_plan is number x.program y.program x.plan y.plan x.turns y.turns x.inputs y.inputs in
+    let turns = one_turns number x.program y.program x.plan y.plan x.turns y.turns x.inputs y.inputs in
+    let runs : x.runs ≡ y.runs =
+    one y.inputs.image y.program (commands_of y.plan.lines) y.turns soak_setup x.runs y.runs y.inputs.accepted
+    (rw (program, plan, turns) at x.replayed) y.replayed in
+    let trace : x.trace ≡ y.trace =
+    same_value x.trace y.trace (sym x.reads_back ∙ ap (λ rs. trace_of (trace_bytes soak_setup rs)) runs ∙ y.reads_back) in
+    y.is ∙ rw (sym runs, sym trace) refl ∙ sym x.is
+
+pub soak_alone : IsDecided image_form → OneRun → (number : ℕ) → IsAlone AnyOutcome (SoakComes number)
+soak_alone is one number =
+    leaves_alone (λ outputs text. (outputs ≡ []) × IsSummary number text)
+    (λ o p t u x y. (y.0 ∙ sym x.0, one_summary is one number t u x.1 y.1))
+
+-- ---- something in any case
+
+soak_fits : SetupFits soak_setup
+soak_fits = record {
+  threads = omega arith;
+  least = omega arith;
+  most = omega arith;
+  some_cpus = omega arith;
+  cpus = omega arith;
+  pid = omega arith;
+  secs = omega arith;
+  micros = omega arith;
+  frequency = omega arith;
+}
+
+some_summary : StillRun → DrawnLaws → (number : ℕ) → (text : List ℕ) × IsSummary number text
+some_summary some laws number =
+    let inputs = inputs_read laws.inputs number in
+    let program = soak_program number in
+    let plan = soak_plan number in
+    let run = some inputs.image program (commands_of plan.lines) (soak_turns number) soak_setup plan.lines inputs.accepted refl inputs.nobody_waits in
+    let traced = laws.traced inputs.image program soak_setup run.0 inputs.accepted soak_fits run.1.run in (
+      soak_summary number run.0 traced.trace,
+      record {
+        program = program;
+        plan = plan;
+        turns = soak_turns number;
+        inputs = inputs;
+        runs = run.0;
+        replayed = run.1;
+        trace = traced.trace;
+        reads_back = laws.reads (trace_bytes soak_setup run.0) traced.trace traced.reads;
+        is = refl;
+      },
+    )
+
+pub soak_some : StillRun → DrawnLaws → (number : ℕ) → SomeOutcome (SoakComes number)
+soak_some some laws number =
+    let summary = some_summary some laws number in
+    some_leaves (λ outputs text. (outputs ≡ []) × IsSummary number text) [] summary.0 (refl, summary.1)

@@ -1,0 +1,11 @@
+use Rattle.xray_program.proofs.call.what_runs_leave.Goals as goal
+
+pub returns : goal.returns
+returns c = record {
+  tears = c.no_replay_tears_a_sled.ensures.runs;
+  loses = c.a_replay_loses_few.ensures.read;
+  oldest = c.lost_segments_are_the_oldest.ensures.read;
+  keeps = c.each_script_keeps_sleds.ensures;
+  follows = c.what_follows_is_allowed.ensures.whole;
+  traced = c.a_run_is_traced.ensures;
+}

@@ -1,0 +1,105 @@
+//! The inputs of `soak`, which are drawn from a number, and their replay.
+ghost use Rattle.std.specs.Prelude.{◌≡◌, ◌<◌, length, IfErr, IfOk, None, Ok};
+ghost use Rattle.std.specs.Str.Lines.{lines};
+ghost use Rattle.asm_text.specs.Assembling.{said_by};
+ghost use Rattle.asm_text.specs.Layout.{Lines};
+ghost use Rattle.asm_text.specs.Programs.{program_said};
+ghost use Rattle.patch_script.specs.Plans.{waiting_line};
+ghost use Rattle.patch_script.specs.Refusals.{commands_of};
+ghost use Rattle.step_sim.specs.Replayed.{IsSimulated};
+ghost use Rattle.xray_program.specs.Soak.{AreInputs, soak_setup};
+ghost use Rattle.xray_program.specs.private.SimInputs.{AreReadFor};
+
+use crate::sim_inputs::SimInputs;
+use asm_text::{an_assembled_file_is_accepted, assemble};
+use fault_words::Fault;
+use machine_step::{Limits, Setup, Steps};
+use patch_script::read_script;
+use soak_inputs::{soak_inputs, the_schedule_is_read, the_script_is_read, the_text_is_assembled};
+use std::alloc::Global;
+use step_sim::{SimEnd, SimStart, read_schedule};
+use xray_image::{Image, read_image};
+use xray_io::{NoMemory, Wall};
+
+/// The least number of instruction lines with which a function gets sleds.
+const THRESHOLD: u32 = 1;
+
+/// What each replay is made with.
+pub(crate) const SOAK_SETUP: Setup = Setup {
+    threads: 4,
+    size: 4_096,
+    max: 64,
+    limits: Limits {
+        fuel: 10_000_000,
+        passings: 65_536,
+        tick: 1,
+        tsc: 0,
+        cpus: 4,
+        migrate: 1_000,
+    },
+    pid: 1,
+    wall: Wall { secs: 0, micros: 0 },
+    frequency: 0,
+};
+
+/// What a reader has answered for an input that isn't refused: the value, or want of memory.
+pub(crate) fn unrefused<X: Drop, F: Fault>(read: Result<X, F>) -> Result<X, NoMemory>
+    requires { IfErr read (λ fault. F.told fault ≡ None) }
+    ensures { IfOk result (λ value. read ≡ Ok value) }
+{
+    match read {
+        Ok(value) => Ok(value),
+        Err(fault) => match fault.refusal() {
+            Some(_) => unreachable!(),
+            None => Err(NoMemory),
+        },
+    }
+}
+
+/// The inputs of a number, each as it is read.
+pub(crate) fn drawn_inputs(alloc: Global, number: u64) -> Result<SimInputs, NoMemory>
+    ensures inputs { IfOk result (λ inputs. AreInputs number inputs.image inputs.script inputs.schedule) }
+    ensures fit { IfOk result (AreReadFor 4) }
+{
+    // Called for their contracts: none of the inputs is refused.
+    an_assembled_file_is_accepted();
+    the_text_is_assembled();
+    the_script_is_read();
+    the_schedule_is_read();
+    let (text, script, schedule) = soak_inputs(alloc, number)?;
+    let image = image_of(alloc, &text)?;
+    let script = unrefused(read_script(alloc, &script, &image, SOAK_SETUP.threads))?;
+    let schedule = unrefused(read_schedule(alloc, &schedule, SOAK_SETUP.threads))?;
+    Ok(SimInputs {
+        image,
+        script,
+        schedule,
+    })
+}
+
+/// The image that a text is assembled to.
+fn image_of(alloc: Global, text: &[u8]) -> Result<Image, NoMemory>
+    requires said { (said : Lines) × (said_by text.now ≡ Ok said) }
+    requires few { length (lines text.now) < u32.MAX }
+    ensures { (said : Lines) → said_by text.now ≡ Ok said → IfOk result (λ program. program ≡ program_said 1 said) }
+{
+    let file = unrefused(assemble(alloc, text, THRESHOLD))?;
+    unrefused(read_image(alloc, &file))
+}
+
+/// What the replay of inputs leaves in whose script nobody waits.
+pub(crate) fn replayed<'s>(
+    alloc: Global,
+    steps: &'s Steps<'s>,
+    inputs: &SimInputs,
+) -> Result<SimEnd<'s>, NoMemory>
+    requires steps { inputs.now.image ≡ steps.now }
+    requires fit { AreReadFor 4 inputs.now }
+    requires still { waiting_line inputs.now.script.lines ≡ None }
+    ensures { IfOk result (λ end. IsSimulated inputs.now.image (commands_of inputs.now.script.lines)
+        inputs.now.schedule soak_setup end.cpus.items end.sealed.items end.segments.items end.first.items
+        end.buffers.items) }
+{
+    let start = unrefused(SimStart::new(alloc, steps, &inputs.script, &SOAK_SETUP))?;
+    Ok(start.play(&inputs.schedule))
+}

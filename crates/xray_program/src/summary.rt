@@ -1,0 +1,178 @@
+//! The summary that `soak` prints.
+ghost use Rattle.std.specs.Prelude.{◌≡◌, ◌++◌, All, IfOk, IsTrue, Ok, codes, decimal, length, sum_by};
+ghost use Rattle.fdr_file.specs.Files.{file_bytes};
+ghost use Rattle.fdr_file.specs.Traces.{trace_of};
+ghost use Rattle.fdr_file.specs.declared.trace.Trace.{Trace};
+ghost use Rattle.machine_step.specs.Texts.{line_feed};
+ghost use Rattle.trace_flush.specs.Audit.{accounts};
+ghost use Rattle.trace_flush.specs.Flush.{header_of};
+ghost use Rattle.xray_io.specs.Memory.{sink_bytes};
+ghost use Rattle.xray_io.specs.Text.{AddsText};
+ghost use Rattle.xray_io.specs.Writes.{WritesText};
+ghost use Rattle.xray_program.specs.Soak.{IsSummary, soak_setup, trace_lines};
+ghost use Rattle.xray_program.specs.private.Drawn.{IsReadBack, summary_with};
+
+use crate::drawn::{SOAK_SETUP, drawn_inputs, replayed, unrefused};
+use crate::traced::room_for;
+use account_report::{AccountRow, account};
+use fdr_buffer::Buffer;
+use fdr_file::{Trace, a_trace_is_read, read_trace, write_file};
+use machine_step::{Cpu, Steps};
+use std::alloc::Global;
+use trace_flush::{AuditLine, a_run_is_audited, add_audit_lines, add_summary, trace_header};
+use trace_words::TraceRefusal;
+use xray_io::{MemSink, NoMemory, Piece, Sink, Text, WriteFault};
+
+/// What was read back of a trace.
+#[derive(Drop)]
+struct ReadBack {
+    /// The length of the trace file in bytes.
+    bytes: u64,
+    /// The account of the trace.
+    rows: Vec<AccountRow>,
+}
+
+/// The summary of a number, in memory.
+pub(crate) fn summary_of(alloc: Global, number: u64) -> Result<MemSink, NoMemory>
+    ensures { IfOk result (λ sink. IsSummary number (sink_bytes sink)) }
+{
+    // Called for its contract: the lines of the threads are those of the run.
+    a_run_is_audited();
+    let inputs = drawn_inputs(alloc, number)?;
+    let steps = Steps::new(alloc, &inputs.image)?;
+    let end = replayed(alloc, &steps, &inputs)?;
+    let back = read_back(alloc, &end.buffers)?;
+    let mut lines = room_for(alloc, SOAK_SETUP.threads)?;
+    add_audit_lines(&end.cpus, &end.segments, &end.first, &mut lines);
+    let mut sink = MemSink::new(alloc, Vec::new(alloc));
+    match write_summary(&mut sink, number, &lines, &end.cpus, &back) {
+        Ok(()) => Ok(sink),
+        Err(WriteFault) => Err(NoMemory),
+    }
+}
+
+/// Writes the file of these buffers into memory, and reads it back.
+fn read_back(alloc: Global, buffers: &[Buffer]) -> Result<ReadBack, NoMemory>
+    requires begun { All (λ buffer. IsTrue buffer.begun) buffers.now }
+    ensures { IfOk result (λ back.
+        IsReadBack (file_bytes (header_of soak_setup) buffers.now) back.bytes back.rows.items) }
+{
+    // Called for its contract: the trace that is written is the one that is read.
+    a_trace_is_read();
+    let header = trace_header(&SOAK_SETUP);
+    let mut file = MemSink::new(alloc, Vec::new(alloc));
+    match write_file(&header, buffers, &mut file) {
+        Ok(()) => accounted(alloc, file.bytes()),
+        Err(WriteFault) => Err(NoMemory),
+    }
+}
+
+/// The length of a file, and the account of the trace that it is read as.
+fn accounted(alloc: Global, bytes: &[u8]) -> Result<ReadBack, NoMemory>
+    requires { (trace : Trace) × (trace_of bytes.now ≡ Ok trace) }
+    ensures { IfOk result (λ back. IsReadBack bytes.now back.bytes back.rows.items) }
+{
+    let trace = trace_in(alloc, bytes)?;
+    let rows = account(alloc, &trace)?;
+    Ok(ReadBack {
+        bytes: bytes.len() as u64,
+        rows,
+    })
+}
+
+/// The trace that bytes are read as.
+fn trace_in(alloc: Global, bytes: &[u8]) -> Result<Trace, NoMemory>
+    requires { (trace : Trace) × (trace_of bytes.now ≡ Ok trace) }
+    ensures { IfOk result (λ trace. trace_of bytes.now ≡ Ok trace) }
+{
+    let read = match read_trace(alloc, bytes) {
+        Ok(trace) => Ok(trace),
+        Err(fault) => Err(TraceRefusal { fault }),
+    };
+    unrefused(read)
+}
+
+/// Writes the summary.
+fn write_summary<S: Sink>(
+    sink: &mut S,
+    number: u64,
+    lines: &[AuditLine],
+    cpus: &[Cpu],
+    back: &ReadBack,
+) -> Result<(), WriteFault>
+    requires { length lines.now ≡ length cpus.now }
+    ensures { WritesText S.written S.faults S.along sink.old sink.new
+        (summary_with number (accounts lines.now cpus.now) back.now.bytes back.now.rows.items) result }
+{
+    let mut text = Text::new(sink);
+    add_all(&mut text, number, lines, cpus, back)?;
+    text.done()
+}
+
+/// Adds the whole summary.
+fn add_all<S: Sink>(
+    text: &mut Text<S>,
+    number: u64,
+    lines: &[AuditLine],
+    cpus: &[Cpu],
+    back: &ReadBack,
+) -> Result<(), WriteFault>
+    requires { length lines.now ≡ length cpus.now }
+    ensures { AddsText S.written S.faults S.along text.old text.new
+        (summary_with number (accounts lines.now cpus.now) back.now.bytes back.now.rows.items) result }
+{
+    add_number(text, number)?;
+    add_summary(text, lines, cpus)?;
+    add_trace(text, back)
+}
+
+/// Adds the line of the number.
+fn add_number<S: Sink>(text: &mut Text<S>, number: u64) -> Result<(), WriteFault>
+    ensures { AddsText S.written S.faults S.along text.old text.new
+        (codes "soak " ++ decimal number ++ line_feed) result }
+{
+    text.pieces(&[
+        Piece::Bytes(b"soak "),
+        Piece::Number(u128::from(number)),
+        Piece::Bytes(b"\n"),
+    ])
+}
+
+/// Adds the lines of the trace.
+fn add_trace<S: Sink>(text: &mut Text<S>, back: &ReadBack) -> Result<(), WriteFault>
+    ensures { AddsText S.written S.faults S.along text.old text.new
+        (trace_lines back.now.bytes back.now.rows.items) result }
+{
+    text.pieces(&[
+        Piece::Bytes(b"trace "),
+        Piece::Number(u128::from(back.bytes)),
+        Piece::Bytes(b"\npairs "),
+        Piece::Number(pairs(&back.rows)),
+        Piece::Bytes(b" entries "),
+        Piece::Number(entries(&back.rows)),
+        Piece::Bytes(b" exits "),
+        Piece::Number(exits(&back.rows)),
+        Piece::Bytes(b"\n"),
+    ])
+}
+
+/// How many pairs of an entry and an exit the functions have.
+fn pairs(rows: &[AccountRow]) -> u128
+    ensures { result ≡ sum_by (λ row. row.count) rows.now }
+{
+    rows.iter().map(|row| u128::from(row.count)).sum()
+}
+
+/// How many entries of the functions aren't in a pair.
+fn entries(rows: &[AccountRow]) -> u128
+    ensures { result ≡ sum_by (λ row. row.entries) rows.now }
+{
+    rows.iter().map(|row| u128::from(row.entries)).sum()
+}
+
+/// How many exits and tail exits of the functions aren't in a pair.
+fn exits(rows: &[AccountRow]) -> u128
+    ensures { result ≡ sum_by (λ row. row.exits) rows.now }
+{
+    rows.iter().map(|row| u128::from(row.exits)).sum()
+}
