@@ -1,5 +1,5 @@
 -- The nodes of the tree of paths, and the steps that they are.
-use Rattle.std.proofs.Common.{◌≡◌, ◌+◌, ◌-◌, ◌++◌, ◌<◌, ◌≤◌, ◌∙◌, ℕ, List, [], ◌∷◌, length, map, drop, reverse, refl, ap, sym, subst, arith, get_or, set, length-append, length-drop}
+use Rattle.std.proofs.Common.{◌≡◌, ◌+◌, ◌-◌, ◌++◌, ◌<◌, ◌≤◌, ◌∙◌, ℕ, List, [], ◌∷◌, length, map, drop, reverse, ap, sym, subst, arith, get_or, length-drop}
 use Rattle.std.proofs.lemmas.List.{drop-append-le, get_or-map, length-map, map-append}
 use Rattle.std.proofs.lemmas.Grind.{get_or_after_one}
 use Rattle.stack_rebuild.specs.declared.node.Node.{Node}

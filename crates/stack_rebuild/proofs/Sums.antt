@@ -1,10 +1,9 @@
 -- The tallies of paths: one more path, and one more pair.
-use Rattle.std.proofs.Common.{◌≡◌, ◌⊎◌, ◌+◌, ◌-◌, ◌++◌, ◌<◌, ◌≤◌, ◌∙◌, ℕ, suc, Bool, true, false, cond, List, [], ◌∷◌, length, refl, ap, sym, subst, arith, nat_eq, nat_lt, get_or, set, sum_by, inl, inr, length-append}
+use Rattle.std.proofs.Common.{◌≡◌, ◌⊎◌, ◌++◌, ◌<◌, ◌∙◌, ℕ, Bool, true, false, cond, List, [], ◌∷◌, length, refl, ap, sym, subst, arith, nat_eq, nat_lt, get_or, set, inl, inr, length-append}
 use Rattle.std.specs.declared.cmp.Ordering.{Ordering}
 use Rattle.std.specs.declared.cmp.Ordering.TheVariants.{Less, Equal, Greater}
 use Rattle.std.specs.Ordering.{is_eq, nat_cmp, ordering_then}
 use Rattle.std.specs.FinMap.{nat_cmp-IsAntisymmetric, slice_cmp-IsAntisymmetric}
-use Rattle.std.proofs.Math.ListN.{get_or-append}
 use Rattle.std.proofs.Math.Seq.{get_or-append_seam}
 use Rattle.std.proofs.lemmas.Bool.{eq-eqb}
 use Rattle.std.proofs.lemmas.Bool.Decides.{nat_tests}
@@ -12,7 +11,7 @@ use Rattle.std.proofs.lemmas.List.{length-set, get_or-set_same, get_or-set_other
 use Rattle.std.proofs.lemmas.List.Sums.{sum_by-append, sum_by-cons}
 use Rattle.stack_rebuild.specs.declared.tally.Tally.{Tally}
 use Rattle.stack_rebuild.specs.Stacks.{Timed, has_path, path_cmp}
-use Rattle.stack_rebuild.specs.private.PathNumbers.{AreApart, HasNumber, IsFresh, path_at}
+use Rattle.stack_rebuild.specs.private.PathNumbers.{HasNumber, IsFresh, path_at}
 use Rattle.stack_rebuild.specs.private.Scanning.{AllNumbered, AreSums, Keeps, no_tally, tally_of, with_pair}
 use Rattle.stack_rebuild.proofs.Trees.{apart_more, each_more, path_kept}
 

@@ -1,5 +1,4 @@
-use Rattle.std.proofs.Common.{◌≡◌, ◌<◌, ◌++◌, false, List, length, reverse, take}
-use Rattle.fdr_record.specs.declared.event.Event.{Event}
+use Rattle.std.proofs.Common.{◌≡◌, false, List, reverse, take}
 use Rattle.stack_rebuild.specs.declared.scan.TheConstants.{MOST_OPEN}
 use Rattle.stack_rebuild.specs.private.ByThread.{events_at}
 use Rattle.stack_rebuild.specs.Calls.{standing_after}

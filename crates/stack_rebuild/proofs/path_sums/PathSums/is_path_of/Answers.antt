@@ -1,4 +1,4 @@
-use Rattle.std.proofs.Common.{◌≡◌, ◌<◌, ◌≤◌, ◌+◌, ◌∙◌, true, List, ap, arith, get_or, length, nat_lt, subst, sym}
+use Rattle.std.proofs.Common.{◌≡◌, ◌<◌, ◌∙◌, true, List, ap, arith, get_or, length, nat_lt, subst, sym}
 use Rattle.std.proofs.lemmas.Bool.Decides.{nat_tests}
 use Rattle.stack_rebuild.specs.declared.node.Node.{Node}
 use Rattle.stack_rebuild.specs.private.PathTree.{step_of, steps_in}

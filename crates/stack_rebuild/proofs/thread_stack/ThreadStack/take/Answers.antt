@@ -1,5 +1,5 @@
-use Rattle.std.proofs.Common.{◌≡◌, ◌∙◌, ℕ, List, sym, ap, subst, length, rules}
-use Rattle.stack_rebuild.specs.private.Scanning.{AreWithin, no_frame}
+use Rattle.std.proofs.Common.{◌∙◌, sym}
+use Rattle.stack_rebuild.specs.private.Scanning.{no_frame}
 use Rattle.stack_rebuild.proofs.Frames.{follows_entry, follows_exit, follows_pair}
 use Rattle.stack_rebuild.proofs.Results.{on_ok_both}
 use Rattle.stack_rebuild.proofs.thread_stack.ThreadStack.take.Goals as goal
