@@ -1,19 +1,19 @@
 -- The pairs of threads, and of one more thread.
-use Rattle.std.proofs.Common.{◌≡◌, ◌+◌, ◌++◌, ◌<◌, ◌≤◌, ◌∙◌, ℕ, suc, Bool, true, false, cond, List, [], ◌∷◌, length, map, reverse, take, drop, refl, ap, sym, subst, arith, get_or, Option, None, Some}
+use Rattle.std.proofs.Common.{◌≡◌, ◌+◌, ◌++◌, ◌<◌, ◌≤◌, ◌∙◌, ℕ, Bool, true, false, cond, List, [], ◌∷◌, length, map, reverse, take, drop, ap, sym, subst, arith, get_or, None, Some}
 use Rattle.std.specs.Prelude.{filter}
 use Rattle.std.specs.List.{flat_map}
 use Rattle.std.proofs.lemmas.List.{append-nil, get_or-map, length-map, take-append-drop, take_all, take_more}
 use Rattle.std.proofs.lemmas.List.Concat.{flat_map-append}
 use Rattle.std.proofs.lemmas.List.Elements.{filter-append}
 use Rattle.fdr_file.specs.declared.trace.Block.{Block}
-use Rattle.stack_rebuild.specs.declared.path_sums.Tally.{Tally}
+use Rattle.stack_rebuild.specs.declared.tally.Tally.{Tally}
 use Rattle.stack_rebuild.specs.declared.stack_row.StackFault.{StackFault}
 use Rattle.stack_rebuild.specs.declared.stack_row.StackFault.TheVariants.{Deep, NoMemory}
 use Rattle.stack_rebuild.specs.declared.thread_blocks.ThreadBlocks.{ThreadBlocks}
 use Rattle.stack_rebuild.specs.private.ByThread.{AreThreads, IsFaultOf, events_at}
 use Rattle.stack_rebuild.specs.Histories.{events_of}
 use Rattle.stack_rebuild.specs.private.Scanning.{AreSums}
-use Rattle.stack_rebuild.specs.Stacks.{IsDeepFault, Timed, all_timed, deep_in, first_of, gets_deep, threads_of, timed_in}
+use Rattle.stack_rebuild.specs.Stacks.{IsDeepFault, Timed, all_timed, deep_in, first_of, gets_deep, timed_in}
 
 abbrev names : List ThreadBlocks → List ℕ
 names ts = map (λ (own : ThreadBlocks). own.thread) ts

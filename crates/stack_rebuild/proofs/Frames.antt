@@ -1,25 +1,25 @@
 -- The frames of open calls: one more, and the end of some.
-use Rattle.std.proofs.Common.{◌≡◌, ◌⊎◌, ◌+◌, ◌-◌, ◌++◌, ◌<◌, ◌≤◌, ◌∙◌, ℕ, suc, Bool, true, false, cond, List, [], ◌∷◌, length, map, reverse, take, refl, ap, sym, subst, arith, nat_eq, get_or, set, Option, Some, None, length-append, append_assoc, inl, inr}
+use Rattle.std.proofs.Common.{◌≡◌, ◌⊎◌, ◌-◌, ◌++◌, ◌<◌, ◌≤◌, ◌∙◌, ℕ, suc, Bool, true, false, cond, List, [], ◌∷◌, length, reverse, take, refl, ap, sym, subst, arith, nat_eq, get_or, set, Option, Some, None, length-append, append_assoc, inl, inr}
 use Rattle.std.specs.Prelude.{All}
 use Rattle.std.proofs.Math.ListN.{get_or-append}
 use Rattle.std.proofs.Math.Seq.{get_or-append_seam, set-append_seam, take-append_seam}
 use Rattle.std.proofs.lemmas.Bool.{eq-eqb}
 use Rattle.std.proofs.lemmas.Bool.Decides.{nat_tests}
 use Rattle.std.proofs.lemmas.List.{append-nil, length-reverse, reverse-append, reverse-reverse, take-append-le}
-use Rattle.std.proofs.lemmas.List.Elements.{All-append, All-cons, All-head, All-nil, All-tail, All-take}
+use Rattle.std.proofs.lemmas.List.Elements.{All-cons, All-head, All-tail, All-take}
 use Rattle.std.proofs.lemmas.List.Sorted.{All-permutation, IsPermutation-reverse}
 use Rattle.fdr_record.specs.declared.event.Event.{Event}
 use Rattle.fdr_record.specs.declared.event.Kind.{Kind}
 use Rattle.fdr_record.specs.declared.event.Kind.TheVariants.{Entry, Exit, TailExit}
 use Rattle.stack_rebuild.specs.declared.call.Call.{Call}
 use Rattle.stack_rebuild.specs.declared.call.Pair.{Pair}
-use Rattle.stack_rebuild.specs.declared.path_sums.Tally.{Tally}
+use Rattle.stack_rebuild.specs.declared.tally.Tally.{Tally}
 use Rattle.stack_rebuild.specs.declared.thread_stack.Frame.{Frame}
-use Rattle.stack_rebuild.specs.Calls.{Standing, cycles_between, from_innermost, left_open, next_standing, open_after, open_after_kind, open_calls, pair_at, pair_of_call, standing_after}
-use Rattle.stack_rebuild.specs.Stacks.{Timed, is_innermost, path_of, spent_in, timed_in}
+use Rattle.stack_rebuild.specs.Calls.{Standing, cycles_between, from_innermost, left_open, next_standing, open_after_kind, open_calls, pair_at, pair_of_call, standing_after}
+use Rattle.stack_rebuild.specs.Stacks.{Timed, path_of, spent_in, timed_in}
 use Rattle.stack_rebuild.specs.private.PathNumbers.{path_at}
-use Rattle.stack_rebuild.specs.private.Scanning.{AreFrames, AreSums, AreWithin, Follows, IsFrame, Keeps, Opens, spending, top_of, with_spent}
-use Rattle.stack_rebuild.proofs.Nesting.{AllBefore, IsNested, Nested, ended_by, func_ended, nested_ended, nested_history, one_more, pair_by}
+use Rattle.stack_rebuild.specs.private.Scanning.{AreFrames, AreSums, Follows, IsFrame, Keeps, Opens, spending, top_of, with_spent}
+use Rattle.stack_rebuild.proofs.Nesting.{AllBefore, Nested, ended_by, nested_ended, nested_history, pair_by}
 use Rattle.stack_rebuild.proofs.Spending.{adds, made, path_of-cons, spent_at_end, spent_more, timed_more}
 
 -- ---- the innermost frame

@@ -4,6 +4,7 @@ pub mod Depth
 pub mod Frames
 pub mod Lines
 pub mod Nesting
+pub mod Nodes
 pub mod Opening
 pub mod Orders
 pub mod Pairing

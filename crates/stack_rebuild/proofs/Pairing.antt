@@ -1,5 +1,5 @@
 -- What holds of each pair, and of any two.
-use Rattle.std.proofs.Common.{◌≡◌, ◌≢◌, ◌+◌, ◌++◌, ◌<◌, ◌≤◌, ◌∙◌, ℕ, suc, Bool, true, false, cond, List, [], ◌∷◌, length, reverse, refl, ap, sym, subst, arith, nat_eq, Option, Some, None, All, length-append}
+use Rattle.std.proofs.Common.{◌≡◌, ◌≢◌, ◌++◌, ◌<◌, ◌∙◌, ℕ, suc, Bool, true, false, cond, List, [], ◌∷◌, length, reverse, refl, ap, sym, subst, arith, nat_eq, Option, All, length-append}
 use Rattle.std.specs.List.{AllPairs}
 use Rattle.std.specs.Option.{option_to_list}
 use Rattle.std.proofs.Math.ListN.{get_or-append}
@@ -15,7 +15,6 @@ use Rattle.stack_rebuild.specs.declared.call.Call.{Call}
 use Rattle.stack_rebuild.specs.declared.call.Pair.{Pair}
 use Rattle.stack_rebuild.specs.Calls.{cycles_between, from_innermost, left_open, open_after_kind, open_calls, pair_of_call, pairs_in, pairs_of}
 use Rattle.stack_rebuild.specs.PairLaws.{IsWholeCall, event_at, innermost_entry, no_event}
-use Rattle.stack_rebuild.specs.Stacks.{open_before}
 use Rattle.stack_rebuild.proofs.Nesting.{AllEnded, NoneAt, ended_by, nested_history, none_ended, func_ended, one_more, open_kept, open_then, pair_by}
 
 -- the pair of an event at a position with the call that it ends

@@ -15,7 +15,7 @@ use Rattle.std.proofs.lemmas.List.MinMax.{ranks_by}
 use Rattle.std.proofs.lemmas.List.Sorted.{All-permutation, IsPermutation-map, IsPermutation-sym}
 use Rattle.std.proofs.lemmas.List.Sums.{sum_by-cons}
 use Rattle.std.proofs.lemmas.Map.Keys.{IsDistinct-head, IsDistinct-IsPermutation, IsDistinct-cons, IsDistinct-tail}
-use Rattle.stack_rebuild.specs.declared.path_sums.Tally.{Tally}
+use Rattle.stack_rebuild.specs.declared.tally.Tally.{Tally}
 use Rattle.stack_rebuild.specs.declared.stack_row.StackRow.{StackRow}
 use Rattle.stack_rebuild.specs.Ascending.{each_once}
 use Rattle.stack_rebuild.specs.private.PathNumbers.{path_at}

@@ -1,15 +1,14 @@
 -- What one more event of a thread adds to its pairs, and to what was spent in its calls.
-use Rattle.std.proofs.Common.{◌≡◌, ◌+◌, ◌-◌, ◌++◌, ◌<◌, ◌≤◌, ◌∙◌, ℕ, suc, Bool, true, false, cond, List, [], ◌∷◌, length, map, reverse, take, refl, ap, sym, subst, arith, nat_eq, Option, Some, None, sum_by, length-append}
+use Rattle.std.proofs.Common.{◌≡◌, ◌+◌, ◌-◌, ◌++◌, ◌≤◌, ◌∙◌, ℕ, false, cond, List, [], ◌∷◌, length, map, reverse, take, refl, ap, sym, subst, arith, Option, sum_by}
 use Rattle.std.specs.Option.{option_to_list}
-use Rattle.std.proofs.lemmas.Bool.Decides.{nat_tests}
-use Rattle.std.proofs.lemmas.List.{append-nil, length-reverse, length-take-le, map-append, reverse-append, reverse-reverse}
+use Rattle.std.proofs.lemmas.List.{length-reverse, length-take-le, map-append, reverse-append, reverse-reverse}
 use Rattle.std.proofs.lemmas.List.Sums.{sum_by-append, sum_by-cons}
 use Rattle.fdr_record.specs.declared.event.Event.{Event}
 use Rattle.stack_rebuild.specs.declared.call.Call.{Call}
 use Rattle.stack_rebuild.specs.declared.call.Pair.{Pair}
-use Rattle.stack_rebuild.specs.Calls.{cycles_between, open_calls, pair_at, pair_of_call, pairs_in, pairs_of}
+use Rattle.stack_rebuild.specs.Calls.{cycles_between, open_calls, pair_of_call, pairs_in, pairs_of}
 use Rattle.stack_rebuild.specs.Stacks.{Timed, is_innermost, open_before, pair_path, path_of, spent_in, timed, timed_in}
-use Rattle.stack_rebuild.proofs.Nesting.{AllBefore, AllEnded, IsNested, Nested, NoneAt, before_less, ended_by, func_ended, nested_before, nested_ended, nested_history, none_before, none_ended, one_more, open_kept, pair_by}
+use Rattle.stack_rebuild.proofs.Nesting.{AllBefore, AllEnded, Nested, NoneAt, before_less, ended_by, func_ended, nested_before, nested_ended, nested_history, none_before, none_ended, one_more, open_kept, pair_by}
 
 -- what a pair adds to what was spent in the call with its entry at a position
 abbrev share : List Event → ℕ → Pair → ℕ

@@ -1,18 +1,17 @@
 -- The tallies of paths: one more path, and one more pair.
-use Rattle.std.proofs.Common.{◌≡◌, ◌⊎◌, ◌+◌, ◌-◌, ◌++◌, ◌<◌, ◌≤◌, ◌∙◌, ℕ, suc, Bool, true, false, cond, List, [], ◌∷◌, length, refl, ap, sym, subst, arith, nat_eq, nat_lt, get_or, set, sum_by, inl, inr, length-append}
+use Rattle.std.proofs.Common.{◌≡◌, ◌⊎◌, ◌++◌, ◌<◌, ◌∙◌, ℕ, Bool, true, false, cond, List, [], ◌∷◌, length, refl, ap, sym, subst, arith, nat_eq, nat_lt, get_or, set, inl, inr, length-append}
 use Rattle.std.specs.declared.cmp.Ordering.{Ordering}
 use Rattle.std.specs.declared.cmp.Ordering.TheVariants.{Less, Equal, Greater}
 use Rattle.std.specs.Ordering.{is_eq, nat_cmp, ordering_then}
 use Rattle.std.specs.FinMap.{nat_cmp-IsAntisymmetric, slice_cmp-IsAntisymmetric}
-use Rattle.std.proofs.Math.ListN.{get_or-append}
 use Rattle.std.proofs.Math.Seq.{get_or-append_seam}
 use Rattle.std.proofs.lemmas.Bool.{eq-eqb}
 use Rattle.std.proofs.lemmas.Bool.Decides.{nat_tests}
 use Rattle.std.proofs.lemmas.List.{length-set, get_or-set_same, get_or-set_other}
 use Rattle.std.proofs.lemmas.List.Sums.{sum_by-append, sum_by-cons}
-use Rattle.stack_rebuild.specs.declared.path_sums.Tally.{Tally}
+use Rattle.stack_rebuild.specs.declared.tally.Tally.{Tally}
 use Rattle.stack_rebuild.specs.Stacks.{Timed, has_path, path_cmp}
-use Rattle.stack_rebuild.specs.private.PathNumbers.{AreApart, HasNumber, IsFresh, path_at}
+use Rattle.stack_rebuild.specs.private.PathNumbers.{HasNumber, IsFresh, path_at}
 use Rattle.stack_rebuild.specs.private.Scanning.{AllNumbered, AreSums, Keeps, no_tally, tally_of, with_pair}
 use Rattle.stack_rebuild.proofs.Trees.{apart_more, each_more, path_kept}
 
@@ -126,7 +125,7 @@ keeps_number path n paths paths' number = by_way number.grows
 -- ---- the sums of paths
 
 -- one more path, which no pair has
-sums_fresh : (paths : List (List ℕ)) (tallies : List Tally) (pairs : List Timed) (path : List ℕ) → AreSums paths tallies pairs
+pub sums_fresh : (paths : List (List ℕ)) (tallies : List Tally) (pairs : List Timed) (path : List ℕ) → AreSums paths tallies pairs
     → ((k : ℕ) → k < length paths → path_at paths k ≡ path → ⊥) → AreSums (paths ++ path ∷ []) (tallies ++ no_tally ∷ []) pairs
 sums_fresh paths tallies pairs path sums absent = record {
   level = omega (arith, sums.level, length-append paths (path ∷ []), length-append tallies (no_tally ∷ []));
@@ -140,29 +139,11 @@ sums_fresh paths tallies pairs path sums absent = record {
   root = path_kept paths path 0 sums.some ∙ sums.root;
 }
 
-pub sums_pushed : (path : List ℕ) (n : ℕ) (paths paths' : List (List ℕ)) (tallies tallies' : List Tally) (pairs : List Timed) → HasNumber path n paths paths'
-    → n ≡ length tallies → tallies' ≡ tallies ++ no_tally ∷ [] → AreSums paths tallies pairs → AreSums paths' tallies' pairs
-sums_pushed path n paths paths' tallies tallies' pairs number level more sums = by_way number.grows
-  where
-    by_way : (paths' ≡ paths) ⊎ IsFresh path n paths paths' → AreSums paths' tallies' pairs
-    by_way (inl same) = absurd (omega (arith, number.within, level, sums.level, ap {B = ℕ} length same))
-    by_way (inr fresh) =
-        subst (λ (ps : List (List ℕ)). AreSums ps tallies' pairs) (sym fresh.more)
-        (subst (λ (ts : List Tally). AreSums (paths ++ path ∷ []) ts pairs) (sym more) (sums_fresh paths tallies pairs path sums fresh.absent))
-
-pub sums_stay : (path : List ℕ) (n : ℕ) (paths paths' : List (List ℕ)) (tallies : List Tally) (pairs : List Timed) → HasNumber path n paths paths'
-    → (n ≡ length tallies → ⊥) → AreSums paths tallies pairs → AreSums paths' tallies pairs
-sums_stay path n paths paths' tallies pairs number apart sums = by_way number.grows
-  where
-    by_way : (paths' ≡ paths) ⊎ IsFresh path n paths paths' → AreSums paths' tallies pairs
-    by_way (inl same) = subst (λ (ps : List (List ℕ)). AreSums ps tallies pairs) (sym same) sums
-    by_way (inr fresh) = absurd (apart (fresh.last ∙ sym sums.level))
-
 -- one more pair of a path
-pub sums_more : (paths : List (List ℕ)) (tallies : List Tally) (pairs : List Timed) (pair : Timed) (n : ℕ) (old new : Tally) → AreSums paths tallies pairs
-    → n < length paths → pair.path ≡ path_at paths n → old ≡ get_or tallies n old → new ≡ with_pair pair.duration pair.own old
+pub sums_more : (paths : List (List ℕ)) (tallies : List Tally) (pairs : List Timed) (pair : Timed) (n : ℕ) (d old new : Tally) → AreSums paths tallies pairs
+    → n < length paths → pair.path ≡ path_at paths n → old ≡ get_or tallies n d → new ≡ with_pair pair.duration pair.own old
     → AreSums paths (set tallies n new) (pairs ++ pair ∷ [])
-sums_more paths tallies pairs pair n old new sums low is here added = record {
+sums_more paths tallies pairs pair n e old new sums low is here added = record {
   level = length-set tallies n new ∙ sums.level;
   each = λ k d within. each k d (omega (arith, within, length-set tallies n new)) (nat_eq k n) refl;
   numbered = numbered_append paths pairs pair sums.numbered n low (sym is);
@@ -177,7 +158,7 @@ sums_more paths tallies pairs pair n old new sums low is here added = record {
         let its : has_path (path_at paths k) pair ≡ true =
         ap (λ (path : List ℕ). has_path path pair) (ap (path_at paths) at ∙ sym is) ∙ has_own pair in
         let was : old ≡ tally_of pairs (path_at paths k) =
-        here ∙ (sums.each n old (omega (arith, low, sums.level)) ∙ ap (λ (m : ℕ). tally_of pairs (path_at paths m)) (sym at)) in
+        here ∙ (sums.each n e (omega (arith, low, sums.level)) ∙ ap (λ (m : ℕ). tally_of pairs (path_at paths m)) (sym at)) in
         ap (λ (m : ℕ). get_or (set tallies n new) m d) at
         ∙ (get_or-set_same tallies n new d (omega (arith, low, sums.level))
         ∙ (added ∙ (ap (with_pair pair.duration pair.own) was ∙ sym (tally_more true pairs pair (path_at paths k) its))))

@@ -1,10 +1,10 @@
 -- Numbered paths, and one more.
-use Rattle.std.proofs.Common.{◌≡◌, ◌⊎◌, ◌+◌, ◌-◌, ◌++◌, ◌<◌, ◌≤◌, ◌∙◌, ◌&&◌, ℕ, zero, suc, Bool, true, false, cond, List, [], ◌∷◌, length, reverse, take, refl, ap, sym, subst, arith, nat_eq, get_or, below_more, Option, Some, None, inl, inr, length-append}
+use Rattle.std.proofs.Common.{◌≡◌, ◌⊎◌, ◌+◌, ◌-◌, ◌++◌, ◌<◌, ◌≤◌, ◌∙◌, ◌&&◌, ℕ, zero, suc, Bool, true, false, cond, List, [], ◌∷◌, length, reverse, refl, ap, sym, subst, arith, nat_eq, get_or, below_more, Option, Some, None, inl, inr, length-append}
 use Rattle.std.proofs.Math.ListN.{get_or-append}
-use Rattle.std.proofs.Math.Seq.{get_or-append_seam, take-append_seam}
+use Rattle.std.proofs.Math.Seq.{get_or-append_seam}
 use Rattle.std.proofs.lemmas.Bool.{eqb-true, eq-eqb}
-use Rattle.std.proofs.lemmas.List.{append_cancel_right, reverse-append, reverse-reverse}
-use Rattle.stack_rebuild.specs.declared.path_numbers.Step.{Step}
+use Rattle.std.proofs.lemmas.List.{append_cancel_right, reverse-append}
+use Rattle.stack_rebuild.specs.declared.node.Step.{Step}
 use Rattle.stack_rebuild.specs.private.PathNumbers.{AreApart, AreNumbered, Climbs, HasNumber, Numbers, is_step, number_in, path_at, path_by, paths_after}
 
 -- what holds at each place of a list, and for one more item, holds at each place of both
@@ -26,7 +26,7 @@ pub others_same : {X : Type 0} (xs ys : List X) (x y : X) → xs ++ x ∷ [] ≡
 others_same {X} xs ys x y same =
     append_cancel_right xs ys (x ∷ []) (same ∙ ap (λ (z : X). ys ++ z ∷ []) (sym (last_same xs ys x y same)))
 
-is_step-same : (s q : Step) → is_step s q ≡ true → s ≡ q
+pub is_step-same : (s q : Step) → is_step s q ≡ true → s ≡ q
 is_step-same s q is = by_parts (nat_eq s.parent q.parent) refl (nat_eq s.func q.func) refl is
   where
     by_parts : (b : Bool) → nat_eq s.parent q.parent ≡ b → (e : Bool) → nat_eq s.func q.func ≡ e → b && e ≡ true → s ≡ q
@@ -126,21 +126,17 @@ tree_more V steps steps' numbers numbers' s n view tree low absent more count pu
     (subst (λ (paths : List (List ℕ)). (k : ℕ) → k < length paths → path_at paths k ≡ path_by paths s → ⊥) (sym view) absent)
     (λ q. put q ∙ ap (λ (k : ℕ). cond (is_step s q) (Some k) (number_in numbers q)) number)))
 
--- a step was added and removed again, and the table has the numbers that it had
-pub tree_kept : (steps more less : List Step) (n : ℕ) (numbers numbers' : Numbers) (s : Step) → AreNumbered (paths_after (reverse steps)) steps numbers
-    → more ≡ steps ++ s ∷ [] → n ≡ length more → less ≡ take (n - 1) more → ((q : Step) → number_in numbers' q ≡ number_in numbers q)
-    → AreNumbered (paths_after (reverse less)) less numbers'
-tree_kept steps more less n numbers numbers' s tree added count taken same =
-    let size : n - 1 ≡ length steps = omega (arith, count, ap {B = ℕ} length added, length-append steps (s ∷ [])) in
-    let back : less ≡ steps = taken ∙ (ap (λ (k : ℕ). take k more) size ∙ (ap (take (length steps)) added ∙ take-append_seam steps (s ∷ []))) in
-    subst (λ (all : List Step). AreNumbered (paths_after (reverse all)) all numbers') (sym back) (record {
-      count = tree.count;
-      root = tree.root;
-      climbs = tree.climbs;
-      told = λ i d within. same (get_or steps i d) ∙ tree.told i d within;
-      found = λ q n is. tree.found q n (sym (same q) ∙ is);
-      apart = tree.apart;
-    })
+-- a table that has the same numbers
+pub tree_same : (P : List (List ℕ)) (steps : List Step) (numbers numbers' : Numbers) → AreNumbered P steps numbers
+    → ((q : Step) → number_in numbers' q ≡ number_in numbers q) → AreNumbered P steps numbers'
+tree_same P steps numbers numbers' tree same = record {
+  count = tree.count;
+  root = tree.root;
+  climbs = tree.climbs;
+  told = λ i d within. same (get_or steps i d) ∙ tree.told i d within;
+  found = λ q n is. tree.found q n (sym (same q) ∙ is);
+  apart = tree.apart;
+}
 
 -- a step that the table doesn't have makes a path without a number
 pub absent_path : (V : List (List ℕ)) (steps : List Step) (numbers : Numbers) (s : Step) → paths_after (reverse steps) ≡ V

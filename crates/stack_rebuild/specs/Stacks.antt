@@ -1,5 +1,5 @@
 -- The stacks of a trace: on which paths its functions were called, and for how long.
-use Rattle.std.specs.Prelude.{◌≡◌, ◌-◌, ◌==◌, ◌||◌, Bool, true, false, ℕ, List, [], ◌∷◌, ◌++◌, length, map, filter, reverse, take, sum_by, count_by, nat_lt, if◌then◌else◌, Option, None, Some}
+use Rattle.std.specs.Prelude.{◌≡◌, ◌-◌, ◌==◌, ◌||◌, Bool, false, ℕ, List, [], ◌∷◌, ◌++◌, length, map, filter, reverse, take, sum_by, count_by, nat_lt, if◌then◌else◌, Option, None, Some}
 use Rattle.std.specs.List.{flat_map}
 use Rattle.std.specs.declared.cmp.Ordering.{Ordering}
 use Rattle.std.specs.Ordering.{is_eq, nat_cmp}

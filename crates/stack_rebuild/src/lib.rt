@@ -6,14 +6,16 @@ mod calls;
 mod counts;
 mod laws;
 mod matching;
+mod node;
 mod open_calls;
-mod path_numbers;
+mod path_order;
 mod path_sums;
 mod refusal;
 mod scan;
 mod stack_row;
 mod stack_text;
 mod stacks_of;
+mod tally;
 mod thread_blocks;
 mod thread_stack;
 

@@ -1,63 +1,57 @@
-//! The sums over the pairs of each path.
+//! The paths so far, and the sums over the pairs of each.
 
-ghost use Rattle.std.specs.Prelude.{◌≡◌, ◌<◌, ◌++◌, List, [], ◌∷◌, length, IfOk, OnOk};
-ghost use Rattle.stack_rebuild.specs.private.PathNumbers.{HasNumber, path_at};
-ghost use Rattle.stack_rebuild.specs.private.Scanning.{AreSums, no_tally, with_pair};
+ghost use Rattle.std.specs.Prelude.{◌≡◌, ◌<◌, ◌++◌, ℕ, List, [], ◌∷◌, length, IfOk, IfSome, IsTrue, IsPermutation, OnOk, slice_index_or};
+ghost use Rattle.std.specs.List.{range_with_len};
+ghost use Rattle.stack_rebuild.specs.private.PathNumbers.{HasNumber, path_at, path_by};
+ghost use Rattle.stack_rebuild.specs.private.Scanning.{AreSums, no_tally};
 ghost use Rattle.stack_rebuild.specs.Stacks.{Timed};
 
-use crate::path_numbers::PathNumbers;
+use crate::node::{Node, Step, add_pair, child_of, depth_of, link, sibling_of, tally_of};
+use crate::path_order::in_order;
+use crate::tally::Tally;
 use std::alloc::Global;
+use std::collections::HashMap;
+use std::marker::Model;
 use xray_io::NoMemory;
 
-/// How many pairs a path has, and two sums: of their durations, and of their durations without
-/// those of direct children.
-#[derive(Clone, Copy, Debug)]
-pub(crate) struct Tally {
-    pub(crate) count: u64,
-    pub(crate) sum: u128,
-    pub(crate) own: u128,
-}
+/// How many of the paths that go on from a path are looked at before the table is asked.
+const MOST_LOOKS: usize = 4;
 
-impl Tally {
-    /// No pair.
-    fn none() -> Tally
-        ensures { result ≡ no_tally }
-    {
-        Tally {
-            count: 0,
-            sum: 0,
-            own: 0,
-        }
-    }
-
-    /// One more pair. No trace in memory has more events than the numbers can count.
-    fn add(&mut self, duration: u64, own: u128) -> Result<(), NoMemory>
-        ensures { OnOk result (self.new ≡ with_pair duration own self.old) }
-    {
-        self.count = self.count.checked_add(1).ok_or(NoMemory)?;
-        self.sum = self.sum.checked_add(u128::from(duration)).ok_or(NoMemory)?;
-        self.own = self.own.checked_add(own).ok_or(NoMemory)?;
-        Ok(())
-    }
-}
-
-/// The paths so far, with a tally for each.
+/// The paths so far, each with a number and a tally. The empty path has number 0. In contracts they
+/// are a list of paths and a list of tallies, both by the numbers.
+///
+/// They form a tree. A path is its last function, and the number of the path before that.
 #[derive(Debug, Drop)]
 pub(crate) struct PathSums {
-    pub(crate) paths: PathNumbers,
-    /// The tallies, by the numbers of the paths.
-    pub(crate) tallies: Vec<Tally>,
+    /// The paths, by their numbers.
+    nodes: Vec<Node>,
+    /// The numbers of the paths by their steps.
+    numbers: HashMap<Step, usize>,
+}
+
+impl Model for PathSums {
+    ghost use Rattle.stack_rebuild.specs.private.Scanning.{Summed};
+
+    ghost Value = { Summed };
+
+    ghost use Rattle.stack_rebuild.specs.private.PathTree.{summed_in, IsTree};
+
+    ghost view = { summed_in };
+
+    ghost invariant = { IsTree };
 }
 
 impl PathSums {
-    /// No pairs.
+    /// Only the empty path, and no pairs.
     pub(crate) fn new(alloc: Global) -> Result<PathSums, NoMemory>
-        ensures { IfOk result (λ sums. AreSums sums.paths sums.tallies.items []) }
+        ensures { IfOk result (λ sums. AreSums sums.paths sums.tallies []) }
     {
-        let mut tallies = Vec::new(alloc);
-        tallies.push(Tally::none())?;
-        let paths = PathNumbers::new(alloc)?;
-        Ok(PathSums { paths, tallies })
+        let mut nodes = Vec::new(alloc);
+        nodes.push(Node::empty())?;
+        Ok(PathSums {
+            nodes,
+            numbers: HashMap::new(alloc),
+        })
     }
 
     /// The number of a path with one more function.
@@ -66,31 +60,139 @@ impl PathSums {
         ensures number { IfOk result (λ n.
             HasNumber (path_at self.old.paths parent ++ func ∷ []) n self.old.paths self.new.paths) }
         ensures sums { OnOk result ((pairs : List Timed)
-            → AreSums self.old.paths self.old.tallies.items pairs
-            → AreSums self.new.paths self.new.tallies.items pairs) }
+            → AreSums self.old.paths self.old.tallies pairs
+            → AreSums self.new.paths self.new.tallies pairs) }
     {
-        let number = self.paths.number_of(parent, func)?;
-        if number == self.tallies.len() {
-            self.tallies.push(Tally::none())?;
+        let step = Step { parent, func };
+        match self.among_first(step) {
+            Some(number) => Ok(number),
+            None => self.number_of_step(step),
         }
-        Ok(number)
+    }
+
+    /// The number of a step's path, if it is among the first ones that go on from its parent.
+    fn among_first(&self, step: Step) -> Option<usize>
+        ensures { IfSome result (λ n.
+            HasNumber (path_by self.now.paths step) n self.now.paths self.now.paths) }
+    {
+        let mut number = child_of(&self.nodes, step.parent);
+        'looking: for _ in 0..MOST_LOOKS {
+            if self.is_path_of(number, step) {
+                return Some(number);
+            }
+            number = sibling_of(&self.nodes, number);
+        }
+        None
+    }
+
+    /// Whether the path with this number is that of a step.
+    fn is_path_of(&self, number: usize, step: Step) -> bool
+        ensures { IsTrue result →
+            HasNumber (path_by self.now.paths step) number self.now.paths self.now.paths }
+    {
+        if number == 0 {
+            return false;
+        }
+        match self.nodes.get(number) {
+            Some(node) => node.step() == step,
+            None => false,
+        }
+    }
+
+    /// The number of a step's path.
+    fn number_of_step(&mut self, step: Step) -> Result<usize, NoMemory>
+        requires { step.parent < length self.old.paths }
+        ensures number { IfOk result (λ n.
+            HasNumber (path_by self.old.paths step) n self.old.paths self.new.paths) }
+        ensures sums { OnOk result ((pairs : List Timed)
+            → AreSums self.old.paths self.old.tallies pairs
+            → AreSums self.new.paths self.new.tallies pairs) }
+    {
+        match self.numbers.get(&step) {
+            Some(number) => Ok(*number),
+            None => self.add_path(step),
+        }
+    }
+
+    /// Gives a number to a path that has none.
+    fn add_path(&mut self, step: Step) -> Result<usize, NoMemory>
+        requires parent { step.parent < length self.old.paths }
+        requires absent { (n : ℕ) → n < length self.old.paths
+            → path_at self.old.paths n ≡ path_by self.old.paths step → ⊥ }
+        ensures number { IfOk result (λ n.
+            HasNumber (path_by self.old.paths step) n self.old.paths self.new.paths) }
+        ensures sums { OnOk result ((pairs : List Timed)
+            → AreSums self.old.paths self.old.tallies pairs
+            → AreSums self.new.paths self.new.tallies pairs) }
+    {
+        let number = self.nodes.len();
+        let node = Node::after(&self.nodes, step);
+        self.nodes.push(node)?;
+        match self.numbers.insert(step, number) {
+            Ok(_) => {
+                link(&mut self.nodes, step.parent, number);
+                Ok(number)
+            }
+            Err(_) => {
+                self.nodes.pop();
+                Err(NoMemory)
+            }
+        }
     }
 
     /// One more pair of a path with this number.
     pub(crate) fn add(&mut self, number: usize, duration: u64, own: u128) -> Result<(), NoMemory>
         ensures paths { self.new.paths ≡ self.old.paths }
         ensures sums { OnOk result ((pairs : List Timed)
-            → AreSums self.old.paths self.old.tallies.items pairs
+            → AreSums self.old.paths self.old.tallies pairs
             → number < length self.old.paths
-            → AreSums self.new.paths self.new.tallies.items (pairs ++ record {
+            → AreSums self.new.paths self.new.tallies (pairs ++ record {
               path = path_at self.old.paths number;
               duration = duration;
               own = own;
             } ∷ [])) }
     {
-        match self.tallies.get_mut(number) {
-            Some(tally) => tally.add(duration, own),
-            None => Ok(()),
+        add_pair(&mut self.nodes, number, duration, own)
+    }
+
+    /// The tally of the path with this number.
+    pub(crate) fn tally(&self, number: usize) -> Tally
+        ensures { result ≡ slice_index_or self.now.tallies number no_tally }
+    {
+        tally_of(&self.nodes, number)
+    }
+
+    /// The path with this number.
+    pub(crate) fn path(&self, alloc: Global, number: usize) -> Result<Vec<u32>, NoMemory>
+        requires { number < length self.now.paths }
+        ensures { IfOk result (λ path. path.items ≡ path_at self.now.paths number) }
+    {
+        let mut path = Vec::with_capacity(alloc, depth_of(&self.nodes, number) as usize)?;
+        let mut number = number;
+        'climbing: while number > 0 {
+            let step = self.step_to(number);
+            path.push(step.func)?;
+            number = step.parent;
         }
+        path.reverse();
+        Ok(path)
+    }
+
+    /// The step that leads to the path with this number.
+    fn step_to(&self, number: usize) -> Step
+        requires some { 0 < number }
+        requires within { number < length self.now.paths }
+        ensures climbs { result.parent < number }
+        ensures path { path_at self.now.paths number ≡ path_by self.now.paths result }
+    {
+        self.nodes[number].step()
+    }
+
+    /// The numbers of all paths, each once.
+    pub(crate) fn order(&self, alloc: Global) -> Result<Vec<usize>, NoMemory>
+        ensures { IfOk result (λ order.
+            IsPermutation (range_with_len 0 (length self.now.paths)) order.items) }
+    {
+        in_order(alloc, &self.nodes)
     }
 }

@@ -28,8 +28,8 @@ pub(crate) fn add_thread(
     requires { 0 < length sums.old.paths }
     ensures some { OnOk result (0 < length sums.new.paths) }
     ensures sums { OnOk result ((pairs : List Timed)
-        → AreSums sums.old.paths sums.old.tallies.items pairs
-        → AreSums sums.new.paths sums.new.tallies.items
+        → AreSums sums.old.paths sums.old.tallies pairs
+        → AreSums sums.new.paths sums.new.tallies
         (pairs ++ timed_in (events_at blocks.now places.now))) }
     ensures shallow { OnOk result (
         gets_deep MOST_OPEN (reverse (events_at blocks.now places.now)) ≡ false) }
@@ -58,9 +58,9 @@ fn add_block(
         → stack.new.calls ≡ standing_after
         (reverse (slice_index_or blocks.now place no_block).events ++ history)) }
     ensures follows { OnOk result ((pairs : List Timed) (history : List Event)
-        → Follows stack.old.calls stack.old.frames.items sums.old.paths sums.old.tallies.items
+        → Follows stack.old.calls stack.old.frames.items sums.old.paths sums.old.tallies
         pairs history
-        → Follows stack.new.calls stack.new.frames.items sums.new.paths sums.new.tallies.items
+        → Follows stack.new.calls stack.new.frames.items sums.new.paths sums.new.tallies
         pairs (reverse (slice_index_or blocks.now place no_block).events ++ history)) }
     ensures shallow { OnOk result ((history : List Event)
         → stack.old.calls ≡ standing_after history
@@ -91,9 +91,9 @@ fn add_events(
         → stack.old.calls ≡ standing_after history
         → stack.new.calls ≡ standing_after (reverse events.now ++ history)) }
     ensures follows { OnOk result ((pairs : List Timed) (history : List Event)
-        → Follows stack.old.calls stack.old.frames.items sums.old.paths sums.old.tallies.items
+        → Follows stack.old.calls stack.old.frames.items sums.old.paths sums.old.tallies
         pairs history
-        → Follows stack.new.calls stack.new.frames.items sums.new.paths sums.new.tallies.items
+        → Follows stack.new.calls stack.new.frames.items sums.new.paths sums.new.tallies
         pairs (reverse events.now ++ history)) }
     ensures shallow { OnOk result ((history : List Event)
         → stack.old.calls ≡ standing_after history

@@ -11,7 +11,7 @@ ghost use Rattle.stack_rebuild.specs.Stacks.{told};
 ghost use Rattle.stack_rebuild.specs.StackText.{columns_text, head_text, path_text, row_text, stack_text, weight_text};
 
 use crate::stack_row::StackRow;
-use function_names::add_name;
+use function_names::{add_name, add_name_behind};
 use xray_image::Image;
 use xray_io::{Piece, Sink, Text, WriteFault};
 
@@ -185,20 +185,7 @@ fn add_inner<S: Sink>(
         inner.now) result }
 {
     'inner: for func in inner {
-        add_behind(text, *func, image)?;
+        add_name_behind(text, image, *func)?;
     }
     Ok(())
-}
-
-/// Adds a name after others.
-fn add_behind<S: Sink>(
-    text: &mut Text<S>,
-    func: u32,
-    image: Option<&Image>,
-) -> Result<(), WriteFault>
-    ensures { AddsText S.written S.faults S.along text.old text.new
-        (codes ";" ++ name_text (option_map (λ image. image.now) image.entry) func) result }
-{
-    text.bytes(b";")?;
-    add_name(text, image, func)
 }

@@ -6,9 +6,10 @@ ghost use Rattle.stack_rebuild.specs.private.Rows.{row_before, row_by, rows_at, 
 ghost use Rattle.stack_rebuild.specs.private.Scanning.{AreSums};
 ghost use Rattle.stack_rebuild.specs.Stacks.{IsDeepFault, all_timed, deep_in, most_open, stack_of, told};
 
-use crate::path_sums::{PathSums, Tally};
+use crate::path_sums::PathSums;
 use crate::scan::{MOST_OPEN, add_thread};
 use crate::stack_row::{StackFault, StackRow};
+use crate::tally::Tally;
 use crate::thread_blocks::by_thread;
 use fdr_file::{Block, Trace};
 use std::alloc::Global;
@@ -25,7 +26,7 @@ pub fn stacks(alloc: Global, trace: &Trace) -> Result<Vec<StackRow>, StackFault>
         IsDeepFault fault (deep_in most_open trace.now.blocks)) }
 {
     let sums = sums_of(alloc, trace.blocks.as_slice())?;
-    let order = sums.paths.in_order(alloc)?;
+    let order = sums.order(alloc)?;
     let mut rows = rows_of(alloc, &sums, order.as_slice())?;
     rows.sort_unstable_by(|row, other| compare(row, other));
     Ok(rows)
@@ -34,7 +35,7 @@ pub fn stacks(alloc: Global, trace: &Trace) -> Result<Vec<StackRow>, StackFault>
 /// The sums of all paths.
 fn sums_of(alloc: Global, blocks: &[Block]) -> Result<PathSums, StackFault>
     ensures sums { IfOk result (λ sums.
-        AreSums sums.paths sums.tallies.items (all_timed blocks.now)) }
+        AreSums sums.paths sums.tallies (all_timed blocks.now)) }
     ensures shallow { OnOk result (deep_in MOST_OPEN blocks.now ≡ None) }
     ensures deep { IfErr result (λ fault. IsDeepFault fault (deep_in MOST_OPEN blocks.now)) }
 {
@@ -50,7 +51,7 @@ fn sums_of(alloc: Global, blocks: &[Block]) -> Result<PathSums, StackFault>
 fn rows_of(alloc: Global, sums: &PathSums, numbers: &[usize]) -> Result<Vec<StackRow>, NoMemory>
     requires { All (λ number. number < length sums.now.paths) numbers.now }
     ensures { IfOk result (λ rows. map told rows.items
-        ≡ rows_for sums.now.paths sums.now.tallies.items numbers.now) }
+        ≡ rows_for sums.now.paths sums.now.tallies numbers.now) }
 {
     let mut rows = Vec::new(alloc);
     'listing: for number in numbers {
@@ -68,16 +69,14 @@ fn add_row(
 ) -> Result<(), NoMemory>
     requires { number < length sums.now.paths }
     ensures { OnOk result (map told rows.new.items
-        ≡ map told rows.old.items ++ rows_at sums.now.paths sums.now.tallies.items number) }
+        ≡ map told rows.old.items ++ rows_at sums.now.paths sums.now.tallies number) }
 {
-    match sums.tallies.get(number).copied() {
-        Some(tally) if tally.count > 0 => {
-            let path = sums.paths.path(alloc, number)?;
-            rows.push(row_with(path, tally))?;
-            Ok(())
-        }
-        _ => Ok(()),
+    let tally = sums.tally(number);
+    if tally.count > 0 {
+        let path = sums.path(alloc, number)?;
+        rows.push(row_with(path, tally))?;
     }
+    Ok(())
 }
 
 /// The row of a path.

@@ -61,9 +61,9 @@ impl ThreadStack {
         ensures within { OnOk result (AreWithin sums.new.paths self.new.frames.items) }
         ensures calls { OnOk result (self.new.calls ≡ next_standing event.now self.old.calls) }
         ensures follows { OnOk result ((pairs : List Timed) (history : List Event)
-            → Follows self.old.calls self.old.frames.items sums.old.paths sums.old.tallies.items
+            → Follows self.old.calls self.old.frames.items sums.old.paths sums.old.tallies
             pairs history
-            → Follows self.new.calls self.new.frames.items sums.new.paths sums.new.tallies.items
+            → Follows self.new.calls self.new.frames.items sums.new.paths sums.new.tallies
             pairs (event.now ∷ history)) }
     {
         let pair = self.calls.take(event)?;
@@ -85,8 +85,8 @@ fn open_frame(frames: &mut Vec<Frame>, sums: &mut PathSums, func: u32) -> Result
     ensures opened { OnOk result (
         Opens func frames.old.items frames.new.items sums.old.paths sums.new.paths) }
     ensures sums { OnOk result ((pairs : List Timed)
-        → AreSums sums.old.paths sums.old.tallies.items pairs
-        → AreSums sums.new.paths sums.new.tallies.items pairs) }
+        → AreSums sums.old.paths sums.old.tallies pairs
+        → AreSums sums.new.paths sums.new.tallies pairs) }
 {
     let path = sums.number_of(innermost(frames), func)?;
     frames.push(Frame { path, spent: 0 })?;
@@ -116,9 +116,9 @@ fn end_frame(
     ensures rest { OnOk result (depth < length frames.old.items
         → reverse frames.new.items ≡ with_spent duration (reverse (take depth frames.old.items))) }
     ensures sums { OnOk result ((pairs : List Timed) (frame : Frame)
-        → AreSums sums.old.paths sums.old.tallies.items pairs
+        → AreSums sums.old.paths sums.old.tallies pairs
         → depth < length frames.old.items
-        → AreSums sums.new.paths sums.new.tallies.items (pairs ++ record {
+        → AreSums sums.new.paths sums.new.tallies (pairs ++ record {
           path = path_at sums.old.paths (slice_index_or frames.old.items depth frame).path;
           duration = duration;
           own = duration - (slice_index_or frames.old.items depth frame).spent;

@@ -1,13 +1,12 @@
 -- The places of each thread's blocks, and how deep a thread's calls go, for the contracts of private functions.
-use Rattle.std.specs.Prelude.{◌≡◌, ◌==◌, Bool, ℕ, List, [], ◌∷◌, is_some, unwrap_or, slice_index_or, nat_eq, map, All}
+use Rattle.std.specs.Prelude.{◌≡◌, ◌==◌, ℕ, List, [], is_some, unwrap_or, slice_index_or, map, All}
 use Rattle.std.specs.List.{flat_map, list_any}
 use Rattle.std.specs.Option.{option_map}
 use Rattle.std.specs.Ordering.{nat_cmp}
-use Rattle.std.specs.BTreeMap.{BTreeMap, get, IsOrdered}
+use Rattle.std.specs.BTreeMap.{BTreeMap, get}
 use Rattle.std.specs.Global.{Vec}
 use Rattle.fdr_record.specs.declared.event.Event.{Event}
 use Rattle.fdr_file.specs.declared.trace.Block.{Block}
-use Rattle.xray_io.specs.declared.faults.Wall.{Wall}
 use Rattle.stack_rebuild.specs.declared.stack_row.StackFault.{StackFault}
 use Rattle.stack_rebuild.specs.declared.stack_row.StackFault.TheVariants.{Deep, NoMemory}
 use Rattle.stack_rebuild.specs.declared.thread_blocks.ThreadBlocks.{ThreadBlocks}

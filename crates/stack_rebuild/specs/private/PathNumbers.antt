@@ -1,9 +1,9 @@
 -- Numbers for paths, for the contracts of private functions.
-use Rattle.std.specs.Prelude.{◌≡◌, ◌<◌, ◌≤◌, ◌+◌, ◌-◌, ◌++◌, ◌⊎◌, ◌==◌, ◌&&◌, Bool, ℕ, List, [], ◌∷◌, length, reverse, Option, Some, slice_index_or}
+use Rattle.std.specs.Prelude.{◌≡◌, ◌<◌, ◌≤◌, ◌+◌, ◌-◌, ◌++◌, ◌⊎◌, ◌==◌, ◌&&◌, Bool, ℕ, List, [], ◌∷◌, length, Option, Some, slice_index_or}
 use Rattle.std.specs.HashMap.{get, HashMap}
 use Rattle.std.specs.declared.hash.FoldHasher.{FoldHasher}
 use Rattle.std.specs.declared.hash.BuildHasherDefault.{BuildHasherDefault}
-use Rattle.stack_rebuild.specs.declared.path_numbers.Step.{Step}
+use Rattle.stack_rebuild.specs.declared.node.Step.{Step}
 
 -- the path with this number
 abbrev pub path_at : List (List ℕ) → ℕ → List ℕ

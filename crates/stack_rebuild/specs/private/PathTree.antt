@@ -1,12 +1,31 @@
--- What the fields of numbered paths say.
-use Rattle.std.specs.Prelude.{List, reverse, ℕ}
-use Rattle.stack_rebuild.specs.declared.path_numbers.PathNumbers.TheInside.{Inside}
+-- The tree of paths: what its nodes, and the fields of sums, say.
+use Rattle.std.specs.Prelude.{◌<◌, ℕ, List, drop, length, map, reverse}
+use Rattle.stack_rebuild.specs.declared.node.Node.{Node}
+use Rattle.stack_rebuild.specs.declared.node.Step.{Step}
+use Rattle.stack_rebuild.specs.declared.tally.Tally.{Tally}
+use Rattle.stack_rebuild.specs.declared.path_sums.PathSums.TheInside.{Inside}
 use Rattle.stack_rebuild.specs.private.PathNumbers.{AreNumbered, paths_after}
+use Rattle.stack_rebuild.specs.private.Scanning.{Summed}
 
--- the paths
-abbrev pub paths_in : Inside → List (List ℕ)
-paths_in a = paths_after (reverse a.steps.items)
+-- the step that leads to a path
+abbrev pub step_of : Node → Step
+step_of node = record { parent = node.parent; func = node.func }
 
--- the table has the numbers of the steps
-abbrev pub IsTree : Inside → Type 0
-IsTree a = AreNumbered (paths_in a) a.steps.items a.numbers
+abbrev pub tally_in : Node → Tally
+tally_in node = node.tally
+
+-- the steps to the paths after the first one, which is the empty path
+abbrev pub steps_in : List Node → List Step
+steps_in nodes = drop 1 (map step_of nodes)
+
+-- the paths of nodes
+abbrev pub paths_in : List Node → List (List ℕ)
+paths_in nodes = paths_after (reverse (steps_in nodes))
+
+abbrev pub summed_in : Inside → Summed
+summed_in a = record { paths = paths_in a.nodes.items; tallies = map tally_in a.nodes.items }
+
+-- there is the empty path, and the table has the numbers of the steps
+pub record IsTree (a : Inside) : Type 0 where
+  pub some : 0 < length a.nodes.items
+  pub numbered : AreNumbered (paths_in a.nodes.items) (steps_in a.nodes.items) a.numbers

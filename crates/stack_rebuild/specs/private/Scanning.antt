@@ -1,8 +1,8 @@
 -- What is kept of paths and open calls while the events of a thread are taken, for the contracts of private functions.
-use Rattle.std.specs.Prelude.{◌≡◌, ◌<◌, ◌+◌, ◌-◌, ◌++◌, ℕ, List, [], ◌∷◌, length, reverse, sum_by, count_by, if◌then◌else◌, slice_index_or, All}
+use Rattle.std.specs.Prelude.{◌≡◌, ◌<◌, ◌+◌, ◌++◌, ℕ, List, [], ◌∷◌, length, reverse, sum_by, count_by, if◌then◌else◌, slice_index_or, All}
 use Rattle.fdr_record.specs.declared.event.Event.{Event}
 use Rattle.stack_rebuild.specs.declared.call.Call.{Call}
-use Rattle.stack_rebuild.specs.declared.path_sums.Tally.{Tally}
+use Rattle.stack_rebuild.specs.declared.tally.Tally.{Tally}
 use Rattle.stack_rebuild.specs.declared.thread_stack.Frame.{Frame}
 use Rattle.stack_rebuild.specs.Calls.{Standing, open_calls, standing_after}
 use Rattle.stack_rebuild.specs.Stacks.{Timed, has_path, path_of, spent_in, timed_in}
@@ -18,6 +18,11 @@ tally_of pairs path = record {
 
 abbrev pub no_tally : Tally
 no_tally = record { count = 0; sum = 0; own = 0 }
+
+-- paths with their tallies, by their numbers
+pub record Summed : Type 0 where
+  pub paths : List (List ℕ)
+  pub tallies : List Tally
 
 -- a tally and one more pair
 abbrev pub with_pair : ℕ → ℕ → Tally → Tally

@@ -1,4 +1,4 @@
-use Rattle.std.proofs.Common.{◌≡◌, ◌+◌, ◌++◌, ◌<◌, ◌∙◌, ℕ, List, length, reverse, take, ap, sym, subst, arith}
+use Rattle.std.proofs.Common.{◌≡◌, ◌++◌, ◌∙◌, List, reverse, take, ap, sym, subst, arith}
 use Rattle.std.proofs.lemmas.List.{reverse-reverse, take_all}
 use Rattle.std.proofs.lemmas.Result.{err_from_is_err_and}
 use Rattle.fdr_record.specs.declared.event.Event.{Event}
@@ -19,7 +19,7 @@ going-preserved c =
       within = c.in_ok-add_block.ensures.within;
       stands = c.in_ok-add_block.ensures.stands before c.going.invariant.stands ∙ ap standing_after (sym turned);
       follows = λ pairs sums. subst
-          (λ (h : List Event). Follows c.add_block.new.stack.calls c.add_block.new.stack.frames.items c.add_block.new.sums.paths c.add_block.new.sums.tallies.items pairs h)
+          (λ (h : List Event). Follows c.add_block.new.stack.calls c.add_block.new.stack.frames.items c.add_block.new.sums.paths c.add_block.new.sums.tallies pairs h)
           (sym turned) (c.in_ok-add_block.ensures.follows pairs before (c.going.invariant.follows pairs sums));
       shallow = ap (gets_deep MOST_OPEN) turned ∙ c.in_ok-add_block.ensures.shallow before c.going.invariant.stands c.going.invariant.shallow;
     }
@@ -28,7 +28,7 @@ pub returns-clause-sums : goal.returns-clause-sums
 returns-clause-sums c = λ pairs sums.
     let all : take c.going.place-index c.args.places.now ≡ c.args.places.now =
     take_all c.going.place-index c.args.places.now (omega (arith, c.going-test.false)) in
-    subst (λ (es : List Event). AreSums c.going.sums.paths c.going.sums.tallies.items (pairs ++ timed_in es))
+    subst (λ (es : List Event). AreSums c.going.sums.paths c.going.sums.tallies (pairs ++ timed_in es))
     (reverse-reverse (events_at c.args.blocks.now (take c.going.place-index c.args.places.now)) ∙ ap (events_at c.args.blocks.now) all)
     (c.going.invariant.follows pairs sums).summed
 

@@ -1,5 +1,4 @@
-use Rattle.std.proofs.Common.{◌≡◌, ◌<◌, ◌++◌, false, List, length, reverse, take}
-use Rattle.fdr_record.specs.declared.event.Event.{Event}
+use Rattle.std.proofs.Common.{◌≡◌, false, List, reverse, take}
 use Rattle.stack_rebuild.specs.declared.scan.TheConstants.{MOST_OPEN}
 use Rattle.stack_rebuild.specs.private.ByThread.{events_at}
 use Rattle.stack_rebuild.specs.Calls.{standing_after}
@@ -11,7 +10,7 @@ abbrev pub invariant-going : goal.invariant-going
 invariant-going l = record {
   within : AreWithin l.sums.paths l.stack.frames.items;
   stands : l.stack.calls ≡ standing_after (reverse (events_at l.blocks (take l.place-index l.places)));
-  follows : (pairs : List Timed) → AreSums l.fn.sums.paths l.fn.sums.tallies.items pairs
-      → Follows l.stack.calls l.stack.frames.items l.sums.paths l.sums.tallies.items pairs (reverse (events_at l.blocks (take l.place-index l.places)));
+  follows : (pairs : List Timed) → AreSums l.fn.sums.paths l.fn.sums.tallies pairs
+      → Follows l.stack.calls l.stack.frames.items l.sums.paths l.sums.tallies pairs (reverse (events_at l.blocks (take l.place-index l.places)));
   shallow : gets_deep MOST_OPEN (reverse (events_at l.blocks (take l.place-index l.places))) ≡ false;
 }

@@ -1,4 +1,4 @@
-use Rattle.std.proofs.Common.{◌++◌, ◌≡◌, List, ℕ, sym, ap, append_assoc, subst}
+use Rattle.std.proofs.Common.{◌++◌, List, ℕ, sym, ap, append_assoc, subst}
 use Rattle.std.specs.Option.{option_map}
 use Rattle.xray_io.specs.Text.{AddsText, adds_more, adds_stop, adds_within, adds_failed}
 use Rattle.stack_rebuild.specs.Stacks.{told}

@@ -4,4 +4,4 @@ use Rattle.stack_rebuild.specs.Stacks.{told}
 use Rattle.stack_rebuild.proofs.stacks_of.rows_of.Given as goal
 
 abbrev pub invariant-listing : goal.invariant-listing
-invariant-listing l = map told l.rows.items ≡ rows_for l.sums.paths l.sums.tallies.items (take l.number-index l.numbers)
+invariant-listing l = map told l.rows.items ≡ rows_for l.sums.paths l.sums.tallies (take l.number-index l.numbers)

@@ -17,9 +17,9 @@ pub returns-clause-rows : goal.returns-clause-rows
 returns-clause-rows c =
     let sums = c.in_ok-sums.sums in
     let up = c.sort_unstable_by.ensures.sorted row_before row_order (always_returns_same _ _ _ (λ a r f' k. search rules)) in
-    rows_sorted sums.paths sums.tallies.items (all_timed c.args.trace.now.blocks) c.in_ok-order.order.items c.in_ok-rows.rows.items
+    rows_sorted sums.paths sums.tallies (all_timed c.args.trace.now.blocks) c.in_ok-order.order.items c.in_ok-rows.rows.items
     c.sort_unstable_by.new.self.items
-    (subst (λ (blocks : List Block). AreSums sums.paths sums.tallies.items (all_timed blocks)) c.as_slice.ensures c.in_ok-sums.ensures.sums)
+    (subst (λ (blocks : List Block). AreSums sums.paths sums.tallies (all_timed blocks)) c.as_slice.ensures c.in_ok-sums.ensures.sums)
     c.in_ok-order.ensures
-    (c.in_ok-rows.ensures ∙ ap (rows_for sums.paths sums.tallies.items) c.as_slice-2.ensures.value)
+    (c.in_ok-rows.ensures ∙ ap (rows_for sums.paths sums.tallies) c.as_slice-2.ensures.value)
     c.sort_unstable_by.ensures.permutation up

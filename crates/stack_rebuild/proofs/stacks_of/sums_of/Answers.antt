@@ -1,4 +1,4 @@
-use Rattle.std.proofs.Common.{◌≡◌, ◌+◌, ◌++◌, ◌<◌, ◌≤◌, ◌∙◌, ℕ, true, false, List, length, map, reverse, take, ap, sym, subst, arith}
+use Rattle.std.proofs.Common.{◌≡◌, ◌++◌, ◌<◌, ℕ, true, false, List, length, map, reverse, take, sym, subst, arith}
 use Rattle.std.specs.List.{flat_map}
 use Rattle.std.proofs.lemmas.Result.{err_from_is_err_and}
 use Rattle.stack_rebuild.specs.declared.scan.TheConstants.{MOST_OPEN}
@@ -18,8 +18,8 @@ adding-preserved c =
     let low : c.adding.own-index < length items = omega (arith, c.adding-test.true) in
     let before = flat_map (λ (thread : ℕ). timed_in (events_of thread blocks)) (take c.adding.own-index (map (λ (o : ThreadBlocks). o.thread) items)) in record {
       some = c.in_ok-add_thread.ensures.some;
-      summed = adds_thread blocks items c.adding.own-index c.own-item.result c.add_thread.new.sums.paths c.add_thread.new.sums.tallies.items own low c.own-item.is
-          (subst (λ (places : List ℕ). AreSums c.add_thread.new.sums.paths c.add_thread.new.sums.tallies.items (before ++ timed_in (events_at blocks places)))
+      summed = adds_thread blocks items c.adding.own-index c.own-item.result c.add_thread.new.sums.paths c.add_thread.new.sums.tallies own low c.own-item.is
+          (subst (λ (places : List ℕ). AreSums c.add_thread.new.sums.paths c.add_thread.new.sums.tallies (before ++ timed_in (events_at blocks places)))
           c.as_slice.ensures.value (c.in_ok-add_thread.ensures.sums before c.adding.invariant.summed));
       shallow = shallow_thread MOST_OPEN blocks items c.adding.own-index c.own-item.result own low c.own-item.is
           (subst (λ (places : List ℕ). gets_deep MOST_OPEN (reverse (events_at blocks places)) ≡ false) c.as_slice.ensures.value c.in_ok-add_thread.ensures.shallow)
@@ -39,7 +39,7 @@ returns-in_err-add_thread-clause-deep c =
 
 pub returns-clause-sums : goal.returns-clause-sums
 returns-clause-sums c =
-    whole_sums c.args.blocks.now c.as_slice-own-items.result.now c.adding.own-index c.adding.sums.paths c.adding.sums.tallies.items
+    whole_sums c.args.blocks.now c.as_slice-own-items.result.now c.adding.own-index c.adding.sums.paths c.adding.sums.tallies
     (subst (AreThreads c.args.blocks.now) (sym c.as_slice-own-items.ensures.value) c.in_ok-threads.ensures) (omega (arith, c.adding-test.false))
     c.adding.invariant.summed
 

@@ -10,7 +10,7 @@ use Rattle.stack_rebuild.proofs.stacks_of.sums_of.Given as goal
 abbrev pub invariant-adding : goal.invariant-adding
 invariant-adding l = record {
   some : 0 < length l.sums.paths;
-  summed : AreSums l.sums.paths l.sums.tallies.items
+  summed : AreSums l.sums.paths l.sums.tallies
       (flat_map (λ thread. timed_in (events_of thread l.blocks)) (take l.own-index (map (λ own. own.thread) l.own-items)));
   shallow : filter (λ thread. gets_deep MOST_OPEN (reverse (events_of thread l.blocks))) (take l.own-index (map (λ own. own.thread) l.own-items)) ≡ [];
 }

@@ -1,4 +1,4 @@
-use Rattle.std.proofs.Common.{ℕ, List, sym, ap, subst, length}
+use Rattle.std.proofs.Common.{ℕ, List, sym, subst, length}
 use Rattle.std.proofs.lemmas.Result.{on_ok_weaker}
 use Rattle.stack_rebuild.specs.private.Scanning.{AreWithin}
 use Rattle.stack_rebuild.proofs.Frames.{below_end}

@@ -1,7 +1,7 @@
 use Rattle.std.proofs.Common.{◌≡◌, ◌+◌, ◌++◌, ◌∙◌, ℕ, suc, List, [], ◌∷◌, ap, sym, arith}
 use Rattle.std.specs.List.{range_with_len}
 use Rattle.stack_rebuild.proofs.Orders.{range_more}
-use Rattle.stack_rebuild.proofs.path_numbers.numbers_below.Goals as goal
+use Rattle.stack_rebuild.proofs.path_order.numbers_below.Goals as goal
 
 pub listing-preserved : goal.listing-preserved
 listing-preserved c =

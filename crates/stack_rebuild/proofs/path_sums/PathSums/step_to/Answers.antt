@@ -1,0 +1,20 @@
+use Rattle.std.proofs.Common.{◌≡◌, ◌<◌, ◌∙◌, ℕ, List, ap, arith, length, subst, sym}
+use Rattle.stack_rebuild.specs.declared.node.Step.{Step}
+use Rattle.stack_rebuild.specs.private.PathNumbers.{path_at, path_by}
+use Rattle.stack_rebuild.specs.private.PathTree.{paths_in, step_of}
+use Rattle.stack_rebuild.specs.private.Scanning.{Summed}
+use Rattle.stack_rebuild.proofs.Nodes.{climbs_to, length_steps}
+use Rattle.stack_rebuild.proofs.path_sums.PathSums.step_to.Goals as goal
+
+pub returns : goal.returns
+returns c =
+    let nodes = c.self.inside.nodes.items in
+    let n = c.args.number in
+    let view : paths_in nodes ≡ c.args.self.now.paths = ap (λ (s : Summed). s.paths) c.self.view_is in
+    let within : n < length nodes =
+    omega (arith, c.requires.within, ap {B = ℕ} length view, c.self.invariant.numbered.count, length_steps nodes c.self.invariant.some) in
+    let own = climbs_to nodes c.self.inside.numbers n c.index.result.now c.self.invariant.numbered c.requires.some within in
+    let at = ap step_of (sym c.index.ensures) ∙ sym c.step.ensures in record {
+      climbs = subst (λ (s : Step). s.parent < n) at own.0;
+      path = subst (λ (paths : List (List ℕ)). path_at paths n ≡ path_by paths c.step.result) view (own.1 ∙ ap (path_by (paths_in nodes)) at);
+    }
