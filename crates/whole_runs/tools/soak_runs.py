@@ -1,8 +1,8 @@
 #!/usr/bin/env python3
-"""Compares what `soak` prints with a model of it, and says where they differ.
+"""Compares what `soak` prints with a model of it, and reports where they differ.
 
 usage: crates/whole_runs/tools/soak_runs.py [PROGRAM] [--first N] [--seeds N] [--jobs N]
-    PROGRAM: the built program, crates/xray/out/xray if left out; `model` prints the model's summaries alone
+    PROGRAM: the built program, crates/xray/out/xray if left out; `model` only prints the model's summaries
     --first: the first seed, 0 if left out
     --seeds: how many seeds, 300 if left out
     --jobs: how many at a time, 2 if left out
@@ -17,7 +17,7 @@ import pathlib
 import subprocess
 import sys
 
-sys.dont_write_bytecode = True  # the modules stand in the repository, and their compiled forms don't
+sys.dont_write_bytecode = True  # the modules are in the repository, and their compiled forms aren't
 from image_model import image_of  # noqa: E402
 from random_images import ROOT, loaded, texts  # noqa: E402
 from replay_model import commands_of, replayed, turns_of  # noqa: E402
