@@ -1,35 +1,21 @@
 -- The headline of `sim` and of `run`, from what they mean.
-use Rattle.std.specs.Prelude.{All, slice_get}
+use Rattle.std.specs.Prelude.{All}
 use Rattle.std.proofs.lemmas.List.{length-map}
 use Rattle.std.proofs.lemmas.List.Elements.{All-head, All-tail}
-use Rattle.std.proofs.Common.{◌≡◌, ◌+◌, ℕ, List, [], ◌∷◌, Option, Some, None, option_map, Ok, inl, inr, refl, subst, ◌∙◌, codes}
+use Rattle.std.proofs.Common.{◌≡◌, ◌+◌, ℕ, List, [], ◌∷◌, Option, Some, None, option_map, inl, inr, refl, subst, ◌∙◌, codes}
 use Rattle.xray_io.specs.Desk.{Entry, Holds, made_to_hold}
 use Rattle.xray_io.specs.Sink.{Adds}
-use Rattle.sled_words.specs.ChangingCode.{KeepsSleds}
 use Rattle.machine_step.specs.declared.setup.Setup.{Setup}
-use Rattle.machine_step.specs.Follows.{Follows}
-use Rattle.machine_step.specs.Loads.{Load}
 use Rattle.machine_step.specs.PlainStep.{Passing}
-use Rattle.machine_step.specs.Whole.{AreWhole as PassingsAreWhole}
-use Rattle.patch_script.specs.CodeAt.{code_at}
-use Rattle.patch_script.specs.Micros.{hold_of}
 use Rattle.patch_script.specs.Plans.{waiting_line}
-use Rattle.patch_script.specs.declared.command.Command.{Command as PatchCommand}
 use Rattle.patch_script.specs.Refusals.{commands_of}
 use Rattle.step_sim.specs.FaultWords.{waits_words}
 use Rattle.step_sim.specs.Replay.{of_thread}
-use Rattle.step_sim.specs.Replayed.{IsReplayOf, LoseOldest}
-use Rattle.machine_step.specs.Buffers.{spare_of}
-use Rattle.step_sim.specs.Schedules.{schedule_of}
-use Rattle.step_sim.specs.declared.turns.Turns.{Turns}
 use Rattle.trace_flush.specs.Audit.{audit_text}
-use Rattle.trace_flush.specs.Flush.{IsTraceOf, trace_bytes}
+use Rattle.trace_flush.specs.Flush.{trace_bytes}
 use Rattle.trace_flush.specs.Lines.{accounts_of}
-use Rattle.traced_run.specs.Decoded.{DecodesWhole}
 use Rattle.traced_run.specs.Fits.{SetupFits}
-use Rattle.traced_run.specs.Losses.{AreLost}
-use Rattle.traced_run.specs.Runs.{IsRun, ThreadRun}
-use Rattle.xray_image.specs.Program.{IsAccepted, Program}
+use Rattle.traced_run.specs.Runs.{ThreadRun}
 use Rattle.xray_program.specs.Answers.{IsRunBeside, IsSimulated}
 use Rattle.xray_program.specs.Commands.{Means}
 use Rattle.xray_program.specs.Inputs.{image_form, script_form, schedule_form}

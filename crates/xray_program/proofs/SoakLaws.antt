@@ -1,7 +1,6 @@
 -- `soak`: one thing comes of it, and something in any case.
 use Rattle.std.proofs.Common.{◌≡◌, ◌≤◌, ◌∙◌, ℕ, List, [], None, Ok, Result, refl, sym, ap, subst, arith}
 use Rattle.std.specs.List.{enumerate_from}
-use Rattle.account_report.specs.Account.{account_of}
 use Rattle.asm_text.specs.Assembling.{assembled, image_of, said_by}
 use Rattle.asm_text.specs.Layout.{Lines}
 use Rattle.asm_text.specs.Programs.{program_said}

@@ -1,5 +1,5 @@
 -- The inputs of a number as they are read, and the summary of their replay.
-use Rattle.std.proofs.Common.{◌≡◌, ◌≢◌, ◌⊎◌, ◌↔◌, ◌++◌, ◌∙◌, ◌≤◌, ℕ, List, [], length, None, Option, Some, Ok, Err, Result, inl, inr, refl, sym, ap, subst}
+use Rattle.std.proofs.Common.{◌≡◌, ◌⊎◌, ◌↔◌, ◌∙◌, ℕ, List, length, None, Option, Some, Ok, Err, Result, inl, inr, refl, sym, ap, subst}
 use Rattle.std.specs.Prelude.{IfErr, IfOk, Vec}
 use Rattle.std.specs.declared.alloc.Global.{Global}
 use Rattle.account_report.specs.declared.row.AccountRow.{AccountRow}

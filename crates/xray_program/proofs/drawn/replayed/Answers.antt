@@ -1,11 +1,9 @@
-use Rattle.std.proofs.Common.{◌≡◌, sym, subst}
+use Rattle.std.proofs.Common.{sym, subst}
 use Rattle.std.specs.Prelude.{All}
 use Rattle.patch_script.specs.Plans.{waiting_line}
 use Rattle.patch_script.specs.Refusals.{commands_of}
-use Rattle.step_sim.specs.Replayed.{IsSimulated}
 use Rattle.step_sim.specs.Schedules.{AreTurnsOf}
 use Rattle.step_sim.specs.Starts.{Start}
-use Rattle.xray_image.specs.Program.{Program}
 use Rattle.xray_program.specs.Soak.{soak_setup}
 use Rattle.xray_program.proofs.SoakReads.{started, still_unrefused}
 use Rattle.xray_program.proofs.drawn.replayed.Goals as goal
