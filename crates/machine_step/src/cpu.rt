@@ -147,6 +147,7 @@ impl<'a> Cpu<'a> {
     /// Gives the thread the value of the word that it wants. If that ends the passing, the passing
     /// gets its mark, and the thread runs on to its next sled or to its end. The answer is the
     /// event of the passing exactly when the value is the state of a log that records.
+    #[inline(always)]
     pub fn give(&mut self, value: u64) -> Option<Event>
         requires { Allows self.old self.old.want value }
         ensures thread { IsSameThread self.old self.new }
