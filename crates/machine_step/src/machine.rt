@@ -40,7 +40,7 @@ impl Machine {
     }
 
     /// Makes the step at a place.
-    #[inline]
+    #[inline(always)]
     pub(crate) fn step(&mut self, step: &Step, place: usize, limits: Limits) -> Way
         requires within { IsWithin limits self.old }
         requires place { place + 1 < 2 ^ 64 }

@@ -74,6 +74,7 @@ fn due_sled(machine: &Machine, step: &Step, limits: Limits) -> Option<u32>
 }
 
 /// Lets a machine before a sled pass it, and run on to the next one or to its end.
+#[inline(always)]
 pub(crate) fn pass_sled(machine: &mut Machine, steps: &Steps, limits: Limits, place: usize) -> Stand
     requires accepted { (bytes : List ℕ) × IsAccepted bytes steps.now }
     requires within { IsWithin limits machine.old }
