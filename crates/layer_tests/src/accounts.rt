@@ -1,45 +1,11 @@
-//! Rows that were worked by hand, orders with ties, and texts.
+//! Calls of `account_report`: rows that were worked by hand, orders with ties, and texts.
 
+use crate::event_traces::{NESTED, Said, trace_of};
 use account_report::*;
-use fdr_file::{Block, Blocks, Events, Header, Trace};
-use fdr_record::{Event, Kind};
+use fdr_record::Kind;
 use std::alloc::Global;
 use std::test::Fail;
-use xray_io::{MemSink, Wall};
-
-const HEADER: Header = Header {
-    version: 3,
-    constant: true,
-    nonstop: true,
-    frequency: 0,
-    size: 16_384,
-};
-
-/// An event: its thread, its kind, its function and its counter.
-type Said = (u32, Kind, u32, u64);
-
-/// A trace with a block for each event.
-fn trace_of(alloc: Global, events: &[Said]) -> Result<Trace, Fail> {
-    let mut blocks = Vec::new(alloc);
-    for &(thread, kind, func, tsc) in events {
-        let event = Event {
-            cpu: 0,
-            func,
-            kind,
-            tsc,
-        };
-        blocks.push(Block {
-            thread,
-            wall: Wall { secs: 0, micros: 0 },
-            pid: 1,
-            events: Events::new(Vec::from_slice(alloc, &[event])?),
-        })?;
-    }
-    Ok(Trace {
-        header: HEADER,
-        blocks: Blocks::new(blocks),
-    })
-}
+use xray_io::MemSink;
 
 /// The text of rows, without an image.
 fn printed(alloc: Global, rows: &[AccountRow], format: AccountFormat) -> Result<String, Fail> {
@@ -54,16 +20,7 @@ const CSV_HEAD: &str = "funcid,count,min,med,90p,99p,max,sum,entries,exits,funct
 const ROWS: [(&[Said], &str); 9] = [
     (&[], ""),
     // Each exit ends the innermost call of its function.
-    (
-        &[
-            (1, Kind::Entry, 1, 0),
-            (1, Kind::Entry, 1, 10),
-            (1, Kind::Entry, 1, 20),
-            (1, Kind::Exit, 1, 30),
-            (1, Kind::Exit, 1, 45),
-        ],
-        "1,2,10,35,35,35,35,45,1,0,#1\n",
-    ),
+    (&NESTED, "1,2,10,35,35,35,35,45,1,0,#1\n"),
     // The counter wraps.
     (
         &[(1, Kind::Entry, 3, u64::MAX), (1, Kind::TailExit, 3, 0)],
@@ -114,7 +71,7 @@ const ROWS: [(&[Said], &str); 9] = [
 ];
 
 #[test]
-fn a_row_tells_of_the_pairs_of_its_function_and_of_what_is_in_none(
+fn a_row_counts_the_pairs_of_its_function_and_the_events_in_none(
     rt: HostRuntime,
 ) -> Result<(), Fail> {
     for (events, lines) in ROWS {
@@ -191,7 +148,9 @@ fn ordered(
 }
 
 #[test]
-fn rows_of_one_number_stand_by_their_functions_both_ways(rt: HostRuntime) -> Result<(), Fail> {
+fn rows_of_one_number_are_in_order_of_their_functions_both_ways(
+    rt: HostRuntime,
+) -> Result<(), Fail> {
     for key in [
         SortKey::Count,
         SortKey::Min,
@@ -225,7 +184,7 @@ const ONE_PAIR: &str = "         1          1          2          2          2  
     2          2          0          0 #1\n";
 
 #[test]
-fn columns_end_in_one_place_and_a_longer_number_stands_whole(rt: HostRuntime) -> Result<(), Fail> {
+fn columns_are_aligned_and_a_longer_number_is_printed_whole(rt: HostRuntime) -> Result<(), Fail> {
     let alloc = rt.alloc();
     let none = printed(alloc, &[], AccountFormat::Text)?;
     let head = none

@@ -1,4 +1,4 @@
-//! Images worked by hand, the refusals, and the limits.
+//! Calls of `asm_text`: images worked by hand, the refusals, and the limits.
 
 use asm_text::*;
 use std::alloc::{AllocError, Global};
@@ -244,8 +244,8 @@ fn labels_stand_for_their_three_places(rt: HostRuntime) -> Result<(), Fail> {
 }
 
 /// A line, `count` times, after other lines.
-fn repeated(alloc: Global, front: &[u8], line: &[u8], count: u32) -> Result<Vec<u8>, AllocError> {
-    let mut text = Vec::from_slice(alloc, front)?;
+fn repeated(alloc: Global, start: &[u8], line: &[u8], count: u32) -> Result<Vec<u8>, AllocError> {
+    let mut text = Vec::from_slice(alloc, start)?;
     for _ in 0..count {
         text.extend_from_slice(line)?;
     }

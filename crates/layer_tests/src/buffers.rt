@@ -1,4 +1,4 @@
-//! The bytes of segments, as the format says, and where a segment ends.
+//! Calls of `fdr_buffer`: the bytes of segments, as the format says, and where a segment ends.
 
 use fdr_buffer::*;
 use fdr_record::{Event, Kind};
@@ -14,7 +14,11 @@ const PREAMBLE: &[u8] = b"\x01\x01\0\0\0\0\0\0\0\0\0\0\0\0\0\0\
 
 const EPOCH: Wall = Wall { secs: 0, micros: 0 };
 
-const fn event(kind: Kind, func: u32, cpu: u16, tsc: u64) -> Event {
+/// An event: its kind, its function, its CPU and its counter.
+type Said = (Kind, u32, u16, u64);
+
+/// An event of these.
+fn event(kind: Kind, func: u32, cpu: u16, tsc: u64) -> Event {
     Event {
         cpu,
         func,
@@ -38,111 +42,120 @@ fn check_segments(
     rt: &impl Abort,
     alloc: Global,
     size: u32,
-    events: &[Event],
+    events: &[Said],
     records: &[&[u8]],
 ) -> Result<(), Fail> {
     assert!(rt; LEAST_SIZE <= size && size <= LARGEST_SIZE);
     let mut buffer = Buffer::new(alloc, size)?;
     assert!(rt; !buffer.begun() && buffer.bytes().is_empty());
     buffer.begin(1, 0, EPOCH, 1);
-    for event in events {
+    for &(kind, func, cpu, tsc) in events {
+        let event = event(kind, func, cpu, tsc);
         assert!(rt; buffer.begun() && buffer.thread() == 1);
-        if !buffer.fits(event) {
+        if !buffer.fits(&event) {
             check_bytes(rt, &buffer, records);
             assert!(rt; buffer.serial() < 9);
             buffer.begin(1, buffer.serial() + 1, EPOCH, 1);
             assert_eq!(rt; buffer.events(), 0);
         }
-        assert!(rt; buffer.fits(event) && event.func < 1 << 28);
-        buffer.put(event);
+        assert!(rt; buffer.fits(&event) && event.func < 1 << 28);
+        buffer.put(&event);
     }
     check_bytes(rt, &buffer, records);
     assert_eq!(rt; buffer.serial() as usize + 1, records.len());
     Ok(())
 }
 
+/// The size of buffers, the events that fill them, and the records that each then has after its
+/// preamble.
+type Filling = (u32, &'static [Said], &'static [&'static [u8]]);
+
+/// An entry of function 1 on CPU 0, at counter 0.
+const FIRST: Said = (Kind::Entry, 1, 0, 0);
+
+const FILLINGS: [Filling; 10] = [
+    (
+        16384,
+        &[FIRST, (Kind::Exit, 1, 0, 2)],
+        &[b"\x05\0\0\0\0\0\0\0\0\0\0\0\0\0\0\0\x10\0\0\0\0\0\0\0\x12\0\0\0\x02\0\0\0"],
+    ),
+    // The greatest delta, and one more than that.
+    (
+        16384,
+        &[FIRST, (Kind::Exit, 1, 0, 4294967295)],
+        &[b"\x05\0\0\0\0\0\0\0\0\0\0\0\0\0\0\0\x10\0\0\0\0\0\0\0\x12\0\0\0\xFF\xFF\xFF\xFF"],
+    ),
+    (
+        16384,
+        &[FIRST, (Kind::Exit, 1, 0, 4294967296)],
+        &[
+            b"\x05\0\0\0\0\0\0\0\0\0\0\0\0\0\0\0\x10\0\0\0\0\0\0\0\
+            \x07\0\0\0\0\x01\0\0\0\0\0\0\0\0\0\0\x12\0\0\0\0\0\0\0",
+        ],
+    ),
+    // The counter wraps.
+    (
+        16384,
+        &[(Kind::Entry, 1, 0, u64::MAX), (Kind::Exit, 1, 0, 0)],
+        &[
+            b"\x05\0\0\xFF\xFF\xFF\xFF\xFF\xFF\xFF\xFF\0\0\0\0\0\x10\0\0\0\0\0\0\0\
+            \x07\0\0\0\0\0\0\0\0\0\0\0\0\0\0\0\x12\0\0\0\0\0\0\0",
+        ],
+    ),
+    // Buffers with room for one event, and one with room for two.
+    (
+        72,
+        &[FIRST, (Kind::Exit, 1, 0, 2)],
+        &[
+            b"\x05\0\0\0\0\0\0\0\0\0\0\0\0\0\0\0\x10\0\0\0\0\0\0\0",
+            b"\x05\0\0\x02\0\0\0\0\0\0\0\0\0\0\0\0\x12\0\0\0\0\0\0\0",
+        ],
+    ),
+    (
+        79,
+        &[FIRST, (Kind::Exit, 1, 0, 2)],
+        &[
+            b"\x05\0\0\0\0\0\0\0\0\0\0\0\0\0\0\0\x10\0\0\0\0\0\0\0",
+            b"\x05\0\0\x02\0\0\0\0\0\0\0\0\0\0\0\0\x12\0\0\0\0\0\0\0",
+        ],
+    ),
+    (
+        80,
+        &[FIRST, (Kind::Exit, 1, 0, 2)],
+        &[b"\x05\0\0\0\0\0\0\0\0\0\0\0\0\0\0\0\x10\0\0\0\0\0\0\0\x12\0\0\0\x02\0\0\0"],
+    ),
+    // The thread moves to another CPU.
+    (
+        16384,
+        &[(Kind::Entry, 1, 1, 0), (Kind::Exit, 1, 0, 2)],
+        &[
+            b"\x05\x01\0\0\0\0\0\0\0\0\0\0\0\0\0\0\x10\0\0\0\0\0\0\0\
+            \x05\0\0\x02\0\0\0\0\0\0\0\0\0\0\0\0\x12\0\0\0\0\0\0\0",
+        ],
+    ),
+    (
+        16384,
+        &[
+            FIRST,
+            (Kind::TailExit, 1, 0, 0),
+            (Kind::Entry, 2, 0, 1),
+            (Kind::Exit, 2, 0, 1),
+        ],
+        &[
+            b"\x05\0\0\0\0\0\0\0\0\0\0\0\0\0\0\0\x10\0\0\0\0\0\0\0\x14\0\0\0\0\0\0\0\
+            \x20\0\0\0\x01\0\0\0\x22\0\0\0\0\0\0\0",
+        ],
+    ),
+    (
+        16384,
+        &[(Kind::Exit, 2, 0, 1), (Kind::Exit, 1, 0, 2)],
+        &[b"\x05\0\0\x01\0\0\0\0\0\0\0\0\0\0\0\0\x22\0\0\0\0\0\0\0\x12\0\0\0\x01\0\0\0"],
+    ),
+];
+
 #[test]
 fn segments_are_cut_and_written_byte_by_byte(rt: HostRuntime) -> Result<(), Fail> {
-    let first = event(Kind::Entry, 1, 0, 0);
-    let rows: [(u32, &[Event], &[&[u8]]); 10] = [
-        (
-            16384,
-            &[first, event(Kind::Exit, 1, 0, 2)],
-            &[b"\x05\0\0\0\0\0\0\0\0\0\0\0\0\0\0\0\x10\0\0\0\0\0\0\0\x12\0\0\0\x02\0\0\0"],
-        ),
-        (
-            16384,
-            &[first, event(Kind::Exit, 1, 0, 4294967295)],
-            &[b"\x05\0\0\0\0\0\0\0\0\0\0\0\0\0\0\0\x10\0\0\0\0\0\0\0\x12\0\0\0\xFF\xFF\xFF\xFF"],
-        ),
-        (
-            16384,
-            &[first, event(Kind::Exit, 1, 0, 4294967296)],
-            &[
-                b"\x05\0\0\0\0\0\0\0\0\0\0\0\0\0\0\0\x10\0\0\0\0\0\0\0\
-                \x07\0\0\0\0\x01\0\0\0\0\0\0\0\0\0\0\x12\0\0\0\0\0\0\0",
-            ],
-        ),
-        (
-            16384,
-            &[
-                event(Kind::Entry, 1, 0, u64::MAX),
-                event(Kind::Exit, 1, 0, 0),
-            ],
-            &[
-                b"\x05\0\0\xFF\xFF\xFF\xFF\xFF\xFF\xFF\xFF\0\0\0\0\0\x10\0\0\0\0\0\0\0\
-                \x07\0\0\0\0\0\0\0\0\0\0\0\0\0\0\0\x12\0\0\0\0\0\0\0",
-            ],
-        ),
-        (
-            72,
-            &[first, event(Kind::Exit, 1, 0, 2)],
-            &[
-                b"\x05\0\0\0\0\0\0\0\0\0\0\0\0\0\0\0\x10\0\0\0\0\0\0\0",
-                b"\x05\0\0\x02\0\0\0\0\0\0\0\0\0\0\0\0\x12\0\0\0\0\0\0\0",
-            ],
-        ),
-        (
-            79,
-            &[first, event(Kind::Exit, 1, 0, 2)],
-            &[
-                b"\x05\0\0\0\0\0\0\0\0\0\0\0\0\0\0\0\x10\0\0\0\0\0\0\0",
-                b"\x05\0\0\x02\0\0\0\0\0\0\0\0\0\0\0\0\x12\0\0\0\0\0\0\0",
-            ],
-        ),
-        (
-            80,
-            &[first, event(Kind::Exit, 1, 0, 2)],
-            &[b"\x05\0\0\0\0\0\0\0\0\0\0\0\0\0\0\0\x10\0\0\0\0\0\0\0\x12\0\0\0\x02\0\0\0"],
-        ),
-        (
-            16384,
-            &[event(Kind::Entry, 1, 1, 0), event(Kind::Exit, 1, 0, 2)],
-            &[
-                b"\x05\x01\0\0\0\0\0\0\0\0\0\0\0\0\0\0\x10\0\0\0\0\0\0\0\
-                \x05\0\0\x02\0\0\0\0\0\0\0\0\0\0\0\0\x12\0\0\0\0\0\0\0",
-            ],
-        ),
-        (
-            16384,
-            &[
-                first,
-                event(Kind::TailExit, 1, 0, 0),
-                event(Kind::Entry, 2, 0, 1),
-                event(Kind::Exit, 2, 0, 1),
-            ],
-            &[
-                b"\x05\0\0\0\0\0\0\0\0\0\0\0\0\0\0\0\x10\0\0\0\0\0\0\0\x14\0\0\0\0\0\0\0\
-                \x20\0\0\0\x01\0\0\0\x22\0\0\0\0\0\0\0",
-            ],
-        ),
-        (
-            16384,
-            &[event(Kind::Exit, 2, 0, 1), event(Kind::Exit, 1, 0, 2)],
-            &[b"\x05\0\0\x01\0\0\0\0\0\0\0\0\0\0\0\0\x22\0\0\0\0\0\0\0\x12\0\0\0\x01\0\0\0"],
-        ),
-    ];
-    for (size, events, records) in rows {
+    for (size, events, records) in FILLINGS {
         check_segments(&rt, rt.alloc(), size, events, records)?;
     }
     Ok(())

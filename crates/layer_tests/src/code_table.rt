@@ -1,4 +1,5 @@
-//! The calls of a table one after the other, on an image with one function that prints an A.
+//! Calls of `sled_rule`: those of a table one after the other, on an image with one function that
+//! prints an A.
 
 ghost use Rattle.std.specs.Prelude.{◌≡◌, ◌<◌, ◌≤◌, ◌*◌, ◌+◌, length, IfOk};
 ghost use Rattle.sled_words.specs.Words.{word_count};
@@ -6,24 +7,29 @@ ghost use Rattle.sled_rule.specs.Plans.{code_words};
 ghost use Rattle.sled_rule.specs.Seats.{patch_view, script_of, work_view, AllMet, IsPatcherOf, IsWorkerOf};
 ghost use Rattle.sled_rule.specs.Views.{ended_count, first_patch};
 
+use crate::sled_values::PATCHED;
 use example_images::OUTPUTS_AN_A;
 use patch_script::{Micro, read_script};
 use sled_rule::{CodeTable, PatchSeat, WorkSeat};
 use std::process::Abort;
 use std::test::Fail;
 use text_lines::count_lines;
-use xray_image::read_image;
+use xray_image::{Image, read_image};
 
-/// The patcher at the start of a script for one thread.
-fn begin<R: Abort + AllocGlobal>(rt: &R, text: &[u8]) -> Result<(CodeTable, PatchSeat), Fail>
+/// The table of an image under a script for one thread, and its patcher, at the start.
+pub fn begin<R: Abort + AllocGlobal>(
+    rt: &R,
+    image: &Image,
+    text: &[u8],
+) -> Result<(CodeTable, PatchSeat), Fail>
     ensures own { IfOk result (λ t. IsPatcherOf t.0 t.1) }
     ensures first { IfOk result (λ t. patch_view t.1 ≡ first_patch (script_of t.0)) }
+    ensures program { IfOk result (λ t. (script_of t.0).program ≡ image.now) }
     ensures one { IfOk result (λ t. (script_of t.0).threads ≡ 1) }
 {
     assert!(rt; count_lines(text) < 100);
-    let image = read_image(rt.alloc(), &OUTPUTS_AN_A)?;
-    let script = read_script(rt.alloc(), text, &image, 1)?;
-    let made = CodeTable::new(rt.alloc(), &image, script, 1)?;
+    let script = read_script(rt.alloc(), text, image, 1)?;
+    let made = CodeTable::new(rt.alloc(), image, script, 1)?;
     Ok(made)
 }
 
@@ -67,12 +73,12 @@ fn finish(table: CodeTable, mut seat: PatchSeat, mut worker: WorkSeat, into: &mu
 }
 
 /// The head of the first sled, as a thread finds it after hearing of all stores so far.
-fn told_head(table: &CodeTable, patcher: &mut PatchSeat, worker: &mut WorkSeat) -> u64
+fn heard_head(table: &CodeTable, patcher: &mut PatchSeat, worker: &mut WorkSeat) -> u64
     requires patcher { IsPatcherOf table.now patcher.old }
     requires worker { IsWorkerOf table.now worker.old }
     requires some { 0 < code_words (script_of table.now) }
     ensures worker { IsWorkerOf table.now worker.new }
-    ensures told { (patch_view patcher.old).place ≤ (work_view worker.new).seen }
+    ensures heard { (patch_view patcher.old).place ≤ (work_view worker.new).seen }
 {
     let note = table.note(patcher);
     table.hear(worker, note);
@@ -81,7 +87,8 @@ fn told_head(table: &CodeTable, patcher: &mut PatchSeat, worker: &mut WorkSeat) 
 
 #[test]
 fn a_thread_fetches_what_was_stored(rt: HostRuntime) -> Result<(), Fail> {
-    let (table, mut seat) = begin(&rt, b"go\npatch\n")?;
+    let image = read_image(rt.alloc(), &OUTPUTS_AN_A)?;
+    let (table, mut seat) = begin(&rt, &image, b"go\npatch\n")?;
     assert!(rt; table.is_at_start(&seat));
     assert!(rt; table.code_word_count() == 11);
     let mut worker = table.split(&mut seat);
@@ -98,34 +105,23 @@ fn a_thread_fetches_what_was_stored(rt: HostRuntime) -> Result<(), Fail> {
 
 #[test]
 fn the_last_words_are_those_of_the_script_and_the_counts(rt: HostRuntime) -> Result<(), Fail> {
-    let (table, mut seat) = begin(&rt, b"go\npatch\n")?;
+    let image = read_image(rt.alloc(), &OUTPUTS_AN_A)?;
+    let (table, mut seat) = begin(&rt, &image, b"go\npatch\n")?;
     assert!(rt; table.is_at_start(&seat));
     assert!(rt; table.word_count() == 12);
     let worker = table.split(&mut seat);
     store(&rt, &table, &mut seat, 8);
     let mut last = [0; 12];
     finish(table, seat, worker, &mut last);
-    let words = [
-        0xBA41,
-        1,
-        0xE8,
-        0x1F_FFF5,
-        0xBA41,
-        1,
-        0xE9,
-        0x1F_FFF3,
-        0,
-        0,
-        0,
-        u64::MAX,
-    ];
-    assert_eq!(rt; last.as_slice(), words.as_slice());
+    assert_eq!(rt; &last[..8], PATCHED.as_slice());
+    assert_eq!(rt; &last[8..], [0, 0, 0, u64::MAX].as_slice());
     Ok(())
 }
 
 #[test]
 fn an_await_is_passed_once_the_thread_has_made_its_passings(rt: HostRuntime) -> Result<(), Fail> {
-    let (table, mut seat) = begin(&rt, b"go\nawait 1 1\npatch\n")?;
+    let image = read_image(rt.alloc(), &OUTPUTS_AN_A)?;
+    let (table, mut seat) = begin(&rt, &image, b"go\nawait 1 1\npatch\n")?;
     assert!(rt; table.is_at_start(&seat));
     let mut worker = table.split(&mut seat);
     assert!(rt; !look(&rt, &table, &mut seat));
@@ -138,18 +134,20 @@ fn an_await_is_passed_once_the_thread_has_made_its_passings(rt: HostRuntime) -> 
 
 #[test]
 fn a_thread_that_hears_a_note_fetches_nothing_older(rt: HostRuntime) -> Result<(), Fail> {
-    let (table, mut seat) = begin(&rt, b"go\npatch\n")?;
+    let image = read_image(rt.alloc(), &OUTPUTS_AN_A)?;
+    let (table, mut seat) = begin(&rt, &image, b"go\npatch\n")?;
     assert!(rt; table.is_at_start(&seat));
     assert!(rt; table.code_word_count() == 11);
     let mut worker = table.split(&mut seat);
     store(&rt, &table, &mut seat, 4);
-    assert!(rt; told_head(&table, &mut seat, &mut worker) == 0xBA41);
+    assert!(rt; heard_head(&table, &mut seat, &mut worker) == 0xBA41);
     Ok(())
 }
 
 #[test]
 fn a_patcher_that_heeds_a_tally_passes_its_await(rt: HostRuntime) -> Result<(), Fail> {
-    let (table, mut seat) = begin(&rt, b"go\nawait 1 1\n")?;
+    let image = read_image(rt.alloc(), &OUTPUTS_AN_A)?;
+    let (table, mut seat) = begin(&rt, &image, b"go\nawait 1 1\n")?;
     assert!(rt; table.is_at_start(&seat));
     let mut worker = table.split(&mut seat);
     table.passed(&mut worker);

@@ -1,3 +1,5 @@
+//! Calls of `command_words`: command lines and what they say.
+
 use command_words::*;
 use std::alloc::{AllocError, Global};
 use std::process::Abort;
@@ -133,81 +135,101 @@ fn words_of(alloc: Global, line: &str) -> Result<Vec<String>, AllocError> {
     Ok(words)
 }
 
-/// The command that words say, with each name in brackets, and its numbers. `none` if they say no
-/// command.
+/// The command that words say, as [`shown_command`] shows it. `none` if they say no command.
 fn shown(alloc: Global, words: &[String]) -> Result<String, AllocError> {
     match read_words(alloc, NOON, words)? {
+        Some(command) => shown_command(alloc, command),
         None => String::from_str(alloc, "none"),
-        Some(Command::Plain { image, bounds }) => {
-            let Bounds {
-                threads,
-                fuel,
-                passings,
-            } = bounds;
-            format!(in alloc; "plain [{image}] {threads} {fuel} {passings}")
-        }
-        Some(Command::Extract { image }) => format!(in alloc; "extract [{image}]"),
-        Some(
-            Command::Asm {
-                text,
-                image,
-                threshold,
-            },
-        ) => format!(in alloc; "asm [{text}] [{image}] {threshold}"),
-        Some(
-            Command::Account {
-                trace,
-                image,
-                options,
-            },
-        ) => {
-            let AccountOptions {
-                sort,
-                order,
-                top,
-                format,
-            } = options;
-            format!(in alloc; "account [{trace}] {image:?} {sort:?} {order:?} {top:?} {format:?}")
-        }
-        Some(
-            Command::Stack {
-                trace,
-                image,
-                format,
-            },
-        ) => format!(in alloc; "stack [{trace}] {image:?} {format:?}"),
-        Some(Command::Convert { trace, image }) => {
-            format!(in alloc; "convert [{trace}] {image:?}")
-        }
-        Some(Command::Soak { number }) => format!(in alloc; "soak {number}"),
-        Some(
-            Command::Run {
-                image,
-                script,
-                trace,
-                audit,
-                options,
-            },
-        ) => {
-            let options = shown_options(alloc, options)?;
-            let options = options.as_str();
-            format!(in alloc; "run [{image}] [{script}] [{trace}] [{audit}] {options}")
-        }
-        Some(
-            Command::Sim {
-                image,
-                script,
-                schedule,
-                trace,
-                audit,
-                options,
-            },
-        ) => {
-            let options = shown_options(alloc, options)?;
-            let options = options.as_str();
-            format!(in alloc; "sim [{image}] [{script}] [{schedule}] [{trace}] [{audit}] {options}")
-        }
     }
+}
+
+/// A command, with each name in brackets, and its numbers.
+fn shown_command(alloc: Global, command: Command) -> Result<String, AllocError> {
+    match command {
+        Command::Plain { image, bounds } => shown_plain(alloc, image, bounds),
+        Command::Extract { image } => format!(in alloc; "extract [{image}]"),
+        Command::Asm {
+            text,
+            image,
+            threshold,
+        } => format!(in alloc; "asm [{text}] [{image}] {threshold}"),
+        Command::Account {
+            trace,
+            image,
+            options,
+        } => shown_account(alloc, trace, image, options),
+        Command::Stack {
+            trace,
+            image,
+            format,
+        } => format!(in alloc; "stack [{trace}] {image:?} {format:?}"),
+        Command::Convert { trace, image } => format!(in alloc; "convert [{trace}] {image:?}"),
+        Command::Soak { number } => format!(in alloc; "soak {number}"),
+        Command::Run {
+            image,
+            script,
+            trace,
+            audit,
+            options,
+        } => shown_run(alloc, "run", &[image, script, trace, audit], options),
+        Command::Sim {
+            image,
+            script,
+            schedule,
+            trace,
+            audit,
+            options,
+        } => shown_run(
+            alloc,
+            "sim",
+            &[image, script, schedule, trace, audit],
+            options,
+        ),
+    }
+}
+
+/// A command that runs an image on each thread without a script.
+fn shown_plain(alloc: Global, image: &str, bounds: Bounds) -> Result<String, AllocError> {
+    let Bounds {
+        threads,
+        fuel,
+        passings,
+    } = bounds;
+    format!(in alloc; "plain [{image}] {threads} {fuel} {passings}")
+}
+
+/// A command for an account.
+fn shown_account(
+    alloc: Global,
+    trace: &str,
+    image: Option<&str>,
+    options: AccountOptions,
+) -> Result<String, AllocError> {
+    let AccountOptions {
+        sort,
+        order,
+        top,
+        format,
+    } = options;
+    format!(in alloc; "account [{trace}] {image:?} {sort:?} {order:?} {top:?} {format:?}")
+}
+
+/// A command that runs an image beside a script: its word, its files, and its options.
+fn shown_run(
+    alloc: Global,
+    word: &str,
+    files: &[&str],
+    options: RunOptions,
+) -> Result<String, AllocError> {
+    let mut shown = String::from_str(alloc, word)?;
+    for file in files {
+        shown.push_str(" [")?;
+        shown.push_str(file)?;
+        shown.push_str("]")?;
+    }
+    shown.push_str(" ")?;
+    shown.push_str(shown_options(alloc, options)?.as_str())?;
+    Ok(shown)
 }
 
 /// The numbers of a run's options, in the order of the table.
@@ -233,7 +255,7 @@ fn shown_options(alloc: Global, options: RunOptions) -> Result<String, AllocErro
 }
 
 #[test]
-fn command_lines_say_what_stands_here(rt: HostRuntime) -> Result<(), Fail> {
+fn command_lines_say_what_the_rows_say(rt: HostRuntime) -> Result<(), Fail> {
     let alloc = rt.alloc();
     let mut rows = 0u32;
     for row in SAID.lines() {

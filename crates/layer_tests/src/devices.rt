@@ -1,5 +1,5 @@
-//! What no clause says: that calls succeed, the digits that are printed, and the edge to the
-//! system.
+//! Calls of `xray_io`, for what no clause says: that they succeed, the digits that are printed, and
+//! the edge to the system.
 ghost use Rattle.std.specs.Prelude.{◌^◌, None};
 ghost use Rattle.xray_io.specs.Desk.{Untold};
 
@@ -195,7 +195,7 @@ fn no_read_asks_past_the_first_byte_that_is_too_many(rt: HostRuntime) -> Result<
 }
 
 #[test]
-fn a_desk_in_memory_fails_where_it_is_told(rt: HostRuntime) -> Result<(), Fail> {
+fn a_desk_in_memory_fails_at_the_chosen_calls(rt: HostRuntime) -> Result<(), Fail> {
     let alloc = rt.alloc();
     let mut desk = MemDesk::new(alloc, vec![in alloc; 1, 3]?);
     let mut buf = [0; 8];
@@ -332,9 +332,9 @@ fn numbers_are_printed_in_their_digits(rt: HostRuntime) -> Result<(), Fail> {
 /// Parts around the 4,096 bytes that a text gathers: the whole text, and what was written when the
 /// second write fails.
 #[test]
-fn a_long_text_is_whole_or_a_front_of_it(rt: HostRuntime) -> Result<(), Fail> {
+fn a_long_text_is_whole_or_a_prefix_of_it(rt: HostRuntime) -> Result<(), Fail> {
     let alloc = rt.alloc();
-    let (nearly, full, behind, long) = ([b'a'; 4000], [b'b'; 96], [b'c'; 904], [b'd'; 5000]);
+    let (nearly, full, rest, long) = ([b'a'; 4000], [b'b'; 96], [b'c'; 904], [b'd'; 5000]);
     let mut want = Vec::from_slice(alloc, &nearly)?;
     want.extend_from_slice(&full)?;
     for failing in [9, 1] {
@@ -342,7 +342,7 @@ fn a_long_text_is_whole_or_a_front_of_it(rt: HostRuntime) -> Result<(), Fail> {
         let mut text = Text::new(&mut sink);
         text.bytes(&nearly)?;
         text.bytes(&full)?;
-        text.bytes(&behind)?;
+        text.bytes(&rest)?;
         if failing == 1 {
             assert_eq!(rt; text.bytes(&long), Err(WriteFault));
             assert_eq!(rt; sink.bytes(), want.as_slice());
@@ -350,7 +350,7 @@ fn a_long_text_is_whole_or_a_front_of_it(rt: HostRuntime) -> Result<(), Fail> {
             text.bytes(&long)?;
             text.done()?;
             let mut all = want.clone()?;
-            all.extend_from_slice(&behind)?;
+            all.extend_from_slice(&rest)?;
             all.extend_from_slice(&long)?;
             assert_eq!(rt; sink.bytes(), all.as_slice());
         }
@@ -428,7 +428,7 @@ fn files_are_written_by_name(rt: HostRuntime) -> Result<(), Fail> {
 }
 
 #[test]
-fn the_streams_take_bytes_and_tell_failures(rt: HostRuntime) -> Result<(), Fail> {
+fn the_streams_take_bytes_and_report_failures(rt: HostRuntime) -> Result<(), Fail> {
     let alloc = rt.alloc();
     let mut out = OutSink::new(&rt);
     assert_eq!(rt; write_all(&mut out, b"out\n"), Ok(()));

@@ -1,3 +1,6 @@
+//! Calls of `soak_inputs`: the inputs of the first number and of the last, as the model of
+//! `soak_inputs` draws them.
+
 use soak_inputs::*;
 use std::test::Fail;
 

@@ -1,5 +1,7 @@
-//! The audits of threads that have ended, and buffers in the order of a flush.
+//! Calls of `trace_flush`: the audits of threads that have ended, and buffers in the order of a
+//! flush.
 
+use crate::setups::DEFAULT_SETUP;
 use example_images::OUTPUTS_AN_A;
 use fdr_buffer::Buffer;
 use fdr_record::{Event, Kind};
@@ -9,24 +11,6 @@ use std::test::Fail;
 use trace_flush::{AuditLine, arrange, audit_tells_its_run, write_audit};
 use xray_image::{Image, read_image};
 use xray_io::{MemSink, Wall, WriteFault};
-
-/// What a run is made with unless a test says otherwise.
-const DEFAULT_SETUP: Setup = Setup {
-    threads: 1,
-    size: 16_384,
-    max: 100,
-    limits: Limits {
-        fuel: 10_000_000,
-        passings: 1_048_576,
-        tick: 1,
-        tsc: 0,
-        cpus: 1,
-        migrate: 1_048_576,
-    },
-    pid: 1,
-    wall: Wall { secs: 0, micros: 0 },
-    frequency: 0,
-};
 
 /// The parts of the patched entry sled and of the patched exit sled.
 const ENTRY: [(u32, u64); 4] = [(0, 0xBA41), (1, 1), (2, 0xE8), (3, 0x1F_FFF5)];
@@ -44,7 +28,7 @@ const RECORDS: [(u32, u64); 2] = [(8, 1), (9, 2)];
 
 const HAS_ENDED: [(u32, u64); 2] = [(8, 1), (9, 4)];
 
-/// The image of these bytes.
+/// The image that the threads run.
 fn image_of(alloc: Global) -> Result<Image, Fail> {
     Ok(read_image(alloc, &OUTPUTS_AN_A)?)
 }
@@ -147,49 +131,52 @@ fn the_audit_of_a_thread_that_records_all(rt: HostRuntime) -> Result<(), Fail> {
     Ok(())
 }
 
-#[test]
-fn the_audit_of_two_threads_that_lost_segments(rt: HostRuntime) -> Result<(), Fail> {
-    audit_tells_its_run();
-    let alloc = rt.alloc();
-    let image = image_of(alloc)?;
-    let steps = Steps::new(alloc, &image)?;
-    let limits = Limits {
+/// A setup with numbers at and near their limits.
+const LARGE_SETUP: Setup = Setup {
+    threads: 2,
+    size: 72,
+    max: 3,
+    limits: Limits {
         fuel: 2,
         passings: 1_048_575,
         tick: 18_446_744_073_709_551_615,
         tsc: 5,
         cpus: 65_535,
         migrate: 3,
-    };
-    let setup = Setup {
-        threads: 2,
-        size: 72,
-        max: 3,
-        limits,
-        pid: 2_147_483_647,
-        wall: Wall {
-            secs: 1_700_000_000,
-            micros: 42,
-        },
-        frequency: 2_400_000_000,
-    };
-    let cpus = two_threads(alloc, &steps, limits)?;
-    let lines = [
-        AuditLine {
-            thread: 1,
-            end: End::Fuel,
-            segments: 4,
-            first: 3,
-        },
-        AuditLine {
-            thread: 2,
-            end: End::OutputFull,
-            segments: 4_294_967_295,
-            first: 4_294_967_294,
-        },
-    ];
+    },
+    pid: 2_147_483_647,
+    wall: Wall {
+        secs: 1_700_000_000,
+        micros: 42,
+    },
+    frequency: 2_400_000_000,
+};
+
+/// The lines of two threads that lost segments.
+const LOSSES: [AuditLine; 2] = [
+    AuditLine {
+        thread: 1,
+        end: End::Fuel,
+        segments: 4,
+        first: 3,
+    },
+    AuditLine {
+        thread: 2,
+        end: End::OutputFull,
+        segments: 4_294_967_295,
+        first: 4_294_967_294,
+    },
+];
+
+#[test]
+fn the_audit_of_two_threads_that_lost_segments(rt: HostRuntime) -> Result<(), Fail> {
+    audit_tells_its_run();
+    let alloc = rt.alloc();
+    let image = image_of(alloc)?;
+    let steps = Steps::new(alloc, &image)?;
+    let cpus = two_threads(alloc, &steps, LARGE_SETUP.limits)?;
     let mut sink = MemSink::new(alloc, Vec::new(alloc));
-    audit_of(&setup, &lines, &cpus, &mut sink)??;
+    audit_of(&LARGE_SETUP, &LOSSES, &cpus, &mut sink)??;
     let text = b"xray-audit 1\n\
         threads=2 buffer-size=72 buffer-max=3 fuel=2 passings=1048575 tick=18446744073709551615 \
         tsc=5 cpus=65535 migrate=3 pid=2147483647 wall=1700000000.42 frequency=2400000000\n\
@@ -227,7 +214,7 @@ fn threads_at_once<'a>(
 }
 
 #[test]
-fn a_sink_that_fails_in_mid_text_has_a_front_of_it(rt: HostRuntime) -> Result<(), Fail> {
+fn a_sink_that_fails_in_mid_text_holds_a_prefix_of_it(rt: HostRuntime) -> Result<(), Fail> {
     let alloc = rt.alloc();
     let image = image_of(alloc)?;
     let steps = Steps::new(alloc, &image)?;
@@ -268,7 +255,7 @@ fn buffer_of(alloc: Global, thread: u32, serial: u32, events: u32) -> Result<Buf
 }
 
 #[test]
-fn buffers_with_an_event_stand_by_thread_and_segment(rt: HostRuntime) -> Result<(), Fail> {
+fn buffers_with_an_event_are_in_order_of_thread_and_segment(rt: HostRuntime) -> Result<(), Fail> {
     let alloc = rt.alloc();
     let mut buffers = Vec::new(alloc);
     for (thread, serial, events) in [

@@ -1,4 +1,4 @@
-//! Image files: what one says, and why others are refused.
+//! Calls of `xray_image`: what an image file says, and why others are refused.
 
 mod extracts;
 
@@ -17,28 +17,16 @@ fn fault_of(rt: &HostRuntime, bytes: &[u8]) -> Option<ImageFault> {
 }
 
 #[test]
-fn an_image_tells_its_units_and_sleds(rt: HostRuntime) -> Result<(), Fail> {
+fn an_image_has_the_units_of_its_code(rt: HostRuntime) -> Result<(), Fail> {
     one_unit_list();
     one_reading();
     one_verdict();
     let image = read_image(rt.alloc(), &OUTPUTS_AN_A)?;
     assert_eq!(rt; image.base(), 0x1000);
-    assert_eq!(rt; image.entry(), 0x1000);
-    assert_eq!(rt; image.function_count(), 1);
-    assert_eq!(rt; image.trampoline(SledKind::Entry), 0x20_1000);
-    assert_eq!(rt; image.trampoline(SledKind::Exit), 0x20_1010);
-    assert_eq!(rt; image.trampoline(SledKind::Tail), 0x20_1020);
-
-    let rax = Reg::new(0).ok_or("rax")?;
+    let dst = Reg::new(0).ok_or("rax")?;
     let units = [
         (0x1000, What::Sled(0)),
-        (
-            0x100B,
-            What::Plain(Instr::Mov {
-                dst: rax,
-                imm: 0x41,
-            }),
-        ),
+        (0x100B, What::Plain(Instr::Mov { dst, imm: 0x41 })),
         (0x1010, What::Plain(Instr::Out { port: 1 })),
         (0x1012, What::Sled(1)),
     ];
@@ -52,7 +40,17 @@ fn an_image_tells_its_units_and_sleds(rt: HostRuntime) -> Result<(), Fail> {
     for address in [0, 0xFFF, 0x1001, 0x1011, 0x1013, 0x101D, u64::MAX] {
         assert_eq!(rt; image.unit_at(address), None);
     }
+    Ok(())
+}
 
+#[test]
+fn an_image_has_the_function_and_the_sleds_of_its_map(rt: HostRuntime) -> Result<(), Fail> {
+    let image = read_image(rt.alloc(), &OUTPUTS_AN_A)?;
+    assert_eq!(rt; image.entry(), 0x1000);
+    assert_eq!(rt; image.function_count(), 1);
+    assert_eq!(rt; image.trampoline(SledKind::Entry), 0x20_1000);
+    assert_eq!(rt; image.trampoline(SledKind::Exit), 0x20_1010);
+    assert_eq!(rt; image.trampoline(SledKind::Tail), 0x20_1020);
     let entry = Sled {
         address: 0x1000,
         function: 0x1000,
@@ -188,7 +186,7 @@ fn a_damaged_image_is_refused_as_the_table_says(rt: HostRuntime) -> Result<(), F
 }
 
 #[test]
-fn of_two_faults_the_first_of_the_table_is_told(rt: HostRuntime) -> Result<(), Fail> {
+fn of_two_faults_the_first_of_the_table_is_reported(rt: HostRuntime) -> Result<(), Fail> {
     for (changes, length, fault) in TWICE_DAMAGED {
         let bytes = damaged(rt.alloc(), changes, length)?;
         assert_eq!(rt; fault_of(&rt, &bytes), Some(fault), "{changes:?}");
@@ -208,7 +206,7 @@ fn put(bytes: &mut Vec<u8>, number: u64, length: usize) -> Result<(), AllocError
 
 /// The header of a code at 0x1000 with these counts of functions and map entries, and the code. The
 /// entry function is the first.
-fn front(
+fn header_and_code(
     alloc: Global,
     code: &[u8],
     functions: usize,
@@ -251,7 +249,7 @@ fn file(
     functions: &[(u64, &str)],
     entries: &[(u64, u64, u8)],
 ) -> Result<Vec<u8>, AllocError> {
-    let mut bytes = front(alloc, code, functions.len(), entries.len())?;
+    let mut bytes = header_and_code(alloc, code, functions.len(), entries.len())?;
     for (start, name) in functions {
         add_function(&mut bytes, *start, name.as_bytes())?;
     }
@@ -396,7 +394,7 @@ fn digit(number: usize) -> u8 {
 /// digits.
 fn file_of_functions(alloc: Global, count: usize) -> Result<Vec<u8>, AllocError> {
     let code = vec![in alloc; 0x90_u8; count]?;
-    let mut bytes = front(alloc, &code, count, 0)?;
+    let mut bytes = header_and_code(alloc, &code, count, 0)?;
     for number in 0..count {
         let name = [
             digit(number / 1000),
@@ -415,7 +413,7 @@ fn file_of_sleds(alloc: Global, count: usize) -> Result<Vec<u8>, AllocError> {
     for _sled in 0..count {
         code.extend_from_slice(&[0xEB, 0x09, 0x66, 0x0F, 0x1F, 0x84, 0, 0, 2, 0, 0, 0x90])?;
     }
-    let mut bytes = front(alloc, &code, 1, count)?;
+    let mut bytes = header_and_code(alloc, &code, 1, count)?;
     add_function(&mut bytes, 0x1000, b"main")?;
     for number in 0..count {
         let sled = (number as u64).wrapping_mul(12).wrapping_add(0x1000);
@@ -426,7 +424,7 @@ fn file_of_sleds(alloc: Global, count: usize) -> Result<Vec<u8>, AllocError> {
 
 /// The file of a code of two alignment bytes, with two functions. Their names have these lengths.
 fn file_of_names(alloc: Global, first: usize, second: usize) -> Result<Vec<u8>, AllocError> {
-    let mut bytes = front(alloc, &[0x90, 0x90], 2, 0)?;
+    let mut bytes = header_and_code(alloc, &[0x90, 0x90], 2, 0)?;
     add_function(&mut bytes, 0x1000, &vec![in alloc; b'n'; first]?)?;
     add_function(&mut bytes, 0x1001, &vec![in alloc; b'n'; second]?)?;
     Ok(bytes)

@@ -1,8 +1,9 @@
-//! Encodings by the GNU assembler 2.40, the bytes at which each fault is decided, and all starts of
-//! two bytes.
+//! Calls of `subset_decode`: encodings by the GNU assembler 2.40, the bytes at which each fault is
+//! decided, and all starts of two bytes.
 
 mod two_byte_starts;
 
+use std::process::Abort;
 use std::test::*;
 use subset_decode::*;
 use two_byte_starts::{RUNS, Start};
@@ -12,66 +13,60 @@ fn reg(number: u8) -> Result<Reg, Fail> {
     Ok(Reg::new(number).ok_or("the register has a name")?)
 }
 
-#[test]
-fn encodings_are_the_assemblers(rt: HostRuntime) -> Result<(), Fail> {
-    let (rax, rcx, rbx, rdi) = (reg(0)?, reg(1)?, reg(3)?, reg(7)?);
-    let (r8, r9, r11, r12, r15) = (reg(8)?, reg(9)?, reg(11)?, reg(12)?, reg(15)?);
-    assert_eq!(rt; r15.number(), 15);
-    for (instr, code) in [
-        (
-            Instr::Mov { dst: rax, imm: 65 },
-            b"\xB8\x41\0\0\0".as_slice(),
-        ),
-        (
-            Instr::Mov {
-                dst: r9,
-                imm: 0x1234_5678,
-            },
-            b"\x41\xB9\x78\x56\x34\x12".as_slice(),
-        ),
-        (
-            Instr::Add { dst: rax, src: rcx },
-            b"\x48\x01\xC8".as_slice(),
-        ),
-        (
-            Instr::Add { dst: rbx, src: r15 },
-            b"\x4C\x01\xFB".as_slice(),
-        ),
-        (Instr::Add { dst: r9, src: rdi }, b"\x49\x01\xF9".as_slice()),
-        (Instr::Add { dst: r8, src: r11 }, b"\x4D\x01\xD8".as_slice()),
-        (
-            Instr::Sub { dst: rcx, src: r12 },
-            b"\x4C\x29\xE1".as_slice(),
-        ),
-        (Instr::Push { reg: rbx }, b"\x53".as_slice()),
-        (Instr::Push { reg: r12 }, b"\x41\x54".as_slice()),
-        (Instr::Pop { reg: rdi }, b"\x5F".as_slice()),
-        (Instr::Pop { reg: r8 }, b"\x41\x58".as_slice()),
-        (
-            Instr::Call { rel: 0x1234_5678 },
-            b"\xE8\x78\x56\x34\x12".as_slice(),
-        ),
-        (Instr::Call { rel: -16 }, b"\xE8\xF0\xFF\xFF\xFF".as_slice()),
-        (
-            Instr::Jmp { rel: i32::MAX },
-            b"\xE9\xFF\xFF\xFF\x7F".as_slice(),
-        ),
-        (Instr::Jnz { rel: 259 }, b"\x0F\x85\x03\x01\0\0".as_slice()),
-        (
-            Instr::Jnz { rel: -253 },
-            b"\x0F\x85\x03\xFF\xFF\xFF".as_slice(),
-        ),
-        (Instr::Ret, b"\xC3".as_slice()),
-        (Instr::Out { port: 255 }, b"\xE6\xFF".as_slice()),
-    ] {
-        assert_eq!(rt; encode(&instr).as_slice(), code);
-        assert_eq!(rt; decode(code, 0), Ok((instr, code.len())));
-    }
-    Ok(())
+/// Checks that an instruction has this encoding, and the encoding this instruction.
+fn check_encoding(rt: &impl Abort, instr: Instr, code: &[u8]) {
+    assert_eq!(rt; encode(&instr).as_slice(), code);
+    assert_eq!(rt; decode(code, 0), Ok((instr, code.len())));
 }
 
 #[test]
-fn the_shortest_front_that_decides_gives_the_fault(rt: HostRuntime) {
+fn encodings_with_registers_are_the_assemblers(rt: HostRuntime) -> Result<(), Fail> {
+    let (rax, rcx, rbx, rdi) = (reg(0)?, reg(1)?, reg(3)?, reg(7)?);
+    let (r8, r9, r11, r12, r15) = (reg(8)?, reg(9)?, reg(11)?, reg(12)?, reg(15)?);
+    assert_eq!(rt; r15.number(), 15);
+    for (dst, imm, code) in [
+        (rax, 65, b"\xB8\x41\0\0\0".as_slice()),
+        (r9, 0x1234_5678, b"\x41\xB9\x78\x56\x34\x12".as_slice()),
+    ] {
+        check_encoding(&rt, Instr::Mov { dst, imm }, code);
+    }
+    for (dst, src, code) in [
+        (rax, rcx, b"\x48\x01\xC8"),
+        (rbx, r15, b"\x4C\x01\xFB"),
+        (r9, rdi, b"\x49\x01\xF9"),
+        (r8, r11, b"\x4D\x01\xD8"),
+    ] {
+        check_encoding(&rt, Instr::Add { dst, src }, code);
+    }
+    let sub = Instr::Sub { dst: rcx, src: r12 };
+    check_encoding(&rt, sub, b"\x4C\x29\xE1");
+    check_encoding(&rt, Instr::Push { reg: rbx }, b"\x53");
+    check_encoding(&rt, Instr::Push { reg: r12 }, b"\x41\x54");
+    check_encoding(&rt, Instr::Pop { reg: rdi }, b"\x5F");
+    check_encoding(&rt, Instr::Pop { reg: r8 }, b"\x41\x58");
+    Ok(())
+}
+
+/// Instructions without registers, and their encodings.
+const WITHOUT_REGISTERS: [(Instr, &[u8]); 7] = [
+    (Instr::Call { rel: 0x1234_5678 }, b"\xE8\x78\x56\x34\x12"),
+    (Instr::Call { rel: -16 }, b"\xE8\xF0\xFF\xFF\xFF"),
+    (Instr::Jmp { rel: i32::MAX }, b"\xE9\xFF\xFF\xFF\x7F"),
+    (Instr::Jnz { rel: 259 }, b"\x0F\x85\x03\x01\0\0"),
+    (Instr::Jnz { rel: -253 }, b"\x0F\x85\x03\xFF\xFF\xFF"),
+    (Instr::Ret, b"\xC3"),
+    (Instr::Out { port: 255 }, b"\xE6\xFF"),
+];
+
+#[test]
+fn encodings_without_registers_are_the_assemblers(rt: HostRuntime) {
+    for (instr, code) in WITHOUT_REGISTERS {
+        check_encoding(&rt, instr, code);
+    }
+}
+
+#[test]
+fn the_shortest_prefix_that_decides_gives_the_fault(rt: HostRuntime) {
     for (bytes, fault) in [
         (b"".as_slice(), DecodeFault::Short),
         (b"\x41".as_slice(), DecodeFault::Short),

@@ -19,6 +19,10 @@ mod devices;
 #[cfg(test)]
 mod drawn_inputs;
 #[cfg(test)]
+mod draws;
+#[cfg(test)]
+mod event_traces;
+#[cfg(test)]
 mod flushes;
 #[cfg(test)]
 mod images;
@@ -39,9 +43,11 @@ mod records;
 #[cfg(test)]
 mod replaying;
 #[cfg(test)]
-mod running;
-#[cfg(test)]
 mod scripts;
+#[cfg(test)]
+mod setups;
+#[cfg(test)]
+mod sled_values;
 #[cfg(test)]
 mod sleds;
 #[cfg(test)]

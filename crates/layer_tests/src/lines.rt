@@ -1,3 +1,5 @@
+//! Calls of `text_lines`: lines, words, numbers and keywords.
+
 use std::alloc::{AllocError, Global};
 use std::test::Fail;
 use text_lines::*;
@@ -111,7 +113,7 @@ fn first_words(line: &[u8]) -> (Option<u8>, u8) {
 }
 
 #[test]
-fn keywords_and_the_words_after_them(rt: HostRuntime) {
+fn keywords_and_operands_of_a_line_are_found(rt: HostRuntime) {
     let rows: [(&[u8], (Option<u8>, u8)); 6] = [
         (b"", (None, 0)),
         (b"go", (Some(1), 0)),

@@ -1,26 +1,44 @@
-//! Plain runs of an image, and their text.
+//! Calls of `machine_step`: plain runs of an image, and their text.
 
+use crate::setups::DEFAULT_LIMITS;
 use example_images::OUTPUTS_AN_A;
 use machine_step::{End, Limits, PlainEnd, Steps, one_end, plain_run, some_end, write_plain};
 use std::test::Fail;
-use xray_image::read_image;
+use xray_image::{Image, read_image};
 use xray_io::MemSink;
 
 mod ends;
 mod sizes;
 mod traced;
 
-/// The limits of a run unless a test says otherwise.
-const DEFAULT_LIMITS: Limits = Limits {
-    fuel: 10_000_000,
-    passings: 1_048_576,
-    tick: 1,
-    tsc: 0,
-    cpus: 1,
-    migrate: 1_048_576,
-};
+/// The header of an image with one function and no sled: base 0x1000, and the code's length at 16.
+const HEADER: [u8; 64] = [
+    0x58, 0x52, 0x49, 0x4D, 1, 0, 0, 0, 0x00, 0x10, 0, 0, 0, 0, 0, 0, 0, 0, 0, 0, 1, 0, 0, 0, 0, 0,
+    0, 0, 0, 0, 0, 0, 0x00, 0x10, 0x20, 0, 0, 0, 0, 0, 0x10, 0x10, 0x20, 0, 0, 0, 0, 0, 0x20, 0x10,
+    0x20, 0, 0, 0, 0, 0, 0x30, 0x10, 0x20, 0, 0, 0, 0, 0,
+];
 
-/// The plain end of thread 1 of that image.
+/// The function `f` at 0x1000.
+const FUNCTION: [u8; 10] = [0x00, 0x10, 0, 0, 0, 0, 0, 0, 1, 0x66];
+
+/// The image with only this code.
+fn image_of(rt: &HostRuntime, code: &[u8]) -> Result<Image, Fail> {
+    let Ok(length) = u32::try_from(code.len()) else {
+        return Err("too much code")?;
+    };
+    let [low, second, third, high] = length.to_le_bytes();
+    let mut header = HEADER;
+    header[16] = low;
+    header[17] = second;
+    header[18] = third;
+    header[19] = high;
+    let mut bytes = header.to_vec(rt.alloc())?;
+    bytes.extend_from_slice(code)?;
+    bytes.extend_from_slice(&FUNCTION)?;
+    Ok(read_image(rt.alloc(), &bytes)?)
+}
+
+/// The plain end of thread 1 of [`OUTPUTS_AN_A`].
 fn run_main(rt: &HostRuntime, fuel: u64, passings: u32) -> Result<PlainEnd, Fail> {
     let image = read_image(rt.alloc(), &OUTPUTS_AN_A)?;
     let steps = Steps::new(rt.alloc(), &image)?;

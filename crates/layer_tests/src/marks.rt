@@ -1,4 +1,4 @@
-//! Marks as they are kept, counted and printed.
+//! Calls of `handler_word`: marks as they are kept, counted and printed.
 
 use handler_word::{Mark, Marks, add_runs, write_runs};
 use std::alloc::Global;

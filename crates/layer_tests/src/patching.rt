@@ -1,4 +1,5 @@
-//! Runs of scripts over the table of an image with one function that prints an A.
+//! Calls of `sled_patch`: runs of scripts over the table of an image with one function that prints
+//! an A.
 
 ghost use Rattle.std.specs.Prelude.{◌≡◌, ◌+◌, ◌*◌, ◌<◌, ◌≤◌, [], length, IfOk};
 ghost use Rattle.std.specs.Thread.{IsSync};
@@ -7,6 +8,8 @@ ghost use Rattle.sled_rule.specs.Plans.{code_words};
 ghost use Rattle.sled_rule.specs.Seats.{patch_view, script_of, work_view, AllMet, IsPatcherOf, IsWorkerOf};
 ghost use Rattle.sled_rule.specs.Views.{ended_count, first_patch};
 
+use crate::code_table::begin;
+use crate::sled_values::{PATCHED, UNPATCHED};
 use example_images::OUTPUTS_AN_A;
 use patch_script::read_script;
 use sled_patch::{run_prefix, run_script};
@@ -20,14 +23,11 @@ use xray_image::read_image;
 use xray_io::OpenGate;
 
 #[test]
-fn unpatching_leaves_the_head_of_a_return_and_what_was_patched_behind_it(
+fn unpatching_leaves_the_head_of_a_return_and_the_patched_bytes_that_follow(
     rt: HostRuntime,
 ) -> Result<(), Fail> {
     let image = read_image(rt.alloc(), &OUTPUTS_AN_A)?;
-    let text = b"patch\nunpatch\ngo\n";
-    assert!(rt; count_lines(text) < 100);
-    let script = read_script(rt.alloc(), text, &image, 1)?;
-    let (table, mut seat) = CodeTable::new(rt.alloc(), &image, script, 1)?;
+    let (table, mut seat) = begin(&rt, &image, b"patch\nunpatch\ngo\n")?;
     assert!(rt; table.word_count() == 12);
     run_prefix(&table, &mut seat);
     assert!(rt; seat.place() == 10);
@@ -47,10 +47,7 @@ fn unpatching_a_sled_that_was_never_patched_leaves_the_code_as_it_was(
     rt: HostRuntime,
 ) -> Result<(), Fail> {
     let image = read_image(rt.alloc(), &OUTPUTS_AN_A)?;
-    let text = b"go\nunpatch\n";
-    assert!(rt; count_lines(text) < 100);
-    let script = read_script(rt.alloc(), text, &image, 1)?;
-    let (table, mut seat) = CodeTable::new(rt.alloc(), &image, script, 1)?;
+    let (table, mut seat) = begin(&rt, &image, b"go\nunpatch\n")?;
     assert!(rt; table.word_count() == 12);
     run_script(&rt, &table, &mut seat, &OpenGate);
     assert!(rt; seat.place() == 2);
@@ -64,12 +61,11 @@ fn unpatching_a_sled_that_was_never_patched_leaves_the_code_as_it_was(
 /// Stores that wait for both threads in between.
 const LIVE: &[u8] = b"go\nawait 1 10\npatch\nawait 2 20\nunpatch\nawait 1 30\npatch\nawait 2 40\n";
 
-/// The words of both sleds before any store.
-const FIRST: [u64; 8] = [0x09EB, 0x841F_0F66, 0, 512, 0x2EC3, 0x841F_0F66, 0, 512];
+/// A micro step: the word and the value of a store, and nothing for an await.
+type Step = Option<(u32, u64)>;
 
-/// The micro steps of the script: the word and the value of each store, and nothing for an await.
-const STEPS: [Option<(u32, u64)>; 22] = [
-    None,
+/// The stores that patch both sleds.
+const PATCH: [Step; 8] = [
     Some((1, 1)),
     Some((2, 0xE8)),
     Some((3, 0x1F_FFF5)),
@@ -78,30 +74,27 @@ const STEPS: [Option<(u32, u64)>; 22] = [
     Some((6, 0xE9)),
     Some((7, 0x1F_FFF3)),
     Some((4, 0xBA41)),
-    None,
-    Some((0, 0x09EB)),
-    Some((4, 0xBAC3)),
-    None,
-    Some((1, 1)),
-    Some((2, 0xE8)),
-    Some((3, 0x1F_FFF5)),
-    Some((0, 0xBA41)),
-    Some((5, 1)),
-    Some((6, 0xE9)),
-    Some((7, 0x1F_FFF3)),
-    Some((4, 0xBA41)),
-    None,
 ];
+
+/// The stores that unpatch them.
+const UNPATCH: [Step; 2] = [Some((0, 0x09EB)), Some((4, 0xBAC3))];
+
+/// The micro steps of the script.
+const STEPS: [&[Step]; 7] = [&[None], &PATCH, &[None], &UNPATCH, &[None], &PATCH, &[None]];
 
 /// The value of a word after the first micro steps.
 fn value_at(place: usize, word: u32) -> u64 {
-    let mut value = FIRST.get(word as usize).copied().unwrap_or(0);
-    for step in STEPS.iter().take(place) {
-        if let Some((stored, other)) = step {
-            if *stored == word {
-                value = *other;
+    let mut value = UNPATCHED.get(word as usize).copied().unwrap_or(0);
+    let mut left = place;
+    for part in STEPS {
+        for step in part.iter().take(left) {
+            if let Some((stored, other)) = step {
+                if *stored == word {
+                    value = *other;
+                }
             }
         }
+        left = left.saturating_sub(part.len());
     }
     value
 }
@@ -277,22 +270,7 @@ fn two_threads_fetch_lawful_words_while_a_third_patches(rt: HostRuntime) -> Resu
         run.second.seat,
         &mut last,
     );
-    let words = [
-        0xBA41,
-        1,
-        0xE8,
-        0x1F_FFF5,
-        0xBA41,
-        1,
-        0xE9,
-        0x1F_FFF3,
-        0,
-        0,
-        0,
-        0,
-        u64::MAX,
-        u64::MAX,
-    ];
-    assert_eq!(rt; last.as_slice(), words.as_slice());
+    assert_eq!(rt; &last[..8], PATCHED.as_slice());
+    assert_eq!(rt; &last[8..], [0, 0, 0, 0, u64::MAX, u64::MAX].as_slice());
     Ok(())
 }

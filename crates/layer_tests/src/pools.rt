@@ -1,4 +1,4 @@
-//! Tests of the pool.
+//! Calls of `buffer_queue`: threads that seal segments in one pool.
 
 ghost use Rattle.std.specs.Prelude.{◌≡◌, ◌<◌, ◌≤◌, ◌+◌, ◌^◌, length};
 ghost use Rattle.buffer_queue.specs.Passes.{IsOf, new_hand};

@@ -1,4 +1,4 @@
-//! Records byte by byte, as the format says, and each refusal.
+//! Calls of `fdr_record`: records byte by byte, as the format says, and each refusal.
 
 ghost use Rattle.fdr_record.specs.Records.{IdFits};
 
@@ -125,18 +125,18 @@ fn records_are_written_and_read_byte_by_byte(rt: HostRuntime) {
         check_id(&rt, &rec);
         assert_eq!(rt; rec_len(&rec), bytes.len());
         let mut buf = [0xAA; 24];
-        let behind = put_rec(&rec, &mut buf, 3);
-        assert_eq!(rt; behind, 3 + bytes.len());
+        let end = put_rec(&rec, &mut buf, 3);
+        assert_eq!(rt; end, 3 + bytes.len());
         assert_eq!(rt; &buf[..3], [0xAA; 3].as_slice());
-        assert_eq!(rt; &buf[3..behind], bytes);
-        assert!(rt; buf[behind..].iter().all(|b| *b == 0xAA));
-        assert_eq!(rt; take_rec(&buf, 3), Ok((rec, behind)));
+        assert_eq!(rt; &buf[3..end], bytes);
+        assert!(rt; buf[end..].iter().all(|b| *b == 0xAA));
+        assert_eq!(rt; take_rec(&buf, 3), Ok((rec, end)));
         assert_eq!(rt; take_rec(bytes, 0), Ok((rec, bytes.len())));
     }
 }
 
 #[test]
-fn bytes_behind_the_fields_are_not_looked_at(rt: HostRuntime) {
+fn bytes_that_follow_the_fields_are_ignored(rt: HostRuntime) {
     let mut bytes = *b"\x05\x02\x01\x03\0\0\0\0\0\0\0\0\0\0\0\0\x07";
     bytes[11..].fill(0x5A);
     let cpu = Rec::NewCpu { cpu: 258, tsc: 3 };

@@ -1,12 +1,41 @@
-//! Schedules of texts, and why other texts aren't schedules.
+//! Calls of `step_sim`: schedules of texts, and why other texts aren't schedules.
 
+use machine_step::{Setup, Steps};
+use patch_script::read_script;
 use std::alloc::{AllocError, Global};
+use std::process::Abort;
 use std::test::Fail;
 use step_sim::*;
+use text_lines::count_lines;
 
 mod buffers;
 mod replays;
 mod sizes;
+
+/// The script that traces everything from before the start.
+const TRACED: &[u8] = b"patch\nset_handler\ninit\ngo";
+
+/// The replay of the texts of a script and a schedule, with a setup that a command allows.
+fn replay_of<'a>(
+    rt: &impl Abort,
+    alloc: Global,
+    steps: &'a Steps<'a>,
+    script: &[u8],
+    schedule: &[u8],
+    setup: &Setup,
+) -> Result<Result<SimEnd<'a>, SimFault>, Fail> {
+    assert!(rt; setup.threads >= 1 && setup.threads <= 16);
+    assert!(rt; setup.limits.cpus > 0 && setup.limits.migrate > 0);
+    assert!(rt; setup.size >= 72 && setup.size <= 1_048_576);
+    assert!(rt; setup.threads <= setup.max && setup.max <= 1_024);
+    assert!(rt; count_lines(script) < 100);
+    let script = read_script(alloc, script, steps.image(), setup.threads)?;
+    let schedule = read_schedule(alloc, schedule, setup.threads)?;
+    Ok(match SimStart::new(alloc, steps, &script, setup) {
+        Ok(start) => Ok(start.play(&schedule)),
+        Err(fault) => Err(fault),
+    })
+}
 
 #[test]
 fn a_schedule_has_the_turns_of_its_lines(rt: HostRuntime) -> Result<(), Fail> {

@@ -1,4 +1,4 @@
-//! Scripts for one small image: which are refused and where, and the micro steps of the others.
+//! Calls of `patch_script`: scripts for one small image, which are refused and where, and the micro steps of the others.
 
 use example_images::OUTPUTS_AN_A;
 use patch_script::*;
@@ -29,7 +29,7 @@ fn store(word: u32, value: u64) -> Micro {
 }
 
 #[test]
-fn the_first_fault_of_a_script_is_told(rt: HostRuntime) -> Result<(), Fail> {
+fn the_first_fault_of_a_script_is_reported(rt: HostRuntime) -> Result<(), Fail> {
     let image = read_image(rt.alloc(), &OUTPUTS_AN_A)?;
     let rows: [(&[u8], Option<ScriptFault>); 17] = [
         (b"", Some(ScriptFault::Go(1))),

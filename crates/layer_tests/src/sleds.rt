@@ -1,6 +1,7 @@
-//! The words of one image, with trampolines above its code and below it.
+//! Calls of `sled_words`: the words of one image, with trampolines above its code and below it.
 ghost use Rattle.std.specs.Prelude.{◌<◌, length};
 
+use crate::sled_values::{PATCHED, UNPATCHED};
 use example_images::OUTPUTS_AN_A;
 use sled_words::{Part, handler_word, initial_words, part_value, word_of};
 use std::test::Fail;
@@ -21,22 +22,10 @@ fn patched_values(image: &Image, sled: u32) -> [u64; 4]
 #[test]
 fn words_are_unpatched_sleds_and_zeros(rt: HostRuntime) -> Result<(), Fail> {
     let image = read_image(rt.alloc(), &OUTPUTS_AN_A)?;
-    let words = [
-        0x09EB,
-        0x841F_0F66,
-        0,
-        512,
-        0x2EC3,
-        0x841F_0F66,
-        0,
-        512,
-        0,
-        0,
-        0,
-        0,
-    ];
     let one = initial_words(rt.alloc(), &image, 1)?;
-    assert_eq!(rt; one.as_slice(), words.as_slice());
+    assert_eq!(rt; one.len(), 12);
+    assert_eq!(rt; &one[..8], UNPATCHED.as_slice());
+    assert_eq!(rt; &one[8..], [0; 4].as_slice());
     let sixteen = initial_words(rt.alloc(), &image, 16)?;
     assert_eq!(rt; sixteen.len(), 42);
     assert_eq!(rt; word_of(1, Part::Offset), 7);
@@ -49,8 +38,8 @@ fn words_are_unpatched_sleds_and_zeros(rt: HostRuntime) -> Result<(), Fail> {
 fn patched_sleds_call_and_jump_to_their_trampolines(rt: HostRuntime) -> Result<(), Fail> {
     let image = read_image(rt.alloc(), &OUTPUTS_AN_A)?;
     assert!(rt; image.sled_count() == 2);
-    assert_eq!(rt; patched_values(&image, 0), [0xBA41, 1, 0xE8, 0x1F_FFF5]);
-    assert_eq!(rt; patched_values(&image, 1), [0xBA41, 1, 0xE9, 0x1F_FFF3]);
+    assert_eq!(rt; patched_values(&image, 0).as_slice(), &PATCHED[..4]);
+    assert_eq!(rt; patched_values(&image, 1).as_slice(), &PATCHED[4..]);
 
     // Trampolines at 0xF00 and 0xF10. They are 267 and 269 bytes below the ends of the sleds.
     let mut below = OUTPUTS_AN_A;

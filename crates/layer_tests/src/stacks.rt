@@ -1,63 +1,18 @@
-//! Stacks that were worked by hand, and their limit.
+//! Calls of `stack_rebuild`: stacks that were worked by hand, and their limit.
 
-use fdr_file::{Block, Blocks, Events, Header, Trace};
-use fdr_record::{Event, Kind};
+use crate::event_traces::{NESTED, Said, trace_of};
+use fdr_file::Trace;
+use fdr_record::Kind;
 use stack_rebuild::*;
 use std::alloc::Global;
 use std::test::Fail;
-use xray_io::{MemSink, Wall};
-
-const HEADER: Header = Header {
-    version: 3,
-    constant: true,
-    nonstop: true,
-    frequency: 0,
-    size: 16_384,
-};
-
-/// An event: its thread, its kind, its function and its counter.
-type Said = (u32, Kind, u32, u64);
-
-/// A block of one event.
-fn block_of(alloc: Global, said: Said) -> Result<Block, Fail> {
-    let (thread, kind, func, tsc) = said;
-    let event = Event {
-        cpu: 0,
-        func,
-        kind,
-        tsc,
-    };
-    Ok(Block {
-        thread,
-        wall: Wall { secs: 0, micros: 0 },
-        pid: 1,
-        events: Events::new(Vec::from_slice(alloc, &[event])?),
-    })
-}
-
-/// A trace with a block for each event.
-fn trace_of(alloc: Global, events: &[Said]) -> Result<Trace, Fail> {
-    let mut blocks = Vec::new(alloc);
-    for said in events {
-        blocks.push(block_of(alloc, *said)?)?;
-    }
-    Ok(Trace {
-        header: HEADER,
-        blocks: Blocks::new(blocks),
-    })
-}
+use xray_io::MemSink;
 
 /// A trace of calls of a thread that are made one in another, and of a call of thread 1.
 fn deep_trace(alloc: Global, thread: u32, count: usize) -> Result<Trace, Fail> {
-    let mut blocks = Vec::new(alloc);
-    for _ in 0..count {
-        blocks.push(block_of(alloc, (thread, Kind::Entry, 1, 0))?)?;
-    }
-    blocks.push(block_of(alloc, (1, Kind::Entry, 1, 0))?)?;
-    Ok(Trace {
-        header: HEADER,
-        blocks: Blocks::new(blocks),
-    })
+    let mut events = vec![in alloc; (thread, Kind::Entry, 1, 0); count]?;
+    events.push((1, Kind::Entry, 1, 0))?;
+    trace_of(alloc, &events)
 }
 
 /// The text of a trace's stacks without an image.
@@ -72,16 +27,7 @@ fn printed(alloc: Global, trace: &Trace, form: StackForm) -> Result<String, Fail
 const ROWS: [(&[Said], &str); 6] = [
     (&[], ""),
     // Each exit ends the innermost call of its function; the outermost has no pair.
-    (
-        &[
-            (1, Kind::Entry, 1, 0),
-            (1, Kind::Entry, 1, 10),
-            (1, Kind::Entry, 1, 20),
-            (1, Kind::Exit, 1, 30),
-            (1, Kind::Exit, 1, 45),
-        ],
-        "#1;#1 25\n#1;#1;#1 10\n",
-    ),
+    (&NESTED, "#1;#1 25\n#1;#1;#1 10\n"),
     // A tail exit ends a call, and what is called then isn't made in it.
     (
         &[

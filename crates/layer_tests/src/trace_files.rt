@@ -1,4 +1,4 @@
-//! Files byte by byte, as the format says, and each refusal.
+//! Calls of `fdr_file`: files byte by byte, as the format says, and each refusal.
 
 ghost use Rattle.std.specs.Prelude.{IsTrue, IfOk};
 
@@ -35,6 +35,7 @@ const ENTRY: &[u8] = b"\x10\0\0\0\0\0\0\0";
 
 const EXIT_AFTER_2: &[u8] = b"\x12\0\0\0\x02\0\0\0";
 
+/// The bytes of these parts, one after the other.
 fn file(alloc: Global, parts: &[&[u8]]) -> Result<Vec<u8>, AllocError> {
     let mut bytes = Vec::new(alloc);
     for part in parts {
@@ -58,6 +59,15 @@ fn event(cpu: u16, func: u32, kind: Kind, tsc: u64) -> Event {
         kind,
         tsc,
     }
+}
+
+/// An event: its CPU, its function, its kind and its counter.
+type Said = (u16, u32, Kind, u64);
+
+/// The event that is said.
+fn said(said: Said) -> Event {
+    let (cpu, func, kind, tsc) = said;
+    event(cpu, func, kind, tsc)
 }
 
 /// The fault of a file, if it has one.
@@ -102,61 +112,59 @@ const WRAP_TO_2_32: &[u8] = b"\x07\0\0\0\0\x01\0\0\0\0\0\0\0\0\0\0";
 /// An exit of function 1 without a delta.
 const EXIT: &[u8] = b"\x12\0\0\0\0\0\0\0";
 
+/// The parts of a block of two events, and these events.
+type TwoEvents = (&'static [&'static [u8]], Said, Said);
+
+const DELTAS: [TwoEvents; 5] = [
+    (
+        &[EXTENTS_96, PREAMBLE, CPU, ENTRY, WRAP_TO_2_32, EXIT],
+        (0, 1, Kind::Entry, 0),
+        (0, 1, Kind::Exit, 1 << 32),
+    ),
+    (
+        &[EXTENTS_96, PREAMBLE, CPU_AT_LAST, ENTRY, WRAP_TO_0, EXIT],
+        (0, 1, Kind::Entry, u64::MAX),
+        (0, 1, Kind::Exit, 0),
+    ),
+    (
+        &[EXTENTS_80, PREAMBLE, CPU_AT_LAST, ENTRY, EXIT_AFTER_2],
+        (0, 1, Kind::Entry, u64::MAX),
+        (0, 1, Kind::Exit, 1),
+    ),
+    (
+        &[
+            EXTENTS_96,
+            PREAMBLE,
+            CPU,
+            EXIT_AFTER_2,
+            CPU_1_AT_2,
+            EXIT_AFTER_2,
+        ],
+        (0, 1, Kind::Exit, 2),
+        (1, 1, Kind::Exit, 4),
+    ),
+    (
+        &[
+            EXTENTS_80,
+            PREAMBLE,
+            CPU_AT_2,
+            b"\x14\0\0\0\x01\0\0\0",
+            b"\xF2\xFF\xFF\xFF\xFF\xFF\xFF\xFF",
+        ],
+        (0, 1, Kind::TailExit, 3),
+        (0, (1 << 28) - 1, Kind::Exit, (1 << 32) + 2),
+    ),
+];
+
 #[test]
-fn deltas_add_up_behind_the_last_whole_counter(rt: HostRuntime) -> Result<(), Fail> {
-    let rows: [(&[&[u8]], [Event; 2]); 5] = [
-        (
-            &[EXTENTS_96, PREAMBLE, CPU, ENTRY, WRAP_TO_2_32, EXIT],
-            [
-                event(0, 1, Kind::Entry, 0),
-                event(0, 1, Kind::Exit, 1 << 32),
-            ],
-        ),
-        (
-            &[EXTENTS_96, PREAMBLE, CPU_AT_LAST, ENTRY, WRAP_TO_0, EXIT],
-            [
-                event(0, 1, Kind::Entry, u64::MAX),
-                event(0, 1, Kind::Exit, 0),
-            ],
-        ),
-        (
-            &[EXTENTS_80, PREAMBLE, CPU_AT_LAST, ENTRY, EXIT_AFTER_2],
-            [
-                event(0, 1, Kind::Entry, u64::MAX),
-                event(0, 1, Kind::Exit, 1),
-            ],
-        ),
-        (
-            &[
-                EXTENTS_96,
-                PREAMBLE,
-                CPU,
-                EXIT_AFTER_2,
-                CPU_1_AT_2,
-                EXIT_AFTER_2,
-            ],
-            [event(0, 1, Kind::Exit, 2), event(1, 1, Kind::Exit, 4)],
-        ),
-        (
-            &[
-                EXTENTS_80,
-                PREAMBLE,
-                CPU_AT_2,
-                b"\x14\0\0\0\x01\0\0\0",
-                b"\xF2\xFF\xFF\xFF\xFF\xFF\xFF\xFF",
-            ],
-            [
-                event(0, 1, Kind::TailExit, 3),
-                event(0, (1 << 28) - 1, Kind::Exit, (1 << 32) + 2),
-            ],
-        ),
-    ];
-    for (parts, events) in rows {
+fn deltas_add_up_from_the_last_whole_counter(rt: HostRuntime) -> Result<(), Fail> {
+    for (parts, first, second) in DELTAS {
         let mut bytes = file(rt.alloc(), &[HEADER])?;
         bytes.extend_from_slice(&file(rt.alloc(), parts)?)?;
         let trace = read_trace(rt.alloc(), &bytes)?;
         assert_eq!(rt; trace.blocks.as_slice().len(), 1);
         for block in trace.blocks.as_slice() {
+            let events = [said(first), said(second)];
             assert_eq!(rt; block.events.as_slice(), events.as_slice());
         }
     }
@@ -201,7 +209,7 @@ fn damaged_files_are_refused(rt: HostRuntime) -> Result<(), Fail> {
 }
 
 #[test]
-fn a_file_ends_behind_a_block_or_is_short(rt: HostRuntime) -> Result<(), Fail> {
+fn a_file_cut_inside_its_header_or_a_block_is_short(rt: HostRuntime) -> Result<(), Fail> {
     let block = file(rt.alloc(), &[EXTENTS_72, PREAMBLE, CPU, ENTRY])?;
     let bytes = file(rt.alloc(), &[HEADER, &block, &block, &block])?;
     assert_eq!(rt; bytes.len(), 296);
@@ -334,7 +342,7 @@ fn a_file_is_written_byte_by_byte(rt: HostRuntime) -> Result<(), Fail> {
 }
 
 #[test]
-fn a_write_that_fails_is_told(rt: HostRuntime) -> Result<(), Fail> {
+fn a_write_that_fails_is_reported(rt: HostRuntime) -> Result<(), Fail> {
     let mut sink = MemSink::new(rt.alloc(), vec![in rt.alloc(); 0]?);
     assert_eq!(rt; write_file(&HEADER_FIELDS, &[], &mut sink), Err(WriteFault));
     assert!(rt; sink.bytes().is_empty());

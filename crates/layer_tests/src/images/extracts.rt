@@ -1,4 +1,4 @@
-//! Ids, names and the printed sled map of two images.
+//! Calls of `xray_image`: ids, names and the printed sled map of two images.
 
 use example_images::OUTPUTS_AN_A;
 use std::alloc::Global;

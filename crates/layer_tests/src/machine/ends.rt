@@ -1,37 +1,11 @@
-//! An image for each end, and one with a function that calls itself twice.
+//! Calls of `machine_step`: an image for each end, and one with a function that calls itself twice.
 
-use super::DEFAULT_LIMITS;
+use super::image_of;
+use crate::setups::DEFAULT_LIMITS;
 use example_images::FIBONACCI;
 use machine_step::{End, Limits, Steps, plain_run};
 use std::test::Fail;
-use xray_image::{Image, read_image};
-
-/// The header of an image with one function and no sled: base 0x1000, and the code's length at 16.
-const HEADER: [u8; 64] = [
-    0x58, 0x52, 0x49, 0x4D, 1, 0, 0, 0, 0x00, 0x10, 0, 0, 0, 0, 0, 0, 0, 0, 0, 0, 1, 0, 0, 0, 0, 0,
-    0, 0, 0, 0, 0, 0, 0x00, 0x10, 0x20, 0, 0, 0, 0, 0, 0x10, 0x10, 0x20, 0, 0, 0, 0, 0, 0x20, 0x10,
-    0x20, 0, 0, 0, 0, 0, 0x30, 0x10, 0x20, 0, 0, 0, 0, 0,
-];
-
-/// The function `f` at 0x1000.
-const FUNCTION: [u8; 10] = [0x00, 0x10, 0, 0, 0, 0, 0, 0, 1, 0x66];
-
-/// The image with only this code.
-pub(super) fn image_of(rt: &HostRuntime, code: &[u8]) -> Result<Image, Fail> {
-    let Ok(length) = u32::try_from(code.len()) else {
-        return Err("too much code")?;
-    };
-    let [low, second, third, high] = length.to_le_bytes();
-    let mut header = HEADER;
-    header[16] = low;
-    header[17] = second;
-    header[18] = third;
-    header[19] = high;
-    let mut bytes = header.to_vec(rt.alloc())?;
-    bytes.extend_from_slice(code)?;
-    bytes.extend_from_slice(&FUNCTION)?;
-    Ok(read_image(rt.alloc(), &bytes)?)
-}
+use xray_image::read_image;
 
 /// Whether thread 1 ends in this way, in an image with only this code.
 fn ends_so(

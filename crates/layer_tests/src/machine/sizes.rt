@@ -1,9 +1,9 @@
-//! Calls that allocate, at their limits and at sizes between them: with enough memory they answer.
+//! Calls of `machine_step` that allocate, at their limits and at sizes between them: with enough
+//! memory they answer.
 
-ghost use Rattle.std.specs.Prelude.{◌<◌};
-
-use super::DEFAULT_LIMITS;
-use super::ends::image_of;
+use super::image_of;
+use crate::draws::draw;
+use crate::setups::DEFAULT_LIMITS;
 use example_images::OUTPUTS_AN_A;
 use machine_step::{Cpu, End, Limits, Steps, Want, plain_run};
 use std::test::Fail;
@@ -45,17 +45,6 @@ fn begins(rt: &HostRuntime, passings: u32) -> Result<bool, Fail> {
         Want::Gate(0)
     };
     Ok(cpu.want() == want)
-}
-
-/// A number below a bound, drawn from a seed.
-fn draw(seed: &mut u64, bound: u32) -> u32
-    requires { 0 < bound }
-    ensures { result < bound }
-{
-    *seed = seed
-        .wrapping_mul(6_364_136_223_846_793_005)
-        .wrapping_add(1_442_695_040_888_963_407);
-    (*seed >> 33) as u32 % bound
 }
 
 #[test]

@@ -1,6 +1,6 @@
-//! Traced threads, load by load.
+//! Calls of `machine_step`: traced threads, load by load.
 
-use super::DEFAULT_LIMITS;
+use crate::setups::DEFAULT_LIMITS;
 use example_images::OUTPUTS_AN_A;
 use fdr_record::{Event, Kind};
 use handler_word::Mark;
@@ -106,7 +106,7 @@ fn each_value_leads_to_its_mark(rt: HostRuntime) -> Result<(), Fail> {
 }
 
 #[test]
-fn a_thread_that_has_ended_tells_what_it_left(rt: HostRuntime) -> Result<(), Fail> {
+fn a_thread_that_has_ended_shows_what_it_left(rt: HostRuntime) -> Result<(), Fail> {
     let image = read_image(rt.alloc(), &OUTPUTS_AN_A)?;
     let steps = Steps::new(rt.alloc(), &image)?;
     let mut cpu = Cpu::new(rt.alloc(), &steps, 1, 1, None, DEFAULT_LIMITS)?;

@@ -1,13 +1,10 @@
-//! What replays leave in their buffers, byte by byte.
+//! Calls of `step_sim`: what replays leave in their buffers, byte by byte.
 
-use super::replays::LIMITS;
 use super::*;
+use crate::setups::{DEFAULT_LIMITS, DEFAULT_SETUP};
 use example_images::{CALLS, OUTPUTS_AN_A};
-use machine_step::{Limits, Setup, Steps};
-use patch_script::read_script;
-use std::process::Abort;
+use machine_step::Limits;
 use xray_image::read_image;
-use xray_io::Wall;
 
 /// A function `main` that prints a 0: an entry sled, `out 0, al`, an exit sled.
 const OUTPUTS_A_0: [u8; 166] = [
@@ -33,30 +30,6 @@ const TAIL_CALLS: [u8; 263] = [
     0, 0, 40, 16, 0, 0, 0, 0, 0, 0, 28, 16, 0, 0, 0, 0, 0, 0, 1, 1, 0, 0, 0, 0, 0, 0, 0, 0, 0, 0,
     0, 0, 0, 0,
 ];
-
-/// The script that traces everything from before the start.
-pub(super) const TRACED: &[u8] = b"patch\nset_handler\ninit\ngo";
-
-/// A replay of an image.
-#[derive(Clone, Copy)]
-struct Row<'a> {
-    image: &'a [u8],
-    limits: Limits,
-    threads: u32,
-    size: u32,
-    max: u32,
-}
-
-/// An image, traced on one thread with large buffers.
-fn one_thread(image: &[u8]) -> Row<'_> {
-    Row {
-        image,
-        limits: LIMITS,
-        threads: 1,
-        size: 16_384,
-        max: 100,
-    }
-}
 
 /// What a buffer holds: its thread, the number of the segment, and the records.
 #[derive(Clone, Copy)]
@@ -86,40 +59,20 @@ fn body(alloc: Global, thread: u32, records: &[u8]) -> Result<Vec<u8>, AllocErro
     Ok(bytes)
 }
 
-/// Replays an image without a schedule, and checks what is left.
+/// Replays an image that is traced from before the start, without a schedule, and checks how many
+/// segments each thread has sealed, the first one of each that is kept, and the buffers.
 fn leaves(
     rt: &impl Abort,
     alloc: Global,
-    row: Row,
+    image: &[u8],
+    setup: &Setup,
     sealed: &[u32],
     first: &[u32],
     held: &[Held],
 ) -> Result<(), Fail> {
-    let Row {
-        image,
-        limits,
-        threads,
-        size,
-        max,
-    } = row;
-    assert!(rt; threads == 1 || threads == 2);
-    assert!(rt; limits.cpus > 0 && limits.migrate > 0);
-    assert!(rt; size >= 72 && size <= 1_048_576);
-    assert!(rt; threads <= max && max <= 1_024);
     let image = read_image(alloc, image)?;
-    let script = read_script(alloc, TRACED, &image, threads)?;
-    let schedule = read_schedule(alloc, b"", threads)?;
-    let setup = Setup {
-        threads,
-        size,
-        max,
-        limits,
-        pid: 1,
-        wall: Wall { secs: 0, micros: 0 },
-        frequency: 0,
-    };
     let steps = Steps::new(alloc, &image)?;
-    let end = SimStart::new(alloc, &steps, &script, &setup)?.play(&schedule);
+    let end = replay_of(rt, alloc, &steps, TRACED, b"", setup)??;
     assert_eq!(rt; end.sealed.as_slice(), sealed);
     assert_eq!(rt; end.first.as_slice(), first);
     assert_eq!(rt; end.buffers.len(), held.len());
@@ -190,7 +143,7 @@ const MOVED: &[u8] = &[
 #[test]
 fn calls_on_one_thread_are_recorded(rt: HostRuntime) -> Result<(), Fail> {
     let alloc = rt.alloc();
-    let whole = LIMITS;
+    let whole = DEFAULT_LIMITS;
     let near = Limits {
         tick: 4_294_967_295,
         ..whole
@@ -217,9 +170,12 @@ fn calls_on_one_thread_are_recorded(rt: HostRuntime) -> Result<(), Fail> {
         (&OUTPUTS_AN_A, moving, MOVED),
     ];
     for (image, limits, records) in rows {
-        let mut row = one_thread(image);
-        row.limits = limits;
-        leaves(&rt, alloc, row, &[0], &[0], &[Held(1, 0, records)])?;
+        let setup = Setup {
+            limits,
+            ..DEFAULT_SETUP
+        };
+        let held = [Held(1, 0, records)];
+        leaves(&rt, alloc, image, &setup, &[0], &[0], &held)?;
     }
     Ok(())
 }
@@ -227,33 +183,30 @@ fn calls_on_one_thread_are_recorded(rt: HostRuntime) -> Result<(), Fail> {
 #[test]
 fn a_full_buffer_goes_to_the_queue(rt: HostRuntime) -> Result<(), Fail> {
     let alloc = rt.alloc();
-    let mut row = one_thread(&OUTPUTS_AN_A);
+    let mut setup = DEFAULT_SETUP;
+    let held = [Held(1, 0, ENTERED), Held(1, 1, LEFT)];
     for size in [72, 79] {
-        row.size = size;
-        leaves(
-            &rt,
-            alloc,
-            row,
-            &[1],
-            &[0],
-            &[Held(1, 0, ENTERED), Held(1, 1, LEFT)],
-        )?;
+        setup.size = size;
+        leaves(&rt, alloc, &OUTPUTS_AN_A, &setup, &[1], &[0], &held)?;
     }
-    row.size = 80;
-    leaves(&rt, alloc, row, &[0], &[0], &[Held(1, 0, A_CALL)])
+    setup.size = 80;
+    let held = [Held(1, 0, A_CALL)];
+    leaves(&rt, alloc, &OUTPUTS_AN_A, &setup, &[0], &[0], &held)
 }
 
 #[test]
 fn the_oldest_segments_are_lost(rt: HostRuntime) -> Result<(), Fail> {
     let alloc = rt.alloc();
-    let mut row = one_thread(&CALLS);
-    row.threads = 2;
-    row.size = 72;
-    row.max = 3;
+    let mut setup = Setup {
+        threads: 2,
+        size: 72,
+        max: 3,
+        ..DEFAULT_SETUP
+    };
     let held = [Held(1, 3, LEFT), Held(2, 2, LEFT_F), Held(2, 3, LEFT)];
-    leaves(&rt, alloc, row, &[3, 3], &[3, 2], &held)?;
+    leaves(&rt, alloc, &CALLS, &setup, &[3, 3], &[3, 2], &held)?;
     // If no buffer is queued, each thread gets its own back.
-    row.max = 2;
+    setup.max = 2;
     let held = [Held(1, 3, LEFT), Held(2, 3, LEFT)];
-    leaves(&rt, alloc, row, &[3, 3], &[3, 3], &held)
+    leaves(&rt, alloc, &CALLS, &setup, &[3, 3], &[3, 3], &held)
 }

@@ -1,52 +1,12 @@
-//! Replays of schedules: what they leave of the threads.
+//! Calls of `step_sim`: what replays of schedules leave of the threads.
 
 use super::*;
+use crate::setups::DEFAULT_SETUP;
 use example_images::OUTPUTS_AN_A;
 use handler_word::write_runs;
-use machine_step::{Cpu, End, Limits, Setup, Steps, Want};
-use patch_script::read_script;
-use std::process::Abort;
-use text_lines::count_lines;
+use machine_step::{Cpu, End, Want};
 use xray_image::read_image;
-use xray_io::{MemSink, Wall};
-
-/// The limits of the threads.
-pub(super) const LIMITS: Limits = Limits {
-    fuel: 10_000_000,
-    passings: 1_048_576,
-    tick: 1,
-    tsc: 0,
-    cpus: 1,
-    migrate: 1_048_576,
-};
-
-/// The replay of the texts of a script and a schedule, with one thread or two.
-fn replay_of<'a>(
-    rt: &impl Abort,
-    alloc: Global,
-    steps: &'a Steps<'a>,
-    script: &[u8],
-    schedule: &[u8],
-    threads: u32,
-) -> Result<Result<SimEnd<'a>, SimFault>, Fail> {
-    assert!(rt; threads == 1 || threads == 2);
-    assert!(rt; count_lines(script) < 100);
-    let script = read_script(alloc, script, steps.image(), threads)?;
-    let schedule = read_schedule(alloc, schedule, threads)?;
-    let setup = Setup {
-        threads,
-        size: 16_384,
-        max: 64,
-        limits: LIMITS,
-        pid: 1,
-        wall: Wall { secs: 0, micros: 0 },
-        frequency: 0,
-    };
-    Ok(match SimStart::new(alloc, steps, &script, &setup) {
-        Ok(start) => Ok(start.play(&schedule)),
-        Err(fault) => Err(fault),
-    })
-}
+use xray_io::MemSink;
 
 /// The marks of a thread, as printed.
 fn marks_of(alloc: Global, cpu: &Cpu) -> Result<MemSink, Fail> {
@@ -85,7 +45,7 @@ fn a_schedule_decides_what_a_thread_finds(rt: HostRuntime) -> Result<(), Fail> {
         ),
     ];
     for (script, schedule, marks) in rows {
-        let end = replay_of(&rt, alloc, &steps, script, schedule, 1)??;
+        let end = replay_of(&rt, alloc, &steps, script, schedule, &DEFAULT_SETUP)??;
         assert_eq!(rt; end.cpus.len(), 1);
         let cpu = &end.cpus[0];
         assert_eq!(rt; marks_of(alloc, cpu)?.bytes(), marks);
@@ -103,7 +63,11 @@ fn threads_find_the_same_words_at_their_own_turns(rt: HostRuntime) -> Result<(),
     let image = read_image(alloc, &OUTPUTS_AN_A)?;
     let steps = Steps::new(alloc, &image)?;
     let script = b"set_handler\ninit\ngo\npatch";
-    let end = replay_of(&rt, alloc, &steps, script, b"t 1 1\np 8", 2)??;
+    let setup = Setup {
+        threads: 2,
+        ..DEFAULT_SETUP
+    };
+    let end = replay_of(&rt, alloc, &steps, script, b"t 1 1\np 8", &setup)??;
     assert_eq!(rt; end.cpus.len(), 2);
     assert_eq!(rt; marks_of(alloc, &end.cpus[0])?.bytes(), b".1 +1".as_slice());
     assert_eq!(rt; marks_of(alloc, &end.cpus[1])?.bytes(), b"+2".as_slice());
@@ -124,7 +88,7 @@ fn a_script_at_which_somebody_may_wait_is_refused(rt: HostRuntime) -> Result<(),
         ),
     ];
     for (script, line) in rows {
-        let replayed = replay_of(&rt, rt.alloc(), &steps, script, b"", 1)?;
+        let replayed = replay_of(&rt, rt.alloc(), &steps, script, b"", &DEFAULT_SETUP)?;
         assert_eq!(rt; replayed.err(), Some(SimFault::Waits(line)));
     }
     Ok(())

@@ -2,7 +2,7 @@ use Rattle.std.proofs.Common.{sym, subst}
 use Rattle.std.specs.Prelude.{All}
 use Rattle.step_sim.specs.Schedules.{AreTurnsOf}
 use Rattle.step_sim.specs.Starts.{Start}
-use Rattle.layer_tests.proofs.replaying.buffers.leaves.Goals as goal
+use Rattle.layer_tests.proofs.replaying.replay_of.Goals as goal
 
 pub play-end-requires : goal.play-end-requires
 play-end-requires g c =
