@@ -43,6 +43,8 @@ mod records;
 #[cfg(test)]
 mod replaying;
 #[cfg(test)]
+mod running;
+#[cfg(test)]
 mod scripts;
 #[cfg(test)]
 mod setups;
