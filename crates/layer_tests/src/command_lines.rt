@@ -179,12 +179,10 @@ fn shown_command(alloc: Global, command: Command) -> Result<String, AllocError> 
             trace,
             audit,
             options,
-        } => shown_run(
-            alloc,
-            "sim",
-            &[image, script, schedule, trace, audit],
-            options,
-        ),
+        } => {
+            let files = [image, script, schedule, trace, audit];
+            shown_run(alloc, "sim", &files, options)
+        }
     }
 }
 

@@ -1,10 +1,11 @@
-//! Threads that run while a script patches their sleds.
+//! Calls of `thread_run`: threads that run while a script patches their sleds.
 
 ghost use Rattle.std.specs.Prelude.{◌≡◌, ◌≤◌};
 
+use crate::setups::DEFAULT_SETUP;
 use example_images::{CALLS, FIBONACCI};
 use handler_word::write_runs;
-use machine_step::{Limits, Setup, Steps};
+use machine_step::{Setup, Steps};
 use patch_script::read_script;
 use sled_rule::CodeTable;
 use std::process::Abort;
@@ -14,17 +15,7 @@ use std::thread::Threads;
 use text_lines::count_lines;
 use thread_run::{RunEnd, run};
 use xray_image::read_image;
-use xray_io::{MemSink, OpenGate, Wall, write_all};
-
-/// The limits of the threads.
-const LIMITS: Limits = Limits {
-    fuel: 10_000_000,
-    passings: 1_048_576,
-    tick: 1,
-    tsc: 0,
-    cpus: 1,
-    migrate: 1_048_576,
-};
+use xray_io::{MemSink, OpenGate, write_all};
 
 /// A setup for this many threads, and this many buffers of a size.
 fn setup_of(threads: u32, max: u32, size: u32) -> Setup
@@ -37,10 +28,7 @@ fn setup_of(threads: u32, max: u32, size: u32) -> Setup
         threads,
         size,
         max,
-        limits: LIMITS,
-        pid: 1,
-        wall: Wall { secs: 0, micros: 0 },
-        frequency: 0,
+        ..DEFAULT_SETUP
     }
 }
 
