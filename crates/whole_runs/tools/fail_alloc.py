@@ -38,6 +38,7 @@ COMMANDS = {
     "account": "account calls.trace",
     "stack": "stack calls.trace",
     "convert": "convert calls.trace",
+    "soak": "soak 7",
 }
 OUT_OF_MEMORY = (5, b"", b"xray: out of memory\n", {})
 # What a run reports on standard error if it couldn't read or write a file, by its status.
