@@ -1,2 +1,3 @@
+pub mod FullBytes
 pub mod MarkBits
 pub mod MarkRuns

@@ -1,6 +1,6 @@
 //! The marks of a thread.
 
-ghost use Rattle.std.specs.Prelude.{◌≡◌, ◌<◌, ◌≤◌, ◌↔◌, ◌+◌, ◌/◌, [], ◌∷◌, ◌++◌, length, slice_get, vec_capacity, Some, IsTrue, IfOk};
+ghost use Rattle.std.specs.Prelude.{◌≡◌, ◌<◌, ◌≤◌, ◌↔◌, ◌+◌, ◌/◌, [], ◌∷◌, ◌++◌, drop, length, replicate, slice_get, vec_capacity, Some, IsTrue, IfOk};
 ghost use Rattle.handler_word.specs.private.Bits.{mark_of, marks_from, IsFilledTo};
 ghost use Rattle.handler_word.specs.MarkList.{recorded_count};
 
@@ -10,13 +10,16 @@ use std::marker::Model;
 use xray_io::NoMemory;
 
 /// How many marks fit a byte.
-const MARKS_IN_BYTE: u32 = 4;
+pub(crate) const MARKS_IN_BYTE: u32 = 4;
 
 /// How many bits a mark has.
 const BITS_OF_MARK: u32 = 2;
 
 /// The bits of the first mark of a byte.
 const FIRST_MARK: u8 = 0b11;
+
+/// What the bits of a mark are multiplied by for a byte whose four marks are this one.
+const EACH_MARK: u8 = 0b0101_0101;
 
 /// The marks of a thread's passings, in the order of the passings. There is room for a fixed number
 /// of them.
@@ -98,6 +101,23 @@ impl Marks {
     {
         let byte = self.bytes[(n / MARKS_IN_BYTE) as usize];
         Mark::from_bits((byte >> (n % MARKS_IN_BYTE * BITS_OF_MARK)) & FIRST_MARK)
+    }
+
+    /// Whether the mark of this number is the first of a byte whose four marks are all `mark`.
+    #[inline]
+    pub(crate) fn fill_byte(&self, first: u32, mark: Mark) -> bool
+        requires { first < length self.now.items }
+        ensures within { IsTrue result → first + 4 ≤ length self.now.items }
+        ensures same { IsTrue result
+            → drop first self.now.items ≡ replicate 4 mark ++ drop (first + 4) self.now.items }
+    {
+        if first % MARKS_IN_BYTE != 0 {
+            return false;
+        }
+        if self.len - first < MARKS_IN_BYTE {
+            return false;
+        }
+        self.bytes[(first / MARKS_IN_BYTE) as usize] == mark.bits() * EACH_MARK
     }
 
     /// How many of the marks are `Recorded`.

@@ -1,10 +1,11 @@
 //! The text of marks. Each run of equal marks is printed as its character and its length.
 
-ghost use Rattle.std.specs.Prelude.{◌≡◌, ◌<◌, ◌≤◌, ◌+◌, [], ◌∷◌, ◌++◌, length, drop};
+ghost use Rattle.std.specs.Prelude.{◌≡◌, ◌<◌, ◌≤◌, ◌+◌, [], ◌∷◌, ◌++◌, length, drop, replicate, slice_get, Some};
 ghost use Rattle.handler_word.specs.Runs.{mark_byte, runs_of, run_text, runs_text};
 ghost use Rattle.xray_io.specs.Text.{AddsText};
 ghost use Rattle.xray_io.specs.Writes.{WritesText};
 
+use crate::marks::MARKS_IN_BYTE;
 use crate::{Mark, Marks};
 use xray_io::{Piece, Sink, Text, WriteFault};
 
@@ -59,11 +60,26 @@ fn run_at(marks: &Marks, start: u32) -> Run
     let len = marks.len();
     let mut end = start + 1;
     'same: while end < len && marks.get(end) == mark {
-        end += 1;
+        end += alike_at(marks, end, mark);
     }
     Run {
         mark,
         length: end - start,
+    }
+}
+
+/// How many marks from this one on are this one: all of its byte if they are, and otherwise only
+/// this one, whatever comes after it.
+fn alike_at(marks: &Marks, first: u32, mark: Mark) -> u32
+    requires { slice_get marks.now.items first ≡ Some mark }
+    ensures some { 0 < result }
+    ensures within { first + result ≤ length marks.now.items }
+    ensures same { drop first marks.now.items ≡ replicate result mark ++ drop (first + result) marks.now.items }
+{
+    if marks.fill_byte(first, mark) {
+        MARKS_IN_BYTE
+    } else {
+        1
     }
 }
 

@@ -1,6 +1,5 @@
-use Rattle.std.proofs.Common.{◌≡◌, ◌+◌, [], ◌∷◌, ◌++◌, List, ℕ, Ok, drop, subst, sym, ap, ◌∙◌, arith, rules, append_assoc, zero-add}
-use Rattle.std.proofs.lemmas.List.{append-nil, drop_all}
-use Rattle.xray_io.specs.Text.{AddsText, adds_more, adds_stop, adds_within, adds_failed}
+use Rattle.std.proofs.Common.{◌≡◌, ◌+◌, ◌∷◌, ◌++◌, List, ℕ, drop, ap, ◌∙◌, arith, append_assoc, zero-add}
+use Rattle.xray_io.specs.Text.{adds_more, adds_stop, adds_within, adds_failed}
 use Rattle.handler_word.specs.Runs.{run_text, runs_text}
 use Rattle.handler_word.proofs.MarkRuns.{later_runs, first_and_later, next_and_later}
 use Rattle.handler_word.proofs.runs.add_runs.Goals as goal

@@ -1,4 +1,4 @@
-use Rattle.std.proofs.Common.{◌≡◌, ◌≤◌, ◌-◌, length}
+use Rattle.std.proofs.Common.{◌≤◌, ◌-◌, length}
 use Rattle.handler_word.proofs.MarkRuns.{HasRunsTo}
 use Rattle.handler_word.proofs.runs.add_runs.Given as goal
 

@@ -1,8 +1,9 @@
 use denote.Enum.Bare.{same_true, same_false}
-use Rattle.std.proofs.Common.{◌≡◌, ◌+◌, ◌-◌, ◌∷◌, drop, Some, refl, sym, ap, ◌∙◌, arith, rules}
+use Rattle.std.proofs.Common.{◌≡◌, ◌+◌, ◌-◌, Some, refl, sym, ap, ◌∙◌, arith, rules}
 use Rattle.handler_word.specs.contracts.mark.Mark.{the_type}
 use Rattle.handler_word.specs.declared.mark.Mark.{Mark}
-use Rattle.handler_word.proofs.MarkRuns.{mark_in_front, one_more, ends_before_other, ends_with_list, run_there}
+use Rattle.handler_word.proofs.FullBytes.{runs_joined}
+use Rattle.handler_word.proofs.MarkRuns.{mark_in_front, ends_before_other, ends_with_list, run_there}
 use Rattle.handler_word.proofs.runs.run_at.Goals as goal
 use Rattle.handler_word.proofs.runs.run_at.Goals.{then-same-test+else-eq, else-same-test}
 
@@ -17,16 +18,19 @@ same-init c =
 
 pub same-preserved : goal.same-preserved
 same-preserved c =
-    let marks = c.args.marks.now.items in
     let mark = c.get-mark.result in
-    let alike : c.get.result ≡ mark = same_true the_type (search rules) _ _ (sym c.eq.ensures ∙ c.if-eq.true) in
-    let here : drop c.same.end marks ≡ mark ∷ drop (c.same.end + 1) marks = mark_in_front marks c.same.end mark (c.get.ensures ∙ ap (λ (m : Mark). Some m) alike) in
-    let count : c.same.end - c.args.start + 1 ≡ c.same.end + 1 - c.args.start = omega arith in
+    let more = c.alike_at-end.result in
+    let count : c.same.end - c.args.start + more ≡ c.same.end + more - c.args.start = omega arith in
     record {
-      begun = omega arith;
-      within = omega arith;
-      same = c.same.invariant.same ∙ rw (here, one_more, count) refl;
+      begun = omega (arith, c.alike_at-end.ensures.some);
+      within = c.alike_at-end.ensures.within;
+      same = c.same.invariant.same ∙ rw (c.alike_at-end.ensures.same, runs_joined, count) refl;
     }
+
+pub alike_at-end-requires : goal.alike_at-end-requires
+alike_at-end-requires c =
+    let alike : c.get.result ≡ c.get-mark.result = same_true the_type (search rules) _ _ (sym c.eq.ensures ∙ c.if-eq.true) in
+    c.get.ensures ∙ ap (λ (m : Mark). Some m) alike
 
 pub returns-clause-run : goal.returns-clause-run
 returns-clause-run c =

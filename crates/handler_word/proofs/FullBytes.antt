@@ -1,0 +1,44 @@
+-- Bytes whose four marks are all the same.
+use Rattle.std.proofs.Common.{◌≡◌, ◌<◌, ◌≤◌, ◌+◌, ◌*◌, ◌/◌, ◌%◌, ◌^◌, ℕ, zero, suc, List, ◌∷◌, ◌++◌, drop, get_or, replicate, sym, ap, ◌∙◌, arith, append_assoc}
+use Rattle.std.specs.Prelude.{slice_get, Some}
+use Rattle.std.proofs.lemmas.List.{replicate-append-replicate}
+use Rattle.handler_word.specs.declared.mark.Mark.{Mark}
+use Rattle.handler_word.specs.private.Bits.{mark_of, bits_of, marks_from}
+use Rattle.handler_word.proofs.MarkBits.{mark_there}
+use Rattle.handler_word.proofs.MarkRuns.{mark_in_front}
+
+-- each place of such a byte has the bits of the mark
+bits_everywhere : (bits place : ℕ) → bits < 4 → place < 4 → bits * 85 / 2 ^ (place * 2) % 4 ≡ bits
+bits_everywhere bits zero small below = omega arith
+bits_everywhere bits (suc zero) small below = omega arith
+bits_everywhere bits (suc (suc zero)) small below = omega arith
+bits_everywhere bits (suc (suc (suc zero))) small below = omega arith
+bits_everywhere bits (suc (suc (suc (suc place)))) small below = absurd (omega arith)
+
+-- so each of its marks is that mark
+alike_there : (bytes : List ℕ) (count n bits i : ℕ) → n % 4 ≡ 0 → n + 4 ≤ count → bits < 4 → get_or bytes (n / 4) 0 ≡ bits * 85
+    → n ≤ i → i < n + 4 → slice_get (marks_from bytes 0 count) i ≡ Some (mark_of bits)
+alike_there bytes count n bits i first room small is from to =
+    let byte : (0 + i) / 4 ≡ n / 4 = omega arith in
+    let read : bits_of bytes (0 + i) ≡ bits = rw (byte, is) (bits_everywhere bits ((0 + i) % 4) small (omega arith)) in
+    mark_there bytes 0 count i (omega arith) ∙ ap (λ (b : ℕ). Some (mark_of b)) read
+
+-- the marks from its first one on
+pub four_there : (bytes : List ℕ) (count n bits : ℕ) → n % 4 ≡ 0 → n + 4 ≤ count → bits < 4 → get_or bytes (n / 4) 0 ≡ bits * 85
+    → drop n (marks_from bytes 0 count)
+    ≡ mark_of bits ∷ mark_of bits ∷ mark_of bits ∷ mark_of bits ∷ drop (n + 4) (marks_from bytes 0 count)
+four_there bytes count n bits first room small is =
+    let marks = marks_from bytes 0 count in
+    let mark = mark_of bits in
+    let one = mark_in_front marks n mark (alike_there bytes count n bits n first room small is (omega arith) (omega arith)) in
+    let two = mark_in_front marks (n + 1) mark (alike_there bytes count n bits (n + 1) first room small is (omega arith) (omega arith)) in
+    let three = mark_in_front marks (n + 1 + 1) mark (alike_there bytes count n bits (n + 1 + 1) first room small is (omega arith) (omega arith)) in
+    let four = mark_in_front marks (n + 1 + 1 + 1) mark (alike_there bytes count n bits (n + 1 + 1 + 1) first room small is (omega arith) (omega arith)) in
+    let behind : n + 1 + 1 + 1 + 1 ≡ n + 4 = omega arith in
+    one ∙ ap (λ (rest : List Mark). mark ∷ rest) (two ∙ ap (λ (rest : List Mark). mark ∷ rest) (three ∙ ap (λ (rest : List Mark). mark ∷ rest)
+    (four ∙ ap (λ (k : ℕ). mark ∷ drop k marks) behind)))
+
+-- two runs of the same mark are one
+pub runs_joined : (mark : Mark) (count more : ℕ) (rest : List Mark) → replicate count mark ++ (replicate more mark ++ rest) ≡ replicate (count + more) mark ++ rest
+runs_joined mark count more rest =
+    sym (append_assoc (replicate count mark) (replicate more mark) rest) ∙ ap (λ (front : List Mark). front ++ rest) (replicate-append-replicate count more mark)
