@@ -1,6 +1,6 @@
 -- A machine that passes a sled.
 use Rattle.std.proofs.Common.{◌≡◌, ℕ, suc, ◌+◌, ◌==◌, [], ◌∷◌, length, Option, Some, None, refl, sym, ap, ◌∙◌, subst}
-use Rattle.std.specs.Prelude.{if◌then◌else◌, slice_get, MatchOption}
+use Rattle.std.specs.Prelude.{Bool, true, false, if◌then◌else◌, slice_get, IsSome, MatchOption}
 use Rattle.subset_decode.specs.Encoding.{spelling}
 use Rattle.xray_image.specs.declared.unit.Unit.{Unit}
 use Rattle.xray_image.specs.declared.unit.What.{What}
@@ -52,6 +52,15 @@ due_there : (program : Program) (limits : Limits) (address place k : ℕ) (m : M
     → IsAtSled program limits address place k m → due_sled limits m step ≡ Some k
 due_there program limits address place k m step is at =
     ap (λ (o : Option ℕ). if m.passings == limits.passings then None else o) (same_sled_at program place step at.step is at.is_step) ∙ at.due
+
+-- so that step has a sled
+pub some_sled : (program : Program) (limits : Limits) (address place k : ℕ) (m : Machine) (step : Step) → IsStepAt program place step
+    → IsAtSled program limits address place k m → IsSome (sled_at step)
+some_sled program limits address place k m step is at = by_room (m.passings == limits.passings) (sled_at step) (due_there program limits address place k m step is at)
+  where
+    by_room : (full : Bool) (sled : Option ℕ) → (if full then None else sled) ≡ Some k → IsSome sled
+    by_room true sled due = cc
+    by_room false sled due = subst (λ (o : Option ℕ). IsSome o) (sym due) refl
 
 -- ---- after the passing
 

@@ -175,7 +175,8 @@ impl<'a> Cpu<'a> {
             }
             Next::Ends(mark) => {
                 let event = event_at(
-                    self.steps.image().sled(sled),
+                    self.steps.image(),
+                    sled,
                     self.thread,
                     &self.machine,
                     self.limits,

@@ -1,8 +1,8 @@
 //! A thread between two steps, and what a step does to it.
 
-ghost use Rattle.std.specs.Prelude.{◌≡◌, ◌<◌, ◌+◌, ◌^◌, ◌==◌, ◌&&◌, false, [], IfOk};
+ghost use Rattle.std.specs.Prelude.{◌≡◌, ◌<◌, ◌+◌, ◌^◌, ◌==◌, ◌&&◌, false, [], IfOk, IsSome};
 ghost use Rattle.machine_step.specs.private.Machine.{first_machine, IsWithin, loading, computing, pushing, popping, returning, putting, going, staying, leaving, passing, acting, stepping};
-ghost use Rattle.machine_step.specs.private.Steps.{wants_fuel};
+ghost use Rattle.machine_step.specs.private.Steps.{sled_at, wants_fuel};
 
 use crate::end::End;
 use crate::limits::Limits;
@@ -54,6 +54,23 @@ impl Machine {
         self.act(step, place, limits)
     }
 
+    /// Makes the step of a sled at a place: passes the sled.
+    #[inline(always)]
+    pub(crate) fn step_over(&mut self, step: &Step, place: usize, limits: Limits) -> Way
+        requires within { IsWithin limits self.old }
+        requires place { place + 1 < 2 ^ 64 }
+        requires sled { IsSome (sled_at step.now) }
+        ensures way { result ≡ (stepping limits place self.old step.now).way }
+        ensures left { self.new ≡ (stepping limits place self.old step.now).left }
+        ensures within { IsWithin limits self.new }
+    {
+        match *step {
+            Step::Passing { .. } => self.pass(place + 1, limits),
+            Step::Leaving { .. } => self.leave(limits),
+            _ => unreachable!(),
+        }
+    }
+
     /// Whether a step is an instruction, with no fuel left for it.
     #[inline]
     fn lacks_fuel(&self, step: &Step, fuel: u64) -> bool
@@ -63,7 +80,7 @@ impl Machine {
     }
 
     /// Makes a step that has the fuel that it wants.
-    #[inline]
+    #[inline(always)]
     fn act(&mut self, step: &Step, place: usize, limits: Limits) -> Way
         requires within { IsWithin limits self.old }
         requires fuel { (wants_fuel step.now && (self.old.instructions == limits.fuel)) ≡ false }

@@ -1,5 +1,6 @@
 //! The events of passings.
-ghost use Rattle.std.specs.Prelude.{◌≡◌, ◌≤◌, ◌+◌, ◌*◌, ◌/◌, ◌%◌, ◌^◌, ℕ, Some, None, if◌then◌else◌};
+ghost use Rattle.std.specs.Prelude.{◌≡◌, ◌<◌, ◌≤◌, ◌+◌, ◌*◌, ◌/◌, ◌%◌, ◌^◌, ℕ, length, slice_get, Some, None, if◌then◌else◌};
+ghost use Rattle.xray_image.specs.declared.sled.Sled.{Sled};
 ghost use Rattle.handler_word.specs.MarkList.{is_recorded};
 ghost use Rattle.machine_step.specs.Events.{event_kind, event_of};
 ghost use Rattle.machine_step.specs.private.Machine.{state_at};
@@ -9,24 +10,30 @@ use crate::limits::Limits;
 use crate::machine::Machine;
 use fdr_record::{Event, Kind};
 use handler_word::Mark;
-use xray_image::{Sled, SledKind};
+use xray_image::{Image, SledKind};
 
-/// The event of the passing that a machine is about to make, if its mark says that it is recorded.
+/// The event of the passing of a sled that a machine is about to make, if its mark says that it is
+/// recorded.
+#[inline]
 pub(crate) fn event_at(
-    sled: Sled,
+    image: &Image,
+    sled: u32,
     thread: u32,
     machine: &Machine,
     limits: Limits,
     mark: Mark,
 ) -> Option<Event>
     requires stamps { (1 ≤ limits.cpus) × (1 ≤ limits.migrate) }
-    ensures { (address k : ℕ) → result ≡ (if is_recorded mark
-        then Some (event_of (passing_at limits thread (state_at address machine.now) k sled))
+    requires sled { sled < length image.now.sleds }
+    ensures { (address k : ℕ) (at : Sled) → slice_get image.now.sleds sled ≡ Some at
+        → result ≡ (if is_recorded mark
+        then Some (event_of (passing_at limits thread (state_at address machine.now) k at))
         else None) }
 {
     if mark != Mark::Recorded {
         return None;
     }
+    let sled = image.sled(sled);
     Some(Event {
         cpu: cpu_at(thread, machine.passings, limits),
         func: sled.id,

@@ -35,6 +35,7 @@ pub(crate) enum Stand {
 }
 
 /// Runs a machine from a place to the next sled that it has a passing for, or to its end.
+#[inline(always)]
 pub(crate) fn run_to_sled(
     machine: &mut Machine,
     steps: &Steps,
@@ -83,7 +84,7 @@ pub(crate) fn pass_sled(machine: &mut Machine, steps: &Steps, limits: Limits, pl
         → PassesTo steps.now limits address machine.old result machine.new }
     ensures within { IsWithin limits machine.new }
 {
-    match machine.step(steps.at(place), place, limits) {
+    match machine.step_over(steps.at(place), place, limits) {
         Way::To(next) => run_to_sled(machine, steps, limits, next),
         Way::Back(address) => {
             let next = steps.place_of(address);

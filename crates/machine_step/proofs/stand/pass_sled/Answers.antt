@@ -1,6 +1,6 @@
 use Rattle.std.proofs.Common.{arith}
 use Rattle.machine_step.proofs.Accepted.{are_in_order}
-use Rattle.machine_step.proofs.Passing.{passes_by, on_to, on_back, on_end}
+use Rattle.machine_step.proofs.Passing.{passes_by, some_sled, on_to, on_back, on_end}
 use Rattle.machine_step.proofs.Places.{place_within}
 use Rattle.machine_step.proofs.stand.pass_sled.Goals as goal
 
@@ -10,18 +10,22 @@ at-requires c =
     let within = place_within c.args.steps.now.units c.requires.at.1 c.args.place at.placed in
     omega arith
 
-pub step-requires-clause-place : goal.step-requires-clause-place
-step-requires-clause-place c =
+pub step_over-requires-clause-place : goal.step_over-requires-clause-place
+step_over-requires-clause-place c =
     let at = c.requires.at.2 in
     let within = place_within c.args.steps.now.units c.requires.at.1 c.args.place at.placed in
     omega (arith, c.at.ensures.small)
+
+pub step_over-requires-clause-sled : goal.step_over-requires-clause-sled
+step_over-requires-clause-sled c =
+    some_sled c.args.steps.now c.args.limits c.requires.at.1 c.args.place c.requires.at.0 c.args.machine.now c.at.result.now c.at.ensures.step c.requires.at.2
 
 pub run_to_sled-requires-clause-placed : goal.run_to_sled-requires-clause-placed
 run_to_sled-requires-clause-placed c =
     let accepted = c.requires.accepted in
     let by = passes_by c.args.steps.now (are_in_order accepted.0 c.args.steps.now accepted.1) c.args.limits 0 c.requires.at.1 c.args.place
     c.requires.at.0 c.args.machine.now c.at.result.now c.requires.within c.at.ensures.step
-    c.requires.at.2 _ c.step.new.self c.in-To.ensures.way c.in-To.ensures.left in
+    c.requires.at.2 _ c.step_over.new.self c.in-To.ensures.way c.in-To.ensures.left in
     (by.leads.0, by.leads.1)
 
 pub returns-in-To-clause-passes : goal.returns-in-To-clause-passes
@@ -30,8 +34,8 @@ returns-in-To-clause-passes c =
     λ address sled at thread.
     let by = passes_by c.args.steps.now (are_in_order accepted.0 c.args.steps.now accepted.1) c.args.limits thread address c.args.place
     sled c.args.machine.now c.at.result.now c.requires.within c.at.ensures.step
-    at _ c.step.new.self c.in-To.ensures.way c.in-To.ensures.left in
-    on_to c.args.steps.now c.args.limits thread address c.args.place c.in-To.next c.args.machine.now c.step.new.self c.run_to_sled.new.machine
+    at _ c.step_over.new.self c.in-To.ensures.way c.in-To.ensures.left in
+    on_to c.args.steps.now c.args.limits thread address c.args.place c.in-To.next c.args.machine.now c.step_over.new.self c.run_to_sled.new.machine
     c.run_to_sled.result by (λ there placed. c.run_to_sled.ensures.runs there placed thread)
 
 pub returns-in-Back-clause-passes : goal.returns-in-Back-clause-passes
@@ -40,8 +44,8 @@ returns-in-Back-clause-passes c =
     λ address sled at thread.
     let by = passes_by c.args.steps.now (are_in_order accepted.0 c.args.steps.now accepted.1) c.args.limits thread address c.args.place
     sled c.args.machine.now c.at.result.now c.requires.within c.at.ensures.step
-    at _ c.step.new.self c.in-Back.ensures.way c.in-Back.ensures.left in
-    on_back c.args.steps.now c.args.limits thread address c.args.place c.in-Back.address c.place_of-next.result c.args.machine.now c.step.new.self
+    at _ c.step_over.new.self c.in-Back.ensures.way c.in-Back.ensures.left in
+    on_back c.args.steps.now c.args.limits thread address c.args.place c.in-Back.address c.place_of-next.result c.args.machine.now c.step_over.new.self
     c.run_to_sled-in-Back.new.machine c.run_to_sled-in-Back.result by c.place_of-next.ensures
     (λ there placed. c.run_to_sled-in-Back.ensures.runs there placed thread)
 
@@ -51,5 +55,5 @@ returns-in-Ends-clause-passes c =
     λ address sled at thread.
     let by = passes_by c.args.steps.now (are_in_order accepted.0 c.args.steps.now accepted.1) c.args.limits thread address c.args.place
     sled c.args.machine.now c.at.result.now c.requires.within c.at.ensures.step
-    at _ c.step.new.self c.in-Ends.ensures.way c.in-Ends.ensures.left in
-    on_end c.args.steps.now c.args.limits thread address c.args.place c.args.machine.now c.step.new.self c.in-Ends.end by
+    at _ c.step_over.new.self c.in-Ends.ensures.way c.in-Ends.ensures.left in
+    on_end c.args.steps.now c.args.limits thread address c.args.place c.args.machine.now c.step_over.new.self c.in-Ends.end by

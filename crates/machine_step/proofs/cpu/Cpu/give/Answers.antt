@@ -26,8 +26,8 @@ invariant_of-self c =
     (stage_behind a.hold a.machine.passings c.in-Loading.stage c.in-Loads.stage c.args.value (sym c.in-Loads.ensures)
     (held_at a c.self.invariant c.in-Loading.place c.in-Loading.sled c.in-Loading.stage c.in-Loading.is))
 
-pub sled-requires : goal.sled-requires
-sled-requires c =
+pub event_at-event-requires-clause-sled : goal.event_at-event-requires-clause-sled
+event_at-event-requires-clause-sled c =
     let a = c.self.inside in
     let at = loading_at a c.self.invariant c.in-Loading.place c.in-Loading.sled c.in-Loading.stage c.in-Loading.is in
     subst (λ (program : Program). c.in-Loading.sled < length program.sleds) (sym c.image.ensures.program)
@@ -100,20 +100,26 @@ returns-in-Ends-clause-marks c =
 
 pub returns-in-Ends-clause-some : goal.returns-in-Ends-clause-some
 returns-in-Ends-clause-some c =
+    let a = c.self.inside in
+    let at = loading_at a c.self.invariant c.in-Loading.place c.in-Loading.sled c.in-Loading.stage c.in-Loading.is in
+    let before = before_of a c.self.invariant c.in-Loading.place c.in-Loading.sled at in
+    let found : slice_get c.image.result.now.sleds c.in-Loading.sled ≡ Some before.sled =
+    subst (λ (program : Program). slice_get program.sleds c.in-Loading.sled ≡ Some before.sled) (sym c.image.ensures.program) before.found in
     subst (λ (t : Traced). IsSome c.event_at-event.result ↔ (t.want ≡ wants.Load (state_word t.program)) × (c.args.value ≡ 2)) c.self.view_is
-    (some_at_end c.self.inside c.self.invariant c.in-Loading.place c.in-Loading.sled c.in-Loading.stage c.args.value c.in-Ends.mark _ c.event_at-event.result c.in-Loading.is
-    (sym c.in-Ends.ensures) (c.event_at-event.ensures 0 0))
+    (some_at_end a c.self.invariant c.in-Loading.place c.in-Loading.sled c.in-Loading.stage c.args.value c.in-Ends.mark _ c.event_at-event.result c.in-Loading.is
+    (sym c.in-Ends.ensures) (c.event_at-event.ensures 0 0 before.sled found))
 
 pub returns-in-Ends-clause-event : goal.returns-in-Ends-clause-event
 returns-in-Ends-clause-event c =
     let a = c.self.inside in
     let at = loading_at a c.self.invariant c.in-Loading.place c.in-Loading.sled c.in-Loading.stage c.in-Loading.is in
+    let before = before_of a c.self.invariant c.in-Loading.place c.in-Loading.sled at in
+    let found : slice_get c.image.result.now.sleds c.in-Loading.sled ≡ Some before.sled =
+    subst (λ (program : Program). slice_get program.sleds c.in-Loading.sled ≡ Some before.sled) (sym c.image.ensures.program) before.found in
     subst (λ (t : Traced). (passed : List Passing) (end : End) (last : State) → PlainRun t.program t.limits t.thread passed end last
     → recorded passed c.add.new.self.items ≡ recorded passed t.marks ++ events_in c.event_at-event.result) c.self.view_is
-    (clause_events a c.self.invariant c.in-Loading.place c.in-Loading.sled at c.add.new.self.items c.in-Ends.mark c.event_at-event.result c.sled.result
-    c.add.ensures.items
-    (subst (λ (program : Program). slice_get program.sleds c.in-Loading.sled ≡ Some c.sled.result) c.image.ensures.program c.sled.ensures)
-    c.event_at-event.ensures)
+    (clause_events a c.self.invariant c.in-Loading.place c.in-Loading.sled at c.add.new.self.items c.in-Ends.mark c.event_at-event.result before.sled
+    c.add.ensures.items before.found (λ address j. c.event_at-event.ensures address j before.sled found))
 
 pub returns-in-Ends-clause-kept : goal.returns-in-Ends-clause-kept
 returns-in-Ends-clause-kept c =
