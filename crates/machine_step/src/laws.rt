@@ -91,10 +91,11 @@ pub fn some_marks_follow()
         → (marks : List Mark) × MarksFollow program code start bound thread hold (sleds_of passed) marks total }
 {}
 
-/// A traced thread ends as its plain run does, whatever allowed values its loads gave. A caller
-/// with an order of loads of its own needs no other law on a `Cpu`. What the thread was given, and
-/// where it stands, are clauses of `Cpu::new`, `opened`, `give` and `want`. That it comes to an end
-/// is the clause `nearer` of `opened` and `give`.
+/// A traced thread ends as its plain run does, whatever allowed values its loads gave. Any plain
+/// run of the thread will do, since it has only one. A caller with an order of loads of its own
+/// needs no other law on a `Cpu`. What the thread was given, and where it stands, are clauses of
+/// `Cpu::new`, `opened`, `give` and `want`. That it comes to an end is the clause `nearer` of
+/// `opened` and `give`.
 pub fn a_traced_thread_ends_as_its_plain_run()
     ensures { (bytes : List ℕ) (t : Traced) (own passed : List Passing) (loads : List Load) (end : End) (last : State)
         → IsAccepted bytes t.program → HasLoaded t own loads → IsDone t.want → StandsAs t t.want

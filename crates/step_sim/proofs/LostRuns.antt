@@ -22,7 +22,8 @@ use Rattle.traced_run.specs.Runs.{ThreadRun}
 use Rattle.step_sim.specs.declared.turns.Turns.{Turns}
 use Rattle.step_sim.specs.declared.turns.Turns.TheVariants.{Thread, Patcher}
 use Rattle.step_sim.specs.private.Holding.{below}
-use Rattle.step_sim.specs.Pool.{AllPooledRunOut, Fresh, Item, Pooled, Pooling, Segment, Stock, first_pooled, pooled_line, pooled_lines, pooled_step, pooled_turn, queued, segments_among, serials_of, stock_behind}
+use Rattle.step_sim.specs.Pool.{Fresh, Item, Pooled, Pooling, Segment, Stock, first_pooled, pooled_step, pooled_turn, queued, segments_among, serials_of, stock_behind}
+use Rattle.step_sim.specs.private.Turns.{AllPooledRunOut, pooled_line, pooled_lines}
 use Rattle.step_sim.specs.Recorded.{numbers_from, pooling_of, segments_at}
 use Rattle.step_sim.specs.Plays.{turns}
 use Rattle.step_sim.specs.Replay.{Cast, Moment, marks_at, of_thread, thread_turn}
