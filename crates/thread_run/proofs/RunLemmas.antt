@@ -33,7 +33,7 @@ use Rattle.thread_run.specs.Runs.{HaveRunBeside}
 use Rattle.thread_run.specs.private.Pooled.{AreWorkersOfRun, IsWorkerOfRun, lost_beside}
 use Rattle.thread_run.specs.Workers.{HasEnded, HasRunOut, HaveRun, IsGoing, cpu_of, loads_of, recorder_of}
 use Rattle.thread_run.proofs.Notes.{begun_are}
-use Rattle.thread_run.proofs.Order.{IsBetween, all_between, in_order}
+use Rattle.thread_run.proofs.Order.{HoldEvents, IsBetween, all_between, in_order}
 use Rattle.thread_run.proofs.Pooled.{AreHands, HandIs, KeepsLast, hand_is, hands_of, in_hand_of, keeps_last, of_all, row_is}
 
 -- ---- the run of a worker that has ended
@@ -289,14 +289,14 @@ from_1 plan pool workers are i worker found =
 
 -- ---- what they leave
 
-pub left_so : (plan : Plan) (pool : PoolIs) (workers : List (Worker Recording)) (left : List Filled)
+pub left_so : HoldEvents → (plan : Plan) (pool : PoolIs) (workers : List (Worker Recording)) (left : List Filled)
     → AreWorkersOfRun plan pool (HasEnded StandsFor) workers → length workers ≡ pool.setup.threads
     → IsLeft pool.setup (map (λ (r : Recording). r.pass.sealed) (map (λ w. recorder_of w) workers)) left
     → HaveRunBeside plan.program (commands_of plan.lines) pool.setup (map (λ w. cpu_of w) workers)
     (map (λ w. segments_begun (recorder_of w)) workers)
     (lost_beside (left ++ hands_of (map (λ w. recorder_of w) workers)) 1 (map (λ w. segments_begun (recorder_of w)) workers))
     (left ++ hands_of (map (λ w. recorder_of w) workers))
-left_so plan pool workers left are count is =
+left_so hold plan pool workers left are count is =
     let setup : Setup = pool.setup in
     let rs : List Recording = map (λ w. recorder_of w) workers in
     let rows : List (List Filled) = map (λ (r : Recording). r.pass.sealed) rs in
@@ -347,7 +347,7 @@ left_so plan pool workers left are count is =
         buffers_are = refl;
       };
       buffers_are =
-          in_order setup runs buffers
+          in_order hold setup runs buffers
           (subst (λ (k : ℕ). AllByRecursion (IsBetween 1 (1 + k)) (filter has_event buffers)) (rs_count ∙ sym runs_count)
           (all_between setup rows left is rs hands (length-map rs (λ (r : Recording). r.pass.sealed))))
           (λ i run found. (at i run found).is.buffers_are);

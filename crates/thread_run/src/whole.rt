@@ -27,6 +27,7 @@ use sled_words::MAX_THREADS;
 use std::alloc::Global;
 use std::sync::Wait;
 use std::thread::Threads;
+use traced_run::kept_buffers_hold_events;
 use xray_io::{Gate, NoMemory};
 
 /// What a run leaves.
@@ -80,6 +81,7 @@ pub fn run<'s, T: Threads + Wait + Sync, G: Gate + Sync>(
     ensures left { IfOk result (λ end. HaveRunBeside steps.now (commands_of (script_of table.now).lines) setup.now
         end.cpus.items end.segments.items end.first.items end.buffers.items) }
 {
+    kept_buffers_hold_events();
     run_prefix(table, patcher);
     let first = Vec::with_capacity(alloc, setup.threads as usize)?;
     let buffers = Vec::with_capacity(alloc, setup.max as usize)?;
