@@ -1,9 +1,9 @@
 -- What a replay leaves when all threads have ended.
-use Rattle.std.proofs.Common.{◌≡◌, ℕ, zero, suc, ◌+◌, ◌-◌, ◌<◌, ◌^◌, List, [], ◌∷◌, ◌++◌, Option, Some, refl, sym, subst, ap, ◌∙◌, arith, length, length-append, map, fold, get_or}
+use Rattle.std.proofs.Common.{◌≡◌, ℕ, zero, suc, ◌+◌, ◌-◌, ◌<◌, ◌^◌, List, [], ◌∷◌, ◌++◌, Option, Some, refl, sym, subst, ap, ◌∙◌, arith, length, length-append, map, get_or}
 use Rattle.std.specs.Prelude.{filter, slice_get}
 use Rattle.std.specs.List.{All, flat_map}
 use Rattle.std.proofs.lemmas.List.{length-map}
-use Rattle.std.proofs.lemmas.List.Elements.{All-from_get_or, recursion_from_All}
+use Rattle.std.proofs.lemmas.List.Elements.{All-from_get_or}
 use Rattle.std.proofs.lemmas.Option.{get_or_from_slice_get, slice_get_within}
 use Rattle.xray_image.specs.Program.{IsAccepted, Program}
 use Rattle.patch_script.specs.declared.command.Command.{Command}
@@ -31,11 +31,11 @@ use Rattle.step_sim.specs.private.Counts.{is_of, segments_held}
 use Rattle.step_sim.specs.Schedules.{AreTurnsOf}
 use Rattle.step_sim.specs.private.Standing.{Rests}
 use Rattle.step_sim.specs.private.Holding.{IsHand, opened, segments_in, unbegun}
-use Rattle.step_sim.specs.private.Recording.{AllRecordAt, Recording, histories, line_in, pooling_in}
+use Rattle.step_sim.specs.private.Recording.{AllRecordAt, Recording, histories, pooling_in}
 use Rattle.step_sim.proofs.EndedRuns.{AllRuns, EndsSo, all_runs, enumerated_buffers, enumerated_map, items_are, marks_in, of_thread_at, runs_map}
 use Rattle.step_sim.proofs.Gathering.{all_gathered, first_are, sealed_are}
 use Rattle.step_sim.proofs.PoolLemmas.{AllSaid, SomeSaid, nonempty_count}
-use Rattle.step_sim.proofs.Recordings.{Ended, first_of, recording}
+use Rattle.step_sim.proofs.Recordings.{Ended, recording}
 use Rattle.step_sim.proofs.LostRuns.{replay_loses}
 use Rattle.step_sim.proofs.StockRuns.{segments_same}
 
