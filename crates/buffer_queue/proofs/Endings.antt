@@ -9,7 +9,8 @@ use Rattle.crossbeam_queue.proofs.Lists.{at_set}
 use Rattle.fdr_buffer.specs.Filled.{Filled, empty_buffer}
 use Rattle.machine_step.specs.declared.setup.Setup.{Setup}
 use Rattle.buffer_queue.specs.declared.view.View.{View}
-use Rattle.buffer_queue.specs.Views.{draining, spent, taking_in}
+use Rattle.buffer_queue.specs.Views.{spent}
+use Rattle.buffer_queue.specs.private.Changes.{draining, taking_in}
 use Rattle.buffer_queue.specs.Left.{IsLeft, IsUsed, row_at}
 use Rattle.buffer_queue.specs.private.Steps.{MayDrain, MayTakeIn}
 use Rattle.buffer_queue.specs.Rule.{Fits, KeepsOpen, KeepsPool, PoolState, one_if, turning}

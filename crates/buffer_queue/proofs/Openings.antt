@@ -7,7 +7,8 @@ use Rattle.crossbeam_queue.specs.Fifo.{Pushes, Forks}
 use Rattle.fdr_buffer.specs.Filled.{Filled, empty_buffer}
 use Rattle.machine_step.specs.declared.setup.Setup.{Setup}
 use Rattle.buffer_queue.specs.declared.view.View.{View}
-use Rattle.buffer_queue.specs.Views.{giving, head_view, new_view, opener, spent, stocking}
+use Rattle.buffer_queue.specs.Views.{opener, spent}
+use Rattle.buffer_queue.specs.private.Changes.{giving, head_view, new_view, stocking}
 use Rattle.buffer_queue.specs.Left.{row_at}
 use Rattle.buffer_queue.specs.private.Steps.{MayGive, MayStock}
 use Rattle.buffer_queue.specs.Rule.{Fits, IsCounted, IsUnopened, KeepsOpen, KeepsPool, PoolState, turning}

@@ -9,7 +9,7 @@ use Rattle.crossbeam_queue.specs.Fifo.{Pushes, Pops, Learns}
 use Rattle.fdr_buffer.specs.Filled.{Filled, empty_buffer}
 use Rattle.machine_step.specs.declared.setup.Setup.{Setup}
 use Rattle.buffer_queue.specs.declared.view.View.{View}
-use Rattle.buffer_queue.specs.Views.{putting, taking}
+use Rattle.buffer_queue.specs.private.Changes.{putting, taking}
 use Rattle.buffer_queue.specs.Left.{IsSuffix, IsUsed, of_thread, row_at}
 use Rattle.buffer_queue.specs.private.Steps.{IsStocked, MayPut}
 use Rattle.buffer_queue.specs.Rule.{Fits, IsCounted, KeepsOpen, KeepsPool, PoolState, one_if}

@@ -1,2 +1,4 @@
 -- What the contracts of private functions cite. No promise of this crate rests on it.
+pub mod Changes
+pub mod Ready
 pub mod Steps

@@ -41,7 +41,8 @@ pub(crate) struct Opens<O: Opening> {
 }
 
 impl<O: Opening> Split<View> for Opens<O> {
-    ghost use Rattle.buffer_queue.specs.Views.{head_view, spent};
+    ghost use Rattle.buffer_queue.specs.Views.{spent};
+    ghost use Rattle.buffer_queue.specs.private.Changes.{head_view};
 
     ghost left = { λ v. spent };
 
@@ -53,7 +54,7 @@ pub(crate) struct Gives;
 
 impl Split<View> for Gives {
     ghost use Rattle.std.specs.Prelude.{◌+◌};
-    ghost use Rattle.buffer_queue.specs.Views.{giving, new_view};
+    ghost use Rattle.buffer_queue.specs.private.Changes.{giving, new_view};
 
     ghost left = { giving };
 
@@ -64,7 +65,7 @@ impl Split<View> for Gives {
 pub(crate) struct Stocks;
 
 impl Outcome<Buffer, View> for Stocks {
-    ghost use Rattle.buffer_queue.specs.Views.{stocking};
+    ghost use Rattle.buffer_queue.specs.private.Changes.{stocking};
 
     ghost then = { λ v buffer w. w ≡ stocking v };
 }
@@ -77,7 +78,7 @@ impl Lesson<Buffer, View> for Stocks {
 pub(crate) struct Puts;
 
 impl Outcome<Buffer, View> for Puts {
-    ghost use Rattle.buffer_queue.specs.Views.{putting};
+    ghost use Rattle.buffer_queue.specs.private.Changes.{putting};
 
     ghost then = { λ v buffer w. w ≡ putting v buffer };
 }
@@ -90,7 +91,7 @@ impl Lesson<Buffer, View> for Puts {
 pub(crate) struct Takes;
 
 impl Outcome<Buffer, View> for Takes {
-    ghost use Rattle.buffer_queue.specs.Views.{taking};
+    ghost use Rattle.buffer_queue.specs.private.Changes.{taking};
 
     ghost then = { λ v buffer w. (w ≡ taking v) × (buffer.size ≡ v.setup.size) };
 }
@@ -103,7 +104,8 @@ impl Lesson<Buffer, View> for Takes {
 pub(crate) struct TakesIn;
 
 impl Join<View> for TakesIn {
-    ghost use Rattle.buffer_queue.specs.Views.{spent, taking_in};
+    ghost use Rattle.buffer_queue.specs.Views.{spent};
+    ghost use Rattle.buffer_queue.specs.private.Changes.{taking_in};
 
     ghost both = { λ v w. taking_in v w.sealed };
 
@@ -114,7 +116,7 @@ impl Join<View> for TakesIn {
 pub(crate) struct Drains;
 
 impl Outcome<Buffer, View> for Drains {
-    ghost use Rattle.buffer_queue.specs.Views.{draining};
+    ghost use Rattle.buffer_queue.specs.private.Changes.{draining};
 
     ghost then = { λ v buffer w. w ≡ draining v buffer };
 }

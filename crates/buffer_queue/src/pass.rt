@@ -17,7 +17,8 @@ pub struct PoolPass {
 
 impl Model for PoolPass {
     ghost use Rattle.std.specs.Prelude.{◌≡◌, length, []};
-    ghost use Rattle.buffer_queue.specs.Passes.{known, pass_is, IsReady, PassIs};
+    ghost use Rattle.buffer_queue.specs.Passes.{PassIs};
+    ghost use Rattle.buffer_queue.specs.private.Ready.{known, pass_is, IsReady};
 
     ghost Value = { PassIs };
 

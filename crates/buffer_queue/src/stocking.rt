@@ -2,9 +2,11 @@
 
 ghost use Rattle.std.specs.Prelude.{◌≡◌, ◌<◌, ◌≤◌, ◌+◌, ◌-◌, IfOk};
 ghost use Rattle.crossbeam_queue.specs.Passes.{view, IsPassOf, IsSamePass, ruled_capacity};
-ghost use Rattle.buffer_queue.specs.Passes.{new_pass, pass_is, pool_is, AreNew};
+ghost use Rattle.buffer_queue.specs.Passes.{new_pass, AreNew};
+ghost use Rattle.buffer_queue.specs.private.Ready.{pass_is, pool_is};
 ghost use Rattle.buffer_queue.specs.private.Steps.{MayGive, MayStock};
-ghost use Rattle.buffer_queue.specs.Views.{giving, head_view, new_view, opener, stocking};
+ghost use Rattle.buffer_queue.specs.Views.{opener};
+ghost use Rattle.buffer_queue.specs.private.Changes.{giving, head_view, new_view, stocking};
 
 use crate::law::{Gives, Opening, Opens, Queue, Stocks};
 use crate::pass::PoolPass;

@@ -14,7 +14,8 @@ use Rattle.fdr_buffer.specs.declared.buffer.Buffer.TheInside.{Inside}
 use Rattle.fdr_buffer.specs.Segments.{bytes_of, is_out_of_reach, records_of, records_behind, segment_bytes, preamble, body, has_room, EventFits}
 use Rattle.fdr_buffer.specs.declared.lead.Lead.{Lead}
 use Rattle.fdr_buffer.specs.private.Leads.{lead_records}
-use Rattle.fdr_buffer.specs.Filled.{Filled, empty_buffer, used_bytes, last_of}
+use Rattle.fdr_buffer.specs.Filled.{Filled, empty_buffer, used_bytes}
+use Rattle.fdr_buffer.specs.private.Last.{last_of}
 use Rattle.fdr_buffer.specs.Fits.{BufferFits, PreambleFits}
 use Rattle.fdr_buffer.specs.private.Telling.{events_in}
 use Rattle.fdr_buffer.specs.private.Buffer.{filled_with, events_told, filled_in, Holds, IsFilled}

@@ -6,7 +6,7 @@ use Rattle.fdr_record.specs.declared.event.Event.{Event}
 use Rattle.fdr_record.specs.declared.rec.Rec.{Rec}
 use Rattle.fdr_record.specs.Records.{record_bytes}
 use Rattle.fdr_buffer.specs.Segments.{bytes_of, records_of, records_behind, segment_bytes}
-use Rattle.fdr_buffer.specs.Filled.{last_behind, last_of}
+use Rattle.fdr_buffer.specs.private.Last.{last_behind, last_of}
 
 -- two records after a prefix
 pub two_records : (front mid all : List ℕ) (a b : Rec) → mid ≡ front ++ record_bytes a → all ≡ mid ++ record_bytes b → all ≡ front ++ bytes_of (a ∷ b ∷ [])

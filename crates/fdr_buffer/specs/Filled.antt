@@ -1,5 +1,5 @@
 -- A buffer, as contracts see it.
-use Rattle.std.specs.Prelude.{ℕ, Bool, false, List, [], ◌∷◌, Option, Some, None, if◌then◌else◌, length, nat_lt}
+use Rattle.std.specs.Prelude.{ℕ, Bool, false, List, [], if◌then◌else◌, length, nat_lt}
 use Rattle.xray_io.specs.declared.faults.Wall.{Wall}
 use Rattle.fdr_record.specs.declared.event.Event.{Event}
 use Rattle.fdr_buffer.specs.Segments.{body}
@@ -26,12 +26,3 @@ used_bytes buffer = if buffer.begun then body buffer.thread buffer.wall buffer.p
 -- whether a buffer holds an event
 abbrev pub has_event : Filled → Bool
 has_event buffer = nat_lt 0 (length buffer.events)
-
--- the last event of a list, or an earlier event if the list is empty
-abbrev pub last_behind : Option Event → List Event → Option Event
-last_behind before [] = before
-last_behind before (event ∷ events) = last_behind (Some event) events
-
--- the last event, if there is one
-abbrev pub last_of : List Event → Option Event
-last_of events = last_behind None events

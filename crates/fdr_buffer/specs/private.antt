@@ -1,4 +1,5 @@
 -- What the contracts of private functions cite. No promise of this crate rests on it.
 pub mod Buffer
+pub mod Last
 pub mod Leads
 pub mod Telling

@@ -16,13 +16,13 @@ pub mod Giving
 pub mod LoadFacts
 pub mod GiveClauses
 pub mod Beginning
-pub mod Faulted
 pub mod Runs
 pub mod SomeEnd
 pub mod Stepping
 pub mod AlongCode
 pub mod Wholeness
 pub mod Endings
+pub mod OneState
 pub mod EachPassing
 pub mod SomeMarks
 pub mod WantedWords

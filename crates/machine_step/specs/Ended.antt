@@ -1,6 +1,7 @@
 -- How a traced thread ends.
 use Rattle.std.specs.Prelude.{◌≡◌, List, length}
 use Rattle.machine_step.specs.declared.end.End.{End}
+use Rattle.machine_step.specs.declared.want.Want.TheVariants.{Done}
 use Rattle.machine_step.specs.Loads.{Load, marks_of}
 use Rattle.machine_step.specs.PlainStep.{Passing, PlainRun, State}
 use Rattle.machine_step.specs.Traced.{Traced, sleds_of}
@@ -11,6 +12,7 @@ use Rattle.machine_step.specs.Whole.{AreWhole}
 -- loads no passing decoded a torn sled.
 pub record EndsAsPlain (t : Traced) (passed : List Passing) (end : End) (last : State) (loads : List Load) : Type 0 where
   pub run : PlainRun t.program t.limits t.thread passed end last
+  pub done : t.want ≡ Done end
   pub registers : t.registers ≡ last.registers
   pub zero_flag : t.zero_flag ≡ last.zero_flag
   pub stack : t.stack ≡ last.stack

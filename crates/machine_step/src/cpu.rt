@@ -102,6 +102,8 @@ impl<'a> Cpu<'a> {
         // its plain run ends.
         ensures stands { StandsAs self.now self.now.want }
         ensures word { IsLoadable self.now self.now.want }
+        // The passing that it wants to be let into comes after those that have marks.
+        ensures gate { (passing : ℕ) → result ≡ Want.Gate passing → passing ≡ length self.now.marks }
     {
         match self.stand {
             Stand::Gate { .. } => Want::Gate(self.machine.passings),

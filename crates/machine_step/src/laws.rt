@@ -1,6 +1,6 @@
 //! Laws of the plain machine and of its loads. Each law is the contract of a function that does
 //! nothing.
-ghost use Rattle.std.specs.Prelude.{◌≡◌, ◌<◌, ℕ, List, Option, Some, All};
+ghost use Rattle.std.specs.Prelude.{◌≡◌, ◌<◌, ℕ, List, Option, Some, All, length};
 ghost use Rattle.xray_image.specs.Program.{Program, IsAccepted};
 ghost use Rattle.sled_words.specs.Allowed.{IsAllowed};
 ghost use Rattle.sled_words.specs.ChangingCode.{KeepsSleds, LetsEnd};
@@ -8,11 +8,11 @@ ghost use Rattle.handler_word.specs.declared.mark.Mark.{Mark};
 ghost use Rattle.machine_step.specs.declared.limits.Limits.{Limits};
 ghost use Rattle.machine_step.specs.declared.end.End.{End};
 ghost use Rattle.machine_step.specs.PlainStep.{State, Passing, PlainRun};
+ghost use Rattle.machine_step.specs.Course.{ComesTo};
 ghost use Rattle.machine_step.specs.Follows.{Follows, MarksFollow};
 ghost use Rattle.machine_step.specs.Loads.{AreWanted, Load, next_load};
 ghost use Rattle.machine_step.specs.Ended.{EndsAsPlain};
-ghost use Rattle.machine_step.specs.Traced.{HasLoaded, StandsAs, Traced, sleds_of};
-ghost use Rattle.machine_step.specs.declared.want.Want.TheVariants.{Done};
+ghost use Rattle.machine_step.specs.Traced.{HasLoaded, IsDone, StandsAs, Traced, sleds_of};
 ghost use Rattle.machine_step.specs.Whole.{AreWhole};
 
 /// A thread of an accepted image reaches only one end. All its plain runs have the same passings,
@@ -34,6 +34,18 @@ pub fn some_end()
         → IsAccepted bytes program
         → (passed : List Passing) × (end : End) × (last : State)
         × PlainRun program limits thread passed end last }
+{}
+
+/// Before a passing of a given number a thread of an accepted image is in only one state. All ways
+/// to it have the same passings, and come to the same passing.
+pub fn one_state_before_a_passing()
+    ensures { (bytes : List ℕ) (program : Program) (limits : Limits) (thread : ℕ)
+        (passed passed' : List Passing) (state state' : State) (next next' : Passing)
+        → IsAccepted bytes program
+        → ComesTo program limits thread passed state next
+        → ComesTo program limits thread passed' state' next'
+        → length passed ≡ length passed'
+        → (passed ≡ passed') × (state ≡ state') × (next ≡ next') }
 {}
 
 /// Let code change in a way that keeps sleds whole. However the loads of a thread fall between the
@@ -79,12 +91,13 @@ pub fn some_marks_follow()
         → (marks : List Mark) × MarksFollow program code start bound thread hold (sleds_of passed) marks total }
 {}
 
-/// A traced thread ends as its plain run does, whatever allowed values its loads gave. A caller
-/// with an order of loads of its own needs no other law on a `Cpu`. What the thread was given, and
-/// where it stands, are clauses of `Cpu::new`, `opened`, `give` and `want`. That it comes to an end
-/// is the clause `nearer` of `opened` and `give`.
+/// A traced thread ends as its plain run does, whatever allowed values its loads gave. Any plain
+/// run of the thread will do, since it has only one. A caller with an order of loads of its own
+/// needs no other law on a `Cpu`. What the thread was given, and where it stands, are clauses of
+/// `Cpu::new`, `opened`, `give` and `want`. That it comes to an end is the clause `nearer` of
+/// `opened` and `give`.
 pub fn a_traced_thread_ends_as_its_plain_run()
-    ensures { (bytes : List ℕ) (t : Traced) (passed : List Passing) (loads : List Load) (end : End)
-        → IsAccepted bytes t.program → HasLoaded t passed loads → t.want ≡ Done end → StandsAs t t.want
-        → (last : State) × EndsAsPlain t passed end last loads }
+    ensures { (bytes : List ℕ) (t : Traced) (own passed : List Passing) (loads : List Load) (end : End) (last : State)
+        → IsAccepted bytes t.program → HasLoaded t own loads → IsDone t.want → StandsAs t t.want
+        → PlainRun t.program t.limits t.thread passed end last → EndsAsPlain t passed end last loads }
 {}

@@ -1,7 +1,7 @@
 //! The tree of paths.
 
 ghost use Rattle.std.specs.Prelude.{◌≡◌, ◌<◌, length, map, OnOk, slice_index_or, slice_set};
-ghost use Rattle.stack_rebuild.specs.private.PathTree.{step_of, tally_in};
+ghost use Rattle.stack_rebuild.specs.private.PathTree.{child_in, depth_in, sibling_in, step_of, tally_in};
 ghost use Rattle.stack_rebuild.specs.private.Scanning.{no_tally, with_pair};
 
 use crate::tally::Tally;
@@ -78,7 +78,9 @@ impl Node {
 }
 
 /// The number of the first path that went on from this one, or 0.
-pub(crate) fn child_of(nodes: &[Node], number: usize) -> usize {
+pub(crate) fn child_of(nodes: &[Node], number: usize) -> usize
+    ensures { result ≡ slice_index_or (map child_in nodes.now) number 0 }
+{
     match nodes.get(number) {
         Some(node) => node.child,
         None => 0,
@@ -86,7 +88,9 @@ pub(crate) fn child_of(nodes: &[Node], number: usize) -> usize {
 }
 
 /// The number of the next path with the same parent, or 0.
-pub(crate) fn sibling_of(nodes: &[Node], number: usize) -> usize {
+pub(crate) fn sibling_of(nodes: &[Node], number: usize) -> usize
+    ensures { result ≡ slice_index_or (map sibling_in nodes.now) number 0 }
+{
     match nodes.get(number) {
         Some(node) => node.sibling,
         None => 0,
@@ -94,7 +98,9 @@ pub(crate) fn sibling_of(nodes: &[Node], number: usize) -> usize {
 }
 
 /// How many functions the path has.
-pub(crate) fn depth_of(nodes: &[Node], number: usize) -> u32 {
+pub(crate) fn depth_of(nodes: &[Node], number: usize) -> u32
+    ensures { result ≡ slice_index_or (map depth_in nodes.now) number 0 }
+{
     match nodes.get(number) {
         Some(node) => node.depth,
         None => 0,

@@ -12,8 +12,9 @@ use Rattle.step_sim.specs.declared.pool.Pool.{Pool}
 use Rattle.step_sim.specs.declared.turns.Turns.{Turns}
 use Rattle.step_sim.specs.declared.turns.Turns.TheVariants as turns_of
 use Rattle.step_sim.specs.Plays.{turns}
-use Rattle.step_sim.specs.Replay.{Cast, Moment, line_turns, of_thread, thread_turn}
-use Rattle.step_sim.specs.Pool.{AllPooledRunOut, Pooled, PooledRunsOut, Stock, pooled_rules, pooled_step}
+use Rattle.step_sim.specs.Replay.{Cast, Moment, of_thread, thread_turn}
+use Rattle.step_sim.specs.private.Turns.{line_turns, AllPooledRunOut, PooledRunsOut}
+use Rattle.step_sim.specs.Pool.{Pooled, Stock, pooled_rules, pooled_step}
 use Rattle.step_sim.specs.private.Standing.{AllStandAt, StandAt}
 use Rattle.step_sim.specs.private.Holding.{PoolHolds}
 use Rattle.step_sim.specs.private.Recording.{AllRecord, AllRecordAt, PoolAt, RecordAt, Recording, Records, histories, line_in, pooling_in, turn_in}

@@ -15,7 +15,8 @@ use Rattle.step_sim.specs.declared.turns.Turns.{Turns}
 use Rattle.step_sim.specs.declared.turns.Turns.TheVariants as turns_of
 use Rattle.step_sim.specs.Along.{IsAlong}
 use Rattle.step_sim.specs.Plays.{turns}
-use Rattle.step_sim.specs.Replay.{AllRunOut, Cast, Moment, RunsOut, line_turns, moment_rules, of_thread, patcher_turn, thread_turn}
+use Rattle.step_sim.specs.Replay.{Cast, Moment, moment_rules, of_thread, patcher_turn, thread_turn}
+use Rattle.step_sim.specs.private.Turns.{AllRunOut, RunsOut, line_turns}
 use Rattle.step_sim.specs.private.Standing.{AllPlay, AllStandAt, IsPatcherAt, IsThreadAt, Play, Rests, StandAt}
 use Rattle.step_sim.proofs.Plays.{one_more_out}
 use Rattle.step_sim.proofs.ReplayAlong.{patcher_keeps, turns_keep}

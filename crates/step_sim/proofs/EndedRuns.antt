@@ -6,9 +6,11 @@ use Rattle.xray_image.specs.Program.{IsAccepted}
 use Rattle.patch_script.specs.Micros.{hold_of}
 use Rattle.handler_word.specs.declared.mark.Mark.{Mark}
 use Rattle.fdr_buffer.specs.Filled.{Filled}
-use Rattle.machine_step.specs.Loads.{marks_of}
-use Rattle.machine_step.specs.PlainStep.{Passing, PlainRun}
-use Rattle.machine_step.specs.Traced.{Traced, sleds_of, state_at}
+use Rattle.machine_step.specs.declared.end.End.{End}
+use Rattle.machine_step.specs.Ended.{EndsAsPlain}
+use Rattle.machine_step.specs.Loads.{Load, marks_of}
+use Rattle.machine_step.specs.PlainStep.{Passing, PlainRun, State}
+use Rattle.machine_step.specs.Traced.{HasLoaded, IsDone, StandsAs, Traced, sleds_of}
 use Rattle.traced_run.specs.Left.{HasRun}
 use Rattle.traced_run.specs.Runs.{ThreadRun}
 use Rattle.step_sim.specs.declared.patcher.Patcher.{Patcher}
@@ -18,7 +20,13 @@ use Rattle.step_sim.specs.Recorded.{numbers_from}
 use Rattle.step_sim.specs.private.Recording.{AllRecordAt, Recording}
 use Rattle.step_sim.specs.Replay.{of_thread}
 use Rattle.step_sim.specs.private.Standing.{Rests}
-use Rattle.step_sim.proofs.Bounds.{OneEnd, marks_alike, run_alike}
+use Rattle.step_sim.proofs.Bounds.{marks_alike, run_alike}
+
+-- the law that a traced thread ends as its plain run does
+abbrev pub EndsSo : Type 0
+EndsSo = (bytes : List ℕ) (t : Traced) (own passed : List Passing) (loads : List Load) (end : End) (last : State)
+    → IsAccepted bytes t.program → HasLoaded t own loads → IsDone t.want → StandsAs t t.want
+    → PlainRun t.program t.limits t.thread passed end last → EndsAsPlain t passed end last loads
 
 -- ---- one thread
 
@@ -38,49 +46,43 @@ pub record IsRunOf (r : Recording) (last : Pooled) (ts : List Traced) (thread : 
 some_traced : (t u : Traced) → ◌≡◌ {A = Option Traced} (Some t) (Some u) → t ≡ u
 some_traced t u e = cc
 
-run_of : (r : Recording) (last : Pooled) (p : Patcher) (ts : List Traced) (pool : Pool) (i : ℕ) (t : Traced) → OneEnd
+run_of : (r : Recording) (last : Pooled) (p : Patcher) (ts : List Traced) (pool : Pool) (i : ℕ) (t : Traced) → EndsSo
     → (bytes : List ℕ) × IsAccepted bytes r.cast.program → AllRecordAt r last p ts pool → i < r.threads → slice_get ts i ≡ Some t → Rests t
     → (run : ThreadRun) × IsRunOf r last ts (i + 1) run
-run_of r last p ts pool i t one (bytes, accepted) at within found rests =
+run_of r last p ts pool i t so (bytes, accepted) at within found rests =
     let number : ℕ = i + 1 in
     let is = at.stands.thread i t found in
     let its = at.stands.each i t found in
-    let ends = rests.ends in
-    let own : PlainRun r.cast.program r.limits number ends.passed rests.end (state_at ends.address t) =
-    run_alike t.program r.cast.program t.limits r.limits t.thread number ends.passed rests.end (state_at ends.address t)
-    is.program_is is.limits_are is.thread_is ends.run in
-    let traced = at.traced.run number (omega arith) (omega (arith, within)) in
-    let same = one bytes r.cast.program r.limits number (of_thread r.passed number) ends.passed traced.0 rests.end traced.1 (state_at ends.address t)
-    accepted traced.2 own in
+    let some : 0 < number = omega arith in
+    let among : number ≤ r.threads = omega (arith, within) in
+    let passed : List Passing = of_thread r.passed number in
+    let plain = at.traced.run number some among in
+    let own : PlainRun t.program t.limits t.thread passed plain.0 plain.1 =
+    run_alike r.cast.program t.program r.limits t.limits number t.thread passed plain.0 plain.1
+    (sym is.program_is) (sym is.limits_are) (sym is.thread_is) plain.2 in
+    let loads : List Load = of_thread last.moment.loads t.thread in
+    let ends : EndsAsPlain t passed plain.0 plain.1 loads =
+    so bytes t its.passed passed loads plain.0 plain.1 (subst (IsAccepted bytes) (sym is.program_is) accepted) its.loaded
+    (subst IsDone (sym rests.wants) tt) rests.stands own in
     let run : ThreadRun = record {
-      passed = of_thread r.passed number;
-      end = rests.end;
-      last = state_at ends.address t;
+      passed = passed;
+      end = plain.0;
+      last = plain.1;
       marks = t.marks;
       lost = segments_among number last.stock.taken;
     } in
-    let loads : of_thread last.moment.loads t.thread ≡ of_thread last.moment.loads number = ap (of_thread last.moment.loads) is.thread_is in
-    let sleds : sleds_of its.passed ≡ of_thread r.cast.passings number = sym its.sleds ∙ ap (of_thread r.cast.passings) is.thread_is in
     let back : i + 1 - 1 ≡ i = omega arith in
-    let has_own : HasRun number run t = record {
-      thread = is.thread_is;
-      done = rests.wants;
-      registers = refl;
-      zero_flag = refl;
-      output = refl;
-      instructions = refl;
-      passings = refl;
-      marks = refl;
-    } in (
+    let has_own : HasRun number run t = record { thread = is.thread_is; loads = loads; ends = ends; marks = refl } in (
       run,
       record {
         passed = refl;
-        marks = its.loaded.marks
-            ∙ marks_alike t.program r.cast.program t.thread number t.hold (hold_of number r.cast.script) (sleds_of its.passed)
-            (of_thread r.cast.passings number) (of_thread last.moment.loads t.thread) (of_thread last.moment.loads number)
-            is.program_is is.thread_is (its.free ∙ sym (at.stands.no_hold number)) sleds loads;
+        marks = ends.marks
+            ∙ marks_alike t.program r.cast.program t.thread number t.hold (hold_of number r.cast.script) (sleds_of passed)
+            (of_thread r.cast.passings number) loads (of_thread last.moment.loads number)
+            is.program_is is.thread_is (its.free ∙ sym (at.stands.no_hold number)) (sym (at.traced.sleds number some among))
+            (ap (of_thread last.moment.loads) is.thread_is);
         lost = refl;
-        plain = subst (λ (passed : List Passing). PlainRun r.cast.program r.limits number passed rests.end (state_at ends.address t)) (sym same.0) own;
+        plain = plain.2;
         has = λ u there.
             let here : slice_get ts i ≡ Some u = ap (slice_get ts) (sym back) ∙ there in
             subst (HasRun number run) (some_traced t u (sym found ∙ here)) has_own;
@@ -129,15 +131,15 @@ there_is [] i within = absurd (omega (arith, within))
 there_is (t ∷ ts) zero within = (t, refl)
 there_is (t ∷ ts) (suc i) within = there_is ts i (omega (arith, within))
 
-pub all_runs : (r : Recording) (last : Pooled) (p : Patcher) (ts : List Traced) (pool : Pool) → OneEnd
+pub all_runs : (r : Recording) (last : Pooled) (p : Patcher) (ts : List Traced) (pool : Pool) → EndsSo
     → (bytes : List ℕ) × IsAccepted bytes r.cast.program → AllRecordAt r last p ts pool
     → ((i : ℕ) (t : Traced) → slice_get ts i ≡ Some t → Rests t) → AllRuns r last ts 1 r.threads
-all_runs r last p ts pool one accepted at rests =
+all_runs r last p ts pool so accepted at rests =
     gather r last ts 1 r.threads (λ thread low high.
     let found = there_is ts (thread - 1) (omega (arith, low, high, at.stands.count)) in
     let back : thread - 1 + 1 ≡ thread = omega (arith, low) in
     subst (λ (k : ℕ). (run : ThreadRun) × IsRunOf r last ts k run) back
-    (run_of r last p ts pool (thread - 1) found.0 one accepted at (omega (arith, low, high)) found.1 (rests (thread - 1) found.0 found.1)))
+    (run_of r last p ts pool (thread - 1) found.0 so accepted at (omega (arith, low, high)) found.1 (rests (thread - 1) found.0 found.1)))
 
 -- ---- lists by the numbers of threads
 

@@ -14,7 +14,8 @@ use Rattle.fdr_buffer.specs.Filled.{Filled, empty_buffer}
 use Rattle.step_sim.specs.declared.pool.Pool.{Pool}
 use Rattle.step_sim.specs.Pool.{Fresh, Item, Segment, Stock, segments_among, serials_of}
 use Rattle.traced_run.specs.Kept.{Stamp, buffer_of, buffers_behind}
-use Rattle.step_sim.specs.Recorded.{is_of, numbers_from}
+use Rattle.step_sim.specs.Recorded.{numbers_from}
+use Rattle.step_sim.specs.private.Counts.{is_of}
 use Rattle.step_sim.specs.private.Holding.{Histories, IsHand, PoolHolds, below, held, opened, segments_in, unbegun}
 use Rattle.step_sim.proofs.PoolLemmas.{eqb_is, eqb_not, hand_held, hand_of_thread, length-below, serials_of-append}
 

@@ -1,7 +1,6 @@
 -- One more load of a thread: at most one more mark, event and segment.
-use Rattle.std.proofs.Common.{◌≡◌, ◌⊎◌, ℕ, zero, suc, ◌+◌, ◌-◌, ◌<◌, ◌≤◌, List, [], ◌∷◌, ◌++◌, Bool, true, false, Option, Some, None, inl, inr, refl, sym, ap, ◌∙◌, arith, length, map, subst}
-use Rattle.std.specs.Prelude.{◌==◌, filter, if◌then◌else◌}
-use Rattle.std.specs.List.{zip}
+use Rattle.std.proofs.Common.{◌≡◌, ◌⊎◌, ℕ, suc, ◌+◌, ◌-◌, ◌≤◌, List, [], ◌∷◌, ◌++◌, Bool, true, false, Option, Some, None, inl, inr, refl, sym, ap, ◌∙◌, arith, length, subst}
+use Rattle.std.specs.Prelude.{◌==◌, if◌then◌else◌}
 use Rattle.std.proofs.lemmas.Bool.{cases_lt}
 use Rattle.std.proofs.lemmas.List.{append-nil, set_past}
 use Rattle.xray_image.specs.Program.{Program}
@@ -19,7 +18,7 @@ use Rattle.machine_step.specs.Events.{event_of, recorded}
 use Rattle.machine_step.specs.Loads.{Load, Marked, Reading, Wants, from_handler, from_head, from_id, from_offset, from_opcode, from_release, from_start, from_state, is_held_at, marks_from}
 use Rattle.machine_step.specs.PlainStep.{Passing}
 use Rattle.traced_run.proofs.RecordedEvents.{recorded_short}
-use Rattle.step_sim.specs.Recorded.{events_at, segments_at}
+use Rattle.step_sim.specs.Recorded.{segments_at}
 use Rattle.step_sim.specs.Replay.{Cast, Moment, of_thread, thread_turn, wanted_by}
 use Rattle.step_sim.proofs.ReplayAlong.{turn_with, turn_without}
 use Rattle.step_sim.proofs.TurnLemmas.{turn_own}

@@ -22,7 +22,8 @@ use Rattle.step_sim.proofs.OneThread.{KeepsLoads, ended_turn, none_wanted, rest_
 use Rattle.step_sim.proofs.PooledReplay.{ended_still}
 use Rattle.step_sim.proofs.ReplayAlong.{turn_without}
 use Rattle.step_sim.proofs.TurnLemmas.{turn_other}
-use Rattle.step_sim.specs.Pool.{Pooled, PooledRunsOut, Stock, stock_behind}
+use Rattle.step_sim.specs.Pool.{Pooled, Stock, stock_behind}
+use Rattle.step_sim.specs.private.Turns.{PooledRunsOut}
 use Rattle.traced_run.specs.Kept.{Stamp}
 use Rattle.step_sim.specs.Recorded.{events_at, segments_at}
 use Rattle.step_sim.specs.private.Holding.{CanNote, Histories, IsHand, NotesEvent, PoolHolds, below, segments_in}

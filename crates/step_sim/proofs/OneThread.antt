@@ -14,7 +14,8 @@ use Rattle.machine_step.proofs.WantedWords.{wanted_within}
 use Rattle.step_sim.specs.declared.patcher.Patcher.{Patcher}
 use Rattle.step_sim.specs.Along.{IsAlong}
 use Rattle.step_sim.specs.Plays.{turns}
-use Rattle.step_sim.specs.Replay.{Cast, Moment, RunsOut, of_thread, thread_turn, wanted_by}
+use Rattle.step_sim.specs.Replay.{Cast, Moment, of_thread, thread_turn, wanted_by}
+use Rattle.step_sim.specs.private.Turns.{RunsOut}
 use Rattle.step_sim.specs.private.Standing.{IsPatcherAt, IsThreadAt, Play, Rests, StandAt}
 use Rattle.step_sim.proofs.ReplayAlong.{thread_keeps, thread_stays, turn_without}
 use Rattle.step_sim.proofs.TurnLemmas.{turn_length, turn_own, turns_more, turns_up_to}

@@ -1,6 +1,6 @@
 -- Plays of any state: a schedule brings it to at most one end; it brings it to an end if each thread ends; and a play of
 -- one state is a play of what another state shows of it.
-use Rattle.std.proofs.Common.{◌≡◌, ℕ, zero, suc, ◌+◌, ◌<◌, ◌≤◌, List, [], ◌∷◌, None, refl, sym, ap, ◌∙◌, subst, arith, fold}
+use Rattle.std.proofs.Common.{◌≡◌, ℕ, zero, suc, ◌+◌, ◌<◌, ◌≤◌, List, [], ◌∷◌, None, refl, sym, ap, ◌∙◌, subst, arith}
 use Rattle.step_sim.specs.declared.turns.Turns.{Turns}
 use Rattle.step_sim.specs.declared.turns.Turns.TheVariants.{Thread, Patcher}
 use Rattle.step_sim.specs.Plays.{Plays, Rules, ThreadRunsOut, ThreadsRunOut, line_played, lines_played, turns}

@@ -15,7 +15,7 @@ use Rattle.fdr_buffer.specs.Segments.{has_room, segments}
 use Rattle.step_sim.specs.declared.pool.Pool.{Pool}
 use Rattle.step_sim.specs.Pool.{Fresh, Item, Segment, Stock, first_stock, queued, segments_among, serials_of, stock_behind}
 use Rattle.traced_run.specs.Kept.{Stamp, buffer_of}
-use Rattle.step_sim.specs.Recorded.{CanLose, lost_behind}
+use Rattle.step_sim.specs.private.Counts.{CanLose, lost_behind}
 use Rattle.step_sim.specs.private.Holding.{CanNote, Histories, IsClosed, IsFull, IsHand, NotesEvent, PoolHolds, below, held, opened, segments_in, unbegun}
 use Rattle.step_sim.proofs.AllThreads.{set_cases}
 

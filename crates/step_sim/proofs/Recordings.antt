@@ -21,7 +21,8 @@ use Rattle.step_sim.specs.declared.turns.Turns.TheVariants.{Thread, Patcher as P
 use Rattle.step_sim.specs.Plays.{turns}
 use Rattle.step_sim.specs.Replay.{Cast, first_moment, of_thread, thread_turn}
 use Rattle.step_sim.specs.Replayed.{cast_of}
-use Rattle.step_sim.specs.Pool.{AllPooledRunOut, Fresh, Item, Pooled, Pooling, Segment, Stock, first_pooled, first_stock, pooled_line, pooled_step, pooled_turn, queued, stock_behind}
+use Rattle.step_sim.specs.Pool.{Fresh, Item, Pooled, Pooling, Segment, Stock, first_pooled, first_stock, pooled_step, pooled_turn, queued, stock_behind}
+use Rattle.step_sim.specs.private.Turns.{AllPooledRunOut, pooled_line}
 use Rattle.traced_run.specs.Kept.{stamp_of}
 use Rattle.step_sim.specs.private.Standing.{AllHaveBegun, IsPatcherAt}
 use Rattle.step_sim.specs.private.Holding.{PoolHolds}

@@ -16,7 +16,8 @@ use Rattle.machine_step.specs.Follows.{Follows, none, later, loaded}
 use Rattle.step_sim.specs.declared.turns.Turns.{Turns}
 use Rattle.step_sim.specs.declared.turns.Turns.TheVariants.{Thread, Patcher}
 use Rattle.step_sim.specs.Plays.{turns}
-use Rattle.step_sim.specs.Replay.{AllRunOut, Cast, Moment, first_moment, line_turns, of_thread, patcher_turn, scheduled, thread_turn, wanted_by}
+use Rattle.step_sim.specs.Replay.{Cast, Moment, first_moment, of_thread, patcher_turn, thread_turn, wanted_by}
+use Rattle.step_sim.specs.private.Turns.{AllRunOut, line_turns, scheduled}
 use Rattle.step_sim.specs.Along.{AllFollow, IsAlong, NamesThread}
 
 -- ---- lists of one item per thread

@@ -12,7 +12,8 @@ use Rattle.patch_script.specs.Micros.{micros, start_of}
 use Rattle.handler_word.specs.declared.mark.Mark.TheVariants.{Skipped, NoHandler}
 use Rattle.step_sim.specs.declared.turns.Turns.TheVariants.{Thread, Patcher}
 use Rattle.step_sim.specs.Plays.{turns}
-use Rattle.step_sim.specs.Replay.{Cast, scheduled, thread_turn, marks_at}
+use Rattle.step_sim.specs.Replay.{Cast, thread_turn, marks_at}
+use Rattle.step_sim.specs.private.Turns.{scheduled}
 
 -- a function that moves 65 to eax and prints it
 example : Program

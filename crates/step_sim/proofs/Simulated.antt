@@ -1,9 +1,9 @@
 -- What a replay leaves when all threads have ended.
-use Rattle.std.proofs.Common.{◌≡◌, ℕ, zero, suc, ◌+◌, ◌-◌, ◌<◌, ◌^◌, List, [], ◌∷◌, ◌++◌, Option, Some, refl, sym, subst, ap, ◌∙◌, arith, length, length-append, map, fold, get_or}
+use Rattle.std.proofs.Common.{◌≡◌, ℕ, zero, suc, ◌+◌, ◌-◌, ◌<◌, ◌^◌, List, [], ◌∷◌, ◌++◌, Option, Some, refl, sym, subst, ap, ◌∙◌, arith, length, length-append, map, get_or}
 use Rattle.std.specs.Prelude.{filter, slice_get}
 use Rattle.std.specs.List.{All, flat_map}
 use Rattle.std.proofs.lemmas.List.{length-map}
-use Rattle.std.proofs.lemmas.List.Elements.{All-from_get_or, recursion_from_All}
+use Rattle.std.proofs.lemmas.List.Elements.{All-from_get_or}
 use Rattle.std.proofs.lemmas.Option.{get_or_from_slice_get, slice_get_within}
 use Rattle.xray_image.specs.Program.{IsAccepted, Program}
 use Rattle.patch_script.specs.declared.command.Command.{Command}
@@ -24,17 +24,18 @@ use Rattle.step_sim.specs.declared.turns.Turns.{Turns}
 use Rattle.step_sim.specs.Replay.{marks_at, of_thread}
 use Rattle.step_sim.specs.Replayed.{IsReplayOf, IsSimulated, cast_of, cast_with, passed_of}
 use Rattle.machine_step.specs.Buffers.{spare_of}
-use Rattle.step_sim.specs.Pool.{AllPooledRunOut, Pooled, PooledReplay, pooled_lines, segments_among}
-use Rattle.step_sim.specs.Recorded.{is_of, numbers_from, pooling_of, segments_held}
+use Rattle.step_sim.specs.Pool.{Pooled, PooledReplay, segments_among}
+use Rattle.step_sim.specs.private.Turns.{AllPooledRunOut, pooled_lines}
+use Rattle.step_sim.specs.Recorded.{numbers_from, pooling_of}
+use Rattle.step_sim.specs.private.Counts.{is_of, segments_held}
 use Rattle.step_sim.specs.Schedules.{AreTurnsOf}
 use Rattle.step_sim.specs.private.Standing.{Rests}
 use Rattle.step_sim.specs.private.Holding.{IsHand, opened, segments_in, unbegun}
-use Rattle.step_sim.specs.private.Recording.{AllRecordAt, Recording, histories, line_in, pooling_in}
-use Rattle.step_sim.proofs.Bounds.{OneEnd}
-use Rattle.step_sim.proofs.EndedRuns.{AllRuns, all_runs, enumerated_buffers, enumerated_map, items_are, marks_in, of_thread_at, runs_map}
+use Rattle.step_sim.specs.private.Recording.{AllRecordAt, Recording, histories, pooling_in}
+use Rattle.step_sim.proofs.EndedRuns.{AllRuns, EndsSo, all_runs, enumerated_buffers, enumerated_map, items_are, marks_in, of_thread_at, runs_map}
 use Rattle.step_sim.proofs.Gathering.{all_gathered, first_are, sealed_are}
 use Rattle.step_sim.proofs.PoolLemmas.{AllSaid, SomeSaid, nonempty_count}
-use Rattle.step_sim.proofs.Recordings.{Ended, first_of, recording}
+use Rattle.step_sim.proofs.Recordings.{Ended, recording}
 use Rattle.step_sim.proofs.LostRuns.{replay_loses}
 use Rattle.step_sim.proofs.StockRuns.{segments_same}
 
@@ -58,14 +59,14 @@ there_is (x ∷ xs) (suc i) within = there_is xs i (omega (arith, within))
 -- ---- the buffers that were put into the queue
 
 -- segments have events, by a law; so the numbers of buffers that were put into the queue can be counted on
-pub sealed_fit : AllSaid → SomeSaid → (r : Recording) (last : Pooled) (p : Patcher) (ts : List Traced) (pool : Pool) → OneEnd
+pub sealed_fit : AllSaid → SomeSaid → (r : Recording) (last : Pooled) (p : Patcher) (ts : List Traced) (pool : Pool) → EndsSo
     → (bytes : List ℕ) × IsAccepted bytes r.cast.program → AllRecordAt r last p ts pool → All Rests ts → All (λ n. n + 1 < 2 ^ 32) pool.sealed.items
-sealed_fit hold some r last p ts pool one accepted at rest =
+sealed_fit hold some r last p ts pool so accepted at rest =
     All-from_get_or (λ n. n + 1 < 2 ^ 32) pool.sealed.items 0 (λ j within.
     let put = there_is pool.sealed.items j within in
     let is : get_or pool.sealed.items j 0 ≡ put.0 = get_or_from_slice_get pool.sealed.items j put.0 0 put.1 in
     let t = there_is ts j (omega (arith, within, at.holds.sealed_count, at.stands.count)) in
-    let all = all_runs r last p ts pool one accepted at (λ i u found. subst Rests (get_or_from_slice_get ts i u u found) (rest i u (slice_get_within ts i u found))) in
+    let all = all_runs r last p ts pool so accepted at (λ i u found. subst Rests (get_or_from_slice_get ts i u u found) (rest i u (slice_get_within ts i u found))) in
     let run = there_is all.runs j (omega (arith, within, at.holds.sealed_count, all.count)) in
     let its = all.each j run.0 run.1 in
     let back : 1 + j - 1 ≡ j = omega arith in
@@ -99,12 +100,12 @@ pub record Collected (pool : Pool) (threads : ℕ) (sealed segments first : List
   pub buffers_are : buffers ≡ flat_map (λ t. filter (is_of t) pool.queue ++ filter (is_of t) pool.hands.items) (numbers_from 1 threads)
 
 pub is_simulated : (program : Program) (script : List Command) (schedule lines : List Turns) (setup : Setup) (passed : List (List Passing))
-    (count : ℕ) (p : Patcher) (ts : List Traced) (pool : Pool) (sealed segments first : List ℕ) (buffers : List Filled) → OneEnd
+    (count : ℕ) (p : Patcher) (ts : List Traced) (pool : Pool) (sealed segments first : List ℕ) (buffers : List Filled) → EndsSo
     → (bytes : List ℕ) × IsAccepted bytes program → length passed ≡ setup.threads → Ended (recording program script setup passed) lines count p ts pool
     → count ≡ setup.threads → lines ≡ schedule → All (AreTurnsOf setup.threads) schedule → All Rests ts
     → Collected pool setup.threads sealed segments first buffers
     → IsSimulated program script schedule setup ts sealed segments first buffers
-is_simulated program script schedule lines setup passed count p ts pool sealed segments first buffers one accepted passed_count end counted said turns rest left = record {
+is_simulated program script schedule lines setup passed count p ts pool sealed segments first buffers so accepted passed_count end counted said turns rest left = record {
   runs = runs;
   replay = replay_is;
   leaves = record {
@@ -139,7 +140,7 @@ is_simulated program script schedule lines setup passed count p ts pool sealed s
     each_rests i t found = subst Rests (get_or_from_slice_get ts i t t found) (rest i t (slice_get_within ts i t found))
 
     all : AllRuns r last ts 1 r.threads
-    all = all_runs r last p ts pool one accepted end.at each_rests
+    all = all_runs r last p ts pool so accepted end.at each_rests
 
     runs : List ThreadRun
     runs = all.runs

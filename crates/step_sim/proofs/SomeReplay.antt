@@ -15,7 +15,8 @@ use Rattle.machine_step.specs.Loads.{Load, Reading, Wants, Marked, from_state, f
 use Rattle.step_sim.specs.declared.turns.Turns.{Turns}
 use Rattle.step_sim.specs.declared.turns.Turns.TheVariants.{Thread, Patcher}
 use Rattle.step_sim.specs.Plays.{turns}
-use Rattle.step_sim.specs.Replay.{Cast, Moment, Replay, first_moment, line_turns, marks_at, moment_rules, of_thread, patcher_turn, scheduled, thread_turn, wanted_by}
+use Rattle.step_sim.specs.Replay.{Cast, Moment, Replay, first_moment, marks_at, moment_rules, of_thread, patcher_turn, thread_turn, wanted_by}
+use Rattle.step_sim.specs.private.Turns.{line_turns, scheduled}
 use Rattle.step_sim.proofs.Bounds.{no_holds}
 use Rattle.step_sim.proofs.Plays.{Ends, all_run_out}
 use Rattle.step_sim.proofs.TurnLemmas.{turn_length, turn_own, turns_hold, turns_length}

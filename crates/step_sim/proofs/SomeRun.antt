@@ -12,7 +12,7 @@ use Rattle.machine_step.specs.declared.limits.Limits.{Limits}
 use Rattle.machine_step.specs.declared.setup.Setup.{Setup}
 use Rattle.machine_step.specs.PlainStep.{Passing, PlainRun, State}
 use Rattle.machine_step.specs.Traced.{sleds_of}
-use Rattle.traced_run.specs.Runs.{IsRun, ThreadRun}
+use Rattle.traced_run.specs.Runs.{ThreadRun}
 use Rattle.step_sim.specs.declared.turns.Turns.{Turns}
 use Rattle.step_sim.specs.Pool.{Pooled, PooledReplay, Pooling, segments_among}
 use Rattle.step_sim.specs.Recorded.{numbers_from, pooling_of}

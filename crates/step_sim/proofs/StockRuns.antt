@@ -16,7 +16,8 @@ use Rattle.traced_run.specs.Losses.{AreLost, recycled_of}
 use Rattle.traced_run.specs.Runs.{ThreadRun}
 use Rattle.step_sim.specs.declared.turns.Turns.{Turns}
 use Rattle.step_sim.specs.declared.turns.Turns.TheVariants.{Thread, Patcher}
-use Rattle.step_sim.specs.Pool.{AllPooledRunOut, Fresh, Item, Pooled, Pooling, Segment, Stock, first_stock, pooled_line, pooled_step, pooled_turn, queued, segments_among, serials_of, stock_behind}
+use Rattle.step_sim.specs.Pool.{Fresh, Item, Pooled, Pooling, Segment, Stock, first_stock, pooled_step, pooled_turn, queued, segments_among, serials_of, stock_behind}
+use Rattle.step_sim.specs.private.Turns.{AllPooledRunOut, pooled_line}
 use Rattle.step_sim.specs.private.Holding.{below, segments_in}
 use Rattle.step_sim.specs.private.Recording.{Recording, histories}
 use Rattle.step_sim.specs.Plays.{turns}

@@ -18,8 +18,9 @@ use Rattle.traced_run.specs.Decoded.{DecodesWhole}
 use Rattle.traced_run.specs.Runs.{ThreadRun}
 use Rattle.step_sim.specs.declared.turns.Turns.{Turns}
 use Rattle.step_sim.specs.Along.{IsAlong, NamesThread, TearsNoSled}
-use Rattle.step_sim.specs.Plays.{Plays, turns}
-use Rattle.step_sim.specs.Replay.{AllRunOut, Cast, Moment, first_moment, moment_rules, of_thread, scheduled, thread_turn, wanted_by}
+use Rattle.step_sim.specs.Plays.{Plays}
+use Rattle.step_sim.specs.Replay.{Cast, Moment, first_moment, moment_rules, of_thread, wanted_by}
+use Rattle.step_sim.specs.private.Turns.{AllRunOut, scheduled}
 use Rattle.step_sim.specs.Replayed.{IsReplayOf, cast_with, passed_of, pooling_with}
 use Rattle.step_sim.proofs.EndedRuns.{no_run, of_thread_at, some_run}
 use Rattle.step_sim.proofs.LostRuns.{marks_of_run}

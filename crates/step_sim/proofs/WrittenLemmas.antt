@@ -1,19 +1,18 @@
 -- A schedule that is written of turns is read as these turns.
-use Rattle.std.proofs.Common.{◌≡◌, ℕ, suc, ◌+◌, ◌<◌, ◌≤◌, Bool, true, cond, ◌&&◌, List, [], ◌∷◌, ◌++◌, length, map, Some, refl, ap, ◌∙◌, arith, leb}
-use Rattle.std.specs.Prelude.{All, Ok, codes, decimal}
+use Rattle.std.proofs.Common.{◌≡◌, ℕ, suc, ◌+◌, ◌≤◌, true, ◌&&◌, List, [], ◌∷◌, ◌++◌, length, map, Some, refl, ap, ◌∙◌, arith}
+use Rattle.std.specs.Prelude.{All, Ok, decimal}
 use Rattle.std.specs.List.{enumerate_from, flat_map, list_all}
 use Rattle.std.specs.Str.Lines.{lines}
 use Rattle.std.proofs.lemmas.Bool.{and_from, le-leb}
 use Rattle.std.proofs.lemmas.List.{length-map}
-use Rattle.text_lines.specs.Words.{is_clean, words_of}
+use Rattle.text_lines.specs.Words.{words_of}
 use Rattle.text_lines.specs.Written.{is_written_word, are_written_words, written_line, WrittenNumbersRead, WrittenTextsRead}
-use Rattle.step_sim.specs.declared.fault.ScheduleFault.{ScheduleFault}
 use Rattle.step_sim.specs.declared.fault.ScheduleFault.TheVariants as faults
 use Rattle.step_sim.specs.declared.line.Said.{Said}
 use Rattle.step_sim.specs.declared.line.Said.TheVariants.{Loads, Steps}
 use Rattle.step_sim.specs.declared.turns.Turns.{Turns}
 use Rattle.step_sim.specs.declared.turns.Turns.TheVariants.{Thread, Patcher}
-use Rattle.step_sim.specs.Schedules.{AreTurnsOf, is_count, is_thread, said_by, schedule_of, turns_said}
+use Rattle.step_sim.specs.Schedules.{AreTurnsOf, said_by, turns_said}
 use Rattle.step_sim.specs.private.Faults.{decided, line_faults, line_turns, said_faults, unless}
 use Rattle.step_sim.specs.WrittenSchedules.{HasWords, schedule_text, turn_words, WrittenSchedulesRead}
 use Rattle.step_sim.proofs.ScheduleFaults.{schedule_begins}

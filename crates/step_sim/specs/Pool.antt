@@ -1,8 +1,8 @@
 -- The replay of a schedule with a queue of buffers, over the moments of the replay: what is in the queue, and what was
 -- taken away from it.
-use Rattle.std.specs.Prelude.{◌≡◌, ◌+◌, ◌-◌, ◌&&◌, ◌==◌, ℕ, nat_lt, List, [], ◌∷◌, ◌++◌, length, take, drop, replicate, if◌then◌else◌}
+use Rattle.std.specs.Prelude.{◌+◌, ◌-◌, ◌&&◌, ◌==◌, ℕ, nat_lt, List, [], ◌∷◌, ◌++◌, length, take, drop, replicate, if◌then◌else◌}
 use Rattle.step_sim.specs.declared.turns.Turns.{Turns}
-use Rattle.step_sim.specs.Plays.{Plays, Rules, ThreadRunsOut, ThreadsRunOut, line_played, lines_played}
+use Rattle.step_sim.specs.Plays.{Plays, Rules}
 use Rattle.step_sim.specs.Replay.{Cast, Moment, first_moment, patcher_turn, thread_turn, wanted_by}
 
 -- what a queued buffer holds: nothing yet, or a segment of a thread, by the segment's number from 0
@@ -65,20 +65,6 @@ pooled_rules cast pooling = record {
   patcher = pooled_step cast;
   wanted = λ thread pooled. wanted_by cast thread pooled.moment;
 }
-
--- the turns of a line of the schedule, and of all its lines
-abbrev pub pooled_line : Cast → Pooling → Pooled → Turns → Pooled
-pooled_line cast pooling = line_played (pooled_rules cast pooling)
-
-abbrev pub pooled_lines : Cast → Pooling → List Turns → Pooled
-pooled_lines cast pooling schedule = lines_played (pooled_rules cast pooling) (first_pooled cast pooling) schedule
-
--- a thread runs out, and so do n threads from a thread on
-abbrev pub PooledRunsOut : Cast → Pooling → ℕ → Pooled → Pooled → Type 0
-PooledRunsOut cast pooling = ThreadRunsOut (pooled_rules cast pooling)
-
-abbrev pub AllPooledRunOut : Cast → Pooling → ℕ → ℕ → Pooled → Pooled → Type 0
-AllPooledRunOut cast pooling = ThreadsRunOut (pooled_rules cast pooling)
 
 -- Where a schedule leaves a replay with buffers. The micro steps that are left change no buffer.
 abbrev pub PooledReplay : Cast → Pooling → List Turns → Pooled → Type 0

@@ -1,8 +1,7 @@
--- The events that the threads of a replay have recorded, and what their buffers hold.
-use Rattle.std.specs.Prelude.{◌<◌, ◌≤◌, ◌+◌, ◌-◌, ◌&&◌, ◌==◌, Bool, ℕ, zero, suc, List, [], ◌∷◌, length, slice_index, slice_set, if◌then◌else◌}
+-- The events that the threads of a replay have recorded, and their segments.
+use Rattle.std.specs.Prelude.{◌+◌, ℕ, zero, suc, List, [], ◌∷◌, length}
 use Rattle.patch_script.specs.Micros.{hold_of}
 use Rattle.fdr_record.specs.declared.event.Event.{Event}
-use Rattle.fdr_buffer.specs.Filled.{Filled}
 use Rattle.fdr_buffer.specs.Segments.{segments}
 use Rattle.machine_step.specs.Events.{recorded}
 use Rattle.machine_step.specs.Loads.{marks_of}
@@ -24,27 +23,6 @@ segments_at cast passed size thread moment = segments size (events_at cast passe
 abbrev pub pooling_of : Cast → List (List Passing) → ℕ → ℕ → Pooling
 pooling_of cast passed size spare =
     record { segment_count = λ thread moment. length (segments_at cast passed size thread moment); spare = spare }
-
--- the counts of lost segments after a buffer was taken away: that of its thread is one more, if the buffer held a
--- segment
-abbrev pub lost_behind : Filled → List ℕ → List ℕ
-lost_behind buffer first =
-    if buffer.begun then slice_set first (buffer.thread - 1) (slice_index first (buffer.thread - 1) + 1) else first
-
--- whether a buffer holds a segment of this thread
-abbrev pub is_of : ℕ → Filled → Bool
-is_of thread buffer = buffer.begun && (buffer.thread == thread)
-
--- how many segments a thread has that has put this many buffers into the queue and holds this one
-abbrev pub segments_held : Filled → ℕ → ℕ
-segments_held hand put = if hand.begun then put + 1 else 0
-
--- a thread has lost fewer segments than it has put into the queue
-pub record CanLose (first sealed : List ℕ) (thread : ℕ) : Type 0 where
-  pub some : 0 < thread
-  pub first_there : thread ≤ length first
-  pub sealed_there : thread ≤ length sealed
-  pub fewer : slice_index first (thread - 1) < slice_index sealed (thread - 1)
 
 -- n numbers from one on
 abbrev pub numbers_from : ℕ → ℕ → List ℕ

@@ -8,7 +8,7 @@ use Rattle.patch_script.specs.CodeAt.{code_at}
 use Rattle.handler_word.specs.declared.mark.Mark.{Mark}
 use Rattle.machine_step.specs.Loads.{Load, next_load, marks_of}
 use Rattle.step_sim.specs.declared.turns.Turns.{Turns}
-use Rattle.step_sim.specs.Plays.{Plays, Rules, ThreadRunsOut, ThreadsRunOut, line_played, lines_played}
+use Rattle.step_sim.specs.Plays.{Plays, Rules}
 
 -- what a replay knows of the threads and the script: the sleds that each thread passes, in the order of the threads
 pub record Cast : Type 0 where
@@ -57,20 +57,6 @@ patcher_turn cast moment = record moment { place = min (moment.place + 1) (total
 -- what a replay plays with its moments
 abbrev pub moment_rules : Cast → Rules Moment
 moment_rules cast = record { thread = thread_turn cast; patcher = patcher_turn cast; wanted = wanted_by cast }
-
--- the turns of a line of the schedule, and of all its lines
-abbrev pub line_turns : Cast → Moment → Turns → Moment
-line_turns cast = line_played (moment_rules cast)
-
-abbrev pub scheduled : Cast → List Turns → Moment
-scheduled cast schedule = lines_played (moment_rules cast) (first_moment cast) schedule
-
--- a thread runs out, and so do n threads from a thread on
-abbrev pub RunsOut : Cast → ℕ → Moment → Moment → Type 0
-RunsOut cast = ThreadRunsOut (moment_rules cast)
-
-abbrev pub AllRunOut : Cast → ℕ → ℕ → Moment → Moment → Type 0
-AllRunOut cast = ThreadsRunOut (moment_rules cast)
 
 -- the marks of each thread
 abbrev pub marks_at : Cast → Moment → List (List Mark)

@@ -3,7 +3,8 @@
 ghost use Rattle.std.specs.Prelude.{◌≡◌, ◌≢◌, ◌<◌, ◌≤◌, ◌+◌, ◌-◌, ◌^◌, ◌++◌, ◌∷◌, [], ℕ, List, All, IfOk, IfSome, Some, length, replicate, slice_get, slice_index, true, filter, vec_len, vec_capacity};
 ghost use Rattle.std.specs.List.{flat_map};
 ghost use Rattle.fdr_buffer.specs.Filled.{Filled, empty_buffer};
-ghost use Rattle.step_sim.specs.Recorded.{CanLose, is_of, lost_behind, numbers_from, segments_held};
+ghost use Rattle.step_sim.specs.Recorded.{numbers_from};
+ghost use Rattle.step_sim.specs.private.Counts.{CanLose, is_of, lost_behind, segments_held};
 
 use crate::ring::Ring;
 use fdr_buffer::{Buffer, LARGEST_SIZE, LEAST_SIZE, a_segment_grows, segments_hold_all};

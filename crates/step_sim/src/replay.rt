@@ -2,8 +2,10 @@
 
 ghost use Rattle.std.specs.Prelude.{◌≡◌, ℕ, All, fold, length};
 ghost use Rattle.machine_step.specs.declared.limits.Limits.{Limits};
-ghost use Rattle.step_sim.specs.Replay.{AllRunOut, Cast, Moment, line_turns};
-ghost use Rattle.step_sim.specs.Pool.{AllPooledRunOut, Pooled};
+ghost use Rattle.step_sim.specs.Replay.{Cast, Moment};
+ghost use Rattle.step_sim.specs.private.Turns.{AllRunOut, line_turns};
+ghost use Rattle.step_sim.specs.Pool.{Pooled};
+ghost use Rattle.step_sim.specs.private.Turns.{AllPooledRunOut};
 ghost use Rattle.step_sim.specs.private.Recording.{AllRecord, AllRecordAt, Recording, line_in, pooling_in};
 ghost use Rattle.step_sim.specs.Schedules.{AreTurnsOf};
 ghost use Rattle.step_sim.specs.private.Standing.{AllPlay, AllStandAt, Rests};

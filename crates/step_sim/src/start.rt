@@ -15,7 +15,7 @@ use crate::schedule::Schedule;
 use crate::sim_fault::SimFault;
 use crate::thread::new_thread;
 use fdr_buffer::{Buffer, LARGEST_SIZE, LEAST_SIZE, MOST_BUFFERS, segments_hold_all};
-use machine_step::{Cpu, Setup, Steps, one_end};
+use machine_step::{Cpu, Setup, Steps, a_traced_thread_ends_as_its_plain_run};
 use patch_script::Script;
 use sled_words::MAX_THREADS;
 use std::alloc::Global;
@@ -101,7 +101,7 @@ impl<'a, 's> SimStart<'a, 's> {
             result.cpus.items result.sealed.items result.segments.items result.first.items
             result.buffers.items }
     {
-        one_end();
+        a_traced_thread_ends_as_its_plain_run();
         passings_fit();
         segments_hold_all();
         let SimStart {

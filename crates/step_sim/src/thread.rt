@@ -8,9 +8,11 @@ ghost use Rattle.machine_step.specs.Loads.{Load};
 ghost use Rattle.machine_step.specs.PlainStep.{Passing};
 ghost use Rattle.machine_step.specs.Traced.{HasLoaded, IsGate, IsSameThread, loads_left};
 ghost use Rattle.step_sim.specs.Plays.{turns};
-ghost use Rattle.step_sim.specs.Replay.{Cast, Moment, RunsOut, thread_turn};
+ghost use Rattle.step_sim.specs.Replay.{Cast, Moment, thread_turn};
+ghost use Rattle.step_sim.specs.private.Turns.{RunsOut};
 ghost use Rattle.step_sim.specs.private.Standing.{HasBegun, Play, Rests, StandAt};
-ghost use Rattle.step_sim.specs.Pool.{Pooled, PooledRunsOut};
+ghost use Rattle.step_sim.specs.Pool.{Pooled};
+ghost use Rattle.step_sim.specs.private.Turns.{PooledRunsOut};
 ghost use Rattle.step_sim.specs.private.Recording.{RecordAt, Recording, Records, pooling_in, turn_in};
 
 use crate::along::a_replay_reads_along;

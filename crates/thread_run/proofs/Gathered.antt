@@ -17,10 +17,12 @@ use Rattle.thread_run.specs.declared.whole.Gathered.{Gathered}
 use Rattle.thread_run.specs.declared.worker.Worker.{Worker}
 use Rattle.thread_run.specs.Recordings.{Recording, StandsFor, segments_begun}
 use Rattle.thread_run.specs.private.Rooms.{HaveRunPooled}
-use Rattle.thread_run.specs.Runs.{AreWorkersOfRun, HaveRunBeside, lost_beside}
+use Rattle.thread_run.specs.Runs.{HaveRunBeside}
+use Rattle.thread_run.specs.private.Pooled.{AreWorkersOfRun, lost_beside}
 use Rattle.thread_run.specs.Workers.{HasEnded, cpu_of, recorder_of}
 use Rattle.thread_run.proofs.Pooled.{hands_of}
-use Rattle.thread_run.proofs.RunLemmas.{OneEnd, left_so, there_is}
+use Rattle.thread_run.proofs.Order.{HoldEvents}
+use Rattle.thread_run.proofs.RunLemmas.{left_so, there_is}
 
 -- what the next thread begins with
 pub new_at : (pool : PoolIs) (n number : ℕ) (hands yielded rest : List (PassIs × Filled)) (x : PassIs × Filled) → AreNew pool 1 n hands
@@ -62,12 +64,12 @@ pooled_passes plan pool gathered have =
     subst (AreOf pool 1) (sym have.have.passes) (passes_are plan pool (HasEnded StandsFor) have.workers have.ended)
 
 -- what is gathered, and what is left of the pool
-pub run_leaves : OneEnd → (plan : Plan) (pool : PoolIs) (setup : Setup) (program : Program) (gathered : Gathered) (cpus : List Traced)
+pub run_leaves : HoldEvents → (plan : Plan) (pool : PoolIs) (setup : Setup) (program : Program) (gathered : Gathered) (cpus : List Traced)
     (segments first : List ℕ) (buffers left : List Filled) → pool.setup ≡ setup → plan.program ≡ program → HaveRunPooled plan pool gathered
     → cpus ≡ gathered.cpus.items → segments ≡ gathered.segments.items → first ≡ lost_beside buffers 1 gathered.segments.items
     → IsLeft setup (sealed_of gathered.passes.items) left → buffers ≡ left ++ gathered.hands.items
     → HaveRunBeside program (commands_of plan.lines) setup cpus segments first buffers
-run_leaves one plan pool setup program gathered cpus segments first buffers left same_setup same_program have a b c is d =
+run_leaves hold plan pool setup program gathered cpus segments first buffers left same_setup same_program have a b c is d =
     let Script : List Command = commands_of plan.lines in
     let workers : List (Worker Recording) = have.workers in
     let rs : List Recording = map (λ w. recorder_of w) workers in
@@ -78,7 +80,7 @@ run_leaves one plan pool setup program gathered cpus segments first buffers left
     let Segs : List ℕ = map (λ w. segments_begun (recorder_of w)) workers in
     let Buffers : List Filled = left ++ hands_of rs in
     let buffers_are : buffers ≡ Buffers = d ∙ ap (λ (hs : List Filled). left ++ hs) (have.have.hands ∙ hands_same workers) in
-    let so = left_so one plan pool workers left have.ended have.count left_is in
+    let so = left_so hold plan pool workers left have.ended have.count left_is in
     let of_setup = subst (λ (s : Setup). HaveRunBeside plan.program Script s (map (λ w. cpu_of w) workers) Segs (lost_beside Buffers 1 Segs) Buffers) same_setup so in
     let of_program = subst (λ (q : Program). HaveRunBeside q Script setup (map (λ w. cpu_of w) workers) Segs (lost_beside Buffers 1 Segs) Buffers) same_program of_setup in
     let of_buffers = subst (λ (bs : List Filled). HaveRunBeside program Script setup (map (λ w. cpu_of w) workers) Segs (lost_beside bs 1 Segs) bs) (sym buffers_are) of_program in

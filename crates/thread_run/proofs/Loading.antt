@@ -1,7 +1,8 @@
 -- What one load makes of a thread and its seat.
-use Rattle.std.proofs.Common.{◌≡◌, ◌≢◌, ℕ, ◌+◌, ◌<◌, ◌≤◌, List, [], ◌∷◌, ◌++◌, Bool, true, false, ◌==◌, Option, Some, None, refl, sym, subst, ap, ◌∙◌, arith, length, eq-eqb}
+use Rattle.std.proofs.Common.{◌≡◌, ◌≢◌, ℕ, ◌+◌, ◌<◌, ◌≤◌, List, [], ◌∷◌, ◌++◌, Bool, true, false, ◌==◌, Option, Some, refl, sym, subst, ap, ◌∙◌, arith, length, eq-eqb}
 use Rattle.std.specs.Prelude.{◌&&◌, ◌||◌, All, Err, IfOk, Ok, Result}
 use Rattle.std.proofs.lemmas.Bool.{eqb-true}
+use Rattle.std.proofs.lemmas.List.{length-map}
 use Rattle.std.proofs.lemmas.List.Elements.{All-nil, All-push}
 use mathlib.Core.List.{map-append}
 use Rattle.xray_io.specs.declared.faults.NoMemory.{NoMemory}
@@ -17,7 +18,8 @@ use Rattle.patch_script.specs.Refusals.{commands_of}
 use Rattle.patch_script.proofs.Allowing.{keeps_sleds}
 use Rattle.patch_script.proofs.Awaiting.{bound_within}
 use Rattle.machine_step.specs.declared.want.Want.{Want}
-use Rattle.machine_step.specs.declared.want.Want.TheVariants.{Done, Load as Loads}
+use Rattle.machine_step.specs.declared.want.Want.TheVariants.{Load as Loads}
+use Rattle.machine_step.specs.Ended.{EndsAsPlain}
 use Rattle.machine_step.specs.Follows.{later, loaded, none}
 use Rattle.machine_step.specs.Loads.{Load, marks_of, next_load}
 use Rattle.machine_step.specs.declared.end.End.{End}
@@ -25,7 +27,6 @@ use Rattle.machine_step.specs.declared.limits.Limits.{Limits}
 use Rattle.machine_step.specs.PlainStep.{Passing, PlainRun, State}
 use Rattle.machine_step.specs.Traced.{HasLoaded, IsFresh, IsKept, IsSameThread, IsThreadOf, IsWant, Traced, load_of, sleds_of, wanted_behind}
 use Rattle.machine_step.proofs.AlongCode.{next_allowed}
-use Rattle.machine_step.proofs.SomeMarks.{all_marked}
 use Rattle.machine_step.proofs.WantedWords.{release_wanted}
 use Rattle.sled_rule.specs.declared.views.Load.{Load as SeatLoad}
 use Rattle.sled_rule.specs.declared.views.PatchView.{PatchView}
@@ -297,25 +298,18 @@ same_marks : (program program' : Program) (thread : ℕ) (hold hold' : Option �
 same_marks program program' thread hold hold' sleds loads a b =
     ap (λ (x : Program). marks_of x thread hold sleds loads) a ∙ ap (λ (x : Option ℕ). marks_of program' thread x sleds loads) b
 
--- a thread that has ended wants no word
-wants_none : (t : Traced) (passed : List Passing) (loads : List Load) (end : End) → HasLoaded t passed loads → t.want ≡ Done end
-    → wanted_behind t passed loads ≡ None
-wants_none t passed loads end has done =
-    (subst (IsWant t passed (wanted_behind t passed loads) has.end) done has.wants).0
-
-pub marks_follow : (plan : Plan) (t : Traced) (v : WorkView) (passed : List Passing) (end : End) → IsThreadIn plan t → IsAlong plan t v passed
-    → v.seen ≤ total_of plan.program (commands_of plan.lines) → t.want ≡ Done end
+-- those of a thread that has ended as its plain run does
+pub marks_follow : (plan : Plan) (t : Traced) (v : WorkView) (passed : List Passing) (end : End) (last : State) (loads : List Load) → IsThreadIn plan t
+    → IsAlong plan t v passed → v.seen ≤ total_of plan.program (commands_of plan.lines) → EndsAsPlain t passed end last loads
     → MarksFollowScript plan.program (commands_of plan.lines) t.thread (sleds_of passed) t.marks
-marks_follow plan t v passed end is along within done = record {
+marks_follow plan t v passed end last loads is along within ends = record {
   loads = along.made;
   follow = later along.made v.seen (total_of plan.program (commands_of plan.lines)) within along.free.follow;
   leave =
       along.free.loaded.marks
       ∙ same_marks t.program plan.program t.thread t.hold (hold_of t.thread (commands_of plan.lines)) (sleds_of passed) along.made is.program is.hold;
   released = along.released;
-  each =
-      ap length along.free.loaded.marks
-      ∙ all_marked t.program t.thread t.hold 0 (sleds_of passed) along.made (wants_none t passed along.made end along.free.loaded done);
+  each = ends.each ∙ sym (length-map passed (λ (p : Passing). p.sled));
 }
 
 -- ---- before the first load

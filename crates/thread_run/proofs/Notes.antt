@@ -8,7 +8,8 @@ use Rattle.fdr_buffer.proofs.Cutting.{joins}
 use Rattle.buffer_queue.specs.Passes.{IsOf, PassIs, PoolIs, sealing}
 use Rattle.traced_run.specs.Kept.{Stamp, buffer_of, buffers_behind, stamp_of}
 use Rattle.thread_run.specs.declared.exchange.Preamble.{Preamble}
-use Rattle.thread_run.specs.Recordings.{CutsAnew, HasSameOwner, IsNextOf, IsPreambleOf, Recording, StandsFor, StandsForMore, sealed_with, segments_begun, segments_in}
+use Rattle.thread_run.specs.Recordings.{HasSameOwner, Recording, StandsFor, segments_begun, segments_in}
+use Rattle.thread_run.specs.private.Segments.{CutsAnew, IsNextOf, IsPreambleOf, StandsForMore, sealed_with}
 use Rattle.thread_run.proofs.Cuts.{begins_first, begins_next, buffers_length, buffers_more, few_segments}
 
 -- ---- the hand

@@ -1,18 +1,16 @@
 -- Buffers of a run in any order are those of its threads, one after another.
-use Rattle.std.proofs.Common.{◌≡◌, ◌≢◌, ℕ, zero, suc, ◌+◌, ◌<◌, ◌≤◌, ◌==◌, List, [], ◌∷◌, ◌++◌, Bool, true, false, true≢false, Some, refl, sym, subst, ap, ◌∙◌, arith, inl, inr, length, map, drop, lt-ltb}
+use Rattle.std.proofs.Common.{◌≡◌, ◌≢◌, ℕ, zero, suc, ◌+◌, ◌<◌, ◌≤◌, ◌==◌, List, [], ◌∷◌, ◌++◌, Bool, true, false, true≢false, Some, refl, sym, subst, ap, ◌∙◌, arith, inl, inr, length}
 use Rattle.std.specs.Prelude.{IsPermutation, filter, not, replicate, slice_get}
 use Rattle.std.specs.List.{AllByRecursion, enumerate_from, flat_map}
 use Rattle.std.proofs.lemmas.Bool.{cases_Bool, eq-eqb, eqb-true, ne_eqb}
 use Rattle.std.proofs.lemmas.List.Concat.{flat_map-cons}
 use Rattle.std.proofs.lemmas.List.Elements.{filter-append, recursion_from_All}
 use Rattle.std.proofs.lemmas.List.Sorted.{IsPermutation-append_right, IsPermutation-filter_both, IsPermutation-refl, IsPermutation-trans}
-use Rattle.fdr_record.specs.declared.event.Event.{Event}
 use Rattle.fdr_buffer.specs.Filled.{Filled, empty_buffer, has_event}
-use Rattle.fdr_buffer.proofs.Cutting.{hold_some}
 use Rattle.buffer_queue.specs.Left.{IsLeft, IsUsed, of_thread}
 use Rattle.machine_step.specs.declared.setup.Setup.{Setup}
-use Rattle.traced_run.specs.Kept.{buffer_of, kept_buffers, segments_of, stamp_of, thread_buffers}
-use Rattle.traced_run.specs.Runs.{ThreadRun, events_of}
+use Rattle.traced_run.specs.Kept.{kept_buffers, thread_buffers}
+use Rattle.traced_run.specs.Runs.{ThreadRun}
 use Rattle.thread_run.specs.Recordings.{Recording}
 use Rattle.thread_run.proofs.Pooled.{AreHands, hands_of}
 
@@ -131,24 +129,9 @@ split_all setup k (run ∷ runs) xs all each =
 
 -- ---- buffers that hold events
 
--- those of a run's segments do
-some_events : (events : List Event) → events ≢ [] → 0 < length events
-some_events [] none = absurd (none refl)
-some_events (e ∷ es) none = omega arith
-
-thread_filled : (setup : Setup) (thread first k : ℕ) (segs : List (List Event)) → AllByRecursion (λ s. s ≢ []) segs
-    → filter has_event (map (buffer_of (stamp_of setup) thread) (drop first (enumerate_from k segs)))
-    ≡ map (buffer_of (stamp_of setup) thread) (drop first (enumerate_from k segs))
-thread_filled setup thread zero k [] some = refl
-thread_filled setup thread zero k (events ∷ segs) (here, some) =
-    let test = lt-ltb 0 (length events) (some_events events here) in
-    rw test (ap (λ (bs : List Filled). buffer_of (stamp_of setup) thread (k, events) ∷ bs) (thread_filled setup thread zero (k + 1) segs some))
-thread_filled setup thread (suc first) k [] some = refl
-thread_filled setup thread (suc first) k (events ∷ segs) (here, some) = thread_filled setup thread first (k + 1) segs some
-
-pub run_filled : (setup : Setup) (thread : ℕ) (run : ThreadRun) → filter has_event (thread_buffers setup (thread, run)) ≡ thread_buffers setup (thread, run)
-run_filled setup thread run =
-    thread_filled setup thread run.lost 0 (segments_of setup.size run) (hold_some setup.size (events_of run))
+-- the law that those which a thread's run leaves do
+abbrev pub HoldEvents : Type 0
+HoldEvents = (setup : Setup) (thread : ℕ) (run : ThreadRun) → filter has_event (thread_buffers setup (thread, run)) ≡ thread_buffers setup (thread, run)
 
 fresh_empty : (size n : ℕ) → filter has_event (replicate n (empty_buffer size)) ≡ []
 fresh_empty size zero = refl
@@ -199,10 +182,10 @@ all_between setup rows left is rs are count =
     (hands_between 1 rs (omega arith) are))
 
 -- the buffers that hold events are those of a run, if the buffers of each thread are those that its run leaves
-pub in_order : (setup : Setup) (runs : List ThreadRun) (xs : List Filled)
+pub in_order : HoldEvents → (setup : Setup) (runs : List ThreadRun) (xs : List Filled)
     → AllByRecursion (IsBetween 1 (1 + length runs)) (filter has_event xs)
     → ((i : ℕ) (run : ThreadRun) → slice_get runs i ≡ Some run → of_thread (1 + i) xs ≡ thread_buffers setup (1 + i, run))
     → IsPermutation (filter has_event xs) (kept_buffers setup runs)
-in_order setup runs xs between each =
+in_order hold setup runs xs between each =
     split_all setup 1 runs (filter has_event xs) between (λ i run found.
-    filter_swap (λ (b : Filled). b.thread == 1 + i) has_event xs ∙ ap (filter has_event) (each i run found) ∙ run_filled setup (1 + i) run)
+    filter_swap (λ (b : Filled). b.thread == 1 + i) has_event xs ∙ ap (filter has_event) (each i run found) ∙ hold setup (1 + i) run)

@@ -7,7 +7,7 @@ use Rattle.std.proofs.lemmas.List.Elements.{All-cons, All-nil}
 use Rattle.std.proofs.lemmas.List.Sums.{length-filter, sum_by-cons}
 use Rattle.std.proofs.lemmas.Option.{slice_get-get_or, slice_get-map, slice_get_within}
 use Rattle.std.specs.List.{AllByRecursion, count_by}
-use Rattle.xray_image.specs.Program.{IsAccepted, Program}
+use Rattle.xray_image.specs.Program.{Program}
 use Rattle.patch_script.specs.Plans.{Plan}
 use Rattle.patch_script.specs.Refusals.{commands_of}
 use Rattle.fdr_record.specs.declared.event.Event.{Event}
@@ -16,32 +16,25 @@ use Rattle.fdr_buffer.specs.Segments.{segments}
 use Rattle.buffer_queue.specs.Left.{IsLeft, absent_from, of_thread, sealed_in_all}
 use Rattle.machine_step.specs.Buffers.{spare_of}
 use Rattle.buffer_queue.specs.Passes.{PoolIs}
-use Rattle.machine_step.specs.declared.end.End.{End}
 use Rattle.machine_step.specs.declared.limits.Limits.{Limits}
 use Rattle.machine_step.specs.declared.setup.Setup.{Setup}
-use Rattle.machine_step.specs.declared.want.Want.TheVariants.{Done}
 use Rattle.machine_step.specs.Events.{recorded}
-use Rattle.machine_step.specs.PlainStep.{Passing, PlainRun, State}
-use Rattle.machine_step.specs.Traced.{Traced, sleds_of, state_at}
+use Rattle.machine_step.specs.PlainStep.{PlainRun}
+use Rattle.machine_step.specs.Traced.{Traced, sleds_of}
 use Rattle.sled_rule.specs.Seats.{script_of}
 use Rattle.traced_run.specs.Kept.{buffers_behind, segment_count, stamp_of, thread_buffers}
 use Rattle.traced_run.specs.Left.{HasRun}
 use Rattle.traced_run.specs.Losses.{AreLost, recycled_of}
 use Rattle.traced_run.specs.Runs.{ThreadRun}
 use Rattle.thread_run.specs.declared.worker.Worker.{Worker}
-use Rattle.thread_run.specs.Following.{MarksFollowScript}
+use Rattle.thread_run.specs.Following.{MarksFollowScript, given}
 use Rattle.thread_run.specs.Recordings.{HasSameOwner, Recording, StandsFor, segments_begun, segments_in}
-use Rattle.thread_run.specs.Runs.{AreWorkersOfRun, HaveRunBeside, IsWorkerOfRun, lost_beside}
-use Rattle.thread_run.specs.Workers.{HasEnded, HasRunOut, HaveRun, IsGoing, cpu_of, recorder_of}
+use Rattle.thread_run.specs.Runs.{HaveRunBeside}
+use Rattle.thread_run.specs.private.Pooled.{AreWorkersOfRun, IsWorkerOfRun, lost_beside}
+use Rattle.thread_run.specs.Workers.{HasEnded, HasRunOut, HaveRun, IsGoing, cpu_of, loads_of, recorder_of}
 use Rattle.thread_run.proofs.Notes.{begun_are}
-use Rattle.thread_run.proofs.Order.{IsBetween, all_between, in_order}
+use Rattle.thread_run.proofs.Order.{HoldEvents, IsBetween, all_between, in_order}
 use Rattle.thread_run.proofs.Pooled.{AreHands, HandIs, KeepsLast, hand_is, hands_of, in_hand_of, keeps_last, of_all, row_is}
-
--- all plain runs of a thread are one
-abbrev pub OneEnd : Type 0
-OneEnd = (bytes : List ℕ) (program : Program) (limits : Limits) (thread : ℕ) (passed passed' : List Passing) (end end' : End) (last last' : State)
-    → IsAccepted bytes program → PlainRun program limits thread passed end last → PlainRun program limits thread passed' end' last'
-    → (passed ≡ passed') × (end ≡ end') × (last ≡ last')
 
 -- ---- the run of a worker that has ended
 
@@ -64,15 +57,15 @@ pub record IsPooled (used buffers : List Filled) (number : ℕ) (worker : Worker
   pub last : (recorder_of worker).pass.sealed ≡ gone ++ of_thread number used
   pub all : of_thread number buffers ≡ of_thread number used ++ in_hand_of (recorder_of worker)
 
-pub run_of_worker : OneEnd → (plan : Plan) (pool : PoolIs) (used buffers : List Filled) (number : ℕ) (worker : Worker Recording)
+pub run_of_worker : (plan : Plan) (pool : PoolIs) (used buffers : List Filled) (number : ℕ) (worker : Worker Recording)
     → IsWorkerOfRun plan pool number worker → HasEnded StandsFor worker → IsPooled used buffers number worker
     → (run : ThreadRun) × IsRunOfWorker plan pool.setup used buffers number worker run
-run_of_worker one plan pool used buffers number worker is ended pooled =
+run_of_worker plan pool used buffers number worker is ended pooled =
     let t : Traced = cpu_of worker in
     let r : Recording = recorder_of worker in
     let setup : Setup = pool.setup in
     let at = ended.at in
-    let all = at.along.all.loaded in
+    let ends = ended.plain in
     let events : List Event = recorded at.passed t.marks in
     let keeps : KeepsLast r (segments_in r events) pooled.gone (of_thread number used) =
     keeps_last r events at.recorded_are pooled.gone (of_thread number used) pooled.last in
@@ -80,15 +73,11 @@ run_of_worker one plan pool used buffers number worker is ended pooled =
     let segs_are : segments_in r events ≡ segments setup.size events = ap (λ (s : Setup). segments s.size events) setup_is in
     let run : ThreadRun = record {
       passed = at.passed;
-      end = all.end;
-      last = all.last;
+      end = ended.end;
+      last = ended.last;
       marks = t.marks;
       lost = length pooled.gone;
     } in
-    let same = one at.thread.accepted.0 t.program t.limits t.thread ended.plain.passed at.passed ended.end all.end
-    (state_at ended.plain.address t) all.last
-    (subst (IsAccepted at.thread.accepted.0) (sym at.thread.program) at.thread.accepted.1) ended.plain.run all.run in
-    let last : state_at ended.plain.address t ≡ all.last = same.2 in
     let count : segments_begun r ≡ length (segments setup.size events) = begun_are r events at.recorded_are ∙ ap length segs_are in
     let all_count : length (of_thread number buffers) ≡ length (of_thread number used ++ in_hand_of r) = ap length pooled.all in
     let segs_count : length (segments_in r events) ≡ length (segments setup.size events) = ap length segs_are in
@@ -96,22 +85,13 @@ run_of_worker one plan pool used buffers number worker is ended pooled =
       run,
       record {
         plain =
-            subst (λ (q : Program). PlainRun q setup.limits number at.passed all.end all.last) (at.thread.program ∙ ap (λ (p : Plan). p.program) is.table)
-            (subst (λ (l : Limits). PlainRun t.program l number at.passed all.end all.last) is.limits
-            (subst (λ (k : ℕ). PlainRun t.program t.limits k at.passed all.end all.last) is.thread all.run));
+            subst (λ (q : Program). PlainRun q setup.limits number at.passed ended.end ended.last) (at.thread.program ∙ ap (λ (p : Plan). p.program) is.table)
+            (subst (λ (l : Limits). PlainRun t.program l number at.passed ended.end ended.last) is.limits
+            (subst (λ (k : ℕ). PlainRun t.program t.limits k at.passed ended.end ended.last) is.thread ends.run));
         follow =
             subst (λ (k : ℕ). MarksFollowScript plan.program (commands_of plan.lines) k (sleds_of at.passed) t.marks) is.thread
             (subst (λ (p : Plan). MarksFollowScript p.program (commands_of p.lines) t.thread (sleds_of at.passed) t.marks) is.table ended.marks);
-        has = record {
-          thread = is.thread;
-          done = ended.done ∙ ap Done same.1;
-          registers = ap (λ (s : State). s.registers) last;
-          zero_flag = ap (λ (s : State). s.zero_flag) last;
-          output = ap (λ (s : State). s.output) last;
-          instructions = ap (λ (s : State). s.instructions) last;
-          passings = ap (λ (s : State). s.passings) last;
-          marks = refl;
-        };
+        has = record { thread = is.thread; loads = given (loads_of worker); ends = ends; marks = refl };
         segments = count;
         lost_is = omega (arith, count, segs_count, all_count, keeps.count, length-filter (λ (b : Filled). b.thread == number) buffers);
         buffers_are =
@@ -309,14 +289,14 @@ from_1 plan pool workers are i worker found =
 
 -- ---- what they leave
 
-pub left_so : OneEnd → (plan : Plan) (pool : PoolIs) (workers : List (Worker Recording)) (left : List Filled)
+pub left_so : HoldEvents → (plan : Plan) (pool : PoolIs) (workers : List (Worker Recording)) (left : List Filled)
     → AreWorkersOfRun plan pool (HasEnded StandsFor) workers → length workers ≡ pool.setup.threads
     → IsLeft pool.setup (map (λ (r : Recording). r.pass.sealed) (map (λ w. recorder_of w) workers)) left
     → HaveRunBeside plan.program (commands_of plan.lines) pool.setup (map (λ w. cpu_of w) workers)
     (map (λ w. segments_begun (recorder_of w)) workers)
     (lost_beside (left ++ hands_of (map (λ w. recorder_of w) workers)) 1 (map (λ w. segments_begun (recorder_of w)) workers))
     (left ++ hands_of (map (λ w. recorder_of w) workers))
-left_so one plan pool workers left are count is =
+left_so hold plan pool workers left are count is =
     let setup : Setup = pool.setup in
     let rs : List Recording = map (λ w. recorder_of w) workers in
     let rows : List (List Filled) = map (λ (r : Recording). r.pass.sealed) rs in
@@ -328,7 +308,7 @@ left_so one plan pool workers left are count is =
     slice_get-map (λ w. recorder_of w) workers i ∙ ap (option_map (λ w. recorder_of w)) found in
     let place : i + 1 ≡ 1 + i = omega arith in
     let last = is.last i in
-    run_of_worker one plan pool is.used buffers (1 + i) worker (each i worker found).0 (each i worker found).1
+    run_of_worker plan pool is.used buffers (1 + i) worker (each i worker found).0 (each i worker found).1
     (record {
       gone = last.0;
       last = sym (row_is rs i (recorder_of worker) at) ∙ last.1 ∙ ap (λ (k : ℕ). last.0 ++ of_thread k is.used) place;
@@ -367,7 +347,7 @@ left_so one plan pool workers left are count is =
         buffers_are = refl;
       };
       buffers_are =
-          in_order setup runs buffers
+          in_order hold setup runs buffers
           (subst (λ (k : ℕ). AllByRecursion (IsBetween 1 (1 + k)) (filter has_event buffers)) (rs_count ∙ sym runs_count)
           (all_between setup rows left is rs hands (length-map rs (λ (r : Recording). r.pass.sealed))))
           (λ i run found. (at i run found).is.buffers_are);

@@ -10,7 +10,7 @@ use Rattle.machine_step.specs.declared.want.Want.{Want}
 use Rattle.machine_step.specs.declared.want.Want.TheVariants.{Gate, Load as Loads, Done}
 use Rattle.machine_step.specs.Events.{recorded}
 use Rattle.machine_step.specs.PlainStep.{Passing}
-use Rattle.machine_step.specs.Traced.{IsAtEnd, IsDone, IsSameThread, MarksAdded, StandsAs, Traced, loads_left}
+use Rattle.machine_step.specs.Traced.{IsSameThread, MarksAdded, Traced, loads_left}
 use Rattle.sled_rule.specs.declared.views.Load.{Load as SeatLoad}
 use Rattle.thread_run.specs.declared.worker.Worker.{Worker}
 use Rattle.thread_run.specs.Following.{is_held_by}
@@ -98,12 +98,6 @@ pub leaves_one_out : (count : ℕ) (marks : List Mark) (found want : Want) → f
     → ((passing : ℕ) × (found ≡ Gate passing)) ⊎ ((end : End) × (found ≡ Done end)) → IsBehind count marks want → count + 1 ≡ length marks
 leaves_one_out count marks found want is (inl (passing, gate)) behind = subst (IsBehind count marks) (sym is ∙ gate) behind
 leaves_one_out count marks found want is (inr (end, done)) behind = subst (IsBehind count marks) (sym is ∙ done) behind
-
--- a thread that wants nothing is at its end
-pub ended_so : (t : Traced) (want : Want) → t.want ≡ want → IsDone want → StandsAs t want → (end : End) × (t.want ≡ Done end) × IsAtEnd t end
-ended_so t (Gate passing) is done stands = absurd done
-ended_so t (Loads word) is done stands = absurd done
-ended_so t (Done end) is done stands = (end, is, stands)
 
 -- a thread that was let into its passing
 pub opened_same : (old new : Traced) → new ≡ record old { want = new.want } → IsSameThread old new

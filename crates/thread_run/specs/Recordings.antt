@@ -1,22 +1,16 @@
 -- What a recorder over a pool keeps of a thread's events.
-use Rattle.std.specs.Prelude.{◌≡◌, ◌+◌, ◌<◌, ◌-◌, ◌^◌, ℕ, List, [], ◌∷◌, ◌++◌, Option, Some, None, length, refl, if◌then◌else◌}
+use Rattle.std.specs.Prelude.{◌≡◌, ◌+◌, ℕ, List, [], ◌∷◌, ◌++◌, length, refl, if◌then◌else◌}
 use mathlib.Core.Path.{◌∙◌}
 use Rattle.fdr_record.specs.declared.event.Event.{Event}
 use Rattle.fdr_buffer.specs.Filled.{Filled, empty_buffer}
 use Rattle.fdr_buffer.specs.Segments.{segments}
-use Rattle.buffer_queue.specs.Passes.{PassIs, sealing}
+use Rattle.buffer_queue.specs.Passes.{PassIs}
 use Rattle.traced_run.specs.Kept.{buffer_of, buffers_behind, stamp_of}
-use Rattle.thread_run.specs.declared.exchange.Preamble.{Preamble}
 
 -- what a thread has of a pool: its pass, with the buffers that it has sealed, and the buffer in its hand
 pub record Recording : Type 0 where
   pub pass : PassIs
   pub hand : Filled
-
--- the buffer in hand, if there is one
-abbrev pub in_hand : Option Filled → Filled
-in_hand None = empty_buffer 0
-in_hand (Some hand) = hand
 
 -- the segments of events in the buffers of its pool
 abbrev pub segments_in : Recording → List Event → List (List Event)
@@ -46,30 +40,3 @@ same_itself r = record { pool = refl; setup = refl; thread = refl }
 
 pub same_along : (first second third : Recording) → HasSameOwner first second → HasSameOwner second third → HasSameOwner first third
 same_along first second third p q = record { pool = q.pool ∙ p.pool; setup = q.setup ∙ p.setup; thread = q.thread ∙ p.thread }
-
--- ---- how a segment is begun
-
--- one more event begins a segment
-abbrev pub CutsAnew : Recording → List Event → Event → Type 0
-CutsAnew r events event = segments_in r (events ++ event ∷ []) ≡ segments_in r events ++ (event ∷ []) ∷ []
-
--- it stands for one more event, and is of the same thread
-pub record StandsForMore (old new : Recording) (event : Event) : Type 0 where
-  pub same : HasSameOwner old new
-  pub stands : (events : List Event) → StandsFor old events → StandsFor new (events ++ event ∷ [])
-
--- this is how the segments of a pass's thread begin
-pub record IsPreambleOf (pass : PassIs) (preamble : Preamble) : Type 0 where
-  pub thread : preamble.thread ≡ pass.thread
-  pub wall : preamble.wall ≡ pass.setup.wall
-  pub pid : preamble.pid ≡ pass.setup.pid
-
--- the buffer is the next one that the pass's thread may seal
-pub record IsNextOf (pass : PassIs) (hand : Filled) : Type 0 where
-  pub thread : hand.thread ≡ pass.thread
-  pub serial : hand.serial ≡ length pass.sealed
-  pub few : hand.serial < 2 ^ 32 - 1
-
--- the buffer is sealed, if it holds a segment
-abbrev pub sealed_with : PassIs → Filled → PassIs
-sealed_with pass hand = if hand.begun then sealing pass hand else pass

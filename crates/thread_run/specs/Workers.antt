@@ -7,11 +7,11 @@ use Rattle.patch_script.specs.Plans.{Plan}
 use Rattle.patch_script.specs.Refusals.{commands_of}
 use Rattle.fdr_record.specs.declared.event.Event.{Event}
 use Rattle.machine_step.specs.declared.end.End.{End}
-use Rattle.machine_step.specs.declared.want.Want.TheVariants.{Done}
+use Rattle.machine_step.specs.Ended.{EndsAsPlain}
 use Rattle.machine_step.specs.Events.{recorded}
 use Rattle.machine_step.specs.Loads.{Load}
-use Rattle.machine_step.specs.PlainStep.{Passing}
-use Rattle.machine_step.specs.Traced.{HasLoaded, IsAtEnd, IsSameThread, Traced, sleds_of}
+use Rattle.machine_step.specs.PlainStep.{Passing, State}
+use Rattle.machine_step.specs.Traced.{HasLoaded, IsSameThread, Traced, sleds_of}
 use Rattle.sled_rule.specs.declared.seats.WorkSeat.{WorkSeat}
 use Rattle.sled_rule.specs.declared.table.CodeTable.{CodeTable}
 use Rattle.sled_rule.specs.declared.views.Load.{Load as SeatLoad}
@@ -86,13 +86,14 @@ pub record IsGoing {R : Type 0} (stands : R → List Event → Type 0) (worker :
   pub at : IsAtWork stands worker
   pub count : (work_view (seat_of worker)).count ≡ length (cpu_of worker).marks
 
--- it has ended: its thread is at the end of its plain run, its seat says so, and the marks follow the whole script
+-- It has ended: its thread, which was given the loads of its seat, ends as its plain run does, its seat says that it has
+-- ended, and the marks follow the whole script.
 pub record HasEnded {R : Type 0} (stands : R → List Event → Type 0) (worker : Worker R) : Type 0 where
   pub at : IsAtWork stands worker
   pub count : (work_view (seat_of worker)).count ≡ ended_count
   pub end : End
-  pub done : (cpu_of worker).want ≡ Done end
-  pub plain : IsAtEnd (cpu_of worker) end
+  pub last : State
+  pub plain : EndsAsPlain (cpu_of worker) at.passed end last (given (loads_of worker))
   pub marks : MarksFollowScript (script_of (table_of worker)).program (commands_of (script_of (table_of worker)).lines)
       (cpu_of worker).thread (sleds_of at.passed) (cpu_of worker).marks
 

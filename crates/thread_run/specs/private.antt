@@ -1,3 +1,5 @@
 -- What the contracts of private functions cite. No promise of this crate rests on it.
+pub mod Pooled
 pub mod Rooms
+pub mod Segments
 pub mod Steps

@@ -3,7 +3,7 @@
 ghost use Rattle.std.specs.Prelude.{◌≡◌, ◌≢◌, ◌<◌, ◌-◌, ◌^◌, [], ◌∷◌, length, true};
 ghost use Rattle.buffer_queue.specs.Passes.{IsOf};
 ghost use Rattle.traced_run.specs.Kept.{buffer_of, stamp_of};
-ghost use Rattle.thread_run.specs.Recordings.{sealed_with, IsPreambleOf, IsNextOf};
+ghost use Rattle.thread_run.specs.private.Segments.{sealed_with, IsPreambleOf, IsNextOf};
 
 use buffer_queue::{Pool, PoolPass};
 use fdr_buffer::Buffer;

@@ -31,7 +31,8 @@ pub struct FdrRecorder<'p, T> {
 impl<'p, T> Model for FdrRecorder<'p, T> {
     ghost use Rattle.std.specs.Prelude.{◌≡◌, ◌<◌, ◌-◌, ◌^◌, length, IsSome};
     ghost use Rattle.buffer_queue.specs.Passes.{IsOf};
-    ghost use Rattle.thread_run.specs.Recordings.{in_hand, IsPreambleOf, Recording};
+    ghost use Rattle.thread_run.specs.Recordings.{Recording};
+    ghost use Rattle.thread_run.specs.private.Segments.{in_hand, IsPreambleOf};
 
     ghost Value = { Recording };
 
@@ -134,7 +135,8 @@ impl<'p, T> FdrRecorder<'p, T> {
 }
 
 impl<'p, T: Wait> FdrRecorder<'p, T> {
-    ghost use Rattle.thread_run.specs.Recordings.{CutsAnew, StandsFor, StandsForMore};
+    ghost use Rattle.thread_run.specs.Recordings.{StandsFor};
+    ghost use Rattle.thread_run.specs.private.Segments.{CutsAnew, StandsForMore};
 
     /// Begins a segment with an event. The hand has no room for the event, or there is no segment yet.
     fn turn(&mut self, event: &Event)

@@ -10,7 +10,8 @@ ghost use Rattle.sled_rule.specs.Seats.{patch_view, script_of, IsPatcherOf};
 ghost use Rattle.sled_rule.specs.Views.{first_patch};
 ghost use Rattle.thread_run.specs.Recordings.{StandsFor};
 ghost use Rattle.thread_run.specs.private.Rooms.{HaveRunPooled, IsGathered, IsRoom};
-ghost use Rattle.thread_run.specs.Runs.{lost_beside, AreWorkersOfRun, HaveRunBeside};
+ghost use Rattle.thread_run.specs.Runs.{HaveRunBeside};
+ghost use Rattle.thread_run.specs.private.Pooled.{lost_beside, AreWorkersOfRun};
 ghost use Rattle.thread_run.specs.Workers.{IsGoing};
 
 use crate::recorder::FdrRecorder;
@@ -19,13 +20,14 @@ use crate::thread::new_cpu;
 use crate::worker::Worker;
 use buffer_queue::{Pool, PoolPass};
 use fdr_buffer::{Buffer, LARGEST_SIZE, LEAST_SIZE};
-use machine_step::{Cpu, Setup, Steps, one_end};
+use machine_step::{Cpu, Setup, Steps};
 use sled_patch::run_prefix;
 use sled_rule::{CodeTable, PatchSeat};
 use sled_words::MAX_THREADS;
 use std::alloc::Global;
 use std::sync::Wait;
 use std::thread::Threads;
+use traced_run::kept_buffers_hold_events;
 use xray_io::{Gate, NoMemory};
 
 /// What a run leaves.
@@ -79,7 +81,7 @@ pub fn run<'s, T: Threads + Wait + Sync, G: Gate + Sync>(
     ensures left { IfOk result (λ end. HaveRunBeside steps.now (commands_of (script_of table.now).lines) setup.now
         end.cpus.items end.segments.items end.first.items end.buffers.items) }
 {
-    one_end();
+    kept_buffers_hold_events();
     run_prefix(table, patcher);
     let first = Vec::with_capacity(alloc, setup.threads as usize)?;
     let buffers = Vec::with_capacity(alloc, setup.max as usize)?;

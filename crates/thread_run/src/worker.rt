@@ -9,7 +9,7 @@ ghost use Rattle.machine_step.specs.declared.want.Want.{Want};
 ghost use Rattle.machine_step.specs.Traced.{IsDone, IsLoadable, loads_left};
 
 use fdr_record::{Event, Recorder};
-use machine_step::{Cpu, Want};
+use machine_step::{Cpu, Want, a_traced_thread_ends_as_its_plain_run};
 use sled_rule::{CodeTable, PatchSeat, WorkSeat};
 use xray_io::Gate;
 
@@ -212,6 +212,7 @@ impl<'s, 't, R: Recorder> Worker<'s, 't, R> {
         // Called for their contracts: the passings fit 32 bits, and where the thread is.
         self.cpu.passings();
         self.cpu.want();
+        a_traced_thread_ends_as_its_plain_run();
         self.table.ended(&mut self.seat);
     }
 

@@ -14,7 +14,7 @@ use Rattle.trace_flush.specs.Lines.{account_of, accounts_of, line_of, lines_of}
 
 one_account : (setup : Setup) (number : ℕ) (run : ThreadRun) (t : Traced) → HasRun number run t
     → (line_of t (segment_count setup.size run) run.lost, t.marks) ≡ account_of setup (number, run)
-one_account setup number run t has = rw (has.thread, has.done, has.marks) refl
+one_account setup number run t has = rw (has.thread, has.ends.done, has.marks) refl
 
 all_accounts : (setup : Setup) (k : ℕ) (runs : List ThreadRun) (cpus : List Traced) → length cpus ≡ length runs
     → ((i : ℕ) (run : ThreadRun) (t : Traced) → slice_get runs i ≡ Some run → slice_get cpus i ≡ Some t → HasRun (k + i) run t)

@@ -7,7 +7,8 @@ ghost use Rattle.traced_run.specs.Kept.{kept_buffers};
 ghost use Rattle.traced_run.specs.Runs.{ThreadRun};
 ghost use Rattle.trace_flush.specs.Arranged.{IsBefore};
 
-use fdr_buffer::{Buffer, segments_hold_all};
+use fdr_buffer::Buffer;
+use traced_run::kept_buffers_hold_events;
 
 /// Drops the buffers that hold no event, and puts the rest in the order of a trace: thread by
 /// thread, and those of a thread by segment.
@@ -30,7 +31,7 @@ pub fn arrange(buffers: &mut Vec<Buffer>)
     ensures begun { (setup : Setup) (runs : List ThreadRun) → buffers.old.items ≡ kept_buffers setup runs
         → All (λ buffer. IsTrue buffer.begun) buffers.new.items }
 {
-    segments_hold_all();
+    kept_buffers_hold_events();
     buffers.retain(|buffer| buffer.events() > 0);
     buffers.sort_unstable_by_key(|buffer| (buffer.thread(), buffer.serial()));
 }

@@ -1,4 +1,5 @@
 pub mod Oldest
+pub mod KeptEvents
 pub mod SmallIds
 pub mod FitPassings
 pub mod RecordedEvents

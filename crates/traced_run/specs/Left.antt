@@ -2,20 +2,17 @@
 use Rattle.std.specs.Prelude.{◌≡◌, ◌+◌, ℕ, List, length, map, slice_get, Some}
 use Rattle.fdr_buffer.specs.Filled.{Filled}
 use Rattle.machine_step.specs.declared.setup.Setup.{Setup}
-use Rattle.machine_step.specs.declared.want.Want.TheVariants.{Done}
+use Rattle.machine_step.specs.Ended.{EndsAsPlain}
+use Rattle.machine_step.specs.Loads.{Load}
 use Rattle.machine_step.specs.Traced.{Traced}
 use Rattle.traced_run.specs.Runs.{ThreadRun}
 use Rattle.traced_run.specs.Kept.{kept_buffers, segment_count}
 
--- a traced thread is at the end of its run, with the run's marks
+-- a traced thread has made some loads and has ended as its plain run does, with the run's marks
 pub record HasRun (number : ℕ) (run : ThreadRun) (t : Traced) : Type 0 where
   pub thread : t.thread ≡ number
-  pub done : t.want ≡ Done run.end
-  pub registers : t.registers ≡ run.last.registers
-  pub zero_flag : t.zero_flag ≡ run.last.zero_flag
-  pub output : t.output ≡ run.last.output
-  pub instructions : t.instructions ≡ run.last.instructions
-  pub passings : length t.marks ≡ run.last.passings
+  pub loads : List Load
+  pub ends : EndsAsPlain t run.passed run.end run.last loads
   pub marks : t.marks ≡ run.marks
 
 -- What a run leaves. Its threads are at their ends, thread 1 first. It says how many segments the events of each thread

@@ -1,15 +1,16 @@
 //! Laws of runs. Each law is the contract of a function that does nothing.
 
-ghost use Rattle.std.specs.Prelude.{◌≡◌, ◌≤◌, ◌<◌, ◌^◌, ◌++◌, List, ℕ, All, Some, length, slice_get, take};
+ghost use Rattle.std.specs.Prelude.{◌≡◌, ◌≤◌, ◌<◌, ◌^◌, ◌++◌, List, ℕ, All, Some, filter, length, slice_get, take};
 ghost use Rattle.std.specs.List.{flat_map};
 ghost use Rattle.xray_image.specs.Program.{IsAccepted, Program};
+ghost use Rattle.fdr_buffer.specs.Filled.{has_event};
 ghost use Rattle.fdr_buffer.specs.Fits.{BufferFits};
 ghost use Rattle.machine_step.specs.declared.end.End.{End};
 ghost use Rattle.machine_step.specs.declared.limits.Limits.{Limits};
 ghost use Rattle.machine_step.specs.declared.setup.Setup.{Setup};
 ghost use Rattle.machine_step.specs.PlainStep.{Passing, PlainRun, State};
 ghost use Rattle.traced_run.specs.Fits.{PassingFits, SetupFits};
-ghost use Rattle.traced_run.specs.Kept.{kept_buffers, kept_of, segments_of};
+ghost use Rattle.traced_run.specs.Kept.{kept_buffers, kept_of, segments_of, thread_buffers};
 ghost use Rattle.traced_run.specs.Losses.{AreLost, recycled_of, without_losses};
 ghost use Rattle.traced_run.specs.Runs.{IsRun, ThreadRun, events_of};
 
@@ -36,6 +37,16 @@ pub fn a_run_without_losses_is_whole()
     ensures events { (size : ℕ) (runs : List ThreadRun) (i : ℕ) (run : ThreadRun)
         → recycled_of runs ≡ 0 → slice_get runs i ≡ Some run
         → flat_map (λ s. s) (kept_of size run) ≡ events_of run }
+{
+    segments_hold_all();
+}
+
+/// Each buffer that a run leaves holds an event: those of one thread, and those of all.
+pub fn kept_buffers_hold_events()
+    ensures one { (setup : Setup) (thread : ℕ) (run : ThreadRun)
+        → filter has_event (thread_buffers setup (thread, run)) ≡ thread_buffers setup (thread, run) }
+    ensures all { (setup : Setup) (runs : List ThreadRun)
+        → filter has_event (kept_buffers setup runs) ≡ kept_buffers setup runs }
 {
     segments_hold_all();
 }

@@ -7,6 +7,7 @@
 mod laws;
 
 pub use laws::{
-    a_run_fits_its_buffers, a_run_without_losses_is_whole, lost_and_left_segments_hold_all,
-    passings_are_few, passings_fit, some_file_holds, some_losses_are_of_a_queue,
+    a_run_fits_its_buffers, a_run_without_losses_is_whole, kept_buffers_hold_events,
+    lost_and_left_segments_hold_all, passings_are_few, passings_fit, some_file_holds,
+    some_losses_are_of_a_queue,
 };

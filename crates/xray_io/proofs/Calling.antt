@@ -9,9 +9,10 @@ use Rattle.xray_io.specs.declared.faults.ReadError.TheVariants as errors
 use Rattle.xray_io.specs.declared.faults.WriteFault.{WriteFault}
 use Rattle.xray_io.specs.Calls.{Call, Read, Write, Wrote, Went, Composes, went_on}
 use Rattle.xray_io.specs.Faults.{Rose}
-use Rattle.xray_io.specs.Reads.{IsPiece, IsReading, Reads, ReadsUpTo}
+use Rattle.xray_io.specs.Reads.{IsReading, Reads, ReadsUpTo}
 use Rattle.xray_io.specs.Sink.{Adds}
 use Rattle.xray_io.specs.Writes.{Sends, adds_none, sends_rest}
+use Rattle.xray_io.specs.private.Pieces.{IsPiece}
 
 -- ---- reads
 

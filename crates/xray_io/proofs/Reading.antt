@@ -2,7 +2,8 @@
 use Rattle.std.proofs.Common.{◌≡◌, ℕ, ◌+◌, ◌≤◌, List, [], ◌++◌, length, take, drop, refl, sym, ap, ◌∙◌, arith, length-append, length-take}
 use Rattle.std.proofs.lemmas.List.{take_all}
 use Rattle.std.proofs.Math.Seq.{take-add}
-use Rattle.xray_io.specs.Desk.{Entry, Holds, IsFront}
+use Rattle.xray_io.specs.Desk.{Entry, Holds}
+use Rattle.xray_io.specs.private.Pieces.{IsFront}
 
 -- nothing read
 pub front_none : (entry : Entry) → IsFront entry []

@@ -11,3 +11,4 @@ pub mod Sink
 pub mod Text
 pub mod World
 pub mod Writes
+pub mod private

@@ -38,10 +38,3 @@ IsReading name limit (Ok content) calls = ReadsUpTo name (limit + 1) (length con
 IsReading name limit (Err errors.ReadFault) calls = ReadsUpToFault name (limit + 1) calls
 IsReading name limit (Err errors.TooLong) calls = Reads name (limit + 1) 0 (limit + 1) calls
 IsReading name limit (Err errors.NoMemory) calls = ReadsSome name (limit + 1) calls
-
--- One read, from this byte on, into this much room. It is a part of a reading.
-abbrev pub IsPiece : List ℕ → (from room : ℕ) → Result ℕ ReadError → List Call → Type 0
-IsPiece name from room (Ok got) calls = calls ≡ Read name from room (Ok got) ∷ []
-IsPiece name from room (Err errors.ReadFault) calls = (fail : ReadFail) × (calls ≡ Read name from room (Err fail) ∷ [])
-IsPiece name from room (Err errors.TooLong) calls = ⊥
-IsPiece name from room (Err errors.NoMemory) calls = (got : ℕ) × (0 < got) × (calls ≡ Read name from room (Ok got) ∷ [])

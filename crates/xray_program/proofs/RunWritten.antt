@@ -25,7 +25,8 @@ use Rattle.xray_program.specs.Traced.{state_texts, written_of}
 -- the text of a thread that has run is its state text
 thread_printed : (number : ℕ) (run : ThreadRun) (t : Traced) → HasRun number run t → thread_text t ≡ state_text number run.end run.last run.marks
 thread_printed number run t has =
-    rw (has.done, has.thread, sym has.registers, sym has.zero_flag, sym has.output, sym has.instructions, sym has.passings, sym has.marks) refl
+    let ends = has.ends in
+    rw (ends.done, has.thread, sym ends.registers, sym ends.zero_flag, sym ends.output, sym ends.instructions, sym ends.passings, sym has.marks) refl
 
 -- the threads, numbered from a number on, have run in this way
 abbrev HaveRun : ℕ → List ThreadRun → List Traced → Type 0
@@ -74,7 +75,7 @@ run_ended setup runs ts segments first buffers leaves =
     each_one (λ t. IsDone t.want) ts (λ i t at.
     let found = run_at runs i (subst (λ (n : ℕ). i < n) leaves.count (slice_get_within ts i t at)) in
     let has = leaves.cpus_are i found.0 t found.1 at in
-    rw has.done tt)
+    rw has.ends.done tt)
 
 -- each has a count of segments, and one of lost segments
 pub segment_counts : (setup : Setup) (runs : List ThreadRun) (ts : List Traced) (segments first : List ℕ) (buffers : List Filled)

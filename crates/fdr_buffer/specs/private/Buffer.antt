@@ -4,7 +4,8 @@ use Rattle.fdr_record.specs.declared.event.Event.{Event}
 use Rattle.fdr_buffer.specs.declared.buffer.TheConstants.{LEAST_SIZE, LARGEST_SIZE}
 use Rattle.fdr_buffer.specs.declared.buffer.Buffer.TheInside.{Inside}
 use Rattle.fdr_buffer.specs.Segments.{preamble_length, EventFits}
-use Rattle.fdr_buffer.specs.Filled.{Filled, used_bytes, last_of}
+use Rattle.fdr_buffer.specs.Filled.{Filled, used_bytes}
+use Rattle.fdr_buffer.specs.private.Last.{last_of}
 use Rattle.fdr_buffer.specs.Fits.{PreambleFits}
 use Rattle.fdr_buffer.specs.private.Telling.{events_in}
 

@@ -14,6 +14,16 @@ step_of node = record { parent = node.parent; func = node.func }
 abbrev pub tally_in : Node → Tally
 tally_in node = node.tally
 
+-- the links of a path, and how many functions it has
+abbrev pub child_in : Node → ℕ
+child_in node = node.child
+
+abbrev pub sibling_in : Node → ℕ
+sibling_in node = node.sibling
+
+abbrev pub depth_in : Node → ℕ
+depth_in node = node.depth
+
 -- the steps to the paths after the first one, which is the empty path
 abbrev pub steps_in : List Node → List Step
 steps_in nodes = drop 1 (map step_of nodes)

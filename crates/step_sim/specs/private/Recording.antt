@@ -10,7 +10,8 @@ use Rattle.step_sim.specs.declared.patcher.Patcher.{Patcher}
 use Rattle.step_sim.specs.declared.pool.Pool.{Pool}
 use Rattle.step_sim.specs.declared.turns.Turns.{Turns}
 use Rattle.step_sim.specs.Replay.{Cast, Moment, of_thread}
-use Rattle.step_sim.specs.Pool.{Pooled, Pooling, Stock, pooled_line, pooled_turn, stock_behind}
+use Rattle.step_sim.specs.Pool.{Pooled, Pooling, Stock, pooled_turn, stock_behind}
+use Rattle.step_sim.specs.private.Turns.{pooled_line}
 use Rattle.traced_run.specs.Kept.{Stamp}
 use Rattle.step_sim.specs.Recorded.{events_at, pooling_of}
 use Rattle.step_sim.specs.private.Standing.{AllStandAt, StandAt}

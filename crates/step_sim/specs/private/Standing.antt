@@ -10,7 +10,7 @@ use Rattle.machine_step.specs.declared.end.End.{End}
 use Rattle.machine_step.specs.declared.limits.Limits.{Limits}
 use Rattle.machine_step.specs.declared.want.Want.TheVariants.{Done}
 use Rattle.machine_step.specs.PlainStep.{Passing}
-use Rattle.machine_step.specs.Traced.{HasLoaded, IsAtEnd, IsThreadOf, Traced, sleds_of}
+use Rattle.machine_step.specs.Traced.{HasLoaded, IsThreadOf, StandsAs, Traced, sleds_of}
 use Rattle.step_sim.specs.declared.patcher.Patcher.{Patcher}
 use Rattle.step_sim.specs.Along.{IsAlong}
 use Rattle.step_sim.specs.Replay.{Cast, Moment, of_thread}
@@ -48,11 +48,11 @@ pub record StandAt (cast : Cast) (moment : Moment) (p : Patcher) (t : Traced) : 
 abbrev pub Play : Patcher → Traced → Type 0
 Play p t = (cast : Cast) × (moment : Moment) × StandAt cast moment p t
 
--- the thread has ended, where its plain run ends
+-- the thread has ended, and is where it says it is
 pub record Rests (t : Traced) : Type 0 where
   pub end : End
   pub wants : t.want ≡ Done end
-  pub ends : IsAtEnd t end
+  pub stands : StandsAs t t.want
   pub few : length t.marks < 2 ^ 32
 
 -- ---- all threads

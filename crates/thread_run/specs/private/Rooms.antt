@@ -6,7 +6,7 @@ use Rattle.machine_step.specs.declared.setup.Setup.{Setup}
 use Rattle.thread_run.specs.declared.whole.Gathered.{Gathered}
 use Rattle.thread_run.specs.declared.worker.Worker.{Worker}
 use Rattle.thread_run.specs.Recordings.{Recording, StandsFor, segments_begun}
-use Rattle.thread_run.specs.Runs.{AreWorkersOfRun}
+use Rattle.thread_run.specs.private.Pooled.{AreWorkersOfRun}
 use Rattle.thread_run.specs.Workers.{HasEnded, cpu_of, recorder_of}
 
 -- nothing of it stands there, and there is room for all threads

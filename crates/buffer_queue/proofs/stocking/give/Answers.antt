@@ -1,8 +1,8 @@
 use Rattle.std.proofs.Common.{◌≡◌, ℕ, ◌+◌, ◌<◌, refl, sym, subst, arith, ap, length}
 use Rattle.machine_step.specs.declared.setup.Setup.{Setup}
 use Rattle.buffer_queue.specs.declared.view.View.{View}
-use Rattle.buffer_queue.specs.Views.{new_view}
-use Rattle.buffer_queue.specs.Passes.{IsReady}
+use Rattle.buffer_queue.specs.private.Changes.{new_view}
+use Rattle.buffer_queue.specs.private.Ready.{IsReady}
 use Rattle.buffer_queue.proofs.Openings.{gives}
 use Rattle.buffer_queue.proofs.stocking.give.Goals as goal
 

@@ -1,7 +1,8 @@
 use Rattle.std.proofs.Common.{◌≡◌, ◌-◌}
 use Rattle.crossbeam_queue.specs.Passes.{view, IsSamePass}
-use Rattle.buffer_queue.specs.Passes.{AreNew, pool_is}
-use Rattle.buffer_queue.specs.Views.{head_view}
+use Rattle.buffer_queue.specs.Passes.{AreNew}
+use Rattle.buffer_queue.specs.private.Ready.{pool_is}
+use Rattle.buffer_queue.specs.private.Changes.{head_view}
 use Rattle.buffer_queue.proofs.stocking.give_all.Given as goal
 
 abbrev pub invariant-loop-given : goal.invariant-loop-given

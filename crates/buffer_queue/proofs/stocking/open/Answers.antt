@@ -2,7 +2,8 @@ use Rattle.std.proofs.Common.{◌≡◌, ℕ, ◌≤◌, sym, subst}
 use Rattle.crossbeam_queue.specs.Fifo.{Forks}
 use Rattle.machine_step.specs.declared.setup.Setup.{Setup}
 use Rattle.buffer_queue.specs.declared.view.View.{View}
-use Rattle.buffer_queue.specs.Views.{head_view, opener, spent}
+use Rattle.buffer_queue.specs.Views.{opener, spent}
+use Rattle.buffer_queue.specs.private.Changes.{head_view}
 use Rattle.buffer_queue.specs.Rule.{KeepsPool}
 use Rattle.buffer_queue.proofs.Openings.{opens}
 use Rattle.buffer_queue.proofs.stocking.open.Goals as goal

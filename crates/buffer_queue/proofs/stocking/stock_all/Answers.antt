@@ -2,7 +2,7 @@ use Rattle.std.proofs.Common.{◌≡◌, ℕ, ◌+◌, ◌<◌, refl, sym, subst
 use Rattle.fdr_buffer.specs.Filled.{Filled, empty_buffer}
 use Rattle.machine_step.specs.declared.setup.Setup.{Setup}
 use Rattle.buffer_queue.specs.declared.view.View.{View}
-use Rattle.buffer_queue.specs.Views.{head_view}
+use Rattle.buffer_queue.specs.private.Changes.{head_view}
 use Rattle.buffer_queue.specs.private.Steps.{MayStock}
 use Rattle.buffer_queue.proofs.stocking.stock_all.Goals as goal
 

@@ -1,6 +1,6 @@
 use Rattle.std.proofs.Common.{◌≡◌}
 use Rattle.crossbeam_queue.specs.Passes.{view, IsPassOf}
-use Rattle.buffer_queue.specs.Views.{head_view}
+use Rattle.buffer_queue.specs.private.Changes.{head_view}
 use Rattle.buffer_queue.proofs.stocking.stock_all.Given as goal
 
 abbrev pub invariant-loop-pushed : goal.invariant-loop-pushed

@@ -1,7 +1,7 @@
 use Rattle.std.proofs.Common.{◌≡◌, ◌<◌, ℕ, Some, length}
 use Rattle.std.specs.Prelude.{slice_get, vec_capacity}
 use Rattle.fdr_buffer.specs.Filled.{Filled}
-use Rattle.step_sim.specs.Recorded.{segments_held}
+use Rattle.step_sim.specs.private.Counts.{segments_held}
 use Rattle.step_sim.proofs.pool.count_segments.Given as goal
 
 abbrev pub invariant-loop-i : goal.invariant-loop-i

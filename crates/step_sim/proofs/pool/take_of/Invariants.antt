@@ -1,6 +1,6 @@
 use Rattle.std.proofs.Common.{◌≡◌, ◌≢◌, ℕ, ◌+◌, ◌-◌, ◌≤◌, ◌++◌, drop, vec_len}
 use Rattle.std.specs.Prelude.{filter, vec_capacity}
-use Rattle.step_sim.specs.Recorded.{is_of}
+use Rattle.step_sim.specs.private.Counts.{is_of}
 use Rattle.step_sim.proofs.pool.take_of.Given as goal
 
 abbrev pub invariant-loop-place : goal.invariant-loop-place

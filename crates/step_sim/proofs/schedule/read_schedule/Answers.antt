@@ -1,5 +1,5 @@
-use Rattle.std.proofs.Common.{◌≡◌, ◌≤◌, sym, ap, ◌∙◌, arith, length}
-use Rattle.std.specs.Prelude.{Result, Ok}
+use Rattle.std.proofs.Common.{◌≤◌, sym, ap, ◌∙◌, arith, length}
+use Rattle.std.specs.Prelude.{Ok}
 use Rattle.std.specs.Str.Lines.{lines}
 use Rattle.std.proofs.lemmas.Grind.{common_steps}
 use Rattle.text_lines.specs.Lines.{numbered_lines}

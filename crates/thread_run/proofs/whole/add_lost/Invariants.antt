@@ -1,6 +1,6 @@
 use Rattle.std.proofs.Common.{◌≡◌, ◌+◌, ◌++◌, take}
 use Rattle.std.specs.Prelude.{vec_capacity, vec_len}
-use Rattle.thread_run.specs.Runs.{lost_beside}
+use Rattle.thread_run.specs.private.Pooled.{lost_beside}
 use Rattle.thread_run.proofs.whole.add_lost.Given as goal
 
 abbrev pub invariant-loop-segments : goal.invariant-loop-segments

@@ -2,7 +2,7 @@ use Rattle.std.proofs.Common.{◌≡◌, ◌++◌, length}
 use Rattle.sled_rule.specs.Plans.{start_in}
 use Rattle.sled_rule.specs.Seats.{patch_view, script_of, IsPatcherOf}
 use Rattle.thread_run.specs.Recordings.{StandsFor}
-use Rattle.thread_run.specs.Runs.{AreWorkersOfRun}
+use Rattle.thread_run.specs.private.Pooled.{AreWorkersOfRun}
 use Rattle.thread_run.specs.Workers.{IsGoing}
 use Rattle.thread_run.proofs.whole.new_workers.Given as goal
 

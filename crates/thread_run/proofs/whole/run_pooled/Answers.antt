@@ -5,7 +5,7 @@ use Rattle.sled_rule.specs.Seats.{script_of}
 use Rattle.thread_run.specs.declared.worker.Worker.{Worker}
 use Rattle.thread_run.specs.Recordings.{Recording, StandsFor}
 use Rattle.thread_run.specs.private.Rooms.{IsGathered}
-use Rattle.thread_run.specs.Runs.{AreWorkersOfRun}
+use Rattle.thread_run.specs.private.Pooled.{AreWorkersOfRun}
 use Rattle.thread_run.specs.Workers.{IsGoing}
 use Rattle.thread_run.proofs.RunLemmas.{all_are, all_run_out, written_back}
 use Rattle.thread_run.proofs.whole.run_pooled.Goals as goal

@@ -4,7 +4,7 @@ use Rattle.std.proofs.lemmas.List.Sorted.{IsPermutation-refl}
 use Rattle.std.proofs.lemmas.Fn.{always_returns_same, filter_same}
 use Rattle.fdr_buffer.specs.Filled.{Filled, has_event}
 use Rattle.traced_run.specs.Kept.{kept_buffers}
-use Rattle.trace_flush.proofs.KeptOrder.{kept_filled, kept_ordered}
+use Rattle.trace_flush.proofs.KeptOrder.{kept_ordered}
 use Rattle.trace_flush.proofs.OneOrder.{place, in_order, one_order}
 use Rattle.trace_flush.proofs.Traced.{begun_all}
 use Rattle.trace_flush.proofs.order.arrange.Goals as goal
@@ -28,7 +28,7 @@ returns-clause-run c = λ setup runs also. returns-clause-exact c (kept_buffers 
 pub returns-clause-stay : goal.returns-clause-stay
 returns-clause-stay c = λ setup runs is.
     let kept = kept_buffers setup runs in
-    let same = ap (filter has_event) is ∙ kept_filled c.segments_hold_all.ensures.some setup runs in
+    let same = ap (filter has_event) is ∙ c.kept_buffers_hold_events.ensures.all setup runs in
     let P : List Filled → Type 0 = λ buffers. IsPermutation buffers kept in
     returns-clause-run c setup runs (subst P (sym same) (IsPermutation-refl kept))
 

@@ -1,7 +1,8 @@
 use Rattle.std.proofs.Common.{◌≡◌, ◌≢◌, ◌+◌, ◌-◌, ◌≤◌, ◌<◌, length}
 use Rattle.xray_io.specs.Calls.{Went}
-use Rattle.xray_io.specs.Desk.{Absent, IsFront}
+use Rattle.xray_io.specs.Desk.{Absent}
 use Rattle.xray_io.specs.Reads.{Reads}
+use Rattle.xray_io.specs.private.Pieces.{IsFront}
 use Rattle.xray_io.proofs.whole.read_on.Given as goal
 
 abbrev pub invariant-reading : goal.invariant-reading

@@ -1,7 +1,8 @@
 use Rattle.std.proofs.Common.{◌≡◌, ℕ, ◌+◌, ◌<◌, ◌≤◌, ◌++◌, vec_len}
 use Rattle.std.specs.Prelude.{filter, vec_capacity}
 use Rattle.std.specs.List.{flat_map}
-use Rattle.step_sim.specs.Recorded.{is_of, numbers_from}
+use Rattle.step_sim.specs.Recorded.{numbers_from}
+use Rattle.step_sim.specs.private.Counts.{is_of}
 use Rattle.step_sim.proofs.pool.Pool.collect.Given as goal
 
 abbrev pub invariant-loop-before : goal.invariant-loop-before

@@ -62,7 +62,7 @@ collect-sealed-requires-clause-fit c =
     let r = recording start.program start.script start.setup begun.passed in
     let end = c.play.ensures.records r (first_of r) begun.at in
     sealed_fit c.segments_hold_all.ensures.all c.segments_hold_all.ensures.some r end.0 c.play.new.patcher c.play.new.cpus.items c.play.new.pool
-    c.one_end.ensures holds.accepted end.2 c.play.ensures.ended
+    c.a_traced_thread_ends_as_its_plain_run.ensures holds.accepted end.2 c.play.ensures.ended
 
 pub returns : goal.returns
 returns c =
@@ -78,7 +78,7 @@ returns c =
     let left = c.collect-sealed.ensures in
     let threads : s.setup.threads ≡ start.setup.threads = ap (λ (x : Start). x.setup.threads) c.self.view_is in
     is_simulated start.program start.script c.args.schedule.now lines start.setup begun.passed count new.patcher new.cpus.items new.pool
-    _ _ _ _ c.one_end.ensures holds.accepted begun.count end holds.count c.lines.ensures c.requires c.play.ensures.ended (record {
+    _ _ _ _ c.a_traced_thread_ends_as_its_plain_run.ensures holds.accepted begun.count end holds.count c.lines.ensures c.requires c.play.ensures.ended (record {
       sealed_are = left.sealed;
       segment_count = left.segment_count;
       segments_are = left.segments;

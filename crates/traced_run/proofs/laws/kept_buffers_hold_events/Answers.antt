@@ -1,0 +1,8 @@
+use Rattle.traced_run.proofs.KeptEvents.{kept_filled, one_filled}
+use Rattle.traced_run.proofs.laws.kept_buffers_hold_events.Goals as goal
+
+pub returns : goal.returns
+returns c = record {
+  one = one_filled c.segments_hold_all.ensures.some;
+  all = kept_filled c.segments_hold_all.ensures.some;
+}
