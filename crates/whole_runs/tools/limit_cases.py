@@ -199,6 +199,10 @@ def most_rows(past):
     return Case([b"account", b"t", b"--top", b"%d" % (replay_model.NUMBER_LIMIT + past)], {b"t": open_calls(3)})
 
 
+def largest_seed(past):
+    return Case([b"soak", b"%d" % (model.LARGEST_64 + past)], {})
+
+
 LIMITS = [
     full_code, full_function_list, full_sled_map, full_image_file, full_outputs, full_script, full_command_list,
     full_micro_step_list, full_schedule, full_schedule_lines, full_turns, full_wait, no_fuel, full_fuel, no_passings,
@@ -206,7 +210,7 @@ LIMITS = [
 ]  # fmt: skip
 TRACE_LIMITS = [
     least_buffer_size, largest_buffer_size, largest_trace, a_buffer_each, full_buffer_list, latest_wall, last_counter, last_cpu,
-    last_pid, full_trace_file, deepest_calls, most_rows,
+    last_pid, full_trace_file, deepest_calls, most_rows, largest_seed,
 ]  # fmt: skip
 
 

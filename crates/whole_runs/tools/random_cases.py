@@ -30,6 +30,8 @@ LARGEST_32, LARGEST_64 = (1 << 32) - 1, (1 << 64) - 1
 # Only the fuel makes the model end soon.
 FUELS = [0, 1, 2, 3, 10, 100, 1000, 1000, 1000, 3000, 3000, 3000]
 PASSINGS = [0, 1, 2, 3, 50, 1_048_576, 1_048_576, 1_048_576]
+# Seeds that the model replays soon, and both ends of their range.
+SEEDS = [0, 1, 2, 5, 14, 19, 20, 23, LARGEST_32, LARGEST_32 + 1, (1 << 63) - 1, 1 << 63, LARGEST_64 - 1, LARGEST_64]
 WRONG_VALUES = [
     "", "x", "-1", "1.0", "0x1", "1_0", "+", "++1", " 1", "1 ", "1000000001", "18446744073709551616", "17", "\u0661",
 ]  # fmt: skip
@@ -208,9 +210,17 @@ def random_contents(draw, command, threads):
     return [random_image(draw, KINDS[command], 0.6)]
 
 
+def soak_case(draw):
+    """A run of `soak`, which has no files."""
+    words = random_words(draw, "soak", [spelled(draw, draw.choice(SEEDS)).encode()], [])
+    return Case(words, {}, is_output_full=draw.random() < 0.05)
+
+
 def random_case(draw, forms, only=None):
     """A random run of a program that has these commands, or of one of them."""
     command = only or draw.choice([*forms, "sim", "sim"])
+    if command == "soak":
+        return soak_case(draw)
     threads = draw.choice([1, 1, 1, 2, 3, 16])
     contents = random_contents(draw, command, threads)
     names = draw.sample([*NAMES, *STRANGE_NAMES], len(contents))

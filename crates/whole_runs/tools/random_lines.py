@@ -1,7 +1,8 @@
 """Random command lines over a few small files, for `random_runs.py --lines`.
 
 The inputs are sound, so the outcome of a line depends only on its words: each option at the ends of its range and one past them,
-in all spellings; options twice, of other commands, shortened, and without a value; names that look like options; `--`.
+in all spellings; options twice, of other commands, shortened, and without a value; names that look like options; `--`; seeds, and
+words that aren't seeds.
 """
 import functools
 
@@ -19,6 +20,7 @@ NAMES = {
     "account": [b"t", b"i"],
     "stack": [b"t", b"i"],
     "convert": [b"t", b"i"],
+    "soak": [b"1"],
 }
 OTHER_NAMES = [b"i", b"t", b"new", b"./new", b"-", b"a=b", b"a b", b"", b"--", b"-x", b"--fuel", b"--fuel=3", b"help",
                b"missing"]  # fmt: skip
@@ -50,11 +52,20 @@ def value(draw, values):
     return random_cases.spelled(draw, max(number, 0)).encode()
 
 
+def seed(draw):
+    """A word in the place of a seed."""
+    if draw.random() < 0.2:
+        return draw.choice(WRONG)
+    return random_cases.spelled(draw, draw.choice(random_cases.SEEDS)).encode()
+
+
 def line_case(draw, forms):
     """A command line over the files."""
     command = draw.choice(list(forms))
     form = forms[command]
     names = NAMES[command][: draw.choice(list(form.files))]
+    for at in form.numbers:
+        names[at] = seed(draw)
     for at in range(len(names)):
         if draw.random() < 0.06:
             names[at] = draw.choice(OTHER_NAMES)

@@ -3,8 +3,8 @@
 
 usage: crates/whole_runs/tools/worked_runs.py [PROGRAM] [--with COMMANDS]
     PROGRAM: a built program, which is compared with the same results; without it only the model is
-    --with: which of sim, account, stack and convert PROGRAM has, with commas between them; all if left out. Without sim, a
-        replay has three files and writes no trace
+    --with: which of sim, run, account, stack, convert and soak PROGRAM has, with commas between them; all if left out.
+        Without sim, a replay has three files and writes no trace
 
 The images are made from assembler texts by the assembler's own model. Each run has its words, its inputs i (image), s
 (script) and c (schedule), and what is expected: the status, and standard output or its lines of marks, or the line on

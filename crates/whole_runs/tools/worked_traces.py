@@ -3,7 +3,7 @@
 
 usage: crates/whole_runs/tools/worked_traces.py [PROGRAM] [--with COMMANDS]
     PROGRAM: a built program, which is compared with the same results; without it only the model is
-    --with: which of sim, account, stack and convert PROGRAM has, with commas between them; all if left out
+    --with: which of sim, run, account, stack, convert and soak PROGRAM has, with commas between them; all if left out
 
 Each row begins with some files and goes through runs over them, in order. A replay leaves a trace t and an audit a, which later
 reports read. A run has what it prints, or some of these lines, and which files it leaves. Traces are written as hexadecimal

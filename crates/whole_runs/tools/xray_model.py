@@ -2,14 +2,16 @@
 
 It is written from docs/formats and docs/COMMANDS.md alone, and shares nothing with the program or its definitions. It is made to
 be read, not to be fast. Other modules have its parts: images (image_model), plain runs (machine_model), scripts and replays
-(replay_model), runs beside a script (run_model), traces (trace_model) and reports on them (report_model). What `asm` makes from
-a text is passed in: crates/asm_text/tools/random_texts.py has a model of that. What `run` shows of its order is passed in too.
+(replay_model), runs beside a script (run_model), traces (trace_model), reports on them (report_model) and soaks (soak_model).
+What `asm` makes from a text is passed in: crates/asm_text/tools/random_texts.py has a model of that. What `run` shows of its
+order is passed in too.
 worked_runs.py and worked_traces.py compare the model with results that were worked by hand.
 """
 import dataclasses
 import re
 
 import run_model
+import soak_model
 from image_model import Refused, image_of, sled_map_text
 from machine_model import Thread, plain_text
 from replay_model import NUMBER_LIMIT, WAITING, commands_of, replayed, runs_text, turns_of
@@ -32,7 +34,7 @@ class BadLine(Exception):
 
 @dataclasses.dataclass(frozen=True)
 class Numbers:
-    """The range of an option's value, and the value without the option."""
+    """The range of a number, and the number if no word says it."""
 
     least: int
     most: int
@@ -59,11 +61,15 @@ class Choice:
 
 @dataclasses.dataclass(frozen=True)
 class Form:
-    """How many files a command has at least and at most, which of them are outputs, and its options."""
+    """How many files a command has at least and at most, which of them are outputs, and its options.
+
+    Some words in the places of files are numbers. `numbers` has their ranges by these places.
+    """
 
     files: range
     outputs: tuple
     options: dict
+    numbers: dict = dataclasses.field(default_factory=dict)
 
 
 RUN_OPTIONS = {
@@ -101,9 +107,10 @@ FORMS = {
     "account": Form(TRACE_AND_IMAGE, (), ACCOUNT_OPTIONS),
     "stack": Form(TRACE_AND_IMAGE, (), {"format": Choice("human", "flame")}),
     "convert": Form(TRACE_AND_IMAGE, (), {"format": Choice("yaml")}),
+    "soak": Form(range(1, 2), (), {}, {0: Numbers(0, LARGEST_64, None)}),
 }
 # Commands that a program may lack.
-LATER = ("sim", "run", "account", "stack", "convert")
+LATER = ("sim", "run", "account", "stack", "convert", "soak")
 # `sim` of a program that writes no traces: it only prints the state texts.
 REPLAY = Form(range(3, 4), (), RUN_OPTIONS)
 
@@ -115,7 +122,7 @@ def forms_with(commands):
 
 
 def command_of(words, forms):
-    """The command, its files and its options. The words are bytes."""
+    """The command, its files and its options. The words are bytes. A number stands where the form has one for a file."""
     try:
         words = [word.decode("utf-8") for word in words]
     except UnicodeDecodeError:
@@ -141,6 +148,8 @@ def command_of(words, forms):
             files.append(word)
     if len(files) not in form.files or any(files.count(files[at]) > 1 for at in form.outputs):
         raise BadLine
+    for at, values in form.numbers.items():
+        files[at] = values.value_of(files[at])
     options = {option: given.get(option, values.default) for option, values in form.options.items()}
     if "buffer-max" in options:
         check_buffers(options["threads"], options["buffer-size"], options["buffer-max"])
@@ -302,6 +311,8 @@ def results(command, names, options, world, assemble):
         case "run":
             comes = run_beside(world, names[:2], options)
             return dict(zip(names[2:], [comes.trace, comes.audit])), comes.states
+        case "soak":
+            return {}, soak_model.summary(names[0], assemble)
         case _:
             return {}, report(world, command, names, options)
 
