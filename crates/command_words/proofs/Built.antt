@@ -12,7 +12,8 @@ use Rattle.clap.specs.Simple.{App, filled, filled_from, with_index, with_rule, o
 use Rattle.clap.proofs.FaultLemmas.{leaf_fault}
 use Rattle.command_words.specs.private.Clapped.{after, app_by, bare_app, clap_rows, file_rule, option_rule}
 use Rattle.command_words.specs.Items.{items_of}
-use Rattle.command_words.specs.Rows.{CommandRow, FileRow, OptionRow, are_distinct, is_row, labels_of, option_names}
+use Rattle.command_words.specs.Rows.{CommandRow, FileRow, OptionRow, option_names}
+use Rattle.command_words.specs.private.Allowed.{are_distinct, is_row, labels_of}
 use Rattle.command_words.proofs.Arguments.{Each, IsOne, leaf, run}
 use Rattle.command_words.proofs.Levels.{complete, level_is}
 use Rattle.command_words.proofs.Texts.{and_parts, distinct_parts, each_mapped, each_with, equal_texts, same_text}
