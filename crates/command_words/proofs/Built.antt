@@ -157,17 +157,7 @@ options_made (name ∷ names) = (
 all_made : (place : ℕ) (files : List FileRow) (names : List Text) → place + length files ≤ 1000 → Each IsMade (rules_from place files names)
 all_made place [] names few = options_made names
 all_made place (file ∷ files) names few = (
-  λ rules found. record {
-    only = found;
-    range = refl;
-    action = refl;
-    text = refl;
-    trailing = refl;
-    short = refl;
-    short_aliases = refl;
-    defaults = refl;
-    near = lt-ltb place 1000 (omega arith);
-  },
+  λ rules found. record { only = found; range = refl; action = refl; text = refl; trailing = refl; short = refl; short_aliases = refl; defaults = refl; near = lt-ltb place 1000 (omega arith) },
   all_made (suc place) files names (omega arith),
 )
 
