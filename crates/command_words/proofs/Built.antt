@@ -12,7 +12,8 @@ use Rattle.clap.specs.Simple.{App, filled, filled_from, with_index, with_rule, o
 use Rattle.clap.proofs.FaultLemmas.{leaf_fault}
 use Rattle.command_words.specs.private.Clapped.{after, app_by, bare_app, clap_rows, file_rule, option_rule}
 use Rattle.command_words.specs.Items.{items_of}
-use Rattle.command_words.specs.Rows.{CommandRow, FileRow, OptionRow, are_distinct, is_row, labels_of, option_names}
+use Rattle.command_words.specs.Rows.{CommandRow, FileRow, OptionRow, option_names}
+use Rattle.command_words.specs.private.Allowed.{are_distinct, is_row, labels_of}
 use Rattle.command_words.proofs.Arguments.{Each, IsOne, leaf, run}
 use Rattle.command_words.proofs.Levels.{complete, level_is}
 use Rattle.command_words.proofs.Texts.{and_parts, distinct_parts, each_mapped, each_with, equal_texts, same_text}
@@ -156,17 +157,7 @@ options_made (name ∷ names) = (
 all_made : (place : ℕ) (files : List FileRow) (names : List Text) → place + length files ≤ 1000 → Each IsMade (rules_from place files names)
 all_made place [] names few = options_made names
 all_made place (file ∷ files) names few = (
-  λ rules found. record {
-    only = found;
-    range = refl;
-    action = refl;
-    text = refl;
-    trailing = refl;
-    short = refl;
-    short_aliases = refl;
-    defaults = refl;
-    near = lt-ltb place 1000 (omega arith);
-  },
+  λ rules found. record { only = found; range = refl; action = refl; text = refl; trailing = refl; short = refl; short_aliases = refl; defaults = refl; near = lt-ltb place 1000 (omega arith) },
   all_made (suc place) files names (omega arith),
 )
 

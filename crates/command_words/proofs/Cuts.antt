@@ -8,7 +8,8 @@ use Rattle.clap.specs.Walk.{Text, first_of}
 use Rattle.command_words.specs.private.Clapped.{app_by, clap_rows, given_in, line_in, names_in}
 use Rattle.command_words.specs.Items.{Item, File, Given, Bare, dashed, files_of, items_of, values_of}
 use Rattle.command_words.specs.Lines.{Line, comes_once, fit, given_by, have_only, is_cut, line_by, line_of, outputs_differ}
-use Rattle.command_words.specs.Rows.{CommandRow, FileRow, are_distinct, is_optional, is_row, labels_of, option_names}
+use Rattle.command_words.specs.Rows.{CommandRow, FileRow, is_optional, option_names}
+use Rattle.command_words.specs.private.Allowed.{are_distinct, is_row, labels_of}
 use Rattle.command_words.proofs.Arguments.{Each, run}
 use Rattle.command_words.proofs.Built.{built_option, row_is_distinct, rows_are, rules_by, rules_from}
 use Rattle.command_words.proofs.Levels.{complete, lacks}

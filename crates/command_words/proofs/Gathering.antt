@@ -15,7 +15,7 @@ use Rattle.command_words.specs.private.Clapped.{given_in, names_in, rows_in}
 use Rattle.command_words.specs.Lines.{outputs_in}
 use Rattle.command_words.specs.Rows as rows
 use Rattle.command_words.specs.Rows.{is_written}
-use Rattle.command_words.specs.Views.{file_view, option_view}
+use Rattle.command_words.specs.private.CodeViews.{file_view, option_view}
 use Rattle.command_words.specs.declared.rows.FileRow.{FileRow}
 use Rattle.command_words.specs.declared.rows.OptionRow.{OptionRow}
 use Rattle.command_words.specs.declared.rows.Role.TheVariants.{Input}

@@ -12,9 +12,7 @@ use Rattle.command_words.specs.Rows.{CommandRow}
 use Rattle.command_words.specs.Tables.{account_row, asm_row, convert_row, extract_row, plain_row, run_row, sim_row}
 use Rattle.command_words.specs.Tables.{convert_format_option, seeds, soak_row, stack_format_option, stack_row, threshold_option}
 use Rattle.command_words.specs.Words.{Command, Sim, Run, Plain, Extract, Asm, Account, Stack, Convert, Soak}
-use Rattle.command_words.specs.Words.{account_in, asm_in, bounds_in, convert_in, extract_in, plain_in, run_in, run_options_in, sim_in, soak_in, stack_in}
-use Rattle.command_words.specs.declared.report_options.AccountOptions.{AccountOptions}
-use Rattle.command_words.specs.declared.report_options.StackFormat.{StackFormat}
+use Rattle.command_words.specs.Words.{account_in, asm_in, bounds_in, convert_in, extract_in, plain_in, report_by, run_in, run_options_in, sim_in, soak_in, stack_in}
 use Rattle.command_words.specs.declared.run_options.Bounds.{Bounds}
 use Rattle.command_words.specs.declared.run_options.RunOptions.{RunOptions}
 use Rattle.command_words.proofs.Texts.{equal_texts}
@@ -94,52 +92,29 @@ asm_of line command says = go line.files (number_in threshold_option line) refl 
     go (a ∷ []) threshold e f = absurd (never command (rw e at says))
     go (a ∷ b ∷ c ∷ names) threshold e f = absurd (never command (rw e at says))
 
+-- a report, whatever its options are
+report_of : {X : Type 0} (row : CommandRow) (make : List ℕ → Option (List ℕ) → X → Command) (names : List (List ℕ)) (options : Option X) (command : Command)
+    → ((trace : List ℕ) (option : X) → IsOf row (trace ∷ []) (make trace None option))
+    → ((trace image : List ℕ) (option : X) → IsOf row (trace ∷ image ∷ []) (make trace (Some image) option))
+    → report_by make names options ≡ Some command → IsOf row names command
+report_of row make (trace ∷ []) (Some option) command alone named says = rw (sym (same _ _ says)) (alone trace option)
+report_of row make (trace ∷ image ∷ []) (Some option) command alone named says = rw (sym (same _ _ says)) (named trace image option)
+report_of row make (trace ∷ []) None command alone named says = absurd (never command says)
+report_of row make (trace ∷ image ∷ []) None command alone named says = absurd (never command says)
+report_of row make [] options command alone named says = absurd (never command says)
+report_of row make (a ∷ b ∷ c ∷ names) options command alone named says = absurd (never command says)
+
 account_of : (line : Line) (command : Command) → account_in line ≡ Some command → IsOf account_row line.files command
-account_of line command says = go line.files (account_options_in line) refl refl
-  where
-    go : (names : List (List ℕ)) (options : Option AccountOptions) → line.files ≡ names → account_options_in line ≡ options
-        → IsOf account_row line.files command
-    go (trace ∷ []) (Some options) e f =
-        let is : Account trace None options ≡ command = same _ _ (rw (e, f) at says) in
-        rw (sym is, e) (record { row_is = refl; names_are = refl })
-    go (trace ∷ image ∷ []) (Some options) e f =
-        let is : Account trace (Some image) options ≡ command = same _ _ (rw (e, f) at says) in
-        rw (sym is, e) (record { row_is = refl; names_are = refl })
-    go (trace ∷ []) None e f = absurd (never command (rw (e, f) at says))
-    go (trace ∷ image ∷ []) None e f = absurd (never command (rw (e, f) at says))
-    go [] options e f = absurd (never command (rw e at says))
-    go (a ∷ b ∷ c ∷ names) options e f = absurd (never command (rw e at says))
+account_of line command says = report_of account_row Account line.files (account_options_in line) command
+    (λ trace options. record { row_is = refl; names_are = refl }) (λ trace image options. record { row_is = refl; names_are = refl }) says
 
 stack_of : (line : Line) (command : Command) → stack_in line ≡ Some command → IsOf stack_row line.files command
-stack_of line command says = go line.files (choice_in stack_format_option stack_formats line) refl refl
-  where
-    go : (names : List (List ℕ)) (format : Option StackFormat) → line.files ≡ names → choice_in stack_format_option stack_formats line ≡ format
-        → IsOf stack_row line.files command
-    go (trace ∷ []) (Some format) e f =
-        let is : Stack trace None format ≡ command = same _ _ (rw (e, f) at says) in
-        rw (sym is, e) (record { row_is = refl; names_are = refl })
-    go (trace ∷ image ∷ []) (Some format) e f =
-        let is : Stack trace (Some image) format ≡ command = same _ _ (rw (e, f) at says) in
-        rw (sym is, e) (record { row_is = refl; names_are = refl })
-    go (trace ∷ []) None e f = absurd (never command (rw (e, f) at says))
-    go (trace ∷ image ∷ []) None e f = absurd (never command (rw (e, f) at says))
-    go [] format e f = absurd (never command (rw e at says))
-    go (a ∷ b ∷ c ∷ names) format e f = absurd (never command (rw e at says))
+stack_of line command says = report_of stack_row Stack line.files (choice_in stack_format_option stack_formats line) command
+    (λ trace format. record { row_is = refl; names_are = refl }) (λ trace image format. record { row_is = refl; names_are = refl }) says
 
 convert_of : (line : Line) (command : Command) → convert_in line ≡ Some command → IsOf convert_row line.files command
-convert_of line command says = go line.files (number_in convert_format_option line) refl refl
-  where
-    go : (names : List (List ℕ)) (yaml : Option ℕ) → line.files ≡ names → number_in convert_format_option line ≡ yaml → IsOf convert_row line.files command
-    go (trace ∷ []) (Some yaml) e f =
-        let is : Convert trace None ≡ command = same _ _ (rw (e, f) at says) in
-        rw (sym is, e) (record { row_is = refl; names_are = refl })
-    go (trace ∷ image ∷ []) (Some yaml) e f =
-        let is : Convert trace (Some image) ≡ command = same _ _ (rw (e, f) at says) in
-        rw (sym is, e) (record { row_is = refl; names_are = refl })
-    go (trace ∷ []) None e f = absurd (never command (rw (e, f) at says))
-    go (trace ∷ image ∷ []) None e f = absurd (never command (rw (e, f) at says))
-    go [] yaml e f = absurd (never command (rw e at says))
-    go (a ∷ b ∷ c ∷ names) yaml e f = absurd (never command (rw e at says))
+convert_of line command says = report_of convert_row (λ trace image yaml. Convert trace image) line.files (number_in convert_format_option line) command
+    (λ trace yaml. record { row_is = refl; names_are = refl }) (λ trace image yaml. record { row_is = refl; names_are = refl }) says
 
 soak_of : (line : Line) (command : Command) → soak_in line ≡ Some command → IsOf soak_row line.files command
 soak_of line command says = go line.files refl

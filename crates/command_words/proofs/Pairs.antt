@@ -13,7 +13,8 @@ use Rattle.clap.specs.Walk.{Row, Rule, Text, arg_by_index, arg_by_long}
 use Rattle.clap.specs.declared.builder.value_parser.Reading.TheVariants.{AsWritten}
 use Rattle.clap.specs.declared.parser.matches.ValueSource.TheVariants.{CommandLine}
 use Rattle.command_words.specs.Items.{Item, File, Given, Bare, dashed, values_of}
-use Rattle.command_words.specs.Rows.{FileRow, are_distinct}
+use Rattle.command_words.specs.Rows.{FileRow}
+use Rattle.command_words.specs.private.Allowed.{are_distinct}
 use Rattle.command_words.proofs.Arguments.{Each, run, run_none, used_one}
 use Rattle.command_words.proofs.Built.{at_place, built_file, built_option, long_is, rules_from}
 use Rattle.command_words.proofs.Texts.{all_alike, distinct_parts, each_all, each_among, each_append, each_mapped, each_with, equal_texts, not_all, other_way, same_text}

@@ -4,7 +4,7 @@ use Rattle.std.specs.Prelude.{option_and_then}
 use Rattle.command_words.specs.Items.{Item}
 use Rattle.command_words.specs.Lines.{Line, line_of}
 use Rattle.command_words.specs.Rows.{CommandRow}
-use Rattle.command_words.specs.Views.{line_view}
+use Rattle.command_words.specs.private.CodeViews.{line_view}
 use Rattle.command_words.specs.Words.{Command}
 use Rattle.command_words.specs.declared.line.Line as code
 

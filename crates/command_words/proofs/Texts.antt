@@ -4,7 +4,7 @@ use Rattle.std.specs.List.{cons_option, filter_map, list_all, list_any}
 use Rattle.std.specs.Str.{bytes_eq}
 use Rattle.std.proofs.lemmas.Slice.Eq.{bytes_eq-Decides}
 use Rattle.clap.specs.Walk.{Text}
-use Rattle.command_words.specs.Rows.{are_distinct}
+use Rattle.command_words.specs.private.Allowed.{are_distinct}
 use Rattle.command_words.proofs.Arguments.{Each}
 
 -- ---- texts

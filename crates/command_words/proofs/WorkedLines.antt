@@ -1,8 +1,8 @@
 -- Command lines worked by hand: what the definitions make of them.
 use Rattle.std.proofs.Common.{◌≡◌, ℕ, List, [], ◌∷◌, Option, Some, None, refl}
-use Rattle.std.specs.Prelude.{codes}
+use Rattle.std.specs.Prelude.{codes, option_map}
 use Rattle.xray_io.specs.declared.faults.Wall.{Wall}
-use Rattle.command_words.specs.Words.{Command, Sim, Plain, Extract, Asm, Soak, outputs_named, reading}
+use Rattle.command_words.specs.Words.{Command, Sim, Plain, Extract, Asm, Soak, outputs_of, reading}
 
 -- a wall time that is passed in
 noon : Wall
@@ -59,7 +59,7 @@ made = refl
 onto_itself : says (codes "asm" ∷ codes "t" ∷ codes "t" ∷ []) ≡ None
 onto_itself = refl
 
-made_named : outputs_named noon (codes "asm" ∷ codes "t" ∷ codes "i" ∷ []) ≡ codes "i" ∷ []
+made_named : option_map outputs_of (says (codes "asm" ∷ codes "t" ∷ codes "i" ∷ [])) ≡ Some (codes "i" ∷ [])
 made_named = refl
 
 -- a replay begins at the wall time that is passed in, and two inputs may be the same

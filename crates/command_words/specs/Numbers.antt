@@ -1,5 +1,5 @@
 -- The numbers that the values of options stand for.
-use Rattle.std.specs.Prelude.{◌<◌, ◌≤◌, ℕ, ◌&&◌, Bool, List, length, nat_le, nat_lt, if◌then◌else◌, Option, Some, None}
+use Rattle.std.specs.Prelude.{ℕ, ◌&&◌, List, length, nat_le, if◌then◌else◌, Option, Some, None}
 use Rattle.std.specs.List.{position_from}
 use Rattle.std.specs.Str.{all_ascii_digits, bytes_eq}
 use Rattle.std.specs.Str.Parse.{digits_value, without_leading_plus}
@@ -21,13 +21,3 @@ number_within least most word =
 abbrev pub number_of : Values → List ℕ → Option ℕ
 number_of (Number least most) value = number_within least most value
 number_of (Listed words) value = position_from (bytes_eq value) 0 words
-
--- a value may stand for this number
-abbrev pub IsAmongValues : Values → ℕ → Type 0
-IsAmongValues (Number least most) number = (least ≤ number) × (number ≤ most)
-IsAmongValues (Listed words) number = number < length words
-
--- the same, as a test
-abbrev pub is_among_values : Values → ℕ → Bool
-is_among_values (Number least most) number = nat_le least number && nat_le number most
-is_among_values (Listed words) number = nat_lt number (length words)

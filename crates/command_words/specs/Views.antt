@@ -1,37 +1,8 @@
--- The tables, the lines and the commands of the code, as those of the definitions. Texts are their bytes.
-use Rattle.std.specs.Prelude.{ℕ, List, Option, map, option_map}
-use Rattle.command_words.specs.declared.line.Line as line
-use Rattle.command_words.specs.declared.report_options.ReportFiles as report_files
-use Rattle.command_words.specs.declared.rows.CommandRow as command_row
-use Rattle.command_words.specs.declared.rows.FileRow as file_row
-use Rattle.command_words.specs.declared.rows.OptionRow as option_row
-use Rattle.command_words.specs.declared.rows.Values as values
-use Rattle.command_words.specs.declared.rows.Values.TheVariants as values_of
+-- The command of the code, as that of the definitions. Texts are their bytes.
+use Rattle.std.specs.Prelude.{option_map}
 use Rattle.command_words.specs.declared.words.Command as command
 use Rattle.command_words.specs.declared.words.Command.TheVariants as command_of
-use Rattle.command_words.specs.Lines.{Line}
-use Rattle.command_words.specs.Numbers.{Values, Number, Listed}
-use Rattle.command_words.specs.Rows.{CommandRow, FileRow, OptionRow}
 use Rattle.command_words.specs.Words.{Command, Sim, Run, Plain, Extract, Asm, Account, Stack, Convert, Soak}
-
-abbrev pub values_view : values.Values → Values
-values_view (values_of.Number least most) = Number least most
-values_view (values_of.Listed words) = Listed (map (λ word. word.now) words.now)
-
-abbrev pub option_view : option_row.OptionRow → OptionRow
-option_view option = record { name = option.name.now; values = values_view option.values; default = option.default }
-
-abbrev pub file_view : file_row.FileRow → FileRow
-file_view file = record { label = file.label.now; role = file.role }
-
-abbrev pub row_view : command_row.CommandRow → CommandRow
-row_view row = record { word = row.word.now; files = map file_view row.files.now; options = map option_view row.options.now }
-
-abbrev pub line_view : line.Line → Line
-line_view line = record { files = map (λ name. name.now) line.files.items; given = map (λ given. (given.0.now, given.1.now)) line.given.items }
-
-abbrev pub files_view : report_files.ReportFiles → List ℕ × Option (List ℕ)
-files_view files = (files.trace.now, option_map (λ image. image.now) files.image)
 
 abbrev pub command_view : command.Command → Command
 command_view (command_of.Sim image script schedule trace audit options) =

@@ -121,27 +121,23 @@ asm_in line = of_parts line.files (number_in threshold_option line)
     of_parts (text ∷ image ∷ []) (Some threshold) = Some (Asm text image threshold)
     of_parts _ _ = None
 
-abbrev pub account_in : Line → Option Command
-account_in line = of_parts (report_files_in line.files) (account_options_in line)
+-- a report by these names, on a trace and an image, with what its options say
+abbrev pub report_by : {X : Type 0} → (make : List ℕ → Option (List ℕ) → X → Command) → List (List ℕ) → Option X → Option Command
+report_by {X} make names options = of_parts (report_files_in names) options
   where
-    of_parts : Option (List ℕ × Option (List ℕ)) → Option AccountOptions → Option Command
-    of_parts (Some files) (Some options) = Some (Account files.0 files.1 options)
+    of_parts : Option (List ℕ × Option (List ℕ)) → Option X → Option Command
+    of_parts (Some files) (Some options) = Some (make files.0 files.1 options)
     of_parts _ _ = None
 
+abbrev pub account_in : Line → Option Command
+account_in line = report_by Account line.files (account_options_in line)
+
 abbrev pub stack_in : Line → Option Command
-stack_in line = of_parts (report_files_in line.files) (choice_in stack_format_option stack_formats line)
-  where
-    of_parts : Option (List ℕ × Option (List ℕ)) → Option StackFormat → Option Command
-    of_parts (Some files) (Some format) = Some (Stack files.0 files.1 format)
-    of_parts _ _ = None
+stack_in line = report_by Stack line.files (choice_in stack_format_option stack_formats line)
 
 -- a trace is converted only to YAML
 abbrev pub convert_in : Line → Option Command
-convert_in line = of_parts (report_files_in line.files) (number_in convert_format_option line)
-  where
-    of_parts : Option (List ℕ × Option (List ℕ)) → Option ℕ → Option Command
-    of_parts (Some files) (Some yaml) = Some (Convert files.0 files.1)
-    of_parts _ _ = None
+convert_in line = report_by (λ trace image yaml. Convert trace image) line.files (number_in convert_format_option line)
 
 abbrev pub soak_in : Line → Option Command
 soak_in line = of_files line.files
@@ -179,7 +175,3 @@ outputs_of (Account trace image options) = []
 outputs_of (Stack trace image format) = []
 outputs_of (Convert trace image) = []
 outputs_of (Soak number) = []
-
--- the names of the outputs that words ask for; they don't depend on the wall time
-abbrev pub outputs_named : Wall → List (List ℕ) → List (List ℕ)
-outputs_named wall words = option_map_or outputs_of (reading wall words) []

@@ -6,8 +6,8 @@ ghost use Rattle.clap.specs.Simple.{app_of, with_rule};
 ghost use Rattle.command_words.specs.private.Clapped.{app_by, bare_app, clap_rows, file_rule, given_in, line_in, names_in, option_rule, rows_in};
 ghost use Rattle.command_words.specs.Items.{items_of, texts};
 ghost use Rattle.command_words.specs.Lines.{line_of, outputs_differ};
-ghost use Rattle.command_words.specs.Rows.{is_row};
-ghost use Rattle.command_words.specs.Views.{file_view, line_view, option_view, row_view};
+ghost use Rattle.command_words.specs.private.Allowed.{is_row};
+ghost use Rattle.command_words.specs.private.CodeViews.{file_view, line_view, option_view, row_view};
 
 use crate::line::Line;
 use crate::rows::{CommandRow, FileRow, OptionRow};

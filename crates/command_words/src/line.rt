@@ -3,9 +3,10 @@ ghost use Rattle.std.specs.Prelude.{◌≡◌, ◌<◌, ◌≤◌, IfSome, lengt
 ghost use Rattle.std.specs.List.{position_from};
 ghost use Rattle.std.specs.Str.{bytes_eq};
 ghost use Rattle.command_words.specs.Lines.{number_in, value_in};
-ghost use Rattle.command_words.specs.Numbers.{IsAmongValues, number_of, number_within};
-ghost use Rattle.command_words.specs.Rows.{has_default_in_range};
-ghost use Rattle.command_words.specs.Views.{line_view, option_view, values_view};
+ghost use Rattle.command_words.specs.Numbers.{number_of, number_within};
+ghost use Rattle.command_words.specs.private.Allowed.{IsAmongValues};
+ghost use Rattle.command_words.specs.private.Allowed.{has_default_in_range};
+ghost use Rattle.command_words.specs.private.CodeViews.{line_view, option_view, values_view};
 
 use crate::rows::{OptionRow, Values};
 

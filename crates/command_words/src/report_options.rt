@@ -4,7 +4,7 @@ ghost use Rattle.command_words.specs.Reports.{account_formats, choice_in, column
 ghost use Rattle.command_words.specs.Reports.{account_options_in, report_files_in, top_in};
 ghost use Rattle.command_words.specs.Tables.{account_format_option, sort_option, sort_order_option};
 ghost use Rattle.command_words.specs.Tables.{stack_format_option};
-ghost use Rattle.command_words.specs.Views.{files_view, line_view};
+ghost use Rattle.command_words.specs.private.CodeViews.{files_view, line_view};
 
 use crate::line::Line;
 use crate::tables::{ACCOUNT_FORMAT, SORT, SORT_ORDER, STACK_FORMAT, TOP};

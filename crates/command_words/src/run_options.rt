@@ -1,7 +1,7 @@
 //! The options of the commands that run threads.
 ghost use Rattle.std.specs.Prelude.{◌≡◌, IfSome};
 ghost use Rattle.command_words.specs.Ranges.{AreBounds, AreBuffers, AreRunOptions, AreStamps};
-ghost use Rattle.command_words.specs.Views.{line_view};
+ghost use Rattle.command_words.specs.private.CodeViews.{line_view};
 ghost use Rattle.command_words.specs.Words.{bounds_in, buffers_in, have_room, run_options_in, stamps_in, wall_in};
 
 use crate::line::Line;

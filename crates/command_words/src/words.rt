@@ -5,7 +5,8 @@ ghost use Rattle.command_words.specs.Lines.{line_of, outputs_differ};
 ghost use Rattle.command_words.specs.Ranges.{HasRanges};
 ghost use Rattle.command_words.specs.Tables.{account_row, asm_row, convert_row, extract_row, plain_row};
 ghost use Rattle.command_words.specs.Tables.{run_row, sim_row, soak_row, stack_row};
-ghost use Rattle.command_words.specs.Views.{command_view, line_view};
+ghost use Rattle.command_words.specs.Views.{command_view};
+ghost use Rattle.command_words.specs.private.CodeViews.{line_view};
 ghost use Rattle.command_words.specs.Words.{account_in, asm_in, convert_in, extract_in, plain_in};
 ghost use Rattle.command_words.specs.Words.{reading, run_in, sim_in, soak_in, stack_in};
 

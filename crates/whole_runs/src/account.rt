@@ -1,13 +1,12 @@
 //! `account`: its options, the names of functions, and each refusal.
 use crate::asm::FIBONACCI;
-use crate::runs::{IMAGE, Run, run_words};
+use crate::runs::{IMAGE, assert_left, assert_stopped, run_words};
 use crate::sim::TRACED;
 use crate::trace_bytes::{
     CPU, ENTRY, EXIT, EXTENTS_72, EXTENTS_80, HEADER, ONE_CALL, ONE_EXIT, PREAMBLE, RECURSION,
     TWO_FUNCTIONS, file,
 };
 use std::alloc::Global;
-use std::process::Abort;
 use std::test::Fail;
 use xray_io::MemDesk;
 
@@ -17,13 +16,6 @@ fn trace_desk(alloc: Global, trace: &[u8], image: &[u8]) -> Result<MemDesk, Fail
     desk.put("t", trace)?;
     desk.put("i", image)?;
     Ok(desk)
-}
-
-/// Checks that a run stopped with a status and a line on err, and printed nothing.
-fn assert_stopped<R: Abort>(rt: &R, run: &Run, status: u8, line: &str) {
-    assert_eq!(rt; run.err.as_str(), line);
-    assert_eq!(rt; run.status, status, "{line}");
-    assert_eq!(rt; run.out.as_str(), "", "{line}");
 }
 
 const TEXT_OF_NONE: &str =
@@ -92,9 +84,7 @@ fn an_account_is_printed_as_its_words_ask(rt: HostRuntime) -> Result<(), Fail> {
         let trace = file(rt.alloc(), parts)?;
         let mut desk = trace_desk(rt.alloc(), &trace, &IMAGE)?;
         let run = run_words(&rt, words, &mut desk, &[], &[])?;
-        assert_eq!(rt; run.err.as_str(), "");
-        assert_eq!(rt; run.status, 0);
-        assert_eq!(rt; run.out.as_str(), text);
+        assert_left(&rt, &run, 0, text, "");
     }
     Ok(())
 }

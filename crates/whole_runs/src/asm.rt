@@ -1,7 +1,7 @@
 //! `asm`, and what the other commands do with the images that it writes.
 use crate::desks::Trickle;
 use crate::plain::SLED_MAP;
-use crate::runs::{IMAGE, Run, SCHEDULE, SCRIPT, STATE, run_words};
+use crate::runs::{IMAGE, SCHEDULE, SCRIPT, STATE, assert_left, assert_stopped, run_words};
 use std::alloc::Global;
 use std::process::Abort;
 use std::sync::Wait;
@@ -145,17 +145,8 @@ fn assert_done<R: Abort + Threads + Wait + Sync + AllocGlobal>(
     text: &str,
 ) -> Result<(), Fail> {
     let run = run_words(rt, words, desk, &[], &[])?;
-    assert_eq!(rt; run.err.as_str(), "");
-    assert_eq!(rt; run.status, 0);
-    assert_eq!(rt; run.out.as_str(), text);
+    assert_left(rt, &run, 0, text, "");
     Ok(())
-}
-
-/// Checks that a run stopped with a status and a line on err, and printed nothing.
-fn assert_stopped<R: Abort>(rt: &R, run: &Run, status: u8, line: &str) {
-    assert_eq!(rt; run.err.as_str(), line);
-    assert_eq!(rt; run.status, status, "{line}");
-    assert_eq!(rt; run.out.as_str(), "", "{line}");
 }
 
 #[test]

@@ -1,12 +1,13 @@
 //! One thread, with its sleds patched before its start and unpatched after it.
 use crate::desks::Trickle;
-use crate::runs::{IMAGE, SCHEDULE, SCRIPT, STATE, desk_of, run_words};
+use crate::runs::{
+    IMAGE, SCHEDULE, SCRIPT, STATE, assert_bad_line, assert_stopped, desk_of, run_words,
+};
+use crate::sim::SIM;
 use std::process::Abort;
 use std::sync::Wait;
 use std::test::Fail;
 use std::thread::Threads;
-
-const SIM: [&str; 6] = ["sim", "i", "s", "c", "t", "a"];
 
 #[test]
 fn unpatching_in_the_middle_of_a_passing_keeps_the_call_whole(rt: HostRuntime) -> Result<(), Fail> {
@@ -61,9 +62,7 @@ fn assert_refused<R: Abort + Threads + Wait + Sync + AllocGlobal>(
 ) -> Result<(), Fail> {
     let mut desk = desk_of(rt.alloc(), &[], image, script, schedule)?;
     let run = run_words(rt, &SIM, &mut desk, &[], &[])?;
-    assert_eq!(rt; run.status, 2, "{line}");
-    assert_eq!(rt; run.out.as_str(), "", "{line}");
-    assert_eq!(rt; run.err.as_str(), line);
+    assert_stopped(rt, &run, 2, line);
     Ok(())
 }
 
@@ -77,19 +76,6 @@ fn words_that_say_no_command_are_a_bad_line(rt: HostRuntime) -> Result<(), Fail>
     assert_bad_line(&rt, &["sim", "i", "s", "c", "t", "a", "c"])?;
     assert_bad_line(&rt, &["run", "i", "s", "c", "t", "a"])?;
     assert_bad_line(&rt, &["sim", "-x", "s", "c", "t", "a"])
-}
-
-/// Checks that words are a bad command line.
-fn assert_bad_line<R: Abort + Threads + Wait + Sync + AllocGlobal>(
-    rt: &R,
-    words: &[&str],
-) -> Result<(), Fail> {
-    let mut desk = desk_of(rt.alloc(), &[], &IMAGE, SCRIPT, SCHEDULE)?;
-    let run = run_words(rt, words, &mut desk, &[], &[])?;
-    assert_eq!(rt; run.status, 1);
-    assert_eq!(rt; run.out.as_str(), "");
-    assert_eq!(rt; run.err.as_str(), "xray: bad command line\n");
-    Ok(())
 }
 
 #[test]
@@ -107,9 +93,7 @@ fn a_read_that_fails_names_the_input_whose_turn_it_was(rt: HostRuntime) -> Resul
     for (call, line) in [(1, "xray: i: read fault\n"), (4, "xray: c: read fault\n")] {
         let mut desk = desk_of(rt.alloc(), &[call], &IMAGE, SCRIPT, SCHEDULE)?;
         let run = run_words(&rt, &SIM, &mut desk, &[], &[])?;
-        assert_eq!(rt; run.status, 3, "{call}");
-        assert_eq!(rt; run.out.as_str(), "", "{call}");
-        assert_eq!(rt; run.err.as_str(), line, "{call}");
+        assert_stopped(&rt, &run, 3, line);
     }
     Ok(())
 }
@@ -122,9 +106,7 @@ fn assert_unread<R: Abort + Threads + Wait + Sync + AllocGlobal>(
 ) -> Result<(), Fail> {
     let mut desk = desk_of(rt.alloc(), &[], &IMAGE, SCRIPT, SCHEDULE)?;
     let run = run_words(rt, words, &mut desk, &[], &[])?;
-    assert_eq!(rt; run.status, 3);
-    assert_eq!(rt; run.out.as_str(), "");
-    assert_eq!(rt; run.err.as_str(), line);
+    assert_stopped(rt, &run, 3, line);
     Ok(())
 }
 
@@ -151,8 +133,6 @@ fn a_name_that_is_not_held_is_a_read_fault(rt: HostRuntime) -> Result<(), Fail> 
 fn a_failure_of_err_changes_nothing_else(rt: HostRuntime) -> Result<(), Fail> {
     let mut desk = desk_of(rt.alloc(), &[], &IMAGE, "patch", SCHEDULE)?;
     let run = run_words(&rt, &SIM, &mut desk, &[], &[0])?;
-    assert_eq!(rt; run.status, 2);
-    assert_eq!(rt; run.out.as_str(), "");
-    assert_eq!(rt; run.err.as_str(), "");
+    assert_stopped(&rt, &run, 2, "");
     Ok(())
 }

@@ -1,5 +1,8 @@
 //! `plain` and `extract`, their options, and the refusals of their image.
-use crate::runs::{IMAGE, SCHEDULE, SCRIPT, STATE, desk_of, image_desk, run_words};
+use crate::runs::{
+    IMAGE, SCHEDULE, SCRIPT, STATE, assert_bad_line, assert_left, assert_stopped, desk_of,
+    image_desk, run_words,
+};
 use std::process::Abort;
 use std::sync::Wait;
 use std::test::Fail;
@@ -71,9 +74,7 @@ fn assert_prints<R: Abort + Threads + Wait + Sync + AllocGlobal>(
 ) -> Result<(), Fail> {
     let mut desk = image_desk(rt.alloc(), &IMAGE)?;
     let run = run_words(rt, words, &mut desk, &[], &[])?;
-    assert_eq!(rt; run.status, 0, "{text}");
-    assert_eq!(rt; run.out.as_str(), text);
-    assert_eq!(rt; run.err.as_str(), "");
+    assert_left(rt, &run, 0, text, "");
     Ok(())
 }
 
@@ -109,19 +110,6 @@ fn options_stand_anywhere_before_two_dashes(rt: HostRuntime) -> Result<(), Fail>
     )?;
     assert_prints(&rt, &["plain", "--fuel=1000000000", "--", "i"], STATE)?;
     assert_prints(&rt, &["extract", "--", "i"], SLED_MAP)
-}
-
-/// Checks that words are a bad command line.
-fn assert_bad_line<R: Abort + Threads + Wait + Sync + AllocGlobal>(
-    rt: &R,
-    words: &[&str],
-) -> Result<(), Fail> {
-    let mut desk = image_desk(rt.alloc(), &IMAGE)?;
-    let run = run_words(rt, words, &mut desk, &[], &[])?;
-    assert_eq!(rt; run.status, 1);
-    assert_eq!(rt; run.out.as_str(), "");
-    assert_eq!(rt; run.err.as_str(), "xray: bad command line\n");
-    Ok(())
 }
 
 #[test]
@@ -167,9 +155,7 @@ fn assert_stops<R: Abort + Threads + Wait + Sync + AllocGlobal>(
 ) -> Result<(), Fail> {
     let mut desk = image_desk(rt.alloc(), image)?;
     let run = run_words(rt, words, &mut desk, &[], &[])?;
-    assert_eq!(rt; run.status, status, "{line}");
-    assert_eq!(rt; run.out.as_str(), "", "{line}");
-    assert_eq!(rt; run.err.as_str(), line);
+    assert_stopped(rt, &run, status, line);
     Ok(())
 }
 
@@ -243,8 +229,6 @@ fn a_write_that_fails_between_threads_is_a_write_fault(rt: HostRuntime) -> Resul
     let mut desk = image_desk(rt.alloc(), &IMAGE)?;
     let words = ["plain", "i", "--threads=3"];
     let run = run_words(&rt, &words, &mut desk, &[1], &[])?;
-    assert_eq!(rt; run.status, 4);
-    assert_eq!(rt; run.out.as_str(), STATE);
-    assert_eq!(rt; run.err.as_str(), "xray: output: write fault\n");
+    assert_left(&rt, &run, 4, STATE, "xray: output: write fault\n");
     Ok(())
 }

@@ -1,6 +1,6 @@
 //! `run`: threads beside a script, and what is left of them.
 use crate::asm::{CALL, FIBONACCI};
-use crate::runs::{Run, run_words, words_with};
+use crate::runs::{Run, assert_made, run_words, words_with};
 use crate::sim::TRACED;
 use std::process::Abort;
 use std::sync::Wait;
@@ -24,8 +24,7 @@ pub fn desk_with<R: Abort + Threads + Wait + Sync + AllocGlobal>(
     let mut desk = MemDesk::new(alloc, Vec::new(alloc));
     desk.put("x", text.as_bytes())?;
     desk.put("s", script.as_bytes())?;
-    let made = run_words(rt, &["asm", "x", "i"], &mut desk, &[], &[])?;
-    assert_eq!(rt; made.status, 0);
+    assert_made(rt, &mut desk)?;
     Ok(desk)
 }
 

@@ -1,6 +1,7 @@
 //! A run of the top call, and what it leaves.
 use example_images::OUTPUTS_AN_A;
 use std::alloc::Global;
+use std::process::Abort;
 use std::sync::Wait;
 use std::test::Fail;
 use std::thread::Threads;
@@ -102,6 +103,39 @@ pub fn run_words_at<R: Threads + Wait + Sync + AllocGlobal, D: Desk, G: Gate + S
         out: text_of(alloc, &out)?,
         err: text_of(alloc, &err)?,
     })
+}
+
+/// Checks the status of a run, and what it wrote on out and on err.
+pub fn assert_left<R: Abort>(rt: &R, run: &Run, status: u8, out: &str, err: &str) {
+    assert_eq!(rt; run.err.as_str(), err, "{out}");
+    assert_eq!(rt; run.status, status, "{out}{err}");
+    assert_eq!(rt; run.out.as_str(), out, "{err}");
+}
+
+/// Checks that a run stopped with a status and a line on err, and printed nothing.
+pub fn assert_stopped<R: Abort>(rt: &R, run: &Run, status: u8, line: &str) {
+    assert_left(rt, run, status, "", line);
+}
+
+/// Checks that words say no command, over a desk that holds the three inputs.
+pub fn assert_bad_line<R: Abort + Threads + Wait + Sync + AllocGlobal>(
+    rt: &R,
+    words: &[&str],
+) -> Result<(), Fail> {
+    let mut desk = desk_of(rt.alloc(), &[], &IMAGE, SCRIPT, SCHEDULE)?;
+    let run = run_words(rt, words, &mut desk, &[], &[])?;
+    assert_stopped(rt, &run, 1, "xray: bad command line\n");
+    Ok(())
+}
+
+/// Assembles the text that a desk holds as `x`. The image is `i`.
+pub fn assert_made<R: Abort + Threads + Wait + Sync + AllocGlobal>(
+    rt: &R,
+    desk: &mut MemDesk,
+) -> Result<(), Fail> {
+    let made = run_words(rt, &["asm", "x", "i"], desk, &[], &[])?;
+    assert_left(rt, &made, 0, "", "");
+    Ok(())
 }
 
 fn text_of(alloc: Global, sink: &MemSink) -> Result<String, Fail> {

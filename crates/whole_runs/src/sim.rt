@@ -1,6 +1,9 @@
 //! `sim`: marks by scripts and schedules, several threads, limits, and the refusals of scripts and schedules.
 use crate::asm::{CALL, CALL_END, TAIL_JUMP, TAIL_JUMP_END};
-use crate::runs::{IMAGE, Run, SCHEDULE, SCRIPT, STATE, desk_of, run_words};
+use crate::runs::{
+    IMAGE, Run, SCHEDULE, SCRIPT, STATE, assert_bad_line, assert_left, assert_made, assert_stopped,
+    desk_of, run_words,
+};
 use std::process::Abort;
 use std::sync::Wait;
 use std::test::Fail;
@@ -37,9 +40,7 @@ fn assert_prints<R: Abort + Threads + Wait + Sync + AllocGlobal>(
     text: &str,
 ) -> Result<(), Fail> {
     let run = run_image(rt, words, script, schedule)?;
-    assert_eq!(rt; run.err.as_str(), "", "{script} {schedule}");
-    assert_eq!(rt; run.status, 0, "{script} {schedule}");
-    assert_eq!(rt; run.out.as_str(), text, "{script} {schedule}");
+    assert_left(rt, &run, 0, text, "");
     Ok(())
 }
 
@@ -141,15 +142,11 @@ fn images_with_calls_and_tail_jumps_are_replayed(rt: HostRuntime) -> Result<(), 
         (CALL, CALL_END, "patch_function 2\ngo", ".1 n2 .1"),
     ] {
         let mut desk = desk_of(rt.alloc(), &[], b"", script, "")?;
-        desk.put("t", text.as_bytes())?;
-        assert_eq!(rt;
-            run_words(&rt, &["asm", "t", "i"], &mut desk, &[], &[])?.status,
-            0
-        );
+        desk.put("x", text.as_bytes())?;
+        assert_made(&rt, &mut desk)?;
         let run = run_words(&rt, &SIM, &mut desk, &[], &[])?;
-        assert_eq!(rt; run.err.as_str(), "", "{script}");
         let state = format!(in rt.alloc(); "{end}marks {marks}\n")?;
-        assert_eq!(rt; run.out.as_str(), state.as_str(), "{script}");
+        assert_left(&rt, &run, 0, &state, "");
     }
     Ok(())
 }
@@ -236,10 +233,7 @@ fn options_that_sim_does_not_take_are_a_bad_line(rt: HostRuntime) -> Result<(), 
         &["sim", "i", "s", "--", "c", "t", "a", "--fuel=1"],
         &["sim", "i", "s", "c", "t", "a", "--threshold", "1"],
     ] {
-        let run = run_image(&rt, words, SCRIPT, SCHEDULE)?;
-        assert_eq!(rt; run.err.as_str(), "xray: bad command line\n");
-        assert_eq!(rt; run.status, 1);
-        assert_eq!(rt; run.out.as_str(), "");
+        assert_bad_line(&rt, words)?;
     }
     Ok(())
 }
@@ -252,11 +246,9 @@ fn assert_refused<R: Abort + Threads + Wait + Sync + AllocGlobal>(
     schedule: &str,
     line: &str,
 ) -> Result<(), Fail> {
-    let mut desk = desk_of(rt.alloc(), &[], &IMAGE, script, schedule)?;
-    let run = run_words(rt, words, &mut desk, &[], &[])?;
-    assert_eq!(rt; run.err.as_str().trim_end(), line);
-    assert_eq!(rt; run.status, 2, "{line}");
-    assert_eq!(rt; run.out.as_str(), "", "{line}");
+    let run = run_image(rt, words, script, schedule)?;
+    let line = format!(in rt.alloc(); "{line}\n")?;
+    assert_stopped(rt, &run, 2, &line);
     Ok(())
 }
 

@@ -1,6 +1,5 @@
 //! `soak`: what it prints, and which words it takes.
-use crate::runs::{Run, run_words};
-use std::process::Abort;
+use crate::runs::{Run, assert_bad_line, assert_left, assert_stopped, run_words};
 use std::sync::Wait;
 use std::test::Fail;
 use std::thread::Threads;
@@ -27,25 +26,11 @@ fn soak<R: Threads + Wait + Sync + AllocGlobal>(
     run_words(rt, words, &mut desk, out_failing, &[])
 }
 
-/// Checks that the words are refused.
-fn assert_bad<R: Abort + Threads + Wait + Sync + AllocGlobal>(
-    rt: &R,
-    words: &[&str],
-) -> Result<(), Fail> {
-    let run = soak(rt, words, &[])?;
-    assert_eq!(rt; run.status, 1);
-    assert_eq!(rt; run.err.as_str(), "xray: bad command line\n");
-    assert_eq!(rt; run.out.as_str(), "");
-    Ok(())
-}
-
 #[test]
 fn a_number_has_the_same_summary_in_each_run(rt: HostRuntime) -> Result<(), Fail> {
     for word in ["1", "+01"] {
         let run = soak(&rt, &["soak", word], &[])?;
-        assert_eq!(rt; run.err.as_str(), "");
-        assert_eq!(rt; run.status, 0);
-        assert_eq!(rt; run.out.as_str(), SUMMARY_OF_1);
+        assert_left(&rt, &run, 0, SUMMARY_OF_1, "");
     }
     Ok(())
 }
@@ -75,17 +60,15 @@ fn each_number_is_soaked(rt: HostRuntime) -> Result<(), Fail> {
 
 #[test]
 fn other_words_are_refused(rt: HostRuntime) -> Result<(), Fail> {
-    assert_bad(&rt, &["soak"])?;
-    assert_bad(&rt, &["soak", "x"])?;
-    assert_bad(&rt, &["soak", "18446744073709551616"])?;
-    assert_bad(&rt, &["soak", "1", "2"])
+    assert_bad_line(&rt, &["soak"])?;
+    assert_bad_line(&rt, &["soak", "x"])?;
+    assert_bad_line(&rt, &["soak", "18446744073709551616"])?;
+    assert_bad_line(&rt, &["soak", "1", "2"])
 }
 
 #[test]
 fn an_output_that_fails_is_named(rt: HostRuntime) -> Result<(), Fail> {
     let run = soak(&rt, &["soak", "1"], &[0])?;
-    assert_eq!(rt; run.status, 4);
-    assert_eq!(rt; run.err.as_str(), "xray: output: write fault\n");
-    assert_eq!(rt; run.out.as_str(), "");
+    assert_stopped(&rt, &run, 4, "xray: output: write fault\n");
     Ok(())
 }

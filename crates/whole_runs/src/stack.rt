@@ -1,5 +1,5 @@
 //! `stack` and `convert`: their texts, their options, and a trace with calls that go too deep.
-use crate::runs::{IMAGE, run_words};
+use crate::runs::{IMAGE, assert_left, assert_stopped, run_words};
 use crate::trace_bytes::{CPU, ENTRY, HEADER, ONE_CALL, PREAMBLE, RECURSION, file};
 use std::alloc::Global;
 use std::test::Fail;
@@ -46,9 +46,7 @@ fn a_trace_is_printed_as_its_words_ask(rt: HostRuntime) -> Result<(), Fail> {
     ] {
         let mut desk = trace_desk(alloc, &file(alloc, parts)?)?;
         let run = run_words(&rt, words, &mut desk, &[], &[])?;
-        assert_eq!(rt; run.err.as_str(), "");
-        assert_eq!(rt; run.status, 0);
-        assert_eq!(rt; run.out.as_str(), text);
+        assert_left(&rt, &run, 0, text, "");
     }
     Ok(())
 }
@@ -66,9 +64,7 @@ fn options_come_once_and_have_known_words(rt: HostRuntime) -> Result<(), Fail> {
     ] {
         let mut desk = trace_desk(alloc, &file(alloc, &ONE_CALL)?)?;
         let run = run_words(&rt, words, &mut desk, &[], &[])?;
-        assert_eq!(rt; run.err.as_str(), BAD_LINE);
-        assert_eq!(rt; run.status, 1);
-        assert_eq!(rt; run.out.as_str(), "");
+        assert_stopped(&rt, &run, 1, BAD_LINE);
     }
     Ok(())
 }
@@ -92,9 +88,7 @@ fn more_open_calls_than_are_followed_are_refused(rt: HostRuntime) -> Result<(), 
         let mut desk = trace_desk(alloc, &trace)?;
         let words = ["stack", "t", "--format", "flame"];
         let run = run_words(&rt, &words, &mut desk, &[], &[])?;
-        assert_eq!(rt; run.err.as_str(), line);
-        assert_eq!(rt; run.status, status);
-        assert_eq!(rt; run.out.as_str(), "");
+        assert_stopped(&rt, &run, status, line);
     }
     Ok(())
 }

@@ -2,7 +2,19 @@
 use std::alloc::Global;
 use std::test::Fail;
 
-/// A header with a constant and nonstop counter, and with buffers of 16,384 bytes.
+/// The first half of a header: version 3, type 1, a constant and nonstop counter, and a frequency of 0.
+pub const FORMAT: &[u8] = b"\x03\0\x01\0\x03\0\0\0\0\0\0\0\0\0\0\0";
+
+/// The second half of a header: the size of the buffers in bytes.
+pub const BUFFERS_OF_72: &[u8] = b"\x48\0\0\0\0\0\0\0\0\0\0\0\0\0\0\0";
+
+pub const BUFFERS_OF_79: &[u8] = b"\x4F\0\0\0\0\0\0\0\0\0\0\0\0\0\0\0";
+
+pub const BUFFERS_OF_80: &[u8] = b"\x50\0\0\0\0\0\0\0\0\0\0\0\0\0\0\0";
+
+pub const BUFFERS_OF_16384: &[u8] = b"\0\x40\0\0\0\0\0\0\0\0\0\0\0\0\0\0";
+
+/// A header of that format, with buffers of 16,384 bytes.
 pub const HEADER: &[u8] =
     b"\x03\0\x01\0\x03\0\0\0\0\0\0\0\0\0\0\0\0\x40\0\0\0\0\0\0\0\0\0\0\0\0\0\0";
 
@@ -12,6 +24,9 @@ pub const EXTENTS_72: &[u8] = b"\x0F\x48\0\0\0\0\0\0\0\0\0\0\0\0\0\0";
 /// Extents of 80 bytes.
 pub const EXTENTS_80: &[u8] = b"\x0F\x50\0\0\0\0\0\0\0\0\0\0\0\0\0\0";
 
+/// Extents of 96 bytes.
+pub const EXTENTS_96: &[u8] = b"\x0F\x60\0\0\0\0\0\0\0\0\0\0\0\0\0\0";
+
 /// Extents of 104 bytes.
 pub const EXTENTS_104: &[u8] = b"\x0F\x68\0\0\0\0\0\0\0\0\0\0\0\0\0\0";
 
@@ -20,8 +35,22 @@ pub const PREAMBLE: &[u8] = b"\x01\x01\0\0\0\0\0\0\0\0\0\0\0\0\0\0\
     \x09\0\0\0\0\0\0\0\0\0\0\0\0\0\0\0\
     \x13\x01\0\0\0\0\0\0\0\0\0\0\0\0\0\0";
 
+/// Thread 2, the wall time 0, and process 1.
+pub const PREAMBLE_OF_2: &[u8] = b"\x01\x02\0\0\0\0\0\0\0\0\0\0\0\0\0\0\
+    \x09\0\0\0\0\0\0\0\0\0\0\0\0\0\0\0\
+    \x13\x01\0\0\0\0\0\0\0\0\0\0\0\0\0\0";
+
+/// Thread 1.
+pub const THREAD_1: &[u8] = b"\x01\x01\0\0\0\0\0\0\0\0\0\0\0\0\0\0";
+
+/// Process 1.
+pub const PROCESS_1: &[u8] = b"\x13\x01\0\0\0\0\0\0\0\0\0\0\0\0\0\0";
+
 /// CPU 0 at counter 0.
 pub const CPU: &[u8] = b"\x05\0\0\0\0\0\0\0\0\0\0\0\0\0\0\0";
+
+/// CPU 0 at counter 1.
+pub const CPU_AT_1: &[u8] = b"\x05\0\0\x01\0\0\0\0\0\0\0\0\0\0\0\0";
 
 /// CPU 0 at counter 2.
 pub const CPU_AT_2: &[u8] = b"\x05\0\0\x02\0\0\0\0\0\0\0\0\0\0\0\0";
@@ -31,6 +60,9 @@ pub const ENTRY: &[u8] = b"\x10\0\0\0\0\0\0\0";
 
 /// An exit of function 1, 0 cycles on.
 pub const EXIT: &[u8] = b"\x12\0\0\0\0\0\0\0";
+
+/// An exit of function 2, 0 cycles on.
+pub const EXIT_OF_2: &[u8] = b"\x22\0\0\0\0\0\0\0";
 
 /// An exit of function 1, 2 cycles on.
 pub const EXIT_AFTER_2: &[u8] = b"\x12\0\0\0\x02\0\0\0";
@@ -58,7 +90,7 @@ pub const RECURSION: [&[u8]; 9] = [
 /// A file of one block. Function 2 is called for 1 cycle, and function 1 for 5.
 pub const TWO_FUNCTIONS: [&[u8]; 8] = [
     HEADER,
-    b"\x0F\x60\0\0\0\0\0\0\0\0\0\0\0\0\0\0",
+    EXTENTS_96,
     PREAMBLE,
     CPU,
     b"\x20\0\0\0\0\0\0\0",

@@ -2,8 +2,14 @@
 //! of the desk fails.
 use crate::asm::{CALL, ODD_EXIT, STRAIGHT_LINE, TAIL_JUMP};
 use crate::desks::Trickle;
-use crate::runs::{IMAGE, desk_of, run_words, words_with};
+use crate::runs::{IMAGE, assert_left, assert_made, desk_of, run_words, words_with};
 use crate::sim::{LIVE, SIM, TRACED};
+use crate::trace_bytes::{
+    BUFFERS_OF_72, BUFFERS_OF_79, BUFFERS_OF_80, BUFFERS_OF_16384, CPU, CPU_AT_1, CPU_AT_2, ENTRY,
+    EXIT, EXIT_AFTER_2, EXIT_OF_2, EXTENTS_72, EXTENTS_80, EXTENTS_96, FORMAT, HEADER, ONE_CALL,
+    ONE_EXIT, PREAMBLE, PREAMBLE_OF_2, PROCESS_1, THREAD_1, file,
+};
+use std::alloc::Global;
 use std::process::Abort;
 use std::sync::Wait;
 use std::test::Fail;
@@ -12,8 +18,7 @@ use std::thread::Threads;
 /// The words of a replay whose trace has a wall time of 0.
 const REPLAY: [&str; 8] = ["sim", "i", "s", "c", "t", "a", "--wall", "0"];
 
-/// What `sim` is asked for, and what it leaves. The bytes of the traces were worked by hand, record
-/// by record.
+/// What `sim` is asked for, and what it leaves. The traces were worked by hand, record by record.
 struct Row<'r> {
     /// The assembler text of the image.
     text: &'r str,
@@ -21,9 +26,29 @@ struct Row<'r> {
     options: &'r [&'r str],
     script: &'r str,
     schedule: &'r str,
-    trace: &'r [u8],
-    audit: &'r str,
+    /// The parts of the trace.
+    trace: &'r [&'r [u8]],
+    /// The settings in the audit that aren't the usual ones, each with its value.
+    settings: &'r [(&'r str, &'r str)],
+    /// The lines of the audit after its settings.
+    threads: &'r str,
 }
+
+/// The settings in an audit, in their order, with the values that they have unless the words have others.
+const USUAL: [(&str, &str); 12] = [
+    ("threads", "1"),
+    ("buffer-size", "16384"),
+    ("buffer-max", "100"),
+    ("fuel", "10000000"),
+    ("passings", "1048576"),
+    ("tick", "1"),
+    ("tsc", "0"),
+    ("cpus", "1"),
+    ("migrate", "1048576"),
+    ("pid", "1"),
+    ("wall", "0.0"),
+    ("frequency", "0"),
+];
 
 const ROWS: [Row; 18] = [
     // A call is recorded.
@@ -32,22 +57,9 @@ const ROWS: [Row; 18] = [
         options: &["--wall", "0"],
         script: TRACED,
         schedule: "",
-        trace: &[
-            0x03, 0, 0x01, 0, 0x03, 0, 0, 0, 0, 0, 0, 0, 0, 0, 0, 0, //
-            0, 0x40, 0, 0, 0, 0, 0, 0, 0, 0, 0, 0, 0, 0, 0, 0, //
-            0x0F, 0x50, 0, 0, 0, 0, 0, 0, 0, 0, 0, 0, 0, 0, 0, 0, //
-            0x01, 0x01, 0, 0, 0, 0, 0, 0, 0, 0, 0, 0, 0, 0, 0, 0, //
-            0x09, 0, 0, 0, 0, 0, 0, 0, 0, 0, 0, 0, 0, 0, 0, 0, //
-            0x13, 0x01, 0, 0, 0, 0, 0, 0, 0, 0, 0, 0, 0, 0, 0, 0, //
-            0x05, 0, 0, 0, 0, 0, 0, 0, 0, 0, 0, 0, 0, 0, 0, 0, //
-            0x10, 0, 0, 0, 0, 0, 0, 0, //
-            0x12, 0, 0, 0, 0x02, 0, 0, 0, //
-        ],
-        audit: "xray-audit 1\n\
-            threads=1 buffer-size=16384 buffer-max=100 \
-            fuel=10000000 passings=1048576 tick=1 tsc=0 cpus=1 migrate=1048576 \
-            pid=1 wall=0.0 frequency=0\n\
-            thread 1 returned passings 2 recorded 2 segments 1 first 0\n\
+        trace: &ONE_CALL,
+        settings: &[],
+        threads: "thread 1 returned passings 2 recorded 2 segments 1 first 0\n\
             marks +2\n\
             recycled 0\n",
     },
@@ -57,15 +69,9 @@ const ROWS: [Row; 18] = [
         options: &["--wall", "0"],
         script: "go",
         schedule: "",
-        trace: &[
-            0x03, 0, 0x01, 0, 0x03, 0, 0, 0, 0, 0, 0, 0, 0, 0, 0, 0, //
-            0, 0x40, 0, 0, 0, 0, 0, 0, 0, 0, 0, 0, 0, 0, 0, 0, //
-        ],
-        audit: "xray-audit 1\n\
-            threads=1 buffer-size=16384 buffer-max=100 \
-            fuel=10000000 passings=1048576 tick=1 tsc=0 cpus=1 migrate=1048576 \
-            pid=1 wall=0.0 frequency=0\n\
-            thread 1 returned passings 2 recorded 0 segments 0 first 0\n\
+        trace: &[HEADER],
+        settings: &[],
+        threads: "thread 1 returned passings 2 recorded 0 segments 0 first 0\n\
             marks .2\n\
             recycled 0\n",
     },
@@ -75,21 +81,9 @@ const ROWS: [Row; 18] = [
         options: &["--wall", "0"],
         script: "patch\nset_handler\ninit\ngo\nunpatch",
         schedule: "t 1 1\np 2",
-        trace: &[
-            0x03, 0, 0x01, 0, 0x03, 0, 0, 0, 0, 0, 0, 0, 0, 0, 0, 0, //
-            0, 0x40, 0, 0, 0, 0, 0, 0, 0, 0, 0, 0, 0, 0, 0, 0, //
-            0x0F, 0x48, 0, 0, 0, 0, 0, 0, 0, 0, 0, 0, 0, 0, 0, 0, //
-            0x01, 0x01, 0, 0, 0, 0, 0, 0, 0, 0, 0, 0, 0, 0, 0, 0, //
-            0x09, 0, 0, 0, 0, 0, 0, 0, 0, 0, 0, 0, 0, 0, 0, 0, //
-            0x13, 0x01, 0, 0, 0, 0, 0, 0, 0, 0, 0, 0, 0, 0, 0, 0, //
-            0x05, 0, 0, 0, 0, 0, 0, 0, 0, 0, 0, 0, 0, 0, 0, 0, //
-            0x10, 0, 0, 0, 0, 0, 0, 0, //
-        ],
-        audit: "xray-audit 1\n\
-            threads=1 buffer-size=16384 buffer-max=100 \
-            fuel=10000000 passings=1048576 tick=1 tsc=0 cpus=1 migrate=1048576 \
-            pid=1 wall=0.0 frequency=0\n\
-            thread 1 returned passings 2 recorded 1 segments 1 first 0\n\
+        trace: &[HEADER, EXTENTS_72, PREAMBLE, CPU, ENTRY],
+        settings: &[],
+        threads: "thread 1 returned passings 2 recorded 1 segments 1 first 0\n\
             marks +1 .1\n\
             recycled 0\n",
     },
@@ -99,15 +93,9 @@ const ROWS: [Row; 18] = [
         options: &["--wall", "0"],
         script: LIVE,
         schedule: "p 3\nt 1 1",
-        trace: &[
-            0x03, 0, 0x01, 0, 0x03, 0, 0, 0, 0, 0, 0, 0, 0, 0, 0, 0, //
-            0, 0x40, 0, 0, 0, 0, 0, 0, 0, 0, 0, 0, 0, 0, 0, 0, //
-        ],
-        audit: "xray-audit 1\n\
-            threads=1 buffer-size=16384 buffer-max=100 \
-            fuel=10000000 passings=1048576 tick=1 tsc=0 cpus=1 migrate=1048576 \
-            pid=1 wall=0.0 frequency=0\n\
-            thread 1 returned passings 2 recorded 0 segments 0 first 0\n\
+        trace: &[HEADER],
+        settings: &[],
+        threads: "thread 1 returned passings 2 recorded 0 segments 0 first 0\n\
             marks .2\n\
             recycled 0\n",
     },
@@ -117,21 +105,9 @@ const ROWS: [Row; 18] = [
         options: &["--wall", "0"],
         script: LIVE,
         schedule: "p 3\nt 1 1\np 5",
-        trace: &[
-            0x03, 0, 0x01, 0, 0x03, 0, 0, 0, 0, 0, 0, 0, 0, 0, 0, 0, //
-            0, 0x40, 0, 0, 0, 0, 0, 0, 0, 0, 0, 0, 0, 0, 0, 0, //
-            0x0F, 0x48, 0, 0, 0, 0, 0, 0, 0, 0, 0, 0, 0, 0, 0, 0, //
-            0x01, 0x01, 0, 0, 0, 0, 0, 0, 0, 0, 0, 0, 0, 0, 0, 0, //
-            0x09, 0, 0, 0, 0, 0, 0, 0, 0, 0, 0, 0, 0, 0, 0, 0, //
-            0x13, 0x01, 0, 0, 0, 0, 0, 0, 0, 0, 0, 0, 0, 0, 0, 0, //
-            0x05, 0, 0, 0x02, 0, 0, 0, 0, 0, 0, 0, 0, 0, 0, 0, 0, //
-            0x12, 0, 0, 0, 0, 0, 0, 0, //
-        ],
-        audit: "xray-audit 1\n\
-            threads=1 buffer-size=16384 buffer-max=100 \
-            fuel=10000000 passings=1048576 tick=1 tsc=0 cpus=1 migrate=1048576 \
-            pid=1 wall=0.0 frequency=0\n\
-            thread 1 returned passings 2 recorded 1 segments 1 first 0\n\
+        trace: &ONE_EXIT,
+        settings: &[],
+        threads: "thread 1 returned passings 2 recorded 1 segments 1 first 0\n\
             marks .1 +1\n\
             recycled 0\n",
     },
@@ -141,15 +117,9 @@ const ROWS: [Row; 18] = [
         options: &["--wall", "0"],
         script: "patch\ninit\ngo",
         schedule: "",
-        trace: &[
-            0x03, 0, 0x01, 0, 0x03, 0, 0, 0, 0, 0, 0, 0, 0, 0, 0, 0, //
-            0, 0x40, 0, 0, 0, 0, 0, 0, 0, 0, 0, 0, 0, 0, 0, 0, //
-        ],
-        audit: "xray-audit 1\n\
-            threads=1 buffer-size=16384 buffer-max=100 \
-            fuel=10000000 passings=1048576 tick=1 tsc=0 cpus=1 migrate=1048576 \
-            pid=1 wall=0.0 frequency=0\n\
-            thread 1 returned passings 2 recorded 0 segments 0 first 0\n\
+        trace: &[HEADER],
+        settings: &[],
+        threads: "thread 1 returned passings 2 recorded 0 segments 0 first 0\n\
             marks n2\n\
             recycled 0\n",
     },
@@ -159,15 +129,9 @@ const ROWS: [Row; 18] = [
         options: &["--wall", "0"],
         script: "patch\nset_handler\ninit\nfinalize\ngo",
         schedule: "",
-        trace: &[
-            0x03, 0, 0x01, 0, 0x03, 0, 0, 0, 0, 0, 0, 0, 0, 0, 0, 0, //
-            0, 0x40, 0, 0, 0, 0, 0, 0, 0, 0, 0, 0, 0, 0, 0, 0, //
-        ],
-        audit: "xray-audit 1\n\
-            threads=1 buffer-size=16384 buffer-max=100 \
-            fuel=10000000 passings=1048576 tick=1 tsc=0 cpus=1 migrate=1048576 \
-            pid=1 wall=0.0 frequency=0\n\
-            thread 1 returned passings 2 recorded 0 segments 0 first 0\n\
+        trace: &[HEADER],
+        settings: &[],
+        threads: "thread 1 returned passings 2 recorded 0 segments 0 first 0\n\
             marks f2\n\
             recycled 0\n",
     },
@@ -178,21 +142,15 @@ const ROWS: [Row; 18] = [
         script: TRACED,
         schedule: "",
         trace: &[
-            0x03, 0, 0x01, 0, 0x03, 0, 0, 0, 0, 0, 0, 0, 0, 0, 0, 0, //
-            0, 0x40, 0, 0, 0, 0, 0, 0, 0, 0, 0, 0, 0, 0, 0, 0, //
-            0x0F, 0x50, 0, 0, 0, 0, 0, 0, 0, 0, 0, 0, 0, 0, 0, 0, //
-            0x01, 0x01, 0, 0, 0, 0, 0, 0, 0, 0, 0, 0, 0, 0, 0, 0, //
-            0x09, 0, 0, 0, 0, 0, 0, 0, 0, 0, 0, 0, 0, 0, 0, 0, //
-            0x13, 0x01, 0, 0, 0, 0, 0, 0, 0, 0, 0, 0, 0, 0, 0, 0, //
-            0x05, 0, 0, 0, 0, 0, 0, 0, 0, 0, 0, 0, 0, 0, 0, 0, //
-            0x10, 0, 0, 0, 0, 0, 0, 0, //
-            0x12, 0, 0, 0, 0xFF, 0xFF, 0xFF, 0xFF, //
+            HEADER,
+            EXTENTS_80,
+            PREAMBLE,
+            CPU,
+            ENTRY,
+            b"\x12\0\0\0\xFF\xFF\xFF\xFF",
         ],
-        audit: "xray-audit 1\n\
-            threads=1 buffer-size=16384 buffer-max=100 \
-            fuel=10000000 passings=1048576 tick=4294967295 tsc=0 cpus=1 migrate=1048576 \
-            pid=1 wall=0.0 frequency=0\n\
-            thread 1 returned passings 2 recorded 2 segments 1 first 0\n\
+        settings: &[("tick", "4294967295")],
+        threads: "thread 1 returned passings 2 recorded 2 segments 1 first 0\n\
             marks +2\n\
             recycled 0\n",
     },
@@ -203,22 +161,16 @@ const ROWS: [Row; 18] = [
         script: TRACED,
         schedule: "",
         trace: &[
-            0x03, 0, 0x01, 0, 0x03, 0, 0, 0, 0, 0, 0, 0, 0, 0, 0, 0, //
-            0, 0x40, 0, 0, 0, 0, 0, 0, 0, 0, 0, 0, 0, 0, 0, 0, //
-            0x0F, 0x60, 0, 0, 0, 0, 0, 0, 0, 0, 0, 0, 0, 0, 0, 0, //
-            0x01, 0x01, 0, 0, 0, 0, 0, 0, 0, 0, 0, 0, 0, 0, 0, 0, //
-            0x09, 0, 0, 0, 0, 0, 0, 0, 0, 0, 0, 0, 0, 0, 0, 0, //
-            0x13, 0x01, 0, 0, 0, 0, 0, 0, 0, 0, 0, 0, 0, 0, 0, 0, //
-            0x05, 0, 0, 0, 0, 0, 0, 0, 0, 0, 0, 0, 0, 0, 0, 0, //
-            0x10, 0, 0, 0, 0, 0, 0, 0, //
-            0x07, 0, 0, 0, 0, 0x01, 0, 0, 0, 0, 0, 0, 0, 0, 0, 0, //
-            0x12, 0, 0, 0, 0, 0, 0, 0, //
+            HEADER,
+            EXTENTS_96,
+            PREAMBLE,
+            CPU,
+            ENTRY,
+            b"\x07\0\0\0\0\x01\0\0\0\0\0\0\0\0\0\0",
+            EXIT,
         ],
-        audit: "xray-audit 1\n\
-            threads=1 buffer-size=16384 buffer-max=100 \
-            fuel=10000000 passings=1048576 tick=4294967296 tsc=0 cpus=1 migrate=1048576 \
-            pid=1 wall=0.0 frequency=0\n\
-            thread 1 returned passings 2 recorded 2 segments 1 first 0\n\
+        settings: &[("tick", "4294967296")],
+        threads: "thread 1 returned passings 2 recorded 2 segments 1 first 0\n\
             marks +2\n\
             recycled 0\n",
     },
@@ -229,22 +181,16 @@ const ROWS: [Row; 18] = [
         script: TRACED,
         schedule: "",
         trace: &[
-            0x03, 0, 0x01, 0, 0x03, 0, 0, 0, 0, 0, 0, 0, 0, 0, 0, 0, //
-            0, 0x40, 0, 0, 0, 0, 0, 0, 0, 0, 0, 0, 0, 0, 0, 0, //
-            0x0F, 0x60, 0, 0, 0, 0, 0, 0, 0, 0, 0, 0, 0, 0, 0, 0, //
-            0x01, 0x01, 0, 0, 0, 0, 0, 0, 0, 0, 0, 0, 0, 0, 0, 0, //
-            0x09, 0, 0, 0, 0, 0, 0, 0, 0, 0, 0, 0, 0, 0, 0, 0, //
-            0x13, 0x01, 0, 0, 0, 0, 0, 0, 0, 0, 0, 0, 0, 0, 0, 0, //
-            0x05, 0, 0, 0xFF, 0xFF, 0xFF, 0xFF, 0xFF, 0xFF, 0xFF, 0xFF, 0, 0, 0, 0, 0, //
-            0x10, 0, 0, 0, 0, 0, 0, 0, //
-            0x07, 0, 0, 0, 0, 0, 0, 0, 0, 0, 0, 0, 0, 0, 0, 0, //
-            0x12, 0, 0, 0, 0, 0, 0, 0, //
+            HEADER,
+            EXTENTS_96,
+            PREAMBLE,
+            b"\x05\0\0\xFF\xFF\xFF\xFF\xFF\xFF\xFF\xFF\0\0\0\0\0",
+            ENTRY,
+            b"\x07\0\0\0\0\0\0\0\0\0\0\0\0\0\0\0",
+            EXIT,
         ],
-        audit: "xray-audit 1\n\
-            threads=1 buffer-size=16384 buffer-max=100 \
-            fuel=10000000 passings=1048576 tick=1 tsc=18446744073709551615 cpus=1 migrate=1048576 \
-            pid=1 wall=0.0 frequency=0\n\
-            thread 1 returned passings 2 recorded 2 segments 1 first 0\n\
+        settings: &[("tsc", "18446744073709551615")],
+        threads: "thread 1 returned passings 2 recorded 2 segments 1 first 0\n\
             marks +2\n\
             recycled 0\n",
     },
@@ -255,26 +201,19 @@ const ROWS: [Row; 18] = [
         script: TRACED,
         schedule: "",
         trace: &[
-            0x03, 0, 0x01, 0, 0x03, 0, 0, 0, 0, 0, 0, 0, 0, 0, 0, 0, //
-            0x48, 0, 0, 0, 0, 0, 0, 0, 0, 0, 0, 0, 0, 0, 0, 0, //
-            0x0F, 0x48, 0, 0, 0, 0, 0, 0, 0, 0, 0, 0, 0, 0, 0, 0, //
-            0x01, 0x01, 0, 0, 0, 0, 0, 0, 0, 0, 0, 0, 0, 0, 0, 0, //
-            0x09, 0, 0, 0, 0, 0, 0, 0, 0, 0, 0, 0, 0, 0, 0, 0, //
-            0x13, 0x01, 0, 0, 0, 0, 0, 0, 0, 0, 0, 0, 0, 0, 0, 0, //
-            0x05, 0, 0, 0, 0, 0, 0, 0, 0, 0, 0, 0, 0, 0, 0, 0, //
-            0x10, 0, 0, 0, 0, 0, 0, 0, //
-            0x0F, 0x48, 0, 0, 0, 0, 0, 0, 0, 0, 0, 0, 0, 0, 0, 0, //
-            0x01, 0x01, 0, 0, 0, 0, 0, 0, 0, 0, 0, 0, 0, 0, 0, 0, //
-            0x09, 0, 0, 0, 0, 0, 0, 0, 0, 0, 0, 0, 0, 0, 0, 0, //
-            0x13, 0x01, 0, 0, 0, 0, 0, 0, 0, 0, 0, 0, 0, 0, 0, 0, //
-            0x05, 0, 0, 0x02, 0, 0, 0, 0, 0, 0, 0, 0, 0, 0, 0, 0, //
-            0x12, 0, 0, 0, 0, 0, 0, 0, //
+            FORMAT,
+            BUFFERS_OF_72,
+            EXTENTS_72,
+            PREAMBLE,
+            CPU,
+            ENTRY,
+            EXTENTS_72,
+            PREAMBLE,
+            CPU_AT_2,
+            EXIT,
         ],
-        audit: "xray-audit 1\n\
-            threads=1 buffer-size=72 buffer-max=100 \
-            fuel=10000000 passings=1048576 tick=1 tsc=0 cpus=1 migrate=1048576 \
-            pid=1 wall=0.0 frequency=0\n\
-            thread 1 returned passings 2 recorded 2 segments 2 first 0\n\
+        settings: &[("buffer-size", "72")],
+        threads: "thread 1 returned passings 2 recorded 2 segments 2 first 0\n\
             marks +2\n\
             recycled 0\n",
     },
@@ -285,26 +224,19 @@ const ROWS: [Row; 18] = [
         script: TRACED,
         schedule: "",
         trace: &[
-            0x03, 0, 0x01, 0, 0x03, 0, 0, 0, 0, 0, 0, 0, 0, 0, 0, 0, //
-            0x4F, 0, 0, 0, 0, 0, 0, 0, 0, 0, 0, 0, 0, 0, 0, 0, //
-            0x0F, 0x48, 0, 0, 0, 0, 0, 0, 0, 0, 0, 0, 0, 0, 0, 0, //
-            0x01, 0x01, 0, 0, 0, 0, 0, 0, 0, 0, 0, 0, 0, 0, 0, 0, //
-            0x09, 0, 0, 0, 0, 0, 0, 0, 0, 0, 0, 0, 0, 0, 0, 0, //
-            0x13, 0x01, 0, 0, 0, 0, 0, 0, 0, 0, 0, 0, 0, 0, 0, 0, //
-            0x05, 0, 0, 0, 0, 0, 0, 0, 0, 0, 0, 0, 0, 0, 0, 0, //
-            0x10, 0, 0, 0, 0, 0, 0, 0, //
-            0x0F, 0x48, 0, 0, 0, 0, 0, 0, 0, 0, 0, 0, 0, 0, 0, 0, //
-            0x01, 0x01, 0, 0, 0, 0, 0, 0, 0, 0, 0, 0, 0, 0, 0, 0, //
-            0x09, 0, 0, 0, 0, 0, 0, 0, 0, 0, 0, 0, 0, 0, 0, 0, //
-            0x13, 0x01, 0, 0, 0, 0, 0, 0, 0, 0, 0, 0, 0, 0, 0, 0, //
-            0x05, 0, 0, 0x02, 0, 0, 0, 0, 0, 0, 0, 0, 0, 0, 0, 0, //
-            0x12, 0, 0, 0, 0, 0, 0, 0, //
+            FORMAT,
+            BUFFERS_OF_79,
+            EXTENTS_72,
+            PREAMBLE,
+            CPU,
+            ENTRY,
+            EXTENTS_72,
+            PREAMBLE,
+            CPU_AT_2,
+            EXIT,
         ],
-        audit: "xray-audit 1\n\
-            threads=1 buffer-size=79 buffer-max=100 \
-            fuel=10000000 passings=1048576 tick=1 tsc=0 cpus=1 migrate=1048576 \
-            pid=1 wall=0.0 frequency=0\n\
-            thread 1 returned passings 2 recorded 2 segments 2 first 0\n\
+        settings: &[("buffer-size", "79")],
+        threads: "thread 1 returned passings 2 recorded 2 segments 2 first 0\n\
             marks +2\n\
             recycled 0\n",
     },
@@ -315,21 +247,16 @@ const ROWS: [Row; 18] = [
         script: TRACED,
         schedule: "",
         trace: &[
-            0x03, 0, 0x01, 0, 0x03, 0, 0, 0, 0, 0, 0, 0, 0, 0, 0, 0, //
-            0x50, 0, 0, 0, 0, 0, 0, 0, 0, 0, 0, 0, 0, 0, 0, 0, //
-            0x0F, 0x50, 0, 0, 0, 0, 0, 0, 0, 0, 0, 0, 0, 0, 0, 0, //
-            0x01, 0x01, 0, 0, 0, 0, 0, 0, 0, 0, 0, 0, 0, 0, 0, 0, //
-            0x09, 0, 0, 0, 0, 0, 0, 0, 0, 0, 0, 0, 0, 0, 0, 0, //
-            0x13, 0x01, 0, 0, 0, 0, 0, 0, 0, 0, 0, 0, 0, 0, 0, 0, //
-            0x05, 0, 0, 0, 0, 0, 0, 0, 0, 0, 0, 0, 0, 0, 0, 0, //
-            0x10, 0, 0, 0, 0, 0, 0, 0, //
-            0x12, 0, 0, 0, 0x02, 0, 0, 0, //
+            FORMAT,
+            BUFFERS_OF_80,
+            EXTENTS_80,
+            PREAMBLE,
+            CPU,
+            ENTRY,
+            EXIT_AFTER_2,
         ],
-        audit: "xray-audit 1\n\
-            threads=1 buffer-size=80 buffer-max=100 \
-            fuel=10000000 passings=1048576 tick=1 tsc=0 cpus=1 migrate=1048576 \
-            pid=1 wall=0.0 frequency=0\n\
-            thread 1 returned passings 2 recorded 2 segments 1 first 0\n\
+        settings: &[("buffer-size", "80")],
+        threads: "thread 1 returned passings 2 recorded 2 segments 1 first 0\n\
             marks +2\n\
             recycled 0\n",
     },
@@ -349,32 +276,23 @@ const ROWS: [Row; 18] = [
         script: TRACED,
         schedule: "",
         trace: &[
-            0x03, 0, 0x01, 0, 0x03, 0, 0, 0, 0, 0, 0, 0, 0, 0, 0, 0, //
-            0x48, 0, 0, 0, 0, 0, 0, 0, 0, 0, 0, 0, 0, 0, 0, 0, //
-            0x0F, 0x48, 0, 0, 0, 0, 0, 0, 0, 0, 0, 0, 0, 0, 0, 0, //
-            0x01, 0x01, 0, 0, 0, 0, 0, 0, 0, 0, 0, 0, 0, 0, 0, 0, //
-            0x09, 0, 0, 0, 0, 0, 0, 0, 0, 0, 0, 0, 0, 0, 0, 0, //
-            0x13, 0x01, 0, 0, 0, 0, 0, 0, 0, 0, 0, 0, 0, 0, 0, 0, //
-            0x05, 0, 0, 0x02, 0, 0, 0, 0, 0, 0, 0, 0, 0, 0, 0, 0, //
-            0x12, 0, 0, 0, 0, 0, 0, 0, //
-            0x0F, 0x48, 0, 0, 0, 0, 0, 0, 0, 0, 0, 0, 0, 0, 0, 0, //
-            0x01, 0x02, 0, 0, 0, 0, 0, 0, 0, 0, 0, 0, 0, 0, 0, 0, //
-            0x09, 0, 0, 0, 0, 0, 0, 0, 0, 0, 0, 0, 0, 0, 0, 0, //
-            0x13, 0x01, 0, 0, 0, 0, 0, 0, 0, 0, 0, 0, 0, 0, 0, 0, //
-            0x05, 0, 0, 0x01, 0, 0, 0, 0, 0, 0, 0, 0, 0, 0, 0, 0, //
-            0x22, 0, 0, 0, 0, 0, 0, 0, //
-            0x0F, 0x48, 0, 0, 0, 0, 0, 0, 0, 0, 0, 0, 0, 0, 0, 0, //
-            0x01, 0x02, 0, 0, 0, 0, 0, 0, 0, 0, 0, 0, 0, 0, 0, 0, //
-            0x09, 0, 0, 0, 0, 0, 0, 0, 0, 0, 0, 0, 0, 0, 0, 0, //
-            0x13, 0x01, 0, 0, 0, 0, 0, 0, 0, 0, 0, 0, 0, 0, 0, 0, //
-            0x05, 0, 0, 0x02, 0, 0, 0, 0, 0, 0, 0, 0, 0, 0, 0, 0, //
-            0x12, 0, 0, 0, 0, 0, 0, 0, //
+            FORMAT,
+            BUFFERS_OF_72,
+            EXTENTS_72,
+            PREAMBLE,
+            CPU_AT_2,
+            EXIT,
+            EXTENTS_72,
+            PREAMBLE_OF_2,
+            CPU_AT_1,
+            EXIT_OF_2,
+            EXTENTS_72,
+            PREAMBLE_OF_2,
+            CPU_AT_2,
+            EXIT,
         ],
-        audit: "xray-audit 1\n\
-            threads=2 buffer-size=72 buffer-max=3 \
-            fuel=10000000 passings=1048576 tick=1 tsc=0 cpus=1 migrate=1048576 \
-            pid=1 wall=0.0 frequency=0\n\
-            thread 1 returned passings 4 recorded 4 segments 4 first 3\n\
+        settings: &[("threads", "2"), ("buffer-size", "72"), ("buffer-max", "3")],
+        threads: "thread 1 returned passings 4 recorded 4 segments 4 first 3\n\
             marks +4\n\
             thread 2 returned passings 4 recorded 4 segments 4 first 2\n\
             marks +4\n\
@@ -387,22 +305,16 @@ const ROWS: [Row; 18] = [
         script: TRACED,
         schedule: "",
         trace: &[
-            0x03, 0, 0x01, 0, 0x03, 0, 0, 0, 0, 0, 0, 0, 0, 0, 0, 0, //
-            0, 0x40, 0, 0, 0, 0, 0, 0, 0, 0, 0, 0, 0, 0, 0, 0, //
-            0x0F, 0x60, 0, 0, 0, 0, 0, 0, 0, 0, 0, 0, 0, 0, 0, 0, //
-            0x01, 0x01, 0, 0, 0, 0, 0, 0, 0, 0, 0, 0, 0, 0, 0, 0, //
-            0x09, 0, 0, 0, 0, 0, 0, 0, 0, 0, 0, 0, 0, 0, 0, 0, //
-            0x13, 0x01, 0, 0, 0, 0, 0, 0, 0, 0, 0, 0, 0, 0, 0, 0, //
-            0x05, 0x01, 0, 0, 0, 0, 0, 0, 0, 0, 0, 0, 0, 0, 0, 0, //
-            0x10, 0, 0, 0, 0, 0, 0, 0, //
-            0x05, 0, 0, 0x02, 0, 0, 0, 0, 0, 0, 0, 0, 0, 0, 0, 0, //
-            0x12, 0, 0, 0, 0, 0, 0, 0, //
+            HEADER,
+            EXTENTS_96,
+            PREAMBLE,
+            b"\x05\x01\0\0\0\0\0\0\0\0\0\0\0\0\0\0",
+            ENTRY,
+            CPU_AT_2,
+            EXIT,
         ],
-        audit: "xray-audit 1\n\
-            threads=1 buffer-size=16384 buffer-max=100 \
-            fuel=10000000 passings=1048576 tick=1 tsc=0 cpus=2 migrate=1 \
-            pid=1 wall=0.0 frequency=0\n\
-            thread 1 returned passings 2 recorded 2 segments 1 first 0\n\
+        settings: &[("cpus", "2"), ("migrate", "1")],
+        threads: "thread 1 returned passings 2 recorded 2 segments 1 first 0\n\
             marks +2\n\
             recycled 0\n",
     },
@@ -413,23 +325,17 @@ const ROWS: [Row; 18] = [
         script: TRACED,
         schedule: "",
         trace: &[
-            0x03, 0, 0x01, 0, 0x03, 0, 0, 0, 0, 0, 0, 0, 0, 0, 0, 0, //
-            0, 0x40, 0, 0, 0, 0, 0, 0, 0, 0, 0, 0, 0, 0, 0, 0, //
-            0x0F, 0x60, 0, 0, 0, 0, 0, 0, 0, 0, 0, 0, 0, 0, 0, 0, //
-            0x01, 0x01, 0, 0, 0, 0, 0, 0, 0, 0, 0, 0, 0, 0, 0, 0, //
-            0x09, 0, 0, 0, 0, 0, 0, 0, 0, 0, 0, 0, 0, 0, 0, 0, //
-            0x13, 0x01, 0, 0, 0, 0, 0, 0, 0, 0, 0, 0, 0, 0, 0, 0, //
-            0x05, 0, 0, 0, 0, 0, 0, 0, 0, 0, 0, 0, 0, 0, 0, 0, //
-            0x10, 0, 0, 0, 0, 0, 0, 0, //
-            0x14, 0, 0, 0, 0, 0, 0, 0, //
-            0x20, 0, 0, 0, 0x01, 0, 0, 0, //
-            0x22, 0, 0, 0, 0, 0, 0, 0, //
+            HEADER,
+            EXTENTS_96,
+            PREAMBLE,
+            CPU,
+            ENTRY,
+            b"\x14\0\0\0\0\0\0\0",
+            b"\x20\0\0\0\x01\0\0\0",
+            EXIT_OF_2,
         ],
-        audit: "xray-audit 1\n\
-            threads=1 buffer-size=16384 buffer-max=100 \
-            fuel=10000000 passings=1048576 tick=1 tsc=0 cpus=1 migrate=1048576 \
-            pid=1 wall=0.0 frequency=0\n\
-            thread 1 returned passings 4 recorded 4 segments 1 first 0\n\
+        settings: &[],
+        threads: "thread 1 returned passings 4 recorded 4 segments 1 first 0\n\
             marks +4\n\
             recycled 0\n",
     },
@@ -447,21 +353,22 @@ const ROWS: [Row; 18] = [
         script: TRACED,
         schedule: "",
         trace: &[
-            0x03, 0, 0x01, 0, 0x03, 0, 0, 0, 0xFF, 0xFF, 0xFF, 0xFF, 0xFF, 0xFF, 0xFF, 0xFF, //
-            0, 0x40, 0, 0, 0, 0, 0, 0, 0, 0, 0, 0, 0, 0, 0, 0, //
-            0x0F, 0x50, 0, 0, 0, 0, 0, 0, 0, 0, 0, 0, 0, 0, 0, 0, //
-            0x01, 0x01, 0, 0, 0, 0, 0, 0, 0, 0, 0, 0, 0, 0, 0, 0, //
-            0x09, 0xFF, 0xFF, 0xFF, 0xFF, 0xFF, 0xFF, 0xFF, 0xFF, 0, 0, 0, 0, 0, 0, 0, //
-            0x13, 0xFF, 0xFF, 0xFF, 0x7F, 0, 0, 0, 0, 0, 0, 0, 0, 0, 0, 0, //
-            0x05, 0, 0, 0, 0, 0, 0, 0, 0, 0, 0, 0, 0, 0, 0, 0, //
-            0x10, 0, 0, 0, 0, 0, 0, 0, //
-            0x12, 0, 0, 0, 0x02, 0, 0, 0, //
+            b"\x03\0\x01\0\x03\0\0\0\xFF\xFF\xFF\xFF\xFF\xFF\xFF\xFF",
+            BUFFERS_OF_16384,
+            EXTENTS_80,
+            THREAD_1,
+            b"\x09\xFF\xFF\xFF\xFF\xFF\xFF\xFF\xFF\0\0\0\0\0\0\0",
+            b"\x13\xFF\xFF\xFF\x7F\0\0\0\0\0\0\0\0\0\0\0",
+            CPU,
+            ENTRY,
+            EXIT_AFTER_2,
         ],
-        audit: "xray-audit 1\n\
-            threads=1 buffer-size=16384 buffer-max=100 \
-            fuel=10000000 passings=1048576 tick=1 tsc=0 cpus=1 migrate=1048576 \
-            pid=2147483647 wall=18446744073709551615.0 frequency=18446744073709551615\n\
-            thread 1 returned passings 2 recorded 2 segments 1 first 0\n\
+        settings: &[
+            ("pid", "2147483647"),
+            ("wall", "18446744073709551615.0"),
+            ("frequency", "18446744073709551615"),
+        ],
+        threads: "thread 1 returned passings 2 recorded 2 segments 1 first 0\n\
             marks +2\n\
             recycled 0\n",
     },
@@ -472,25 +379,44 @@ const ROWS: [Row; 18] = [
         script: TRACED,
         schedule: "",
         trace: &[
-            0x03, 0, 0x01, 0, 0x03, 0, 0, 0, 0, 0, 0, 0, 0, 0, 0, 0, //
-            0, 0x40, 0, 0, 0, 0, 0, 0, 0, 0, 0, 0, 0, 0, 0, 0, //
-            0x0F, 0x50, 0, 0, 0, 0, 0, 0, 0, 0, 0, 0, 0, 0, 0, 0, //
-            0x01, 0x01, 0, 0, 0, 0, 0, 0, 0, 0, 0, 0, 0, 0, 0, 0, //
-            0x09, 0x07, 0, 0, 0, 0, 0, 0, 0, 0x08, 0, 0, 0, 0, 0, 0, //
-            0x13, 0x01, 0, 0, 0, 0, 0, 0, 0, 0, 0, 0, 0, 0, 0, 0, //
-            0x05, 0, 0, 0, 0, 0, 0, 0, 0, 0, 0, 0, 0, 0, 0, 0, //
-            0x10, 0, 0, 0, 0, 0, 0, 0, //
-            0x12, 0, 0, 0, 0x02, 0, 0, 0, //
+            HEADER,
+            EXTENTS_80,
+            THREAD_1,
+            b"\x09\x07\0\0\0\0\0\0\0\x08\0\0\0\0\0\0",
+            PROCESS_1,
+            CPU,
+            ENTRY,
+            EXIT_AFTER_2,
         ],
-        audit: "xray-audit 1\n\
-            threads=1 buffer-size=16384 buffer-max=100 \
-            fuel=10000000 passings=1048576 tick=1 tsc=0 cpus=1 migrate=1048576 \
-            pid=1 wall=7.8 frequency=0\n\
-            thread 1 returned passings 2 recorded 2 segments 1 first 0\n\
+        settings: &[("wall", "7.8")],
+        threads: "thread 1 returned passings 2 recorded 2 segments 1 first 0\n\
             marks +2\n\
             recycled 0\n",
     },
 ];
+
+/// The value of a setting in the audit of a row.
+fn setting<'r>(row: &Row<'r>, name: &str, usual: &'r str) -> &'r str {
+    for (other, value) in row.settings {
+        if *other == name {
+            return value;
+        }
+    }
+    usual
+}
+
+/// The audit of a row.
+fn audit_of(alloc: Global, row: &Row) -> Result<String, Fail> {
+    let mut audit = String::from_str(alloc, "xray-audit 1\n")?;
+    for (place, (name, usual)) in USUAL.iter().enumerate() {
+        let space = if place == 0 { "" } else { " " };
+        let value = setting(row, name, usual);
+        audit.push_str(&format!(in alloc; "{space}{name}={value}")?)?;
+    }
+    audit.push_str("\n")?;
+    audit.push_str(row.threads)?;
+    Ok(audit)
+}
 
 /// Assembles the image of a row, and checks what its replay leaves.
 fn assert_leaves<R: Abort + Threads + Wait + Sync + AllocGlobal>(
@@ -498,25 +424,23 @@ fn assert_leaves<R: Abort + Threads + Wait + Sync + AllocGlobal>(
     row: &Row,
 ) -> Result<(), Fail> {
     let alloc = rt.alloc();
+    let audit = audit_of(alloc, row)?;
     let mut desk = desk_of(alloc, &[], b"", row.script, row.schedule)?;
     desk.put("x", row.text.as_bytes())?;
-    assert_eq!(rt;
-        run_words(rt, &["asm", "x", "i"], &mut desk, &[], &[])?.status,
-        0
-    );
+    assert_made(rt, &mut desk)?;
     let words = words_with(alloc, &SIM, row.options)?;
     let run = run_words(rt, &words, &mut desk, &[], &[])?;
-    assert_eq!(rt; run.err.as_str(), "", "{}", row.audit);
-    assert_eq!(rt; run.status, 0, "{}", row.audit);
+    assert_eq!(rt; run.err.as_str(), "", "{audit}");
+    assert_eq!(rt; run.status, 0, "{audit}");
+    let trace = file(alloc, row.trace)?;
     assert_eq!(rt;
         desk.get("t").ok_or("no trace")?,
-        row.trace,
-        "{}",
-        row.audit
+        trace.as_slice(),
+        "{audit}"
     );
     assert_eq!(rt;
         std::str::from_utf8(desk.get("a").ok_or("no audit")?)?,
-        row.audit
+        audit.as_str()
     );
     Ok(())
 }
@@ -573,9 +497,7 @@ fn assert_fails<R: Abort + Threads + Wait + Sync + AllocGlobal>(
     desk.put("t", OLD)?;
     desk.put("a", OLD)?;
     let run = run_words(rt, &REPLAY, &mut desk, out_failing, &[])?;
-    assert_eq!(rt; run.err.as_str(), line);
-    assert_eq!(rt; run.status, 4);
-    assert_eq!(rt; run.out.as_str(), "");
+    assert_left(rt, &run, 4, "", line);
     assert_eq!(rt; desk.get("t").ok_or("no trace")?, trace);
     assert_eq!(rt; desk.get("a").ok_or("no audit")?, audit);
     assert_eq!(rt; desk.get("i").ok_or("no image")?, IMAGE.as_slice());
@@ -587,8 +509,11 @@ fn assert_fails<R: Abort + Threads + Wait + Sync + AllocGlobal>(
 fn a_call_of_the_desk_that_fails_leaves_later_outputs_untouched(
     rt: HostRuntime,
 ) -> Result<(), Fail> {
-    let trace = ROWS[0].trace;
-    let audit = ROWS[0].audit.as_bytes();
+    let (trace, audit) = (
+        file(rt.alloc(), &ONE_CALL)?,
+        audit_of(rt.alloc(), &ROWS[0])?,
+    );
+    let (trace, audit) = (trace.as_slice(), audit.as_bytes());
     assert_fails(&rt, &[6], &[], "xray: t: write fault\n", OLD, OLD)?;
     assert_fails(&rt, &[7], &[], "xray: t: write fault\n", b"", OLD)?;
     assert_fails(&rt, &[8], &[], "xray: a: write fault\n", trace, OLD)?;
@@ -607,7 +532,7 @@ fn a_trace_that_fails_in_the_middle_is_a_prefix(rt: HostRuntime) -> Result<(), F
     let run = run_words(&rt, &REPLAY, &mut trickle, &[], &[])?;
     assert_eq!(rt; run.err.as_str(), "xray: t: write fault\n");
     assert_eq!(rt; run.status, 4);
-    assert_eq!(rt; trickle.get("t").ok_or("no trace")?, &ROWS[0].trace[..1]);
+    assert_eq!(rt; trickle.get("t").ok_or("no trace")?, &HEADER[..1]);
     assert!(rt; trickle.get("a").is_none());
     Ok(())
 }

@@ -205,20 +205,30 @@ def store_differences():
             yield f"model: script {script!r}: {len(before)} micro steps before go, stores {stores}"
 
 
-def main():
-    parser = argparse.ArgumentParser(description="Compares the model with results that were worked by hand.")
+def given_words(description):
+    """The program, if there is one, and the commands of which results are compared."""
+    parser = argparse.ArgumentParser(description=description)
     parser.add_argument("program", nargs="?", type=pathlib.Path, metavar="PROGRAM")
     parser.add_argument("--with", dest="commands", default=",".join(model.LATER), metavar="COMMANDS")
     given = parser.parse_args()
-    commands = given.commands.split(",")
-    differ = [*run_differences("model", lambda run: model_leaves(run, commands)), *store_differences()]
-    if given.program is not None:
-        path = given.program.resolve()
-        differ += run_differences(str(given.program), lambda run: program_leaves(path, run, commands))
+    return given.program, given.commands.split(",")
+
+
+def finish(differ, compared):
+    """Prints the differences, and how many there are among what was compared. The status is 1 if there are any."""
     for text in differ:
         print(text)
-    print(f"{len(RUNS)} runs and {len(STORES)} scripts, {len(differ)} differences")
+    print(f"{compared}, {len(differ)} differences")
     sys.exit(1 if differ else 0)
+
+
+def main():
+    program, commands = given_words("Compares the model with results that were worked by hand.")
+    differ = [*run_differences("model", lambda run: model_leaves(run, commands)), *store_differences()]
+    if program is not None:
+        path = program.resolve()
+        differ += run_differences(str(program), lambda run: program_leaves(path, run, commands))
+    finish(differ, f"{len(RUNS)} runs and {len(STORES)} scripts")
 
 
 if __name__ == "__main__":

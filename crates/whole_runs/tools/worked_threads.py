@@ -22,7 +22,7 @@ import tempfile
 
 sys.dont_write_bytecode = True  # the modules are in the repository, and their compiled forms aren't
 from random_images import ROOT  # noqa: E402
-from worked_runs import CALL, REGISTERS, STRAIGHT_LINE, TRACED, lines  # noqa: E402
+from worked_runs import CALL, REGISTERS, STRAIGHT_LINE, TRACED, finish, lines  # noqa: E402
 from worked_traces import (  # noqa: E402
     CSV_HEAD, FIBONACCI, SETUP, Programmed, Row, Run, audited, block, header, run_differences,
 )  # fmt: skip
@@ -344,10 +344,7 @@ def main():
         for time in range(1, given.times + 1):
             differ += (f"time {time}: {line}" for line in row_differences(program, row))
     differ += failure_differences(program)
-    for text in differ:
-        print(text)
-    print(f"{len(again)} examples, {given.times} times each, and outputs that fail: {len(differ)} differences")
-    sys.exit(1 if differ else 0)
+    finish(differ, f"{len(again)} examples, {given.times} times each, and outputs that fail")
 
 
 if __name__ == "__main__":

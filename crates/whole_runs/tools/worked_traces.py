@@ -9,7 +9,6 @@ Each row begins with some files and goes through runs over them, in order. A rep
 reports read. A run has what it prints, or some of these lines, and which files it leaves. Traces are written as hexadecimal
 bytes, record by record. A difference is reported, and then the status is 1.
 """
-import argparse
 import dataclasses
 import pathlib
 import random
@@ -22,7 +21,7 @@ import image_model  # noqa: E402
 import replay_model  # noqa: E402
 import trace_model  # noqa: E402
 import xray_model as model  # noqa: E402
-from worked_runs import CALL, STRAIGHT_LINE, TAIL_JUMP, TRACED, image, lines  # noqa: E402
+from worked_runs import CALL, STRAIGHT_LINE, TAIL_JUMP, TRACED, finish, given_words, image, lines  # noqa: E402
 
 EMPTY_FUNCTION = image("fn main always / out 0 / ret")
 FIBONACCI = image(
@@ -543,21 +542,15 @@ def segment_differences():
 
 
 def main():
-    parser = argparse.ArgumentParser(description="Compares the model with traces and reports that were worked by hand.")
-    parser.add_argument("program", nargs="?", type=pathlib.Path, metavar="PROGRAM")
-    parser.add_argument("--with", dest="commands", default=",".join(model.LATER), metavar="COMMANDS")
-    given = parser.parse_args()
+    program, commands = given_words("Compares the model with traces and reports that were worked by hand.")
     differ = [*unpatched_exit_differences(), *segment_differences()]
     for row in ROWS:
         differ += row_differences("model", Modelled(row.files), row, model.LATER)
-        if given.program is not None:
+        if program is not None:
             with tempfile.TemporaryDirectory(prefix="worked_traces.") as folder:
-                world = Programmed(given.program.resolve(), folder, row.files)
-                differ += row_differences(str(given.program), world, row, given.commands.split(","))
-    for text in differ:
-        print(text)
-    print(f"{len(ROWS)} rows, {sum(len(row.runs) for row in ROWS)} runs, {len(differ)} differences")
-    sys.exit(1 if differ else 0)
+                world = Programmed(program.resolve(), folder, row.files)
+                differ += row_differences(str(program), world, row, commands)
+    finish(differ, f"{len(ROWS)} rows, {sum(len(row.runs) for row in ROWS)} runs")
 
 
 if __name__ == "__main__":

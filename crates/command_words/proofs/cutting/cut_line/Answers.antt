@@ -7,8 +7,9 @@ use Rattle.command_words.specs.private.Clapped.{app_by, clap_rows, line_in, rows
 use Rattle.command_words.specs.Items.{items_of, texts}
 use Rattle.clap.specs.Faults.{is_simple_and_free}
 use Rattle.command_words.specs.Lines.{is_cut, line_by, outputs_differ}
-use Rattle.command_words.specs.Rows.{CommandRow, is_row}
-use Rattle.command_words.specs.Views.{line_view, row_view}
+use Rattle.command_words.specs.Rows.{CommandRow}
+use Rattle.command_words.specs.private.Allowed.{is_row}
+use Rattle.command_words.specs.private.CodeViews.{line_view, row_view}
 use Rattle.command_words.proofs.Built.{row_is_simple}
 use Rattle.command_words.proofs.Cuts.{answered, cut_is, refused}
 use Rattle.command_words.proofs.Gathering.{words_are_text}

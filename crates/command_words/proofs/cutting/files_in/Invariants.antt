@@ -1,6 +1,6 @@
 use Rattle.std.proofs.Common.{◌≡◌, ◌++◌, map, drop}
 use Rattle.command_words.specs.private.Clapped.{names_in, rows_in}
-use Rattle.command_words.specs.Views.{file_view}
+use Rattle.command_words.specs.private.CodeViews.{file_view}
 use Rattle.command_words.proofs.cutting.files_in.Given as goal
 
 abbrev pub invariant-loop-file : goal.invariant-loop-file

@@ -1,6 +1,6 @@
 use Rattle.std.proofs.Common.{◌≡◌, ◌++◌, map, drop}
 use Rattle.command_words.specs.private.Clapped.{given_in, rows_in}
-use Rattle.command_words.specs.Views.{option_view}
+use Rattle.command_words.specs.private.CodeViews.{option_view}
 use Rattle.command_words.proofs.cutting.given_in.Given as goal
 
 abbrev pub invariant-loop-option : goal.invariant-loop-option

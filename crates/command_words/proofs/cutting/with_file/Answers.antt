@@ -3,7 +3,7 @@ use Rattle.std.proofs.lemmas.Result.{IfOk-weaker}
 use Rattle.clap.specs.Simple.{with_rule}
 use Rattle.clap.specs.Walk.{rule_of}
 use Rattle.command_words.specs.private.Clapped.{file_rule}
-use Rattle.command_words.specs.Views.{file_view}
+use Rattle.command_words.specs.private.CodeViews.{file_view}
 use Rattle.command_words.proofs.cutting.with_file.Goals as goal
 
 pub returns : goal.returns

@@ -1,7 +1,7 @@
 use Rattle.std.proofs.Common.{◌≡◌, fold, map, drop}
 use Rattle.clap.specs.Simple.{app_of, with_rule}
 use Rattle.command_words.specs.private.Clapped.{file_rule}
-use Rattle.command_words.specs.Views.{file_view}
+use Rattle.command_words.specs.private.CodeViews.{file_view}
 use Rattle.command_words.proofs.cutting.with_files.Given as goal
 
 abbrev pub invariant-loop-file : goal.invariant-loop-file

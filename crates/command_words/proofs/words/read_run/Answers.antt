@@ -2,7 +2,7 @@ use Rattle.std.proofs.Common.{◌∙◌, Some, None, ap, option_map, sym}
 use Rattle.command_words.specs.Items.{items_of, texts}
 use Rattle.command_words.specs.Tables.{run_row}
 use Rattle.command_words.specs.Words.{run_in}
-use Rattle.command_words.specs.Views.{line_view}
+use Rattle.command_words.specs.private.CodeViews.{line_view}
 use Rattle.command_words.proofs.Outputs.{differ_in}
 use Rattle.command_words.proofs.Readings.{made_of}
 use Rattle.command_words.proofs.words.read_run.Goals as goal
