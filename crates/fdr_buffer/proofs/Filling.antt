@@ -71,13 +71,13 @@ fits_is a events event h begun =
 -- b is a with one more event
 pub record Grows (a b : Inside) (event : Event) : Type 0 where
   pub fits : EventFits event
-  pub bytes : take b.used b.bytes.items ≡ take a.used a.bytes.items ++ bytes_of (records_of a.last event)
-  pub used : b.used ≡ a.used + length (bytes_of (records_of a.last event))
-  pub size : length b.bytes.items ≡ length a.bytes.items
   pub thread : b.thread ≡ a.thread
   pub serial : b.serial ≡ a.serial
   pub wall : b.wall ≡ a.wall
   pub pid : b.pid ≡ a.pid
+  pub size : length b.bytes.items ≡ length a.bytes.items
+  pub bytes : take b.used b.bytes.items ≡ take a.used a.bytes.items ++ bytes_of (records_of a.last event)
+  pub used : b.used ≡ a.used + length (bytes_of (records_of a.last event))
   pub last : b.last ≡ Some event
   pub count : b.count ≡ a.count + 1
 
@@ -148,7 +148,7 @@ holds_none a least most within preamble bytes last count = record {
 
 -- a buffer whose bytes were written, with one more event
 abbrev pub grown : Inside → List ℕ → ℕ → Event → Inside
-grown a bytes used event = record { bytes = with_items a.bytes bytes; used = used; thread = a.thread; serial = a.serial; wall = a.wall; pid = a.pid; count = a.count + 1; last = Some event }
+grown a bytes used event = record a { bytes = with_items a.bytes bytes; used = used; count = a.count + 1; last = Some event }
 
 pub grown_grows : (a : Inside) (bytes : List ℕ) (used : ℕ) (event : Event) → length bytes ≡ length a.bytes.items → EventFits event
     → take used bytes ≡ take a.used a.bytes.items ++ bytes_of (records_of a.last event) → used ≡ a.used + length (bytes_of (records_of a.last event)) → Grows a (grown a bytes used event) event
@@ -156,13 +156,13 @@ grown_grows a bytes used event size fits written next =
     let over = with_items_is a.bytes bytes (size ∙ sym a.bytes.ok.0) in
     record {
       fits = fits;
-      bytes = ap (take used) over ∙ written;
-      used = next;
-      size = ap length over ∙ size;
       thread = refl;
       serial = refl;
       wall = refl;
       pid = refl;
+      size = ap length over ∙ size;
+      bytes = ap (take used) over ∙ written;
+      used = next;
       last = refl;
       count = refl;
     }

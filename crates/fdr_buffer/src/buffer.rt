@@ -2,7 +2,8 @@
 
 ghost use Rattle.std.specs.Prelude.{◌≡◌, ◌<◌, ◌≤◌, ◌^◌, [], ◌∷◌, ◌++◌, true, length, IsTrue, IfOk};
 ghost use Rattle.fdr_buffer.specs.Segments.{has_room};
-ghost use Rattle.fdr_buffer.specs.Filled.{empty_buffer, used_bytes};
+ghost use Rattle.fdr_buffer.specs.Filled.{Filled, empty_buffer, used_bytes};
+ghost use Rattle.fdr_buffer.specs.private.Buffer.{filled_in, IsFilled};
 ghost use Rattle.fdr_buffer.specs.Fits.{BufferFits};
 
 use crate::lead::Lead;
@@ -43,11 +44,7 @@ pub struct Buffer {
 }
 
 impl Model for Buffer {
-    ghost use Rattle.fdr_buffer.specs.Filled.{Filled};
-
     ghost Value = { Filled };
-
-    ghost use Rattle.fdr_buffer.specs.private.Buffer.{filled_in, IsFilled};
 
     ghost view = { filled_in };
 

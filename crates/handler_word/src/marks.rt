@@ -2,7 +2,8 @@
 
 ghost use Rattle.std.specs.Prelude.{◌≡◌, ◌<◌, ◌≤◌, ◌↔◌, ◌+◌, ◌/◌, [], ◌∷◌, ◌++◌, drop, length, replicate, slice_get, vec_capacity, Some, IsTrue, IfOk};
 ghost use Rattle.handler_word.specs.private.Bits.{mark_of, marks_from, IsFilledTo};
-ghost use Rattle.handler_word.specs.MarkList.{recorded_count};
+ghost use Rattle.handler_word.specs.private.Marks.{marks_in, IsPacked};
+ghost use Rattle.handler_word.specs.MarkList.{MarkList, recorded_count};
 
 use crate::Mark;
 use std::alloc::Global;
@@ -36,11 +37,7 @@ pub struct Marks {
 }
 
 impl Model for Marks {
-    ghost use Rattle.handler_word.specs.MarkList.{MarkList};
-
     ghost Value = { MarkList };
-
-    ghost use Rattle.handler_word.specs.private.Marks.{marks_in, IsPacked};
 
     ghost view = { marks_in };
 

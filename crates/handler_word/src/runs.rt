@@ -13,6 +13,7 @@ use xray_io::{Piece, Sink, Text, WriteFault};
 /// its length, and there is a space between runs. The text is `-` if there are no marks.
 ///
 /// On `WriteFault` a prefix of the text was written, and the sink counted a fault.
+#[tactic(auto, using(xray_io::specs::Text::writes_failed))]
 pub fn write_runs<S: Sink>(marks: &Marks, sink: &mut S) -> Result<(), WriteFault>
     ensures { WritesText S.written S.faults S.along sink.old sink.new
         (runs_text marks.now.items) result }

@@ -21,6 +21,7 @@ use xray_io::{Piece, Sink, Text, WriteFault};
 /// `process` is the process of the event's block, and `tsc` its counter in cycles.
 ///
 /// On `WriteFault` a prefix of the text was written, and the sink counted a fault.
+#[tactic(auto, using(xray_io::specs::Text::writes_failed))]
 pub fn write_yaml<S: Sink>(
     trace: &Trace,
     image: Option<&Image>,
