@@ -102,7 +102,7 @@ impl Marks {
 
     /// Whether the mark of this number is the first of a byte whose four marks are all `mark`.
     #[inline]
-    pub(crate) fn fill_byte(&self, first: u32, mark: Mark) -> bool
+    pub(crate) fn begins_byte_of(&self, first: u32, mark: Mark) -> bool
         requires { first < length self.now.items }
         ensures within { IsTrue result → first + 4 ≤ length self.now.items }
         ensures same { IsTrue result

@@ -77,7 +77,7 @@ fn alike_at(marks: &Marks, first: u32, mark: Mark) -> u32
     ensures within { first + result ≤ length marks.now.items }
     ensures same { drop first marks.now.items ≡ replicate result mark ++ drop (first + result) marks.now.items }
 {
-    if marks.fill_byte(first, mark) {
+    if marks.begins_byte_of(first, mark) {
         MARKS_IN_BYTE
     } else {
         1

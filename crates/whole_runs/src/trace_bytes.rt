@@ -5,13 +5,16 @@ use std::test::Fail;
 /// The first half of a header: version 3, type 1, a constant and nonstop counter, and a frequency of 0.
 pub const FORMAT: &[u8] = b"\x03\0\x01\0\x03\0\0\0\0\0\0\0\0\0\0\0";
 
-/// The second half of a header: the size of the buffers in bytes.
+/// The second half of a header, with buffers of 72 bytes.
 pub const BUFFERS_OF_72: &[u8] = b"\x48\0\0\0\0\0\0\0\0\0\0\0\0\0\0\0";
 
+/// The same with buffers of 79 bytes.
 pub const BUFFERS_OF_79: &[u8] = b"\x4F\0\0\0\0\0\0\0\0\0\0\0\0\0\0\0";
 
+/// The same with buffers of 80 bytes.
 pub const BUFFERS_OF_80: &[u8] = b"\x50\0\0\0\0\0\0\0\0\0\0\0\0\0\0\0";
 
+/// The same with buffers of 16,384 bytes.
 pub const BUFFERS_OF_16384: &[u8] = b"\0\x40\0\0\0\0\0\0\0\0\0\0\0\0\0\0";
 
 /// A header of that format, with buffers of 16,384 bytes.

@@ -6,7 +6,7 @@ use Rattle.handler_word.specs.private.Bits.{marks_from}
 use Rattle.handler_word.specs.MarkList.{MarkList}
 use Rattle.handler_word.proofs.FullBytes.{four_there}
 use Rattle.handler_word.proofs.MarkBits.{seen_counts}
-use Rattle.handler_word.proofs.marks.Marks.fill_byte.Goals as goal
+use Rattle.handler_word.proofs.marks.Marks.begins_byte_of.Goals as goal
 
 pub overflow_sub-self-inside : goal.overflow_sub-self-inside
 overflow_sub-self-inside c =
