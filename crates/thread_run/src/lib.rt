@@ -6,6 +6,7 @@
 #![tactic(auto)]
 
 mod exchange;
+mod laws;
 mod recorder;
 mod running;
 mod thread;

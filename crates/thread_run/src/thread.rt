@@ -7,6 +7,7 @@ use machine_step::{Cpu, Limits, Steps, some_end};
 use patch_script::Script;
 use sled_words::MAX_THREADS;
 use std::alloc::Global;
+use traced_run::some_file_holds;
 use xray_io::NoMemory;
 
 /// The thread of this number, for a script that was read for an image and a number of threads. The
@@ -29,8 +30,7 @@ pub fn new_cpu<'a>(
     ensures number { IfOk result (λ cpu. cpu.thread ≡ number) }
     ensures limits { IfOk result (λ cpu. cpu.limits ≡ limits) }
 {
-    // Called for its contract: some accepted file holds the image.
-    steps.image();
+    some_file_holds(steps);
     some_end();
     let hold = script.hold_of(number);
     Cpu::new(alloc, steps, number, threads, hold, limits)

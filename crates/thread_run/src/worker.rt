@@ -8,9 +8,11 @@ ghost use Rattle.sled_rule.specs.Views.{giving};
 ghost use Rattle.machine_step.specs.declared.want.Want.{Want};
 ghost use Rattle.machine_step.specs.Traced.{IsDone, IsLoadable, loads_left};
 
+use crate::laws::{a_thread_stands_as_it_wants, threads_start_within};
 use fdr_record::{Event, Recorder};
 use machine_step::{Cpu, Want, a_traced_thread_ends_as_its_plain_run};
 use sled_rule::{CodeTable, PatchSeat, WorkSeat};
+use traced_run::passings_are_few;
 use xray_io::Gate;
 
 /// How a turn of a worker ended.
@@ -51,8 +53,7 @@ impl<'s, 't, R: Recorder> Worker<'s, 't, R> {
         ensures table { table_of result ≡ table.now }
         ensures recorder { recorder_of result ≡ recorder }
     {
-        // Called for its contract: threads start within the script.
-        table.script().start();
+        threads_start_within(table.script());
         Worker {
             cpu,
             seat,
@@ -143,8 +144,7 @@ impl<'s, 't, R: Recorder> Worker<'s, 't, R> {
     {
         let value = self.table.fetch(&mut self.seat, word);
         let event = self.cpu.give(value);
-        // Called for its contract: the passings, and so the events, fit 32 bits.
-        self.cpu.passings();
+        passings_are_few(&self.cpu);
         event
     }
 
@@ -196,8 +196,7 @@ impl<'s, 't, R: Recorder> Worker<'s, 't, R> {
         ensures loads { loads_of self.new ≡ loads_of self.old }
         ensures going { IsGoing R.stands self.new }
     {
-        // Called for its contract: the passings fit 32 bits.
-        self.cpu.passings();
+        passings_are_few(&self.cpu);
         self.table.passed(&mut self.seat);
     }
 
@@ -209,9 +208,8 @@ impl<'s, 't, R: Recorder> Worker<'s, 't, R> {
         ensures loads { loads_of self.new ≡ loads_of self.old }
         ensures ended { HasEnded R.stands self.new }
     {
-        // Called for their contracts: the passings fit 32 bits, and where the thread is.
-        self.cpu.passings();
-        self.cpu.want();
+        passings_are_few(&self.cpu);
+        a_thread_stands_as_it_wants(&self.cpu);
         a_traced_thread_ends_as_its_plain_run();
         self.table.ended(&mut self.seat);
     }

@@ -26,7 +26,7 @@ returns-clause-ended g c =
     let along = along_counting plan worker.cpu v _ at.passed ended_count view at.along in
     let has = along.all.loaded in
     let ends = c.a_traced_thread_ends_as_its_plain_run.ensures at.thread.accepted.0 worker.cpu at.passed at.passed _ has.end has.last
-    (subst (IsAccepted at.thread.accepted.0) (sym at.thread.program) at.thread.accepted.1) has c.requires.done c.want.ensures.stands has.run in
+    (subst (IsAccepted at.thread.accepted.0) (sym at.thread.program) at.thread.accepted.1) has c.requires.done c.a_thread_stands_as_it_wants.ensures has.run in
     record {
       at = record {
         own = c.ended.ensures.own;

@@ -1,4 +1,4 @@
-use Rattle.std.proofs.Common.{◌≡◌, ◌≤◌, ap, arith, length, subst, sym, ◌∙◌}
+use Rattle.std.proofs.Common.{◌≤◌, ap, arith, length, subst, sym, ◌∙◌}
 use Rattle.patch_script.specs.Plans.{Plan}
 use Rattle.patch_script.specs.Micros.{start_of, total_of}
 use Rattle.patch_script.specs.Refusals.{commands_of}
@@ -13,14 +13,14 @@ returns-clause-going g c =
     let v = work_view c.args.seat in
     let is = c.requires.fresh in
     let fresh = is.fresh in
-    let within = subst (λ (p : Plan). c.start.result ≤ total_of p.program (commands_of p.lines)) c.script.ensures c.start.ensures.within in
-    let start = subst (λ (p : Plan). c.start.result ≡ start_of p.program (commands_of p.lines)) c.script.ensures c.start.ensures.start in
+    let within = subst (λ (p : Plan). start_of p.program (commands_of p.lines) ≤ total_of p.program (commands_of p.lines)) c.script.ensures
+    c.threads_start_within.ensures in
     record {
       at = record {
         own = c.requires.own;
         thread = fresh.thread;
         seat = is.own;
-        within = omega (arith, within, start, is.seen);
+        within = omega (arith, within, is.seen);
         passed = fresh.passed;
         along = fresh_along plan c.args.cpu v is;
         recorded_are = none_noted g.R.Recorder.stands c.args.recorder fresh.passed c.args.cpu.marks fresh.no_marks c.requires.no_events;

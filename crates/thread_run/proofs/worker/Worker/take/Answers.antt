@@ -49,7 +49,7 @@ returns-clause-room g c =
     let at = c.requires.going.at in
     let has = at.along.all.loaded in
     any_room g.R.Recorder.stands worker.recorder at.passed worker.cpu.marks c.give-event.new.self.marks c.give-event.result at.recorded_are
-    (omega (arith, c.passings.ensures)) (c.give-event.ensures.event at.passed has.end has.last has.run)
+    (omega (arith, c.passings_are_few.ensures)) (c.give-event.ensures.event at.passed has.end has.last has.run)
 
 pub returns-clause-ends : goal.returns-clause-ends
 returns-clause-ends g c =
