@@ -4,7 +4,7 @@ use Rattle.std.specs.Prelude.{OnOk}
 use Rattle.xray_io.specs.Calls.{Call, Went}
 use Rattle.xray_io.specs.Desk.{Entry, Absent}
 use Rattle.xray_io.specs.Faults.{Rose}
-use Rattle.xray_program.specs.Answers.{Answered, IsAnswer, Says}
+use Rattle.xray_program.specs.Answers.{Answered, IsAnswer, LeavesAll, Says}
 use Rattle.xray_program.specs.Commands.{Means, HadItsTurn, outputs_named}
 use Rattle.xray_program.specs.Order.{InOrder, IsNoCall}
 use Rattle.xray_program.specs.Outcomes.{Outcome, BadLine, Unread, TooLong, Refused, Done, Fell, Ending, With, Unwritten, NoMemory, status_at, line_at, written_by}
@@ -12,7 +12,7 @@ use Rattle.xray_program.specs.Outputs.{FailsWriting}
 use Rattle.command_words.specs.Words.{Command}
 use Rattle.xray_program.specs.private.CallLaws.{CallLaws}
 use Rattle.xray_program.specs.private.Stops.{answer_of, stop_status, told_of}
-use Rattle.xray_program.specs.private.Works.{Ends, KeepsOthers, SaidFits, StandsBehind}
+use Rattle.xray_program.specs.private.Works.{Ends, KeepsOthers, SaidFits, StandsBehind, Writes}
 use Rattle.xray_program.specs.declared.stop.Stop.{Stop}
 use Rattle.xray_program.specs.declared.stop.Stop.TheVariants as stops
 use Rattle.xray_io.specs.World.{DeskView, World}
@@ -68,6 +68,13 @@ none_called None desk desk_now e calls (inl none) = none
 none_called None desk desk_now e calls (inr (inl (name, at))) = absurd (no_turn at.earlier at.later (name, at.limit) at.turn)
 none_called None desk desk_now e calls (inr (inr (accepted, none))) = none
 none_called (Some command) desk desk_now e calls order = absurd cc
+
+-- an outcome that is meant and writes leaves all that it writes
+leaves_all : (said : Option Command) (before after : World) (outcome : Outcome) (outputs : List (List ℕ × List ℕ)) (text : List ℕ)
+    → Means said before.desk.held outcome → written_by outcome ≡ Some (outputs, text)
+    → Writes outputs text before.desk after.desk before.out after.out → LeavesAll said before after (With outcome)
+leaves_all said before after outcome outputs text meant is writes =
+    record { outcome = outcome; is = refl; meant = meant; outputs = outputs; text = text; writes = is; whole = writes.whole; out = writes.printed }
 
 -- how the parts of the contract follow, one for each ending
 by_ending : CallLaws → (Way : List Call → Type 0) (said : Option Command) (before after : World) (ending : Ending)
@@ -155,16 +162,7 @@ by_ending laws Way said before after (With (Done outputs text)) fits (meant, wri
   status = refl;
   told = told;
   order = order;
-  done = λ e. record {
-    outcome = Done outputs text;
-    is = refl;
-    meant = meant;
-    outputs = outputs;
-    text = text;
-    writes = refl;
-    whole = writes.whole;
-    out = writes.printed;
-  };
+  done = λ e. leaves_all said before after (Done outputs text) outputs text meant refl writes;
   silent = λ e. says_nothing before.err after.err told;
   bad_line = (λ e. absurd cc, λ e. absurd (read_it said before.desk.held (Done outputs text) meant (λ x. cc) e.0));
   no_command = λ e. absurd (read_it said before.desk.held (Done outputs text) meant (λ x. cc) e);
@@ -185,16 +183,7 @@ by_ending laws Way said before after (With (Fell outputs text trouble)) fits (me
   status = refl;
   told = told;
   order = order;
-  done = λ e. record {
-    outcome = Fell outputs text trouble;
-    is = refl;
-    meant = meant;
-    outputs = outputs;
-    text = text;
-    writes = refl;
-    whole = writes.whole;
-    out = writes.printed;
-  };
+  done = λ e. leaves_all said before after (Fell outputs text trouble) outputs text meant refl writes;
   silent = λ e. absurd cc;
   bad_line = (λ e. absurd cc, λ e. absurd (read_it said before.desk.held (Fell outputs text trouble) meant (λ x. cc) e.0));
   no_command = λ e. absurd (read_it said before.desk.held (Fell outputs text trouble) meant (λ x. cc) e);

@@ -10,13 +10,14 @@ use Rattle.xray_program.specs.Commands.{Comes}
 use Rattle.xray_io.specs.Outputs.{IsMaking}
 use Rattle.xray_io.specs.Reads.{Reads, ReadsUpToFault}
 use Rattle.xray_program.specs.Order.{FailsAtOutput, InOrder, IsNoCall, IsUnmade, MakesAll, ReadsAll, ReadsWhole, StopsAt, inputs_of}
-use Rattle.xray_program.specs.Outcomes.{Outcome, BadLine, Unread, TooLong, Refused, Done, Fell, Ending, With, Unwritten, NoMemory, written_by}
+use Rattle.xray_program.specs.Outcomes.{Outcome, BadLine, Unread, TooLong, Refused, Done, Fell, Ending, With, Unwritten, NoMemory, status_at, line_at, written_by}
 use Rattle.xray_program.specs.Outputs.{AreWhole, AreUntouched, FailsAt, FailsAtOut, FailsWriting, HoldsPrefix, WritesNothing}
+use Rattle.xray_program.specs.private.Further.{ended_by}
 use Rattle.xray_program.specs.private.Stops.{IsUnsaid, answer_of, stop_line, stop_status, told_of}
 use Rattle.xray_program.specs.private.Takes.{IsStopAtInput, StopsTakings}
-use Rattle.xray_program.specs.Taking.{AcceptsFirst, DeskReads, Sound, AllAccepted, ended_by}
+use Rattle.xray_program.specs.Taking.{AcceptsFirst, DeskReads, Sound, AllAccepted}
 use Rattle.command_words.specs.Words.{Command, outputs_of}
-use Rattle.xray_program.specs.private.Works.{AreMakings, Delivers, Ends, Finishes, KeepsOthers, StopsOutputs, Writes}
+use Rattle.xray_program.specs.private.Works.{AreMakings, Delivers, Ends, Finishes, KeepsOthers, StandsBehind, StopsOutputs, Writes}
 use Rattle.xray_io.specs.World.{DeskView, SinkView}
 use Rattle.xray_program.proofs.Ordering.{went_as}
 use Rattle.xray_program.specs.declared.stop.Stop.{Stop}
@@ -136,46 +137,33 @@ ends_at_input command desk desk_now out Way (Err s) stop is stands same went = r
     kept : KeepsOthers (outputs_of command) desk desk_now
     kept name not = ap (λ (h : List ℕ → Entry). h name) same
 
+    -- with this ending, whose status and line are those of the stop
+    ended : (ending : Ending) (stop : Stop) → status_at ending ≡ stop_status stop → line_at ending ≡ stop_line stop
+        → StandsBehind (Some command) desk desk_now out out ending → Went Way (InOrder (Some command) desk desk_now ending)
+        → Ends (Some command) desk desk_now out out Way (stop_status stop) (stop_line stop)
+    ended ending stop status told stands order =
+        record { ending = ending; status = status; told = told; stands = stands; names = kept; order = order }
+
     behind : (stop : Stop) → IsStopAtInput (λ reads. Comes reads desk.held command) desk desk_now stop
         → Went Way (StopsTakings (λ reads. Comes reads desk.held command) (inputs_of command) stop) → Ends (Some command) desk desk_now out out Way (stop_status stop) (stop_line stop)
     behind stops.BadLine stands went = absurd stands
-    behind (stops.Unread n) stands went = record {
-      ending = With (Unread n.now);
-      status = refl;
-      told = refl;
-      stands = (stands, (same, refl));
-      names = kept;
-      order = went_as Way _ (InOrder (Some command) desk desk_now (With (Unread n.now))) went (λ calls p.
-          let P : List ℕ → Type 0 = λ m. StopsAt (λ reads. Comes reads desk.held command) (inputs_of command) m (λ limit. ReadsUpToFault m (limit + 1)) calls in subst P (sym p.1) p.2);
-    }
-    behind (stops.TooLong n) stands went = record {
-      ending = With (TooLong n.now);
-      status = refl;
-      told = refl;
-      stands = (stands, (same, refl));
-      names = kept;
-      order = went_as Way _ (InOrder (Some command) desk desk_now (With (TooLong n.now))) went (λ calls p.
-          let P : List ℕ → Type 0 = λ m. StopsAt (λ reads. Comes reads desk.held command) (inputs_of command) m (λ limit. Reads m (limit + 1) 0 (limit + 1)) calls in subst P (sym p.1) p.2);
-    }
-    behind (stops.Refused n kind words) stands went = record {
-      ending = With (Refused n.now kind.now (words_text words));
-      status = refl;
-      told = refl;
-      stands = (stands, (same, refl));
-      names = kept;
-      order = went_as Way _ (InOrder (Some command) desk desk_now (With (Refused n.now kind.now (words_text words)))) went (λ calls p.
-          let P : List ℕ → Type 0 = λ m. StopsAt (λ reads. Comes reads desk.held command) (inputs_of command) m (λ limit. ReadsWhole m limit) calls in inl (subst P (sym p.1) p.2));
-    }
+    behind (stops.Unread n) stands went =
+        ended (With (Unread n.now)) (stops.Unread n) refl refl (stands, (same, refl))
+        (went_as Way _ (InOrder (Some command) desk desk_now (With (Unread n.now))) went (λ calls p.
+        let P : List ℕ → Type 0 = λ m. StopsAt (λ reads. Comes reads desk.held command) (inputs_of command) m (λ limit. ReadsUpToFault m (limit + 1)) calls in subst P (sym p.1) p.2))
+    behind (stops.TooLong n) stands went =
+        ended (With (TooLong n.now)) (stops.TooLong n) refl refl (stands, (same, refl))
+        (went_as Way _ (InOrder (Some command) desk desk_now (With (TooLong n.now))) went (λ calls p.
+        let P : List ℕ → Type 0 = λ m. StopsAt (λ reads. Comes reads desk.held command) (inputs_of command) m (λ limit. Reads m (limit + 1) 0 (limit + 1)) calls in subst P (sym p.1) p.2))
+    behind (stops.Refused n kind words) stands went =
+        ended (With (Refused n.now kind.now (words_text words))) (stops.Refused n kind words) refl refl (stands, (same, refl))
+        (went_as Way _ (InOrder (Some command) desk desk_now (With (Refused n.now kind.now (words_text words)))) went (λ calls p.
+        let P : List ℕ → Type 0 = λ m. StopsAt (λ reads. Comes reads desk.held command) (inputs_of command) m (λ limit. ReadsWhole m limit) calls in inl (subst P (sym p.1) p.2)))
     behind (stops.Fell words) stands went = absurd stands
     behind (stops.Unwritten n) stands went = absurd stands
-    behind stops.NoMemory stands went = record {
-      ending = NoMemory;
-      status = refl;
-      told = refl;
-      stands = (same, refl);
-      names = kept;
-      order = went_as Way _ (InOrder (Some command) desk desk_now NoMemory) went (λ calls p. inr (inl (p.0, p.2)));
-    }
+    behind stops.NoMemory stands went =
+        ended NoMemory stops.NoMemory refl refl (same, refl)
+        (went_as Way _ (InOrder (Some command) desk desk_now NoMemory) went (λ calls p. inr (inl (p.0, p.2))))
 
 -- a call that ended with its work
 pub ends_with_work : {S : Type 0} (along : S → S → List Call → Type 0) → Composes along → (first second third : S) (command : Command) (yields : Outcome → Type 0) (desk mid desk_now : DeskView) (out out_now : SinkView)

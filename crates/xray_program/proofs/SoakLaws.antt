@@ -1,6 +1,5 @@
 -- `soak`: one thing comes of it, and something in any case.
-use Rattle.std.proofs.Common.{◌≡◌, ◌≤◌, ◌∙◌, ℕ, List, [], None, Ok, Result, refl, sym, ap, subst, arith}
-use Rattle.std.specs.List.{enumerate_from}
+use Rattle.std.proofs.Common.{◌≡◌, ◌≤◌, ◌∙◌, ℕ, List, [], Ok, Result, refl, sym, ap, subst, arith}
 use Rattle.asm_text.specs.Assembling.{assembled, image_of, said_by}
 use Rattle.asm_text.specs.Layout.{Lines}
 use Rattle.asm_text.specs.Programs.{program_said}
@@ -9,12 +8,11 @@ use Rattle.fdr_file.specs.Grammar.{IsTrace}
 use Rattle.fdr_file.specs.Traces.{trace_of}
 use Rattle.fdr_file.specs.declared.trace.Trace.{Trace}
 use Rattle.machine_step.specs.declared.setup.Setup.{Setup}
-use Rattle.patch_script.specs.Plans.{Plan, plan_of, waiting_line}
+use Rattle.patch_script.specs.Plans.{Plan, plan_of}
 use Rattle.patch_script.specs.Refusals.{commands_of}
 use Rattle.patch_script.specs.WrittenScripts.{written_plan}
-use Rattle.soak_inputs.specs.Inputs.{soak_commands, soak_schedule, soak_script, soak_text, soak_turns}
+use Rattle.soak_inputs.specs.Inputs.{soak_commands, soak_script, soak_text, soak_turns}
 use Rattle.soak_inputs.specs.Said.{soak_said}
-use Rattle.step_sim.specs.Schedules.{schedule_of}
 use Rattle.step_sim.specs.declared.turns.Turns.{Turns}
 use Rattle.trace_flush.specs.Flush.{IsTraceOf, trace_bytes}
 use Rattle.traced_run.specs.Fits.{SetupFits}
@@ -23,26 +21,14 @@ use Rattle.xray_image.specs.Ids.{id_count}
 use Rattle.xray_image.specs.Program.{IsAccepted, Program}
 use Rattle.xray_program.specs.Inputs.{image_form}
 use Rattle.xray_program.specs.Soak.{AreInputs, IsSummary, SoakComes, soak_setup, soak_summary}
+use Rattle.xray_program.specs.private.Drawn.{InputLaws}
 use Rattle.xray_program.proofs.Meanings.{AnyOutcome, IsAlone, IsDecided, SomeOutcome, leaves_alone, some_leaves}
 use Rattle.xray_program.proofs.SimLaws.{OneRun, StillRun}
 
--- what the crates below say: of the inputs of a number, of assembled images, and of the traces of runs
-abbrev pub Assembles : Type 0
-Assembles = (text : List ℕ) (threshold : ℕ) (said : Lines) → said_by text ≡ Ok said
-    → IsAccepted (file_bytes (image_of threshold said)) (program_said threshold said)
-
+-- what the crates below say: of the inputs of a number, and of the traces of runs
 abbrev pub RunTraced : Type 0
 RunTraced = (bytes : List ℕ) (program : Program) (setup : Setup) (runs : List ThreadRun)
     → IsAccepted bytes program → SetupFits setup → IsRun program setup runs → IsTraceOf setup runs (trace_bytes setup runs)
-
-pub record InputLaws : Type 0 where
-  pub said : (number : ℕ) → said_by (soak_text number) ≡ Ok (soak_said number)
-  pub ids : (number threshold : ℕ) → id_count (program_said threshold (soak_said number)) ≡ 64
-  pub plan : (number : ℕ) (program : Program) → 64 ≤ id_count program
-      → plan_of program 4 (soak_script number) ≡ Ok (written_plan program 4 (soak_commands number))
-  pub waits : (number : ℕ) (program : Program) → 64 ≤ id_count program → waiting_line (enumerate_from 1 (soak_commands number)) ≡ None
-  pub schedule : (number : ℕ) → schedule_of 4 (soak_schedule number) ≡ Ok (soak_turns number)
-  pub assembles : Assembles
 
 pub record DrawnLaws : Type 0 where
   pub inputs : InputLaws

@@ -34,8 +34,8 @@ use Rattle.traced_run.specs.Runs.{ThreadRun}
 use Rattle.xray_image.specs.Program.{Program}
 use Rattle.xray_program.specs.Sim.{Replayed}
 use Rattle.xray_program.specs.Soak.{AreInputs, IsSummary, soak_setup}
-use Rattle.xray_program.specs.private.Drawn.{IsReadBack, summary_with}
-use Rattle.xray_program.proofs.SoakLaws.{InputLaws, assembled_as, enough, same_value, soak_plan, soak_program}
+use Rattle.xray_program.specs.private.Drawn.{InputLaws, IsReadBack, summary_with}
+use Rattle.xray_program.proofs.SoakLaws.{assembled_as, enough, same_value, soak_plan, soak_program}
 
 -- ---- what readers answer
 

@@ -32,27 +32,13 @@ Comes reads held (Soak number) = SoakComes number
 
 -- whether only one outcome comes of it, over what a desk holds; this fails if threads run in an order of their own
 abbrev pub is_decided : Command → Bool
-is_decided (Sim image script schedule trace audit options) = true
 is_decided (Run image script trace audit options) = false
-is_decided (Plain image bounds) = true
-is_decided (Extract image) = true
-is_decided (Asm text image threshold) = true
-is_decided (Account trace image options) = true
-is_decided (Stack trace image format) = true
-is_decided (Convert trace image) = true
-is_decided (Soak number) = true
+is_decided command = true
 
 -- whether it waits for nobody, and starts no thread
 abbrev pub is_still : Command → Bool
-is_still (Sim image script schedule trace audit options) = true
 is_still (Run image script trace audit options) = false
-is_still (Plain image bounds) = true
-is_still (Extract image) = true
-is_still (Asm text image threshold) = true
-is_still (Account trace image options) = true
-is_still (Stack trace image format) = true
-is_still (Convert trace image) = true
-is_still (Soak number) = true
+is_still command = true
 
 -- ---- what was said: a command, or none
 

@@ -1,7 +1,7 @@
 -- Inputs in their turn: what comes of them, one inside the other, in the order in which they are taken.
 use Rattle.std.specs.Prelude.{◌≡◌, ◌⊎◌, ◌<◌, ◌≤◌, ℕ, zero, suc, List, [], length, Option, Some, None, ⊤}
 use Rattle.xray_io.specs.Desk.{Entry, Untold, Absent, Holds}
-use Rattle.xray_program.specs.Outcomes.{Outcome, Unread, TooLong, Refused, Done, Fell}
+use Rattle.xray_program.specs.Outcomes.{Outcome, Unread, TooLong, Refused, Done}
 
 -- A kind of input: its name in a line on err, the most bytes that it may have, what its bytes read as, and why they are
 -- refused, in the words of the line.
@@ -72,10 +72,6 @@ abbrev pub TakeMaybe : {X : Type 0} → Form X → (place : ℕ) → DeskReads �
 TakeMaybe form place reads held None next outcome = next None outcome
 TakeMaybe form place reads held (Some name) next outcome = Take form place reads held name (λ value. next (Some value)) outcome
 
--- a kind of input that is never refused: any bytes are its value
-abbrev pub any_bytes : (kind : List ℕ) → (limit : ℕ) → Form (List ℕ)
-any_bytes kind limit = record { kind = kind; limit = limit; Reads = λ bytes value. value ≡ bytes; Refuses = λ _ _. ⊥ }
-
 -- after all inputs: the one of this name is refused if there is a reason; otherwise the work goes on
 abbrev pub RefuseIf : Option (List ℕ) → (name kind : List ℕ) → (Outcome → Type 0) → Outcome → Type 0
 RefuseIf None name kind next outcome = next outcome
@@ -88,8 +84,3 @@ Leaves Are outcome = (outputs : List (List ℕ × List ℕ)) × (text : List ℕ
 -- all is done, with no outputs, and a text of which this holds
 abbrev pub Prints : (List ℕ → Type 0) → Outcome → Type 0
 Prints Is = Leaves (λ outputs text. (outputs ≡ []) × Is text)
-
--- outputs and a text are left; all is well, unless something is found to be wrong
-abbrev pub ended_by : List (List ℕ × List ℕ) → (text : List ℕ) → (trouble : Option (List ℕ)) → Outcome
-ended_by outputs text None = Done outputs text
-ended_by outputs text (Some trouble) = Fell outputs text trouble

@@ -2,6 +2,7 @@
 pub mod CallLaws
 pub mod Drawn
 pub mod Ends
+pub mod Further
 pub mod ReportTakes
 pub mod RunInputs
 pub mod SimInputs

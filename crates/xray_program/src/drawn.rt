@@ -1,13 +1,15 @@
 //! The inputs of `soak`, which are drawn from a number, and their replay.
-ghost use Rattle.std.specs.Prelude.{◌≡◌, ◌<◌, length, IfErr, IfOk, None, Ok};
+ghost use Rattle.std.specs.Prelude.{◌≡◌, ◌<◌, ◌≤◌, ℕ, length, IfErr, IfOk, None, Ok};
 ghost use Rattle.std.specs.Str.Lines.{lines};
 ghost use Rattle.asm_text.specs.Assembling.{said_by};
 ghost use Rattle.asm_text.specs.Layout.{Lines};
 ghost use Rattle.asm_text.specs.Programs.{program_said};
 ghost use Rattle.patch_script.specs.Plans.{waiting_line};
 ghost use Rattle.patch_script.specs.Refusals.{commands_of};
+ghost use Rattle.soak_inputs.specs.Inputs.{soak_script, soak_text};
 ghost use Rattle.step_sim.specs.Replayed.{IsSimulated};
 ghost use Rattle.xray_program.specs.Soak.{AreInputs, soak_setup};
+ghost use Rattle.xray_program.specs.private.Drawn.{InputLaws};
 ghost use Rattle.xray_program.specs.private.SimInputs.{AreReadFor};
 
 use crate::sim_inputs::SimInputs;
@@ -56,16 +58,25 @@ pub(crate) fn unrefused<X: Drop, F: Fault>(read: Result<X, F>) -> Result<X, NoMe
     }
 }
 
+/// A law: none of the inputs of a number is refused, and neither text nor script is too long.
+pub(crate) fn each_input_is_read()
+    ensures laws { InputLaws }
+    ensures text_lines { (number : ℕ) → length (lines (soak_text number)) ≤ 1024 }
+    ensures script_lines { (number : ℕ) → length (lines (soak_script number)) ≤ 1024 }
+{
+    an_assembled_file_is_accepted();
+    the_text_is_assembled();
+    the_script_is_read();
+    the_schedule_is_read();
+}
+
 /// The inputs of a number, each as it is read.
 pub(crate) fn drawn_inputs(alloc: Global, number: u64) -> Result<SimInputs, NoMemory>
     ensures inputs { IfOk result (λ inputs. AreInputs number inputs.image inputs.script inputs.schedule) }
     ensures fit { IfOk result (AreReadFor 4) }
 {
-    // Called for their contracts: none of the inputs is refused.
-    an_assembled_file_is_accepted();
-    the_text_is_assembled();
-    the_script_is_read();
-    the_schedule_is_read();
+    // Called for its contract: none of the inputs is refused.
+    each_input_is_read();
     let (text, script, schedule) = soak_inputs(alloc, number)?;
     let image = image_of(alloc, &text)?;
     let script = unrefused(read_script(alloc, &script, &image, SOAK_SETUP.threads))?;

@@ -7,11 +7,10 @@ ghost use Rattle.xray_program.specs.Order.{inputs_of};
 ghost use Rattle.xray_program.specs.Outcomes.{Outcome, written_by};
 ghost use Rattle.command_words.specs.Words.{Command};
 
-use asm_text::an_assembled_file_is_accepted;
+use crate::drawn::each_input_is_read;
 use fdr_file::a_trace_is_read;
 use machine_step::{one_end, some_end, some_marks_follow};
 use patch_script::each_script_lets_threads_end;
-use soak_inputs::{the_schedule_is_read, the_script_is_read, the_text_is_assembled};
 use step_sim::{one_run, some_run};
 use trace_flush::a_run_is_traced;
 use traced_run::some_losses_are_of_a_queue;
@@ -55,10 +54,7 @@ pub fn some_meaning()
     each_script_lets_threads_end();
     some_marks_follow();
     some_losses_are_of_a_queue();
-    the_text_is_assembled();
-    the_script_is_read();
-    the_schedule_is_read();
-    an_assembled_file_is_accepted();
+    each_input_is_read();
     a_run_is_traced();
     a_trace_is_read();
 }

@@ -14,30 +14,23 @@ use Rattle.step_sim.specs.declared.fault.ScheduleFault.TheVariants as schedule_f
 use Rattle.step_sim.specs.declared.turns.Turns.{Turns}
 use Rattle.xray_image.specs.Program.{Program}
 use Rattle.xray_program.specs.Soak.{AreInputs}
-use Rattle.xray_program.proofs.SoakLaws.{InputLaws, inputs_read, soak_plan, soak_program}
+use Rattle.xray_program.proofs.SoakLaws.{inputs_read, soak_plan, soak_program}
 use Rattle.xray_program.proofs.SoakReads.{schedule_answer, script_answer, unrefused_by, value_is}
 use Rattle.xray_program.proofs.drawn.drawn_inputs.Goals as goal
 
 pub image_of-requires-clause-said : goal.image_of-requires-clause-said
 image_of-requires-clause-said c =
     let number = c.args.number in
-    (soak_said number, ap said_by (c.deref.ensures.value ∙ c.in_ok-text.ensures.text) ∙ c.the_text_is_assembled.ensures.said number)
+    (soak_said number, ap said_by (c.deref.ensures.value ∙ c.in_ok-text.ensures.text) ∙ c.each_input_is_read.ensures.laws.said number)
 
 pub read_script-requires-clause-few_lines : goal.read_script-requires-clause-few_lines
 read_script-requires-clause-few_lines c =
-    let few = c.the_script_is_read.ensures.lines c.args.number in
+    let few = c.each_input_is_read.ensures.script_lines c.args.number in
     subst (λ (text : List ℕ). length (lines text) < 4294967295) (sym (c.deref-2.ensures.value ∙ c.in_ok-text.ensures.script)) (omega (arith, few))
 
 pub unrefused-requires : goal.unrefused-requires
 unrefused-requires c =
-    let laws : InputLaws = record {
-      said = c.the_text_is_assembled.ensures.said;
-      ids = c.the_text_is_assembled.ensures.ids;
-      plan = c.the_script_is_read.ensures.plan;
-      waits = c.the_script_is_read.ensures.waits;
-      schedule = c.the_schedule_is_read.ensures;
-      assembles = c.an_assembled_file_is_accepted.ensures;
-    } in
+    let laws = c.each_input_is_read.ensures.laws in
     let number = c.args.number in
     let image = c.in_ok-image.ensures (soak_said number) (ap said_by (c.deref.ensures.value ∙ c.in_ok-text.ensures.text) ∙ laws.said number) in
     unrefused_by script_words script_faults.NoMemory refl c.read_script.result (soak_plan number)
@@ -46,14 +39,7 @@ unrefused-requires c =
 
 pub unrefused-requires-2 : goal.unrefused-requires-2
 unrefused-requires-2 c =
-    let laws : InputLaws = record {
-      said = c.the_text_is_assembled.ensures.said;
-      ids = c.the_text_is_assembled.ensures.ids;
-      plan = c.the_script_is_read.ensures.plan;
-      waits = c.the_script_is_read.ensures.waits;
-      schedule = c.the_schedule_is_read.ensures;
-      assembles = c.an_assembled_file_is_accepted.ensures;
-    } in
+    let laws = c.each_input_is_read.ensures.laws in
     let number = c.args.number in
     unrefused_by schedule_words schedule_faults.NoMemory refl c.read_schedule.result (soak_turns number)
     (schedule_answer laws number c.deref-3.result.now (c.deref-3.ensures.value ∙ c.in_ok-text.ensures.schedule)
@@ -61,14 +47,7 @@ unrefused-requires-2 c =
 
 pub returns-clause-inputs : goal.returns-clause-inputs
 returns-clause-inputs c =
-    let laws : InputLaws = record {
-      said = c.the_text_is_assembled.ensures.said;
-      ids = c.the_text_is_assembled.ensures.ids;
-      plan = c.the_script_is_read.ensures.plan;
-      waits = c.the_script_is_read.ensures.waits;
-      schedule = c.the_schedule_is_read.ensures;
-      assembles = c.an_assembled_file_is_accepted.ensures;
-    } in
+    let laws = c.each_input_is_read.ensures.laws in
     let number = c.args.number in
     let image = c.in_ok-image.ensures (soak_said number) (ap said_by (c.deref.ensures.value ∙ c.in_ok-text.ensures.text) ∙ laws.said number) in
     let script = script_answer laws number c.in_ok-image.image c.deref-2.result.now image (c.deref-2.ensures.value ∙ c.in_ok-text.ensures.script)
@@ -83,14 +62,7 @@ returns-clause-inputs c =
 
 pub returns-clause-fit : goal.returns-clause-fit
 returns-clause-fit c =
-    let laws : InputLaws = record {
-      said = c.the_text_is_assembled.ensures.said;
-      ids = c.the_text_is_assembled.ensures.ids;
-      plan = c.the_script_is_read.ensures.plan;
-      waits = c.the_script_is_read.ensures.waits;
-      schedule = c.the_schedule_is_read.ensures;
-      assembles = c.an_assembled_file_is_accepted.ensures;
-    } in
+    let laws = c.each_input_is_read.ensures.laws in
     let number = c.args.number in
     let image = c.in_ok-image.ensures (soak_said number) (ap said_by (c.deref.ensures.value ∙ c.in_ok-text.ensures.text) ∙ laws.said number) in
     let script = script_answer laws number c.in_ok-image.image c.deref-2.result.now image (c.deref-2.ensures.value ∙ c.in_ok-text.ensures.script)

@@ -13,14 +13,7 @@ returns c said held told holds =
       marks = c.some_marks_follow.ensures;
       losses = c.some_losses_are_of_a_queue.ensures;
       drawn = record {
-        inputs = record {
-          said = c.the_text_is_assembled.ensures.said;
-          ids = c.the_text_is_assembled.ensures.ids;
-          plan = c.the_script_is_read.ensures.plan;
-          waits = c.the_script_is_read.ensures.waits;
-          schedule = c.the_schedule_is_read.ensures;
-          assembles = c.an_assembled_file_is_accepted.ensures;
-        };
+        inputs = c.each_input_is_read.ensures.laws;
         traced = c.a_run_is_traced.ensures;
         reads = c.a_trace_is_read.ensures.read;
       };
