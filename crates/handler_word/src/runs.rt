@@ -1,6 +1,6 @@
 //! The text of marks. Each run of equal marks is printed as its character and its length.
 
-ghost use Rattle.std.specs.Prelude.{◌≡◌, ◌<◌, ◌≤◌, ◌+◌, [], ◌∷◌, ◌++◌, length, drop, replicate, slice_get, Some};
+ghost use Rattle.std.specs.Prelude.{◌≡◌, ◌<◌, ◌≤◌, ◌+◌, ◌-◌, [], ◌∷◌, ◌++◌, length, drop, replicate, slice_get, Some};
 ghost use Rattle.handler_word.specs.Runs.{mark_byte, runs_of, run_text, runs_text};
 ghost use Rattle.xray_io.specs.Text.{AddsText};
 ghost use Rattle.xray_io.specs.Writes.{WritesText};
@@ -61,7 +61,7 @@ fn run_at(marks: &Marks, start: u32) -> Run
     let len = marks.len();
     let mut end = start + 1;
     'same: while end < len && marks.get(end) == mark {
-        end += alike_at(marks, end, mark);
+        end = end_of_alike(marks, end, mark);
     }
     Run {
         mark,
@@ -69,19 +69,20 @@ fn run_at(marks: &Marks, start: u32) -> Run
     }
 }
 
-/// How many marks from this one on are this one: all of its byte if they are, and otherwise only
-/// this one, whatever comes after it.
-fn alike_at(marks: &Marks, first: u32, mark: Mark) -> u32
+/// A number after this mark such that all marks before it are like this one. If the mark begins a
+/// byte of four such marks, that byte and all like it that follow are passed over.
+fn end_of_alike(marks: &Marks, first: u32, mark: Mark) -> u32
     requires { slice_get marks.now.items first ≡ Some mark }
-    ensures some { 0 < result }
-    ensures within { first + result ≤ length marks.now.items }
-    ensures same { drop first marks.now.items ≡ replicate result mark ++ drop (first + result) marks.now.items }
+    ensures after { first < result }
+    ensures within { result ≤ length marks.now.items }
+    ensures same { drop first marks.now.items ≡ replicate (result - first) mark ++ drop result marks.now.items }
 {
-    if marks.begins_byte_of(first, mark) {
-        MARKS_IN_BYTE
-    } else {
-        1
+    let len = marks.len();
+    let mut end = first;
+    'bytes: while end < len && marks.begins_byte_of(end, mark) {
+        end += MARKS_IN_BYTE;
     }
+    if end == first { first + 1 } else { end }
 }
 
 /// Adds a run, with `before` before it.
