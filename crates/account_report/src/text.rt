@@ -33,6 +33,7 @@ pub enum AccountFormat {
 /// name. The columns are those of `llvm-xray account`, in cycles, and two more.
 ///
 /// On `WriteFault` a prefix of the text was written, and the sink counted a fault.
+#[tactic(auto, using(xray_io::specs::Text::writes_failed))]
 pub fn write_account<S: Sink>(
     rows: &[AccountRow],
     latencies: u64,

@@ -15,6 +15,7 @@ use xray_io::{Piece, Sink, Text, WriteFault};
 /// Writes the plain text of a thread's end: three lines, each with its line feed.
 ///
 /// On `WriteFault` a prefix of the text was written, and the sink counted a fault.
+#[tactic(auto, using(xray_io::specs::Text::writes_failed))]
 pub fn write_plain<S: Sink>(end: &PlainEnd, sink: &mut S) -> Result<(), WriteFault>
     requires { length end.now.regs.items ≡ REGISTERS }
     ensures { WritesText S.written S.faults S.along sink.old sink.new

@@ -18,6 +18,7 @@ use xray_io::{Sink, Text, WriteFault};
 /// its marks, each with its line feed.
 ///
 /// On `WriteFault` a prefix of the text was written, and the sink counted a fault.
+#[tactic(auto, using(xray_io::specs::Text::writes_failed))]
 pub fn write_state<S: Sink>(thread: u32, cpu: &Cpu, sink: &mut S) -> Result<(), WriteFault>
     requires { IsDone cpu.now.want }
     ensures { WritesText S.written S.faults S.along sink.old sink.new

@@ -35,6 +35,7 @@ pub enum StackForm {
 /// `image`, or `#` and its id if there is no name. Numbers are in cycles.
 ///
 /// On `WriteFault` a prefix of the text was written, and the sink counted a fault.
+#[tactic(auto, using(xray_io::specs::Text::writes_failed))]
 pub fn write_stack<S: Sink>(
     rows: &[StackRow],
     image: Option<&Image>,

@@ -16,6 +16,7 @@ use xray_io::{Piece, Sink, Text, WriteFault};
 /// each thread in order, and how many segments were recycled.
 ///
 /// On `WriteFault` a prefix of the text was written, and the sink counted a fault.
+#[tactic(auto, using(xray_io::specs::Text::writes_failed))]
 pub fn write_audit<S: Sink>(
     setup: &Setup,
     lines: &[AuditLine],

@@ -18,6 +18,7 @@ const ADDRESS_DIGITS: usize = 16;
 /// each sled, in the order of the map.
 ///
 /// On `WriteFault` a prefix of the text was written, and the sink counted a fault.
+#[tactic(auto, using(xray_io::specs::Text::writes_failed))]
 pub fn write_extract<S: Sink>(image: &Image, sink: &mut S) -> Result<(), WriteFault>
     ensures { WritesText S.written S.faults S.along sink.old sink.new
         (extract_text image.now) result }

@@ -93,6 +93,7 @@ fn trace_in(alloc: Global, bytes: &[u8]) -> Result<Trace, NoMemory>
 }
 
 /// Writes the summary.
+#[tactic(auto, using(xray_io::specs::Text::writes_failed))]
 fn write_summary<S: Sink>(
     sink: &mut S,
     number: u64,

@@ -1,10 +1,6 @@
 use Rattle.std.proofs.Common.{rules}
-use Rattle.xray_io.specs.Text.{writes_all, writes_failed}
+use Rattle.xray_io.specs.Text.{writes_all}
 use Rattle.account_report.proofs.text.write_account.Goals as goal
-
-pub returns-in_err-add_account : goal.returns-in_err-add_account
-returns-in_err-add_account g c =
-    let made = c.new-text.ensures in let w = writes_failed {along = g.S.Sink.along} _ _ _ made.sink made.waits c.in_err-add_account.ensures _ c.from_residual.ensures.1 in search rules
 
 pub returns : goal.returns
 returns g c =

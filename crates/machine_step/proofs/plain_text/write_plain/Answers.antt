@@ -1,10 +1,6 @@
 use Rattle.std.proofs.Common.{rules}
-use Rattle.xray_io.specs.Text.{writes_all, writes_failed}
+use Rattle.xray_io.specs.Text.{writes_all}
 use Rattle.machine_step.proofs.plain_text.write_plain.Goals as goal
-
-pub returns-in_err-add_lines : goal.returns-in_err-add_lines
-returns-in_err-add_lines g c =
-    let made = c.new-text.ensures in let w = writes_failed {along = g.S.Sink.along} _ _ _ made.sink made.waits c.in_err-add_lines.ensures _ c.from_residual.ensures.1 in search rules
 
 pub returns : goal.returns
 returns g c =

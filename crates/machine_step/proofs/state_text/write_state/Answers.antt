@@ -1,10 +1,6 @@
 use Rattle.std.proofs.Common.{rules}
-use Rattle.xray_io.specs.Text.{writes_all, writes_failed}
+use Rattle.xray_io.specs.Text.{writes_all}
 use Rattle.machine_step.proofs.state_text.write_state.Goals as goal
-
-pub returns-in_err-add_state : goal.returns-in_err-add_state
-returns-in_err-add_state g c =
-    let made = c.new-text.ensures in let w = writes_failed {along = g.S.Sink.along} _ _ _ made.sink made.waits c.in_err-add_state.ensures _ c.from_residual.ensures.1 in search rules
 
 pub returns : goal.returns
 returns g c =

@@ -1,10 +1,6 @@
 use Rattle.std.proofs.Common.{rules}
-use Rattle.xray_io.specs.Text.{writes_all, writes_failed}
+use Rattle.xray_io.specs.Text.{writes_all}
 use Rattle.stack_rebuild.proofs.stack_text.write_stack.Goals as goal
-
-pub returns-in_err-add_stack : goal.returns-in_err-add_stack
-returns-in_err-add_stack g c =
-    let made = c.new-text.ensures in let w = writes_failed {along = g.S.Sink.along} _ _ _ made.sink made.waits c.in_err-add_stack.ensures _ c.from_residual.ensures.1 in search rules
 
 pub returns : goal.returns
 returns g c =

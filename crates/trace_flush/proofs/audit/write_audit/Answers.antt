@@ -1,10 +1,6 @@
 use Rattle.std.proofs.Common.{rules}
-use Rattle.xray_io.specs.Text.{writes_all, writes_failed}
+use Rattle.xray_io.specs.Text.{writes_all}
 use Rattle.trace_flush.proofs.audit.write_audit.Goals as goal
-
-pub returns-in_err-add_audit : goal.returns-in_err-add_audit
-returns-in_err-add_audit g c =
-    let made = c.new-text.ensures in let w = writes_failed {along = g.S.Sink.along} _ _ _ made.sink made.waits c.in_err-add_audit.ensures _ c.from_residual.ensures.1 in search rules
 
 pub returns : goal.returns
 returns g c =
