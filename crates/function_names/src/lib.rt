@@ -3,4 +3,4 @@
 
 mod name;
 
-pub use name::{add_name, add_name_behind};
+pub use name::{add_callee_name, add_name};

@@ -55,10 +55,10 @@ fn add_number<S: Sink>(text: &mut Text<S>, id: u32) -> Result<(), WriteFault>
     text.bytes(&word[start..])
 }
 
-/// Adds `;` and the name, as a path has it behind the name of the caller.
+/// Adds `;` and the name of a callee. In a path it stands after the name of its caller.
 ///
 /// On `WriteFault` a prefix of what the text was given is written, and the sink counted a fault.
-pub fn add_name_behind<S: Sink>(
+pub fn add_callee_name<S: Sink>(
     text: &mut Text<S>,
     image: Option<&Image>,
     id: u32,
@@ -71,12 +71,12 @@ pub fn add_name_behind<S: Sink>(
             text.bytes(&[SEPARATOR])?;
             add_name(text, image, id)
         }
-        None => add_number_behind(text, id),
+        None => add_callee_number(text, id),
     }
 }
 
 /// Adds `;` and the text for a name that isn't known, in one piece.
-fn add_number_behind<S: Sink>(text: &mut Text<S>, id: u32) -> Result<(), WriteFault>
+fn add_callee_number<S: Sink>(text: &mut Text<S>, id: u32) -> Result<(), WriteFault>
     ensures { AddsText S.written S.faults S.along text.old text.new
         (codes ";" ++ number_text id) result }
 {

@@ -11,7 +11,7 @@ ghost use Rattle.stack_rebuild.specs.Stacks.{told};
 ghost use Rattle.stack_rebuild.specs.StackText.{columns_text, head_text, path_text, row_text, stack_text, weight_text};
 
 use crate::stack_row::StackRow;
-use function_names::{add_name, add_name_behind};
+use function_names::{add_callee_name, add_name};
 use xray_image::Image;
 use xray_io::{Piece, Sink, Text, WriteFault};
 
@@ -186,7 +186,7 @@ fn add_inner<S: Sink>(
         inner.now) result }
 {
     'inner: for func in inner {
-        add_name_behind(text, image, *func)?;
+        add_callee_name(text, image, *func)?;
     }
     Ok(())
 }

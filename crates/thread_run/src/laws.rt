@@ -16,7 +16,7 @@ pub(crate) fn threads_start_within(script: &Script)
     script.start();
 }
 
-/// A thread stands on its plain run as it wants its next word, its gate or nothing more.
+/// A thread that wants a load, its gate or nothing more stands in its plain run as that says.
 pub(crate) fn a_thread_stands_as_it_wants(cpu: &Cpu)
     ensures { StandsAs cpu.now cpu.now.want }
 {

@@ -1,7 +1,7 @@
 use Rattle.std.specs.Option.{option_map}
 use Rattle.xray_io.specs.Text.{adds_more, adds_stop, adds_failed}
 use Rattle.function_names.specs.Name.{name_text}
-use Rattle.function_names.proofs.name.add_name_behind.Goals as goal
+use Rattle.function_names.proofs.name.add_callee_name.Goals as goal
 
 pub returns-in_err-bytes-in-Some : goal.returns-in_err-bytes-in-Some
 returns-in_err-bytes-in-Some g c =
