@@ -1,5 +1,5 @@
 -- Bytes whose four marks are all the same.
-use Rattle.std.proofs.Common.{◌≡◌, ◌<◌, ◌≤◌, ◌+◌, ◌*◌, ◌/◌, ◌%◌, ◌^◌, ℕ, zero, suc, List, ◌∷◌, ◌++◌, drop, get_or, replicate, sym, ap, ◌∙◌, arith, append_assoc}
+use Rattle.std.proofs.Common.{◌≡◌, ◌<◌, ◌≤◌, ◌+◌, ◌*◌, ◌/◌, ◌%◌, ◌^◌, ℕ, zero, suc, List, ◌∷◌, ◌++◌, drop, get_or, replicate, refl, sym, ap, ◌∙◌, arith, append_assoc}
 use Rattle.std.specs.Prelude.{slice_get, Some}
 use Rattle.std.proofs.lemmas.List.{replicate-append-replicate}
 use Rattle.handler_word.specs.declared.mark.Mark.{Mark}
@@ -37,6 +37,25 @@ four_there bytes count n bits first room small is =
     let behind : n + 1 + 1 + 1 + 1 ≡ n + 4 = omega arith in
     one ∙ ap (λ (rest : List Mark). mark ∷ rest) (two ∙ ap (λ (rest : List Mark). mark ∷ rest) (three ∙ ap (λ (rest : List Mark). mark ∷ rest)
     (four ∙ ap (λ (k : ℕ). mark ∷ drop k marks) behind)))
+
+-- the marks of several such bytes, one after the other
+pub bytes_there : (bytes : List ℕ) (count n bits more : ℕ) → n % 4 ≡ 0 → n + more * 4 ≤ count → bits < 4
+    → ((i : ℕ) → n / 4 ≤ i → i < n / 4 + more → get_or bytes i 0 ≡ bits * 85)
+    → drop n (marks_from bytes 0 count) ≡ replicate (more * 4) (mark_of bits) ++ drop (n + more * 4) (marks_from bytes 0 count)
+bytes_there bytes count n bits zero first room small alike = let none : n + 0 * 4 ≡ n = omega arith in rw none refl
+bytes_there bytes count n bits (suc more) first room small alike =
+    let marks = marks_from bytes 0 count in
+    let mark = mark_of bits in
+    let quarter : (n + 4) / 4 ≡ n / 4 + 1 = omega arith in
+    let rest = bytes_there bytes count (n + 4) bits more (omega arith) (omega arith) small
+    (λ i from to. alike i (omega (arith, quarter)) (omega (arith, quarter))) in
+    let behind : (n + 4) + more * 4 ≡ n + suc more * 4 = omega arith in
+    let size : suc more * 4 ≡ 4 + more * 4 = omega arith in
+    let all : replicate (suc more * 4) mark ≡ replicate 4 mark ++ replicate (more * 4) mark =
+    ap (λ (k : ℕ). replicate k mark) size ∙ sym (replicate-append-replicate 4 (more * 4) mark) in
+    four_there bytes count n bits first (omega arith) small (alike (n / 4) (omega arith) (omega arith))
+    ∙ (ap (λ (l : List Mark). mark ∷ mark ∷ mark ∷ mark ∷ l) (rest ∙ ap (λ (k : ℕ). replicate (more * 4) mark ++ drop k marks) behind)
+    ∙ ap (λ (l : List Mark). l ++ drop (n + suc more * 4) marks) (sym all))
 
 -- two runs of the same mark are one
 pub runs_joined : (mark : Mark) (count more : ℕ) (rest : List Mark) → replicate count mark ++ (replicate more mark ++ rest) ≡ replicate (count + more) mark ++ rest

@@ -1,6 +1,6 @@
 //! The marks of a thread.
 
-ghost use Rattle.std.specs.Prelude.{◌≡◌, ◌<◌, ◌≤◌, ◌↔◌, ◌+◌, ◌/◌, [], ◌∷◌, ◌++◌, drop, length, replicate, slice_get, vec_capacity, Some, IsTrue, IfOk};
+ghost use Rattle.std.specs.Prelude.{◌≡◌, ◌<◌, ◌≤◌, ◌↔◌, ℕ, ◌+◌, ◌-◌, ◌/◌, [], ◌∷◌, ◌++◌, drop, get_or, length, replicate, slice_get, vec_capacity, Some, IsTrue, IfOk};
 ghost use Rattle.handler_word.specs.private.Bits.{mark_of, marks_from, IsFilledTo};
 ghost use Rattle.handler_word.specs.private.Marks.{marks_in, IsPacked};
 ghost use Rattle.handler_word.specs.MarkList.{MarkList, recorded_count};
@@ -100,21 +100,35 @@ impl Marks {
         Mark::from_bits((byte >> (n % MARKS_IN_BYTE * BITS_OF_MARK)) & FIRST_MARK)
     }
 
-    /// Whether the mark of this number is the first of a byte whose four marks are all `mark`.
-    #[inline]
-    pub(crate) fn begins_byte_of(&self, first: u32, mark: Mark) -> bool
-        requires { first < length self.now.items }
-        ensures within { IsTrue result → first + 4 ≤ length self.now.items }
-        ensures same { IsTrue result
-            → drop first self.now.items ≡ replicate 4 mark ++ drop (first + 4) self.now.items }
+    /// A number of marks from this one on that are all `mark`, as it is. If it is the first of a byte
+    /// of four such marks, they are all marks of that byte and of the bytes like it that follow.
+    pub(crate) fn alike_from(&self, first: u32, mark: Mark) -> u32
+        requires { slice_get self.now.items first ≡ Some mark }
+        ensures some { 0 < result }
+        ensures within { first + result ≤ length self.now.items }
+        ensures same { drop first self.now.items
+            ≡ replicate result mark ++ drop (first + result) self.now.items }
+    {
+        let end = self.end_of_bytes(first, mark);
+        if end == first { 1 } else { end - first }
+    }
+
+    /// The number of the first mark from `first` on that isn't in a byte of four marks that are all
+    /// `mark`. No byte is looked at unless `first` is the first mark of one.
+    fn end_of_bytes(&self, first: u32, mark: Mark) -> u32
+        requires { first ≤ length self.now.items }
+        ensures from { first ≤ result }
+        ensures within { result ≤ length self.now.items }
+        ensures same { drop first self.now.items
+            ≡ replicate (result - first) mark ++ drop result self.now.items }
     {
         if first % MARKS_IN_BYTE != 0 {
-            return false;
+            return first;
         }
-        if self.len - first < MARKS_IN_BYTE {
-            return false;
-        }
-        self.bytes[(first / MARKS_IN_BYTE) as usize] == mark.bits() * EACH_MARK
+        let full = (self.len / MARKS_IN_BYTE) as usize;
+        let alike = mark.bits() * EACH_MARK;
+        let end = end_of_alike(&self.bytes[..full], (first / MARKS_IN_BYTE) as usize, alike);
+        end as u32 * MARKS_IN_BYTE
     }
 
     /// How many of the marks are `Recorded`.
@@ -123,6 +137,20 @@ impl Marks {
     {
         self.recorded
     }
+}
+
+/// The place of the first byte from `start` on that isn't `byte`.
+fn end_of_alike(bytes: &[u8], start: usize, byte: u8) -> usize
+    requires { start ≤ length bytes.now }
+    ensures from { start ≤ result }
+    ensures within { result ≤ length bytes.now }
+    ensures alike { (i : ℕ) → start ≤ i → i < result → get_or bytes.now i 0 ≡ byte }
+{
+    let mut end = start;
+    'alike: while end < bytes.len() && bytes[end] == byte {
+        end += 1;
+    }
+    end
 }
 
 /// Puts the bits of a mark after those of `marks` marks.

@@ -1,11 +1,10 @@
 //! The text of marks. Each run of equal marks is printed as its character and its length.
 
-ghost use Rattle.std.specs.Prelude.{◌≡◌, ◌<◌, ◌≤◌, ◌+◌, ◌-◌, [], ◌∷◌, ◌++◌, length, drop, replicate, slice_get, Some};
+ghost use Rattle.std.specs.Prelude.{◌≡◌, ◌<◌, ◌≤◌, ◌+◌, [], ◌∷◌, ◌++◌, length, drop};
 ghost use Rattle.handler_word.specs.Runs.{mark_byte, runs_of, run_text, runs_text};
 ghost use Rattle.xray_io.specs.Text.{AddsText};
 ghost use Rattle.xray_io.specs.Writes.{WritesText};
 
-use crate::marks::MARKS_IN_BYTE;
 use crate::{Mark, Marks};
 use xray_io::{Piece, Sink, Text, WriteFault};
 
@@ -61,28 +60,12 @@ fn run_at(marks: &Marks, start: u32) -> Run
     let len = marks.len();
     let mut end = start + 1;
     'same: while end < len && marks.get(end) == mark {
-        end = end_of_alike(marks, end, mark);
+        end += marks.alike_from(end, mark);
     }
     Run {
         mark,
         length: end - start,
     }
-}
-
-/// A number after this mark such that all marks before it are like this one. If the mark begins a
-/// byte of four such marks, that byte and all like it that follow are passed over.
-fn end_of_alike(marks: &Marks, first: u32, mark: Mark) -> u32
-    requires { slice_get marks.now.items first ≡ Some mark }
-    ensures after { first < result }
-    ensures within { result ≤ length marks.now.items }
-    ensures same { drop first marks.now.items ≡ replicate (result - first) mark ++ drop result marks.now.items }
-{
-    let len = marks.len();
-    let mut end = first;
-    'bytes: while end < len && marks.begins_byte_of(end, mark) {
-        end += MARKS_IN_BYTE;
-    }
-    if end == first { first + 1 } else { end }
 }
 
 /// Adds a run, with `before` before it.

@@ -18,16 +18,17 @@ same-init c =
 
 pub same-preserved : goal.same-preserved
 same-preserved c =
-    let more = c.end_of_alike-end.result - c.same.end in
-    let count : c.same.end - c.args.start + more ≡ c.end_of_alike-end.result - c.args.start = omega (arith, c.end_of_alike-end.ensures.after) in
+    let mark = c.get-mark.result in
+    let more = c.alike_from-end.result in
+    let count : c.same.end - c.args.start + more ≡ c.same.end + more - c.args.start = omega arith in
     record {
-      begun = omega (arith, c.end_of_alike-end.ensures.after);
-      within = c.end_of_alike-end.ensures.within;
-      same = c.same.invariant.same ∙ rw (c.end_of_alike-end.ensures.same, runs_joined, count) refl;
+      begun = omega (arith, c.alike_from-end.ensures.some);
+      within = c.alike_from-end.ensures.within;
+      same = c.same.invariant.same ∙ rw (c.alike_from-end.ensures.same, runs_joined, count) refl;
     }
 
-pub end_of_alike-end-requires : goal.end_of_alike-end-requires
-end_of_alike-end-requires c =
+pub alike_from-end-requires : goal.alike_from-end-requires
+alike_from-end-requires c =
     let alike : c.get.result ≡ c.get-mark.result = same_true the_type (search rules) _ _ (sym c.eq.ensures ∙ c.if-eq.true) in
     c.get.ensures ∙ ap (λ (m : Mark). Some m) alike
 
