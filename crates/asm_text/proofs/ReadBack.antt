@@ -48,21 +48,21 @@ entry_back e rest fits =
     ∙ ap (λ m. Some (record { sled = m; function = number8_at bytes 8; kind = e.kind; always = e.always; version = e.version }, rest)) sled
     ∙ ap (λ m. Some (record { sled = e.sled; function = m; kind = e.kind; always = e.always; version = e.version }, rest)) function
 
+-- items read back one after the other if each reads back alone
+several_back : {X : Type 0} (item : List ℕ → Option (X × List ℕ)) (bytes_of : X → List ℕ) (Fits : X → Type 0) → ((x : X) (rest : List ℕ) → Fits x → item (bytes_of x ++ rest) ≡ Some (x, rest))
+    → (xs : List X) (rest : List ℕ) → AllByRecursion Fits xs → several item (length xs) (flat_map bytes_of xs ++ rest) ≡ Some (xs, rest)
+several_back item bytes_of Fits back [] rest fits = refl
+several_back {X = X} item bytes_of Fits back (x ∷ xs) rest fits =
+    let next = several item (length xs) in
+    ap (λ bytes. option_and_then (λ (first : X × List ℕ). option_map (λ (others : List X × List ℕ). (first.0 ∷ others.0, others.1)) (next first.1)) (item bytes)) (append_assoc (bytes_of x) (flat_map bytes_of xs) rest)
+    ∙ ap (λ o. option_and_then (λ (first : X × List ℕ). option_map (λ (others : List X × List ℕ). (first.0 ∷ others.0, others.1)) (next first.1)) o) (back x (flat_map bytes_of xs ++ rest) fits.0)
+    ∙ ap (λ o. option_map (λ (others : List X × List ℕ). (x ∷ others.0, others.1)) o) (several_back item bytes_of Fits back xs rest fits.1)
+
 functions_back : (fs : List Function) (rest : List ℕ) → AllByRecursion FunctionFits fs → several function_at (length fs) (flat_map function_bytes fs ++ rest) ≡ Some (fs, rest)
-functions_back [] rest fits = refl
-functions_back (f ∷ fs) rest fits =
-    let next = several function_at (length fs) in
-    ap (λ bytes. option_and_then (λ (first : Function × List ℕ). option_map (λ (others : List Function × List ℕ). (first.0 ∷ others.0, others.1)) (next first.1)) (function_at bytes)) (append_assoc (function_bytes f) (flat_map function_bytes fs) rest)
-    ∙ ap (λ o. option_and_then (λ (first : Function × List ℕ). option_map (λ (others : List Function × List ℕ). (first.0 ∷ others.0, others.1)) (next first.1)) o) (function_back f (flat_map function_bytes fs ++ rest) fits.0)
-    ∙ ap (λ o. option_map (λ (others : List Function × List ℕ). (f ∷ others.0, others.1)) o) (functions_back fs rest fits.1)
+functions_back = several_back function_at function_bytes FunctionFits function_back
 
 entries_back : (es : List MapEntry) (rest : List ℕ) → AllByRecursion EntryFits es → several map_entry_at (length es) (flat_map entry_bytes es ++ rest) ≡ Some (es, rest)
-entries_back [] rest fits = refl
-entries_back (e ∷ es) rest fits =
-    let next = several map_entry_at (length es) in
-    ap (λ bytes. option_and_then (λ (first : MapEntry × List ℕ). option_map (λ (others : List MapEntry × List ℕ). (first.0 ∷ others.0, others.1)) (next first.1)) (map_entry_at bytes)) (append_assoc (entry_bytes e) (flat_map entry_bytes es) rest)
-    ∙ ap (λ o. option_and_then (λ (first : MapEntry × List ℕ). option_map (λ (others : List MapEntry × List ℕ). (first.0 ∷ others.0, others.1)) (next first.1)) o) (entry_back e (flat_map entry_bytes es ++ rest) fits.0)
-    ∙ ap (λ o. option_map (λ (others : List MapEntry × List ℕ). (e ∷ others.0, others.1)) o) (entries_back es rest fits.1)
+entries_back = several_back map_entry_at entry_bytes EntryFits entry_back
 
 -- the parts, by the counts of the header
 abbrev pub parts_with : (n m k : ℕ) → List ℕ → Option Parts

@@ -68,18 +68,12 @@ parts_of traced place (Does operation) = if traced then traced_parts place opera
 -- ---- which functions are instrumented
 
 abbrev pub is_function : Statement → Bool
-is_function (Base address) = false
-is_function (Entry name) = false
 is_function (Func name choice) = true
-is_function (Label name) = false
-is_function (Does operation) = false
+is_function statement = false
 
 abbrev pub is_instruction : Statement → Bool
-is_instruction (Base address) = false
-is_instruction (Entry name) = false
-is_instruction (Func name choice) = false
-is_instruction (Label name) = false
 is_instruction (Does operation) = true
+is_instruction statement = false
 
 -- how many instruction lines there are before the next function
 abbrev pub instruction_lines : Lines → ℕ

@@ -47,3 +47,12 @@ pub fn assemble(alloc: Global, text: &[u8], threshold: u32) -> Result<Vec<u8>, A
         Err(_) => Err(AsmFault::NoMemory),
     }
 }
+
+/// A refused allocation ends the assembling.
+impl<E: Into<xray_io::NoMemory> + Drop> From<E> for AsmFault {
+    ghost from_gives = { λ _ fault. fault ≡ NoMemory };
+
+    fn from(_error: E) -> AsmFault {
+        AsmFault::NoMemory
+    }
+}

@@ -1,9 +1,5 @@
 //! Why a text isn't an assembler text.
 
-ghost use Rattle.std.specs.Prelude.{◌≡◌};
-ghost use Rattle.asm_text.specs.declared.fault.AsmFault.TheVariants.{NoMemory};
-
-use std::alloc::{AllocError, AllocFailed};
 use thiserror::Error;
 
 /// Why `assemble` gives no image. Each refusal has the number of its line, counted from 1. The
@@ -39,20 +35,4 @@ pub enum AsmFault {
     /// Memory for the tables and the image was refused.
     #[error("out of memory")]
     NoMemory,
-}
-
-impl From<AllocError> for AsmFault {
-    ghost from_gives = { λ _ e. e ≡ NoMemory };
-
-    fn from(_error: AllocError) -> AsmFault {
-        AsmFault::NoMemory
-    }
-}
-
-impl<T: Drop> From<AllocFailed<T>> for AsmFault {
-    ghost from_gives = { λ _ e. e ≡ NoMemory };
-
-    fn from(_error: AllocFailed<T>) -> AsmFault {
-        AsmFault::NoMemory
-    }
 }

@@ -35,14 +35,15 @@ stand_from at (r ∷ records) = (at, Ok r) ∷ stand_from (at + length_of r) rec
 begins : (r : Rec) (front behind : List ℕ) → Spells front r → BeginsWith r (front ++ behind)
 begins r front behind is = subst (λ (x : List ℕ). Spells x r) (sym (take_at front behind (length_of r) is.whole)) is
 
-pub length_some : (r : Rec) → 8 ≤ length_of r
-length_some (NewBuffer thread) = lit≤ tt
-length_some (NewCpu cpu tsc) = lit≤ tt
-length_some (TscWrap tsc) = lit≤ tt
-length_some (WallTime wall) = lit≤ tt
-length_some (Pid pid) = lit≤ tt
-length_some (Extents size) = lit≤ tt
-length_some (Function kind func delta) = lit≤ tt
+-- a record has 8 to 16 bytes
+pub length_between : (r : Rec) → (8 ≤ length_of r) × (length_of r ≤ 16)
+length_between (NewBuffer thread) = (lit≤ tt, lit≤ tt)
+length_between (NewCpu cpu tsc) = (lit≤ tt, lit≤ tt)
+length_between (TscWrap tsc) = (lit≤ tt, lit≤ tt)
+length_between (WallTime wall) = (lit≤ tt, lit≤ tt)
+length_between (Pid pid) = (lit≤ tt, lit≤ tt)
+length_between (Extents size) = (lit≤ tt, lit≤ tt)
+length_between (Function kind func delta) = (lit≤ tt, lit≤ tt)
 
 spelled_stand : (at : ℕ) (records : List Rec) (bytes : List ℕ) → AreSpelled records bytes → standings at bytes ≡ stand_from at records
 unfolding starts
@@ -51,7 +52,7 @@ spelled_stand at (r ∷ records) bytes (front, behind, parts, fits, spells, rest
     let begin = begins r front behind spells in
     let is = told_again r (front ++ behind) fits begin in
     let long = length_told r (front ++ behind) fits begin in
-    let some : 0 < length (front ++ behind) = omega (arith, length-append front behind, spells.whole, length_some r) in
+    let some : 0 < length (front ++ behind) = omega (arith, length-append front behind, spells.whole, (length_between r).0) in
     ap (standings at) parts
     ∙ stands_first at (front ++ behind) some
     ∙ rw (is, long, drop_at front behind (length_of r) spells.whole) (ap (λ (x : List Standing). (at, Ok r) ∷ x) (spelled_stand (at + length_of r) records behind rest))

@@ -1,22 +1,20 @@
 -- What reads as a trace is one by the grammar.
-use Rattle.std.proofs.Common.{◌≡◌, ℕ, zero, suc, ◌+◌, ◌≤◌, ◌<◌, ◌^◌, Bool, true, false, cond, eqb, ltb, leb, lit<, lit≤, List, [], ◌∷◌, ◌++◌, All, get_or, length, take, drop, map, Result, Ok, Err, refl, sym, ap, subst, ◌∙◌, arith, inl, inr}
+use Rattle.std.proofs.Common.{◌≡◌, ℕ, zero, suc, ◌+◌, ◌≤◌, ◌<◌, Bool, true, false, cond, eqb, ltb, leb, List, [], ◌∷◌, ◌++◌, All, length, take, drop, map, Result, Ok, Err, refl, sym, ap, subst, ◌∙◌, arith}
 use Rattle.std.specs.Prelude.{◌||◌, not, is_some}
 use Rattle.std.specs.List.{flat_map, list_any, AllByRecursion}
-use Rattle.std.specs.Int.{w16, w32, w64, from_le_bytes}
-use Rattle.std.proofs.lemmas.Bool.{cases_lt, eqb-true, leb-true}
-use Rattle.std.proofs.lemmas.List.{drop-drop, get_or_past, length-append, length-drop, length-take, take-append-drop}
+use Rattle.std.proofs.lemmas.Bool.{eqb-true, leb-true}
+use Rattle.std.proofs.lemmas.List.{drop-drop, length-append, length-drop, length-take, take-append-drop}
 use Rattle.std.proofs.lemmas.List.Concat.{flat_map-cons}
-use Rattle.std.proofs.lemmas.List.Elements.{All-drop, All-get_or, All-take}
-use Rattle.std.proofs.lemmas.Nat.{le_bytes_2, le_bytes_4, le_bytes_8}
+use Rattle.std.proofs.lemmas.List.Elements.{All-drop, All-take}
 use Rattle.std.proofs.Math.Seq.{take-add}
 use Rattle.byteorder.specs.Endian.{little_bytes, little_number}
-use Rattle.byteorder.specs.Numbers.{little_from-take, little_from-lt}
 use Rattle.xray_io.specs.declared.faults.Wall.{Wall}
 use Rattle.fdr_record.specs.declared.rec.Rec.{Rec}
-use Rattle.fdr_record.specs.declared.rec.Rec.TheVariants.{NewBuffer, NewCpu, TscWrap, WallTime, Pid, Extents, Function}
+use Rattle.fdr_record.specs.declared.rec.Rec.TheVariants.{NewBuffer, WallTime, Pid, Extents}
 use Rattle.fdr_record.specs.declared.fault.RecFault.{RecFault}
 use Rattle.fdr_record.specs.Records.{length_of, FieldsFit, BeginsWith, Spells}
 use Rattle.fdr_record.specs.Refusals.{Answers}
+use Rattle.fdr_record.proofs.Fields.{IsBytes-drop, IsBytes-from_All, field_2, field_4, field_8}
 use Rattle.fdr_file.specs.declared.fault.TraceFault.{TraceFault}
 use Rattle.fdr_file.specs.declared.fault.TraceFault.TheVariants as faults
 use Rattle.fdr_file.specs.declared.trace.Trace.{Trace}
@@ -28,9 +26,9 @@ use Rattle.fdr_file.proofs.TraceRows.{rows_decide}
 use Rattle.fdr_file.proofs.Decoding.{length_told, refused_again, told_again}
 use Rattle.fdr_file.proofs.Walking.{starts_first, stands_first}
 use Rattle.fdr_file.proofs.Deciding.{IsBehind, extents_is, none_wrong}
-use Rattle.fdr_file.proofs.Accepting.{length_some, stand_from, stand_records}
+use Rattle.fdr_file.proofs.Accepting.{length_between, stand_from, stand_records}
 
--- ---- bytes and fields
+-- ---- bytes
 
 abbrev pub AreBytes : List ℕ → Type 0
 AreBytes bytes = All (λ b. b < 256) bytes
@@ -38,45 +36,6 @@ AreBytes bytes = All (λ b. b < 256) bytes
 -- the decoder has an answer for any bytes
 abbrev pub Decodes : Type 0
 Decodes = (bytes : List ℕ) → AreBytes bytes → (a : Result Rec RecFault) × Answers bytes a
-
-each : (bytes : List ℕ) → AreBytes bytes → (i : ℕ) → get_or bytes i 0 < 256
-each bytes all i =
-    elim (cases_lt i (length bytes)) [
-      | inl lt ↦ All-get_or (λ b. b < 256) bytes i 0 lt all
-      | inr le ↦ rw (get_or_past bytes i 0 le) (lit< tt)
-    ]
-
--- a number that was read is below its limit, and its bytes are those that were read
-record IsField (n : ℕ) (bytes : List ℕ) : Type 0 where
-  fits : little_number n bytes < 256 ^ n
-  back : take n bytes ≡ little_bytes n (little_number n bytes)
-
-number_2 : (bytes : List ℕ) → little_number 2 bytes ≡ from_le_bytes w16 bytes
-number_2 bytes = omega arith
-
-number_4 : (bytes : List ℕ) → little_number 4 bytes ≡ from_le_bytes w32 bytes
-number_4 bytes = omega arith
-
-number_8 : (bytes : List ℕ) → little_number 8 bytes ≡ from_le_bytes w64 bytes
-number_8 bytes = omega arith
-
-field_2 : (bytes : List ℕ) → 2 ≤ length bytes → AreBytes bytes → IsField 2 bytes
-field_2 bytes long all = record {
-  fits = little_from-lt 0 2 bytes (each bytes all);
-  back = sym (le_bytes_2 (take 2 bytes) _ (omega (arith, length-take 2 bytes)) (each (take 2 bytes) (All-take (λ b. b < 256) 2 bytes all)) (sym (little_from-take 0 2 2 bytes (lit≤ tt)) ∙ number_2 (take 2 bytes)));
-}
-
-field_4 : (bytes : List ℕ) → 4 ≤ length bytes → AreBytes bytes → IsField 4 bytes
-field_4 bytes long all = record {
-  fits = little_from-lt 0 4 bytes (each bytes all);
-  back = sym (le_bytes_4 (take 4 bytes) _ (omega (arith, length-take 4 bytes)) (each (take 4 bytes) (All-take (λ b. b < 256) 4 bytes all)) (sym (little_from-take 0 4 4 bytes (lit≤ tt)) ∙ number_4 (take 4 bytes)));
-}
-
-field_8 : (bytes : List ℕ) → 8 ≤ length bytes → AreBytes bytes → IsField 8 bytes
-field_8 bytes long all = record {
-  fits = little_from-lt 0 8 bytes (each bytes all);
-  back = sym (le_bytes_8 (take 8 bytes) _ (omega (arith, length-take 8 bytes)) (each (take 8 bytes) (All-take (λ b. b < 256) 8 bytes all)) (sym (little_from-take 0 8 8 bytes (lit≤ tt)) ∙ number_8 (take 8 bytes)));
-}
 
 -- ---- lists without faults
 
@@ -136,7 +95,7 @@ spelled decodes (suc n) before at (b ∷ rest) few all clean = by_answer (spelle
         let behind = drop (length_of r) (b ∷ rest) in
         let first : standings at (b ∷ rest) ≡ (at, Ok r) ∷ standings (at + length_of r) behind = stands_first at (b ∷ rest) (omega arith) ∙ rw (is, long) refl in
         let none = both_empty (record_faults before at r) (standing_faults (r ∷ before) (standings (at + length_of r) behind)) (sym (ap (standing_faults before) first) ∙ clean) in
-        let others = again (r ∷ before) (at + length_of r) behind (omega (arith, length-drop (length_of r) (b ∷ rest), length_some r)) (All-drop (λ x. x < 256) (length_of r) (b ∷ rest) all) none.1 in
+        let others = again (r ∷ before) (at + length_of r) behind (omega (arith, length-drop (length_of r) (b ∷ rest), (length_between r).0)) (All-drop (λ x. x < 256) (length_of r) (b ∷ rest) all) none.1 in
         record {
           records = r ∷ others.records;
           stand = first ∙ ap (λ (x : List Standing). (at, Ok r) ∷ x) others.stand;
@@ -196,21 +155,11 @@ stands_at before at r records clean =
     let order = both_empty (unless (may_be (length before) r) (faults.Order at)) (unless (list_any names_cpu before || not (needs_cpu r)) (faults.NoBase at)) here.0 in
     (unless_true (may_be (length before) r) (faults.Order at) order.0, here.1)
 
--- a record has at most 16 bytes
-length_few : (r : Rec) → length_of r ≤ 16
-length_few (NewBuffer thread) = lit≤ tt
-length_few (NewCpu cpu tsc) = lit≤ tt
-length_few (TscWrap tsc) = lit≤ tt
-length_few (WallTime wall) = lit≤ tt
-length_few (Pid pid) = lit≤ tt
-length_few (Extents size) = lit≤ tt
-length_few (Function kind func delta) = lit≤ tt
-
 shaped : (at : ℕ) (records : List Rec) (bytes : List ℕ) → 48 ≤ length bytes → AreSpelled records bytes → standing_faults [] (stand_from at records) ≡ [] → Shaped records
 shaped at [] bytes long is clean = absurd (omega (arith, ap length is))
-shaped at (a ∷ []) bytes long (f, g, e, fit, s, is) clean = absurd (omega (arith, ap length e, length-append f g, s.whole, length_few a, ap length is))
+shaped at (a ∷ []) bytes long (f, g, e, fit, s, is) clean = absurd (omega (arith, ap length e, length-append f g, s.whole, (length_between a).1, ap length is))
 shaped at (a ∷ b ∷ []) bytes long (f, g, e, fit, s, (f', g', e', fit', s', is)) clean =
-    absurd (omega (arith, ap length e, length-append f g, s.whole, length_few a, ap length e', length-append f' g', s'.whole, length_few b, ap length is))
+    absurd (omega (arith, ap length e, length-append f g, s.whole, (length_between a).1, ap length e', length-append f' g', s'.whole, (length_between b).1, ap length is))
 shaped at (a ∷ b ∷ c ∷ inner) bytes long is clean =
     let one = stands_at [] at a (b ∷ c ∷ inner) clean in
     let t = thread_of a one.0 in
@@ -323,11 +272,12 @@ header_described bytes all clean =
     let long : 32 ≤ length bytes = leb-true 32 (length bytes) (unless_true (leb 32 (length bytes)) (faults.Short 0) front.0) in
     let version : version_in bytes ≡ 3 = eqb-true (version_in bytes) 3 (unless_true (eqb (version_in bytes) 3) (faults.Version (version_in bytes)) front.1) in
     let form : type_in bytes ≡ 1 = eqb-true (type_in bytes) 1 (unless_true (eqb (type_in bytes) 1) (faults.Form (type_in bytes)) most.1) in
-    let a = field_2 bytes (omega arith) all in
-    let b = field_2 (drop 2 bytes) (omega (arith, length-drop 2 bytes)) (All-drop (λ x. x < 256) 2 bytes all) in
-    let g = field_4 (drop 4 bytes) (omega (arith, length-drop 4 bytes)) (All-drop (λ x. x < 256) 4 bytes all) in
-    let q = field_8 (drop 8 bytes) (omega (arith, length-drop 8 bytes)) (All-drop (λ x. x < 256) 8 bytes all) in
-    let s = field_8 (drop 16 bytes) (omega (arith, length-drop 16 bytes)) (All-drop (λ x. x < 256) 16 bytes all) in
+    let are = IsBytes-from_All bytes all in
+    let a = field_2 bytes (omega arith) are in
+    let b = field_2 (drop 2 bytes) (omega (arith, length-drop 2 bytes)) (IsBytes-drop 2 bytes are) in
+    let g = field_4 (drop 4 bytes) (omega (arith, length-drop 4 bytes)) (IsBytes-drop 4 bytes are) in
+    let q = field_8 (drop 8 bytes) (omega (arith, length-drop 8 bytes)) (IsBytes-drop 8 bytes are) in
+    let s = field_8 (drop 16 bytes) (omega (arith, length-drop 16 bytes)) (IsBytes-drop 16 bytes are) in
     let reserved = take 8 (drop 24 bytes) in
     let parts : take 32 bytes ≡ take 2 bytes ++ (take 2 (drop 2 bytes) ++ (take 4 (drop 4 bytes) ++ (take 8 (drop 8 bytes) ++ (take 8 (drop 16 bytes) ++ reserved)))) =
     cut 2 30 0 bytes ∙ ap (λ (x : List ℕ). take 2 bytes ++ x) (cut 2 28 2 bytes ∙ ap (λ (x : List ℕ). take 2 (drop 2 bytes) ++ x) (cut 4 24 4 bytes ∙ ap (λ (x : List ℕ). take 4 (drop 4 bytes) ++ x)
@@ -336,7 +286,7 @@ header_described bytes all clean =
     record {
       flags = flags_in bytes;
       reserved = reserved;
-      spelled = parts ∙ rw (a.back, b.back, g.back, q.back, s.back) (ap (λ (k : ℕ). put (little_bytes 2 k) (little_bytes 2 (type_in bytes)) (little_bytes 4 (flags_in bytes)) (little_bytes 8 (little_number 8 (drop 8 bytes))) (little_bytes 8 (little_number 8 (drop 16 bytes)))) version
+      spelled = parts ∙ rw (sym a.back, sym b.back, sym g.back, sym q.back, sym s.back) (ap (λ (k : ℕ). put (little_bytes 2 k) (little_bytes 2 (type_in bytes)) (little_bytes 4 (flags_in bytes)) (little_bytes 8 (little_number 8 (drop 8 bytes))) (little_bytes 8 (little_number 8 (drop 16 bytes)))) version
           ∙ ap (λ (k : ℕ). put (little_bytes 2 3) (little_bytes 2 k) (little_bytes 4 (flags_in bytes)) (little_bytes 8 (little_number 8 (drop 8 bytes))) (little_bytes 8 (little_number 8 (drop 16 bytes)))) form);
       version = version;
       constant = refl;

@@ -1,10 +1,6 @@
 //! Why bytes aren't a trace.
 
-ghost use Rattle.std.specs.Prelude.{◌≡◌};
-ghost use Rattle.fdr_file.specs.declared.fault.TraceFault.TheVariants.{NoMemory};
-
 use fdr_record::RecFault;
-use std::alloc::{AllocError, AllocFailed};
 use thiserror::Error;
 
 /// Why `read_trace` gives no trace. The answer is the first of the header's faults. If the header
@@ -42,20 +38,4 @@ pub enum TraceFault {
     /// Memory for the blocks and their events was refused.
     #[error("out of memory")]
     NoMemory,
-}
-
-impl From<AllocError> for TraceFault {
-    ghost from_gives = { λ _ e. e ≡ NoMemory };
-
-    fn from(_error: AllocError) -> TraceFault {
-        TraceFault::NoMemory
-    }
-}
-
-impl<T: Drop> From<AllocFailed<T>> for TraceFault {
-    ghost from_gives = { λ _ e. e ≡ NoMemory };
-
-    fn from(_error: AllocFailed<T>) -> TraceFault {
-        TraceFault::NoMemory
-    }
 }

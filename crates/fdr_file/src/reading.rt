@@ -35,3 +35,12 @@ pub fn read_trace(alloc: Global, bytes: &[u8]) -> Result<Trace, TraceFault>
         blocks: Blocks::new(blocks),
     })
 }
+
+/// A refused allocation ends the reading.
+impl<E: Into<xray_io::NoMemory> + Drop> From<E> for TraceFault {
+    ghost from_gives = { λ _ fault. fault ≡ NoMemory };
+
+    fn from(_error: E) -> TraceFault {
+        TraceFault::NoMemory
+    }
+}

@@ -1,5 +1,5 @@
 -- What is read from bytes is an answer to them.
-use Rattle.std.proofs.Common.{rules, ◌≡◌, ◌≢◌, ℕ, ◌+◌, ◌*◌, ◌/◌, ◌%◌, ◌≤◌, ltb, List, [], ◌∷◌, ◌++◌, length, get_or, take, drop, Result, Ok, Err, refl, ap, ◌∙◌, arith, inl, inr}
+use Rattle.std.proofs.Common.{rules, ◌≡◌, ◌≢◌, ℕ, ◌+◌, ◌*◌, ◌/◌, ◌%◌, ◌≤◌, ltb, List, [], ◌∷◌, ◌++◌, length, get_or, take, drop, Result, Ok, Err, refl, sym, ap, ◌∙◌, arith, inl, inr}
 use Rattle.std.proofs.lemmas.Bool.{cases_Bool, ltb-false, ltb-true, ne_eqb}
 use Rattle.std.proofs.lemmas.Bool.Decides.{eqb_tells}
 use Rattle.std.proofs.lemmas.List.{length-take, length-drop}
@@ -8,10 +8,10 @@ use Rattle.byteorder.specs.Endian.{little_bytes, little_number}
 use Rattle.fdr_record.specs.declared.event.Kind.{Kind}
 use Rattle.fdr_record.specs.declared.event.Kind.TheVariants.{Entry, Exit, TailExit}
 use Rattle.fdr_record.specs.declared.rec.Rec.{Rec}
-use Rattle.fdr_record.specs.declared.rec.Rec.TheVariants.{Function}
+use Rattle.fdr_record.specs.declared.rec.Rec.TheVariants.{NewBuffer, NewCpu, TscWrap, WallTime, Pid, Extents, Function}
 use Rattle.fdr_record.specs.declared.fault.RecFault.{RecFault}
 use Rattle.fdr_record.specs.declared.fault.RecFault.TheVariants as faults
-use Rattle.fdr_record.specs.Records.{action_of, first_of, head_of}
+use Rattle.fdr_record.specs.Records.{BeginsWith, action_of, first_of, head_of, length_of, told_by}
 use Rattle.fdr_record.specs.Refusals.{Answers}
 use Rattle.fdr_record.specs.Reading.{function_at, fields_read, metadata_at}
 use Rattle.fdr_record.proofs.Fields.{IsBytes, IsBytes-drop, IsBytes-rest, field_2, field_4, field_8}
@@ -71,70 +71,35 @@ one_field n k a bytes is = take-add n k bytes ∙ rw is refl
 behind_first : (a b : ℕ) (xs ys : List ℕ) → a ≡ b → xs ≡ ys → a ∷ xs ≡ b ∷ ys
 behind_first a b xs ys e f = rw (e, f) refl
 
+-- a record of 16 bytes is spelled if its fields are, behind its first byte
+spelled : (r : Rec) (first head : ℕ) (rest fields filler : List ℕ) → length_of r ≡ 16 → told_by r ≡ head ∷ fields → first ≡ head → 15 ≤ length rest → take 15 rest ≡ fields ++ filler → BeginsWith r (first ∷ rest)
+spelled r first head rest fields filler size told is long parts = record {
+  filler = filler;
+  told = ap (λ (n : ℕ). take n (first ∷ rest)) size ∙ behind_first first head (take 15 rest) (fields ++ filler) is parts ∙ ap (λ (xs : List ℕ). xs ++ filler) (sym told);
+  whole = omega (arith, length-take (length_of r) (first ∷ rest), size);
+}
+
 fields_hold : (kind first : ℕ) (rest : List ℕ) → IsBytes rest → first ≡ first_of kind → 15 ≤ length rest → Answers (first ∷ rest) (fields_read kind rest)
 fields_hold kind first rest fits is long =
-    let whole : length (take 16 (first ∷ rest)) ≡ 16 = omega (arith, length-take 16 (first ∷ rest)) in
     let word = field_4 rest (omega arith) fits in
     let long_word = field_8 rest (omega arith) fits in
     elim (eqb_tells kind 0) [
-      | inl e ↦ rw e.0 (
-        word.fits,
-        record {
-          filler = take 11 (drop 4 rest);
-          told = behind_first _ _ _ _ (omega arith) (one_field 4 11 _ rest word.back);
-          whole = whole;
-        },
-      )
+      | inl e ↦ rw e.0 (word.fits, spelled (NewBuffer _) first _ rest _ _ refl refl (omega arith) long (one_field 4 11 _ rest word.back))
       | inr not_0 ↦ elim (eqb_tells kind 2) [
         | inl e ↦
             let cpu = field_2 rest (omega arith) fits in
             let tsc = field_8 (drop 2 rest) (omega (arith, length-drop 2 rest)) (IsBytes-drop 2 rest fits) in
-            rw (not_0.0, e.0) (
-              (cpu.fits, tsc.fits),
-              record {
-                filler = take 5 (drop 10 rest);
-                told = behind_first _ _ _ _ (omega arith) (two_fields 2 8 5 _ _ rest cpu.back tsc.back);
-                whole = whole;
-              },
-            )
+            rw (not_0.0, e.0) ((cpu.fits, tsc.fits), spelled (NewCpu _ _) first _ rest _ _ refl refl (omega arith) long (two_fields 2 8 5 _ _ rest cpu.back tsc.back))
         | inr not_2 ↦ elim (eqb_tells kind 3) [
-          | inl e ↦ rw (not_0.0, not_2.0, e.0) (
-            long_word.fits,
-            record {
-              filler = take 7 (drop 8 rest);
-              told = behind_first _ _ _ _ (omega arith) (one_field 8 7 _ rest long_word.back);
-              whole = whole;
-            },
-          )
+          | inl e ↦ rw (not_0.0, not_2.0, e.0) (long_word.fits, spelled (TscWrap _) first _ rest _ _ refl refl (omega arith) long (one_field 8 7 _ rest long_word.back))
           | inr not_3 ↦ elim (eqb_tells kind 4) [
             | inl e ↦
                 let micros = field_4 (drop 8 rest) (omega (arith, length-drop 8 rest)) (IsBytes-drop 8 rest fits) in
-                rw (not_0.0, not_2.0, not_3.0, e.0) (
-                  (long_word.fits, micros.fits),
-                  record {
-                    filler = take 3 (drop 12 rest);
-                    told = behind_first _ _ _ _ (omega arith) (two_fields 8 4 3 _ _ rest long_word.back micros.back);
-                    whole = whole;
-                  },
-                )
+                rw (not_0.0, not_2.0, not_3.0, e.0) ((long_word.fits, micros.fits), spelled (WallTime _) first _ rest _ _ refl refl (omega arith) long (two_fields 8 4 3 _ _ rest long_word.back micros.back))
             | inr not_4 ↦ elim (eqb_tells kind 7) [
-              | inl e ↦ rw (not_0.0, not_2.0, not_3.0, not_4.0, e.0) (
-                long_word.fits,
-                record {
-                  filler = take 7 (drop 8 rest);
-                  told = behind_first _ _ _ _ (omega arith) (one_field 8 7 _ rest long_word.back);
-                  whole = whole;
-                },
-              )
+              | inl e ↦ rw (not_0.0, not_2.0, not_3.0, not_4.0, e.0) (long_word.fits, spelled (Extents _) first _ rest _ _ refl refl (omega arith) long (one_field 8 7 _ rest long_word.back))
               | inr not_7 ↦ elim (eqb_tells kind 9) [
-                | inl e ↦ rw (not_0.0, not_2.0, not_3.0, not_4.0, not_7.0, e.0) (
-                  word.fits,
-                  record {
-                    filler = take 11 (drop 4 rest);
-                    told = behind_first _ _ _ _ (omega arith) (one_field 4 11 _ rest word.back);
-                    whole = whole;
-                  },
-                )
+                | inl e ↦ rw (not_0.0, not_2.0, not_3.0, not_4.0, not_7.0, e.0) (word.fits, spelled (Pid _) first _ rest _ _ refl refl (omega arith) long (one_field 4 11 _ rest word.back))
                 | inr not_9 ↦ rw (not_0.0, not_2.0, not_3.0, not_4.0, not_7.0, not_9.0) (
                   record {
                     metadata = omega arith;

@@ -1,6 +1,6 @@
 -- Small scripts worked by hand: what the definitions make of them.
 use Rattle.std.proofs.Common.{◌≡◌, ℕ, true, List, [], ◌∷◌, ◌++◌, Some, refl}
-use Rattle.std.specs.Prelude.{codes, replicate, Result, Ok, Err}
+use Rattle.std.specs.Prelude.{codes, map, replicate, Result, Ok, Err}
 use Rattle.xray_image.specs.declared.sled.Sled.{Sled}
 use Rattle.xray_image.specs.declared.sled.SledKind.{SledKind}
 use Rattle.xray_image.specs.declared.sled.SledKind.TheVariants.{Entry, Exit}
@@ -15,11 +15,11 @@ use Rattle.patch_script.specs.Plans.{Plan, plan_of, waiting_line}
 use Rattle.patch_script.specs.Refusals.{Lines, commands_of, with_line}
 
 -- a sled of the first function
-abbrev sled : ℕ → SledKind → Sled
+abbrev pub sled : ℕ → SledKind → Sled
 sled address kind = record { address = address; function = 0x1000; id = 1; kind = kind; always = true; shift = 512 }
 
 -- A function of 29 bytes with an entry sled and an exit sled. What scripts don't look at is left out.
-abbrev one_function : Program
+abbrev pub one_function : Program
 one_function = record {
   base = 0x1000;
   entry = 0x1000;
@@ -43,50 +43,28 @@ accepted lines = Ok (record { program = one_function; threads = 1; lines = lines
 
 -- ---- refusals
 
-no_commands : verdict_of [] ≡ Err (faults.Go 1)
-no_commands = refl
+-- scripts, and why each is refused
+abbrev refused : List (List (List ℕ) × ScriptFault)
+refused =
+    ([], faults.Go 1)
+    ∷ (codes "go" ∷ codes "go" ∷ [], faults.Go 2)
+    ∷ (codes "go" ∷ codes "hold 1 0" ∷ [], faults.Go 2)
+    ∷ (codes "await 1 1" ∷ codes "go" ∷ [], faults.Go 1)
+    ∷ (codes "patch_function 2" ∷ codes "go" ∷ [], faults.Function 1)
+    ∷ (codes "go" ∷ codes "release 2" ∷ [], faults.Thread 2)
+    ∷ (codes "go" ∷ codes "release 1" ∷ [], faults.Hold 2)
+    ∷ (codes "hold 1 0" ∷ codes "hold 1 1" ∷ codes "go" ∷ [], faults.Hold 2)
+    ∷ (codes "hold 1 0" ∷ codes "go" ∷ codes "release 1" ∷ codes "release 1" ∷ [], faults.Hold 4)
+    ∷ (codes "hold 1 0" ∷ codes "go" ∷ [], faults.Hold 3)
+    ∷ (codes "init" ∷ codes "init" ∷ codes "go" ∷ [], faults.Log 2)
+    ∷ (codes "finalize" ∷ codes "go" ∷ [], faults.Log 1)
+    ∷ (codes "patch 1" ∷ [], faults.Syntax 1)
+    ∷ (codes "patch_function +1" ∷ [], faults.Syntax 1)
+    ∷ ((codes "go" ++ 127 ∷ []) ∷ [], faults.Syntax 1)
+    ∷ []
 
-second_go : verdict_of (codes "go" ∷ codes "go" ∷ []) ≡ Err (faults.Go 2)
-second_go = refl
-
-late_hold : verdict_of (codes "go" ∷ codes "hold 1 0" ∷ []) ≡ Err (faults.Go 2)
-late_hold = refl
-
-early_await : verdict_of (codes "await 1 1" ∷ codes "go" ∷ []) ≡ Err (faults.Go 1)
-early_await = refl
-
-no_function : verdict_of (codes "patch_function 2" ∷ codes "go" ∷ []) ≡ Err (faults.Function 1)
-no_function = refl
-
-no_thread : verdict_of (codes "go" ∷ codes "release 2" ∷ []) ≡ Err (faults.Thread 2)
-no_thread = refl
-
-not_held : verdict_of (codes "go" ∷ codes "release 1" ∷ []) ≡ Err (faults.Hold 2)
-not_held = refl
-
-held_twice : verdict_of (codes "hold 1 0" ∷ codes "hold 1 1" ∷ codes "go" ∷ []) ≡ Err (faults.Hold 2)
-held_twice = refl
-
-released_twice : verdict_of (codes "hold 1 0" ∷ codes "go" ∷ codes "release 1" ∷ codes "release 1" ∷ []) ≡ Err (faults.Hold 4)
-released_twice = refl
-
-never_released : verdict_of (codes "hold 1 0" ∷ codes "go" ∷ []) ≡ Err (faults.Hold 3)
-never_released = refl
-
-second_init : verdict_of (codes "init" ∷ codes "init" ∷ codes "go" ∷ []) ≡ Err (faults.Log 2)
-second_init = refl
-
-early_finalize : verdict_of (codes "finalize" ∷ codes "go" ∷ []) ≡ Err (faults.Log 1)
-early_finalize = refl
-
-too_many_words : verdict_of (codes "patch 1" ∷ []) ≡ Err (faults.Syntax 1)
-too_many_words = refl
-
-signed_number : verdict_of (codes "patch_function +1" ∷ []) ≡ Err (faults.Syntax 1)
-signed_number = refl
-
-bad_byte : verdict_of ((codes "go" ++ 127 ∷ []) ∷ []) ≡ Err (faults.Syntax 1)
-bad_byte = refl
+each_refused : map (λ row. verdict_of row.0) refused ≡ map (λ row. Err row.1) refused
+each_refused = refl
 
 -- the limit is checked before the words
 one_too_many : with_line one_function 1 (replicate 1024 (1, commands.Patch)) (1025, codes "what") ≡ Err (faults.Limit 1025)

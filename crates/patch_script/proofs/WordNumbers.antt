@@ -25,26 +25,22 @@ same_sled j k a b h = omega (arith, part_number_small a, part_number_small b)
 same_number : (j k : ℕ) (a b : Part) → word_of j a ≡ word_of k b → part_number a ≡ part_number b
 same_number j k a b h = omega (arith, part_number_small a, part_number_small b)
 
-part_of_number : (a b : Part) → part_number a ≡ part_number b → a ≡ b
-part_of_number Head Head h = refl
-part_of_number Id Id h = refl
-part_of_number Opcode Opcode h = refl
-part_of_number Offset Offset h = refl
-part_of_number Head Id h = absurd (omega arith)
-part_of_number Head Opcode h = absurd (omega arith)
-part_of_number Head Offset h = absurd (omega arith)
-part_of_number Id Head h = absurd (omega arith)
-part_of_number Id Opcode h = absurd (omega arith)
-part_of_number Id Offset h = absurd (omega arith)
-part_of_number Opcode Head h = absurd (omega arith)
-part_of_number Opcode Id h = absurd (omega arith)
-part_of_number Opcode Offset h = absurd (omega arith)
-part_of_number Offset Head h = absurd (omega arith)
-part_of_number Offset Id h = absurd (omega arith)
-part_of_number Offset Opcode h = absurd (omega arith)
+-- the part with a number
+part_with : ℕ → Part
+part_with zero = Head
+part_with (suc zero) = Id
+part_with (suc (suc zero)) = Opcode
+part_with n = Offset
+
+part_back : (part : Part) → part_with (part_number part) ≡ part
+unfolding part_with
+part_back Head = refl
+part_back Id = refl
+part_back Opcode = refl
+part_back Offset = refl
 
 pub same_part : (j k : ℕ) (a b : Part) → word_of j a ≡ word_of k b → a ≡ b
-same_part j k a b h = part_of_number a b (same_number j k a b h)
+same_part j k a b h = sym (part_back a) ∙ ap part_with (same_number j k a b h) ∙ part_back b
 
 -- a part of a listed sled comes before the words of the handler, the state and the threads
 pub below_others : (program : Program) (k : ℕ) (sled : Sled) (part : Part) → slice_get program.sleds k ≡ Some sled

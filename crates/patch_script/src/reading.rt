@@ -183,3 +183,14 @@ pub fn read_script(
     }
     Ok(Script::of_draft(draft))
 }
+
+/// A refused allocation ends the reading.
+impl<E: Into<xray_io::NoMemory> + Drop> From<E> for ScriptFault {
+    ghost use Rattle.patch_script.specs.declared.fault.ScriptFault.TheVariants.{NoMemory};
+
+    ghost from_gives = { λ _ fault. fault ≡ NoMemory };
+
+    fn from(_error: E) -> ScriptFault {
+        ScriptFault::NoMemory
+    }
+}

@@ -1,9 +1,5 @@
 //! Why a text isn't a schedule.
 
-ghost use Rattle.std.specs.Prelude.{◌≡◌};
-ghost use Rattle.step_sim.specs.declared.fault.ScheduleFault.TheVariants.{NoMemory};
-
-use std::alloc::{AllocError, AllocFailed};
 use thiserror::Error;
 
 /// Why `read_schedule` gives no schedule. `Limit` is checked before all else. After that, the
@@ -24,20 +20,4 @@ pub enum ScheduleFault {
     /// Memory for the lines was refused.
     #[error("out of memory")]
     NoMemory,
-}
-
-impl From<AllocError> for ScheduleFault {
-    ghost from_gives = { λ _ e. e ≡ NoMemory };
-
-    fn from(_error: AllocError) -> ScheduleFault {
-        ScheduleFault::NoMemory
-    }
-}
-
-impl<T: Drop> From<AllocFailed<T>> for ScheduleFault {
-    ghost from_gives = { λ _ e. e ≡ NoMemory };
-
-    fn from(_error: AllocFailed<T>) -> ScheduleFault {
-        ScheduleFault::NoMemory
-    }
 }

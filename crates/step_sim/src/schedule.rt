@@ -63,3 +63,12 @@ pub fn read_schedule(alloc: Global, text: &[u8], threads: u32) -> Result<Schedul
     }
     Ok(Schedule { lines })
 }
+
+/// A refused allocation ends the reading.
+impl<E: Into<xray_io::NoMemory> + Drop> From<E> for ScheduleFault {
+    ghost from_gives = { λ _ fault. fault ≡ NoMemory };
+
+    fn from(_error: E) -> ScheduleFault {
+        ScheduleFault::NoMemory
+    }
+}

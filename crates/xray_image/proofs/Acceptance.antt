@@ -33,41 +33,36 @@ pub cond_none : {A : Type 0} (b : Bool) (o : Option A) (y : A) → cond b None o
 cond_none true o y e = absurd (none-some y e)
 cond_none false o y e = e
 
-pub parts_count : (bytes : List ℕ) (parts : Parts) → parts_of bytes ≡ Some parts → (length parts.functions ≡ function_count bytes) × (length parts.entries ≡ entry_count bytes)
-parts_count bytes parts e =
+-- the counts of the parts, and the code
+record Held (bytes : List ℕ) (parts : Parts) : Type 0 where
+  functions : length parts.functions ≡ function_count bytes
+  entries : length parts.entries ≡ entry_count bytes
+  code : parts.code ≡ take (code_length bytes) (drop 64 bytes)
+
+held : (bytes : List ℕ) (parts : Parts) → parts_of bytes ≡ Some parts → Held bytes parts
+held bytes parts e =
     let behind = drop (64 + code_length bytes) bytes in
     let make : List Function × List ℕ → List MapEntry × List ℕ → Parts = λ functions entries. record { code = take (code_length bytes) (drop 64 bytes); functions = functions.0; entries = entries.0; rest = entries.1 } in
     option_and_then_some (λ functions. option_map (make functions) (several map_entry_at (entry_count bytes) functions.1)) (several function_at (function_count bytes) behind) parts
     (cond_none (ltb (length bytes) (64 + code_length bytes)) _ parts e)
     (λ functions is more.
-    let m = mapped (make functions) (several map_entry_at (entry_count bytes) functions.1) parts more in (
-      sym (ap (λ (p : Parts). length p.functions) m.2) ∙ several_count function_at (function_count bytes) behind functions is,
-      sym (ap (λ (p : Parts). length p.entries) m.2) ∙ several_count map_entry_at (entry_count bytes) functions.1 m.0 m.1,
-    ))
+    let m = mapped (make functions) (several map_entry_at (entry_count bytes) functions.1) parts more in
+    record {
+      functions = sym (ap (λ (p : Parts). length p.functions) m.2) ∙ several_count function_at (function_count bytes) behind functions is;
+      entries = sym (ap (λ (p : Parts). length p.entries) m.2) ∙ several_count map_entry_at (entry_count bytes) functions.1 m.0 m.1;
+      code = sym (ap (λ (p : Parts). p.code) m.2);
+    })
+
+pub parts_count : (bytes : List ℕ) (parts : Parts) → parts_of bytes ≡ Some parts → (length parts.functions ≡ function_count bytes) × (length parts.entries ≡ entry_count bytes)
+parts_count bytes parts e = let h = held bytes parts e in (h.functions, h.entries)
 
 -- the code is the bytes after the header
 pub code_is : (bytes : List ℕ) (parts : Parts) → parts_of bytes ≡ Some parts → parts.code ≡ take (code_length bytes) (drop 64 bytes)
-code_is bytes parts e =
-    let behind = drop (64 + code_length bytes) bytes in
-    let code = take (code_length bytes) (drop 64 bytes) in
-    let make : List Function × List ℕ → List MapEntry × List ℕ → Parts = λ functions entries. record { code = code; functions = functions.0; entries = entries.0; rest = entries.1 } in
-    option_and_then_some (λ functions. option_map (make functions) (several map_entry_at (entry_count bytes) functions.1)) (several function_at (function_count bytes) behind) parts
-    (cond_none (ltb (length bytes) (64 + code_length bytes)) _ parts e)
-    (λ functions is more.
-    let m = mapped (make functions) (several map_entry_at (entry_count bytes) functions.1) parts more in
-    sym (ap (λ (p : Parts). p.code) m.2))
+code_is bytes parts e = (held bytes parts e).code
 
 -- the code is at most as long as the header says
 pub code_short : (bytes : List ℕ) (parts : Parts) → parts_of bytes ≡ Some parts → length parts.code ≤ code_length bytes
-code_short bytes parts e =
-    let behind = drop (64 + code_length bytes) bytes in
-    let code = take (code_length bytes) (drop 64 bytes) in
-    let make : List Function × List ℕ → List MapEntry × List ℕ → Parts = λ functions entries. record { code = code; functions = functions.0; entries = entries.0; rest = entries.1 } in
-    option_and_then_some (λ functions. option_map (make functions) (several map_entry_at (entry_count bytes) functions.1)) (several function_at (function_count bytes) behind) parts
-    (cond_none (ltb (length bytes) (64 + code_length bytes)) _ parts e)
-    (λ functions is more.
-    let m = mapped (make functions) (several map_entry_at (entry_count bytes) functions.1) parts more in
-    omega (arith, ap (λ (p : Parts). length p.code) m.2, length-take (code_length bytes) (drop 64 bytes)))
+code_short bytes parts e = omega (arith, ap length (code_is bytes parts e), length-take (code_length bytes) (drop 64 bytes))
 
 -- the item beside the k-th
 zip_at : {A B : Type 0} (xs : List A) (ys : List B) (k : ℕ) (x : A) → length ys ≡ length xs → slice_get xs k ≡ Some x → (y : B) × (slice_get (zip xs ys) k ≡ Some (x, y))

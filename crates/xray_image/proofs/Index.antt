@@ -6,7 +6,7 @@ use Rattle.std.specs.List.Sorted.{IsStrictlyIncreasing}
 use Rattle.std.proofs.lemmas.Bool.{cases_eq, cases_lt}
 use Rattle.std.proofs.lemmas.List.Kept.{AllPairs-from_increasing}
 use Rattle.std.proofs.lemmas.List.Elements.{Contains-get_or}
-use Rattle.std.proofs.lemmas.List.{get_or-map, get_or-set_same, get_or-set_other, length-set}
+use Rattle.std.proofs.lemmas.List.{get_or-map, get_or-set_same, get_or-set_other, length-map, length-set}
 use Rattle.std.proofs.Math.Nat.{div-add-mod}
 use Rattle.std.proofs.lemmas.Nat.{mod_below}
 use Rattle.xray_image.specs.declared.unit.Unit.{Unit}
@@ -18,6 +18,13 @@ use Rattle.xray_image.specs.private.Index.{AreWithin, IsNumbered, IsFirstOf, IsI
 pub address_read : (units : List Unit) (i : ℕ) (u : Unit) → slice_get units i ≡ Some u → get_or (addresses units) i 0 ≡ u.address
 address_read units i u found =
     get_or-map (λ v. v.address) units i u 0 (slice_get_within units i u found) ∙ ap (λ (v : Unit). v.address) (get_or_from_slice_get units i u u found)
+
+-- it is among those that hold all units
+pub address_above : (base n : ℕ) (units : List Unit) (i : ℕ) (u : Unit) → AreWithin base n (addresses units) → slice_get units i ≡ Some u → (base ≤ u.address) × (u.address < base + n)
+address_above base n units i u within found =
+    let at = address_read units i u found in
+    let there = within i (omega (arith, length-map units (λ v. v.address), slice_get_within units i u found)) in
+    (omega (arith, at, there), omega (arith, at, there))
 
 -- a byte lies in its block
 in_block : (k : ℕ) → (128 * (k / 128) ≤ k) × (k < 128 * (k / 128) + 128)

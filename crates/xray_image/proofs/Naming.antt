@@ -1,5 +1,5 @@
 -- The functions of an accepted file, and their names by their ids.
-use Rattle.std.proofs.Common.{◌≡◌, ◌<◌, ◌≤◌, ◌+◌, ℕ, zero, suc, List, [], ◌∷◌, ◌==◌, length, take, get_or, map, Option, Some, None, refl, sym, ap, subst, ◌∙◌, arith}
+use Rattle.std.proofs.Common.{◌≡◌, ◌<◌, ◌≤◌, ◌+◌, ◌-◌, ℕ, zero, suc, List, [], ◌∷◌, ◌==◌, length, take, get_or, map, Option, Some, None, refl, sym, ap, subst, ◌∙◌, arith}
 use Rattle.std.specs.Prelude.{slice_get, find, option_and_then}
 use Rattle.std.specs.Option.{option_map}
 use Rattle.std.specs.List.{last_or, position_or_len}
@@ -99,6 +99,10 @@ module _ (program : Program) (named : List Named) (numbers : List ℕ) (function
   numbers_few =
       let count = as_many _ (sledded_functions program) numbers are in
       (count, omega (arith, count, distinct_few [] (map (λ s. s.function) program.sleds), length-map program.sleds (λ s. s.function)))
+
+  -- an id that is counted has a number
+  pub id_within : (id : ℕ) → 0 < id → id ≤ id_count program → id - 1 < length numbers
+  id_within id some counted = omega (arith, numbers_few.0)
 
   -- the same of an id's number and its function as they are read
   module _ (n k : ℕ) (within : n < length numbers) (number_is : k ≡ get_or numbers n k) where

@@ -7,9 +7,11 @@ use Rattle.std.proofs.lemmas.List.{length-map, get_or_default}
 use Rattle.std.proofs.lemmas.Option.{none-some, same_Some, slice_get-map, slice_get-get_or, slice_get_within, slice_get_past}
 use Rattle.xray_image.specs.declared.code_units.SledSpot.{SledSpot}
 use Rattle.xray_image.specs.declared.parts.MapLine.{MapLine}
+use Rattle.xray_image.specs.declared.fault.ImageFault.{ImageFault}
 use Rattle.xray_image.specs.Units.{SledPlace}
 use Rattle.xray_image.specs.Container.{MapEntry}
 use Rattle.xray_image.specs.Table.{HasOneAddress, FitsAt}
+use Rattle.xray_image.specs.private.Reading.{IsFirstFault}
 use Rattle.xray_image.specs.private.Views.{entry_of, place_of}
 
 -- what holds below a number, and from it on, holds of each
@@ -93,3 +95,25 @@ spot_is spots i within = get_or_default spots i zero_spot (get_or spots i zero_s
 
 pub line_is : (lines : List MapLine) (i : ℕ) → i < length lines → get_or lines i zero_line ≡ get_or lines i (get_or lines i zero_line)
 line_is lines i within = get_or_default lines i zero_line (get_or lines i zero_line) within
+
+-- the same of a number that a scan has come to, by what it read there
+module _ (spots : List SledSpot) (lines : List MapLine) (i : ℕ) (in_lines : i < length lines) (enough : length lines ≤ length spots) (P : SledPlace → MapEntry → Type 0) where
+  in_spots : i < length spots
+  in_spots = omega arith
+
+  pub fit_at : P (place_of (get_or spots i zero_spot)) (entry_of (get_or lines i zero_line)) → FitsAt (map place_of spots) (map entry_of lines) P i
+  fit_at = fits spots lines i (get_or spots i zero_spot) (get_or lines i zero_line) in_spots in_lines (spot_is spots i in_spots) (line_is lines i in_lines) P
+
+  pub misfit_first : (fault : ℕ → ImageFault) → ((j : ℕ) → j < i → FitsAt (map place_of spots) (map entry_of lines) P j)
+      → (P (place_of (get_or spots i zero_spot)) (entry_of (get_or lines i zero_line)) → ⊥) → IsFirstFault (FitsAt (map place_of spots) (map entry_of lines) P) fault (fault i)
+  misfit_first fault below fails = record {
+    number = i;
+    fails = misfits spots lines i (get_or spots i zero_spot) (get_or lines i zero_line) in_spots in_lines (spot_is spots i in_spots) (line_is lines i in_lines) P fails;
+    holds_below = below;
+    is = refl;
+  }
+
+-- each entry fits if those below the last do
+pub fit_all : (spots : List SledSpot) (lines : List MapLine) (n : ℕ) (P : SledPlace → MapEntry → Type 0) → length lines ≤ n
+    → ((j : ℕ) → j < n → FitsAt (map place_of spots) (map entry_of lines) P j) → (i : ℕ) → FitsAt (map place_of spots) (map entry_of lines) P i
+fit_all spots lines n P past below = from_below (FitsAt (map place_of spots) (map entry_of lines) P) n below (λ j le. fits_past spots lines j P (omega (arith, past, le)))

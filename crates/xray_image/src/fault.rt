@@ -1,9 +1,5 @@
 //! Why some bytes aren't an image.
 
-ghost use Rattle.std.specs.Prelude.{◌≡◌};
-ghost use Rattle.xray_image.specs.declared.fault.ImageFault.TheVariants.{NoMemory};
-
-use std::alloc::{AllocError, AllocFailed};
 use subset_decode::DecodeFault;
 use thiserror::Error;
 
@@ -75,20 +71,4 @@ pub enum ImageFault {
     /// Memory for the tables of the image was refused.
     #[error("out of memory")]
     NoMemory,
-}
-
-impl From<AllocError> for ImageFault {
-    ghost from_gives = { λ _ e. e ≡ NoMemory };
-
-    fn from(_error: AllocError) -> ImageFault {
-        ImageFault::NoMemory
-    }
-}
-
-impl<T: Drop> From<AllocFailed<T>> for ImageFault {
-    ghost from_gives = { λ _ e. e ≡ NoMemory };
-
-    fn from(_error: AllocFailed<T>) -> ImageFault {
-        ImageFault::NoMemory
-    }
 }

@@ -1,10 +1,10 @@
 //! The parts after the header: the code, the functions and the sled map.
 
-ghost use Rattle.std.specs.Prelude.{◌≡◌, ◌≤◌, ◌⊎◌, length, map, Some, None, Err, IfOk, IfErr};
+ghost use Rattle.std.specs.Prelude.{◌≡◌, ◌≤◌, ◌⊎◌, ℕ, List, length, map, Option, Some, None, Err, IfOk, IfErr};
 ghost use Rattle.std.specs.Option.{option_map};
-ghost use Rattle.xray_image.specs.Container.{function_at, map_entry_at, several, parts_of};
+ghost use Rattle.xray_image.specs.Container.{several, parts_of};
 ghost use Rattle.xray_image.specs.Table.{ReadsParts};
-ghost use Rattle.xray_image.specs.private.Views.{function_of, entry_of, parts_of_view, IsHeaderOf};
+ghost use Rattle.xray_image.specs.private.Views.{parts_of_view, IsHeaderOf};
 
 use crate::fault::ImageFault;
 use crate::fields::u64_at;
@@ -30,6 +30,22 @@ const ALWAYS_AT: usize = 17;
 /// The place of the version in a map entry.
 const VERSION_AT: usize = 18;
 
+/// An entry of a part of the file that has as many entries as the header counts.
+trait Counted<'a>: Drop {
+    /// What entries of this kind say.
+    ghost Said: { Type 0 };
+
+    /// What the entry says.
+    ghost said: { Self → Said };
+
+    /// What the entry that the bytes begin with says, and the bytes after it.
+    ghost read_at: { List ℕ → Option (Said × List ℕ) };
+
+    /// The entry that the bytes begin with, and the bytes after it. `None` if they end before it does.
+    fn read(bytes: &'a [u8]) -> Option<(Self, &'a [u8])>
+        ensures { option_map (λ x. (said x.0, x.1.now)) result ≡ read_at bytes.now };
+}
+
 /// A function of the file.
 #[derive(Clone, Copy)]
 pub(crate) struct FunctionEntry<'a> {
@@ -37,11 +53,17 @@ pub(crate) struct FunctionEntry<'a> {
     pub(crate) name: &'a [u8],
 }
 
-impl<'a> FunctionEntry<'a> {
-    /// The function entry that the bytes begin with, and the bytes after it.
-    fn read(bytes: &'a [u8]) -> Option<(FunctionEntry<'a>, &'a [u8])>
-        ensures { option_map (λ x. (function_of x.0, x.1.now)) result ≡ function_at bytes.now }
-    {
+impl<'a> Counted<'a> for FunctionEntry<'a> {
+    ghost use Rattle.xray_image.specs.Container.{Function, function_at};
+    ghost use Rattle.xray_image.specs.private.Views.{function_of};
+
+    ghost Said = { Function };
+
+    ghost said = { function_of };
+
+    ghost read_at = { function_at };
+
+    fn read(bytes: &'a [u8]) -> Option<(FunctionEntry<'a>, &'a [u8])> {
         if bytes.len() < FUNCTION_FRONT {
             return None;
         }
@@ -66,11 +88,17 @@ pub(crate) struct MapLine {
     pub(crate) version: u8,
 }
 
-impl MapLine {
-    /// The map entry that the bytes begin with, and the bytes after it.
-    fn read(bytes: &[u8]) -> Option<(MapLine, &[u8])>
-        ensures { option_map (λ x. (entry_of x.0, x.1.now)) result ≡ map_entry_at bytes.now }
-    {
+impl<'a> Counted<'a> for MapLine {
+    ghost use Rattle.xray_image.specs.Container.{MapEntry, map_entry_at};
+    ghost use Rattle.xray_image.specs.private.Views.{entry_of};
+
+    ghost Said = { MapEntry };
+
+    ghost said = { entry_of };
+
+    ghost read_at = { map_entry_at };
+
+    fn read(bytes: &'a [u8]) -> Option<(MapLine, &'a [u8])> {
         if bytes.len() < MAP_ENTRY_LENGTH {
             return None;
         }
@@ -94,45 +122,22 @@ pub(crate) struct FileParts<'a> {
     pub(crate) entries: Vec<MapLine>,
 }
 
-/// The function entries, as many as the header counts, and the bytes after them. Room is taken
+/// The entries of a part, as many as the header counts, and the bytes after them. Room is taken
 /// entry by entry and not by the count, which may be more than the file holds.
-fn read_functions<'a>(
+fn read_entries<'a, E: Counted<'a>>(
     alloc: Global,
     count: u32,
     bytes: &'a [u8],
-) -> Result<(Vec<FunctionEntry<'a>>, &'a [u8]), ImageFault>
-    ensures found { IfOk result (λ x. several function_at count bytes.now
-        ≡ Some (map function_of x.0.items, x.1.now)) }
+) -> Result<(Vec<E>, &'a [u8]), ImageFault>
+    ensures found { IfOk result (λ x. several E.read_at count bytes.now
+        ≡ Some (map E.said x.0.items, x.1.now)) }
     ensures refused { IfErr result (λ fault. (fault ≡ ImageFault.NoMemory)
-        ⊎ ((fault ≡ ImageFault.Short) × (several function_at count bytes.now ≡ None))) }
-{
-    let mut functions = Vec::new(alloc);
-    let mut rest = bytes;
-    for _number in 0..count {
-        let Some((function, behind)) = FunctionEntry::read(rest) else {
-            return Err(ImageFault::Short);
-        };
-        functions.push(function)?;
-        rest = behind;
-    }
-    Ok((functions, rest))
-}
-
-/// The same for map entries.
-fn read_entries(
-    alloc: Global,
-    count: u32,
-    bytes: &[u8],
-) -> Result<(Vec<MapLine>, &[u8]), ImageFault>
-    ensures found { IfOk result (λ x. several map_entry_at count bytes.now
-        ≡ Some (map entry_of x.0.items, x.1.now)) }
-    ensures refused { IfErr result (λ fault. (fault ≡ ImageFault.NoMemory)
-        ⊎ ((fault ≡ ImageFault.Short) × (several map_entry_at count bytes.now ≡ None))) }
+        ⊎ ((fault ≡ ImageFault.Short) × (several E.read_at count bytes.now ≡ None))) }
 {
     let mut entries = Vec::new(alloc);
     let mut rest = bytes;
     for _number in 0..count {
-        let Some((entry, behind)) = MapLine::read(rest) else {
+        let Some((entry, behind)) = E::read(rest) else {
             return Err(ImageFault::Short);
         };
         entries.push(entry)?;
@@ -161,8 +166,8 @@ impl<'a> FileParts<'a> {
             return Err(ImageFault::Short);
         }
         let (code, rest) = behind.split_at(code_length);
-        let (functions, rest) = read_functions(alloc, header.functions, rest)?;
-        let (entries, rest) = read_entries(alloc, header.entries, rest)?;
+        let (functions, rest) = read_entries::<FunctionEntry>(alloc, header.functions, rest)?;
+        let (entries, rest) = read_entries::<MapLine>(alloc, header.entries, rest)?;
         if !rest.is_empty() {
             return Err(ImageFault::Trailing);
         }

@@ -20,14 +20,7 @@ use Rattle.asm_text.specs.private.Views.{statement_said}
 -- a function has begun
 abbrev pub has_begun : Standing → Bool
 has_begun Outside = false
-has_begun Bare = true
-has_begun Filled = true
-
--- the last one has no instruction line yet
-abbrev pub lacks_lines : Standing → Bool
-lacks_lines Outside = false
-lacks_lines Bare = true
-lacks_lines Filled = false
+has_begun standing = true
 
 -- whether the last function counts as instrumented, after a line
 abbrev pub traced_after : Bool → Statement → Bool
@@ -37,6 +30,11 @@ traced_after traced statement = (owner_of unless_never 0 (record { traced = trac
 abbrev pub traced_by : Bool → Lines → Bool
 traced_by traced [] = traced
 traced_by traced (line ∷ behind) = traced_by (traced_after traced line.1) behind
+
+-- the last function has no instruction line yet
+abbrev pub lacks_lines : Standing → Bool
+lacks_lines Bare = true
+lacks_lines standing = false
 
 -- the totals are those of the lines
 pub record IsTotals (lines : Lines) (t : Totals) : Type 0 where

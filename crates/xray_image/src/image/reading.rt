@@ -133,3 +133,14 @@ pub fn read_image(alloc: Global, bytes: &[u8]) -> Result<Image, ImageFault>
     one_verdict();
     read_program(alloc, bytes)
 }
+
+/// A refused allocation ends the reading.
+impl<E: Into<xray_io::NoMemory> + Drop> From<E> for ImageFault {
+    ghost use Rattle.xray_image.specs.declared.fault.ImageFault.TheVariants.{NoMemory};
+
+    ghost from_gives = { λ _ fault. fault ≡ NoMemory };
+
+    fn from(_error: E) -> ImageFault {
+        ImageFault::NoMemory
+    }
+}

@@ -1,28 +1,21 @@
 use Rattle.std.proofs.Common.{◌-◌, ℕ, length, arith, refl, sym, ap, below_more}
 use Rattle.std.proofs.lemmas.Bool.{false≢true}
-use Rattle.std.proofs.lemmas.List.{length-map}
 use Rattle.std.proofs.lemmas.Option.{slice_get_within, get_or_from_slice_get}
 use Rattle.xray_image.specs.declared.fault.ImageFault.TheVariants.{Target}
 use Rattle.xray_image.specs.Table.{BranchesRightly}
 use Rattle.xray_image.specs.private.UnitTable.{units_in}
 use Rattle.xray_image.proofs.Branching.{address_within, rightly, wrongly, no_unit}
-use Rattle.xray_image.proofs.Index.{address_read}
+use Rattle.xray_image.proofs.Index.{address_above, address_read}
 use Rattle.xray_image.proofs.Scans.{from_below}
 use Rattle.xray_image.proofs.branches.check_branches.Goals as goal
 
 pub overflow_sub-result : goal.overflow_sub-result
 overflow_sub-result c =
-    let units = units_in c.args.units.now in
-    let at = address_read units c.loop-number.number c.get-unit.result c.get-unit.ensures in
-    let within = c.requires.within c.loop-number.number (omega (arith, length-map units (λ u. u.address), slice_get_within units c.loop-number.number c.get-unit.result c.get-unit.ensures)) in
-    omega (arith, at, within)
+    omega (arith, address_above c.args.base _ (units_in c.args.units.now) c.loop-number.number c.get-unit.result c.requires.within c.get-unit.ensures)
 
 pub overflow_cast-result : goal.overflow_cast-result
 overflow_cast-result c =
-    let units = units_in c.args.units.now in
-    let at = address_read units c.loop-number.number c.get-unit.result c.get-unit.ensures in
-    let within = c.requires.within c.loop-number.number (omega (arith, length-map units (λ u. u.address), slice_get_within units c.loop-number.number c.get-unit.result c.get-unit.ensures)) in
-    omega (arith, at, within)
+    omega (arith, address_above c.args.base _ (units_in c.args.units.now) c.loop-number.number c.get-unit.result c.requires.within c.get-unit.ensures)
 
 pub returns-then-not-goes_rightly-clause-refused : goal.returns-then-not-goes_rightly-clause-refused
 returns-then-not-goes_rightly-clause-refused c =

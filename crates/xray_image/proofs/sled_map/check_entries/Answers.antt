@@ -1,40 +1,23 @@
-use Rattle.std.proofs.Common.{◌<◌, length, get_or, map, arith, refl, below_more}
+use Rattle.std.proofs.Common.{map, arith, refl, below_more}
 use Rattle.std.proofs.lemmas.Bool.{false≢true}
 use Rattle.xray_image.specs.Table.{FitsAt}
 use Rattle.xray_image.specs.Program.{IsEntryOf}
 use Rattle.xray_image.specs.private.Views.{function_of, place_of, entry_of}
-use Rattle.xray_image.proofs.Scans.{from_below, fits, misfits, fits_past, zero_spot, zero_line, spot_is, line_is}
+use Rattle.xray_image.proofs.Scans.{fit_at, fit_all, misfit_first}
 use Rattle.xray_image.proofs.sled_map.check_entries.Goals as goal
 
 pub returns-then-not-is_entry_of-clause-refused : goal.returns-then-not-is_entry_of-clause-refused
 returns-then-not-is_entry_of-clause-refused c =
-    let i = c.loop-number.number in
-    let spots = c.args.spots.now in
-    let lines = c.args.lines.now in
-    let in_lines : i < length lines = c.loop-number-test.true in
-    let in_spots : i < length spots = omega (arith, c.requires.spots) in
-    record {
-      number = i;
-      fails = misfits spots lines i (get_or spots i zero_spot) (get_or lines i zero_line) in_spots in_lines (spot_is spots i in_spots) (line_is lines i in_lines) (IsEntryOf (map function_of c.args.functions.now))
-          (λ h. false≢true (c.if-not-is_entry_of.ensures.1 h));
-      holds_below = c.loop-number.invariant;
-      is = refl;
-    }
+    misfit_first c.args.spots.now c.args.lines.now c.loop-number.number c.loop-number-test.true c.requires.spots (IsEntryOf (map function_of c.args.functions.now)) _
+    c.loop-number.invariant (λ h. false≢true (c.if-not-is_entry_of.ensures.1 h))
 
 pub loop-number-preserved : goal.loop-number-preserved
 loop-number-preserved c =
     let i = c.loop-number.number in
-    let spots = c.args.spots.now in
-    let lines = c.args.lines.now in
-    let in_lines : i < length lines = c.loop-number-test.true in
-    let in_spots : i < length spots = omega (arith, c.requires.spots) in
-    below_more (FitsAt (map place_of spots) (map entry_of lines) (IsEntryOf (map function_of c.args.functions.now))) i c.loop-number.invariant
-    (fits spots lines i (get_or spots i zero_spot) (get_or lines i zero_line) in_spots in_lines (spot_is spots i in_spots) (line_is lines i in_lines) (IsEntryOf (map function_of c.args.functions.now))
-    (c.if-not-is_entry_of.ensures.0 refl))
+    let is_entry = IsEntryOf (map function_of c.args.functions.now) in
+    below_more (FitsAt (map place_of c.args.spots.now) (map entry_of c.args.lines.now) is_entry) i c.loop-number.invariant
+    (fit_at c.args.spots.now c.args.lines.now i c.loop-number-test.true c.requires.spots is_entry (c.if-not-is_entry_of.ensures.0 refl))
 
 pub returns-clause-fit : goal.returns-clause-fit
 returns-clause-fit c =
-    let spots = c.args.spots.now in
-    let lines = c.args.lines.now in
-    from_below (FitsAt (map place_of spots) (map entry_of lines) (IsEntryOf (map function_of c.args.functions.now))) (length lines) (λ j lt. c.loop-number.invariant j (omega (arith, c.loop-number-test.false)))
-    (λ j le. fits_past spots lines j (IsEntryOf (map function_of c.args.functions.now)) le)
+    fit_all c.args.spots.now c.args.lines.now c.loop-number.number (IsEntryOf (map function_of c.args.functions.now)) (omega (arith, c.loop-number-test.false)) c.loop-number.invariant

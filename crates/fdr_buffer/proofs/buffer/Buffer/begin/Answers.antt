@@ -8,8 +8,7 @@ invariant_of-self c =
     (begin_leaves c.self.inside c.args.self.now put.new.bytes put.result c.args.thread c.args.serial c.args.wall c.args.pid c.self.view_is c.self.invariant
     (omega (arith, c.ranges.thread), put.ensures.secs, put.ensures.micros, omega (arith, c.ranges.pid))
     (omega (arith, put.auto.bytes, ap length c.deref_mut.ensures.value))
-    put.ensures.bytes
-    put.ensures.next).0
+    put.ensures.bytes put.ensures.next).0
 
 pub returns-clause-begun : goal.returns-clause-begun
 returns-clause-begun c =
@@ -17,5 +16,4 @@ returns-clause-begun c =
     (begin_leaves c.self.inside c.args.self.now put.new.bytes put.result c.args.thread c.args.serial c.args.wall c.args.pid c.self.view_is c.self.invariant
     (omega (arith, c.ranges.thread), put.ensures.secs, put.ensures.micros, omega (arith, c.ranges.pid))
     (omega (arith, put.auto.bytes, ap length c.deref_mut.ensures.value))
-    put.ensures.bytes
-    put.ensures.next).1
+    put.ensures.bytes put.ensures.next).1

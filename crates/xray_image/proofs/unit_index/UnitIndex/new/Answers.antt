@@ -23,8 +23,7 @@ add-requires-clause-within c =
 
 pub add-requires-clause-near : goal.add-requires-clause-near
 add-requires-clause-near c = λ begun.
-    let units = units_in c.args.units.now in
-    let all = addresses units in
+    let all = addresses (units_in c.args.units.now) in
     let base = c.args.base in
     let i = c.loop-number.number in
     let firsts = c.loop-number.index.firsts.items in
@@ -38,8 +37,7 @@ add-requires-clause-near c = λ begun.
 
 pub loop-number-preserved : goal.loop-number-preserved
 loop-number-preserved c =
-    let units = units_in c.args.units.now in
-    let all = addresses units in
+    let all = addresses (units_in c.args.units.now) in
     let base = c.args.base in
     let i = c.loop-number.number in
     let firsts = c.loop-number.index.firsts.items in

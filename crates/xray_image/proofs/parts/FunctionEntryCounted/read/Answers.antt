@@ -3,7 +3,7 @@ use Rattle.std.proofs.lemmas.Bool.{le-ltb}
 use Rattle.std.proofs.lemmas.List.{drop-drop}
 use Rattle.std.proofs.lemmas.Grind.{common_steps}
 use Rattle.std.specs.Prelude.{slice_index}
-use Rattle.xray_image.proofs.parts.FunctionEntry.read.Goals as goal
+use Rattle.xray_image.proofs.parts.FunctionEntryCounted.read.Goals as goal
 
 pub returns : goal.returns
 returns c =
