@@ -16,7 +16,8 @@ pub(crate) fn threads_start_within(script: &Script)
     script.start();
 }
 
-/// A thread stands on its plain run as it wants its next word, its gate or nothing more.
+/// Before a passing, a thread is where its plain run comes to it. At its end, it is where its plain
+/// run ends.
 pub(crate) fn a_thread_stands_as_it_wants(cpu: &Cpu)
     ensures { StandsAs cpu.now cpu.now.want }
 {
