@@ -55,14 +55,7 @@ abbrev pub standing : Inside → Stand → Inside
 standing a stand = record a { stand = stand }
 
 same_at : (a : Inside) (stand : Stand) (place k : ℕ) → IsAtPassing a place k → IsAtPassing (standing a stand) place k
-same_at a stand place k at = record {
-  address = at.address;
-  at = at.at;
-  passed = at.passed;
-  next = at.next;
-  count = at.count;
-  comes = at.comes;
-}
+same_at a stand place k at = record { address = at.address; at = at.at; passed = at.passed; next = at.next; count = at.count; comes = at.comes }
 
 pub sound_loading : (a : Inside) → IsSound a → (place k : ℕ) (at_stage : Stage) → IsAtPassing a place k
     → IsStageOf a.hold a.machine.passings at_stage → IsSound (standing a (Loading place k at_stage))
@@ -85,10 +78,10 @@ opened_loads a sound place k at_stage is first all loads has =
       end = has.end;
       last = has.last;
       run = has.run;
+      wants = next ∙ ap (λ (s : Stage). Some (word_at a.steps.now a.thread k s)) (sym first);
       wanted = has.wanted;
       allowed = has.allowed;
       marks = has.marks;
-      wants = next ∙ ap (λ (s : Stage). Some (word_at a.steps.now a.thread k s)) (sym first);
     }
 
 -- what it wants says where it is
