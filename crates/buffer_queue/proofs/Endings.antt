@@ -14,7 +14,7 @@ use Rattle.buffer_queue.specs.private.Changes.{draining, taking_in}
 use Rattle.buffer_queue.specs.Left.{IsLeft, IsUsed, row_at}
 use Rattle.buffer_queue.specs.private.Steps.{MayDrain, MayTakeIn}
 use Rattle.buffer_queue.specs.Rule.{Fits, KeepsOpen, KeepsPool, PoolState, one_if, turning}
-use Rattle.buffer_queue.proofs.Places.{in_range, all_set, turning_set, turning_none, is_open, fits_live, fits_still}
+use Rattle.buffer_queue.proofs.Places.{in_range, all_set, turning_set, turning_none, is_open, fit_head, fits_live, fits_still}
 use Rattle.buffer_queue.proofs.Counts.{counts}
 
 -- ---- a pass is handed back
@@ -105,8 +105,7 @@ all_back items views place v k at may =
 pub drains : (place : ℕ) (v : View) → MayDrain v → Pops KeepsPool place v (λ x w. w ≡ draining v x)
 drains place v may x items views holds at =
     let k = is_open (x ∷ items) views place v holds at may.live in
-    let f = k.fit place v at in
-    let l = f.live may.live in
+    let l = (k.fit place v at).live may.live in
     let one : place ≡ 1 = sym l.thread ∙ may.first in
     let h = l.head one in
     let a = all_back (x ∷ items) views place v k at may in
@@ -123,22 +122,8 @@ drains place v may x items views holds at =
         one_row = k.one_row;
         some_out = k.some_out;
         few = k.few;
-        fit = all_set (Fits state) views place w
-            (fits_live state place w may.live f.opened (record {
-              thread = l.thread;
-              some_thread = l.some_thread;
-              setup = l.setup;
-              sealed = l.sealed;
-              still_out = l.still_out;
-              head = λ _. record {
-                given = h.given;
-                pushed = h.pushed;
-                drained = ap (λ (d : List Filled). d ++ x ∷ []) h.drained;
-                joined = h.joined;
-                returned = h.returned;
-              };
-            }))
-            (λ j u ne e. fits_still k.state state j u (k.fit j u e) refl refl (λ m. m.still_out) (λ m p1. absurd (ne (p1 ∙ sym one))));
+        fit = fit_head k.state views place v v.pushed k.state.pushed (v.drained ++ x ∷ []) got k.fit at may.live one
+            (record { given = h.given; pushed = h.pushed; drained = ap (λ (d : List Filled). d ++ x ∷ []) h.drained; joined = h.joined; returned = h.returned });
         counted = k.counted;
         enough = k.enough;
         stocking = k.stocking;

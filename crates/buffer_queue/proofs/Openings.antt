@@ -12,7 +12,7 @@ use Rattle.buffer_queue.specs.private.Changes.{giving, head_view, new_view, stoc
 use Rattle.buffer_queue.specs.Left.{row_at}
 use Rattle.buffer_queue.specs.private.Steps.{MayGive, MayStock}
 use Rattle.buffer_queue.specs.Rule.{Fits, IsCounted, IsUnopened, KeepsOpen, KeepsPool, PoolState, turning}
-use Rattle.buffer_queue.proofs.Places.{all_set, turning_set, turning_push, is_open, fits_live, fits_still, replicate_push, row_at_longer, at_new}
+use Rattle.buffer_queue.proofs.Places.{all_set, turning_set, turning_push, is_open, fit_head, fits_live, fits_still, replicate_push, row_at_longer, at_new}
 use Rattle.buffer_queue.proofs.Turns.{settled}
 
 -- ---- pass 1 is made
@@ -84,8 +84,7 @@ opens place s some_thread enough_buffers items views holds at = ⊎_elim
 pub stocks : (n place : ℕ) (v : View) (x : Filled) → MayStock v x → Pushes KeepsPool n place v x (λ w. w ≡ stocking v)
 stocks n place v x may items views room holds at =
     let k = is_open items views place v holds at may.live in
-    let f = k.fit place v at in
-    let l = f.live may.live in
+    let l = (k.fit place v at).live may.live in
     let one : place ≡ 1 = sym l.thread ∙ may.first in
     let h = l.head one in
     let wanted : v.pushed + k.state.setup.threads < k.state.setup.max = subst (λ (s : Setup). v.pushed + s.threads < s.max) l.setup may.wanted in
@@ -107,22 +106,8 @@ stocks n place v x may items views room holds at =
         one_row = k.one_row;
         some_out = k.some_out;
         few = k.few;
-        fit = all_set (Fits state) views place w
-            (fits_live state place w may.live f.opened (record {
-              thread = l.thread;
-              some_thread = l.some_thread;
-              setup = l.setup;
-              sealed = l.sealed;
-              still_out = l.still_out;
-              head = λ _. record {
-                given = h.given;
-                pushed = ap (λ (n : ℕ). n + 1) h.pushed;
-                drained = h.drained;
-                joined = h.joined;
-                returned = h.returned;
-              };
-            }))
-            (λ j u ne e. fits_still k.state state j u (k.fit j u e) refl refl (λ m. m.still_out) (λ m one'. absurd (ne (one' ∙ sym one))));
+        fit = fit_head k.state views place v (v.pushed + 1) (k.state.pushed + 1) v.drained k.state.drained k.fit at may.live one
+            (record { given = h.given; pushed = ap (λ (n : ℕ). n + 1) h.pushed; drained = h.drained; joined = h.joined; returned = h.returned });
         counted = k.counted;
         enough = let e : k.state.pushed + 1 + k.state.setup.threads ≤ k.state.setup.max = omega arith in e;
         stocking = λ lt. (s.0, refl, s.2);

@@ -104,6 +104,19 @@ fits_still s t place v f setup_same row_same out head_fits = record {
   opened = f.opened;
 }
 
+-- what passes know is so after pass 1 has queued or drained a buffer
+pub fit_head : (s : PoolState) (views : List View) (place : ℕ) (v : View) (pushed pushed' : ℕ) (drained drained' : List Filled)
+    → ((j : ℕ) (u : View) → get_elem? views j ≡ some u → Fits s j u) → get_elem? views place ≡ some v → v.live ≡ true → place ≡ 1
+    → HeadFits (record s { pushed = pushed'; drained = drained' }) (record v { pushed = pushed; drained = drained })
+    → (j : ℕ) (u : View) → get_elem? (set views place (record v { pushed = pushed; drained = drained })) j ≡ some u → Fits (record s { pushed = pushed'; drained = drained' }) j u
+fit_head s views place v pushed pushed' drained drained' fit at live one head =
+    let t : PoolState = record s { pushed = pushed'; drained = drained' } in
+    let w : View = record v { pushed = pushed; drained = drained } in
+    let f = fit place v at in let l = f.live live in
+    all_set (Fits t) views place w
+    (fits_live t place w live f.opened (record { thread = l.thread; some_thread = l.some_thread; setup = l.setup; sealed = l.sealed; still_out = l.still_out; head = λ _. head }))
+    (λ j u ne e. fits_still s t j u (fit j u e) refl refl (λ m. m.still_out) (λ m first. absurd (ne (first ∙ sym one))))
+
 -- ---- lists of buffers
 
 pub of_same : (t : ℕ) (x : Filled) → x.thread ≡ t → of_thread t (x ∷ []) ≡ x ∷ []

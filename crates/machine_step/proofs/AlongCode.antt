@@ -103,26 +103,22 @@ module _ (program : Program) (thread : ℕ) (code : ℕ → ℕ → ℕ) (keeps 
       → IsAllowed program thread word (code high word))
       (λ e. safe place loads high word) (λ e. safe_state place loads high word) rest wanted
 
-  safe_offset : (p k low : ℕ) → code p (word_of k Head) ≡ patched_head → p ≤ low
-      → IsSafe program thread code (λ loads. behind (from_offset program k loads) next) low
-  safe_offset p k low head up [] high word fits wanted =
-      allowed_at program thread code high (word_of k Offset) word wanted (keeps.part p high k Offset (omega arith) head)
-  safe_offset p k low head up (load ∷ loads) high word (place, le, first, value, rest) wanted =
-      safe_handler place loads high word rest wanted
+  -- the rest of the passing, if its head was patched at place `p`
+  module _ (p k : ℕ) (head : code p (word_of k Head) ≡ patched_head) where
+    safe_offset : (low : ℕ) → p ≤ low → IsSafe program thread code (λ loads. behind (from_offset program k loads) next) low
+    safe_offset low up [] high word fits wanted =
+        allowed_at program thread code high (word_of k Offset) word wanted (keeps.part p high k Offset (omega arith) head)
+    safe_offset low up (load ∷ loads) high word (place, le, first, value, rest) wanted = safe_handler place loads high word rest wanted
 
-  safe_opcode : (p k low : ℕ) → code p (word_of k Head) ≡ patched_head → p ≤ low
-      → IsSafe program thread code (λ loads. behind (from_opcode program k loads) next) low
-  safe_opcode p k low head up [] high word fits wanted =
-      allowed_at program thread code high (word_of k Opcode) word wanted (keeps.part p high k Opcode (omega arith) head)
-  safe_opcode p k low head up (load ∷ loads) high word (place, le, first, value, rest) wanted =
-      safe_offset p k place head (omega arith) loads high word rest wanted
+    safe_opcode : (low : ℕ) → p ≤ low → IsSafe program thread code (λ loads. behind (from_opcode program k loads) next) low
+    safe_opcode low up [] high word fits wanted =
+        allowed_at program thread code high (word_of k Opcode) word wanted (keeps.part p high k Opcode (omega arith) head)
+    safe_opcode low up (load ∷ loads) high word (place, le, first, value, rest) wanted = safe_offset place (omega arith) loads high word rest wanted
 
-  safe_id : (p k low : ℕ) → code p (word_of k Head) ≡ patched_head → p ≤ low
-      → IsSafe program thread code (λ loads. behind (from_id program k loads) next) low
-  safe_id p k low head up [] high word fits wanted =
-      allowed_at program thread code high (word_of k Id) word wanted (keeps.part p high k Id (omega arith) head)
-  safe_id p k low head up (load ∷ loads) high word (place, le, first, value, rest) wanted =
-      safe_opcode p k place head (omega arith) loads high word rest wanted
+    safe_id : (low : ℕ) → p ≤ low → IsSafe program thread code (λ loads. behind (from_id program k loads) next) low
+    safe_id low up [] high word fits wanted =
+        allowed_at program thread code high (word_of k Id) word wanted (keeps.part p high k Id (omega arith) head)
+    safe_id low up (load ∷ loads) high word (place, le, first, value, rest) wanted = safe_opcode place (omega arith) loads high word rest wanted
 
   safe_head : (k low : ℕ) → IsSafe program thread code (λ loads. behind (from_head program k loads) next) low
   safe_head k low [] high word fits wanted =
@@ -135,7 +131,7 @@ module _ (program : Program) (thread : ℕ) (code : ℕ → ℕ → ℕ) (keeps 
       (λ e.
       let head : code place (word_of k Head) ≡ patched_head =
       ap (code place) (same_Some (word_of k Head) load.word first) ∙ sym value ∙ eqb-true load.value patched_head e in
-      safe_id place k place head (omega arith) loads high word)
+      safe_id place k head place (omega arith) loads high word)
       (λ e. safe place loads high word) rest wanted
 
   safe_release : (k low : ℕ) → IsSafe program thread code (λ loads. behind (from_release program thread k loads) next) low

@@ -1,14 +1,14 @@
 -- A traced thread before its first load.
-use Rattle.std.proofs.Common.{◌≡◌, ℕ, ◌+◌, ◌<◌, ◌≤◌, List, [], length, refl, sym, ap, ◌∙◌, arith}
+use Rattle.std.proofs.Common.{◌≡◌, ℕ, ◌+◌, List, [], length, refl, sym, ap, ◌∙◌, arith}
 use Rattle.std.specs.Prelude.{All}
-use Rattle.xray_image.specs.Program.{Program, IsAccepted}
+use Rattle.xray_image.specs.Program.{Program}
 use Rattle.sled_words.specs.Allowed.{IsAllowed}
 use Rattle.machine_step.specs.declared.cpu.Cpu.TheInside.{Inside}
 use Rattle.machine_step.specs.declared.end.End.{End}
 use Rattle.machine_step.specs.declared.stand.Stand.{Stand}
 use Rattle.machine_step.specs.declared.stand.Stand.TheVariants.{Gate, Loading, Ended}
 use Rattle.machine_step.specs.PlainStep.{State, Passing, PlainRun, opening, passing_at}
-use Rattle.machine_step.specs.private.Inside.{traced, want_at, IsSound, StandsSo}
+use Rattle.machine_step.specs.private.Inside.{traced, want_at, IsSetUp, IsSound, StandsSo}
 use Rattle.machine_step.specs.Loads.{Load, next_from}
 use Rattle.machine_step.specs.private.Machine.{state_at, first_machine, IsWithin}
 use Rattle.machine_step.specs.private.Standing.{RunsBy}
@@ -21,14 +21,8 @@ use Rattle.machine_step.proofs.ToSled.{at_passing}
 
 -- its fields before the first load
 pub record Begun (a : Inside) : Type 0 where
-  pub bytes : List ℕ
-  pub accepted : IsAccepted bytes a.steps.now
+  pub setup : IsSetUp a.steps.now a.limits a.thread a.threads
   pub within : IsWithin a.limits a.machine
-  pub cpus : 0 < a.limits.cpus
-  pub migrate : 0 < a.limits.migrate
-  pub some_thread : 0 < a.thread
-  pub no_more : a.thread ≤ a.threads
-  pub few : a.threads ≤ 16
   pub room : a.marks.room ≡ a.limits.passings
   pub unmarked : a.marks.items ≡ []
   pub runs : RunsBy a.steps.now a.limits a.thread a.steps.now.entry (first_machine a.thread) [] a.stand a.machine
@@ -39,7 +33,7 @@ stands_begun : (a : Inside) → Begun a → (stand : Stand)
 stands_begun a begun (Gate place k) (there, at, (n, reached)) =
     let program = a.steps.now in
     let count : a.machine.passings ≡ 0 + 0 = way_count program a.limits a.thread n (opening program a.thread) (state_at there a.machine) [] reached in
-    let next = at_passing program (are_in_order begun.bytes program begun.accepted) a.limits a.thread there place k a.machine at.step begun.within
+    let next = at_passing program (are_in_order begun.setup.bytes program begun.setup.accepted) a.limits a.thread there place k a.machine at.step begun.within
     at.placed at.is_step at.due in (
       record {
         address = there;
@@ -62,14 +56,8 @@ sound_begun a begun =
     let stands = stands_begun a begun a.stand begun.runs in
     let none : length a.marks.items ≡ 0 = ap length begun.unmarked in
     record {
-      bytes = begun.bytes;
-      accepted = begun.accepted;
+      setup = begun.setup;
       within = begun.within;
-      cpus = begun.cpus;
-      migrate = begun.migrate;
-      some_thread = begun.some_thread;
-      no_more = begun.no_more;
-      few = begun.few;
       room = begun.room;
       made = omega (arith, stands.1);
       stands = stands.0;

@@ -62,7 +62,7 @@ loads_here a sound place k at_stage is at all loads has =
     let split = same_split here.before (sleds_of at.passed) here.sled at.next.sled here.rest (sleds_of on.later) long
     (sym here.passed ∙ (ap sleds_of on.is ∙ sleds_split at.passed at.next on.later)) in
     let sled : here.sled ≡ k = split.0 ∙ next_sled in
-    let same : at_stage ≡ here.at = same_stage a.steps.now a.thread k at_stage here.at within sound.some_thread
+    let same : at_stage ≡ here.at = same_stage a.steps.now a.thread k at_stage here.at within sound.setup.some_thread
     (here.word_is ∙ ap (λ j. word_at a.steps.now a.thread j here.at) sled) in
     record {
       later = on.later;
@@ -114,6 +114,31 @@ allowed_more program thread loads load allowed is =
     All-append (λ (l : Load). IsAllowed program thread l.word l.value) loads (load ∷ []) allowed
     (all_one (λ (l : Load). IsAllowed program thread l.word l.value) load is)
 
+-- ---- what was loaded, with one more load
+
+-- its fields after the load
+abbrev pub passed_on : Inside → Machine → MarkList → Stand → Inside
+passed_on a m ms stand = record a { machine = m; marks = ms; stand = stand }
+
+loaded_more : (a : Inside) (m : Machine) (ms : MarkList) (stand : Stand) (place k : ℕ) (at_stage : Stage) (value : ℕ) → a.stand ≡ Loading place k at_stage
+    → IsAllowed a.steps.now a.thread (word_at a.steps.now a.thread k at_stage) value
+    → (all : List Passing) (loads : List Load) (has : HasLoaded (traced a) all loads)
+    → let more = loads ++ record { word = word_at a.steps.now a.thread k at_stage; value = value } ∷ [] in
+    ms.items ≡ marks_of a.steps.now a.thread a.hold (sleds_of all) more
+    → IsWant (traced (passed_on a m ms stand)) all (wanted_behind (traced a) all more) has.end (want_at a.steps.now a.thread m.passings stand)
+    → HasLoaded (traced (passed_on a m ms stand)) all more
+loaded_more a m ms stand place k at_stage value is allowed all loads has marks wants =
+    let load : Load = record { word = word_at a.steps.now a.thread k at_stage; value = value } in
+    record {
+      end = has.end;
+      last = has.last;
+      run = has.run;
+      wanted = wanted_more (traced a) all loads load has.wanted (wanted_word a place k at_stage is all loads has);
+      allowed = allowed_more a.steps.now a.thread loads load has.allowed allowed;
+      marks = marks;
+      wants = wants;
+    }
+
 -- ---- a passing that goes on
 
 pub goes_on_loads : (a : Inside) → IsSound a → (place k : ℕ) (at_stage next : Stage) (value : ℕ) → a.stand ≡ Loading place k at_stage
@@ -126,21 +151,9 @@ goes_on_loads a sound place k at_stage next value is behind allowed all loads ha
     let here = loads_here a sound place k at_stage is at all loads has in
     let adds = subst (λ (n : Next). Adds a.steps.now a.thread a.hold 0 k (sleds_of here.later) a.marks.items
     (marks_of a.steps.now a.thread a.hold (sleds_of all) (loads ++ load ∷ [])) (wanted_behind (traced a) all (loads ++ load ∷ [])) n) behind (here.adds load) in
-    record {
-      end = has.end;
-      last = has.last;
-      run = has.run;
-      wanted = wanted_more (traced a) all loads load has.wanted (wanted_word a place k at_stage is all loads has);
-      allowed = allowed_more a.steps.now a.thread loads load has.allowed allowed;
-      marks = sym adds.0;
-      wants = adds.1;
-    }
+    loaded_more a a.machine a.marks (Loading place k next) place k at_stage value is allowed all loads has (sym adds.0) adds.1
 
 -- ---- a passing that ends
-
--- its fields after the passing
-abbrev pub passed_on : Inside → Machine → MarkList → Stand → Inside
-passed_on a m ms stand = record a { machine = m; marks = ms; stand = stand }
 
 -- how the passing ended
 pub record Ending (a : Inside) (m : Machine) (ms : MarkList) (stand : Stand) (address : ℕ) (mark : Mark) : Type 0 where
@@ -160,7 +173,7 @@ stands_behind a sound place k at m ms made within whole (Gate place' k') (there,
     let count : m.passings ≡ 0 + length (at.passed ++ made ∷ []) =
     way_count program a.limits a.thread way.0 (opening program a.thread) (state_at there m) (at.passed ++ made ∷ []) way.1 in
     let long = length-append at.passed (made ∷ []) in
-    let next = at_passing program (are_in_order sound.bytes program sound.accepted) a.limits a.thread there place' k' m at'.step within
+    let next = at_passing program (are_in_order sound.setup.bytes program sound.setup.accepted) a.limits a.thread there place' k' m at'.step within
     at'.placed at'.is_step at'.due in (
       record {
         address = there;
@@ -195,14 +208,8 @@ sound_behind a sound place k at m ms stand mark ending =
     let stands = stands_behind a sound place k at m ms ending.made ending.within stand stand ending.runs in
     let long : length ms.items ≡ length a.marks.items + 1 = ap length ending.items ∙ length-append a.marks.items (mark ∷ []) in
     record {
-      bytes = sound.bytes;
-      accepted = sound.accepted;
+      setup = sound.setup;
       within = ending.within;
-      cpus = sound.cpus;
-      migrate = sound.migrate;
-      some_thread = sound.some_thread;
-      no_more = sound.no_more;
-      few = sound.few;
       room = ending.room ∙ sound.room;
       made = omega (arith, stands.1, sound.made);
       stands = stands.0;
@@ -255,7 +262,7 @@ wants_at b sound passed rest all end last wanted run is long wants (Gate place k
     )
 wants_at b sound passed rest all end last wanted run is long wants (Loading place k at) so between = absurd between
 wants_at b sound passed rest all end last wanted run is long wants (Ended e) past between =
-    let same = same_run b.steps.now (accepted_units sound.bytes b.steps.now sound.accepted) b.limits b.thread run.0 past.run.0
+    let same = same_run b.steps.now (accepted_units sound.setup.bytes b.steps.now sound.setup.accepted) b.limits b.thread run.0 past.run.0
     (opening b.steps.now b.thread) all past.passed end e last (state_at past.address b.machine) run.1 past.run.1 in
     let count : length all ≡ length passed = ap length same.passings ∙ (past.count ∙ (sym sound.made ∙ long)) in
     let both : length all ≡ length passed + length rest = ap length is ∙ length-append passed rest in
@@ -279,16 +286,9 @@ ends_loads a sound place k at_stage value is mark behind allowed m ms stand at e
     let here_long : length a.marks.items ≡ length at.passed = sound.made ∙ sym at.count in
     let more_long = length-append at.passed (at.next ∷ []) in
     let number : 0 + length a.marks.items + 1 ≡ length ms.items = omega arith in
-    record {
-      end = has.end;
-      last = has.last;
-      run = has.run;
-      wanted = wanted_more (traced a) all loads load has.wanted (wanted_word a place k at_stage is all loads has);
-      allowed = allowed_more a.steps.now a.thread loads load has.allowed allowed;
-      marks = ending.items ∙ sym adds.0;
-      wants = wants_at (passed_on a m ms stand) after (at.passed ++ at.next ∷ []) here.later all has.end has.last
-          (wanted_behind (traced a) all (loads ++ load ∷ [])) has.run
-          (here.goes_on ∙ sym (append_assoc at.passed (at.next ∷ []) here.later)) (omega arith)
-          (adds.1 ∙ ap (λ n. next_from a.steps.now a.thread a.hold n (sleds_of here.later) []) number)
-          stand after.stands (is_between a.steps.now a.limits a.thread at.address a.machine m (ending.made ∷ []) stand ending.runs);
-    }
+    loaded_more a m ms stand place k at_stage value is allowed all loads has (ending.items ∙ sym adds.0)
+    (wants_at (passed_on a m ms stand) after (at.passed ++ at.next ∷ []) here.later all has.end has.last
+    (wanted_behind (traced a) all (loads ++ load ∷ [])) has.run
+    (here.goes_on ∙ sym (append_assoc at.passed (at.next ∷ []) here.later)) (omega arith)
+    (adds.1 ∙ ap (λ n. next_from a.steps.now a.thread a.hold n (sleds_of here.later) []) number)
+    stand after.stands (is_between a.steps.now a.limits a.thread at.address a.machine m (ending.made ∷ []) stand ending.runs))

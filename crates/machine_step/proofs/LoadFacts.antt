@@ -78,7 +78,7 @@ at_state a sound place k at_stage is wanted =
     let by_stand : want_at a.steps.now a.thread a.machine.passings (Loading place k at_stage) ≡ wants.Load (state_word a.steps.now) =
     ap (want_at a.steps.now a.thread a.machine.passings) (sym is) ∙ wanted in
     let words : word_at a.steps.now a.thread k at_stage ≡ state_word a.steps.now = cc in
-    same_stage a.steps.now a.thread k at_stage stages.State within sound.some_thread words
+    same_stage a.steps.now a.thread k at_stage stages.State within sound.setup.some_thread words
 
 wants_state : (a : Inside) (place k : ℕ) (at_stage : Stage) → a.stand ≡ Loading place k at_stage → at_stage ≡ stages.State
     → (traced a).want ≡ wants.Load (state_word a.steps.now)
@@ -194,7 +194,7 @@ release_at a sound place k at_stage is wanted =
     let by_stand : want_at a.steps.now a.thread a.machine.passings (Loading place k at_stage) ≡ wants.Load (release_word a.steps.now a.thread) =
     ap (want_at a.steps.now a.thread a.machine.passings) (sym is) ∙ wanted in
     let words : word_at a.steps.now a.thread k at_stage ≡ release_word a.steps.now a.thread = cc in
-    same_stage a.steps.now a.thread k at_stage stages.Release within sound.some_thread words
+    same_stage a.steps.now a.thread k at_stage stages.Release within sound.setup.some_thread words
 
 pub kept_same : (a : Inside) → IsSound a → (place k : ℕ) (at_stage next : Stage) (value : ℕ) → a.stand ≡ Loading place k at_stage
     → behind_load at_stage value ≡ Loads next → IsKept (traced a) value → traced (standing a (Loading place k next)) ≡ traced a
@@ -288,10 +288,10 @@ nearer_on a sound place k at_stage next value is behind free =
       word = ap (want_at program a.thread a.machine.passings) (is ∙ ap (Loading place k) here.0);
       unset = here.1;
     }) in
-    let less = next_left program a.thread k at_stage next value within sound.some_thread behind not_kept in
-    let new = steps_left_at program a.thread k next within sound.some_thread in
+    let less = next_left program a.thread k at_stage next value within sound.setup.some_thread behind not_kept in
+    let new = steps_left_at program a.thread k next within sound.setup.some_thread in
     let old : steps_left program (traced a).want ≡ left_at program a.thread k at_stage =
-    ap (λ (s : Stand). steps_left program (want_at program a.thread a.machine.passings s)) is ∙ steps_left_at program a.thread k at_stage within sound.some_thread in
+    ap (λ (s : Stand). steps_left program (want_at program a.thread a.machine.passings s)) is ∙ steps_left_at program a.thread k at_stage within sound.setup.some_thread in
     omega arith
 
 -- each stage has a load before it
@@ -323,7 +323,7 @@ nearer_end a sound place k at_stage is m ms stand mark more between =
     let within = slice_get_within program.sleds k before.sled before.found in
     let long : length ms.items ≡ length a.marks.items + 1 = ap length more ∙ length-append a.marks.items (mark ∷ []) in
     let old : steps_left program (traced a).want ≡ left_at program a.thread k at_stage =
-    ap (λ (s : Stand). steps_left program (want_at program a.thread a.machine.passings s)) is ∙ steps_left_at program a.thread k at_stage within sound.some_thread in
+    ap (λ (s : Stand). steps_left program (want_at program a.thread a.machine.passings s)) is ∙ steps_left_at program a.thread k at_stage within sound.setup.some_thread in
     let some = some_left program a.thread k at_stage within in
     one_fewer (state_word program + 3) (a.limits.passings - length a.marks.items) (a.limits.passings - length ms.items)
     (steps_left program (want_at program a.thread m.passings stand)) (steps_left program (traced a).want)

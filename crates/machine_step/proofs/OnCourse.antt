@@ -52,14 +52,7 @@ runs_behind program limits thread zero n' s t last passed later end (none, same)
 runs_behind program limits thread (suc n) n' s t last passed later end (first, rest, mid, step, reached, joined) run =
     let behind = runs_behind program limits thread n n' mid t last rest later end reached run in (
       suc behind.0,
-      (
-        first,
-        rest ++ later,
-        mid,
-        step,
-        behind.1,
-        ap (λ (ps : List Passing). ps ++ later) joined ∙ append_assoc first rest later,
-      ),
+      (first, rest ++ later, mid, step, behind.1, ap (λ (ps : List Passing). ps ++ later) joined ∙ append_assoc first rest later),
     )
 
 -- a way after a way
@@ -74,14 +67,7 @@ reaches_behind program limits thread zero n' s t u passed later (none, same) way
 reaches_behind program limits thread (suc n) n' s t u passed later (first, rest, mid, step, reached, joined) way =
     let behind = reaches_behind program limits thread n n' mid t u rest later reached way in (
       suc behind.0,
-      (
-        first,
-        rest ++ later,
-        mid,
-        step,
-        behind.1,
-        ap (λ (ps : List Passing). ps ++ later) joined ∙ append_assoc first rest later,
-      ),
+      (first, rest ++ later, mid, step, behind.1, ap (λ (ps : List Passing). ps ++ later) joined ∙ append_assoc first rest later),
     )
 
 -- ---- the passing that a run comes to is its next one

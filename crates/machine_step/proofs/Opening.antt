@@ -15,7 +15,7 @@ use Rattle.machine_step.specs.PlainStep.{Passing}
 use Rattle.machine_step.specs.private.Inside.{traced, want_at, IsAtPassing, IsSound, IsStageOf, StandsSo}
 use Rattle.machine_step.specs.Loads.{Load}
 use Rattle.machine_step.specs.private.Stages.{AllowsAt, word_at, first_stage, stage_by}
-use Rattle.machine_step.specs.Traced.{Allows, HasLoaded, IsLoadable, IsWant, StandsAs, wanted_behind}
+use Rattle.machine_step.specs.Traced.{Allows, HasLoaded, IsLoadable, IsWant, StandsAs, Traced, wanted_behind}
 use Rattle.machine_step.proofs.Tracing.{before_of, begins_at, stands_before, stands_past}
 use Rattle.machine_step.proofs.WordsAt.{allowed_at, allows_at}
 
@@ -55,26 +55,13 @@ abbrev pub standing : Inside → Stand → Inside
 standing a stand = record a { stand = stand }
 
 same_at : (a : Inside) (stand : Stand) (place k : ℕ) → IsAtPassing a place k → IsAtPassing (standing a stand) place k
-same_at a stand place k at = record {
-  address = at.address;
-  at = at.at;
-  passed = at.passed;
-  next = at.next;
-  count = at.count;
-  comes = at.comes;
-}
+same_at a stand place k at = record { address = at.address; at = at.at; passed = at.passed; next = at.next; count = at.count; comes = at.comes }
 
 pub sound_loading : (a : Inside) → IsSound a → (place k : ℕ) (at_stage : Stage) → IsAtPassing a place k
     → IsStageOf a.hold a.machine.passings at_stage → IsSound (standing a (Loading place k at_stage))
 sound_loading a sound place k at_stage at held = record {
-  bytes = sound.bytes;
-  accepted = sound.accepted;
+  setup = sound.setup;
   within = sound.within;
-  cpus = sound.cpus;
-  migrate = sound.migrate;
-  some_thread = sound.some_thread;
-  no_more = sound.no_more;
-  few = sound.few;
   room = sound.room;
   made = sound.made;
   stands = (same_at a (Loading place k at_stage) place k at, held);
@@ -91,15 +78,18 @@ opened_loads a sound place k at_stage is first all loads has =
       end = has.end;
       last = has.last;
       run = has.run;
+      wants = next ∙ ap (λ (s : Stage). Some (word_at a.steps.now a.thread k s)) (sym first);
       wanted = has.wanted;
       allowed = has.allowed;
       marks = has.marks;
-      wants = next ∙ ap (λ (s : Stage). Some (word_at a.steps.now a.thread k s)) (sym first);
     }
 
 -- what it wants says where it is
 pub stands_now : (a : Inside) → IsSound a → StandsAs (traced a) (traced a).want
 stands_now a sound = stands a sound a.stand refl
+
+pub stands_seen : (a : Inside) (t : Traced) → traced a ≡ t → IsSound a → StandsAs t t.want
+stands_seen a t view sound = subst (λ (t : Traced). StandsAs t t.want) view (stands_now a sound)
 
 -- ---- which values are allowed
 
@@ -112,8 +102,8 @@ allows_by a sound place k at_stage value is answer allows =
     let before = before_of a sound place k at in
     let here = allows before.sled before.found in
     subst (λ (s : Stand). IsTrue answer ↔ Allows (traced a) (want_at a.steps.now a.thread a.machine.passings s) value) (sym is) (
-      λ true. allowed_at a.steps.now a.thread k value before.sled at_stage sound.some_thread before.found (here.0 true),
-      λ allowed. here.1 (allows_at a.steps.now a.thread k value before.sled at_stage sound.some_thread before.found allowed),
+      λ true. allowed_at a.steps.now a.thread k value before.sled at_stage sound.setup.some_thread before.found (here.0 true),
+      λ allowed. here.1 (allows_at a.steps.now a.thread k value before.sled at_stage sound.setup.some_thread before.found allowed),
     )
 
 -- ---- the word that it wants
@@ -133,8 +123,11 @@ loadable : (a : Inside) → IsSound a → (stand : Stand) → StandsSo a stand
     → IsLoadable (traced a) (want_at a.steps.now a.thread a.machine.passings stand)
 loadable a sound (Gate place k) at = tt
 loadable a sound (Loading place k at_stage) (at, held) =
-    word_within a.steps.now a.thread a.threads k at_stage (sled_within a sound place k at) sound.no_more
+    word_within a.steps.now a.thread a.threads k at_stage (sled_within a sound place k at) sound.setup.no_more
 loadable a sound (Ended end) past = tt
 
 pub loadable_now : (a : Inside) → IsSound a → IsLoadable (traced a) (traced a).want
 loadable_now a sound = loadable a sound a.stand sound.stands
+
+pub loadable_seen : (a : Inside) (t : Traced) → traced a ≡ t → IsSound a → IsLoadable t t.want
+loadable_seen a t view sound = subst (λ (t : Traced). IsLoadable t t.want) view (loadable_now a sound)

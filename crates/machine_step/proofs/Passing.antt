@@ -1,11 +1,11 @@
 -- A machine that passes a sled.
-use Rattle.std.proofs.Common.{◌≡◌, ℕ, suc, ◌+◌, ◌==◌, [], ◌∷◌, length, Option, Some, None, refl, sym, ap, ◌∙◌, subst}
+use Rattle.std.proofs.Common.{◌≡◌, ℕ, suc, ◌+◌, ◌==◌, List, [], ◌∷◌, length, Option, Some, None, refl, sym, ap, ◌∙◌, subst}
 use Rattle.std.specs.Prelude.{Bool, true, false, if◌then◌else◌, slice_get, IsSome, MatchOption}
 use Rattle.subset_decode.specs.Encoding.{spelling}
 use Rattle.xray_image.specs.declared.unit.Unit.{Unit}
 use Rattle.xray_image.specs.declared.unit.What.{What}
 use Rattle.xray_image.specs.declared.unit.What.TheVariants as whats
-use Rattle.xray_image.specs.Program.{Program}
+use Rattle.xray_image.specs.Program.{Program, IsAccepted}
 use Rattle.machine_step.specs.declared.limits.Limits.{Limits}
 use Rattle.machine_step.specs.declared.end.End.{End}
 use Rattle.machine_step.specs.declared.step.Step.{Step}
@@ -19,7 +19,8 @@ use Rattle.machine_step.specs.PlainStep.{Goes, Next, Passing, PlainStep, passing
 use Rattle.machine_step.specs.private.Machine.{state_at, IsWithin, stepping}
 use Rattle.machine_step.specs.private.Standing.{due_sled, IsAtSled, RunsBy}
 use Rattle.machine_step.specs.private.Steps.{IsPlaceOf, IsStepOf, IsStepAt, sled_at}
-use Rattle.machine_step.proofs.Stepping.{AreInOrder, LeadsBy, instruction_at_none, sled_at_some}
+use Rattle.machine_step.proofs.Accepted.{are_in_order}
+use Rattle.machine_step.proofs.Stepping.{LeadsBy, instruction_at_none, sled_at_some}
 use Rattle.machine_step.proofs.ToSled.{at_passing}
 
 -- ---- the sled at a place is one
@@ -82,48 +83,44 @@ pub record PassesBy (program : Program) (limits : Limits) (thread address place 
   pub passes : PlainStep program limits thread (state_at address m) (made ∷ []) next
   pub leads : LeadsBy program.units limits place m way after next
 
-pub passes_by : (program : Program) → AreInOrder program → (limits : Limits) (thread address place k : ℕ) (m : Machine) (step : Step)
-    → IsWithin limits m → IsStepAt program place step → IsAtSled program limits address place k m
-    → (way : Way) (after : Machine) → way ≡ (stepping limits place m step).way → after ≡ (stepping limits place m step).left
-    → PassesBy program limits thread address place m after way
-passes_by program ordered limits thread address place k m step within is at way after way_is left =
-    let due = due_there program limits address place k m step is at in
-    let passing = at_passing program ordered limits thread address place k m step within at.placed is due in
-    record {
-      made = passing_at limits thread (state_at address m) k passing.sled;
-      next = passing.next;
-      passes = passing.passes;
-      leads = subst (λ (a : Machine). LeadsBy program.units limits place m way a passing.next) (sym left)
-          (subst (λ (w : Way). LeadsBy program.units limits place m w (stepping limits place m step).left passing.next) (sym way_is) passing.leads);
-    }
+module _ (program : Program) (accepted : (bytes : List ℕ) × IsAccepted bytes program) (limits : Limits) (thread address place k : ℕ) (m : Machine) (step : Step) (within : IsWithin limits m) (is : IsStepAt program place step) (at : IsAtSled program limits address place k m) where
+  pub passes_by : (way : Way) (after : Machine) → way ≡ (stepping limits place m step).way → after ≡ (stepping limits place m step).left
+      → PassesBy program limits thread address place m after way
+  passes_by way after way_is left =
+      let due = due_there program limits address place k m step is at in
+      let passing = at_passing program (are_in_order accepted.0 program accepted.1) limits thread address place k m step within at.placed is due in
+      record {
+        made = passing_at limits thread (state_at address m) k passing.sled;
+        next = passing.next;
+        passes = passing.passes;
+        leads = subst (λ (a : Machine). LeadsBy program.units limits place m way a passing.next) (sym left)
+            (subst (λ (w : Way). LeadsBy program.units limits place m w (stepping limits place m step).left passing.next) (sym way_is) passing.leads);
+      }
 
-pub on_to : (program : Program) (limits : Limits) (thread address place next : ℕ) (m after last : Machine) (stand : Stand)
-    → (by : PassesBy program limits thread address place m after (To next))
-    → ((there : ℕ) → IsPlaceOf program.units there next → RunsBy program limits thread there after [] stand last)
-    → (made : Passing) × RunsBy program limits thread address m (made ∷ []) stand last
-on_to program limits thread address place next m after last stand by runs =
-    let there = by.leads in (
-      by.made,
-      run_on program limits thread address there.0 m after last by.made stand
-          (subst (λ (n : Next). PlainStep program limits thread (state_at address m) (by.made ∷ []) n) there.2 by.passes)
-          (runs there.0 there.1),
-    )
+  pub on_to : (next : ℕ) (after last : Machine) (stand : Stand) → To next ≡ (stepping limits place m step).way → after ≡ (stepping limits place m step).left
+      → ((there : ℕ) → IsPlaceOf program.units there next → RunsBy program limits thread there after [] stand last)
+      → (made : Passing) × RunsBy program limits thread address m (made ∷ []) stand last
+  on_to next after last stand way left runs =
+      let by = passes_by (To next) after way left in let there = by.leads in (
+        by.made,
+        run_on program limits thread address there.0 m after last by.made stand
+            (subst (λ (n : Next). PlainStep program limits thread (state_at address m) (by.made ∷ []) n) there.2 by.passes)
+            (runs there.0 there.1),
+      )
 
-pub on_back : (program : Program) (limits : Limits) (thread address place back next : ℕ) (m after last : Machine) (stand : Stand)
-    → (by : PassesBy program limits thread address place m after (Back back)) → IsPlaceOf program.units back next
-    → ((there : ℕ) → IsPlaceOf program.units there next → RunsBy program limits thread there after [] stand last)
-    → (made : Passing) × RunsBy program limits thread address m (made ∷ []) stand last
-on_back program limits thread address place back next m after last stand by placed runs =
-    let there = by.leads in (
-      by.made,
-      run_on program limits thread address back m after last by.made stand
-          (subst (λ (n : Next). PlainStep program limits thread (state_at address m) (by.made ∷ []) n) there.0 by.passes)
-          (runs back placed),
-    )
+  pub on_back : (back next : ℕ) (after last : Machine) (stand : Stand) → Back back ≡ (stepping limits place m step).way → after ≡ (stepping limits place m step).left
+      → IsPlaceOf program.units back next → ((there : ℕ) → IsPlaceOf program.units there next → RunsBy program limits thread there after [] stand last)
+      → (made : Passing) × RunsBy program limits thread address m (made ∷ []) stand last
+  on_back back next after last stand way left placed runs =
+      let by = passes_by (Back back) after way left in (
+        by.made,
+        run_on program limits thread address back m after last by.made stand
+            (subst (λ (n : Next). PlainStep program limits thread (state_at address m) (by.made ∷ []) n) by.leads.0 by.passes)
+            (runs back placed),
+      )
 
-pub on_end : (program : Program) (limits : Limits) (thread address place : ℕ) (m after : Machine) (end : End)
-    → (by : PassesBy program limits thread address place m after (Stops end))
-    → (made : Passing) × RunsBy program limits thread address m (made ∷ []) (Ended end) after
-on_end program limits thread address place m after end by =
-    let there = by.leads in
-    (by.made, (there.0, (0, subst (λ (n : Next). PlainStep program limits thread (state_at address m) (by.made ∷ []) n) there.1 by.passes)))
+  pub on_end : (end : End) (after : Machine) → Stops end ≡ (stepping limits place m step).way → after ≡ (stepping limits place m step).left
+      → (made : Passing) × RunsBy program limits thread address m (made ∷ []) (Ended end) after
+  on_end end after way left =
+      let by = passes_by (Stops end) after way left in
+      (by.made, (by.leads.0, (0, subst (λ (n : Next). PlainStep program limits thread (state_at address m) (by.made ∷ []) n) by.leads.1 by.passes)))

@@ -123,3 +123,10 @@ ends_there program ordered limits start place m step stands is within end after 
 pub stands_within : (program : Program) (limits : Limits) (start : State) (place : ℕ) (m : Machine) → Stands program limits start place m
     → place < length program.units + 1
 stands_within program limits start place m stands = place_within program.units stands.address place stands.placed
+
+-- so what is left of the run is less
+pub comes_nearer : (program : Program) (limits : Limits) (start : State) (place next : ℕ) (m after : Machine) → Stands program limits start place m
+    → StandsAgain program limits start place m next after
+    → measure limits (length program.units + 1) next after < measure limits (length program.units + 1) place m
+comes_nearer program limits start place next m after stands again =
+    measure_falls limits (length program.units + 1) place next m after (stands_within program limits start place m stands) again.nearer

@@ -35,9 +35,9 @@ if_some_left false o k is = refl
 
 pub before_of : (a : Inside) → IsSound a → (place k : ℕ) (at : IsAtPassing a place k) → Before a place k at
 before_of a sound place k at =
-    let here = at_passing a.steps.now (are_in_order sound.bytes a.steps.now sound.accepted) a.limits a.thread at.address place k a.machine
+    let here = at_passing a.steps.now (are_in_order sound.setup.bytes a.steps.now sound.setup.accepted) a.limits a.thread at.address place k a.machine
     at.at.step sound.within at.at.placed at.at.is_step at.at.due in
-    let made = (same_step a.steps.now (accepted_units sound.bytes a.steps.now sound.accepted) a.limits a.thread (state_at at.address a.machine)
+    let made = (same_step a.steps.now (accepted_units sound.setup.bytes a.steps.now sound.setup.accepted) a.limits a.thread (state_at at.address a.machine)
     (at.next ∷ []) (passing_at a.limits a.thread (state_at at.address a.machine) k here.sled ∷ []) at.comes.behind here.next
     at.comes.passes here.passes).0 in
     let other = eqb-false a.machine.passings a.limits.passings (if_some_left (a.machine.passings == a.limits.passings) _ k at.at.due) in
@@ -107,7 +107,7 @@ sleds_length (first ∷ passed) = ap suc (sleds_length passed)
 pub goes_on_by : (a : Inside) → IsSound a → (place k : ℕ) (at : IsAtPassing a place k) (all : List Passing) (end : End) (last : State)
     → PlainRun a.steps.now a.limits a.thread all end last → GoesOnBy all at.passed at.next
 goes_on_by a sound place k at all end last run =
-    next_of_run a.steps.now (accepted_units sound.bytes a.steps.now sound.accepted) a.limits a.thread at.passed all (state_at at.address a.machine)
+    next_of_run a.steps.now (accepted_units sound.setup.bytes a.steps.now sound.setup.accepted) a.limits a.thread at.passed all (state_at at.address a.machine)
     at.next end last at.comes run
 
 -- ---- a gate is opened

@@ -1,5 +1,6 @@
 -- Worked examples of the loads of passings, checked by computing.
 use Rattle.std.proofs.Common.{◌≡◌, ℕ, List, [], ◌∷◌, true, Some, None, refl}
+use Rattle.xray_image.specs.declared.sled.Sled.{Sled}
 use Rattle.xray_image.specs.declared.sled.SledKind.TheVariants.{Entry, Exit}
 use Rattle.xray_image.specs.Program.{Program}
 use Rattle.handler_word.specs.declared.mark.Mark.TheVariants.{Skipped, NoHandler}
@@ -7,17 +8,13 @@ use Rattle.machine_step.specs.Loads.{Load, marks_of, next_load}
 use Rattle.machine_step.specs.Whole.{loads_by_passing}
 
 -- a function with a sled at its entry and one at its exit
+two_sleds : List Sled
+two_sleds =
+    record { address = 4096; function = 4096; id = 1; kind = Entry; always = true; shift = 512 }
+    ∷ record { address = 4114; function = 4096; id = 1; kind = Exit; always = true; shift = 512 } ∷ []
+
 example : Program
-example = record {
-  base = 4096;
-  entry = 4096;
-  code = [];
-  functions = [];
-  units = [];
-  sleds = record { address = 4096; function = 4096; id = 1; kind = Entry; always = true; shift = 512 }
-      ∷ record { address = 4114; function = 4096; id = 1; kind = Exit; always = true; shift = 512 } ∷ [];
-  trampolines = record { entry = 0x201000; exit = 0x201010; tail = 0x201020 };
-}
+example = record { base = 4096; entry = 4096; code = []; functions = []; units = []; sleds = two_sleds; trampolines = record { entry = 0x201000; exit = 0x201010; tail = 0x201020 } }
 
 load : ℕ → ℕ → Load
 load word value = record { word = word; value = value }
@@ -34,20 +31,20 @@ at_exit = load 10 0 ∷ load 10 1 ∷ load 4 0xBAC3 ∷ []
 both_passings : loads_by_passing example 1 (Some 1) 0 (0 ∷ 1 ∷ [])
     (load 0 0xBA41 ∷ load 1 1 ∷ load 2 0xE8 ∷ load 3 0x1FFFF5 ∷ load 8 0 ∷ load 10 0 ∷ load 10 1 ∷ load 4 0xBAC3 ∷ [])
     ≡ at_entry ∷ at_exit ∷ []
-unfolding example load at_entry at_exit
+unfolding example two_sleds load at_entry at_exit
 both_passings = refl
 
 both_marks : marks_of example 1 (Some 1) (0 ∷ 1 ∷ [])
     (load 0 0xBA41 ∷ load 1 1 ∷ load 2 0xE8 ∷ load 3 0x1FFFF5 ∷ load 8 0 ∷ load 10 0 ∷ load 10 1 ∷ load 4 0xBAC3 ∷ [])
     ≡ NoHandler ∷ Skipped ∷ []
-unfolding example load
+unfolding example two_sleds load
 both_marks = refl
 
 -- a passing without a mark isn't one of them
 open_passing : loads_by_passing example 1 None 0 (0 ∷ 1 ∷ []) (load 0 0xBA41 ∷ load 1 1 ∷ []) ≡ []
-unfolding example load
+unfolding example two_sleds load
 open_passing = refl
 
 opcode_next : next_load example 1 None (0 ∷ 1 ∷ []) (load 0 0xBA41 ∷ load 1 1 ∷ []) ≡ Some 2
-unfolding example load
+unfolding example two_sleds load
 opcode_next = refl

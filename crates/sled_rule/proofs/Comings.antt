@@ -17,8 +17,8 @@ use Rattle.sled_rule.specs.Plans.{start_in}
 use Rattle.sled_rule.specs.Rule.{Rises, IsMet, WasMet, IsCore, IsWork, IsNote, IsTally, Knows, KeepsCode}
 use Rattle.sled_rule.specs.Views.{ended_count, giving, next_work, note_at, tally_at, hearing, heeding, meeting}
 use Rattle.sled_rule.proofs.Rows.{put, put_here, put_else, at_end, at_front}
-use Rattle.sled_rule.proofs.Keeps.{IsLater, still, stays, known_work, known_patch, rises_up}
-use Rattle.sled_rule.proofs.Patching.{knowing_core}
+use Rattle.sled_rule.proofs.Keeps.{IsLater, still, stays, known_work, known_patch, rises_up, work_on}
+use Rattle.sled_rule.proofs.Patching.{knowing_core, met_core}
 
 module _ (plan : Plan) where
   -- a seat's view is split in two
@@ -127,19 +127,10 @@ module _ (plan : Plan) where
   hears id view v other note n is is' s r at apart at' =
       let k = known_work plan s r id view v at is in
       let o : IsNote plan r.patch n = other_view s r id other (Work (hearing v n)) note (Note n) apart at' is' in
-      let a = k.from in let b = k.to in let c = o.told in
+      let b = k.to in let c = o.told in
       goes s r r.patch id other (Work (hearing v n)) r.core (still plan s.words r.patch r.owner other)
-      record {
-        script = k.script;
-        first = k.first;
-        given = k.given;
-        own = k.own;
-        unmet = k.unmet;
-        from = omega arith;
-        to = omega arith;
-        count = k.count;
-        loads = rises_up plan v.thread (start_in plan) v.seen (max v.seen n.told) v.loads (omega arith) k.loads;
-      }
+      (work_on plan s.words s.words r.patch r.owner id v (max v.seen n.told) v.count v.loads k (omega arith) (omega arith) k.count
+      (rises_up plan v.thread (start_in plan) v.seen (max v.seen n.told) v.loads (omega arith) k.loads))
       (λ j a b. refl)
 
   pub heeds : (id : ℕ) (view : View) (p : PatchView) (other : ℕ) (tally : View) (t : TallyView) → view ≡ Patch p → tally ≡ Tally t
@@ -163,34 +154,22 @@ module _ (plan : Plan) where
   meeting_core : (words : List ℕ) (p : PatchView) (owner : ℕ → ℕ) (other : ℕ) (v : WorkView) → IsCore plan words p → IsWork plan words p owner other v → v.count ≡ ended_count
       → IsCore plan words (meeting p v)
   meeting_core words p owner other v core w ended =
-      let c = w.count in
-      let k = knowing_core plan words p v.thread ended_count core (omega arith) in
-      let new : Met = record { thread = v.thread; seen = v.seen } in record {
-        script = core.script;
-        wide = core.wide;
-        place = core.place;
-        given = core.given;
-        code = core.code;
-        started = core.started;
-        met = λ i m e. elim (at_front p.met new m i e) [
-          | inl h ↦ subst (WasMet plan words (meeting p v)) h.1 record { first = w.first; given = w.given; seen = w.to; ended = w.count ∙ ended }
-          | inr h ↦ let o = core.met h.0 m h.2 in record { first = o.first; given = o.given; seen = o.seen; ended = o.ended }
-        ];
-        once = λ i j m n e f same. elim (at_front p.met new m i e) [
-          | inl a ↦ elim (at_front p.met new n j f) [
-            | inl b ↦ a.0 ∙ sym b.0
-            | inr b ↦ absurd (w.unmet record { index = b.0; one = n; at = b.2; is = sym same ∙ sym (ap (λ (z : Met). z.thread) a.1) })
-          ]
-          | inr a ↦ elim (at_front p.met new n j f) [
-            | inl b ↦ absurd (w.unmet record { index = a.0; one = m; at = a.2; is = same ∙ sym (ap (λ (z : Met). z.thread) b.1) })
-            | inr b ↦ a.1 ∙ (ap suc (core.once a.0 b.0 m n a.2 b.2 same) ∙ sym b.1)
-          ]
-        ];
-        idle = core.idle;
-        awaited = core.awaited;
-        room = k.room;
-        known = k.known;
-      }
+      let c = w.count in let new : Met = record { thread = v.thread; seen = v.seen } in
+      met_core plan words p (new ∷ p.met) v.thread ended_count core (omega arith)
+      (λ i m e. elim (at_front p.met new m i e) [
+        | inl h ↦ subst (WasMet plan words p) h.1 record { first = w.first; given = w.given; seen = w.to; ended = w.count ∙ ended }
+        | inr h ↦ core.met h.0 m h.2
+      ])
+      (λ i j m n e f same. elim (at_front p.met new m i e) [
+        | inl a ↦ elim (at_front p.met new n j f) [
+          | inl b ↦ a.0 ∙ sym b.0
+          | inr b ↦ absurd (w.unmet record { index = b.0; one = n; at = b.2; is = sym same ∙ sym (ap (λ (z : Met). z.thread) a.1) })
+        ]
+        | inr a ↦ elim (at_front p.met new n j f) [
+          | inl b ↦ absurd (w.unmet record { index = a.0; one = m; at = a.2; is = same ∙ sym (ap (λ (z : Met). z.thread) b.1) })
+          | inr b ↦ a.1 ∙ (ap suc (core.once a.0 b.0 m n a.2 b.2 same) ∙ sym b.1)
+        ]
+      ])
 
   pub meets : (id : ℕ) (view : View) (p : PatchView) (other : ℕ) (worker : View) (v : WorkView) → view ≡ Patch p → worker ≡ Work v → v.count ≡ ended_count
       → Joins (KeepsCode plan) id view other worker (Patch (meeting p v)) Spent

@@ -15,6 +15,7 @@ use Rattle.sled_rule.specs.declared.views.WorkView.{WorkView}
 use Rattle.sled_rule.specs.declared.views.View.{View}
 use Rattle.sled_rule.specs.declared.views.View.TheVariants.{Patch, Work, Note, Tally, Spent}
 use Rattle.patch_script.specs.Plans.{Plan}
+use Rattle.sled_rule.specs.Plans.{start_in}
 use Rattle.sled_rule.specs.Rule.{progress, progress_slot, Rises, IsLawful, IsMet, IsCore, IsWork, Knows, KeepsCode}
 
 -- what the other seats, all but `me`, rely on over a step
@@ -114,3 +115,20 @@ module _ (plan : Plan) where
   unfolding Rises
   rises_more thread low high [] l h le lawful = (omega arith, lawful, omega arith)
   rises_more thread low high (x ∷ xs) l h le lawful = (h.0, h.1, rises_more thread x.place high xs l h.2 le lawful)
+
+  -- A thread's seat after a load, a note or a store of its count. It has seen no less than before, and nothing past the
+  -- patcher's place.
+  pub work_on : (words words' : List ℕ) (p : PatchView) (owner : ℕ → ℕ) (me : ℕ) (v : WorkView) (seen count : ℕ) (ls : List Load) → IsWork plan words p owner me v
+      → v.seen ≤ seen → seen ≤ p.place → progress plan words' v.thread ≡ count → Rises plan v.thread (start_in plan) ls seen
+      → IsWork plan words' p owner me (record v { seen = seen; count = count; loads = ls })
+  work_on words words' p owner me v seen count ls k le within counted rises = let a = k.from in record {
+    script = k.script;
+    first = k.first;
+    given = k.given;
+    own = k.own;
+    unmet = k.unmet;
+    from = omega arith;
+    to = within;
+    count = counted;
+    loads = rises;
+  }

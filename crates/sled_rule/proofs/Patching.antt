@@ -16,7 +16,7 @@ use Rattle.sled_rule.specs.declared.views.PatchView.{PatchView}
 use Rattle.sled_rule.specs.declared.views.View.{View}
 use Rattle.sled_rule.specs.declared.views.View.TheVariants.{Patch}
 use Rattle.sled_rule.specs.Plans.{code_in, micro_in, code_words}
-use Rattle.sled_rule.specs.Rule.{progress, progress_slot, IsCore, KeepsCode}
+use Rattle.sled_rule.specs.Rule.{progress, progress_slot, IsCore, KeepsCode, WasMet}
 use Rattle.sled_rule.specs.Steps.{patch_of}
 use Rattle.sled_rule.specs.private.Plays.{patched, looked, confirmed}
 use Rattle.sled_rule.specs.Views.{advanced, knowing, looked_at}
@@ -84,17 +84,20 @@ patches plan next slots id me word n p is at_step inside s r _ at _ =
 
 -- ---- a load of the progress word that is awaited
 
--- what the words hold, if more of a thread is known
-pub knowing_core : (plan : Plan) (words : List ℕ) (p : PatchView) (t n : ℕ) → IsCore plan words p → n ≤ progress plan words t → IsCore plan words (knowing p t n)
-knowing_core plan words p t n core le = record {
+-- what the words hold, if more of a thread is known, and these threads were met
+pub met_core : (plan : Plan) (words : List ℕ) (p : PatchView) (met : List Met) (t n : ℕ) → IsCore plan words p → n ≤ progress plan words t
+    → ((i : ℕ) (one : Met) → get_elem? met i ≡ some one → WasMet plan words p one)
+    → ((i j : ℕ) (one other : Met) → get_elem? met i ≡ some one → get_elem? met j ≡ some other → one.thread ≡ other.thread → i ≡ j)
+    → IsCore plan words (record p { met = met; known = set p.known t n })
+met_core plan words p met t n core le each once = record {
   script = core.script;
   wide = core.wide;
   place = core.place;
   given = core.given;
+  met = λ i m e. let o = each i m e in record { first = o.first; given = o.given; seen = o.seen; ended = o.ended };
+  once = once;
   code = core.code;
   started = core.started;
-  met = λ i m e. let o = core.met i m e in record { first = o.first; given = o.given; seen = o.seen; ended = o.ended };
-  once = core.once;
   idle = core.idle;
   awaited = core.awaited;
   room = length-set p.known t n ∙ core.room;
@@ -102,6 +105,10 @@ knowing_core plan words p t n core le = record {
       (λ e. let a : get_or (set p.known t n) t 0 ≡ n = get_or-set_same p.known t n 0 (omega arith) in subst (λ (z : ℕ). get_or (set p.known t n) z 0 ≤ progress plan words z) (sym e) (omega arith))
       (λ ne. let a = get_or-set_other p.known t u n 0 ne in let o = core.known u h in omega arith);
 }
+
+-- the same threads were met
+pub knowing_core : (plan : Plan) (words : List ℕ) (p : PatchView) (t n : ℕ) → IsCore plan words p → n ≤ progress plan words t → IsCore plan words (knowing p t n)
+knowing_core plan words p t n core le = met_core plan words p p.met t n core le core.met core.once
 
 -- an await that is reached is passed
 awaited_core : (plan : Plan) → CodeNext plan → (words : List ℕ) (p : PatchView) (t c : ℕ) → IsCore plan words p → micro_in plan p.place ≡ Await t c → c ≤ progress plan words t

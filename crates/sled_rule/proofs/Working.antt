@@ -16,7 +16,7 @@ use Rattle.sled_rule.specs.Steps.{work_of, IsFetched}
 use Rattle.sled_rule.specs.private.Plays.{fetched, counted}
 use Rattle.sled_rule.specs.Views.{loading, counting}
 use Rattle.sled_rule.proofs.Laws.{BoundReached}
-use Rattle.sled_rule.proofs.Keeps.{IsLater, still, moves, loads, known_work, progress_else, progress_here, progress_grows, rises_more}
+use Rattle.sled_rule.proofs.Keeps.{IsLater, still, moves, loads, known_work, progress_else, progress_here, progress_grows, rises_more, work_on}
 
 -- ---- a load
 
@@ -55,17 +55,8 @@ reaches plan bounds words p owner me v core k =
 loading_work : (plan : Plan) (words : List ℕ) (p : PatchView) (owner : ℕ → ℕ) (me : ℕ) (v : WorkView) (word value place : ℕ) → IsCore plan words p → IsWork plan words p owner me v
     → place ≤ p.place → place ≤ bound_in plan v.thread v.count → IsFirst (λ x. code_in plan x word) value v.seen place → IsWork plan words p owner me (loading v word value place)
 loading_work plan words p owner me v word value place core k le bound l =
-    let a = k.from in let b = l.from in record {
-      script = k.script;
-      first = k.first;
-      given = k.given;
-      own = k.own;
-      unmet = k.unmet;
-      from = omega arith;
-      to = le;
-      count = k.count;
-      loads = rises_more plan v.thread (start_in plan) v.seen v.loads _ k.loads l.from record { value = l.here; bound = bound };
-    }
+    work_on plan words words p owner me v place v.count _ k l.from le k.count
+    (rises_more plan v.thread (start_in plan) v.seen v.loads _ k.loads l.from record { value = l.here; bound = bound })
 
 pub fetches : (plan : Plan) → BoundReached plan → (slots id : ℕ) (me : Me (Unit {0}) View) (word : ℕ) (v : WorkView) → me.0 ≡ Work v → word < code_words plan
     → Allows (KeepsCode plan) slots id me word (λ n. n) (fetched (step slots word 0 0 none) me)
@@ -149,17 +140,7 @@ counts plan slots id me word n v is at_word le s r _ at _ =
             own = λ t f h other. (refl, progress_else plan s.words (progress_slot plan v.thread) n t (λ e. let same : t ≡ v.thread = omega arith in other (ap r.owner same ∙ k.own)), λ m. m);
           })
           (subst (λ (i : ℕ). IsWork plan (set s.words i n) r.patch r.owner id new) (sym at_word)
-          record {
-            script = k.script;
-            first = k.first;
-            given = k.given;
-            own = k.own;
-            unmet = k.unmet;
-            from = k.from;
-            to = k.to;
-            count = progress_here plan s.words n v.thread inside;
-            loads = k.loads;
-          })
+          (work_on plan s.words (set s.words (progress_slot plan v.thread) n) r.patch r.owner id v v.seen n v.loads k (omega arith) k.to (progress_here plan s.words n v.thread inside) k.loads))
           (λ j c d. refl),
       (ap (λ (z : View). Work (counting (work_of z) n)) (sym is), refl),
     )

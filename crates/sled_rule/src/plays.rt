@@ -1,6 +1,9 @@
 //! The kinds of steps. Each says what its seat learns.
 
 ghost use Rattle.sled_rule.specs.private.Plays.{fetched, counted, patched, looked, confirmed};
+ghost use Rattle.sled_rule.specs.declared.views.View.TheVariants.{Patch, Work, Note, Tally, Spent};
+ghost use Rattle.sled_rule.specs.Steps.{patch_of, work_of, note_of, tally_of};
+ghost use Rattle.sled_rule.specs.Views.{giving, hearing, heeding, meeting, next_work, note_at, tally_at};
 
 use crate::views::View;
 use atomic_table::{Join, Play, Split};
@@ -44,10 +47,6 @@ impl Play<(), View> for Confirm {
 pub(crate) struct Give;
 
 impl Split<View> for Give {
-    ghost use Rattle.sled_rule.specs.Steps.{patch_of};
-    ghost use Rattle.sled_rule.specs.Views.{giving, next_work};
-    ghost use Rattle.sled_rule.specs.declared.views.View.TheVariants.{Patch, Work};
-
     ghost left = { λ v. Patch (giving (patch_of v)) };
 
     ghost right = { λ v. Work (next_work (patch_of v)) };
@@ -57,10 +56,6 @@ impl Split<View> for Give {
 pub(crate) struct WriteNote;
 
 impl Split<View> for WriteNote {
-    ghost use Rattle.sled_rule.specs.Steps.{patch_of};
-    ghost use Rattle.sled_rule.specs.Views.{note_at};
-    ghost use Rattle.sled_rule.specs.declared.views.View.TheVariants.{Patch, Note};
-
     ghost left = { λ v. Patch (patch_of v) };
 
     ghost right = { λ v. Note (note_at (patch_of v)) };
@@ -70,10 +65,6 @@ impl Split<View> for WriteNote {
 pub(crate) struct WriteTally;
 
 impl Split<View> for WriteTally {
-    ghost use Rattle.sled_rule.specs.Steps.{work_of};
-    ghost use Rattle.sled_rule.specs.Views.{tally_at};
-    ghost use Rattle.sled_rule.specs.declared.views.View.TheVariants.{Work, Tally};
-
     ghost left = { λ v. Work (work_of v) };
 
     ghost right = { λ v. Tally (tally_at (work_of v)) };
@@ -83,10 +74,6 @@ impl Split<View> for WriteTally {
 pub(crate) struct Hear;
 
 impl Join<View> for Hear {
-    ghost use Rattle.sled_rule.specs.Steps.{work_of, note_of};
-    ghost use Rattle.sled_rule.specs.Views.{hearing};
-    ghost use Rattle.sled_rule.specs.declared.views.View.TheVariants.{Work, Spent};
-
     ghost both = { λ v w. Work (hearing (work_of v) (note_of w)) };
 
     ghost spent = { Spent };
@@ -96,10 +83,6 @@ impl Join<View> for Hear {
 pub(crate) struct Heed;
 
 impl Join<View> for Heed {
-    ghost use Rattle.sled_rule.specs.Steps.{patch_of, tally_of};
-    ghost use Rattle.sled_rule.specs.Views.{heeding};
-    ghost use Rattle.sled_rule.specs.declared.views.View.TheVariants.{Patch, Spent};
-
     ghost both = { λ v w. Patch (heeding (patch_of v) (tally_of w)) };
 
     ghost spent = { Spent };
@@ -109,10 +92,6 @@ impl Join<View> for Heed {
 pub(crate) struct Meet;
 
 impl Join<View> for Meet {
-    ghost use Rattle.sled_rule.specs.Steps.{patch_of, work_of};
-    ghost use Rattle.sled_rule.specs.Views.{meeting};
-    ghost use Rattle.sled_rule.specs.declared.views.View.TheVariants.{Patch, Spent};
-
     ghost both = { λ v w. Patch (meeting (patch_of v) (work_of w)) };
 
     ghost spent = { Spent };

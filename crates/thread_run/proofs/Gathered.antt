@@ -24,6 +24,10 @@ use Rattle.thread_run.proofs.Pooled.{hands_of}
 use Rattle.thread_run.proofs.Order.{HoldEvents}
 use Rattle.thread_run.proofs.RunLemmas.{left_so, there_is}
 
+-- one more was taken from the rest
+pub one_taken : {X : Type 0} (yielded rest : List X) (x : X) (left all : List X) → left ≡ x ∷ rest → yielded ++ left ≡ all → (yielded ++ x ∷ []) ++ rest ≡ all
+one_taken yielded rest x left all is order = append_assoc yielded (x ∷ []) rest ∙ ap (λ l. yielded ++ l) (sym is) ∙ order
+
 -- what the next thread begins with
 pub new_at : (pool : PoolIs) (n number : ℕ) (hands yielded rest : List (PassIs × Filled)) (x : PassIs × Filled) → AreNew pool 1 n hands
     → (yielded ++ x ∷ []) ++ rest ≡ hands → number ≡ length yielded → x ≡ new_hand pool (number + 1)

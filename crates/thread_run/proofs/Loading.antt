@@ -17,6 +17,7 @@ use Rattle.patch_script.specs.Plans.{Plan}
 use Rattle.patch_script.specs.Refusals.{commands_of}
 use Rattle.patch_script.proofs.Allowing.{keeps_sleds}
 use Rattle.patch_script.proofs.Awaiting.{bound_within}
+use Rattle.fdr_record.specs.declared.event.Event.{Event}
 use Rattle.machine_step.specs.declared.want.Want.{Want}
 use Rattle.machine_step.specs.declared.want.Want.TheVariants.{Load as Loads}
 use Rattle.machine_step.specs.Ended.{EndsAsPlain}
@@ -28,14 +29,17 @@ use Rattle.machine_step.specs.PlainStep.{Passing, PlainRun, State}
 use Rattle.machine_step.specs.Traced.{HasLoaded, IsFresh, IsKept, IsSameThread, IsThreadOf, IsWant, Traced, load_of, sleds_of, wanted_behind}
 use Rattle.machine_step.proofs.AlongCode.{next_allowed}
 use Rattle.machine_step.proofs.WantedWords.{release_wanted}
+use Rattle.sled_rule.specs.declared.seats.WorkSeat.{WorkSeat}
 use Rattle.sled_rule.specs.declared.views.Load.{Load as SeatLoad}
 use Rattle.sled_rule.specs.declared.views.PatchView.{PatchView}
 use Rattle.sled_rule.specs.declared.views.WorkView.{WorkView}
 use Rattle.sled_rule.specs.Plans.{bound_in, code_in, code_words, start_in}
+use Rattle.sled_rule.specs.Seats.{work_view, script_of, IsWorkerOf}
 use Rattle.sled_rule.specs.Steps.{IsFetched}
 use Rattle.sled_rule.specs.Views.{counting, loading, next_work}
 use Rattle.thread_run.specs.Following.{HasFollowed, LoadsFollow, MarksFollowScript, given, is_held_by}
-use Rattle.thread_run.specs.Workers.{IsAlong, IsFreshIn, IsFreshThread, IsThreadIn}
+use Rattle.thread_run.specs.Workers.{IsAlong, IsAtWork, IsFreshIn, IsFreshThread, IsThreadIn, cpu_of, seat_of, table_of}
+use Rattle.thread_run.specs.declared.worker.Worker.{Worker}
 
 -- ---- a script's plan
 
@@ -290,6 +294,19 @@ pub along_counting : (plan : Plan) (t : Traced) (v v' : WorkView) (passed : List
 along_counting plan t v v' passed count view along =
     let same : IsAlong plan t (counting v count) passed = record { all = along.all; made = along.made; free = along.free; released = along.released } in
     subst (λ (x : WorkView). IsAlong plan t x passed) (sym view) same
+
+-- a worker at work that has stored this count is at work
+abbrev pub at_work_counted : {R : Type 0} (stands : R → List Event → Type 0) (worker : Worker R) (seat : WorkSeat) (count : ℕ) → IsAtWork stands worker
+    → IsWorkerOf (table_of worker) seat → work_view seat ≡ counting (work_view (seat_of worker)) count → IsAtWork stands (record worker { seat = seat })
+at_work_counted stands worker seat count at own view = let plan = script_of (table_of worker) in record {
+  own = own;
+  thread = at.thread;
+  seat = ap (λ (x : WorkView). x.thread) view ∙ at.seat;
+  within = subst (λ (x : WorkView). x.seen ≤ total_of plan.program (commands_of plan.lines)) (sym view) at.within;
+  passed = at.passed;
+  along = along_counting plan (cpu_of worker) (work_view (seat_of worker)) _ at.passed count view at.along;
+  recorded_are = at.recorded_are;
+}
 
 -- ---- the marks of a thread follow its script
 

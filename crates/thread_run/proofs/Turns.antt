@@ -11,22 +11,18 @@ use Rattle.machine_step.specs.declared.want.Want.TheVariants.{Gate, Load as Load
 use Rattle.machine_step.specs.Events.{recorded}
 use Rattle.machine_step.specs.PlainStep.{Passing}
 use Rattle.machine_step.specs.Traced.{IsSameThread, MarksAdded, Traced, loads_left}
+use Rattle.sled_rule.specs.declared.seats.WorkSeat.{WorkSeat}
 use Rattle.sled_rule.specs.declared.views.Load.{Load as SeatLoad}
+use Rattle.sled_rule.specs.Seats.{work_view}
 use Rattle.thread_run.specs.declared.worker.Worker.{Worker}
 use Rattle.thread_run.specs.Following.{is_held_by}
-use Rattle.thread_run.specs.private.Steps.{HasTaken, IsBehind}
-use Rattle.thread_run.specs.Workers.{HasMade, IsSameWorker, cpu_of, loads_of}
+use Rattle.thread_run.specs.private.Steps.{CountIsBehind, HasTaken, IsBehind}
+use Rattle.thread_run.specs.Workers.{HasMade, IsSameWorker, cpu_of, loads_of, seat_of}
 
 -- ---- the same worker
 
 pub same_then : (a b c : Traced) → IsSameThread a b → IsSameThread b c → IsSameThread a c
-same_then a b c p q = record {
-  program = q.program ∙ p.program;
-  thread = q.thread ∙ p.thread;
-  threads = q.threads ∙ p.threads;
-  hold = q.hold ∙ p.hold;
-  limits = q.limits ∙ p.limits;
-}
+same_then a b c p q = record { program = q.program ∙ p.program; thread = q.thread ∙ p.thread; threads = q.threads ∙ p.threads; hold = q.hold ∙ p.hold; limits = q.limits ∙ p.limits }
 
 pub same_again : (a : Traced) → IsSameThread a a
 same_again a = record { program = refl; thread = refl; threads = refl; hold = refl; limits = refl }
@@ -41,6 +37,10 @@ worker_then follows along a b c p q = record {
 
 pub worker_again : {R : Type 0} (follows : R → R → Type 0) → ((x : R) → follows x x) → (a : Worker R) → IsSameWorker follows a a
 worker_again follows itself a = record { table = refl; thread = same_again (cpu_of a); recorder = itself _ }
+
+-- nothing but its seat has changed
+pub seat_changed : {R : Type 0} (follows : R → R → Type 0) → ((x : R) → follows x x) → (a : Worker R) (seat : WorkSeat) → IsSameWorker follows a (record a { seat = seat })
+seat_changed follows itself a seat = record { table = refl; thread = same_again (cpu_of a); recorder = itself _ }
 
 -- ---- what was made
 
@@ -84,10 +84,13 @@ no_nearer old new word same was is added less =
     omega (arith, less, left)
 
 -- the count of a seat after a load, before the passing that it ended is counted
-pub behind_after : (old new : List Mark) (count : ℕ) (want : Want) → MarksAdded old new want → count ≡ length old → IsBehind count new want
+behind_after : (old new : List Mark) (count : ℕ) (want : Want) → MarksAdded old new want → count ≡ length old → IsBehind count new want
 behind_after old new count (Gate passing) (mark, e) is = omega (arith, is, ap length e, length-append old (mark ∷ []))
 behind_after old new count (Loads word) e is = is ∙ ap length (sym e)
 behind_after old new count (Done end) (mark, e) is = omega (arith, is, ap length e, length-append old (mark ∷ []))
+
+pub behind_taken : {R : Type 0} (word : ℕ) (old new : Worker R) → HasTaken word old new → CountIsBehind new
+behind_taken word old new taken = behind_after (cpu_of old).marks (cpu_of new).marks (work_view (seat_of new)).count (cpu_of new).want taken.marks taken.count
 
 -- a thread in its passing, and one whose passing has ended
 pub counts_all : (count : ℕ) (marks : List Mark) (found want : Want) (word : ℕ) → found ≡ want → found ≡ Loads word → IsBehind count marks want

@@ -16,7 +16,8 @@ pub(crate) fn threads_start_within(script: &Script)
     script.start();
 }
 
-/// A thread that wants a load, its gate or nothing more stands in its plain run as that says.
+/// Before a passing, a thread is where its plain run comes to it. At its end, it is where its plain
+/// run ends.
 pub(crate) fn a_thread_stands_as_it_wants(cpu: &Cpu)
     ensures { StandsAs cpu.now cpu.now.want }
 {

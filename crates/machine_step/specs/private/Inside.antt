@@ -3,6 +3,7 @@ use Rattle.std.specs.Prelude.{◌≡◌, ◌<◌, ◌≤◌, ℕ, List, length, 
 use Rattle.xray_image.specs.Program.{Program, IsAccepted}
 use Rattle.machine_step.specs.declared.cpu.Cpu.TheInside.{Inside}
 use Rattle.machine_step.specs.declared.end.End.{End}
+use Rattle.machine_step.specs.declared.limits.Limits.{Limits}
 use Rattle.machine_step.specs.declared.stage.Stage.{Stage}
 use Rattle.machine_step.specs.declared.stage.Stage.TheVariants as stages
 use Rattle.machine_step.specs.declared.stand.Stand.{Stand}
@@ -76,17 +77,20 @@ StandsSo a (Gate place sled) = IsAtPassing a place sled
 StandsSo a (Loading place sled stage) = IsAtPassing a place sled × IsStageOf a.hold a.machine.passings stage
 StandsSo a (Ended end) = IsPastEnd a end
 
--- some accepted file holds the image, the counts are within their limits, there is room for all marks, and the thread
--- is on its plain run
-pub record IsSound (a : Inside) : Type 0 where
+-- what stays the same in a thread: some accepted file holds the image, and the numbers are in their ranges
+pub record IsSetUp (program : Program) (limits : Limits) (thread threads : ℕ) : Type 0 where
   pub bytes : List ℕ
-  pub accepted : IsAccepted bytes a.steps.now
+  pub accepted : IsAccepted bytes program
+  pub cpus : 0 < limits.cpus
+  pub migrate : 0 < limits.migrate
+  pub some_thread : 0 < thread
+  pub no_more : thread ≤ threads
+  pub few : threads ≤ 16
+
+-- the counts are within their limits, there is room for all marks, and the thread is on its plain run
+pub record IsSound (a : Inside) : Type 0 where
+  pub setup : IsSetUp a.steps.now a.limits a.thread a.threads
   pub within : IsWithin a.limits a.machine
-  pub cpus : 0 < a.limits.cpus
-  pub migrate : 0 < a.limits.migrate
-  pub some_thread : 0 < a.thread
-  pub no_more : a.thread ≤ a.threads
-  pub few : a.threads ≤ 16
   pub room : a.marks.room ≡ a.limits.passings
   pub made : length a.marks.items ≡ a.machine.passings
   pub stands : StandsSo a a.stand

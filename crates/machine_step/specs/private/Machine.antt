@@ -14,26 +14,11 @@ use Rattle.machine_step.specs.PlainStep.{State, Passing, RunsTo, stack_limit, ou
 
 -- the state of a machine at an address
 abbrev pub state_at : ℕ → Machine → State
-state_at address m = record {
-  address = address;
-  registers = m.registers;
-  zero_flag = m.zero_flag;
-  stack = m.stack;
-  output = m.output;
-  instructions = m.instructions;
-  passings = m.passings;
-}
+state_at address m = record { address = address; registers = m.registers; zero_flag = m.zero_flag; stack = m.stack; output = m.output; instructions = m.instructions; passings = m.passings }
 
 -- a machine before its first step
 abbrev pub first_machine : ℕ → Machine
-first_machine thread = record {
-  registers = slice_set (replicate 16 0) 7 thread;
-  zero_flag = false;
-  stack = [];
-  output = [];
-  instructions = 0;
-  passings = 0;
-}
+first_machine thread = record { registers = slice_set (replicate 16 0) 7 thread; zero_flag = false; stack = []; output = []; instructions = 0; passings = 0 }
 
 -- the counts are within their limits
 pub record IsWithin (limits : Limits) (m : Machine) : Type 0 where

@@ -62,34 +62,14 @@ pub record AreStepsOf (program : Program) (all : List Step) : Type 0 where
 
 -- instructions want fuel
 abbrev pub wants_fuel : Step → Bool
-wants_fuel (steps.Mov dst imm) = true
-wants_fuel (steps.Add dst src) = true
-wants_fuel (steps.Sub dst src) = true
-wants_fuel (steps.Push reg) = true
-wants_fuel (steps.Pop reg) = true
-wants_fuel (steps.Call target back) = true
-wants_fuel (steps.Jmp target) = true
-wants_fuel (steps.Jnz target) = true
-wants_fuel steps.Ret = true
-wants_fuel steps.Out = true
 wants_fuel (steps.Passing sled) = false
 wants_fuel (steps.Leaving sled) = false
 wants_fuel steps.Pad = false
 wants_fuel steps.Nowhere = false
+wants_fuel _ = true
 
 -- the number of the sled that a step passes
 abbrev pub sled_at : Step → Option ℕ
-sled_at (steps.Mov dst imm) = None
-sled_at (steps.Add dst src) = None
-sled_at (steps.Sub dst src) = None
-sled_at (steps.Push reg) = None
-sled_at (steps.Pop reg) = None
-sled_at (steps.Call target back) = None
-sled_at (steps.Jmp target) = None
-sled_at (steps.Jnz target) = None
-sled_at steps.Ret = None
-sled_at steps.Out = None
 sled_at (steps.Passing sled) = Some sled
 sled_at (steps.Leaving sled) = Some sled
-sled_at steps.Pad = None
-sled_at steps.Nowhere = None
+sled_at _ = None

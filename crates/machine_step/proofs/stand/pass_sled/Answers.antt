@@ -1,5 +1,4 @@
 use Rattle.std.proofs.Common.{arith}
-use Rattle.machine_step.proofs.Accepted.{are_in_order}
 use Rattle.machine_step.proofs.Passing.{passes_by, some_sled, on_to, on_back, on_end}
 use Rattle.machine_step.proofs.Places.{place_within}
 use Rattle.machine_step.proofs.stand.pass_sled.Goals as goal
@@ -22,38 +21,23 @@ step_over-requires-clause-sled c =
 
 pub run_to_sled-requires-clause-placed : goal.run_to_sled-requires-clause-placed
 run_to_sled-requires-clause-placed c =
-    let accepted = c.requires.accepted in
-    let by = passes_by c.args.steps.now (are_in_order accepted.0 c.args.steps.now accepted.1) c.args.limits 0 c.requires.at.1 c.args.place
-    c.requires.at.0 c.args.machine.now c.at.result.now c.requires.within c.at.ensures.step
-    c.requires.at.2 _ c.step_over.new.self c.in-To.ensures.way c.in-To.ensures.left in
+    let by = passes_by c.args.steps.now c.requires.accepted c.args.limits 0 c.requires.at.1 c.args.place c.requires.at.0 c.args.machine.now c.at.result.now
+    c.requires.within c.at.ensures.step c.requires.at.2 _ c.step_over.new.self c.in-To.ensures.way c.in-To.ensures.left in
     (by.leads.0, by.leads.1)
 
 pub returns-in-To-clause-passes : goal.returns-in-To-clause-passes
-returns-in-To-clause-passes c =
-    let accepted = c.requires.accepted in
-    λ address sled at thread.
-    let by = passes_by c.args.steps.now (are_in_order accepted.0 c.args.steps.now accepted.1) c.args.limits thread address c.args.place
-    sled c.args.machine.now c.at.result.now c.requires.within c.at.ensures.step
-    at _ c.step_over.new.self c.in-To.ensures.way c.in-To.ensures.left in
-    on_to c.args.steps.now c.args.limits thread address c.args.place c.in-To.next c.args.machine.now c.step_over.new.self c.run_to_sled.new.machine
-    c.run_to_sled.result by (λ there placed. c.run_to_sled.ensures.runs there placed thread)
+returns-in-To-clause-passes c address sled at thread =
+    on_to c.args.steps.now c.requires.accepted c.args.limits thread address c.args.place sled c.args.machine.now c.at.result.now c.requires.within c.at.ensures.step at
+    c.in-To.next c.step_over.new.self c.run_to_sled.new.machine c.run_to_sled.result c.in-To.ensures.way c.in-To.ensures.left
+    (λ there placed. c.run_to_sled.ensures.runs there placed thread)
 
 pub returns-in-Back-clause-passes : goal.returns-in-Back-clause-passes
-returns-in-Back-clause-passes c =
-    let accepted = c.requires.accepted in
-    λ address sled at thread.
-    let by = passes_by c.args.steps.now (are_in_order accepted.0 c.args.steps.now accepted.1) c.args.limits thread address c.args.place
-    sled c.args.machine.now c.at.result.now c.requires.within c.at.ensures.step
-    at _ c.step_over.new.self c.in-Back.ensures.way c.in-Back.ensures.left in
-    on_back c.args.steps.now c.args.limits thread address c.args.place c.in-Back.address c.place_of-next.result c.args.machine.now c.step_over.new.self
-    c.run_to_sled-in-Back.new.machine c.run_to_sled-in-Back.result by c.place_of-next.ensures
-    (λ there placed. c.run_to_sled-in-Back.ensures.runs there placed thread)
+returns-in-Back-clause-passes c address sled at thread =
+    on_back c.args.steps.now c.requires.accepted c.args.limits thread address c.args.place sled c.args.machine.now c.at.result.now c.requires.within c.at.ensures.step at
+    c.in-Back.address c.place_of-next.result c.step_over.new.self c.run_to_sled-in-Back.new.machine c.run_to_sled-in-Back.result
+    c.in-Back.ensures.way c.in-Back.ensures.left c.place_of-next.ensures (λ there placed. c.run_to_sled-in-Back.ensures.runs there placed thread)
 
 pub returns-in-Ends-clause-passes : goal.returns-in-Ends-clause-passes
-returns-in-Ends-clause-passes c =
-    let accepted = c.requires.accepted in
-    λ address sled at thread.
-    let by = passes_by c.args.steps.now (are_in_order accepted.0 c.args.steps.now accepted.1) c.args.limits thread address c.args.place
-    sled c.args.machine.now c.at.result.now c.requires.within c.at.ensures.step
-    at _ c.step_over.new.self c.in-Ends.ensures.way c.in-Ends.ensures.left in
-    on_end c.args.steps.now c.args.limits thread address c.args.place c.args.machine.now c.step_over.new.self c.in-Ends.end by
+returns-in-Ends-clause-passes c address sled at thread =
+    on_end c.args.steps.now c.requires.accepted c.args.limits thread address c.args.place sled c.args.machine.now c.at.result.now c.requires.within c.at.ensures.step at
+    c.in-Ends.end c.step_over.new.self c.in-Ends.ensures.way c.in-Ends.ensures.left

@@ -1,4 +1,4 @@
-use Rattle.std.proofs.Common.{◌≡◌, ℕ, ◌+◌, ◌++◌, arith, ap, ◌∙◌, length, length-append, ◌∷◌, [], List, append_assoc, sym}
+use Rattle.std.proofs.Common.{◌≡◌, ℕ, ◌+◌, arith, ap, ◌∙◌, length, length-append, ◌∷◌, [], sym}
 use Rattle.fdr_buffer.specs.Filled.{Filled}
 use Rattle.buffer_queue.specs.Passes.{PassIs, new_hand, new_pass}
 use Rattle.machine_step.specs.Traced.{Traced}
@@ -7,28 +7,22 @@ use Rattle.sled_rule.specs.declared.views.PatchView.{PatchView}
 use Rattle.sled_rule.specs.Seats.{script_of}
 use Rattle.thread_run.specs.Recordings.{Recording, StandsFor}
 use Rattle.thread_run.specs.Workers.{IsGoing}
-use Rattle.thread_run.proofs.Gathered.{new_at}
+use Rattle.thread_run.proofs.Gathered.{new_at, one_taken}
 use Rattle.thread_run.proofs.RunLemmas.{one_worker}
 use Rattle.thread_run.proofs.whole.new_workers.Goals as goal
 
 pub new-recorder-requires-clause-hand : goal.new-recorder-requires-clause-hand
 new-recorder-requires-clause-hand g c =
-    let kept = c.loop-pass.invariant in
-    let yielded = c.loop-pass.yielded in
+    let kept = c.loop-pass.invariant in let yielded = c.loop-pass.yielded in let rest = c.next.new.self.rest.items in
     let one : PassIs × Filled = (c.in-Some.pass, c.in-Some.hand) in
-    let rest = c.next.new.self.rest.items in
-    let order : (yielded ++ one ∷ []) ++ rest ≡ c.args.hands.items =
-    append_assoc yielded (one ∷ []) rest ∙ ap (λ (l : List (PassIs × Filled)). yielded ++ l) (sym c.in-Some.ensures.steps.0) ∙ kept.order in
+    let order = one_taken yielded rest one _ c.args.hands.items c.in-Some.ensures.steps.0 kept.order in
     new_at c.args.pool.now c.args.setup.now.threads c.loop-pass.number c.args.hands.items yielded rest one c.requires.hands order kept.number
 
 pub loop-pass-preserved : goal.loop-pass-preserved
 loop-pass-preserved g c =
-    let kept = c.loop-pass.invariant in
-    let yielded = c.loop-pass.yielded in
+    let kept = c.loop-pass.invariant in let yielded = c.loop-pass.yielded in let rest = c.next.new.self.rest.items in
     let one : PassIs × Filled = (c.in-Some.pass, c.in-Some.hand) in
-    let rest = c.next.new.self.rest.items in
-    let order : (yielded ++ one ∷ []) ++ rest ≡ c.args.hands.items =
-    append_assoc yielded (one ∷ []) rest ∙ ap (λ (l : List (PassIs × Filled)). yielded ++ l) (sym c.in-Some.ensures.steps.0) ∙ kept.order in
+    let order = one_taken yielded rest one _ c.args.hands.items c.in-Some.ensures.steps.0 kept.order in
     let begins : one ≡ new_hand c.args.pool.now (c.loop-pass.number + 1) =
     new_at c.args.pool.now c.args.setup.now.threads c.loop-pass.number c.args.hands.items yielded rest one c.requires.hands order kept.number in
     let started = c.start.ensures in

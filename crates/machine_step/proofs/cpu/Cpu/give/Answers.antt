@@ -1,5 +1,6 @@
 use Rattle.std.proofs.Common.{◌≡◌, ◌<◌, ◌++◌, List, Option, Some, None, length, refl, sym, subst, arith}
 use Rattle.std.specs.Prelude.{◌↔◌, IsSome, slice_get}
+use Rattle.xray_image.specs.declared.sled.Sled.{Sled}
 use Rattle.xray_image.specs.Program.{Program}
 use Rattle.fdr_record.specs.declared.event.Event.{Event}
 use Rattle.sled_words.specs.Words.{state_word}
@@ -7,12 +8,12 @@ use Rattle.machine_step.specs.declared.end.End.{End}
 use Rattle.machine_step.specs.declared.stand.Stand.TheVariants.{Loading}
 use Rattle.machine_step.specs.declared.want.Want.TheVariants as wants
 use Rattle.machine_step.specs.Events.{events_in, recorded}
-use Rattle.machine_step.specs.private.Inside.{traced, want_at}
+use Rattle.machine_step.specs.private.Inside.{traced, want_at, IsAtPassing}
 use Rattle.machine_step.specs.Loads.{Load}
 use Rattle.machine_step.specs.PlainStep.{Passing, PlainRun, State}
 use Rattle.machine_step.specs.Traced.{Allows, HasLoaded, IsKept, MarksAdded, Traced, load_of, loads_left}
 use Rattle.machine_step.proofs.GiveClauses.{between_of, clause_ends, clause_events, clause_goes_on, ending_of, held_at, stage_behind}
-use Rattle.machine_step.proofs.Giving.{passed_on, sound_behind}
+use Rattle.machine_step.proofs.Giving.{Ending, IsBetween, passed_on, sound_behind}
 use Rattle.machine_step.proofs.LoadFacts.{kept_not, kept_same, marks_added, nearer_end, nearer_on, some_at_end, some_goes_on}
 use Rattle.machine_step.proofs.Opening.{loading_at, sled_within, sound_loading, standing}
 use Rattle.machine_step.proofs.Tracing.{before_of}
@@ -40,13 +41,35 @@ add-requires c =
     let before = before_of a c.self.invariant c.in-Loading.place c.in-Loading.sled at in
     omega (arith, before.left, c.self.invariant.room, c.self.invariant.made)
 
+-- the passing that ends
+here : (c : goal.After-self-in-Ends-1) → IsAtPassing c.self.inside c.in-Loading.place c.in-Loading.sled
+here c = loading_at c.self.inside c.self.invariant c.in-Loading.place c.in-Loading.sled c.in-Loading.stage c.in-Loading.is
+
+ending : (c : goal.After-self-in-Ends-1)
+    → Ending c.self.inside c.pass_sled-self-inside.new.machine c.add.new.self c.pass_sled-self-inside.result (here c).address c.in-Ends.mark
+ending c =
+    ending_of c.self.inside c.in-Loading.place c.in-Loading.sled (here c) c.pass_sled-self-inside.new.machine c.add.new.self c.pass_sled-self-inside.result c.in-Ends.mark
+    c.pass_sled-self-inside.ensures.within c.add.ensures.items c.add.ensures.room c.pass_sled-self-inside.ensures.passes
+
+between : (c : goal.After-self-in-Ends-1) → IsBetween c.pass_sled-self-inside.result
+between c =
+    between_of c.self.inside c.in-Loading.place c.in-Loading.sled (here c) c.pass_sled-self-inside.new.machine c.add.new.self c.pass_sled-self-inside.result c.in-Ends.mark (ending c)
+
+-- its sled
+sled_here : goal.After-self-in-Ends-1 → Sled
+sled_here c = (before_of c.self.inside c.self.invariant c.in-Loading.place c.in-Loading.sled (here c)).sled
+
+found_here : (c : goal.After-self-in-Ends-1) → slice_get c.self.inside.steps.now.sleds c.in-Loading.sled ≡ Some (sled_here c)
+unfolding sled_here
+found_here c = (before_of c.self.inside c.self.invariant c.in-Loading.place c.in-Loading.sled (here c)).found
+
+found : (c : goal.After-self-in-Ends-1) → slice_get c.image.result.now.sleds c.in-Loading.sled ≡ Some (sled_here c)
+found c = subst (λ (program : Program). slice_get program.sleds c.in-Loading.sled ≡ Some (sled_here c)) (sym c.image.ensures.program) (found_here c)
+
 pub invariant_of-self-in-Ends : goal.invariant_of-self-in-Ends
 invariant_of-self-in-Ends c =
-    let a = c.self.inside in
-    let at = loading_at a c.self.invariant c.in-Loading.place c.in-Loading.sled c.in-Loading.stage c.in-Loading.is in
-    let ending = ending_of a c.in-Loading.place c.in-Loading.sled at c.pass_sled-self-inside.new.machine c.add.new.self c.pass_sled-self-inside.result c.in-Ends.mark
-    c.pass_sled-self-inside.ensures.within c.add.ensures.items c.add.ensures.room c.pass_sled-self-inside.ensures.passes in
-    sound_behind a c.self.invariant c.in-Loading.place c.in-Loading.sled at c.pass_sled-self-inside.new.machine c.add.new.self c.pass_sled-self-inside.result c.in-Ends.mark ending
+    sound_behind c.self.inside c.self.invariant c.in-Loading.place c.in-Loading.sled (here c) c.pass_sled-self-inside.new.machine c.add.new.self
+    c.pass_sled-self-inside.result c.in-Ends.mark (ending c)
 
 pub returns-in-Loads-clause-loads : goal.returns-in-Loads-clause-loads
 returns-in-Loads-clause-loads c =
@@ -77,49 +100,32 @@ returns-in-Loads-clause-nearer c =
 pub returns-in-Ends-clause-loads : goal.returns-in-Ends-clause-loads
 returns-in-Ends-clause-loads c =
     let a = c.self.inside in
-    let at = loading_at a c.self.invariant c.in-Loading.place c.in-Loading.sled c.in-Loading.stage c.in-Loading.is in
-    let ending = ending_of a c.in-Loading.place c.in-Loading.sled at c.pass_sled-self-inside.new.machine c.add.new.self c.pass_sled-self-inside.result c.in-Ends.mark
-    c.pass_sled-self-inside.ensures.within c.add.ensures.items c.add.ensures.room c.pass_sled-self-inside.ensures.passes in
     subst (λ (t : Traced). Allows t t.want c.args.value → (passed : List Passing) (loads : List Load) → HasLoaded t passed loads
     → HasLoaded (traced (passed_on a c.pass_sled-self-inside.new.machine c.add.new.self c.pass_sled-self-inside.result)) passed
     (loads ++ load_of t.want c.args.value)) c.self.view_is
     (λ allows. clause_ends a c.self.invariant c.in-Loading.place c.in-Loading.sled c.in-Loading.stage c.args.value c.in-Loading.is c.in-Ends.mark (sym c.in-Ends.ensures) allows
-    c.pass_sled-self-inside.new.machine c.add.new.self c.pass_sled-self-inside.result at ending) c.requires
+    c.pass_sled-self-inside.new.machine c.add.new.self c.pass_sled-self-inside.result (here c) (ending c)) c.requires
 
 pub returns-in-Ends-clause-marks : goal.returns-in-Ends-clause-marks
 returns-in-Ends-clause-marks c =
     let a = c.self.inside in
-    let at = loading_at a c.self.invariant c.in-Loading.place c.in-Loading.sled c.in-Loading.stage c.in-Loading.is in
-    let ending = ending_of a c.in-Loading.place c.in-Loading.sled at c.pass_sled-self-inside.new.machine c.add.new.self c.pass_sled-self-inside.result c.in-Ends.mark
-    c.pass_sled-self-inside.ensures.within c.add.ensures.items c.add.ensures.room c.pass_sled-self-inside.ensures.passes in
     subst (λ (t : Traced). MarksAdded t.marks c.add.new.self.items
     (want_at a.steps.now a.thread c.pass_sled-self-inside.new.machine.passings c.pass_sled-self-inside.result)) c.self.view_is
     (marks_added a.steps.now a.thread c.pass_sled-self-inside.new.machine.passings a.marks.items c.add.new.self.items c.in-Ends.mark
-    c.add.ensures.items c.pass_sled-self-inside.result
-    (between_of a c.in-Loading.place c.in-Loading.sled at c.pass_sled-self-inside.new.machine c.add.new.self c.pass_sled-self-inside.result c.in-Ends.mark ending))
+    c.add.ensures.items c.pass_sled-self-inside.result (between c))
 
 pub returns-in-Ends-clause-some : goal.returns-in-Ends-clause-some
 returns-in-Ends-clause-some c =
-    let a = c.self.inside in
-    let at = loading_at a c.self.invariant c.in-Loading.place c.in-Loading.sled c.in-Loading.stage c.in-Loading.is in
-    let before = before_of a c.self.invariant c.in-Loading.place c.in-Loading.sled at in
-    let found : slice_get c.image.result.now.sleds c.in-Loading.sled ≡ Some before.sled =
-    subst (λ (program : Program). slice_get program.sleds c.in-Loading.sled ≡ Some before.sled) (sym c.image.ensures.program) before.found in
     subst (λ (t : Traced). IsSome c.event_at-event.result ↔ (t.want ≡ wants.Load (state_word t.program)) × (c.args.value ≡ 2)) c.self.view_is
-    (some_at_end a c.self.invariant c.in-Loading.place c.in-Loading.sled c.in-Loading.stage c.args.value c.in-Ends.mark _ c.event_at-event.result c.in-Loading.is
-    (sym c.in-Ends.ensures) (c.event_at-event.ensures 0 0 before.sled found))
+    (some_at_end c.self.inside c.self.invariant c.in-Loading.place c.in-Loading.sled c.in-Loading.stage c.args.value c.in-Ends.mark _ c.event_at-event.result c.in-Loading.is
+    (sym c.in-Ends.ensures) (c.event_at-event.ensures 0 0 (sled_here c) (found c)))
 
 pub returns-in-Ends-clause-event : goal.returns-in-Ends-clause-event
 returns-in-Ends-clause-event c =
-    let a = c.self.inside in
-    let at = loading_at a c.self.invariant c.in-Loading.place c.in-Loading.sled c.in-Loading.stage c.in-Loading.is in
-    let before = before_of a c.self.invariant c.in-Loading.place c.in-Loading.sled at in
-    let found : slice_get c.image.result.now.sleds c.in-Loading.sled ≡ Some before.sled =
-    subst (λ (program : Program). slice_get program.sleds c.in-Loading.sled ≡ Some before.sled) (sym c.image.ensures.program) before.found in
     subst (λ (t : Traced). (passed : List Passing) (end : End) (last : State) → PlainRun t.program t.limits t.thread passed end last
     → recorded passed c.add.new.self.items ≡ recorded passed t.marks ++ events_in c.event_at-event.result) c.self.view_is
-    (clause_events a c.self.invariant c.in-Loading.place c.in-Loading.sled at c.add.new.self.items c.in-Ends.mark c.event_at-event.result before.sled
-    c.add.ensures.items before.found (λ address j. c.event_at-event.ensures address j before.sled found))
+    (clause_events c.self.inside c.self.invariant c.in-Loading.place c.in-Loading.sled (here c) c.add.new.self.items c.in-Ends.mark c.event_at-event.result (sled_here c)
+    c.add.ensures.items (found_here c) (λ address j. c.event_at-event.ensures address j (sled_here c) (found c)))
 
 pub returns-in-Ends-clause-kept : goal.returns-in-Ends-clause-kept
 returns-in-Ends-clause-kept c =
@@ -131,11 +137,7 @@ returns-in-Ends-clause-kept c =
 pub returns-in-Ends-clause-nearer : goal.returns-in-Ends-clause-nearer
 returns-in-Ends-clause-nearer c =
     let a = c.self.inside in
-    let at = loading_at a c.self.invariant c.in-Loading.place c.in-Loading.sled c.in-Loading.stage c.in-Loading.is in
-    let ending = ending_of a c.in-Loading.place c.in-Loading.sled at c.pass_sled-self-inside.new.machine c.add.new.self c.pass_sled-self-inside.result c.in-Ends.mark
-    c.pass_sled-self-inside.ensures.within c.add.ensures.items c.add.ensures.room c.pass_sled-self-inside.ensures.passes in
     subst (λ (t : Traced). (IsKept t c.args.value → ⊥)
     → loads_left (traced (passed_on a c.pass_sled-self-inside.new.machine c.add.new.self c.pass_sled-self-inside.result)) < loads_left t) c.self.view_is
     (λ free. nearer_end a c.self.invariant c.in-Loading.place c.in-Loading.sled c.in-Loading.stage c.in-Loading.is c.pass_sled-self-inside.new.machine c.add.new.self
-    c.pass_sled-self-inside.result c.in-Ends.mark c.add.ensures.items
-    (between_of a c.in-Loading.place c.in-Loading.sled at c.pass_sled-self-inside.new.machine c.add.new.self c.pass_sled-self-inside.result c.in-Ends.mark ending))
+    c.pass_sled-self-inside.result c.in-Ends.mark c.add.ensures.items (between c))

@@ -22,14 +22,16 @@ made c = record {
 begun : (c : goal.After-run_to_sled-stand) → Begun (made c)
 begun c =
     record {
-      bytes = c.start.ensures.accepted.0;
-      accepted = c.start.ensures.accepted.1;
+      setup = record {
+        bytes = c.start.ensures.accepted.0;
+        accepted = c.start.ensures.accepted.1;
+        cpus = omega (arith, c.requires.stamps.0);
+        migrate = omega (arith, c.requires.stamps.1);
+        some_thread = omega (arith, c.requires.thread.0);
+        no_more = c.requires.thread.1;
+        few = c.requires.threads;
+      };
       within = c.run_to_sled-stand.ensures.within;
-      cpus = omega (arith, c.requires.stamps.0);
-      migrate = omega (arith, c.requires.stamps.1);
-      some_thread = omega (arith, c.requires.thread.0);
-      no_more = c.requires.thread.1;
-      few = c.requires.threads;
       room = ap (λ (ms : MarkList). ms.room) c.in_ok-marks.ensures;
       unmarked = ap (λ (ms : MarkList). ms.items) c.in_ok-marks.ensures;
       runs = subst (λ (m : Machine). RunsBy c.args.steps.now c.args.limits c.args.thread c.args.steps.now.entry m []

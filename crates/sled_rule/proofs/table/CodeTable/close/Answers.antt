@@ -1,12 +1,8 @@
-use Rattle.std.proofs.Common.{◌≡◌, ℕ, ◌+◌, ◌-◌, ◌*◌, ◌<◌, ◌≤◌, List, get_or, sym, ap, ◌∙◌, subst, arith}
-use Rattle.std.specs.Slots.{slots_items}
-use Rattle.sled_words.specs.Words.{progress_word}
+use Rattle.std.proofs.Common.{◌≡◌, ℕ, ◌<◌, ◌≤◌, List, get_or, sym, ap, ◌∙◌, subst, arith}
 use Rattle.patch_script.specs.Plans.{Plan}
 use Rattle.sled_rule.specs.Plans.{code_in, code_words}
-use Rattle.sled_rule.specs.Rule.{progress_slot}
 use Rattle.sled_rule.specs.Seats.{patch_view}
-use Rattle.sled_rule.specs.Views.{ended_count}
-use Rattle.sled_rule.proofs.Ending.{read_at, last_code, last_given, last_idle, last_progress}
+use Rattle.sled_rule.proofs.Ending.{read_at, progress_read, last_code, last_given, last_idle, last_progress}
 use Rattle.sled_rule.proofs.table.CodeTable.close.Goals as goal
 
 pub copy_words-requires-clause-few : goal.copy_words-requires-clause-few
@@ -33,27 +29,15 @@ pub returns-clause-ended : goal.returns-clause-ended
 unfolding code_words
 returns-clause-ended c thread first given =
     let table = c.args.self in let seat = c.args.seat in let p = patch_view seat in let counted = table.counted in let room = c.requires.room in
-    let f = c.close_with-closed.ensures.values.2 in
-    let key = table.table.shared.key in
+    let f = c.close_with-closed.ensures.values.2 in let key = table.table.shared.key in
     let few : p.given ≤ table.script.threads = subst (λ (z : Plan). p.given ≤ z.threads) table.key (last_given key f.0 f.1.0 _ _ p f.1.1 seat.is.0) in
-    let slot : progress_slot key thread ≡ table.code_len + 8 * thread = ap (λ (z : Plan). progress_slot z thread) table.key ∙ (omega arith) in
-    let read : get_or f.0.words (progress_slot key thread) 0 ≡ get_or c.copy_words.new.into (table.code_len + thread - 1) 0 =
-    ap (λ (l : List ℕ). get_or l (progress_slot key thread) 0) f.2
-    ∙ (ap (λ (i : ℕ). get_or (slots_items c.close_with-closed.result.words) i 0) slot ∙ read_at _ (table.code_len + 8 * thread) _ (c.copy_words.ensures.progress thread first (omega arith))) in
-    let ended = last_progress key f.0 f.1.0 _ _ p f.1.1 seat.is.0 thread (c.requires.met thread first given) in
-    let number : table.code_len + thread - 1 ≡ progress_word table.script.program table.script.threads thread = omega arith in
-    subst (λ (i : ℕ). get_or c.copy_words.new.into i 0 ≡ ended_count) number (sym read ∙ ended)
+    progress_read key table.script table.code_len thread f.0.words _ c.copy_words.new.into table.key counted f.2 first (c.copy_words.ensures.progress thread first (omega arith))
+    ∙ last_progress key f.0 f.1.0 _ _ p f.1.1 seat.is.0 thread (c.requires.met thread first given)
 
 pub returns-clause-idle : goal.returns-clause-idle
 unfolding code_words
 returns-clause-idle c thread above within =
     let table = c.args.self in let seat = c.args.seat in let p = patch_view seat in let counted = table.counted in let room = c.requires.room in
-    let f = c.close_with-closed.ensures.values.2 in
-    let key = table.table.shared.key in
-    let slot : progress_slot key thread ≡ table.code_len + 8 * thread = ap (λ (z : Plan). progress_slot z thread) table.key ∙ (omega arith) in
-    let read : get_or f.0.words (progress_slot key thread) 0 ≡ get_or c.copy_words.new.into (table.code_len + thread - 1) 0 =
-    ap (λ (l : List ℕ). get_or l (progress_slot key thread) 0) f.2
-    ∙ (ap (λ (i : ℕ). get_or (slots_items c.close_with-closed.result.words) i 0) slot ∙ read_at _ (table.code_len + 8 * thread) _ (c.copy_words.ensures.progress thread (omega arith) (omega arith))) in
-    let idle = last_idle key f.0 f.1.0 _ _ p f.1.1 seat.is.0 thread above (subst (λ (z : Plan). thread ≤ z.threads) (sym table.key) within) in
-    let number : table.code_len + thread - 1 ≡ progress_word table.script.program table.script.threads thread = omega arith in
-    subst (λ (i : ℕ). get_or c.copy_words.new.into i 0 ≡ 0) number (sym read ∙ idle)
+    let f = c.close_with-closed.ensures.values.2 in let key = table.table.shared.key in let first : 0 < thread = omega arith in
+    progress_read key table.script table.code_len thread f.0.words _ c.copy_words.new.into table.key counted f.2 first (c.copy_words.ensures.progress thread first (omega arith))
+    ∙ last_idle key f.0 f.1.0 _ _ p f.1.1 seat.is.0 thread above (subst (λ (z : Plan). thread ≤ z.threads) (sym table.key) within)

@@ -2,9 +2,8 @@ use Rattle.std.proofs.Common.{◌≡◌, ◌<◌, append-nil, ap, subst, true, f
 use Rattle.std.proofs.lemmas.Bool.{false≢true}
 use Rattle.machine_step.specs.declared.want.Want.TheVariants.{Load as Loads}
 use Rattle.machine_step.specs.Traced.{Traced, loads_left}
-use Rattle.sled_rule.specs.Seats.{work_view}
-use Rattle.thread_run.specs.Workers.{cpu_of, seat_of}
-use Rattle.thread_run.proofs.Turns.{behind_after, held_again, made_none, made_one, made_then, moved_on, worker_again, worker_then}
+use Rattle.thread_run.specs.Workers.{cpu_of}
+use Rattle.thread_run.proofs.Turns.{behind_taken, held_again, made_none, made_one, made_then, moved_on, worker_again, worker_then}
 use Rattle.thread_run.proofs.worker.Worker.run.Goals as goal
 
 pub loads-init : goal.loads-init
@@ -33,9 +32,7 @@ loads-preserved-in-Gate g c =
     }
 
 pub note-want-requires-clause-behind : goal.note-want-requires-clause-behind
-note-want-requires-clause-behind g c =
-    let taken = c.in-Some.ensures.taken in
-    behind_after c.loads.self.cpu.marks c.take.new.self.cpu.marks (work_view (seat_of c.take.new.self)).count c.take.new.self.cpu.want taken.marks taken.count
+note-want-requires-clause-behind g c = behind_taken c.in-Load.word c.loads.self c.take.new.self c.in-Some.ensures.taken
 
 pub go_on-want-requires-clause-at : goal.go_on-want-requires-clause-at
 go_on-want-requires-clause-at g c =
@@ -43,9 +40,7 @@ go_on-want-requires-clause-at g c =
     c.in-None.ensures.lacks.once mid.recorder (λ events stands. subst (g.R.Recorder.stands mid.recorder) (sym (append-nil events)) stands)
 
 pub go_on-want-requires-clause-behind : goal.go_on-want-requires-clause-behind
-go_on-want-requires-clause-behind g c =
-    let taken = c.in-None.ensures.taken in
-    behind_after c.loads.self.cpu.marks c.take.new.self.cpu.marks (work_view (seat_of c.take.new.self)).count c.take.new.self.cpu.want taken.marks taken.count
+go_on-want-requires-clause-behind g c = behind_taken c.in-Load.word c.loads.self c.take.new.self c.in-None.ensures.taken
 
 pub returns-in-Done-clause-same : goal.returns-in-Done-clause-same
 returns-in-Done-clause-same g c =

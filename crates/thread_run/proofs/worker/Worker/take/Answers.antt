@@ -92,14 +92,8 @@ returns-clause-lacks g c =
 
 pub returns-clause-taken : goal.returns-clause-taken
 returns-clause-taken g c =
-    let worker = c.args.self.now in
-    let plan = script_of worker.table.now in
-    let t = worker.cpu in
-    let v = work_view worker.seat in
-    let at = c.requires.going.at in
-    let has = at.along.all.loaded in
-    let gave = c.give-event.ensures in
-    let fetched = c.fetch-value.ensures.fetched in
+    let t = c.args.self.now.cpu in let v = work_view c.args.self.now.seat in let plan = script_of c.args.self.now.table.now in
+    let at = c.requires.going.at in let gave = c.give-event.ensures in let fetched = c.fetch-value.ensures.fetched in
     let load = the_load v c.args.word c.fetch-value.result fetched.place in
     record {
       count = ap (λ (x : WorkView). x.count) fetched.view ∙ c.requires.going.count;
@@ -107,6 +101,6 @@ returns-clause-taken g c =
       load = load;
       word_is = refl;
       loads = ap (λ (x : WorkView). x.loads) fetched.view;
-      held = λ held. gave.kept (is_kept plan t at.passed (given v.loads) load at.thread has c.requires.wants held);
+      held = λ held. gave.kept (is_kept plan t at.passed (given v.loads) load at.thread at.along.all.loaded c.requires.wants held);
       goes_on = λ on. gave.nearer (not_kept t load c.requires.wants on);
     }

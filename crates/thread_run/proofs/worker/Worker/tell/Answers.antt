@@ -1,35 +1,17 @@
-use Rattle.std.proofs.Common.{ap, refl, subst, ◌≤◌, ◌∙◌, ◌+◌, sym}
-use Rattle.patch_script.specs.Micros.{total_of}
-use Rattle.patch_script.specs.Refusals.{commands_of}
+use Rattle.std.proofs.Common.{ap, ◌+◌, ◌∙◌}
 use Rattle.sled_rule.specs.declared.views.WorkView.{WorkView}
-use Rattle.sled_rule.specs.Seats.{work_view, script_of}
-use Rattle.thread_run.proofs.Loading.{along_counting}
-use Rattle.thread_run.proofs.Turns.{same_again}
+use Rattle.sled_rule.specs.Seats.{work_view}
+use Rattle.thread_run.proofs.Loading.{at_work_counted}
+use Rattle.thread_run.proofs.Turns.{seat_changed}
 use Rattle.thread_run.proofs.worker.Worker.tell.Goals as goal
 
 pub returns-clause-same : goal.returns-clause-same
-returns-clause-same g c = record {
-  table = refl;
-  thread = same_again c.args.self.now.cpu;
-  recorder = g.met.R.Recorder.follows_itself _;
-}
+returns-clause-same g c = seat_changed g.R.Recorder.follows g.met.R.Recorder.follows_itself c.args.self.now c.passed.new.seat
 
 pub returns-clause-going : goal.returns-clause-going
 returns-clause-going g c =
     let worker = c.args.self.now in
-    let plan = script_of worker.table.now in
-    let v = work_view worker.seat in
-    let at = c.requires.at in
-    let view = c.passed.ensures.view in
     record {
-      at = record {
-        own = c.passed.ensures.own;
-        thread = at.thread;
-        seat = ap (λ (x : WorkView). x.thread) view ∙ at.seat;
-        within = subst (λ (x : WorkView). x.seen ≤ total_of plan.program (commands_of plan.lines)) (sym view) at.within;
-        passed = at.passed;
-        along = along_counting plan worker.cpu v _ at.passed (v.count + 1) view at.along;
-        recorded_are = at.recorded_are;
-      };
-      count = ap (λ (x : WorkView). x.count) view ∙ c.requires.one;
+      at = at_work_counted g.R.Recorder.stands worker c.passed.new.seat ((work_view worker.seat).count + 1) c.requires.at c.passed.ensures.own c.passed.ensures.view;
+      count = ap (λ (x : WorkView). x.count) c.passed.ensures.view ∙ c.requires.one;
     }
