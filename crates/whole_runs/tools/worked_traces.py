@@ -197,7 +197,8 @@ REPLAYS = [
     ),
     replayed(
         "a counter that is further on gets a TSCWrap",
-        file=EMPTY_FUNCTION, options="--tick 4294967296",
+        file=EMPTY_FUNCTION,
+        options="--tick 4294967296",
         leaves={"t": header() + block("05", "10 00 00 00 00 00 00 00", "07 00 00 00 00 01 00 00 00", "12 00 00 00 00 00 00 00")},
         sizes={"t": 144},
     ),
@@ -281,7 +282,8 @@ REPLAYS = [
     ),
     replayed(
         "four threads of a recursive function with too few buffers",
-        file=FIBONACCI, options="--threads 4 --buffer-max 64",
+        file=FIBONACCI,
+        options="--threads 4 --buffer-max 64",
         has=("recycled 24",),
         sizes={"t": 1_014_496},
     ),
