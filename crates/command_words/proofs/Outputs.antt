@@ -42,27 +42,28 @@ apart names one other once same =
     let not_once = ne_eqb (count_by (bytes_eq one) (names ++ one ∷ other ∷ [])) 1 (λ is. omega (arith, counted, is)) in
     true≢false (sym once ∙ not_once)
 
--- the two outputs of `sim`, by the places of a line's names
-pub differ_at : (names : List (Bor (List ℕ))) (none : Bor (List ℕ)) → 5 ≤ length names → length names < 6
-    → outputs_differ sim_row.files (map (λ name. name.now) names) ≡ true
-    → (slice_index_or names 3 none).now ≢ (slice_index_or names 4 none).now
-differ_at [] none least most differ = absurd (omega (arith, least))
-differ_at (i ∷ []) none least most differ = absurd (omega (arith, least))
-differ_at (i ∷ s ∷ []) none least most differ = absurd (omega (arith, least))
-differ_at (i ∷ s ∷ c ∷ []) none least most differ = absurd (omega (arith, least))
-differ_at (i ∷ s ∷ c ∷ t ∷ []) none least most differ = absurd (omega (arith, least))
-differ_at (i ∷ s ∷ c ∷ t ∷ a ∷ []) none least most differ =
-    apart (i.now ∷ s.now ∷ c.now ∷ []) t.now a.now (and_parts _ _ differ).0
-differ_at (i ∷ s ∷ c ∷ t ∷ a ∷ b ∷ names) none least most differ = absurd (omega (arith, most))
+-- four names
+four : {X : Type 0} (names : List X) → 4 ≤ length names → length names < 5 → (a b c d : X) × (names ≡ a ∷ b ∷ c ∷ d ∷ [])
+four [] least most = absurd (omega (arith, least))
+four (a ∷ []) least most = absurd (omega (arith, least))
+four (a ∷ b ∷ []) least most = absurd (omega (arith, least))
+four (a ∷ b ∷ c ∷ []) least most = absurd (omega (arith, least))
+four (a ∷ b ∷ c ∷ d ∷ []) least most = (a, b, c, d, refl)
+four (a ∷ b ∷ c ∷ d ∷ e ∷ names) least most = absurd (omega (arith, most))
 
--- and those of `run`
+-- the two outputs of `run`, by the places of a line's names
 pub run_differ : (names : List (Bor (List ℕ))) (none : Bor (List ℕ)) → 4 ≤ length names → length names < 5
     → outputs_differ run_row.files (map (λ name. name.now) names) ≡ true
     → (slice_index_or names 2 none).now ≢ (slice_index_or names 3 none).now
-run_differ [] none least most differ = absurd (omega (arith, least))
-run_differ (i ∷ []) none least most differ = absurd (omega (arith, least))
-run_differ (i ∷ s ∷ []) none least most differ = absurd (omega (arith, least))
-run_differ (i ∷ s ∷ t ∷ []) none least most differ = absurd (omega (arith, least))
-run_differ (i ∷ s ∷ t ∷ a ∷ []) none least most differ =
-    apart (i.now ∷ s.now ∷ []) t.now a.now (and_parts _ _ differ).0
-run_differ (i ∷ s ∷ t ∷ a ∷ b ∷ names) none least most differ = absurd (omega (arith, most))
+run_differ names none least most differ =
+    let all = four names least most in
+    rw all.4 (apart (all.0.now ∷ all.1.now ∷ []) all.2.now all.3.now (and_parts _ _ (rw all.4 at differ)).0)
+
+-- and those of `sim`, whose files are those of `run` after another
+pub sim_differ : (names : List (Bor (List ℕ))) (none : Bor (List ℕ)) → 5 ≤ length names → length names < 6
+    → outputs_differ sim_row.files (map (λ name. name.now) names) ≡ true
+    → (slice_index_or names 3 none).now ≢ (slice_index_or names 4 none).now
+sim_differ [] none least most differ = absurd (omega (arith, least))
+sim_differ (first ∷ names) none least most differ =
+    let all = four names (omega (arith, least)) (omega (arith, most)) in
+    rw all.4 (apart (first.now ∷ all.0.now ∷ all.1.now ∷ []) all.2.now all.3.now (and_parts _ _ (rw all.4 at differ)).0)

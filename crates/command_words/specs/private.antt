@@ -2,3 +2,4 @@
 pub mod Allowed
 pub mod Clapped
 pub mod CodeViews
+pub mod Verbs

@@ -8,7 +8,7 @@
 //! (`run_options`, `words`).
 //!
 //! The meaning of words is one definition: `reading` of `specs/Words.antt`. `read_words` answers
-//! exactly that. For another command, add a row to the tables and a case to `Command`.
+//! exactly that. For another command, add a row to the tables and a case to `Command` and `Verb`.
 #![tactic(auto)]
 
 mod cutting;

@@ -89,13 +89,10 @@ pub(crate) fn bounds_in(line: &Line<'_>) -> Option<Bounds>
     ensures reads { result ≡ bounds_in (line_view line.now) }
     ensures ranges { IfSome result AreBounds }
 {
-    let threads = THREADS.number_in(line)?;
-    let fuel = FUEL.number_in(line)?;
-    let passings = PASSINGS.number_in(line)?;
     Some(Bounds {
-        threads: threads as u32,
-        fuel,
-        passings: passings as u32,
+        threads: THREADS.number_in(line)? as u32,
+        fuel: FUEL.number_in(line)?,
+        passings: PASSINGS.number_in(line)? as u32,
     })
 }
 
@@ -104,17 +101,12 @@ fn stamps_in(line: &Line<'_>) -> Option<Stamps>
     ensures reads { result ≡ stamps_in (line_view line.now) }
     ensures ranges { IfSome result AreStamps }
 {
-    let tick = TICK.number_in(line)?;
-    let tsc = TSC.number_in(line)?;
-    let frequency = FREQUENCY.number_in(line)?;
-    let cpus = CPUS.number_in(line)?;
-    let migrate = MIGRATE.number_in(line)?;
     Some(Stamps {
-        tick,
-        tsc,
-        frequency,
-        cpus: cpus as u16,
-        migrate: migrate as u32,
+        tick: TICK.number_in(line)?,
+        tsc: TSC.number_in(line)?,
+        frequency: FREQUENCY.number_in(line)?,
+        cpus: CPUS.number_in(line)? as u16,
+        migrate: MIGRATE.number_in(line)? as u32,
     })
 }
 
@@ -123,11 +115,9 @@ fn buffers_in(line: &Line<'_>) -> Option<Buffers>
     ensures reads { result ≡ buffers_in (line_view line.now) }
     ensures ranges { IfSome result AreBuffers }
 {
-    let size = BUFFER_SIZE.number_in(line)?;
-    let max = BUFFER_MAX.number_in(line)?;
     Some(Buffers {
-        size: size as u32,
-        max: max as u32,
+        size: BUFFER_SIZE.number_in(line)? as u32,
+        max: BUFFER_MAX.number_in(line)? as u32,
     })
 }
 

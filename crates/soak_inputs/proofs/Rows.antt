@@ -4,23 +4,11 @@ use Rattle.soak_inputs.specs.Draws.{next}
 use Rattle.soak_inputs.specs.Texts.{callee, round_count}
 
 -- the first draw of two seeds: the state, the number that is reduced, and the rounds of the first function
-first_of_zero : next 0 ≡ 1442695040888963407
-first_of_zero = refl
+drawn_from_zero : (next 0 ≡ 1442695040888963407) × (next 0 / 2 ^ 33 ≡ 167951807) × (round_count 0 ≡ 2)
+drawn_from_zero = (refl, refl, refl)
 
-number_of_zero : next 0 / 2 ^ 33 ≡ 167951807
-number_of_zero = refl
-
-rounds_of_zero : round_count 0 ≡ 2
-rounds_of_zero = refl
-
-first_of_one : next 1 ≡ 7806831264735756412
-first_of_one = refl
-
-number_of_one : next 1 / 2 ^ 33 ≡ 908834774
-number_of_one = refl
-
-rounds_of_one : round_count 1 ≡ 1
-rounds_of_one = refl
+drawn_from_one : (next 1 ≡ 7806831264735756412) × (next 1 / 2 ^ 33 ≡ 908834774) × (round_count 1 ≡ 1)
+drawn_from_one = (refl, refl, refl)
 
 -- the last function calls none, and the one before it calls the last
 last_calls_none : callee 63 0 ≡ None

@@ -1,19 +1,28 @@
 -- The lines of the audit, as they are put together.
-use Rattle.std.proofs.Common.{◌≡◌, ◌<◌, ◌+◌, ℕ, zero, suc, List, [], ◌∷◌, ◌++◌, length, map, take, drop, get_or, refl, sym, ap, ◌∙◌, arith, append_assoc, add-one}
+use Rattle.std.proofs.Common.{◌≡◌, ◌<◌, ◌+◌, ℕ, zero, suc, Bor, Option, Some, List, [], ◌∷◌, ◌++◌, length, map, take, drop, get_or, refl, sym, ap, ◌∙◌, arith, append_assoc, add-one}
 use Rattle.std.specs.Prelude.{codes, decimal, min}
 use Rattle.std.specs.List.{flat_map}
+use Rattle.std.specs.Iterator.{Yields}
+use Rattle.std.specs.Iterator.Adapters.{zip_first, zip_second}
+use Rattle.std.specs.Slice.Iter.{iter_rest}
+use Rattle.std.specs.declared.iter.Zip.{Zip}
+use Rattle.std.specs.declared.slice.Iter.{Iter}
+use Rattle.std.proofs.lemmas.Fn.{fronts}
+use Rattle.std.proofs.lemmas.Iterator.{zips}
 use Rattle.std.proofs.lemmas.List.{append-nil, take-append-drop, take_all, length-map}
 use Rattle.std.proofs.lemmas.Grind.{flat_map-append}
-use Rattle.std.proofs.lemmas.Slice.Zip.{firsts-zip, length-zip}
+use Rattle.std.proofs.lemmas.Slice.Zip.{firsts-zip, length-zip, zip_turn}
 use Rattle.handler_word.specs.declared.mark.Mark.{Mark}
 use Rattle.handler_word.specs.MarkList.{recorded_count}
 use Rattle.machine_step.specs.declared.limits.Limits.{Limits}
 use Rattle.machine_step.specs.declared.setup.Setup.{Setup}
-use Rattle.machine_step.specs.Texts.{end_text, line_feed}
+use Rattle.machine_step.specs.Texts.{end_text, line_feed, marks_line}
 use Rattle.machine_step.specs.Traced.{Traced}
 use Rattle.trace_flush.specs.declared.line.AuditLine.{AuditLine}
-use Rattle.trace_flush.specs.Summary.{summary_line}
-use Rattle.trace_flush.specs.Audit.{Account, accounts, buffers_text, limits_text, stamps_text, thread_line}
+use Rattle.trace_flush.specs.Audit.{Account, accounts, buffers_text, limits_text, stamps_text}
+use Rattle.trace_flush.specs.declared.audit.Detail.{Detail}
+use Rattle.trace_flush.specs.declared.audit.Detail.TheVariants.{Audit, Summary}
+use Rattle.trace_flush.specs.private.Parts.{rest_of, said_of, start_text}
 
 -- the pieces of a part are its text
 
@@ -38,22 +47,24 @@ pub stamps_pieces : (setup : Setup) (pid secs micros frequency : ℕ) → pid �
 stamps_pieces setup pid secs micros frequency same_pid same_secs same_micros same_frequency =
     rw (same_pid, same_secs, same_micros, same_frequency) (simp append_assoc)
 
-pub line_pieces : (line : AuditLine) (marks : List Mark) (thread : ℕ) (name : List ℕ) (passings recorded segments first : ℕ)
+pub start_pieces : (line : AuditLine) (marks : List Mark) (thread : ℕ) (name : List ℕ) (passings recorded : ℕ)
     → thread ≡ line.thread → name ≡ end_text line.end → passings ≡ length marks → recorded ≡ recorded_count marks
-    → segments ≡ line.segments → first ≡ line.first
-    → codes "thread " ++ (decimal thread ++ (codes " " ++ (name ++ (codes " passings " ++ (decimal passings ++ (codes " recorded " ++ (decimal recorded
-    ++ (codes " segments " ++ (decimal segments ++ (codes " first " ++ (decimal first ++ (line_feed ++ []))))))))))))
-    ≡ thread_line (line, marks)
-line_pieces line marks thread name passings recorded segments first same_thread same_name same_passings same_recorded same_segments same_first =
-    rw (same_thread, same_name, same_passings, same_recorded, same_segments, same_first) (simp append_assoc)
+    → codes "thread " ++ (decimal thread ++ (codes " " ++ (name ++ (codes " passings " ++ (decimal passings ++ (codes " recorded " ++ (decimal recorded ++ [])))))))
+    ≡ start_text (line, marks)
+start_pieces line marks thread name passings recorded same_thread same_name same_passings same_recorded =
+    rw (same_thread, same_name, same_passings, same_recorded) (simp (append_assoc, append-nil))
 
-pub summary_pieces : (line : AuditLine) (marks : List Mark) (thread : ℕ) (name : List ℕ) (passings recorded first : ℕ)
-    → thread ≡ line.thread → name ≡ end_text line.end → passings ≡ length marks → recorded ≡ recorded_count marks → first ≡ line.first
-    → codes "thread " ++ (decimal thread ++ (codes " " ++ (name ++ (codes " passings " ++ (decimal passings ++ (codes " recorded " ++ (decimal recorded
-    ++ (codes " first " ++ (decimal first ++ (line_feed ++ []))))))))))
-    ≡ summary_line (line, marks)
-summary_pieces line marks thread name passings recorded first same_thread same_name same_passings same_recorded same_first =
-    rw (same_thread, same_name, same_passings, same_recorded, same_first) (simp append_assoc)
+-- texts that are put together in another order
+joined : (start a b c d e rest : List ℕ) → start ++ (a ++ b ++ (c ++ d ++ e) ++ rest) ≡ start ++ a ++ b ++ c ++ d ++ e ++ rest
+joined start a b c d e rest = simp append_assoc
+
+-- what is said of a thread begins with its start
+pub said_in_parts : (detail : Detail) (account : Account) → start_text account ++ rest_of detail account ≡ said_of detail account
+said_in_parts Audit (line, marks) =
+    joined (start_text (line, marks)) (codes " segments ") (decimal line.segments) (codes " first ") (decimal line.first) line_feed (marks_line marks)
+said_in_parts Summary (line, marks) =
+    sym (append_assoc (start_text (line, marks)) (codes " first " ++ decimal line.first) line_feed)
+    ∙ ap (λ (t : List ℕ). t ++ line_feed) (sym (append_assoc (start_text (line, marks)) (codes " first ") (decimal line.first)))
 
 -- the lines of accounts are those that they were made from
 pub lines_of_accounts : (lines : List AuditLine) (threads : List Traced) → length lines ≡ length threads
@@ -74,6 +85,16 @@ accounts_more f (first ∷ lines) (head ∷ threads) (suc i) line thread within 
     let rest = accounts_more f lines threads i line thread (omega arith) (omega arith) is_line is_thread in
     rw add-one (append_assoc (f (first, head.marks)) (flat_map f (take i (accounts lines threads))) (f (line, thread.marks))
     ∙ ap (λ text. f (first, head.marks) ++ text) (rest ∙ rw add-one refl))
+
+-- so in a loop over lines and threads side by side, which has yielded xs and yields a pair
+pub accounts_turn : (f : Account → List ℕ) (lines : List AuditLine) (threads : List Traced) (begun now next : Zip (Iter AuditLine) (Iter Traced))
+    (xs : List (Bor AuditLine × Bor Traced)) (given : Option (Bor AuditLine × Bor Traced)) (line : Bor AuditLine) (thread : Bor Traced)
+    → iter_rest (zip_first begun) ≡ lines → iter_rest (zip_second begun) ≡ threads → Yields (zips fronts fronts) begun xs now
+    → given ≡ Some (line, thread) → zips fronts fronts now given next
+    → flat_map f (take (length xs) (accounts lines threads)) ++ f (line.now, thread.now.marks) ≡ flat_map f (take (length xs + 1) (accounts lines threads))
+accounts_turn f lines threads begun now next xs given line thread first second yielded is steps =
+    let turn = zip_turn lines threads xs begun now next given first second yielded (line, thread) is steps in
+    accounts_more f lines threads (length xs) line.now thread.now turn.0 turn.1 turn.2 turn.3
 
 -- the accounts before this one, and the rest
 pub accounts_split : (f : Account → List ℕ) (told : List Account) (i : ℕ) → flat_map f (take i told) ++ flat_map f (drop i told) ≡ flat_map f told

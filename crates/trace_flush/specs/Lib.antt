@@ -4,3 +4,4 @@ pub mod Flush
 pub mod Lines
 pub mod Summary
 pub mod Telling
+pub mod private

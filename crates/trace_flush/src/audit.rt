@@ -1,9 +1,11 @@
 //! The text of the audit.
 
-ghost use Rattle.std.specs.Prelude.{◌≡◌, ◌<◌, ◌*◌, ◌^◌, length, All, sum_by};
+ghost use Rattle.std.specs.Prelude.{◌≡◌, ◌++◌, ◌<◌, ◌*◌, ◌^◌, length, All, sum_by};
 ghost use Rattle.std.specs.List.{flat_map};
+ghost use Rattle.machine_step.specs.Texts.{marks_line};
 ghost use Rattle.machine_step.specs.Traced.{IsDone};
-ghost use Rattle.trace_flush.specs.Audit.{accounts, audit_text, buffers_text, limits_text, recycled_line, setup_lines, stamps_text, thread_line, thread_lines};
+ghost use Rattle.trace_flush.specs.Audit.{accounts, audit_text, buffers_text, limits_text, recycled_line, setup_lines, stamps_text};
+ghost use Rattle.trace_flush.specs.private.Parts.{first_text, rest_of, said_of, segments_text, start_text};
 ghost use Rattle.xray_io.specs.Text.{AddsText};
 ghost use Rattle.xray_io.specs.Writes.{WritesText};
 
@@ -45,7 +47,7 @@ fn add_audit<S: Sink>(
         (audit_text setup.now (accounts lines.now cpus.now)) result }
 {
     add_setup(text, setup)?;
-    add_threads(text, lines, cpus)?;
+    add_threads(text, Detail::Audit, lines, cpus)?;
     add_recycled(text, lines)
 }
 
@@ -111,39 +113,50 @@ fn add_stamps<S: Sink>(text: &mut Text<S>, setup: &Setup) -> Result<(), WriteFau
     ])
 }
 
-/// Adds two lines for each thread.
-fn add_threads<S: Sink>(
+/// How much is said of each thread.
+#[derive(Clone, Copy, Debug)]
+pub(crate) enum Detail {
+    /// The two lines of the audit.
+    Audit,
+    /// The line of the summary.
+    Summary,
+}
+
+/// Adds the lines of each thread.
+pub(crate) fn add_threads<S: Sink>(
     text: &mut Text<S>,
+    detail: Detail,
     lines: &[AuditLine],
     cpus: &[Cpu],
 ) -> Result<(), WriteFault>
     requires { length lines.now ≡ length cpus.now }
     ensures { AddsText S.written S.faults S.along text.old text.new
-        (flat_map thread_lines (accounts lines.now cpus.now)) result }
+        (flat_map (said_of detail) (accounts lines.now cpus.now)) result }
 {
     'threads: for (line, cpu) in lines.iter().zip(cpus.iter()) {
-        add_thread(text, line, cpu.marks())?;
+        add_thread(text, detail, line, cpu.marks())?;
     }
     Ok(())
 }
 
-/// Adds the two lines of a thread.
+/// Adds the lines of a thread.
 fn add_thread<S: Sink>(
     text: &mut Text<S>,
+    detail: Detail,
     line: &AuditLine,
     marks: &Marks,
 ) -> Result<(), WriteFault>
     ensures { AddsText S.written S.faults S.along text.old text.new
-        (thread_lines (line.now, marks.now.items)) result }
+        (said_of detail (line.now, marks.now.items)) result }
 {
-    add_line(text, line, marks)?;
-    add_marks(text, marks)
+    add_start(text, line, marks)?;
+    add_rest(text, detail, line, marks)
 }
 
-/// Adds the first line of a thread.
-fn add_line<S: Sink>(text: &mut Text<S>, line: &AuditLine, marks: &Marks) -> Result<(), WriteFault>
+/// Adds how a thread ended, its passings and those that recorded an event.
+fn add_start<S: Sink>(text: &mut Text<S>, line: &AuditLine, marks: &Marks) -> Result<(), WriteFault>
     ensures { AddsText S.written S.faults S.along text.old text.new
-        (thread_line (line.now, marks.now.items)) result }
+        (start_text (line.now, marks.now.items)) result }
 {
     text.pieces(&[
         Piece::Bytes(b"thread "),
@@ -154,8 +167,56 @@ fn add_line<S: Sink>(text: &mut Text<S>, line: &AuditLine, marks: &Marks) -> Res
         Piece::Number(u128::from(marks.len())),
         Piece::Bytes(b" recorded "),
         Piece::Number(u128::from(marks.recorded())),
+    ])
+}
+
+/// Adds what is said of a thread after its start.
+fn add_rest<S: Sink>(
+    text: &mut Text<S>,
+    detail: Detail,
+    line: &AuditLine,
+    marks: &Marks,
+) -> Result<(), WriteFault>
+    ensures { AddsText S.written S.faults S.along text.old text.new
+        (rest_of detail (line.now, marks.now.items)) result }
+{
+    match detail {
+        Detail::Audit => add_whole_rest(text, line, marks),
+        Detail::Summary => add_first(text, line),
+    }
+}
+
+/// Adds the segments of a thread and its marks.
+fn add_whole_rest<S: Sink>(
+    text: &mut Text<S>,
+    line: &AuditLine,
+    marks: &Marks,
+) -> Result<(), WriteFault>
+    ensures { AddsText S.written S.faults S.along text.old text.new
+        (segments_text line.now ++ marks_line marks.now.items) result }
+{
+    add_segments(text, line)?;
+    add_marks(text, marks)
+}
+
+/// Adds the segments of a thread and how many of them were recycled, which ends its line.
+fn add_segments<S: Sink>(text: &mut Text<S>, line: &AuditLine) -> Result<(), WriteFault>
+    ensures { AddsText S.written S.faults S.along text.old text.new (segments_text line.now) result }
+{
+    text.pieces(&[
         Piece::Bytes(b" segments "),
         Piece::Number(u128::from(line.segments)),
+        Piece::Bytes(b" first "),
+        Piece::Number(u128::from(line.first)),
+        Piece::Bytes(b"\n"),
+    ])
+}
+
+/// Adds how many segments of a thread were recycled, which ends its line.
+fn add_first<S: Sink>(text: &mut Text<S>, line: &AuditLine) -> Result<(), WriteFault>
+    ensures { AddsText S.written S.faults S.along text.old text.new (first_text line.now) result }
+{
+    text.pieces(&[
         Piece::Bytes(b" first "),
         Piece::Number(u128::from(line.first)),
         Piece::Bytes(b"\n"),

@@ -19,6 +19,7 @@ import sys
 sys.dont_write_bytecode = True  # the modules are in the repository, and their compiled forms aren't
 from random_images import ROOT, texts  # noqa: E402
 from soak_model import summary  # noqa: E402
+from worked_runs import finish  # noqa: E402
 
 
 def difference(program, seed):
@@ -44,10 +45,7 @@ def main():
     program = str(pathlib.Path(given.program).resolve())
     with concurrent.futures.ProcessPoolExecutor(given.jobs) as pool:
         found = [one for one in pool.map(difference, [program] * given.seeds, seeds) if one]
-    for one in found:
-        print(one)
-    print(f"{given.seeds} seeds from {given.first} on, {len(found)} differences")
-    sys.exit(1 if found else 0)
+    finish(found, f"{given.seeds} seeds from {given.first} on")
 
 
 if __name__ == "__main__":

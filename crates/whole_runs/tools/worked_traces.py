@@ -199,10 +199,7 @@ REPLAYS = [
         "a counter that is further on gets a TSCWrap",
         file=EMPTY_FUNCTION,
         options="--tick 4294967296",
-        leaves={
-            "t": header()
-            + block("05", "10 00 00 00 00 00 00 00", "07 00 00 00 00 01 00 00 00", "12 00 00 00 00 00 00 00"),
-        },
+        leaves={"t": header() + block("05", "10 00 00 00 00 00 00 00", "07 00 00 00 00 01 00 00 00", "12 00 00 00 00 00 00 00")},
         sizes={"t": 144},
     ),
     replayed(
@@ -254,10 +251,7 @@ REPLAYS = [
     replayed(
         "a thread that moves to another CPU says so",
         options="--cpus 2 --migrate 1",
-        leaves={
-            "t": header()
-            + block("05 01 00", "10 00 00 00 00 00 00 00", "05 00 00 02", "12 00 00 00 00 00 00 00"),
-        },
+        leaves={"t": header() + block("05 01 00", "10 00 00 00 00 00 00 00", "05 00 00 02", "12 00 00 00 00 00 00 00")},
         sizes={"t": 144},
     ),
     replayed(

@@ -13,7 +13,7 @@ import re
 import run_model
 import soak_model
 from image_model import Refused, image_of, sled_map_text
-from machine_model import Thread, plain_text
+from machine_model import WORD_64, Thread, plain_text
 from replay_model import NUMBER_LIMIT, WAITING, commands_of, replayed, runs_text, turns_of
 from report_model import account_text, stack_text, yaml_text
 from trace_model import AuditLine, Header, audit_text, file_bytes, trace_of
@@ -23,7 +23,7 @@ TEXT_LIMIT = 4_194_304
 SCRIPT_LIMIT = 1_048_576
 SCHEDULE_LIMIT = 16_777_216
 TRACE_LIMIT = 67_108_864
-LARGEST_64 = (1 << 64) - 1
+LARGEST_64 = WORD_64 - 1
 
 # ---- Words
 

@@ -2,55 +2,51 @@ use Rattle.std.proofs.Common.{◌≡◌, ◌+◌, ◌++◌, [], ◌∷◌, List,
 use Rattle.std.specs.List.{flat_map}
 use Rattle.std.specs.Slice.Iter.{iter_rest}
 use Rattle.std.specs.Iterator.Adapters.{zip_first, zip_second}
-use Rattle.std.proofs.lemmas.Slice.Zip.{zip_turn, zip_end}
+use Rattle.std.specs.declared.iter.Zip.{Zip}
+use Rattle.std.specs.declared.slice.Iter.{Iter}
+use Rattle.machine_step.specs.Traced.{Traced}
+use Rattle.trace_flush.specs.declared.line.AuditLine.{AuditLine}
+use Rattle.std.proofs.lemmas.Slice.Zip.{zip_end}
 use Rattle.xray_io.specs.Text.{AddsText, adds_nothing, adds_more, adds_within, adds_failed}
-use Rattle.trace_flush.specs.Audit.{accounts, thread_lines}
-use Rattle.trace_flush.proofs.AuditText.{accounts_more, accounts_split, accounts_all}
+use Rattle.trace_flush.specs.Audit.{accounts}
+use Rattle.trace_flush.specs.private.Parts.{said_of}
+use Rattle.trace_flush.proofs.AuditText.{accounts_turn, accounts_split, accounts_all}
 use Rattle.trace_flush.proofs.audit.add_threads.Goals as goal
+
+-- the loop begins with all lines and all threads
+begins : {lines : List AuditLine} {threads : List Traced} {first : Iter AuditLine} {second : Iter Traced} {pairs given : Zip (Iter AuditLine) (Iter Traced)}
+    → iter_rest first ≡ lines → iter_rest second ≡ threads → zip_first pairs ≡ first → zip_second pairs ≡ second → given ≡ pairs
+    → (iter_rest (zip_first given) ≡ lines) × (iter_rest (zip_second given) ≡ threads)
+begins all also_all is also_is gives = (rw (gives, is) all, rw (gives, also_is) also_all)
 
 pub threads-init : goal.threads-init
 threads-init g c = adds_nothing g.met.S.Sink.along_none c.args.text.now
 
 pub threads-preserved : goal.threads-preserved
 threads-preserved g c =
-    let lines = c.args.lines.now in
-    let cpus = c.args.cpus.now in
-    let first : iter_rest (zip_first c.into_iter-line-iterator.result) ≡ lines =
-    rw (c.into_iter-line-iterator.ensures.into_iter_gives, c.zip-line-items.ensures.first) c.iter.ensures.rest in
-    let second : iter_rest (zip_second c.into_iter-line-iterator.result) ≡ cpus =
-    rw (c.into_iter-line-iterator.ensures.into_iter_gives, c.zip-line-items.ensures.second) c.iter-2.ensures.rest in
-    let turn = zip_turn lines cpus c.threads.yielded c.into_iter-line-iterator.result c.threads.line-iterator c.next.new.self c.next.result first second c.threads.yielded_by _ c.in-Some.is c.next.ensures.steps in
-    let i = length c.threads.yielded in
-    let more = accounts_more thread_lines lines cpus i c.in-Some.line.now c.in-Some.cpu.now turn.0 turn.1 turn.2 turn.3 in
-    let next : i + 1 ≡ length (c.threads.yielded ++ (c.in-Some.line, c.in-Some.cpu) ∷ []) = sym (length-append c.threads.yielded _) in
+    let told = accounts c.args.lines.now c.args.cpus.now in
+    let begun = begins c.iter.ensures.rest c.iter-2.ensures.rest c.zip-line-items.ensures.first c.zip-line-items.ensures.second c.into_iter-line-iterator.ensures.into_iter_gives in
+    let more = accounts_turn (said_of c.args.detail) c.args.lines.now c.args.cpus.now c.into_iter-line-iterator.result c.threads.line-iterator c.next.new.self c.threads.yielded c.next.result _ _ begun.0 begun.1 c.threads.yielded_by c.in-Some.is c.next.ensures.steps in
+    let next : length c.threads.yielded + 1 ≡ length (c.threads.yielded ++ (c.in-Some.line, c.in-Some.cpu) ∷ []) = sym (length-append c.threads.yielded _) in
     let added = rw c.marks.ensures at c.in_ok-add_thread.ensures in
-    subst (λ t. AddsText g.S.Sink.written g.S.Sink.faults g.S.Sink.along c.args.text.now c.add_thread.new.text t (Ok tt)) (more ∙ ap (λ (n : ℕ). flat_map thread_lines (take n (accounts lines cpus))) next)
+    subst (λ t. AddsText g.S.Sink.written g.S.Sink.faults g.S.Sink.along c.args.text.now c.add_thread.new.text t (Ok tt))
+    (more ∙ ap (λ (n : ℕ). flat_map (said_of c.args.detail) (take n told)) next)
     (adds_more g.met.S.Sink.along_both c.threads.invariant added)
 
 pub returns-in_err-add_thread : goal.returns-in_err-add_thread
 returns-in_err-add_thread g c =
-    let lines = c.args.lines.now in
-    let cpus = c.args.cpus.now in
-    let first : iter_rest (zip_first c.into_iter-line-iterator.result) ≡ lines =
-    rw (c.into_iter-line-iterator.ensures.into_iter_gives, c.zip-line-items.ensures.first) c.iter.ensures.rest in
-    let second : iter_rest (zip_second c.into_iter-line-iterator.result) ≡ cpus =
-    rw (c.into_iter-line-iterator.ensures.into_iter_gives, c.zip-line-items.ensures.second) c.iter-2.ensures.rest in
-    let turn = zip_turn lines cpus c.threads.yielded c.into_iter-line-iterator.result c.threads.line-iterator c.next.new.self c.next.result first second c.threads.yielded_by _ c.in-Some.is c.next.ensures.steps in
-    let i = length c.threads.yielded in
-    let told = accounts lines cpus in
-    let rest = flat_map thread_lines (drop (i + 1) told) in
-    let more = accounts_more thread_lines lines cpus i c.in-Some.line.now c.in-Some.cpu.now turn.0 turn.1 turn.2 turn.3 in
+    let begun = begins c.iter.ensures.rest c.iter-2.ensures.rest c.zip-line-items.ensures.first c.zip-line-items.ensures.second c.into_iter-line-iterator.ensures.into_iter_gives in
+    let more = accounts_turn (said_of c.args.detail) c.args.lines.now c.args.cpus.now c.into_iter-line-iterator.result c.threads.line-iterator c.next.new.self c.threads.yielded c.next.result _ _ begun.0 begun.1 c.threads.yielded_by c.in-Some.is c.next.ensures.steps in
+    let told = accounts c.args.lines.now c.args.cpus.now in
+    let i = length c.threads.yielded + 1 in
+    let rest = flat_map (said_of c.args.detail) (drop i told) in
     let broken = rw c.marks.ensures at c.in_err-add_thread.ensures in
-    adds_failed (adds_within g.met.S.Sink.along_both rest c.threads.invariant broken (ap (λ (t : List ℕ). t ++ rest) more ∙ accounts_split thread_lines told (i + 1)))
-    c.from_residual.result c.from_residual.ensures.1
+    adds_failed (adds_within g.met.S.Sink.along_both rest c.threads.invariant broken
+    (ap (λ (t : List ℕ). t ++ rest) more ∙ accounts_split (said_of c.args.detail) told i)) c.from_residual.result c.from_residual.ensures.1
 
 pub returns : goal.returns
 returns g c =
-    let lines = c.args.lines.now in
-    let cpus = c.args.cpus.now in
-    let first : iter_rest (zip_first c.into_iter-line-iterator.result) ≡ lines =
-    rw (c.into_iter-line-iterator.ensures.into_iter_gives, c.zip-line-items.ensures.first) c.iter.ensures.rest in
-    let second : iter_rest (zip_second c.into_iter-line-iterator.result) ≡ cpus =
-    rw (c.into_iter-line-iterator.ensures.into_iter_gives, c.zip-line-items.ensures.second) c.iter-2.ensures.rest in
-    let count = zip_end lines cpus c.threads.yielded c.into_iter-line-iterator.result c.threads.line-iterator c.next.new.self c.next.result first second c.threads.yielded_by c.in-None.is c.next.ensures.steps in
-    subst (λ t. AddsText g.S.Sink.written g.S.Sink.faults g.S.Sink.along c.args.text.now c.threads.text t (Ok tt)) (accounts_all thread_lines lines cpus (length c.threads.yielded) c.requires count) c.threads.invariant
+    let begun = begins c.iter.ensures.rest c.iter-2.ensures.rest c.zip-line-items.ensures.first c.zip-line-items.ensures.second c.into_iter-line-iterator.ensures.into_iter_gives in
+    let count = zip_end c.args.lines.now c.args.cpus.now c.threads.yielded c.into_iter-line-iterator.result c.threads.line-iterator c.next.new.self c.next.result begun.0 begun.1 c.threads.yielded_by c.in-None.is c.next.ensures.steps in
+    subst (λ t. AddsText g.S.Sink.written g.S.Sink.faults g.S.Sink.along c.args.text.now c.threads.text t (Ok tt))
+    (accounts_all (said_of c.args.detail) c.args.lines.now c.args.cpus.now (length c.threads.yielded) c.requires count) c.threads.invariant
