@@ -5,6 +5,7 @@ use account_report::*;
 use fdr_record::Kind;
 use std::alloc::Global;
 use std::test::Fail;
+use test_helpers::{check_same, check_same_list};
 use xray_io::MemSink;
 
 /// The text of rows, without an image.
@@ -74,10 +75,10 @@ const ROWS: [(&[Said], &str); 9] = [
 fn a_row_counts_the_pairs_of_its_function_and_the_events_in_none(
     rt: HostRuntime,
 ) -> Result<(), Fail> {
-    for (events, lines) in ROWS {
+    for (events, lines) in &ROWS {
         let rows = account(rt.alloc(), &trace_of(rt.alloc(), events)?)?;
         let text = printed(rt.alloc(), &rows, AccountFormat::Csv)?;
-        assert_eq!(rt; text.as_str().strip_prefix(CSV_HEAD), Some(lines));
+        check_same(&rt, &text.as_str().strip_prefix(CSV_HEAD), &Some(*lines));
     }
     Ok(())
 }
@@ -96,7 +97,7 @@ fn percentiles_are_items_of_the_ascending_durations(rt: HostRuntime) -> Result<(
         }
         let rows = account(rt.alloc(), &trace_of(rt.alloc(), &events)?)?;
         let text = printed(rt.alloc(), &rows, AccountFormat::Csv)?;
-        assert_eq!(rt; text.as_str().strip_prefix(CSV_HEAD), Some(line));
+        check_same(&rt, &text.as_str().strip_prefix(CSV_HEAD), &Some(line));
     }
     Ok(())
 }
@@ -161,9 +162,9 @@ fn rows_of_one_number_are_in_order_of_their_functions_both_ways(
         SortKey::Sum,
     ] {
         let rising = ordered(rt.alloc(), key, false, None)?;
-        assert_eq!(rt; rising.as_slice(), [4, 2, 1, 3].as_slice());
+        check_same_list(&rt, rising.as_slice(), [4, 2, 1, 3].as_slice());
         let falling = ordered(rt.alloc(), key, true, Some(3))?;
-        assert_eq!(rt; falling.as_slice(), [1, 3, 2].as_slice());
+        check_same_list(&rt, falling.as_slice(), [1, 3, 2].as_slice());
     }
     for (descending, top, functions) in [
         (false, None, &[1, 2, 3, 4][..]),
@@ -172,7 +173,7 @@ fn rows_of_one_number_are_in_order_of_their_functions_both_ways(
         (false, Some(0), &[]),
     ] {
         let kept = ordered(rt.alloc(), SortKey::FuncId, descending, top)?;
-        assert_eq!(rt; kept.as_slice(), functions);
+        check_same_list(&rt, kept.as_slice(), functions);
     }
     Ok(())
 }
@@ -191,7 +192,7 @@ fn columns_are_aligned_and_a_longer_number_is_printed_whole(rt: HostRuntime) -> 
         .as_str()
         .strip_prefix("Functions with latencies: 0\n")
         .ok_or("another line")?;
-    assert_eq!(rt; head, TEXT_HEAD);
+    check_same(&rt, &head, &TEXT_HEAD);
     let events = [(1, Kind::Entry, 1, 0), (1, Kind::Exit, 1, 2)];
     let rows = account(alloc, &trace_of(alloc, &events)?)?;
     let one = printed(alloc, &rows, AccountFormat::Text)?;
@@ -199,7 +200,7 @@ fn columns_are_aligned_and_a_longer_number_is_printed_whole(rt: HostRuntime) -> 
         .as_str()
         .strip_prefix("Functions with latencies: 1\n")
         .ok_or("another line")?;
-    assert_eq!(rt; lines.strip_prefix(TEXT_HEAD), Some(ONE_PAIR));
+    check_same(&rt, &lines.strip_prefix(TEXT_HEAD), &Some(ONE_PAIR));
     let wide = [
         AccountRow {
             max: 12_345_678_901,
@@ -210,7 +211,7 @@ fn columns_are_aligned_and_a_longer_number_is_printed_whole(rt: HostRuntime) -> 
     let text = printed(alloc, &wide, AccountFormat::Text)?;
     let lines = text.as_str().strip_prefix("Functions with latencies: 1\n");
     let rows = lines.ok_or("another line")?.strip_prefix(TEXT_HEAD);
-    assert_eq!(rt; rows, Some(WIDE));
+    check_same(&rt, &rows, &Some(WIDE));
     Ok(())
 }
 

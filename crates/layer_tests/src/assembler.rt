@@ -3,6 +3,7 @@
 use asm_text::*;
 use std::alloc::{AllocError, Global};
 use std::test::Fail;
+use test_helpers::{check_same, check_same_list};
 use text_lines::count_lines;
 use xray_image::read_image;
 
@@ -65,38 +66,40 @@ fn code(file: &[u8]) -> &[u8] {
     &file[64..64 + length]
 }
 
-#[test]
-fn five_images_have_their_bytes(rt: HostRuntime) -> Result<(), Fail> {
-    let rows: [(&[u8], usize, &[u8]); 5] = [
-        (
-            b"base 0x1000\nfn main always\nmov eax, 65\nout 1\nret\n",
-            170,
-            MOVE,
-        ),
-        (b"base 0x1000\nfn main always\nout 0\nret\n", 166, ODD_EXIT),
-        (
-            b"base 0x1000\nfn main always\ncall f\nret\nfn f always\nret\n",
-            266,
-            CALL,
-        ),
-        (
-            b"base 0x1000\nfn a always\ntailjmp b\nfn b always\nret\n",
-            263,
-            TAIL,
-        ),
-        (
-            b"base 0x1000\nentry main\nfn main never\nmov edi, 20\ncall fib\nret\n\
+/// Texts, the lengths of their images, and the code of these.
+const IMAGES: [(&[u8], usize, &[u8]); 5] = [
+    (
+        b"base 0x1000\nfn main always\nmov eax, 65\nout 1\nret\n",
+        170,
+        MOVE,
+    ),
+    (b"base 0x1000\nfn main always\nout 0\nret\n", 166, ODD_EXIT),
+    (
+        b"base 0x1000\nfn main always\ncall f\nret\nfn f always\nret\n",
+        266,
+        CALL,
+    ),
+    (
+        b"base 0x1000\nfn a always\ntailjmp b\nfn b always\nret\n",
+        263,
+        TAIL,
+    ),
+    (
+        b"base 0x1000\nentry main\nfn main never\nmov edi, 20\ncall fib\nret\n\
               fn fib always\nmov ecx, 0\nadd rdi, rcx\njnz nz\nret\nnz:\n\
               mov ecx, 1\nsub rdi, rcx\njnz big\nadd rax, rcx\nret\nbig:\npush rdi\n\
               call fib\npop rdi\nmov ecx, 1\nsub rdi, rcx\ncall fib\nret\n",
-            326,
-            FIBONACCI,
-        ),
-    ];
-    for (text, length, expected) in rows {
+        326,
+        FIBONACCI,
+    ),
+];
+
+#[test]
+fn five_images_have_their_bytes(rt: HostRuntime) -> Result<(), Fail> {
+    for (text, length, expected) in &IMAGES {
         let file = verdict(rt.alloc(), text, 1)?;
-        assert_eq!(rt; file.len(), length);
-        assert_eq!(rt; code(&file), expected);
+        check_same(&rt, &file.len(), length);
+        check_same_list(&rt, code(&file), expected);
     }
     Ok(())
 }
@@ -119,26 +122,27 @@ fn first_image_is_that_of_the_first_run(rt: HostRuntime) -> Result<(), Fail> {
         0x00, 0x00, 0x00, 0x00, 0x01, 0x01, 0x00, 0x00, 0x00, 0x00, 0x00, 0x00, 0x00, 0x00, 0x00,
         0x00, 0x00, 0x00, 0x00, 0x00,
     ];
-    assert_eq!(rt; file.as_slice(), expected.as_slice());
+    check_same_list(&rt, file.as_slice(), expected.as_slice());
     Ok(())
 }
 
 #[test]
 fn threshold_decides_where_the_function_does_not(rt: HostRuntime) -> Result<(), Fail> {
     let with_sleds = verdict(rt.alloc(), b"fn a\nret", 1)?;
-    assert_eq!(rt; with_sleds.len(), 161);
-    assert_eq!(rt;
+    check_same(&rt, &with_sleds.len(), &161);
+    check_same_list(
+        &rt,
         code(&with_sleds),
         [
             0xEB, 0x09, 0x66, 0x0F, 0x1F, 0x84, 0x00, 0x00, 0x02, 0x00, 0x00, 0x90, 0xC3, 0x2E,
             0x66, 0x0F, 0x1F, 0x84, 0x00, 0x00, 0x02, 0x00, 0x00,
         ]
-        .as_slice()
+        .as_slice(),
     );
-    assert_eq!(rt; with_sleds.get(91).copied(), Some(0));
+    check_same(&rt, &with_sleds.get(91).copied(), &Some(0));
     let without = verdict(rt.alloc(), b"fn a\nret", 2)?;
-    assert_eq!(rt; without.len(), 75);
-    assert_eq!(rt; code(&without), [0xC3].as_slice());
+    check_same(&rt, &without.len(), &75);
+    check_same_list(&rt, code(&without), [0xC3].as_slice());
     Ok(())
 }
 
@@ -148,50 +152,52 @@ fn assembled_file_is_read_back(rt: HostRuntime) -> Result<(), Fail> {
     let text = b"entry main\nfn f always\nret\nfn main always\ntailjmp f\n";
     let file = verdict(rt.alloc(), text, 1)?;
     let image = read_image(rt.alloc(), &file)?;
-    assert_eq!(rt; image.base(), 4096);
-    assert_eq!(rt; image.entry(), 4120);
-    assert_eq!(rt; image.function_count(), 2);
-    assert_eq!(rt; image.sled_count(), 4);
-    assert_eq!(rt; image.name_of(1), Some("f"));
-    assert_eq!(rt; image.name_of(2), Some("main"));
-    assert_eq!(rt; image.name_of(3), None);
+    check_same(&rt, &image.base(), &4096);
+    check_same(&rt, &image.entry(), &4120);
+    check_same(&rt, &image.function_count(), &2);
+    check_same(&rt, &image.sled_count(), &4);
+    check_same(&rt, &image.name_of(1), &Some("f"));
+    check_same(&rt, &image.name_of(2), &Some("main"));
+    check_same(&rt, &image.name_of(3), &None);
     Ok(())
 }
 
+/// Texts, and why they are refused.
+const REFUSALS: [(&[u8], AsmFault); 28] = [
+    (b"", AsmFault::Syntax(1)),
+    (b"mov eax, 1", AsmFault::Syntax(1)),
+    (b"fn a", AsmFault::Syntax(2)),
+    (b"fn a\n", AsmFault::Syntax(2)),
+    (b"fn a\nfn b\nret", AsmFault::Syntax(2)),
+    (b"fn a\nret\nbase 16", AsmFault::Syntax(3)),
+    (b"base 16\nbase 16\nfn a\nret", AsmFault::Syntax(2)),
+    (b"entry a\nentry a\nfn a\nret", AsmFault::Syntax(2)),
+    (b"x:\nfn a\nret", AsmFault::Syntax(1)),
+    (b"fn a\nmov eax,1\nret", AsmFault::Syntax(2)),
+    (b"fn a\nout 0X1\nret", AsmFault::Syntax(2)),
+    (b"fn a\nout 18446744073709551616", AsmFault::Syntax(2)),
+    (b"fn 1a\nret", AsmFault::Syntax(1)),
+    (b"fn a\nb: ret", AsmFault::Syntax(2)),
+    (b"fn a\nret\r", AsmFault::Syntax(2)),
+    (b"mov r10d, 1", AsmFault::Syntax(1)),
+    (b"fn a\nmov r10d, 99999999999\nret", AsmFault::Register(2)),
+    (b"fn a\nadd rax, esp\nret", AsmFault::Register(2)),
+    (b"base 0x1001\nfn a\nret", AsmFault::Range(1)),
+    (b"base 0x7FFF00000010\nfn a\nret", AsmFault::Range(1)),
+    (b"fn a\nout 256\nret", AsmFault::Range(2)),
+    (b"fn a\nmov eax, 0x100000000\nret", AsmFault::Range(2)),
+    (b"fn a\nret\nfn a\nret", AsmFault::Repeat(3)),
+    (b"fn a\nret\na:\nret", AsmFault::Repeat(3)),
+    (b"fn a\njmp b\nret", AsmFault::Label(2)),
+    (b"fn a\ntailjmp b\nret", AsmFault::Label(2)),
+    (b"entry b\nfn a\nb:\nret", AsmFault::Label(1)),
+    (b"fn a\njmp b\nret\nb:", AsmFault::Label(4)),
+];
+
 #[test]
 fn each_refusal_names_its_line(rt: HostRuntime) {
-    let rows: [(&[u8], AsmFault); 28] = [
-        (b"", AsmFault::Syntax(1)),
-        (b"mov eax, 1", AsmFault::Syntax(1)),
-        (b"fn a", AsmFault::Syntax(2)),
-        (b"fn a\n", AsmFault::Syntax(2)),
-        (b"fn a\nfn b\nret", AsmFault::Syntax(2)),
-        (b"fn a\nret\nbase 16", AsmFault::Syntax(3)),
-        (b"base 16\nbase 16\nfn a\nret", AsmFault::Syntax(2)),
-        (b"entry a\nentry a\nfn a\nret", AsmFault::Syntax(2)),
-        (b"x:\nfn a\nret", AsmFault::Syntax(1)),
-        (b"fn a\nmov eax,1\nret", AsmFault::Syntax(2)),
-        (b"fn a\nout 0X1\nret", AsmFault::Syntax(2)),
-        (b"fn a\nout 18446744073709551616", AsmFault::Syntax(2)),
-        (b"fn 1a\nret", AsmFault::Syntax(1)),
-        (b"fn a\nb: ret", AsmFault::Syntax(2)),
-        (b"fn a\nret\r", AsmFault::Syntax(2)),
-        (b"mov r10d, 1", AsmFault::Syntax(1)),
-        (b"fn a\nmov r10d, 99999999999\nret", AsmFault::Register(2)),
-        (b"fn a\nadd rax, esp\nret", AsmFault::Register(2)),
-        (b"base 0x1001\nfn a\nret", AsmFault::Range(1)),
-        (b"base 0x7FFF00000010\nfn a\nret", AsmFault::Range(1)),
-        (b"fn a\nout 256\nret", AsmFault::Range(2)),
-        (b"fn a\nmov eax, 0x100000000\nret", AsmFault::Range(2)),
-        (b"fn a\nret\nfn a\nret", AsmFault::Repeat(3)),
-        (b"fn a\nret\na:\nret", AsmFault::Repeat(3)),
-        (b"fn a\njmp b\nret", AsmFault::Label(2)),
-        (b"fn a\ntailjmp b\nret", AsmFault::Label(2)),
-        (b"entry b\nfn a\nb:\nret", AsmFault::Label(1)),
-        (b"fn a\njmp b\nret\nb:", AsmFault::Label(4)),
-    ];
-    for (text, expected) in rows {
-        assert_eq!(rt; verdict(rt.alloc(), text, 1).err(), Some(expected));
+    for (text, expected) in &REFUSALS {
+        check_same(&rt, &verdict(rt.alloc(), text, 1).err(), &Some(*expected));
     }
 }
 
@@ -200,28 +206,29 @@ fn highest_numbers_are_taken(rt: HostRuntime) -> Result<(), Fail> {
     let text = b"base 0x7FFF00000000\nfn a never\nmov r15d, 4294967295\nout 255\nret\n";
     let file = verdict(rt.alloc(), text, 1)?;
     let base = file.get(8..16).ok_or("no base")?;
-    assert_eq!(rt;
+    check_same_list(
+        &rt,
         base,
-        [0x00, 0x00, 0x00, 0x00, 0xFF, 0x7F, 0x00, 0x00].as_slice()
+        [0x00, 0x00, 0x00, 0x00, 0xFF, 0x7F, 0x00, 0x00].as_slice(),
     );
     let expected = [0x41, 0xBF, 0xFF, 0xFF, 0xFF, 0xFF, 0xE6, 0xFF, 0xC3];
-    assert_eq!(rt; code(&file), expected.as_slice());
+    check_same_list(&rt, code(&file), expected.as_slice());
     Ok(())
 }
 
+/// A text, and the same text with other blanks, comments and ends of lines.
+const PLAIN: &[u8] = b"base 0x1000\nfn main always\nmov eax, 65\nout 1\nret\n";
+
+const SAME: [&[u8]; 2] = [
+    b"base 4096\r\n\r\nfn main always\r\nmov eax, 65\r\nout 1\r\nret",
+    b"\tbase\t0x1000 # \xff\x00\r\nfn  main\talways\n#\nmov eax,\t0x41\nout 01#\n ret ",
+];
+
 #[test]
 fn blanks_comments_and_line_ends_change_nothing(rt: HostRuntime) -> Result<(), Fail> {
-    let plain = verdict(
-        rt.alloc(),
-        b"base 0x1000\nfn main always\nmov eax, 65\nout 1\nret\n",
-        1,
-    )?;
-    for text in [
-        b"base 4096\r\n\r\nfn main always\r\nmov eax, 65\r\nout 1\r\nret".as_slice(),
-        b"\tbase\t0x1000 # \xff\x00\r\nfn  main\talways\n#\nmov eax,\t0x41\nout 01#\n ret ",
-    ] {
-        let file = verdict(rt.alloc(), text, 1)?;
-        assert_eq!(rt; file.as_slice(), plain.as_slice());
+    let plain = verdict(rt.alloc(), PLAIN, 1)?;
+    for text in &SAME {
+        check_same_list(&rt, &verdict(rt.alloc(), text, 1)?, &plain);
     }
     Ok(())
 }
@@ -239,7 +246,7 @@ fn labels_stand_for_their_three_places(rt: HostRuntime) -> Result<(), Fail> {
         0xFF, 0xE9, 0xEB, 0xFF, 0xFF, 0xFF, 0x90, 0xC3, 0x2E, 0x66, 0x0F, 0x1F, 0x84, 0x00, 0x00,
         0x02, 0x00, 0x00,
     ];
-    assert_eq!(rt; code(&file), expected);
+    check_same_list(&rt, code(&file), expected);
     Ok(())
 }
 
@@ -266,15 +273,20 @@ fn functions(alloc: Global, count: u32) -> Result<Vec<u8>, AllocError> {
 fn limits_are_reached_and_not_passed(rt: HostRuntime) -> Result<(), Fail> {
     let alloc = rt.alloc();
     let full = verdict(alloc, &functions(alloc, 1024)?, 1)?;
-    assert_eq!(rt; code(&full).len(), 1024);
+    check_same(&rt, &code(&full).len(), &1024);
     let more = functions(alloc, 1025)?;
-    assert_eq!(rt; verdict(alloc, &more, 1).err(), Some(AsmFault::Limit(2049)));
+    check_same(
+        &rt,
+        &verdict(alloc, &more, 1).err(),
+        &Some(AsmFault::Limit(2049)),
+    );
     let full = verdict(alloc, &repeated(alloc, b"fn a\n", b"ret\n", 4095)?, 1)?;
-    assert_eq!(rt; code(&full).len(), 12 * 4096 - 1);
+    check_same(&rt, &code(&full).len(), &(12 * 4096 - 1));
     let more = repeated(alloc, b"fn a\n", b"ret\n", 4096)?;
-    assert_eq!(rt;
-        verdict(alloc, &more, 9999).err(),
-        Some(AsmFault::Limit(4097))
+    check_same(
+        &rt,
+        &verdict(alloc, &more, 9999).err(),
+        &Some(AsmFault::Limit(4097)),
     );
     Ok(())
 }
@@ -285,11 +297,12 @@ fn code_of_a_mebibyte_is_the_most(rt: HostRuntime) -> Result<(), Fail> {
     let mut text = repeated(alloc, b"fn a never\n", b"jnz a\n", 174_762)?;
     text.extend_from_slice(b"ret\nret\nret\nret\n")?;
     let full = verdict(alloc, &text, 1)?;
-    assert_eq!(rt; code(&full).len(), 1_048_576);
+    check_same(&rt, &code(&full).len(), &1_048_576);
     text.extend_from_slice(b"ret\n")?;
-    assert_eq!(rt;
-        verdict(alloc, &text, 1).err(),
-        Some(AsmFault::Limit(174_768))
+    check_same(
+        &rt,
+        &verdict(alloc, &text, 1).err(),
+        &Some(AsmFault::Limit(174_768)),
     );
     Ok(())
 }

@@ -5,6 +5,7 @@ use fdr_record::{Event, Kind};
 use std::alloc::Global;
 use std::process::Abort;
 use std::test::Fail;
+use test_helpers::check_same;
 use xray_io::Wall;
 
 /// NewBuffer, wall time and Pid of thread 1 and process 1 at the epoch.
@@ -29,11 +30,10 @@ fn event(kind: Kind, func: u32, cpu: u16, tsc: u64) -> Event {
 
 /// Checks that the bytes of a buffer of thread 1 are its preamble and these records.
 fn check_bytes(rt: &impl Abort, buffer: &Buffer, records: &[&[u8]]) {
-    assert!(rt; (buffer.serial() as usize) < records.len());
-    let bytes = buffer.bytes();
-    assert!(rt; bytes.len() >= PREAMBLE.len());
-    assert_eq!(rt; &bytes[..PREAMBLE.len()], PREAMBLE);
-    assert_eq!(rt; &bytes[PREAMBLE.len()..], records[buffer.serial() as usize]);
+    let (bytes, start) = (buffer.bytes(), PREAMBLE.len());
+    check_same(rt, &bytes.get(..start), &Some(PREAMBLE));
+    let wanted = records.get(buffer.serial() as usize).copied();
+    check_same(rt, &bytes.get(start..), &wanted);
 }
 
 /// Checks that events which fill buffers of this size, one after the other, leave these records in
@@ -56,13 +56,13 @@ fn check_segments(
             check_bytes(rt, &buffer, records);
             assert!(rt; buffer.serial() < 9);
             buffer.begin(1, buffer.serial() + 1, EPOCH, 1);
-            assert_eq!(rt; buffer.events(), 0);
+            check_same(rt, &buffer.events(), &0);
         }
         assert!(rt; buffer.fits(&event) && event.func < 1 << 28);
         buffer.put(&event);
     }
     check_bytes(rt, &buffer, records);
-    assert_eq!(rt; buffer.serial() as usize + 1, records.len());
+    check_same(rt, &(buffer.serial() as usize + 1), &records.len());
     Ok(())
 }
 
@@ -155,8 +155,8 @@ const FILLINGS: [Filling; 10] = [
 
 #[test]
 fn segments_are_cut_and_written_byte_by_byte(rt: HostRuntime) -> Result<(), Fail> {
-    for (size, events, records) in FILLINGS {
-        check_segments(&rt, rt.alloc(), size, events, records)?;
+    for (size, events, records) in &FILLINGS {
+        check_segments(&rt, rt.alloc(), *size, events, records)?;
     }
     Ok(())
 }
@@ -174,8 +174,8 @@ fn two_thousand_and_forty_events_fill_sixteen_kibibytes(rt: HostRuntime) -> Resu
         assert!(rt; entry.func < 1 << 28);
         buffer.put(&entry);
     }
-    assert_eq!(rt; buffer.events(), 2040);
-    assert_eq!(rt; (buffer.thread(), buffer.serial()), (3, 7));
-    assert_eq!(rt; buffer.bytes().len(), 16384);
+    check_same(&rt, &buffer.events(), &2040);
+    check_same(&rt, &(buffer.thread(), buffer.serial()), &(3, 7));
+    check_same(&rt, &buffer.bytes().len(), &16384);
     Ok(())
 }

@@ -13,6 +13,7 @@ use patch_script::{Micro, read_script};
 use sled_rule::{CodeTable, PatchSeat, WorkSeat};
 use std::process::Abort;
 use std::test::Fail;
+use test_helpers::check_same_list;
 use text_lines::count_lines;
 use xray_image::{Image, read_image};
 
@@ -113,8 +114,8 @@ fn the_last_words_are_those_of_the_script_and_the_counts(rt: HostRuntime) -> Res
     store(&rt, &table, &mut seat, 8);
     let mut last = [0; 12];
     finish(table, seat, worker, &mut last);
-    assert_eq!(rt; &last[..8], PATCHED.as_slice());
-    assert_eq!(rt; &last[8..], [0, 0, 0, u64::MAX].as_slice());
+    check_same_list(&rt, &last[..8], PATCHED.as_slice());
+    check_same_list(&rt, &last[8..], [0, 0, 0, u64::MAX].as_slice());
     Ok(())
 }
 

@@ -4,6 +4,7 @@ use command_words::*;
 use std::alloc::{AllocError, Global};
 use std::process::Abort;
 use std::test::Fail;
+use test_helpers::{check_same, check_same_text};
 use xray_io::Wall;
 
 /// The wall time that is passed in.
@@ -259,11 +260,11 @@ fn command_lines_say_what_the_rows_say(rt: HostRuntime) -> Result<(), Fail> {
     for row in SAID.lines() {
         if let Some((line, said)) = row.split_once(" => ") {
             let words = words_of(alloc, line)?;
-            assert_eq!(rt; shown(alloc, &words)?.as_str(), said);
+            check_same_text(&rt, shown(alloc, &words)?.as_str(), said);
             rows = rows.wrapping_add(1);
         }
     }
-    assert_eq!(rt; rows, 106);
+    check_same(&rt, &rows, &106);
     Ok(())
 }
 
@@ -275,6 +276,6 @@ fn a_long_word_is_a_name(rt: HostRuntime) -> Result<(), Fail> {
         long.push_str("9")?;
     }
     let words = words_of(alloc, &long)?;
-    assert_eq!(rt; shown(alloc, &words)?.len() + 1, long.len());
+    check_same(&rt, &(shown(alloc, &words)?.len() + 1), &long.len());
     Ok(())
 }

@@ -1,74 +1,17 @@
 //! Calls of `xray_io`, for what no clause says: that they succeed, the digits that are printed, and
 //! the edge to the system.
 ghost use Rattle.std.specs.Prelude.{◌^◌, None};
-ghost use Rattle.xray_io.specs.Desk.{Untold};
 
 use std::alloc::Global;
 use std::fmt::Display;
 use std::io::Write;
 use std::test::Fail;
 use std::{fs, io};
+use test_helpers::{Trickle, check_same, check_same_at, check_same_list};
 use xray_io::{
     Desk, DeskFile, ErrSink, Failed, FileDesk, Gate, MemDesk, MemSink, OpenGate, OutSink, Piece,
     ReadError, ReadFail, Sink, Text, WriteFault, read_whole, write_all, write_pieces,
 };
-
-/// A desk that reads and writes one byte a call. It checks that each read begins where the last one
-/// ended, and records the greatest place up to which a read asked.
-#[derive(Drop)]
-struct Trickle {
-    desk: MemDesk,
-    next: u64,
-    in_order: bool,
-    greatest: u64,
-}
-
-impl Trickle {
-    /// Over this desk, before its first read.
-    fn new(desk: MemDesk) -> Self {
-        Trickle {
-            desk,
-            next: 0,
-            in_order: true,
-            greatest: 0,
-        }
-    }
-}
-
-impl Desk for Trickle {
-    ghost held = { λ _ _. Untold };
-
-    ghost read_faults = { λ _. 2 ^ 64 };
-
-    ghost write_faults = { λ _. 2 ^ 64 };
-
-    ghost along = { λ _ _ _. Unit {0} };
-
-    ghost along_none = { λ _. tt };
-
-    ghost along_both = { λ _ _ _ _ _ _ _. tt };
-
-    fn read(&mut self, name: &str, from: u64, buf: &mut [u8]) -> Result<usize, ReadFail> {
-        self.in_order = self.in_order && from == self.next;
-        self.greatest = self.greatest.max(from.saturating_add(buf.len() as u64));
-        let room = buf.len().min(1);
-        match self.desk.read(name, from, &mut buf[..room]) {
-            Ok(count) => {
-                self.next = from.saturating_add(count as u64);
-                Ok(count)
-            }
-            Err(_) => Err(ReadFail::Failed),
-        }
-    }
-
-    fn create(&mut self, name: &str) -> Result<(), Failed> {
-        self.desk.create(name)
-    }
-
-    fn append(&mut self, name: &str, bytes: &[u8]) -> Result<usize, Failed> {
-        self.desk.append(name, &bytes[..bytes.len().min(1)])
-    }
-}
 
 /// A sink that takes at most three bytes a write.
 #[derive(Drop)]
@@ -122,6 +65,17 @@ fn counted(alloc: Global, len: usize) -> Result<Vec<u8>, Fail> {
     Ok(bytes)
 }
 
+/// Names, limits, and the lengths that are read of them.
+const WHOLE: [(&str, u64, Result<usize, ReadError>); 7] = [
+    ("empty", 0, Ok(0)),
+    ("five", 4, Err(ReadError::TooLong)),
+    ("five", 5, Ok(5)),
+    ("five", u64::MAX, Ok(5)),
+    ("long", 100_000, Ok(100_000)),
+    ("long", 99_999, Err(ReadError::TooLong)),
+    ("none", 5, Err(ReadError::ReadFault)),
+];
+
 #[test]
 fn a_name_is_read_whole_within_its_limit(rt: HostRuntime) -> Result<(), Fail> {
     let alloc = rt.alloc();
@@ -131,49 +85,35 @@ fn a_name_is_read_whole_within_its_limit(rt: HostRuntime) -> Result<(), Fail> {
     desk.put("empty", b"")?;
     desk.put("five", b"hello")?;
     desk.put("long", &long)?;
-    assert_eq!(rt; read_whole(alloc, &mut desk, "empty", 0)?.len(), 0);
-    assert_eq!(rt;
-        read_whole(alloc, &mut desk, "five", 4),
-        Err(ReadError::TooLong)
-    );
-    assert_eq!(rt;
-        read_whole(alloc, &mut desk, "five", 5)?.as_slice(),
-        b"hello".as_slice()
-    );
-    assert_eq!(rt;
-        read_whole(alloc, &mut desk, "five", u64::MAX)?.as_slice(),
-        b"hello".as_slice()
-    );
-    assert_eq!(rt;
-        read_whole(alloc, &mut desk, "long", 100_000)?.as_slice(),
-        long.as_slice()
-    );
-    assert_eq!(rt;
-        read_whole(alloc, &mut desk, "long", 99_999),
-        Err(ReadError::TooLong)
-    );
-    assert_eq!(rt;
-        read_whole(alloc, &mut desk, "none", 5),
-        Err(ReadError::ReadFault)
-    );
+    for (name, limit, wanted) in &WHOLE {
+        match read_whole(alloc, &mut desk, name, *limit) {
+            Ok(bytes) => {
+                check_same_at(&rt, &Ok(bytes.len()), wanted, name);
+                check_same(&rt, &Some(bytes.as_slice()), &desk.get(name));
+            }
+            Err(error) => check_same_at(&rt, &Err(error), wanted, name),
+        }
+    }
     Ok(())
+}
+
+/// What a reading of five bytes, one byte a call, leaves behind.
+fn read_five(alloc: Global, limit: u64) -> Result<(Result<usize, ReadError>, Trickle), Fail> {
+    let mut desk = MemDesk::new(alloc, Vec::new(alloc));
+    desk.put("five", b"hello")?;
+    let mut trickle = Trickle::new(desk);
+    let read = read_whole(alloc, &mut trickle, "five", limit);
+    Ok((read.map(|bytes| bytes.len()), trickle))
 }
 
 #[test]
 fn short_reads_go_on_and_ask_for_no_byte_twice(rt: HostRuntime) -> Result<(), Fail> {
-    let alloc = rt.alloc();
-    for (limit, want) in [(4, None), (5, Some(5)), (6, Some(5))] {
-        let mut desk = MemDesk::new(alloc, Vec::new(alloc));
-        desk.put("five", b"hello")?;
-        let mut trickle = Trickle::new(desk);
-        let read = read_whole(alloc, &mut trickle, "five", limit);
-        match want {
-            Some(len) => assert_eq!(rt; read?.len(), len),
-            None => assert_eq!(rt; read, Err(ReadError::TooLong)),
-        }
-        assert!(rt; trickle.in_order);
+    for (limit, wanted) in [(4, Err(ReadError::TooLong)), (5, Ok(5)), (6, Ok(5))] {
+        let (read, trickle) = read_five(rt.alloc(), limit)?;
+        check_same_at(&rt, &read, &wanted, &limit);
+        assert!(rt; trickle.is_in_order());
         // At the limit one byte more was asked for, and none after that.
-        assert_eq!(rt; trickle.next, 5, "limit {limit}");
+        check_same_at(&rt, &trickle.next(), &5, &limit);
     }
     Ok(())
 }
@@ -182,17 +122,22 @@ fn short_reads_go_on_and_ask_for_no_byte_twice(rt: HostRuntime) -> Result<(), Fa
 /// five of them end after the fifth byte.
 #[test]
 fn no_read_asks_past_the_first_byte_that_is_too_many(rt: HostRuntime) -> Result<(), Fail> {
-    let alloc = rt.alloc();
     for (limit, greatest) in [(0, 1), (4, 5), (5, 6), (65_537, 65_538), (70_000, 65_541)] {
-        let mut desk = MemDesk::new(alloc, Vec::new(alloc));
-        desk.put("five", b"hello")?;
-        let mut trickle = Trickle::new(desk);
-        let read = read_whole(alloc, &mut trickle, "five", limit);
-        assert_eq!(rt; read.is_ok(), limit >= 5, "limit {limit}");
-        assert_eq!(rt; trickle.greatest, greatest, "limit {limit}");
+        let (read, trickle) = read_five(rt.alloc(), limit)?;
+        check_same_at(&rt, &read.is_ok(), &(limit >= 5), &limit);
+        check_same_at(&rt, &trickle.greatest(), &greatest, &limit);
     }
     Ok(())
 }
+
+/// Names, the places from which they are read, and what each read gives. The calls 1 and 3 fail.
+const READS: [(&str, u64, Result<usize, ReadFail>); 5] = [
+    ("a", 2, Ok(3)),
+    ("a", 0, Err(ReadFail::Failed)),
+    ("c", 0, Err(ReadFail::Missing)),
+    ("c", 0, Err(ReadFail::Failed)),
+    ("b", 3, Ok(0)),
+];
 
 #[test]
 fn a_desk_in_memory_fails_at_the_chosen_calls(rt: HostRuntime) -> Result<(), Fail> {
@@ -202,53 +147,84 @@ fn a_desk_in_memory_fails_at_the_chosen_calls(rt: HostRuntime) -> Result<(), Fai
     desk.put("a", b"one")?;
     desk.put("b", b"two")?;
     desk.put("a", b"three")?;
-    assert_eq!(rt; desk.get("a"), Some(b"three".as_slice()));
-    assert_eq!(rt; desk.get("b"), Some(b"two".as_slice()));
-    assert_eq!(rt; desk.get("c"), None);
-    assert_eq!(rt; desk.read("a", 2, &mut buf), Ok(3));
-    assert_eq!(rt; &buf[..3], b"ree".as_slice());
-    assert_eq!(rt; desk.read("a", 0, &mut buf), Err(ReadFail::Failed));
-    assert_eq!(rt; desk.read("c", 0, &mut buf), Err(ReadFail::Missing));
-    assert_eq!(rt; desk.read("c", 0, &mut buf), Err(ReadFail::Failed));
-    assert_eq!(rt; desk.read("b", 3, &mut buf), Ok(0));
-    assert_eq!(rt; desk.refused(), 0);
-    // The first, second and third read of a whole input fail in turn.
-    for failing in 0..3 {
-        let mut desk = MemDesk::new(alloc, vec![in alloc; failing]?);
-        desk.put("a", b"one")?;
-        let read = read_whole(alloc, &mut desk, "a", 9);
-        if failing < 2 {
-            assert_eq!(rt; read, Err(ReadError::ReadFault));
-        } else {
-            assert_eq!(rt; read?.as_slice(), b"one".as_slice());
-        }
+    for (name, from, wanted) in &READS {
+        check_same_at(&rt, &desk.read(name, *from, &mut buf), wanted, name);
     }
+    check_same_list(&rt, &buf[..3], b"ree");
+    check_same(&rt, &desk.get("b"), &Some(b"two".as_slice()));
+    check_same(&rt, &desk.get("c"), &None);
+    check_same(&rt, &desk.refused(), &0);
     Ok(())
 }
 
 #[test]
+fn a_read_of_a_whole_input_fails_if_one_of_its_calls_does(rt: HostRuntime) -> Result<(), Fail> {
+    let alloc = rt.alloc();
+    for (failing, wanted) in [
+        (0, Err(ReadError::ReadFault)),
+        (1, Err(ReadError::ReadFault)),
+        (2, Ok(3)),
+    ] {
+        let mut desk = MemDesk::new(alloc, vec![in alloc; failing]?);
+        desk.put("a", b"one")?;
+        let read = read_whole(alloc, &mut desk, "a", 9).map(|bytes| bytes.len());
+        check_same_at(&rt, &read, &wanted, &failing);
+    }
+    Ok(())
+}
+
+/// A call of a desk.
+enum Call {
+    Read(u64),
+    Create,
+    Append(&'static [u8]),
+}
+
+/// Makes a call. Answers how many bytes it moved, if it didn't fail.
+fn make<D: Desk>(desk: &mut D, name: &str, call: &Call) -> Option<usize> {
+    match call {
+        Call::Read(from) => desk.read(name, *from, &mut [0; 8]).ok(),
+        Call::Create => desk.create(name).ok().map(|_| 0),
+        Call::Append(bytes) => desk.append(name, bytes).ok(),
+    }
+}
+
+/// Names, calls, and how many bytes these move. Reads, creates and appends share one numbering, in
+/// which the calls 5 and 6 fail.
+const CALLS: [(&str, Call, Option<usize>); 9] = [
+    ("a", Call::Create, Some(0)),
+    ("a", Call::Append(b"one"), Some(3)),
+    ("a", Call::Append(b" two"), Some(4)),
+    ("c", Call::Append(b"begun"), Some(5)),
+    ("a", Call::Read(4), Some(3)),
+    ("a", Call::Append(b"lost"), None),
+    ("a", Call::Create, None),
+    ("d", Call::Create, Some(0)),
+    ("e", Call::Append(b""), Some(0)),
+];
+
+/// What names hold after these calls.
+const HELD: [(&str, &[u8]); 5] = [
+    ("a", b"one two"),
+    ("b", b"kept"),
+    ("c", b"begun"),
+    ("d", b""),
+    ("e", b""),
+];
+
+#[test]
 fn a_desk_in_memory_is_written_at_the_end_of_a_name(rt: HostRuntime) -> Result<(), Fail> {
     let alloc = rt.alloc();
-    // Reads, creates and appends share one numbering.
     let mut desk = MemDesk::new(alloc, vec![in alloc; 5, 6]?);
     desk.put("a", b"old")?;
     desk.put("b", b"kept")?;
-    assert_eq!(rt; desk.create("a"), Ok(()));
-    assert_eq!(rt; desk.get("a"), Some(b"".as_slice()));
-    assert_eq!(rt; desk.append("a", b"one"), Ok(3));
-    assert_eq!(rt; desk.append("a", b" two"), Ok(4));
-    assert_eq!(rt; desk.append("c", b"begun"), Ok(5));
-    assert_eq!(rt; desk.read("a", 4, &mut [0; 8]), Ok(3));
-    assert_eq!(rt; desk.append("a", b"lost"), Err(Failed));
-    assert_eq!(rt; desk.create("a"), Err(Failed));
-    assert_eq!(rt; desk.get("a"), Some(b"one two".as_slice()));
-    assert_eq!(rt; desk.get("b"), Some(b"kept".as_slice()));
-    assert_eq!(rt; desk.get("c"), Some(b"begun".as_slice()));
-    assert_eq!(rt; desk.create("d"), Ok(()));
-    assert_eq!(rt; desk.append("e", b""), Ok(0));
-    assert_eq!(rt; desk.get("d"), Some(b"".as_slice()));
-    assert_eq!(rt; desk.get("e"), Some(b"".as_slice()));
-    assert_eq!(rt; desk.refused(), 0);
+    for (name, call, wanted) in &CALLS {
+        check_same_at(&rt, &make(&mut desk, name, call), wanted, name);
+    }
+    for (name, bytes) in &HELD {
+        check_same_at(&rt, &desk.get(name), &Some(*bytes), name);
+    }
+    check_same(&rt, &desk.refused(), &0);
     Ok(())
 }
 
@@ -262,21 +238,23 @@ fn a_name_of_a_desk_takes_a_text_as_a_sink(rt: HostRuntime) -> Result<(), Fail> 
     write_all(&mut file, b"first")?;
     write_pieces(&mut file, &[Piece::Bytes(b" n="), Piece::Number(7)])?;
     write_all(&mut file, b", more")?;
-    assert_eq!(rt; write_all(&mut file, b", lost"), Err(WriteFault));
-    assert_eq!(rt; desk.get("a"), Some(b"first n=7, more".as_slice()));
-    assert_eq!(rt; desk.get("b"), Some(b"kept".as_slice()));
+    check_same(&rt, &write_all(&mut file, b", lost"), &Err(WriteFault));
+    check_same(&rt, &desk.get("a"), &Some(b"first n=7, more".as_slice()));
+    check_same(&rt, &desk.get("b"), &Some(b"kept".as_slice()));
     // One byte a write, until the third fails.
     let mut trickle = Trickle::new(MemDesk::new(alloc, vec![in alloc; 2]?));
-    assert_eq!(rt;
-        write_all(&mut DeskFile::new(&mut trickle, "a"), b"abc"),
-        Err(WriteFault)
+    check_same(
+        &rt,
+        &write_all(&mut DeskFile::new(&mut trickle, "a"), b"abc"),
+        &Err(WriteFault),
     );
-    assert_eq!(rt;
-        write_all(&mut DeskFile::new(&mut trickle, "b"), b"abc"),
-        Ok(())
+    check_same(
+        &rt,
+        &write_all(&mut DeskFile::new(&mut trickle, "b"), b"abc"),
+        &Ok(()),
     );
-    assert_eq!(rt; trickle.desk.get("a"), Some(b"ab".as_slice()));
-    assert_eq!(rt; trickle.desk.get("b"), Some(b"abc".as_slice()));
+    check_same(&rt, &trickle.get("a"), &Some(b"ab".as_slice()));
+    check_same(&rt, &trickle.get("b"), &Some(b"abc".as_slice()));
     Ok(())
 }
 
@@ -286,46 +264,53 @@ fn writes_go_on_after_a_part_and_stop_at_a_fault(rt: HostRuntime) -> Result<(), 
     let mut sips = Sips {
         sink: MemSink::new(alloc, vec![in alloc; 5]?),
     };
-    assert_eq!(rt; write_all(&mut sips, b"eight by"), Ok(()));
-    assert_eq!(rt; write_all(&mut sips, b"tes more"), Err(WriteFault));
-    assert_eq!(rt; sips.sink.bytes(), b"eight bytes mo".as_slice());
-    assert_eq!(rt; sips.sink.refused(), 0);
+    check_same(&rt, &write_all(&mut sips, b"eight by"), &Ok(()));
+    check_same(&rt, &write_all(&mut sips, b"tes more"), &Err(WriteFault));
+    check_same_list(&rt, sips.sink.bytes(), b"eight bytes mo".as_slice());
+    check_same(&rt, &sips.sink.refused(), &0);
+    Ok(())
+}
+
+/// Numbers, and how many hexadecimal digits they have at least.
+const HEXADECIMAL: [(u64, usize); 8] = [
+    (0, 0),
+    (0, 1),
+    (0x200, 8),
+    (0xabc, 2),
+    (15, 2),
+    (16, 2),
+    (u64::MAX, 16),
+    (1, 20),
+];
+
+#[test]
+fn numbers_are_printed_in_their_digits(rt: HostRuntime) -> Result<(), Fail> {
+    let mut sink = MemSink::new(rt.alloc(), Vec::new(rt.alloc()));
+    for number in [0, 41, u64::MAX as u128, u128::MAX] {
+        write_pieces(&mut sink, &[Piece::Number(number), Piece::Bytes(b" ")])?;
+    }
+    for (number, digits) in &HEXADECIMAL {
+        let (number, digits) = (*number, *digits);
+        write_pieces(
+            &mut sink,
+            &[Piece::Hex { number, digits }, Piece::Bytes(b" ")],
+        )?;
+    }
+    let wanted = b"0 41 18446744073709551615 340282366920938463463374607431768211455 \
+        0 0 00000200 abc 0f 10 ffffffffffffffff 00000000000000000001 ";
+    check_same_list(&rt, sink.bytes(), wanted);
     Ok(())
 }
 
 #[test]
-fn numbers_are_printed_in_their_digits(rt: HostRuntime) -> Result<(), Fail> {
-    let alloc = rt.alloc();
-    let mut sink = MemSink::new(alloc, Vec::new(alloc));
+fn a_text_is_its_parts(rt: HostRuntime) -> Result<(), Fail> {
+    let mut sink = MemSink::new(rt.alloc(), Vec::new(rt.alloc()));
     let mut text = Text::new(&mut sink);
-    for n in [0, 41, u64::MAX as u128, u128::MAX] {
-        text.number(n)?;
-        text.bytes(b" ")?;
-    }
-    for (n, digits) in [
-        (0, 0),
-        (0, 1),
-        (0x200, 8),
-        (0xabc, 2),
-        (15, 2),
-        (16, 2),
-        (u64::MAX, 16),
-        (1, 20),
-    ] {
-        text.hex(n, digits)?;
-        text.bytes(b" ")?;
-    }
+    text.bytes(b"n=")?;
+    text.number(7)?;
+    text.hex(255, 4)?;
     text.done()?;
-    let want = b"0 41 18446744073709551615 340282366920938463463374607431768211455 \
-        0 0 00000200 abc 0f 10 ffffffffffffffff 00000000000000000001 ";
-    assert_eq!(rt; sink.bytes(), want.as_slice());
-    let mut sink = MemSink::new(alloc, Vec::new(alloc));
-    let hex = Piece::Hex {
-        number: 255,
-        digits: 4,
-    };
-    write_pieces(&mut sink, &[Piece::Bytes(b"n="), Piece::Number(7), hex])?;
-    assert_eq!(rt; sink.bytes(), b"n=700ff".as_slice());
+    check_same_list(&rt, sink.bytes(), b"n=700ff");
     Ok(())
 }
 
@@ -344,120 +329,124 @@ fn a_long_text_is_whole_or_a_prefix_of_it(rt: HostRuntime) -> Result<(), Fail> {
         text.bytes(&full)?;
         text.bytes(&rest)?;
         if failing == 1 {
-            assert_eq!(rt; text.bytes(&long), Err(WriteFault));
-            assert_eq!(rt; sink.bytes(), want.as_slice());
+            check_same(&rt, &text.bytes(&long), &Err(WriteFault));
+            check_same_list(&rt, sink.bytes(), want.as_slice());
         } else {
             text.bytes(&long)?;
             text.done()?;
             let mut all = want.clone()?;
             all.extend_from_slice(&rest)?;
             all.extend_from_slice(&long)?;
-            assert_eq!(rt; sink.bytes(), all.as_slice());
+            check_same_list(&rt, sink.bytes(), all.as_slice());
         }
     }
     Ok(())
 }
 
-#[test]
-fn files_are_read_by_name(rt: HostRuntime) -> Result<(), Fail> {
-    let alloc = rt.alloc();
-    let path = format!(in alloc; "/tmp/xray_io-{}", std::process::id(rt.process()))?;
-    let long = counted(alloc, 100_000)?;
-    fs::write(&rt, path.as_str(), long.as_slice())?;
-    let mut desk = FileDesk::new(&rt);
-    assert_eq!(rt;
-        read_whole(alloc, &mut desk, path.as_str(), 100_000)?.as_slice(),
-        long.as_slice()
-    );
-    assert_eq!(rt;
-        read_whole(alloc, &mut desk, path.as_str(), 99_999),
-        Err(ReadError::TooLong)
-    );
-    let mut buf = [0; 4];
-    assert_eq!(rt; desk.read(path.as_str(), 252, &mut buf), Ok(4));
-    assert_eq!(rt; buf, [1, 2, 3, 4]);
-    fs::remove_file(&rt, path.as_str())?;
-    assert_eq!(rt;
-        read_whole(alloc, &mut desk, path.as_str(), 9),
-        Err(ReadError::ReadFault)
-    );
-    assert_eq!(rt;
-        desk.read(path.as_str(), 0, &mut buf),
-        Err(ReadFail::Failed)
-    );
-    assert_eq!(rt;
-        read_whole(alloc, &mut desk, "/tmp", 9),
-        Err(ReadError::ReadFault)
-    );
-    assert_eq!(rt;
-        read_whole(alloc, &mut desk, "/dev/zero", 99_999),
-        Err(ReadError::TooLong)
-    );
-    Ok(())
+/// The name of a file of this process.
+fn path_of(rt: &HostRuntime, kind: &str) -> Result<String, Fail> {
+    Ok(format!(in rt.alloc(); "/tmp/xray_io-{kind}-{}", std::process::id(rt.process()))?)
+}
+
+/// The length of a file, if it is read whole within a limit.
+fn read_file(rt: &HostRuntime, path: &str, limit: u64) -> Result<usize, ReadError> {
+    let bytes = read_whole(rt.alloc(), &mut FileDesk::new(rt), path, limit)?;
+    Ok(bytes.len())
+}
+
+/// The bytes of a file.
+fn bytes_of(rt: &HostRuntime, path: &str) -> Result<Vec<u8>, ReadError> {
+    read_whole(rt.alloc(), &mut FileDesk::new(rt), path, 100_000)
 }
 
 #[test]
+fn files_are_read_by_name(rt: HostRuntime) -> Result<(), Fail> {
+    let path = path_of(&rt, "read")?;
+    let path = path.as_str();
+    let long = counted(rt.alloc(), 100_000)?;
+    fs::write(&rt, path, long.as_slice())?;
+    check_same_list(&rt, &bytes_of(&rt, path)?, &long);
+    check_same(&rt, &read_file(&rt, path, 99_999), &Err(ReadError::TooLong));
+    let mut buf = [0; 4];
+    check_same(&rt, &FileDesk::new(&rt).read(path, 252, &mut buf), &Ok(4));
+    check_same_list(&rt, &buf, &[1, 2, 3, 4]);
+    fs::remove_file(&rt, path)?;
+    check_same(
+        &rt,
+        &FileDesk::new(&rt).read(path, 0, &mut buf),
+        &Err(ReadFail::Failed),
+    );
+    for (other, error) in [
+        (path, ReadError::ReadFault),
+        ("/tmp", ReadError::ReadFault),
+        ("/dev/zero", ReadError::TooLong),
+    ] {
+        check_same_at(&rt, &read_file(&rt, other, 99_999), &Err(error), &other);
+    }
+    Ok(())
+}
+
+/// Files, calls, and how many bytes these move. The first file holds something, and the other one
+/// isn't there.
+const FILE_CALLS: [(&str, Call, Option<usize>); 5] = [
+    ("first", Call::Create, Some(0)),
+    ("first", Call::Append(b"one"), Some(3)),
+    ("second", Call::Append(b"begun"), Some(5)),
+    ("first", Call::Append(b" two"), Some(4)),
+    ("first", Call::Append(b""), Some(0)),
+];
+
+/// Names that can't be written, and calls that fail.
+const FAILING_CALLS: [(&str, Call); 3] = [
+    ("/tmp", Call::Create),
+    ("/tmp", Call::Append(b"lost")),
+    ("/dev/full", Call::Append(b"lost")),
+];
+
+#[test]
 fn files_are_written_by_name(rt: HostRuntime) -> Result<(), Fail> {
-    let alloc = rt.alloc();
-    let first = format!(in alloc; "/tmp/xray_io-first-{}", std::process::id(rt.process()))?;
-    let second = format!(in alloc; "/tmp/xray_io-second-{}", std::process::id(rt.process()))?;
-    let (first, second) = (first.as_str(), second.as_str());
-    fs::write(&rt, first, b"old".as_slice())?;
+    fs::write(&rt, path_of(&rt, "first")?.as_str(), b"old".as_slice())?;
     let mut desk = FileDesk::new(&rt);
-    assert_eq!(rt; desk.create(first), Ok(()));
-    assert_eq!(rt; read_whole(alloc, &mut desk, first, 9)?.len(), 0);
-    assert_eq!(rt; desk.append(first, b"one"), Ok(3));
-    // A name that isn't there is begun, and another name grows at its end.
-    assert_eq!(rt; desk.append(second, b"begun"), Ok(5));
-    assert_eq!(rt; desk.append(first, b" two"), Ok(4));
-    assert_eq!(rt; desk.append(first, b""), Ok(0));
-    assert_eq!(rt;
-        read_whole(alloc, &mut desk, first, 9)?.as_slice(),
-        b"one two".as_slice()
-    );
-    assert_eq!(rt;
-        read_whole(alloc, &mut desk, second, 9)?.as_slice(),
-        b"begun".as_slice()
-    );
-    fs::remove_file(&rt, first)?;
-    fs::remove_file(&rt, second)?;
-    assert_eq!(rt; desk.create("/tmp"), Err(Failed));
-    assert_eq!(rt; desk.append("/tmp", b"lost"), Err(Failed));
-    assert_eq!(rt; desk.append("/dev/full", b"lost"), Err(Failed));
+    for (kind, call, wanted) in &FILE_CALLS {
+        let path = path_of(&rt, kind)?;
+        check_same_at(&rt, &make(&mut desk, &path, call), wanted, kind);
+    }
+    for (kind, bytes) in [("first", b"one two".as_slice()), ("second", b"begun")] {
+        let path = path_of(&rt, kind)?;
+        check_same_list(&rt, &bytes_of(&rt, &path)?, bytes);
+        fs::remove_file(&rt, path.as_str())?;
+    }
+    for (name, call) in &FAILING_CALLS {
+        check_same(&rt, &make(&mut desk, name, call), &None);
+    }
     Ok(())
 }
 
 #[test]
 fn the_streams_take_bytes_and_report_failures(rt: HostRuntime) -> Result<(), Fail> {
-    let alloc = rt.alloc();
-    let mut out = OutSink::new(&rt);
-    assert_eq!(rt; write_all(&mut out, b"out\n"), Ok(()));
-    let mut err = ErrSink::new(rt.stderr());
-    assert_eq!(rt; write_all(&mut err, b"err\n"), Ok(()));
-    let path = format!(in alloc; "/tmp/xray_io-out-{}", std::process::id(rt.process()))?;
-    let to_file = PrintsTo {
-        rt: &rt,
-        path: path.as_str(),
-    };
-    let mut desk = FileDesk::new(&rt);
+    write_all(&mut OutSink::new(&rt), b"out\n")?;
+    write_all(&mut ErrSink::new(rt.stderr()), b"err\n")?;
+    let path = path_of(&rt, "out")?;
+    let path = path.as_str();
+    let to_file = PrintsTo { rt: &rt, path };
     write_all(&mut OutSink::new(&to_file), b"to out")?;
-    let read = read_whole(alloc, &mut desk, path.as_str(), 9)?;
-    assert_eq!(rt; read.as_slice(), b"to out".as_slice());
+    check_same_list(&rt, &bytes_of(&rt, path)?, b"to out");
     write_all(&mut ErrSink::new(&to_file), b"to err")?;
-    let read = read_whole(alloc, &mut desk, path.as_str(), 9)?;
-    assert_eq!(rt; read.as_slice(), b"to err".as_slice());
-    fs::remove_file(&rt, path.as_str())?;
+    check_same_list(&rt, &bytes_of(&rt, path)?, b"to err");
+    fs::remove_file(&rt, path)?;
     let full = PrintsTo {
         rt: &rt,
         path: "/dev/full",
     };
-    assert_eq!(rt;
-        write_all(&mut OutSink::new(&full), b"lost"),
-        Err(WriteFault)
+    check_same(
+        &rt,
+        &write_all(&mut OutSink::new(&full), b"lost"),
+        &Err(WriteFault),
     );
-    assert_eq!(rt;
-        write_all(&mut ErrSink::new(&full), b"lost"),
-        Err(WriteFault)
+    check_same(
+        &rt,
+        &write_all(&mut ErrSink::new(&full), b"lost"),
+        &Err(WriteFault),
     );
     OpenGate.before(1, 0);
     OpenGate.before_store(0);

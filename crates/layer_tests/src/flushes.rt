@@ -1,6 +1,7 @@
 //! Calls of `trace_flush`: the audits of threads that have ended, and buffers in the order of a
 //! flush.
 
+use crate::passings::{ENTRY, EXIT, HAS_ENDED, Load, NO_HANDLER, RECORDS, pass};
 use crate::setups::DEFAULT_SETUP;
 use example_images::OUTPUTS_AN_A;
 use fdr_buffer::Buffer;
@@ -8,45 +9,17 @@ use fdr_record::{Event, Kind};
 use machine_step::{Cpu, End, Limits, Setup, Steps, Want};
 use std::alloc::Global;
 use std::test::Fail;
+use test_helpers::{check_same, check_same_list};
 use trace_flush::{AuditLine, arrange, audit_tells_its_run, write_audit};
 use xray_image::{Image, read_image};
 use xray_io::{MemSink, Wall, WriteFault};
 
-/// The parts of the patched entry sled and of the patched exit sled.
-const ENTRY: [(u32, u64); 4] = [(0, 0xBA41), (1, 1), (2, 0xE8), (3, 0x1F_FFF5)];
-
-const EXIT: [(u32, u64); 4] = [(4, 0xBA41), (5, 1), (6, 0xE9), (7, 0x1F_FFF3)];
-
 /// How many threads run the image.
 const THREADS: u32 = 2;
-
-/// The words of the handler and of the log's state: with no handler, and with one whose log records
-/// or has ended.
-const NO_HANDLER: [(u32, u64); 1] = [(8, 0)];
-
-const RECORDS: [(u32, u64); 2] = [(8, 1), (9, 2)];
-
-const HAS_ENDED: [(u32, u64); 2] = [(8, 1), (9, 4)];
 
 /// The image that the threads run.
 fn image_of(alloc: Global) -> Result<Image, Fail> {
     Ok(read_image(alloc, &OUTPUTS_AN_A)?)
-}
-
-/// Lets a thread into its next passing, and gives it the values of the words that it loads.
-fn pass(cpu: &mut Cpu, sled: &[(u32, u64)], rest: &[(u32, u64)]) -> Result<(), Fail> {
-    if let Want::Gate(_) = cpu.want() {
-        cpu.opened();
-    }
-    for (word, value) in sled.iter().chain(rest.iter()) {
-        match cpu.want() {
-            Want::Load(wanted) if wanted == *word && cpu.allowed(*value) => {
-                cpu.give(*value);
-            }
-            _ => Err("another word or value")?,
-        }
-    }
-    Ok(())
 }
 
 /// A thread that has passed both sleds. It loaded these words before those of the entry sled and of
@@ -56,15 +29,16 @@ fn passed_thread<'a>(
     steps: &'a Steps<'a>,
     thread: u32,
     limits: Limits,
-    entry: &[(u32, u64)],
-    exit: &[(u32, u64)],
+    entry: &[Load],
+    exit: &[Load],
 ) -> Result<Cpu<'a>, Fail> {
     if thread == 0 || thread > THREADS || limits.cpus == 0 || limits.migrate == 0 {
         Err("no such thread")?;
     }
     let mut cpu = Cpu::new(alloc, steps, thread, THREADS, None, limits)?;
-    pass(&mut cpu, &ENTRY, entry)?;
-    pass(&mut cpu, &EXIT, exit)?;
+    for loads in [ENTRY.as_slice(), entry, &EXIT, exit] {
+        pass(&mut cpu, loads)?;
+    }
     Ok(cpu)
 }
 
@@ -127,7 +101,7 @@ fn the_audit_of_a_thread_that_records_all(rt: HostRuntime) -> Result<(), Fail> {
         thread 1 returned passings 2 recorded 2 segments 1 first 0\n\
         marks +2\n\
         recycled 0\n";
-    assert_eq!(rt; sink.bytes(), text.as_slice());
+    check_same_list(&rt, sink.bytes(), text.as_slice());
     Ok(())
 }
 
@@ -185,7 +159,7 @@ fn the_audit_of_two_threads_that_lost_segments(rt: HostRuntime) -> Result<(), Fa
         thread 2 output-full passings 2 recorded 0 segments 4294967295 first 4294967294\n\
         marks n1 f1\n\
         recycled 4294967297\n";
-    assert_eq!(rt; sink.bytes(), text.as_slice());
+    check_same_list(&rt, sink.bytes(), text.as_slice());
     Ok(())
 }
 
@@ -225,9 +199,10 @@ fn a_sink_that_fails_in_mid_text_holds_a_prefix_of_it(rt: HostRuntime) -> Result
 
     // The text is longer than what is gathered for one write, and the second write fails.
     let mut broken = MemSink::new(alloc, vec![in alloc; 1]?);
-    assert_eq!(rt;
-        audit_of(&DEFAULT_SETUP, &lines, &cpus, &mut broken)?,
-        Err(WriteFault)
+    check_same(
+        &rt,
+        &audit_of(&DEFAULT_SETUP, &lines, &cpus, &mut broken)?,
+        &Err(WriteFault),
     );
     assert!(rt; !broken.bytes().is_empty());
     assert!(rt; broken.bytes().len() < whole.bytes().len());
@@ -254,38 +229,54 @@ fn buffer_of(alloc: Global, thread: u32, serial: u32, events: u32) -> Result<Buf
     Ok(buffer)
 }
 
+/// A buffer as its thread, its segment, and the number of its events.
+type Held = (u32, u32, u32);
+
+/// The buffers, in order.
+fn held_by(alloc: Global, buffers: &[Buffer]) -> Result<Vec<Held>, Fail> {
+    let mut held = Vec::new(alloc);
+    for buffer in buffers {
+        held.push((buffer.thread(), buffer.serial(), buffer.events()))?;
+    }
+    Ok(held)
+}
+
+/// Buffers in no order, some without an event.
+const BUFFERS: [Held; 7] = [
+    (2, 0, 1),
+    (1, 10, 2),
+    (3, 7, 0),
+    (1, 9, 1),
+    (16, 1, 5),
+    (2, 4_294_967_295, 1),
+    (1, 11, 0),
+];
+
+/// Those with an event, in the order of a flush.
+const ARRANGED: [Held; 5] = [
+    (1, 9, 1),
+    (1, 10, 2),
+    (2, 0, 1),
+    (2, 4_294_967_295, 1),
+    (16, 1, 5),
+];
+
 #[test]
 fn buffers_with_an_event_are_in_order_of_thread_and_segment(rt: HostRuntime) -> Result<(), Fail> {
     let alloc = rt.alloc();
     let mut buffers = Vec::new(alloc);
-    for (thread, serial, events) in [
-        (2, 0, 1),
-        (1, 10, 2),
-        (3, 7, 0),
-        (1, 9, 1),
-        (16, 1, 5),
-        (2, 4_294_967_295, 1),
-        (1, 11, 0),
-    ] {
-        buffers.push(buffer_of(alloc, thread, serial, events)?)?;
+    for (thread, serial, events) in &BUFFERS {
+        buffers.push(buffer_of(alloc, *thread, *serial, *events)?)?;
     }
     buffers.push(Buffer::new(alloc, 72)?)?;
     arrange(&mut buffers);
-    let mut left = Vec::new(alloc);
-    for buffer in &buffers {
-        left.push((buffer.thread(), buffer.serial(), buffer.events()))?;
-    }
-    let ordered = [
-        (1, 9, 1),
-        (1, 10, 2),
-        (2, 0, 1),
-        (2, 4_294_967_295, 1),
-        (16, 1, 5),
-    ];
-    assert_eq!(rt; left.as_slice(), ordered.as_slice());
+    check_same_list(&rt, &held_by(alloc, &buffers)?, &ARRANGED);
+    Ok(())
+}
 
-    let mut none = Vec::new(alloc);
+#[test]
+fn no_buffers_are_in_order(rt: HostRuntime) {
+    let mut none = Vec::new(rt.alloc());
     arrange(&mut none);
     assert!(rt; none.is_empty());
-    Ok(())
 }

@@ -6,6 +6,7 @@ use example_images::OUTPUTS_AN_A;
 use std::alloc::{AllocError, Global};
 use std::test::Fail;
 use subset_decode::{DecodeFault, Instr, Reg};
+use test_helpers::{check_same, check_same_at};
 use xray_image::{
     ImageFault, Sled, SledKind, Unit, What, Which, one_reading, one_unit_list, one_verdict,
     read_image,
@@ -22,7 +23,7 @@ fn an_image_has_the_units_of_its_code(rt: HostRuntime) -> Result<(), Fail> {
     one_reading();
     one_verdict();
     let image = read_image(rt.alloc(), &OUTPUTS_AN_A)?;
-    assert_eq!(rt; image.base(), 0x1000);
+    check_same(&rt, &image.base(), &0x1000);
     let dst = Reg::new(0).ok_or("rax")?;
     let units = [
         (0x1000, What::Sled(0)),
@@ -30,15 +31,15 @@ fn an_image_has_the_units_of_its_code(rt: HostRuntime) -> Result<(), Fail> {
         (0x1010, What::Plain(Instr::Out { port: 1 })),
         (0x1012, What::Sled(1)),
     ];
-    assert_eq!(rt; image.unit_count(), 4);
+    check_same(&rt, &image.unit_count(), &4);
     for i in 0..4 {
         let (address, what) = units[i as usize];
         assert!(rt; i < image.unit_count());
-        assert_eq!(rt; image.unit(i), Unit { address, what });
-        assert_eq!(rt; image.unit_at(address), Some(i));
+        check_same(&rt, &image.unit(i), &Unit { address, what });
+        check_same(&rt, &image.unit_at(address), &Some(i));
     }
     for address in [0, 0xFFF, 0x1001, 0x1011, 0x1013, 0x101D, u64::MAX] {
-        assert_eq!(rt; image.unit_at(address), None);
+        check_same(&rt, &image.unit_at(address), &None);
     }
     Ok(())
 }
@@ -46,11 +47,11 @@ fn an_image_has_the_units_of_its_code(rt: HostRuntime) -> Result<(), Fail> {
 #[test]
 fn an_image_has_the_function_and_the_sleds_of_its_map(rt: HostRuntime) -> Result<(), Fail> {
     let image = read_image(rt.alloc(), &OUTPUTS_AN_A)?;
-    assert_eq!(rt; image.entry(), 0x1000);
-    assert_eq!(rt; image.function_count(), 1);
-    assert_eq!(rt; image.trampoline(SledKind::Entry), 0x20_1000);
-    assert_eq!(rt; image.trampoline(SledKind::Exit), 0x20_1010);
-    assert_eq!(rt; image.trampoline(SledKind::Tail), 0x20_1020);
+    check_same(&rt, &image.entry(), &0x1000);
+    check_same(&rt, &image.function_count(), &1);
+    check_same(&rt, &image.trampoline(SledKind::Entry), &0x20_1000);
+    check_same(&rt, &image.trampoline(SledKind::Exit), &0x20_1010);
+    check_same(&rt, &image.trampoline(SledKind::Tail), &0x20_1020);
     let entry = Sled {
         address: 0x1000,
         function: 0x1000,
@@ -64,9 +65,9 @@ fn an_image_has_the_function_and_the_sleds_of_its_map(rt: HostRuntime) -> Result
         kind: SledKind::Exit,
         ..entry
     };
-    assert_eq!(rt; image.sled_count(), 2);
-    assert_eq!(rt; image.sled(0), entry);
-    assert_eq!(rt; image.sled(1), exit);
+    assert!(rt; image.sled_count() == 2);
+    check_same(&rt, &image.sled(0), &entry);
+    check_same(&rt, &image.sled(1), &exit);
     Ok(())
 }
 
@@ -178,18 +179,18 @@ const TWICE_DAMAGED: [Damage; 15] = [
 
 #[test]
 fn a_damaged_image_is_refused_as_the_table_says(rt: HostRuntime) -> Result<(), Fail> {
-    for (changes, length, fault) in DAMAGES {
-        let bytes = damaged(rt.alloc(), changes, length)?;
-        assert_eq!(rt; fault_of(&rt, &bytes), Some(fault), "{changes:?}");
+    for (changes, length, fault) in &DAMAGES {
+        let bytes = damaged(rt.alloc(), changes, *length)?;
+        check_same_at(&rt, &fault_of(&rt, &bytes), &Some(*fault), changes);
     }
     Ok(())
 }
 
 #[test]
 fn of_two_faults_the_first_of_the_table_is_reported(rt: HostRuntime) -> Result<(), Fail> {
-    for (changes, length, fault) in TWICE_DAMAGED {
-        let bytes = damaged(rt.alloc(), changes, length)?;
-        assert_eq!(rt; fault_of(&rt, &bytes), Some(fault), "{changes:?}");
+    for (changes, length, fault) in &TWICE_DAMAGED {
+        let bytes = damaged(rt.alloc(), changes, *length)?;
+        check_same_at(&rt, &fault_of(&rt, &bytes), &Some(*fault), changes);
     }
     Ok(())
 }
@@ -304,9 +305,9 @@ const CODES: [(&[u8], Option<ImageFault>); 14] = [
 
 #[test]
 fn code_is_refused_at_its_first_bad_unit_or_branch(rt: HostRuntime) -> Result<(), Fail> {
-    for (code, fault) in CODES {
+    for (code, fault) in &CODES {
         let bytes = file(rt.alloc(), code, &[(0x1000, "main")], &[])?;
-        assert_eq!(rt; fault_of(&rt, &bytes), fault, "{code:?}");
+        check_same_at(&rt, &fault_of(&rt, &bytes), fault, code);
     }
     Ok(())
 }
@@ -367,15 +368,15 @@ const FUNCTIONS: [(&[(u64, &str)], Option<ImageFault>); 8] = [
 
 #[test]
 fn functions_have_to_fit_the_units_and_the_map(rt: HostRuntime) -> Result<(), Fail> {
-    for (functions, fault) in FUNCTIONS {
+    for (functions, fault) in &FUNCTIONS {
         let bytes = file(rt.alloc(), &CALLS_F, functions, &CALLS_F_MAP)?;
-        assert_eq!(rt; fault_of(&rt, &bytes), fault, "{functions:?}");
+        check_same_at(&rt, &fault_of(&rt, &bytes), fault, functions);
     }
     let mut code = CALLS_F;
     code[12] = 0x0D;
     let functions = [(0x1000, "main"), (0x101C, "f")];
     let bytes = file(rt.alloc(), &code, &functions, &CALLS_F_MAP)?;
-    assert_eq!(rt; fault_of(&rt, &bytes), Some(ImageFault::Target(11)));
+    check_same(&rt, &fault_of(&rt, &bytes), &Some(ImageFault::Target(11)));
     Ok(())
 }
 
@@ -453,7 +454,7 @@ fn an_image_at_its_limits_is_read(rt: HostRuntime) -> Result<(), Fail> {
         (file_of_names(alloc, 255, 255)?, Some(ImageFault::Names(1))),
     ];
     for (bytes, fault) in &files {
-        assert_eq!(rt; fault_of(&rt, bytes), *fault, "{}", bytes.len());
+        check_same_at(&rt, &fault_of(&rt, bytes), fault, &bytes.len());
     }
     Ok(())
 }

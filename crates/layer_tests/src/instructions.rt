@@ -6,6 +6,7 @@ mod two_byte_starts;
 use std::process::Abort;
 use std::test::*;
 use subset_decode::*;
+use test_helpers::{check_same, check_same_at, check_same_list};
 use two_byte_starts::{RUNS, Start};
 
 /// The register with this number, which can be named.
@@ -15,15 +16,15 @@ fn reg(number: u8) -> Result<Reg, Fail> {
 
 /// Checks that an instruction has this encoding, and the encoding this instruction.
 fn check_encoding(rt: &impl Abort, instr: Instr, code: &[u8]) {
-    assert_eq!(rt; encode(&instr).as_slice(), code);
-    assert_eq!(rt; decode(code, 0), Ok((instr, code.len())));
+    check_same_list(rt, encode(&instr).as_slice(), code);
+    check_same(rt, &decode(code, 0), &Ok((instr, code.len())));
 }
 
 #[test]
 fn encodings_with_registers_are_the_assemblers(rt: HostRuntime) -> Result<(), Fail> {
     let (rax, rcx, rbx, rdi) = (reg(0)?, reg(1)?, reg(3)?, reg(7)?);
     let (r8, r9, r11, r12, r15) = (reg(8)?, reg(9)?, reg(11)?, reg(12)?, reg(15)?);
-    assert_eq!(rt; r15.number(), 15);
+    check_same(&rt, &r15.number(), &15);
     for (dst, imm, code) in [
         (rax, 65, b"\xB8\x41\0\0\0".as_slice()),
         (r9, 0x1234_5678, b"\x41\xB9\x78\x56\x34\x12".as_slice()),
@@ -60,39 +61,42 @@ const WITHOUT_REGISTERS: [(Instr, &[u8]); 7] = [
 
 #[test]
 fn encodings_without_registers_are_the_assemblers(rt: HostRuntime) {
-    for (instr, code) in WITHOUT_REGISTERS {
-        check_encoding(&rt, instr, code);
+    for (instr, code) in &WITHOUT_REGISTERS {
+        check_encoding(&rt, *instr, code);
     }
 }
 
+/// Bytes, and the fault that they decide.
+const FAULTS: [(&[u8], DecodeFault); 14] = [
+    (b"", DecodeFault::Short),
+    (b"\x41", DecodeFault::Short),
+    (b"\x0F\x85\0\0\0", DecodeFault::Short),
+    (b"\x41\xB8\0\0\0", DecodeFault::Short),
+    (b"\x0F\x84", DecodeFault::Unknown(132)),
+    (b"\x4A\x01\xC0", DecodeFault::Unknown(74)),
+    (b"\x48\x01\x05", DecodeFault::Unknown(5)),
+    (b"\x48\x01\xC4", DecodeFault::Register(4)),
+    (b"\x49\x01\xD2", DecodeFault::Register(10)),
+    (b"\x49\x01\xE2", DecodeFault::Register(10)),
+    (b"\x4C\x29\xD4", DecodeFault::Register(4)),
+    (b"\xBC", DecodeFault::Register(4)),
+    (b"\x54", DecodeFault::Register(4)),
+    (b"\x41\xBA", DecodeFault::Register(10)),
+];
+
 #[test]
 fn the_shortest_prefix_that_decides_gives_the_fault(rt: HostRuntime) {
-    for (bytes, fault) in [
-        (b"".as_slice(), DecodeFault::Short),
-        (b"\x41".as_slice(), DecodeFault::Short),
-        (b"\x0F\x85\0\0\0".as_slice(), DecodeFault::Short),
-        (b"\x41\xB8\0\0\0".as_slice(), DecodeFault::Short),
-        (b"\x0F\x84".as_slice(), DecodeFault::Unknown(132)),
-        (b"\x4A\x01\xC0".as_slice(), DecodeFault::Unknown(74)),
-        (b"\x48\x01\x05".as_slice(), DecodeFault::Unknown(5)),
-        (b"\x48\x01\xC4".as_slice(), DecodeFault::Register(4)),
-        (b"\x49\x01\xD2".as_slice(), DecodeFault::Register(10)),
-        (b"\x49\x01\xE2".as_slice(), DecodeFault::Register(10)),
-        (b"\x4C\x29\xD4".as_slice(), DecodeFault::Register(4)),
-        (b"\xBC".as_slice(), DecodeFault::Register(4)),
-        (b"\x54".as_slice(), DecodeFault::Register(4)),
-        (b"\x41\xBA".as_slice(), DecodeFault::Register(10)),
-    ] {
-        assert_eq!(rt; decode(bytes, 0), Err(fault), "at {bytes:?}");
+    for (bytes, fault) in &FAULTS {
+        check_same_at(&rt, &decode(bytes, 0), &Err(*fault), bytes);
     }
 }
 
 #[test]
 fn the_place_is_counted_from_the_start_of_the_bytes(rt: HostRuntime) {
     let code = b"\xE6\x01\xC3\x0F\x84";
-    assert_eq!(rt; decode(code, 2), Ok((Instr::Ret, 3)));
-    assert_eq!(rt; decode(code, 3), Err(DecodeFault::Unknown(132)));
-    assert_eq!(rt; decode(code, 5), Err(DecodeFault::Short));
+    check_same(&rt, &decode(code, 2), &Ok((Instr::Ret, 3)));
+    check_same(&rt, &decode(code, 3), &Err(DecodeFault::Unknown(132)));
+    check_same(&rt, &decode(code, 5), &Err(DecodeFault::Short));
 }
 
 #[test]
@@ -108,10 +112,11 @@ fn every_start_of_two_bytes_is_decoded_as_the_table_says(rt: HostRuntime) {
             Some(Start::Two) => Ok(2),
             Some(Start::Short) | None => Err(DecodeFault::Short),
         };
-        assert_eq!(rt;
-            decode(&[first, second], 0).map(|found| found.1),
-            wanted,
-            "at {start:04x}"
+        check_same_at(
+            &rt,
+            &decode(&[first, second], 0).map(|found| found.1),
+            &wanted,
+            &start,
         );
     }
 }

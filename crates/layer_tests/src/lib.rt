@@ -35,6 +35,8 @@ mod machine;
 #[cfg(test)]
 mod marks;
 #[cfg(test)]
+mod passings;
+#[cfg(test)]
 mod patching;
 #[cfg(test)]
 mod pools;

@@ -2,6 +2,7 @@
 
 use std::alloc::{AllocError, Global};
 use std::test::Fail;
+use test_helpers::{check_same, check_same_list};
 use text_lines::*;
 
 /// Each line as its number, `!` if it isn't clean, its words with a space before each, and `;`.
@@ -24,70 +25,76 @@ fn shown(alloc: Global, text: &[u8]) -> Result<Vec<u8>, AllocError> {
     Ok(shown)
 }
 
+/// Texts, and their lines as [`shown`] shows them.
+const TEXTS: [(&[u8], &[u8]); 12] = [
+    (b"", b""),
+    (b"\n", b"1;"),
+    (b"\n\n \t", b"1;2;3;"),
+    (b"go", b"1 go;"),
+    (b"go\n", b"1 go;"),
+    (
+        b"hold 1 20\r\n\tgo  # \xff\x00\r\np 3 ",
+        b"1 hold 1 20;2 go;3 p 3;",
+    ),
+    (b"a#b c\n#\nd", b"1 a;2;3 d;"),
+    (b"a\r", b"1! a\r;"),
+    (b"\r\r\n\r\n", b"1! \r;2;"),
+    (b"a\rb\n", b"1! a\rb;"),
+    (b"\x7f\n~ \x1f\n\x80", b"1! \x7f;2! ~ \x1f;3! \x80;"),
+    (b"mov eax, 1 # one\n.L1:\n", b"1 mov eax, 1;2 .L1:;"),
+];
+
 #[test]
 fn lines_and_words_follow_the_rules_of_texts(rt: HostRuntime) -> Result<(), Fail> {
-    let rows: [(&[u8], &[u8]); 12] = [
-        (b"", b""),
-        (b"\n", b"1;"),
-        (b"\n\n \t", b"1;2;3;"),
-        (b"go", b"1 go;"),
-        (b"go\n", b"1 go;"),
-        (
-            b"hold 1 20\r\n\tgo  # \xff\x00\r\np 3 ",
-            b"1 hold 1 20;2 go;3 p 3;",
-        ),
-        (b"a#b c\n#\nd", b"1 a;2;3 d;"),
-        (b"a\r", b"1! a\r;"),
-        (b"\r\r\n\r\n", b"1! \r;2;"),
-        (b"a\rb\n", b"1! a\rb;"),
-        (b"\x7f\n~ \x1f\n\x80", b"1! \x7f;2! ~ \x1f;3! \x80;"),
-        (b"mov eax, 1 # one\n.L1:\n", b"1 mov eax, 1;2 .L1:;"),
-    ];
-    for (text, expected) in rows {
+    for (text, expected) in &TEXTS {
         let found = shown(rt.alloc(), text)?;
-        assert_eq!(rt; found.as_slice(), expected);
+        check_same_list(&rt, found.as_slice(), expected);
         let lines = expected.iter().filter(|byte| **byte == b';').count();
-        assert_eq!(rt; count_lines(text), lines);
+        check_same(&rt, &count_lines(text), &lines);
     }
     Ok(())
 }
 
+/// Words, and the numbers of 32 bits that they say.
+const NUMBERS: [(&[u8], Option<u32>); 13] = [
+    (b"0", Some(0)),
+    (b"7", Some(7)),
+    (b"007", Some(7)),
+    (b"000000000000000000000001048576", Some(1_048_576)),
+    (b"4294967295", Some(4_294_967_295)),
+    (b"4294967296", None),
+    (b"42949672950", None),
+    (b"18446744073709551617", None),
+    (b"", None),
+    (b"+1", None),
+    (b"-1", None),
+    (b"0x1", None),
+    (b"1,", None),
+];
+
 #[test]
 fn numbers_are_decimal_digits_that_fit(rt: HostRuntime) {
-    let rows: [(&[u8], Option<u32>); 13] = [
-        (b"0", Some(0)),
-        (b"7", Some(7)),
-        (b"007", Some(7)),
-        (b"000000000000000000000001048576", Some(1_048_576)),
-        (b"4294967295", Some(4_294_967_295)),
-        (b"4294967296", None),
-        (b"42949672950", None),
-        (b"18446744073709551617", None),
-        (b"", None),
-        (b"+1", None),
-        (b"-1", None),
-        (b"0x1", None),
-        (b"1,", None),
-    ];
-    for (word, expected) in rows {
-        assert_eq!(rt; parse_number(word), expected);
+    for (word, expected) in &NUMBERS {
+        check_same(&rt, &parse_number(word), expected);
     }
 }
 
+/// Words, and the numbers of 64 bits that they say in hexadecimal digits.
+const DIGITS: [(&[u8], Option<u64>); 8] = [
+    (b"0", Some(0)),
+    (b"ff", Some(255)),
+    (b"00fF", Some(255)),
+    (b"ffffffffffffffff", Some(18_446_744_073_709_551_615)),
+    (b"10000000000000000", None),
+    (b"g", None),
+    (b"0x1", None),
+    (b"", None),
+];
+
 #[test]
 fn digits_of_a_radix_are_letters_above_nine(rt: HostRuntime) {
-    let rows: [(&[u8], Option<u64>); 8] = [
-        (b"0", Some(0)),
-        (b"ff", Some(255)),
-        (b"00fF", Some(255)),
-        (b"ffffffffffffffff", Some(18_446_744_073_709_551_615)),
-        (b"10000000000000000", None),
-        (b"g", None),
-        (b"0x1", None),
-        (b"", None),
-    ];
-    for (word, expected) in rows {
-        assert_eq!(rt; parse_digits(16, word), expected);
+    for (word, expected) in &DIGITS {
+        check_same(&rt, &parse_digits(16, word), expected);
     }
 }
 
@@ -112,17 +119,19 @@ fn first_words(line: &[u8]) -> (Option<u8>, u8) {
     (keyword, count)
 }
 
+/// Lines, and what [`first_words`] finds in them.
+const FIRST_WORDS: [(&[u8], (Option<u8>, u8)); 6] = [
+    (b"", (None, 0)),
+    (b"go", (Some(1), 0)),
+    (b" hold 1 20", (Some(2), 2)),
+    (b"gO x", (None, 1)),
+    (b"hol", (None, 0)),
+    (b"go 1 2 3 4", (Some(1), 3)),
+];
+
 #[test]
 fn keywords_and_operands_of_a_line_are_found(rt: HostRuntime) {
-    let rows: [(&[u8], (Option<u8>, u8)); 6] = [
-        (b"", (None, 0)),
-        (b"go", (Some(1), 0)),
-        (b" hold 1 20", (Some(2), 2)),
-        (b"gO x", (None, 1)),
-        (b"hol", (None, 0)),
-        (b"go 1 2 3 4", (Some(1), 3)),
-    ];
-    for (line, expected) in rows {
-        assert_eq!(rt; first_words(line), expected);
+    for (line, expected) in &FIRST_WORDS {
+        check_same(&rt, &first_words(line), expected);
     }
 }

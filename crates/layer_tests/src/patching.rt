@@ -18,6 +18,7 @@ use sled_words::code_bytes;
 use std::sync::Wait;
 use std::test::Fail;
 use std::thread::{Threads, join};
+use test_helpers::check_same_list;
 use text_lines::count_lines;
 use xray_image::read_image;
 use xray_io::OpenGate;
@@ -38,7 +39,7 @@ fn unpatching_leaves_the_head_of_a_return_and_the_patched_bytes_that_follow(
         0xEB, 0x09, 1, 0, 0, 0, 0xE8, 0xF5, 0xFF, 0x1F, 0, 0xB8, 0x41, 0, 0, 0, 0xE6, 0x01, 0xC3,
         0xBA, 1, 0, 0, 0, 0xE9, 0xF3, 0xFF, 0x1F, 0,
     ];
-    assert_eq!(rt; code.as_slice(), bytes.as_slice());
+    check_same_list(&rt, code.as_slice(), bytes.as_slice());
     Ok(())
 }
 
@@ -54,7 +55,7 @@ fn unpatching_a_sled_that_was_never_patched_leaves_the_code_as_it_was(
     let mut last = [0; 12];
     table.close(seat, &mut last);
     let code = code_bytes(rt.alloc(), &image, &last)?;
-    assert_eq!(rt; code.as_slice(), image.code());
+    check_same_list(&rt, code.as_slice(), image.code());
     Ok(())
 }
 
@@ -270,7 +271,7 @@ fn two_threads_fetch_lawful_words_while_a_third_patches(rt: HostRuntime) -> Resu
         run.second.seat,
         &mut last,
     );
-    assert_eq!(rt; &last[..8], PATCHED.as_slice());
-    assert_eq!(rt; &last[8..], [0, 0, 0, 0, u64::MAX, u64::MAX].as_slice());
+    check_same_list(&rt, &last[..8], PATCHED.as_slice());
+    check_same_list(&rt, &last[8..], [0, 0, 0, 0, u64::MAX, u64::MAX].as_slice());
     Ok(())
 }

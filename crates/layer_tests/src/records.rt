@@ -4,6 +4,7 @@ ghost use Rattle.fdr_record.specs.Records.{IdFits};
 
 use fdr_record::*;
 use std::process::Abort;
+use test_helpers::{check_same, check_same_at, check_same_list};
 use xray_io::Wall;
 
 /// Ends the test if the function's id doesn't fit a record.
@@ -121,17 +122,17 @@ const ROWS: [(Rec, &[u8]); 17] = [
 
 #[test]
 fn records_are_written_and_read_byte_by_byte(rt: HostRuntime) {
-    for (rec, bytes) in ROWS {
-        check_id(&rt, &rec);
-        assert_eq!(rt; rec_len(&rec), bytes.len());
+    for (rec, bytes) in &ROWS {
+        check_id(&rt, rec);
+        check_same(&rt, &rec_len(rec), &bytes.len());
         let mut buf = [0xAA; 24];
-        let end = put_rec(&rec, &mut buf, 3);
-        assert_eq!(rt; end, 3 + bytes.len());
-        assert_eq!(rt; &buf[..3], [0xAA; 3].as_slice());
-        assert_eq!(rt; &buf[3..end], bytes);
+        let end = put_rec(rec, &mut buf, 3);
+        check_same(&rt, &end, &(3 + bytes.len()));
+        check_same_list(&rt, &buf[..3], [0xAA; 3].as_slice());
+        check_same_list(&rt, &buf[3..end], bytes);
         assert!(rt; buf[end..].iter().all(|b| *b == 0xAA));
-        assert_eq!(rt; take_rec(&buf, 3), Ok((rec, end)));
-        assert_eq!(rt; take_rec(bytes, 0), Ok((rec, bytes.len())));
+        check_same(&rt, &take_rec(&buf, 3), &Ok((*rec, end)));
+        check_same(&rt, &take_rec(bytes, 0), &Ok((*rec, bytes.len())));
     }
 }
 
@@ -140,28 +141,31 @@ fn bytes_that_follow_the_fields_are_ignored(rt: HostRuntime) {
     let mut bytes = *b"\x05\x02\x01\x03\0\0\0\0\0\0\0\0\0\0\0\0\x07";
     bytes[11..].fill(0x5A);
     let cpu = Rec::NewCpu { cpu: 258, tsc: 3 };
-    assert_eq!(rt; take_rec(&bytes, 0), Ok((cpu, 16)));
-    assert_eq!(rt; take_rec(&bytes, 17), Err(RecFault::Short));
+    check_same(&rt, &take_rec(&bytes, 0), &Ok((cpu, 16)));
+    check_same(&rt, &take_rec(&bytes, 17), &Err(RecFault::Short));
 }
+
+/// Bytes, and why they are no record.
+const FAULTS: [(&[u8], RecFault); 14] = [
+    (b"", RecFault::Short),
+    (b"\x10\0\0\0\0\0\0", RecFault::Short),
+    (b"\x16\0\0\0\0\0\0", RecFault::Short),
+    (b"\x07\0\0\0\0\0\0\0\0\0\0\0\0\0\0", RecFault::Short),
+    (b"\x03\0\0\0\0\0\0\0\0\0\0\0\0\0\0", RecFault::Short),
+    (b"\x06\0\0\0\0\0\0\0", RecFault::Action(3)),
+    (b"\x18\0\0\0\0\0\0\0", RecFault::Action(4)),
+    (b"\xFE\xFF\xFF\xFF\0\0\0\0\0", RecFault::Action(7)),
+    (b"\x03\0\0\0\0\0\0\0\0\0\0\0\0\0\0\0", RecFault::Kind(1)),
+    (b"\x0B\0\0\0\0\0\0\0\0\0\0\0\0\0\0\0", RecFault::Kind(5)),
+    (b"\x0D\0\0\0\0\0\0\0\0\0\0\0\0\0\0\0", RecFault::Kind(6)),
+    (b"\x11\0\0\0\0\0\0\0\0\0\0\0\0\0\0\0", RecFault::Kind(8)),
+    (b"\x15\0\0\0\0\0\0\0\0\0\0\0\0\0\0\0", RecFault::Kind(10)),
+    (b"\xFF\0\0\0\0\0\0\0\0\0\0\0\0\0\0\0", RecFault::Kind(127)),
+];
 
 #[test]
 fn bytes_that_are_no_record_are_refused(rt: HostRuntime) {
-    for (bytes, fault) in [
-        (b"".as_slice(), RecFault::Short),
-        (b"\x10\0\0\0\0\0\0", RecFault::Short),
-        (b"\x16\0\0\0\0\0\0", RecFault::Short),
-        (b"\x07\0\0\0\0\0\0\0\0\0\0\0\0\0\0", RecFault::Short),
-        (b"\x03\0\0\0\0\0\0\0\0\0\0\0\0\0\0", RecFault::Short),
-        (b"\x06\0\0\0\0\0\0\0", RecFault::Action(3)),
-        (b"\x18\0\0\0\0\0\0\0", RecFault::Action(4)),
-        (b"\xFE\xFF\xFF\xFF\0\0\0\0\0", RecFault::Action(7)),
-        (b"\x03\0\0\0\0\0\0\0\0\0\0\0\0\0\0\0", RecFault::Kind(1)),
-        (b"\x0B\0\0\0\0\0\0\0\0\0\0\0\0\0\0\0", RecFault::Kind(5)),
-        (b"\x0D\0\0\0\0\0\0\0\0\0\0\0\0\0\0\0", RecFault::Kind(6)),
-        (b"\x11\0\0\0\0\0\0\0\0\0\0\0\0\0\0\0", RecFault::Kind(8)),
-        (b"\x15\0\0\0\0\0\0\0\0\0\0\0\0\0\0\0", RecFault::Kind(10)),
-        (b"\xFF\0\0\0\0\0\0\0\0\0\0\0\0\0\0\0", RecFault::Kind(127)),
-    ] {
-        assert_eq!(rt; take_rec(bytes, 0), Err(fault), "at {bytes:?}");
+    for (bytes, fault) in &FAULTS {
+        check_same_at(&rt, &take_rec(bytes, 0), &Err(*fault), bytes);
     }
 }

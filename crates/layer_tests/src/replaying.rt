@@ -6,6 +6,7 @@ use std::alloc::{AllocError, Global};
 use std::process::Abort;
 use std::test::Fail;
 use step_sim::*;
+use test_helpers::{check_same, check_same_list};
 use text_lines::count_lines;
 
 mod buffers;
@@ -54,28 +55,34 @@ fn a_schedule_has_the_turns_of_its_lines(rt: HostRuntime) -> Result<(), Fail> {
             count: 1,
         },
     ];
-    assert_eq!(rt; schedule.lines(), expected.as_slice());
+    check_same_list(&rt, schedule.lines(), expected.as_slice());
     Ok(())
 }
 
+/// Texts, and why they are no schedules for two threads.
+const REFUSALS: [(&[u8], ScheduleFault); 12] = [
+    (b"p 0", ScheduleFault::Syntax(1)),
+    (b"t 1", ScheduleFault::Syntax(1)),
+    (b"t 1 1 1", ScheduleFault::Syntax(1)),
+    (b"p", ScheduleFault::Syntax(1)),
+    (b"go", ScheduleFault::Syntax(1)),
+    (b"p 1\np -1\nt 3 1", ScheduleFault::Syntax(2)),
+    (b"p 4294967296", ScheduleFault::Syntax(1)),
+    (b"\n# \xff\np 1 \xff", ScheduleFault::Syntax(3)),
+    (b"t 3 1", ScheduleFault::Thread(1)),
+    (b"t 0 1\np 0", ScheduleFault::Thread(1)),
+    (b"p 1\r\nt x 1", ScheduleFault::Thread(2)),
+    (b"t x 0", ScheduleFault::Syntax(1)),
+];
+
 #[test]
 fn a_text_is_refused_by_its_first_fault(rt: HostRuntime) {
-    let rows: [(&[u8], ScheduleFault); 12] = [
-        (b"p 0", ScheduleFault::Syntax(1)),
-        (b"t 1", ScheduleFault::Syntax(1)),
-        (b"t 1 1 1", ScheduleFault::Syntax(1)),
-        (b"p", ScheduleFault::Syntax(1)),
-        (b"go", ScheduleFault::Syntax(1)),
-        (b"p 1\np -1\nt 3 1", ScheduleFault::Syntax(2)),
-        (b"p 4294967296", ScheduleFault::Syntax(1)),
-        (b"\n# \xff\np 1 \xff", ScheduleFault::Syntax(3)),
-        (b"t 3 1", ScheduleFault::Thread(1)),
-        (b"t 0 1\np 0", ScheduleFault::Thread(1)),
-        (b"p 1\r\nt x 1", ScheduleFault::Thread(2)),
-        (b"t x 0", ScheduleFault::Syntax(1)),
-    ];
-    for (text, expected) in rows {
-        assert_eq!(rt; read_schedule(rt.alloc(), text, 2).err(), Some(expected));
+    for (text, expected) in &REFUSALS {
+        check_same(
+            &rt,
+            &read_schedule(rt.alloc(), text, 2).err(),
+            &Some(*expected),
+        );
     }
 }
 
@@ -86,16 +93,18 @@ fn lines_of(alloc: Global, first: &[u8], lines: usize) -> Result<Vec<u8>, AllocE
     Ok(text)
 }
 
+/// First lines, numbers of lines, and why such a text is refused, if it is.
+const LENGTHS: [(&[u8], usize, Option<ScheduleFault>); 3] = [
+    (b"p 1", 1_048_576, None),
+    (b"p 0", 1_048_576, Some(ScheduleFault::Syntax(1))),
+    (b"p 0", 1_048_577, Some(ScheduleFault::Limit)),
+];
+
 #[test]
 fn a_text_has_at_most_1048576_lines(rt: HostRuntime) -> Result<(), Fail> {
-    let rows: [(&[u8], usize, Option<ScheduleFault>); 3] = [
-        (b"p 1", 1_048_576, None),
-        (b"p 0", 1_048_576, Some(ScheduleFault::Syntax(1))),
-        (b"p 0", 1_048_577, Some(ScheduleFault::Limit)),
-    ];
-    for (first, lines, expected) in rows {
-        let text = lines_of(rt.alloc(), first, lines)?;
-        assert_eq!(rt; read_schedule(rt.alloc(), &text, 1).err(), expected);
+    for (first, lines, expected) in &LENGTHS {
+        let text = lines_of(rt.alloc(), first, *lines)?;
+        check_same(&rt, &read_schedule(rt.alloc(), &text, 1).err(), expected);
     }
     Ok(())
 }

@@ -12,6 +12,7 @@ use std::process::Abort;
 use std::sync::Wait;
 use std::test::Fail;
 use std::thread::Threads;
+use test_helpers::{check_same, check_same_list};
 use text_lines::count_lines;
 use thread_run::{RunEnd, run};
 use xray_image::read_image;
@@ -114,13 +115,13 @@ fn outcome_of<R: Abort + AllocGlobal>(rt: &R, end: &RunEnd) -> Result<Outcome, F
 fn a_held_thread_passes_its_sleds_once_they_are_patched(rt: HostRuntime) -> Result<(), Fail> {
     let script = b"set_handler\ninit\nhold 1 2\ngo\nawait 1 2\npatch\nrelease 1\n";
     let left = run_file(&rt, &CALLS, script, &setup_of(1, 64, 16_384))?;
-    assert_eq!(rt; left.marks.bytes(), b".2 +2".as_slice());
+    check_same_list(&rt, left.marks.bytes(), b".2 +2".as_slice());
     let records = [
         5, 0, 0, 1, 0, 0, 0, 0, 0, 0, 0, 0, 0, 0, 0, 0, 0x22, 0, 0, 0, 0, 0, 0, 0, 0x12, 0, 0, 0,
         1, 0, 0, 0,
     ];
     assert!(rt; left.bytes.bytes().len() == 80);
-    assert_eq!(rt; &left.bytes.bytes()[48..], records.as_slice());
+    check_same_list(&rt, &left.bytes.bytes()[48..], records.as_slice());
     Ok(())
 }
 
@@ -135,9 +136,13 @@ fn four_threads_keep_all_segments_or_the_last_ones(rt: HostRuntime) -> Result<()
     let script = b"patch\nset_handler\ninit\ngo\n";
     for (max, lost, len) in [(128, 0, 1_408_096), (64, 24, 1_014_496)] {
         let left = run_file(&rt, &FIBONACCI, script, &setup_of(4, max, 16_384))?;
-        assert_eq!(rt; left.marks.bytes(), b"+43782+43782+43782+43782".as_slice());
-        assert_eq!(rt; left.lost, lost);
-        assert_eq!(rt; trace_len(&rt, &left), len);
+        check_same_list(
+            &rt,
+            left.marks.bytes(),
+            b"+43782+43782+43782+43782".as_slice(),
+        );
+        check_same(&rt, &left.lost, &lost);
+        check_same(&rt, &trace_len(&rt, &left), &len);
     }
     Ok(())
 }
@@ -154,8 +159,8 @@ fn small_buffers_wrap_and_keep_the_last_segments(rt: HostRuntime) -> Result<(), 
     ];
     for (threads, max, lost, len) in runs {
         let left = run_file(&rt, &CALLS, script, &setup_of(threads, max, 72))?;
-        assert_eq!(rt; left.lost, lost);
-        assert_eq!(rt; trace_len(&rt, &left), len);
+        check_same(&rt, &left.lost, &lost);
+        check_same(&rt, &trace_len(&rt, &left), &len);
     }
     Ok(())
 }

@@ -4,6 +4,7 @@ use example_images::OUTPUTS_AN_A;
 use patch_script::*;
 use std::alloc::Global;
 use std::test::Fail;
+use test_helpers::check_same;
 use text_lines::count_lines;
 use xray_image::{Image, read_image};
 
@@ -28,33 +29,35 @@ fn store(word: u32, value: u64) -> Micro {
     Micro::Store { word, value }
 }
 
+/// Texts, and why they aren't scripts, if they aren't.
+const FAULTS: [(&[u8], Option<ScriptFault>); 17] = [
+    (b"", Some(ScriptFault::Go(1))),
+    (b"go\ngo\n", Some(ScriptFault::Go(2))),
+    (b"patch_function 2\ngo\n", Some(ScriptFault::Function(1))),
+    (b"go\nrelease 2\n", Some(ScriptFault::Thread(2))),
+    (b"go\nrelease 1\n", Some(ScriptFault::Hold(2))),
+    (b"hold 1 0\nhold 1 0\ngo\n", Some(ScriptFault::Hold(2))),
+    (b"hold 1 0\ngo\n", Some(ScriptFault::Hold(3))),
+    (b"init\ninit\ngo\n", Some(ScriptFault::Log(2))),
+    (b"finalize\ngo\n", Some(ScriptFault::Log(1))),
+    (b"patch 1\n", Some(ScriptFault::Syntax(1))),
+    (b"patch_function 0", Some(ScriptFault::Function(1))),
+    (b"patch\xFF\n", Some(ScriptFault::Syntax(1))),
+    (
+        b"hold 1 3\ngo\nawait 1 5\nrelease 1\n",
+        Some(ScriptFault::SelfWait(3)),
+    ),
+    (b"hold 1 3\ngo\nawait 1 3\nrelease 1\n", None),
+    (b"hold 1 3\ngo\nrelease 1\nawait 1 5\n", None),
+    (b"init\ngo\nfinalize\n", None),
+    (b"# traced\n\n patch_function 01\t# main\r\ngo", None),
+];
+
 #[test]
 fn the_first_fault_of_a_script_is_reported(rt: HostRuntime) -> Result<(), Fail> {
     let image = read_image(rt.alloc(), &OUTPUTS_AN_A)?;
-    let rows: [(&[u8], Option<ScriptFault>); 17] = [
-        (b"", Some(ScriptFault::Go(1))),
-        (b"go\ngo\n", Some(ScriptFault::Go(2))),
-        (b"patch_function 2\ngo\n", Some(ScriptFault::Function(1))),
-        (b"go\nrelease 2\n", Some(ScriptFault::Thread(2))),
-        (b"go\nrelease 1\n", Some(ScriptFault::Hold(2))),
-        (b"hold 1 0\nhold 1 0\ngo\n", Some(ScriptFault::Hold(2))),
-        (b"hold 1 0\ngo\n", Some(ScriptFault::Hold(3))),
-        (b"init\ninit\ngo\n", Some(ScriptFault::Log(2))),
-        (b"finalize\ngo\n", Some(ScriptFault::Log(1))),
-        (b"patch 1\n", Some(ScriptFault::Syntax(1))),
-        (b"patch_function 0", Some(ScriptFault::Function(1))),
-        (b"patch\xFF\n", Some(ScriptFault::Syntax(1))),
-        (
-            b"hold 1 3\ngo\nawait 1 5\nrelease 1\n",
-            Some(ScriptFault::SelfWait(3)),
-        ),
-        (b"hold 1 3\ngo\nawait 1 3\nrelease 1\n", None),
-        (b"hold 1 3\ngo\nrelease 1\nawait 1 5\n", None),
-        (b"init\ngo\nfinalize\n", None),
-        (b"# traced\n\n patch_function 01\t# main\r\ngo", None),
-    ];
-    for (text, expected) in rows {
-        assert_eq!(rt; fault_of(rt.alloc(), text, &image), expected);
+    for (text, expected) in &FAULTS {
+        check_same(&rt, &fault_of(rt.alloc(), text, &image), expected);
     }
     Ok(())
 }
@@ -68,11 +71,12 @@ fn a_script_has_at_most_1024_commands(rt: HostRuntime) -> Result<(), Fail> {
     }
     text.extend_from_slice(b"go\n# and no more\n")?;
     let script = script_of(rt.alloc(), &text, &image)?;
-    assert_eq!(rt; script.total(), 8184);
+    check_same(&rt, &script.total(), &8184);
     text.extend_from_slice(b"what\n")?;
-    assert_eq!(rt;
-        fault_of(rt.alloc(), &text, &image),
-        Some(ScriptFault::Limit(1026))
+    check_same(
+        &rt,
+        &fault_of(rt.alloc(), &text, &image),
+        &Some(ScriptFault::Limit(1026)),
     );
     Ok(())
 }
@@ -107,12 +111,12 @@ fn micro_steps_are_found_by_their_places(rt: HostRuntime) -> Result<(), Fail> {
         Micro::End,
     ];
     for (place, expected) in steps.iter().enumerate() {
-        assert_eq!(rt; script.micro(place as u64), *expected);
+        check_same(&rt, &(script.micro(place as u64)), expected);
     }
-    assert_eq!(rt; script.start(), 13);
-    assert_eq!(rt; script.total(), 17);
-    assert_eq!(rt; script.hold_of(1), Some(2));
-    assert_eq!(rt; script.hold_of(2), None);
-    assert_eq!(rt; script.waits(), Some(2));
+    check_same(&rt, &script.start(), &13);
+    check_same(&rt, &script.total(), &17);
+    check_same(&rt, &script.hold_of(1), &Some(2));
+    check_same(&rt, &script.hold_of(2), &None);
+    check_same(&rt, &script.waits(), &Some(2));
     Ok(())
 }

@@ -5,6 +5,7 @@ use crate::sled_values::{PATCHED, UNPATCHED};
 use example_images::OUTPUTS_AN_A;
 use sled_words::{Part, handler_word, initial_words, part_value, word_of};
 use std::test::Fail;
+use test_helpers::{check_same, check_same_list};
 use xray_image::{Image, read_image};
 
 /// The head, id, opcode and offset of a patched sled.
@@ -24,13 +25,13 @@ fn words_are_unpatched_sleds_and_zeros(rt: HostRuntime) -> Result<(), Fail> {
     let image = read_image(rt.alloc(), &OUTPUTS_AN_A)?;
     let one = initial_words(rt.alloc(), &image, 1)?;
     assert!(rt; one.len() == 12);
-    assert_eq!(rt; &one[..8], UNPATCHED.as_slice());
-    assert_eq!(rt; &one[8..], [0; 4].as_slice());
+    check_same_list(&rt, &one[..8], UNPATCHED.as_slice());
+    check_same_list(&rt, &one[8..], [0; 4].as_slice());
     let sixteen = initial_words(rt.alloc(), &image, 16)?;
-    assert_eq!(rt; sixteen.len(), 42);
-    assert_eq!(rt; word_of(1, Part::Offset), 7);
+    check_same(&rt, &sixteen.len(), &42);
+    check_same(&rt, &word_of(1, Part::Offset), &7);
     assert!(rt; image.sled_count() == 2);
-    assert_eq!(rt; handler_word(&image), 8);
+    check_same(&rt, &handler_word(&image), &8);
     Ok(())
 }
 
@@ -38,8 +39,8 @@ fn words_are_unpatched_sleds_and_zeros(rt: HostRuntime) -> Result<(), Fail> {
 fn patched_sleds_call_and_jump_to_their_trampolines(rt: HostRuntime) -> Result<(), Fail> {
     let image = read_image(rt.alloc(), &OUTPUTS_AN_A)?;
     assert!(rt; image.sled_count() == 2);
-    assert_eq!(rt; patched_values(&image, 0).as_slice(), &PATCHED[..4]);
-    assert_eq!(rt; patched_values(&image, 1).as_slice(), &PATCHED[4..]);
+    check_same_list(&rt, patched_values(&image, 0).as_slice(), &PATCHED[..4]);
+    check_same_list(&rt, patched_values(&image, 1).as_slice(), &PATCHED[4..]);
 
     // Trampolines at 0xF00 and 0xF10. They are 267 and 269 bytes below the ends of the sleds.
     let mut below = OUTPUTS_AN_A;
@@ -50,7 +51,15 @@ fn patched_sleds_call_and_jump_to_their_trampolines(rt: HostRuntime) -> Result<(
     below[42] = 0;
     let image = read_image(rt.alloc(), &below)?;
     assert!(rt; image.sled_count() == 2);
-    assert_eq!(rt; part_value(&image, 0, Part::Offset, true), 0xFFFF_FEF5);
-    assert_eq!(rt; part_value(&image, 1, Part::Offset, true), 0xFFFF_FEF3);
+    check_same(
+        &rt,
+        &part_value(&image, 0, Part::Offset, true),
+        &0xFFFF_FEF5,
+    );
+    check_same(
+        &rt,
+        &part_value(&image, 1, Part::Offset, true),
+        &0xFFFF_FEF3,
+    );
     Ok(())
 }

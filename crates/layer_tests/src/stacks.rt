@@ -6,6 +6,7 @@ use fdr_record::Kind;
 use stack_rebuild::*;
 use std::alloc::Global;
 use std::test::Fail;
+use test_helpers::{check_same, check_same_text};
 use xray_io::MemSink;
 
 /// A trace of calls of a thread that are made one in another, and of a call of thread 1.
@@ -76,17 +77,19 @@ const ROWS: [(&[Said], &str); 6] = [
 
 #[test]
 fn stacks_are_printed_by_their_paths(rt: HostRuntime) -> Result<(), Fail> {
-    for (events, lines) in ROWS {
+    for (events, lines) in &ROWS {
         let trace = trace_of(rt.alloc(), events)?;
-        assert_eq!(rt;
+        check_same_text(
+            &rt,
             printed(rt.alloc(), &trace, StackForm::Flame)?.as_str(),
-            lines
+            lines,
         );
     }
     let trace = trace_of(rt.alloc(), ROWS[1].0)?;
-    assert_eq!(rt;
+    check_same_text(
+        &rt,
         printed(rt.alloc(), &trace, StackForm::Human)?.as_str(),
-        "     count        sum       self stack\n         1         35         25 #1;#1\n         1         10         10 #1;#1;#1\n"
+        "     count        sum       self stack\n         1         35         25 #1;#1\n         1         10         10 #1;#1;#1\n",
     );
     Ok(())
 }
@@ -94,8 +97,16 @@ fn stacks_are_printed_by_their_paths(rt: HostRuntime) -> Result<(), Fail> {
 #[test]
 fn a_thread_with_too_many_open_calls_is_named(rt: HostRuntime) -> Result<(), Fail> {
     let full = deep_trace(rt.alloc(), 3, MOST_OPEN)?;
-    assert_eq!(rt; printed(rt.alloc(), &full, StackForm::Flame)?.as_str(), "");
+    check_same_text(
+        &rt,
+        printed(rt.alloc(), &full, StackForm::Flame)?.as_str(),
+        "",
+    );
     let deep = deep_trace(rt.alloc(), 3, MOST_OPEN + 1)?;
-    assert_eq!(rt; stacks(rt.alloc(), &deep).err(), Some(StackFault::Deep(3)));
+    check_same(
+        &rt,
+        &stacks(rt.alloc(), &deep).err(),
+        &Some(StackFault::Deep(3)),
+    );
     Ok(())
 }

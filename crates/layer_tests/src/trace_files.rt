@@ -1,6 +1,6 @@
 //! Calls of `fdr_file`: files byte by byte, as the format says, and each refusal.
 
-ghost use Rattle.std.specs.Prelude.{IsTrue, IfOk};
+ghost use Rattle.std.specs.Prelude.{◌≡◌, All, IsTrue, IfOk};
 
 use fdr_buffer::Buffer;
 use fdr_file::*;
@@ -8,13 +8,16 @@ use fdr_record::{Event, Kind, RecFault};
 use std::alloc::{AllocError, Global};
 use std::process::Abort;
 use std::test::Fail;
+use test_helpers::{check_same, check_same_at, check_same_list};
 use xray_io::{MemSink, Wall, WriteFault};
 
 /// A header with a constant and nonstop counter, and with buffers of 16,384 bytes.
 const HEADER: &[u8] = b"\x03\0\x01\0\x03\0\0\0\0\0\0\0\0\0\0\0\0\x40\0\0\0\0\0\0\0\0\0\0\0\0\0\0";
 
-/// Extents of 72, 80 and 96 bytes.
+/// Extents of 72, 48, 80 and 96 bytes.
 const EXTENTS_72: &[u8] = b"\x0F\x48\0\0\0\0\0\0\0\0\0\0\0\0\0\0";
+
+const EXTENTS_48: &[u8] = b"\x0F\x30\0\0\0\0\0\0\0\0\0\0\0\0\0\0";
 
 const EXTENTS_80: &[u8] = b"\x0F\x50\0\0\0\0\0\0\0\0\0\0\0\0\0\0";
 
@@ -75,28 +78,61 @@ fn fault(alloc: Global, bytes: &[u8]) -> Option<TraceFault> {
     read_trace(alloc, bytes).err()
 }
 
+/// What a block says of its buffer: the thread, the wall time and the process.
+type Begun = (u32, Wall, u32);
+
+/// The epoch.
+const EPOCH: Wall = Wall { secs: 0, micros: 0 };
+
+/// Checks what a block says.
+fn check_block(rt: &impl Abort, block: &Block, begun: Begun, events: &[Event]) {
+    check_same(rt, &(block.thread, block.wall, block.pid), &begun);
+    check_same_list(rt, block.events.as_slice(), events);
+}
+
+/// Checks the header of a file and its last block, of which there are so many.
+fn check_file(
+    rt: &impl Abort,
+    alloc: Global,
+    bytes: &[u8],
+    header: &Header,
+    blocks: usize,
+    begun: Begun,
+    events: &[Event],
+) -> Result<(), Fail> {
+    let trace = read_trace(alloc, bytes)?;
+    check_same(rt, &trace.header, header);
+    check_same(rt, &trace.blocks.as_slice().len(), &blocks);
+    match trace.blocks.as_slice().last() {
+        Some(block) => check_block(rt, block, begun, events),
+        None => panic!(rt; "no block"),
+    }
+    Ok(())
+}
+
+/// The header with these bytes: a constant and nonstop counter, and buffers of 16,384 bytes.
+const HEADER_FIELDS: Header = Header {
+    version: 3,
+    constant: true,
+    nonstop: true,
+    frequency: 0,
+    size: 16_384,
+};
+
 #[test]
 fn a_file_is_read_byte_by_byte(rt: HostRuntime) -> Result<(), Fail> {
     let bytes = one_block(rt.alloc())?;
-    assert_eq!(rt; bytes.len(), 128);
-    let trace = read_trace(rt.alloc(), &bytes)?;
-    let header = Header {
-        version: 3,
-        constant: true,
-        nonstop: true,
-        frequency: 0,
-        size: 16_384,
-    };
-    assert_eq!(rt; trace.header, header);
-    assert_eq!(rt; trace.blocks.as_slice().len(), 1);
-    for block in trace.blocks.as_slice() {
-        assert_eq!(rt; block.thread, 1);
-        assert_eq!(rt; block.wall, Wall { secs: 0, micros: 0 });
-        assert_eq!(rt; block.pid, 1);
-        let events = [event(0, 1, Kind::Entry, 0), event(0, 1, Kind::Exit, 2)];
-        assert_eq!(rt; block.events.as_slice(), events.as_slice());
-    }
-    Ok(())
+    check_same(&rt, &bytes.len(), &128);
+    let events = [event(0, 1, Kind::Entry, 0), event(0, 1, Kind::Exit, 2)];
+    check_file(
+        &rt,
+        rt.alloc(),
+        &bytes,
+        &HEADER_FIELDS,
+        1,
+        (1, EPOCH, 1),
+        &events,
+    )
 }
 
 /// CPU 0 at the last counter, and CPU 1 at counter 2.
@@ -158,52 +194,59 @@ const DELTAS: [TwoEvents; 5] = [
 
 #[test]
 fn deltas_add_up_from_the_last_whole_counter(rt: HostRuntime) -> Result<(), Fail> {
-    for (parts, first, second) in DELTAS {
-        let mut bytes = file(rt.alloc(), &[HEADER])?;
-        bytes.extend_from_slice(&file(rt.alloc(), parts)?)?;
-        let trace = read_trace(rt.alloc(), &bytes)?;
-        assert_eq!(rt; trace.blocks.as_slice().len(), 1);
-        for block in trace.blocks.as_slice() {
-            let events = [said(first), said(second)];
-            assert_eq!(rt; block.events.as_slice(), events.as_slice());
-        }
+    for (parts, first, second) in &DELTAS {
+        let block = file(rt.alloc(), parts)?;
+        let bytes = file(rt.alloc(), &[HEADER, &block])?;
+        let events = [said(*first), said(*second)];
+        check_file(
+            &rt,
+            rt.alloc(),
+            &bytes,
+            &HEADER_FIELDS,
+            1,
+            (1, EPOCH, 1),
+            &events,
+        )?;
     }
     Ok(())
 }
 
+/// A place in the file of one block, the byte that is put there, and why the file is refused.
+const DAMAGES: [(usize, u8, TraceFault); 23] = [
+    (32, 0x01, TraceFault::Order(32)),
+    (32, 0x10, TraceFault::Order(32)),
+    (32, 0x0B, TraceFault::Bad(32, RecFault::Kind(5))),
+    (32, 0x06, TraceFault::Bad(32, RecFault::Action(3))),
+    (33, 0x2F, TraceFault::Extents(32)),
+    (33, 0x51, TraceFault::Short(32)),
+    (33, 0x4F, TraceFault::Extents(120)),
+    (40, 0x80, TraceFault::Short(32)),
+    (48, 0x09, TraceFault::Order(48)),
+    (64, 0x13, TraceFault::Order(64)),
+    (80, 0x05, TraceFault::Order(80)),
+    (96, 0x07, TraceFault::NoBase(96)),
+    (96, 0x01, TraceFault::Order(96)),
+    (96, 0x10, TraceFault::NoBase(96)),
+    (112, 0x0F, TraceFault::Order(112)),
+    (112, 0x11, TraceFault::Bad(112, RecFault::Kind(8))),
+    (112, 0x16, TraceFault::Bad(112, RecFault::Action(3))),
+    (112, 0x18, TraceFault::Bad(112, RecFault::Action(4))),
+    (120, 0x11, TraceFault::Extents(120)),
+    (0, 0x02, TraceFault::Version(2)),
+    (0, 0x04, TraceFault::Version(4)),
+    (1, 0x01, TraceFault::Version(259)),
+    (2, 0x00, TraceFault::Form(0)),
+];
+
 /// The file of one block, with one byte changed.
 #[test]
 fn damaged_files_are_refused(rt: HostRuntime) -> Result<(), Fail> {
-    for (at, to, wanted) in [
-        (32, 0x01, TraceFault::Order(32)),
-        (32, 0x10, TraceFault::Order(32)),
-        (32, 0x0B, TraceFault::Bad(32, RecFault::Kind(5))),
-        (32, 0x06, TraceFault::Bad(32, RecFault::Action(3))),
-        (33, 0x2F, TraceFault::Extents(32)),
-        (33, 0x51, TraceFault::Short(32)),
-        (33, 0x4F, TraceFault::Extents(120)),
-        (40, 0x80, TraceFault::Short(32)),
-        (48, 0x09, TraceFault::Order(48)),
-        (64, 0x13, TraceFault::Order(64)),
-        (80, 0x05, TraceFault::Order(80)),
-        (96, 0x07, TraceFault::NoBase(96)),
-        (96, 0x01, TraceFault::Order(96)),
-        (96, 0x10, TraceFault::NoBase(96)),
-        (112, 0x0F, TraceFault::Order(112)),
-        (112, 0x11, TraceFault::Bad(112, RecFault::Kind(8))),
-        (112, 0x16, TraceFault::Bad(112, RecFault::Action(3))),
-        (112, 0x18, TraceFault::Bad(112, RecFault::Action(4))),
-        (120, 0x11, TraceFault::Extents(120)),
-        (0, 0x02, TraceFault::Version(2)),
-        (0, 0x04, TraceFault::Version(4)),
-        (1, 0x01, TraceFault::Version(259)),
-        (2, 0x00, TraceFault::Form(0)),
-    ] {
+    for (at, to, wanted) in &DAMAGES {
         let mut bytes = one_block(rt.alloc())?;
-        if let Some(byte) = bytes.get_mut(at) {
-            *byte = to;
+        if let Some(byte) = bytes.get_mut(*at) {
+            *byte = *to;
         }
-        assert_eq!(rt; fault(rt.alloc(), &bytes), Some(wanted), "{to:x} at {at}");
+        check_same_at(&rt, &fault(rt.alloc(), &bytes), &Some(*wanted), at);
     }
     Ok(())
 }
@@ -212,7 +255,7 @@ fn damaged_files_are_refused(rt: HostRuntime) -> Result<(), Fail> {
 fn a_file_cut_inside_its_header_or_a_block_is_short(rt: HostRuntime) -> Result<(), Fail> {
     let block = file(rt.alloc(), &[EXTENTS_72, PREAMBLE, CPU, ENTRY])?;
     let bytes = file(rt.alloc(), &[HEADER, &block, &block, &block])?;
-    assert_eq!(rt; bytes.len(), 296);
+    check_same(&rt, &bytes.len(), &296);
     for len in 0..=bytes.len() {
         let wanted = match len {
             0..=31 => Some(TraceFault::Short(0)),
@@ -221,7 +264,7 @@ fn a_file_cut_inside_its_header_or_a_block_is_short(rt: HostRuntime) -> Result<(
             121..=207 => Some(TraceFault::Short(120)),
             _ => Some(TraceFault::Short(208)),
         };
-        assert_eq!(rt; fault(rt.alloc(), &bytes[..len]), wanted, "{len} bytes");
+        check_same_at(&rt, &fault(rt.alloc(), &bytes[..len]), &wanted, &len);
     }
     Ok(())
 }
@@ -229,45 +272,60 @@ fn a_file_cut_inside_its_header_or_a_block_is_short(rt: HostRuntime) -> Result<(
 /// A file as LLVM's runtime lays it out. It has flags of which only two have a meaning, a
 /// frequency, reserved bytes and blocks of two threads. The bytes after the fields of its metadata
 /// records were never cleared. One buffer was begun and has no event.
+const OF_LLVM: [&[u8]; 9] = [
+    b"\x03\0\x01\0\x02\0\0\x80\0\x5E\xD0\xB2\0\0\0\0\0\0\x01\0\0\0\0\0ABCDEFGH",
+    b"\x0F\x30\0\0\0\0\0\0\0ABCDEFG",
+    PREAMBLE,
+    b"\x0F\x58\0\0\0\0\0\0\0ABCDEFG",
+    b"\x01\x39\x30\0\0ABCDEFGHIJK",
+    b"\x09\x80\x43\x6D\x38\0\0\0\0\x3F\x42\x0F\0ABC",
+    b"\x13\xE8\x03\0\0ABCDEFGHIJK",
+    b"\x05\x03\0\x10\0\0\0\0\0\0\0ABCDE",
+    b"\x50\0\0\0\x05\0\0\0\x60\0\0\0\x01\0\0\0\x62\0\0\0\0\0\0\0",
+];
+
 #[test]
 fn a_file_of_llvms_runtime_is_read(rt: HostRuntime) -> Result<(), Fail> {
-    let header = b"\x03\0\x01\0\x02\0\0\x80\0\x5E\xD0\xB2\0\0\0\0\0\0\x01\0\0\0\0\0ABCDEFGH";
-    let thread = b"\x01\x39\x30\0\0ABCDEFGHIJK";
-    let wall = b"\x09\x80\x43\x6D\x38\0\0\0\0\x3F\x42\x0F\0ABC";
-    let pid = b"\x13\xE8\x03\0\0ABCDEFGHIJK";
-    let cpu = b"\x05\x03\0\x10\0\0\0\0\0\0\0ABCDE";
-    let extents = b"\x0F\x58\0\0\0\0\0\0\0ABCDEFG";
-    let none = b"\x0F\x30\0\0\0\0\0\0\0ABCDEFG";
-    let events = b"\x50\0\0\0\x05\0\0\0\x60\0\0\0\x01\0\0\0\x62\0\0\0\0\0\0\0";
-    let bytes = file(
-        rt.alloc(),
-        &[
-            header, none, PREAMBLE, extents, thread, wall, pid, cpu, events,
-        ],
-    )?;
-    let trace = read_trace(rt.alloc(), &bytes)?;
-    assert_eq!(rt; trace.header.frequency, 3_000_000_000);
-    assert_eq!(rt; trace.header.size, 65_536);
-    assert!(rt; !trace.header.constant);
-    assert!(rt; trace.header.nonstop);
-    let [empty, block] = trace.blocks.as_slice() else {
-        return Err(Fail::from("there are two blocks"));
+    let header = Header {
+        version: 3,
+        constant: false,
+        nonstop: true,
+        frequency: 3_000_000_000,
+        size: 65_536,
     };
-    assert!(rt; empty.events.as_slice().is_empty());
-    assert_eq!(rt; block.thread, 12_345);
-    assert_eq!(rt; block.pid, 1_000);
-    let begun = Wall {
+    let wall = Wall {
         secs: 946_684_800,
         micros: 999_999,
     };
-    assert_eq!(rt; block.wall, begun);
-    let wanted = [
+    let events = [
         event(3, 5, Kind::Entry, 21),
         event(3, 6, Kind::Entry, 22),
         event(3, 6, Kind::Exit, 22),
     ];
-    assert_eq!(rt; block.events.as_slice(), wanted.as_slice());
-    Ok(())
+    let bytes = file(rt.alloc(), &OF_LLVM)?;
+    check_file(
+        &rt,
+        rt.alloc(),
+        &bytes,
+        &header,
+        2,
+        (12_345, wall, 1_000),
+        &events,
+    )
+}
+
+#[test]
+fn a_buffer_without_an_event_is_a_block_without_one(rt: HostRuntime) -> Result<(), Fail> {
+    let bytes = file(rt.alloc(), &[HEADER, EXTENTS_48, PREAMBLE])?;
+    check_file(
+        &rt,
+        rt.alloc(),
+        &bytes,
+        &HEADER_FIELDS,
+        1,
+        (1, EPOCH, 1),
+        &[],
+    )
 }
 
 /// A buffer of thread 1 with these events.
@@ -290,61 +348,67 @@ fn filled(
     Ok(buffer)
 }
 
-const HEADER_FIELDS: Header = Header {
-    version: 3,
-    constant: true,
-    nonstop: true,
-    frequency: 0,
-    size: 16_384,
-};
+/// The file of buffers.
+fn written(alloc: Global, header: &Header, buffers: &[Buffer]) -> Result<MemSink, Fail>
+    requires version { header.now.version ≡ 3 }
+    requires begun { All (λ buffer. IsTrue buffer.begun) buffers.now }
+{
+    let mut sink = MemSink::new(alloc, Vec::new(alloc));
+    write_file(header, buffers, &mut sink)?;
+    Ok(sink)
+}
+
+/// The parts of a file of three buffers. The second one has one event, and the third one has none.
+const PARTS: [&[u8]; 12] = [
+    HEADER,
+    EXTENTS_80,
+    PREAMBLE,
+    CPU,
+    ENTRY,
+    EXIT_AFTER_2,
+    EXTENTS_72,
+    PREAMBLE,
+    CPU_AT_2,
+    EXIT,
+    EXTENTS_48,
+    PREAMBLE,
+];
 
 #[test]
 fn a_file_is_written_byte_by_byte(rt: HostRuntime) -> Result<(), Fail> {
-    let epoch = Wall { secs: 0, micros: 0 };
     let events = [event(0, 1, Kind::Entry, 0), event(0, 1, Kind::Exit, 2)];
-    let first = filled(&rt, rt.alloc(), epoch, 1, &events)?;
-    let second = filled(&rt, rt.alloc(), epoch, 1, &[event(0, 1, Kind::Exit, 2)])?;
-    let none = filled(&rt, rt.alloc(), epoch, 1, &[])?;
-    let mut sink = MemSink::new(rt.alloc(), Vec::new(rt.alloc()));
-    write_file(&HEADER_FIELDS, &[first, second, none], &mut sink).map_err(|_| "a write failed")?;
-    let extents_48 = b"\x0F\x30\0\0\0\0\0\0\0\0\0\0\0\0\0\0";
-    let parts: [&[u8]; 13] = [
-        HEADER,
-        EXTENTS_80,
-        PREAMBLE,
-        CPU,
-        ENTRY,
-        EXIT_AFTER_2,
-        EXTENTS_72,
-        PREAMBLE,
-        CPU_AT_2,
-        b"\x12\0\0\0\0\0\0\0",
-        extents_48,
-        PREAMBLE,
-        b"",
-    ];
-    let wanted = file(rt.alloc(), &parts)?;
-    assert_eq!(rt; sink.bytes(), wanted.as_slice());
+    let first = filled(&rt, rt.alloc(), EPOCH, 1, &events)?;
+    let second = filled(&rt, rt.alloc(), EPOCH, 1, &events[1..])?;
+    let none = filled(&rt, rt.alloc(), EPOCH, 1, &[])?;
+    let sink = written(rt.alloc(), &HEADER_FIELDS, &[first, second, none])?;
+    check_same_list(&rt, sink.bytes(), &file(rt.alloc(), &PARTS)?);
+    Ok(())
+}
 
-    let plain = Header {
+#[test]
+fn a_header_is_written_byte_by_byte(rt: HostRuntime) -> Result<(), Fail> {
+    let header = Header {
         version: 3,
         constant: false,
         nonstop: true,
         frequency: 0x0102_0304_0506_0708,
         size: 72,
     };
-    let mut sink = MemSink::new(rt.alloc(), Vec::new(rt.alloc()));
-    write_file(&plain, &[], &mut sink).map_err(|_| "a write failed")?;
+    let sink = written(rt.alloc(), &header, &[])?;
     let wanted =
         b"\x03\0\x01\0\x02\0\0\0\x08\x07\x06\x05\x04\x03\x02\x01\x48\0\0\0\0\0\0\0\0\0\0\0\0\0\0\0";
-    assert_eq!(rt; sink.bytes(), wanted.as_slice());
+    check_same_list(&rt, sink.bytes(), wanted);
     Ok(())
 }
 
 #[test]
 fn a_write_that_fails_is_reported(rt: HostRuntime) -> Result<(), Fail> {
     let mut sink = MemSink::new(rt.alloc(), vec![in rt.alloc(); 0]?);
-    assert_eq!(rt; write_file(&HEADER_FIELDS, &[], &mut sink), Err(WriteFault));
+    check_same(
+        &rt,
+        &write_file(&HEADER_FIELDS, &[], &mut sink),
+        &Err(WriteFault),
+    );
     assert!(rt; sink.bytes().is_empty());
     Ok(())
 }
@@ -361,38 +425,35 @@ fn what_is_written_reads_back(rt: HostRuntime) -> Result<(), Fail> {
         event(258, 7, Kind::Exit, u32::MAX as u64),
     ];
     let buffer = filled(&rt, rt.alloc(), wall, 0x0102_0304, &events)?;
-    let mut sink = MemSink::new(rt.alloc(), Vec::new(rt.alloc()));
-    write_file(&HEADER_FIELDS, &[buffer], &mut sink).map_err(|_| "a write failed")?;
-    let trace = read_trace(rt.alloc(), sink.bytes())?;
-    assert_eq!(rt; trace.header, HEADER_FIELDS);
-    let [block] = trace.blocks.as_slice() else {
-        return Err(Fail::from("there is one block"));
-    };
-    assert_eq!(rt; block.thread, 1);
-    assert_eq!(rt; block.wall, wall);
-    assert_eq!(rt; block.pid, 0x0102_0304);
-    assert_eq!(rt; block.events.as_slice(), events.as_slice());
-    Ok(())
+    let sink = written(rt.alloc(), &HEADER_FIELDS, &[buffer])?;
+    let begun = (1, wall, 0x0102_0304);
+    check_file(
+        &rt,
+        rt.alloc(),
+        sink.bytes(),
+        &HEADER_FIELDS,
+        1,
+        begun,
+        &events,
+    )
 }
 
 #[test]
 fn lists_are_given_back(rt: HostRuntime) -> Result<(), Fail> {
     let exit = event(0, 1, Kind::Exit, 2);
     let events = Events::new(vec![in rt.alloc(); exit; 2]?).into_vec();
-    assert_eq!(rt; events.as_slice(), [exit, exit].as_slice());
-    let block = Block {
+    check_same_list(&rt, &events, &[exit, exit]);
+    let mut blocks = Vec::new(rt.alloc());
+    blocks.push(Block {
         thread: 7,
-        wall: Wall { secs: 0, micros: 0 },
+        wall: EPOCH,
         pid: 1,
         events: Events::new(events),
-    };
-    let mut blocks = Vec::new(rt.alloc());
-    blocks.push(block)?;
+    })?;
     let blocks = Blocks::new(blocks).into_vec();
-    assert_eq!(rt; blocks.len(), 1);
+    check_same(&rt, &blocks.len(), &1);
     for block in &blocks {
-        assert_eq!(rt; block.thread, 7);
-        assert_eq!(rt; block.events.as_slice().len(), 2);
+        check_block(&rt, block, (7, EPOCH, 1), &[exit, exit]);
     }
     Ok(())
 }

@@ -1,6 +1,8 @@
 //! `account`: its options, the names of functions, and each refusal.
 use crate::asm::FIBONACCI;
-use crate::runs::{IMAGE, assert_left, assert_stopped, run_words};
+use crate::runs::{
+    IMAGE, assert_left, assert_length, assert_made, assert_no_fault, assert_stopped, run_words,
+};
 use crate::sim::TRACED;
 use crate::trace_bytes::{
     CPU, ENTRY, EXIT, EXTENTS_72, EXTENTS_80, HEADER, ONE_CALL, ONE_EXIT, PREAMBLE, RECURSION,
@@ -31,6 +33,8 @@ const TEXT_OF_NO_ROWS: &str =
     "Functions with latencies: 2\n    funcid      count        min        med        \
     90p        99p        max        sum    entries      exits function\n";
 
+const CSV_HEAD: &str = "funcid,count,min,med,90p,99p,max,sum,entries,exits,function\n";
+
 const CSV_OF_ONE_EXIT: &str = "funcid,count,min,med,90p,99p,max,sum,entries,exits,function\n\
     1,0,-,-,-,-,-,-,0,1,main\n";
 
@@ -43,6 +47,9 @@ const CSV_OF_ONE_NAME: &str = "funcid,count,min,med,90p,99p,max,sum,entries,exit
 const CSV_OF_THE_SLOWEST: &str = "funcid,count,min,med,90p,99p,max,sum,entries,exits,function\n\
     1,1,5,5,5,5,5,5,0,0,#1\n";
 
+/// The words of an account with the names of an image, as a table of values.
+const AS_CSV: [&str; 5] = ["account", "t", "i", "--format", "csv"];
+
 /// The words of an account of the function that took longest.
 const SLOWEST: [&str; 7] = [
     "account",
@@ -54,33 +61,36 @@ const SLOWEST: [&str; 7] = [
     "--format=csv",
 ];
 
+/// The parts of traces, words, and what is printed.
+const PRINTED: [(&[&[u8]], &[&str], &str); 7] = [
+    (&[HEADER], &["account", "t"], TEXT_OF_NONE),
+    (&ONE_CALL, &["account", "t", "i"], TEXT_OF_ONE_CALL),
+    (
+        &ONE_EXIT,
+        &["account", "t", "i", "--format", "csv"],
+        CSV_OF_ONE_EXIT,
+    ),
+    (
+        &RECURSION,
+        &["account", "--format=csv", "t"],
+        CSV_OF_RECURSION,
+    ),
+    (
+        &TWO_FUNCTIONS,
+        &["account", "t", "i", "--format", "csv", "--sort", "funcid"],
+        CSV_OF_ONE_NAME,
+    ),
+    (&TWO_FUNCTIONS, &SLOWEST, CSV_OF_THE_SLOWEST),
+    (
+        &TWO_FUNCTIONS,
+        &["account", "t", "i", "--top", "0"],
+        TEXT_OF_NO_ROWS,
+    ),
+];
+
 #[test]
 fn an_account_is_printed_as_its_words_ask(rt: HostRuntime) -> Result<(), Fail> {
-    for (parts, words, text) in [
-        (&[HEADER][..], &["account", "t"][..], TEXT_OF_NONE),
-        (&ONE_CALL, &["account", "t", "i"], TEXT_OF_ONE_CALL),
-        (
-            &ONE_EXIT,
-            &["account", "t", "i", "--format", "csv"],
-            CSV_OF_ONE_EXIT,
-        ),
-        (
-            &RECURSION,
-            &["account", "--format=csv", "t"],
-            CSV_OF_RECURSION,
-        ),
-        (
-            &TWO_FUNCTIONS,
-            &["account", "t", "i", "--format", "csv", "--sort", "funcid"],
-            CSV_OF_ONE_NAME,
-        ),
-        (&TWO_FUNCTIONS, &SLOWEST, CSV_OF_THE_SLOWEST),
-        (
-            &TWO_FUNCTIONS,
-            &["account", "t", "i", "--top", "0"],
-            TEXT_OF_NO_ROWS,
-        ),
-    ] {
+    for (parts, words, text) in &PRINTED {
         let trace = file(rt.alloc(), parts)?;
         let mut desk = trace_desk(rt.alloc(), &trace, &IMAGE)?;
         let run = run_words(&rt, words, &mut desk, &[], &[])?;
@@ -92,6 +102,22 @@ fn an_account_is_printed_as_its_words_ask(rt: HostRuntime) -> Result<(), Fail> {
 const CSV_OF_FIBONACCI: &str = "funcid,count,min,med,90p,99p,max,sum,entries,exits,function\n\
     1,87564,3,7,142,1719,213128,11532192,0,0,fib\n";
 
+/// The words of runs that make an image and two traces of it.
+const MAKING: [&[&str]; 3] = [
+    &["asm", "x", "i"],
+    &["sim", "i", "s", "c", "t", "a", "--threads", "4"],
+    &[
+        "sim",
+        "i",
+        "s",
+        "c",
+        "u",
+        "b",
+        "--threads=4",
+        "--buffer-max=64",
+    ],
+];
+
 /// Four threads make 43,782 passings each. With buffers for all of their events, each call is a pair.
 #[test]
 fn four_threads_of_a_recursive_function_are_accounted(rt: HostRuntime) -> Result<(), Fail> {
@@ -99,29 +125,13 @@ fn four_threads_of_a_recursive_function_are_accounted(rt: HostRuntime) -> Result
     desk.put("x", FIBONACCI.as_bytes())?;
     desk.put("s", TRACED.as_bytes())?;
     desk.put("c", b"")?;
-    for words in [
-        &["asm", "x", "i"][..],
-        &["sim", "i", "s", "c", "t", "a", "--threads", "4"],
-        &[
-            "sim",
-            "i",
-            "s",
-            "c",
-            "u",
-            "b",
-            "--threads=4",
-            "--buffer-max=64",
-        ],
-    ] {
-        let run = run_words(&rt, words, &mut desk, &[], &[])?;
-        assert_eq!(rt; run.status, 0);
+    for words in &MAKING {
+        assert_no_fault(&rt, &run_words(&rt, words, &mut desk, &[], &[])?);
     }
-    assert_eq!(rt; desk.get("t").ok_or("no trace")?.len(), 1_408_096);
-    assert_eq!(rt; desk.get("u").ok_or("no trace")?.len(), 1_014_496);
-    let words = ["account", "t", "i", "--format", "csv"];
-    let run = run_words(&rt, &words, &mut desk, &[], &[])?;
-    assert_eq!(rt; run.status, 0);
-    assert_eq!(rt; run.out.as_str(), CSV_OF_FIBONACCI);
+    assert_length(&rt, desk.get("t"), 1_408_096);
+    assert_length(&rt, desk.get("u"), 1_014_496);
+    let run = run_words(&rt, &AS_CSV, &mut desk, &[], &[])?;
+    assert_left(&rt, &run, 0, CSV_OF_FIBONACCI, "");
     Ok(())
 }
 
@@ -131,54 +141,64 @@ const LONGEST_NAME: usize = 255;
 #[test]
 fn the_longest_name_is_printed_whole(rt: HostRuntime) -> Result<(), Fail> {
     let alloc = rt.alloc();
-    let mut name = Vec::new(alloc);
-    name.resize(LONGEST_NAME, b'n')?;
-    let text = file(alloc, &[b"fn ", &name, b" always\nret\n"])?;
+    let name = "n".repeat(alloc, LONGEST_NAME)?;
     let mut desk = trace_desk(alloc, &file(alloc, &ONE_CALL)?, b"")?;
-    desk.put("a", &text)?;
-    assert_eq!(rt;
-        run_words(&rt, &["asm", "a", "i"], &mut desk, &[], &[])?.status,
-        0
-    );
-    let words = ["account", "t", "i", "--format", "csv"];
-    let run = run_words(&rt, &words, &mut desk, &[], &[])?;
-    assert_eq!(rt; run.status, 0);
-    let head = b"funcid,count,min,med,90p,99p,max,sum,entries,exits,function\n";
-    let line = file(alloc, &[head, b"1,1,2,2,2,2,2,2,0,0,", &name, b"\n"])?;
-    assert_eq!(rt; run.out.as_str().as_bytes(), line.as_slice());
+    desk.put(
+        "x",
+        format!(in alloc; "fn {name} always\nret\n")?.as_bytes(),
+    )?;
+    assert_made(&rt, &mut desk)?;
+    let run = run_words(&rt, &AS_CSV, &mut desk, &[], &[])?;
+    let text = format!(in alloc; "{CSV_HEAD}1,1,2,2,2,2,2,2,0,0,{name}\n")?;
+    assert_left(&rt, &run, 0, &text, "");
     Ok(())
 }
 
+/// All of a header but its last byte.
+const CUT_HEADER: &[u8] = b"\x03\0\x01\0\x03\0\0\0\0\0\0\0\0\0\0\0\0\x40\0\0\0\0\0\0\0\0\0\0\0\0\0";
+
+/// A header of version 2, and one of type 0.
+const VERSION_2: &[u8] =
+    b"\x02\0\x01\0\x03\0\0\0\0\0\0\0\0\0\0\0\0\x40\0\0\0\0\0\0\0\0\0\0\0\0\0\0";
+
+const TYPE_0: &[u8] = b"\x03\0\0\0\x03\0\0\0\0\0\0\0\0\0\0\0\0\x40\0\0\0\0\0\0\0\0\0\0\0\0\0\0";
+
+/// The parts of what is no trace, and the line on err.
+const REFUSALS: [(&[&[u8]], &str); 11] = [
+    (&[CUT_HEADER], "xray: t: trace Short 0\n"),
+    (&[VERSION_2], "xray: t: trace Version 2\n"),
+    (&[TYPE_0], "xray: t: trace Form 0\n"),
+    (
+        &[HEADER, b"\x0F\x50\0\0\0\0\0\0"],
+        "xray: t: trace Short 32\n",
+    ),
+    (&[HEADER, EXTENTS_80, PREAMBLE], "xray: t: trace Short 32\n"),
+    (&[HEADER, PREAMBLE], "xray: t: trace Order 32\n"),
+    (
+        &[HEADER, EXTENTS_80, CPU, CPU, CPU, CPU, CPU],
+        "xray: t: trace Order 48\n",
+    ),
+    (
+        &[HEADER, b"\x0F\x2F\0\0\0\0\0\0\0\0\0\0\0\0\0\0"],
+        "xray: t: trace Extents 32\n",
+    ),
+    (
+        &[HEADER, b"\x06\0\0\0\0\0\0\0", EXIT],
+        "xray: t: trace Bad 32 Action 3\n",
+    ),
+    (
+        &[HEADER, EXTENTS_72, PREAMBLE, b"\x11\0\0\0\0\0\0\0", CPU],
+        "xray: t: trace Bad 96 Kind 8\n",
+    ),
+    (
+        &[HEADER, EXTENTS_72, PREAMBLE, ENTRY, CPU],
+        "xray: t: trace NoBase 96\n",
+    ),
+];
+
 #[test]
 fn what_is_no_trace_leaves_nothing_on_out(rt: HostRuntime) -> Result<(), Fail> {
-    for (parts, line) in [
-        (&[&HEADER[..31]][..], "xray: t: trace Short 0\n"),
-        (&[b"\x02\0", &HEADER[2..]], "xray: t: trace Version 2\n"),
-        (&[b"\x03\0\0\0", &HEADER[4..]], "xray: t: trace Form 0\n"),
-        (&[HEADER, &EXTENTS_80[..8]], "xray: t: trace Short 32\n"),
-        (&[HEADER, EXTENTS_80, PREAMBLE], "xray: t: trace Short 32\n"),
-        (&[HEADER, PREAMBLE], "xray: t: trace Order 32\n"),
-        (
-            &[HEADER, EXTENTS_80, CPU, CPU, CPU, CPU, CPU],
-            "xray: t: trace Order 48\n",
-        ),
-        (
-            &[HEADER, b"\x0F\x2F\0\0\0\0\0\0\0\0\0\0\0\0\0\0"],
-            "xray: t: trace Extents 32\n",
-        ),
-        (
-            &[HEADER, b"\x06\0\0\0\0\0\0\0", EXIT],
-            "xray: t: trace Bad 32 Action 3\n",
-        ),
-        (
-            &[HEADER, EXTENTS_72, PREAMBLE, b"\x11\0\0\0\0\0\0\0", CPU],
-            "xray: t: trace Bad 96 Kind 8\n",
-        ),
-        (
-            &[HEADER, EXTENTS_72, PREAMBLE, ENTRY, CPU],
-            "xray: t: trace NoBase 96\n",
-        ),
-    ] {
+    for (parts, line) in &REFUSALS {
         let trace = file(rt.alloc(), parts)?;
         let mut desk = trace_desk(rt.alloc(), &trace, &IMAGE)?;
         let run = run_words(&rt, &["account", "t", "i"], &mut desk, &[], &[])?;
@@ -187,27 +207,30 @@ fn what_is_no_trace_leaves_nothing_on_out(rt: HostRuntime) -> Result<(), Fail> {
     Ok(())
 }
 
+/// Words, the status, and the line on err.
+const ORDER: [(&[&str], u8, &str); 7] = [
+    (&["account", "t", "i"], 2, "xray: i: image Short\n"),
+    (&["account", "i", "i"], 2, "xray: i: trace Version 21080\n"),
+    (&["account", "t", "m"], 3, "xray: m: read fault\n"),
+    (&["account", "m", "i"], 3, "xray: m: read fault\n"),
+    (&["account", "t", "i", "t"], 1, "xray: bad command line\n"),
+    (&["account"], 1, "xray: bad command line\n"),
+    (
+        &["account", "t", "--sort", "name"],
+        1,
+        "xray: bad command line\n",
+    ),
+];
+
 #[test]
 fn an_image_is_refused_after_the_trace_and_a_bad_line_before_it(
     rt: HostRuntime,
 ) -> Result<(), Fail> {
     let trace = file(rt.alloc(), &ONE_CALL)?;
-    for (words, status, line) in [
-        (&["account", "t", "i"][..], 2, "xray: i: image Short\n"),
-        (&["account", "i", "i"], 2, "xray: i: trace Version 21080\n"),
-        (&["account", "t", "m"], 3, "xray: m: read fault\n"),
-        (&["account", "m", "i"], 3, "xray: m: read fault\n"),
-        (&["account", "t", "i", "t"], 1, "xray: bad command line\n"),
-        (&["account"], 1, "xray: bad command line\n"),
-        (
-            &["account", "t", "--sort", "name"],
-            1,
-            "xray: bad command line\n",
-        ),
-    ] {
+    for (words, status, line) in &ORDER {
         let mut desk = trace_desk(rt.alloc(), &trace, &IMAGE[..63])?;
         let run = run_words(&rt, words, &mut desk, &[], &[])?;
-        assert_stopped(&rt, &run, status, line);
+        assert_stopped(&rt, &run, *status, line);
     }
     Ok(())
 }

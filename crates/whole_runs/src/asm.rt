@@ -1,12 +1,15 @@
 //! `asm`, and what the other commands do with the images that it writes.
-use crate::desks::Trickle;
 use crate::plain::SLED_MAP;
-use crate::runs::{IMAGE, SCHEDULE, SCRIPT, STATE, assert_left, assert_stopped, run_words};
+use crate::runs::{
+    IMAGE, SCHEDULE, SCRIPT, STATE, assert_held, assert_left, assert_length, assert_stopped,
+    run_words,
+};
 use std::alloc::Global;
 use std::process::Abort;
 use std::sync::Wait;
 use std::test::Fail;
 use std::thread::Threads;
+use test_helpers::{Trickle, check_same_at};
 use xray_io::MemDesk;
 
 /// A move, an output and a return. The other tests have the image of this text as bytes.
@@ -32,6 +35,12 @@ const CODE: usize = 64;
 
 /// The code of each text. The bytes are those of the processor's manual; sleds and places are
 /// worked by hand.
+const STRAIGHT_LINE_CODE: &[u8] = &[
+    0xEB, 0x09, 0x66, 0x0F, 0x1F, 0x84, 0x00, 0x00, 0x02, 0x00, 0x00, //
+    0xB8, 0x41, 0x00, 0x00, 0x00, 0xE6, 0x01, //
+    0xC3, 0x2E, 0x66, 0x0F, 0x1F, 0x84, 0x00, 0x00, 0x02, 0x00, 0x00, //
+];
+
 const ODD_EXIT_CODE: &[u8] = &[
     0xEB, 0x09, 0x66, 0x0F, 0x1F, 0x84, 0x00, 0x00, 0x02, 0x00, 0x00, 0xE6, 0x00, 0x90, //
     0xC3, 0x2E, 0x66, 0x0F, 0x1F, 0x84, 0x00, 0x00, 0x02, 0x00, 0x00, //
@@ -149,25 +158,31 @@ fn assert_done<R: Abort + Threads + Wait + Sync + AllocGlobal>(
     Ok(())
 }
 
+/// A text, and the length, the code, the end and the sled map of its image.
+type Made = (
+    &'static str,
+    usize,
+    &'static [u8],
+    &'static str,
+    &'static str,
+);
+
+const MADE: [Made; 5] = [
+    (STRAIGHT_LINE, 170, STRAIGHT_LINE_CODE, STATE, SLED_MAP),
+    (ODD_EXIT, 166, ODD_EXIT_CODE, ODD_EXIT_END, ODD_EXIT_MAP),
+    (CALL, 266, CALL_CODE, CALL_END, CALL_MAP),
+    (TAIL_JUMP, 263, TAIL_JUMP_CODE, TAIL_JUMP_END, TAIL_JUMP_MAP),
+    (FIBONACCI, 326, FIBONACCI_CODE, FIBONACCI_END, FIBONACCI_MAP),
+];
+
 #[test]
 fn five_texts_become_images_that_run_and_have_their_sleds(rt: HostRuntime) -> Result<(), Fail> {
-    let straight_line = &IMAGE[CODE..CODE + 29];
-    for (text, length, code, end, map) in [
-        (STRAIGHT_LINE, 170, straight_line, STATE, SLED_MAP),
-        (ODD_EXIT, 166, ODD_EXIT_CODE, ODD_EXIT_END, ODD_EXIT_MAP),
-        (CALL, 266, CALL_CODE, CALL_END, CALL_MAP),
-        (TAIL_JUMP, 263, TAIL_JUMP_CODE, TAIL_JUMP_END, TAIL_JUMP_MAP),
-        (FIBONACCI, 326, FIBONACCI_CODE, FIBONACCI_END, FIBONACCI_MAP),
-    ] {
+    for (text, length, code, end, map) in &MADE {
         let mut desk = text_desk(rt.alloc(), &[], text.as_bytes())?;
         assert_done(&rt, &["asm", "t", "i"], &mut desk, "")?;
-        let file = desk.get("i").ok_or("no image")?;
-        assert_eq!(rt; file.len(), length, "{text}");
-        assert_eq!(rt;
-            file.get(CODE..CODE + code.len()).ok_or("short")?,
-            code,
-            "{text}"
-        );
+        assert_length(&rt, desk.get("i"), *length);
+        let file = desk.get("i").unwrap_or(OLD);
+        check_same_at(&rt, &file.get(CODE..CODE + code.len()), &Some(*code), text);
         assert_done(&rt, &["plain", "i"], &mut desk, end)?;
         assert_done(&rt, &["extract", "i"], &mut desk, map)?;
     }
@@ -180,73 +195,90 @@ fn an_assembled_image_is_replayed(rt: HostRuntime) -> Result<(), Fail> {
     desk.put("s", SCRIPT.as_bytes())?;
     desk.put("c", SCHEDULE.as_bytes())?;
     assert_done(&rt, &["asm", "t", "i"], &mut desk, "")?;
-    assert_eq!(rt; desk.get("i").ok_or("no image")?, IMAGE.as_slice());
-    assert_eq!(rt; desk.get("t").ok_or("no text")?, STRAIGHT_LINE.as_bytes());
+    assert_held(&rt, desk.get("i"), &IMAGE);
+    assert_held(&rt, desk.get("t"), STRAIGHT_LINE.as_bytes());
     let replayed = format!(in rt.alloc(); "{STATE}marks n1 .1\n")?;
     assert_done(&rt, &["sim", "i", "s", "c", "n", "a"], &mut desk, &replayed)
 }
 
+/// Words, and the length of the image of a function with one instruction line.
+const THRESHOLDS: [(&[&str], usize); 5] = [
+    (&["asm", "t", "i"], 161),
+    (&["asm", "t", "--threshold", "0", "i"], 161),
+    (&["asm", "--threshold=+01", "t", "i"], 161),
+    (&["asm", "t", "i", "--threshold", "2"], 75),
+    (&["asm", "--threshold=4294967295", "--", "t", "i"], 75),
+];
+
 #[test]
 fn the_threshold_is_a_number_of_instruction_lines(rt: HostRuntime) -> Result<(), Fail> {
-    for (words, length) in [
-        (&["asm", "t", "i"][..], 161),
-        (&["asm", "t", "--threshold", "0", "i"], 161),
-        (&["asm", "--threshold=+01", "t", "i"], 161),
-        (&["asm", "t", "i", "--threshold", "2"], 75),
-        (&["asm", "--threshold=4294967295", "--", "t", "i"], 75),
-    ] {
+    for (words, length) in &THRESHOLDS {
         let mut desk = text_desk(rt.alloc(), &[], b"fn a\nret\n")?;
         assert_done(&rt, words, &mut desk, "")?;
-        assert_eq!(rt; desk.get("i").ok_or("no image")?.len(), length);
+        assert_length(&rt, desk.get("i"), *length);
     }
     Ok(())
 }
+
+/// Checks that a text is refused with a line on err, and that the image is the older one.
+fn assert_refused<R: Abort + Threads + Wait + Sync + AllocGlobal>(
+    rt: &R,
+    text: &str,
+    line: &str,
+) -> Result<(), Fail> {
+    let mut desk = text_desk(rt.alloc(), &[], text.as_bytes())?;
+    let run = run_words(rt, &["asm", "t", "i"], &mut desk, &[], &[])?;
+    assert_stopped(rt, &run, 2, line);
+    assert_held(rt, desk.get("i"), OLD);
+    Ok(())
+}
+
+/// Texts, and the lines on err.
+const REFUSALS: [(&str, &str); 7] = [
+    ("mov eax, 1", "xray: t: text Syntax 1\n"),
+    ("fn a", "xray: t: text Syntax 2\n"),
+    ("fn a\nmov r10d, 1\nret", "xray: t: text Register 2\n"),
+    ("base 0x1001\nfn a\nret", "xray: t: text Range 1\n"),
+    ("fn a\nout 256\nret", "xray: t: text Range 2\n"),
+    ("fn a\nret\nfn a\nret", "xray: t: text Repeat 3\n"),
+    ("fn a\njmp b\nret", "xray: t: text Label 2\n"),
+];
 
 #[test]
 fn a_refused_text_leaves_the_image_that_was_there(rt: HostRuntime) -> Result<(), Fail> {
-    let alloc = rt.alloc();
-    let mut sleds = String::from_str(alloc, "fn a\n")?;
-    for _ in 0..4096 {
-        sleds.push_str("ret\n")?;
+    for (text, line) in &REFUSALS {
+        assert_refused(&rt, text, line)?;
     }
-    for (text, line) in [
-        ("mov eax, 1", "xray: t: text Syntax 1\n"),
-        ("fn a", "xray: t: text Syntax 2\n"),
-        ("fn a\nmov r10d, 1\nret", "xray: t: text Register 2\n"),
-        ("base 0x1001\nfn a\nret", "xray: t: text Range 1\n"),
-        ("fn a\nout 256\nret", "xray: t: text Range 2\n"),
-        ("fn a\nret\nfn a\nret", "xray: t: text Repeat 3\n"),
-        (sleds.as_str(), "xray: t: text Limit 4097\n"),
-        ("fn a\njmp b\nret", "xray: t: text Label 2\n"),
-    ] {
-        let mut desk = text_desk(alloc, &[], text.as_bytes())?;
-        let run = run_words(&rt, &["asm", "t", "i"], &mut desk, &[], &[])?;
-        assert_stopped(&rt, &run, 2, line);
-        assert_eq!(rt; desk.get("i").ok_or("no image")?, OLD, "{line}");
-    }
-    Ok(())
+    let returns = "ret\n".repeat(rt.alloc(), 4096)?;
+    let text = format!(in rt.alloc(); "fn a\n{returns}")?;
+    assert_refused(&rt, &text, "xray: t: text Limit 4097\n")
 }
 
-/// The desk's calls read the text byte by byte and find its end, create the image, and write it
-/// byte by byte.
+/// A call of the desk that fails, the status, the line on err, and how much of the image is there
+/// then, if it was begun. The text has 49 bytes: the calls 0 to 48 read them, one byte each, 49
+/// finds their end, 50 creates the image, and the next 170 write it.
+const FAILING: [(u64, u8, &str, Option<usize>); 7] = [
+    (0, 3, "xray: t: read fault\n", None),
+    (49, 3, "xray: t: read fault\n", None),
+    (50, 4, "xray: i: write fault\n", None),
+    (51, 4, "xray: i: write fault\n", Some(0)),
+    (151, 4, "xray: i: write fault\n", Some(100)),
+    (220, 4, "xray: i: write fault\n", Some(169)),
+    (221, 0, "", Some(170)),
+];
+
 #[test]
 fn a_call_of_the_desk_that_fails_leaves_a_front_of_the_image(rt: HostRuntime) -> Result<(), Fail> {
-    let end = STRAIGHT_LINE.len() as u64;
-    let create = end + 1;
-    for (failing, status, line, left) in [
-        (0, 3, "xray: t: read fault\n", OLD),
-        (end, 3, "xray: t: read fault\n", OLD),
-        (create, 4, "xray: i: write fault\n", OLD),
-        (create + 1, 4, "xray: i: write fault\n", &IMAGE[..0]),
-        (create + 101, 4, "xray: i: write fault\n", &IMAGE[..100]),
-        (create + 170, 4, "xray: i: write fault\n", &IMAGE[..169]),
-        (create + 171, 0, "", &IMAGE),
-    ] {
-        let desk = text_desk(rt.alloc(), &[failing], STRAIGHT_LINE.as_bytes())?;
+    for (failing, status, line, count) in &FAILING {
+        let desk = text_desk(rt.alloc(), &[*failing], STRAIGHT_LINE.as_bytes())?;
         let mut trickle = Trickle::new(desk);
         let run = run_words(&rt, &["asm", "t", "i"], &mut trickle, &[], &[])?;
-        assert_stopped(&rt, &run, status, line);
-        assert_eq!(rt; trickle.get("i").ok_or("no image")?, left, "{failing}");
+        assert_stopped(&rt, &run, *status, line);
+        let left = match count {
+            Some(count) => IMAGE.get(..*count),
+            None => Some(OLD),
+        };
+        check_same_at(&rt, &trickle.get("i"), &left, failing);
     }
     Ok(())
 }
@@ -258,12 +290,12 @@ fn a_text_may_be_as_long_as_its_limit(rt: HostRuntime) -> Result<(), Fail> {
     text.resize(4_194_304, b'-')?;
     let mut desk = text_desk(alloc, &[], &text)?;
     assert_done(&rt, &["asm", "t", "i"], &mut desk, "")?;
-    assert_eq!(rt; desk.get("i").ok_or("no image")?.len(), 161);
+    assert_length(&rt, desk.get("i"), 161);
     text.push(b'-')?;
     let mut desk = text_desk(alloc, &[], &text)?;
     let run = run_words(&rt, &["asm", "t", "i"], &mut desk, &[], &[])?;
     assert_stopped(&rt, &run, 6, "xray: t: too long\n");
-    assert_eq!(rt; desk.get("i").ok_or("no image")?, OLD);
+    assert_held(&rt, desk.get("i"), OLD);
     Ok(())
 }
 
@@ -274,30 +306,33 @@ fn a_text_that_is_not_held_begins_no_image(rt: HostRuntime) -> Result<(), Fail> 
     assert_stopped(&rt, &run, 3, "xray: q: read fault\n");
     assert!(rt; desk.get("n").is_none());
     assert_done(&rt, &["asm", "t", "n"], &mut desk, "")?;
-    assert_eq!(rt; desk.get("n").ok_or("no image")?.len(), 266);
+    assert_length(&rt, desk.get("n"), 266);
     Ok(())
 }
 
+/// Words that say no command.
+const BAD_WORDS: [&[&str]; 11] = [
+    &["asm"],
+    &["asm", "t"],
+    &["asm", "t", "i", "j"],
+    &["asm", "t", "t"],
+    &["asm", "--", "t", "t"],
+    &["asm", "t", "i", "--threshold"],
+    &["asm", "t", "i", "--threshold", "4294967296"],
+    &["asm", "t", "i", "--threshold", "-1"],
+    &["asm", "t", "i", "--threshold=1", "--threshold=1"],
+    &["asm", "t", "i", "--threads", "1"],
+    &["plain", "i", "--threshold", "1"],
+];
+
 #[test]
 fn words_that_asm_does_not_know_are_a_bad_line(rt: HostRuntime) -> Result<(), Fail> {
-    for words in [
-        &["asm"][..],
-        &["asm", "t"],
-        &["asm", "t", "i", "j"],
-        &["asm", "t", "t"],
-        &["asm", "--", "t", "t"],
-        &["asm", "t", "i", "--threshold"],
-        &["asm", "t", "i", "--threshold", "4294967296"],
-        &["asm", "t", "i", "--threshold", "-1"],
-        &["asm", "t", "i", "--threshold=1", "--threshold=1"],
-        &["asm", "t", "i", "--threads", "1"],
-        &["plain", "i", "--threshold", "1"],
-    ] {
+    for words in &BAD_WORDS {
         let mut desk = text_desk(rt.alloc(), &[], CALL.as_bytes())?;
         let run = run_words(&rt, words, &mut desk, &[], &[])?;
         assert_stopped(&rt, &run, 1, "xray: bad command line\n");
-        assert_eq!(rt; desk.get("i").ok_or("no image")?, OLD);
-        assert_eq!(rt; desk.get("t").ok_or("no text")?, CALL.as_bytes());
+        assert_held(&rt, desk.get("i"), OLD);
+        assert_held(&rt, desk.get("t"), CALL.as_bytes());
     }
     Ok(())
 }

@@ -1,11 +1,12 @@
 //! `run` at gates that leave its threads only one way to go on.
 use crate::asm::CALL;
-use crate::run::{RUN, desk_with, has_line};
-use crate::runs::{run_words_at, words_with};
+use crate::run::{RUN, desk_with, has_line, records_of};
+use crate::runs::{assert_length, run_words_at, words_with};
 use crate::sim::TRACED;
 use std::sync::atomic::{AtomicU64, Ordering};
 use std::test::Fail;
 use std::thread::yield_now;
+use test_helpers::check_same;
 use xray_io::Gate;
 
 /// The text of the image of the first example.
@@ -114,13 +115,17 @@ fn two_threads_run_beside_each_other(rt: HostRuntime) -> Result<(), Fail> {
     let mut desk = desk_with(&rt, OUTPUTS_AN_A, TRACED)?;
     let words = words_with(rt.alloc(), &RUN, &["--threads", "2"])?;
     let run = run_words_at(&rt, &words, &mut desk, &[], &[], &meeting)?;
-    assert_eq!(rt; run.status, 0);
+    check_same(&rt, &run.status, &0);
     assert!(rt; !meeting.late.is_given());
     assert!(rt; meeting.first.is_given() && meeting.second.is_given());
     assert!(rt; has_line(run.out.as_str(), "marks +2"), "{}", run.out);
-    assert_eq!(rt; desk.get("t").ok_or("no trace")?.len(), 32 + 2 * (16 + 80));
+    assert_length(&rt, desk.get("t"), 32 + 2 * (16 + 80));
     Ok(())
 }
+
+/// What the relayed thread records: an entry of function 2 and an exit of function 1.
+const RELAYED_RECORDS: &[u8] =
+    b"\x05\0\0\x01\0\0\0\0\0\0\0\0\0\0\0\0\x20\0\0\0\0\0\0\0\x12\0\0\0\x01\0\0\0";
 
 #[test]
 fn a_thread_and_the_patcher_run_beside_each_other(rt: HostRuntime) -> Result<(), Fail> {
@@ -133,7 +138,7 @@ fn a_thread_and_the_patcher_run_beside_each_other(rt: HostRuntime) -> Result<(),
     let script = "set_handler\ninit\ngo\npatch\n";
     let mut desk = desk_with(&rt, CALL, script)?;
     let run = run_words_at(&rt, &RUN, &mut desk, &[], &[], &relay)?;
-    assert_eq!(rt; run.status, 0);
+    check_same(&rt, &run.status, &0);
     assert!(rt; !relay.late.is_given());
     assert!(rt; relay.at_passing_1.is_given() && relay.at_place_15.is_given());
     assert!(rt; relay.at_passing_3.is_given());
@@ -142,11 +147,7 @@ fn a_thread_and_the_patcher_run_beside_each_other(rt: HostRuntime) -> Result<(),
         "{}",
         run.out
     );
-    let trace = desk.get("t").ok_or("no trace")?;
-    assert!(rt; trace.len() == 128);
-    assert_eq!(rt;
-        &trace[96..128],
-        b"\x05\0\0\x01\0\0\0\0\0\0\0\0\0\0\0\0\x20\0\0\0\0\0\0\0\x12\0\0\0\x01\0\0\0".as_slice()
-    );
+    assert_length(&rt, desk.get("t"), 128);
+    check_same(&rt, &records_of(&desk), &Some(RELAYED_RECORDS));
     Ok(())
 }

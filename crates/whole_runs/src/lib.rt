@@ -7,8 +7,6 @@ mod account;
 #[cfg(test)]
 mod asm;
 #[cfg(test)]
-mod desks;
-#[cfg(test)]
 mod first_run;
 #[cfg(test)]
 mod gates;

@@ -1,7 +1,7 @@
 //! `plain` and `extract`, their options, and the refusals of their image.
 use crate::runs::{
-    IMAGE, SCHEDULE, SCRIPT, STATE, assert_bad_line, assert_left, assert_stopped, desk_of,
-    image_desk, run_words,
+    IMAGE, SCHEDULE, SCRIPT, STATE, assert_bad_lines, assert_left, assert_no_fault, assert_stopped,
+    desk_of, image_desk, run_words,
 };
 use std::process::Abort;
 use std::sync::Wait;
@@ -112,36 +112,47 @@ fn options_stand_anywhere_before_two_dashes(rt: HostRuntime) -> Result<(), Fail>
     assert_prints(&rt, &["extract", "--", "i"], SLED_MAP)
 }
 
+/// Options out of their range, twice, or unknown.
+const BAD_OPTIONS: [&[&str]; 9] = [
+    &[],
+    &["plain", "i", "--threads", "17"],
+    &["plain", "i", "--threads", "0"],
+    &["plain", "i", "--threads", "1", "--threads", "1"],
+    &["plain", "i", "--threads", "1", "--threads=1"],
+    &["plain", "i", "--thread", "1"],
+    &["plain", "i", "--fuel", "1000000001"],
+    &["plain", "i", "--fuel", "18446744073709551617"],
+    &["plain", "i", "--fuel", "-1"],
+];
+
 #[test]
 fn options_out_of_range_twice_or_unknown_are_a_bad_line(rt: HostRuntime) -> Result<(), Fail> {
-    assert_bad_line(&rt, &[])?;
-    assert_bad_line(&rt, &["plain", "i", "--threads", "17"])?;
-    assert_bad_line(&rt, &["plain", "i", "--threads", "0"])?;
-    assert_bad_line(&rt, &["plain", "i", "--threads", "1", "--threads", "1"])?;
-    assert_bad_line(&rt, &["plain", "i", "--threads", "1", "--threads=1"])?;
-    assert_bad_line(&rt, &["plain", "i", "--thread", "1"])?;
-    assert_bad_line(&rt, &["plain", "i", "--fuel", "1000000001"])?;
-    assert_bad_line(&rt, &["plain", "i", "--fuel", "18446744073709551617"])?;
-    assert_bad_line(&rt, &["plain", "i", "--fuel", "-1"])
+    assert_bad_lines(&rt, &BAD_OPTIONS)
 }
+
+/// Words that lack a value or a name.
+const LACKING: [&[&str]; 8] = [
+    &["plain", "i", "--fuel"],
+    &["plain", "i", "--fuel="],
+    &["plain", "i", "--fuel", "+"],
+    &["plain", "i", "--fuel", "--", "1"],
+    &["plain", "--", "i", "--fuel", "1"],
+    &["plain", "i", "--help"],
+    &["plain"],
+    &["extract", "i", "--threads", "1"],
+];
 
 #[test]
 fn words_that_lack_a_value_or_a_name_are_a_bad_line(rt: HostRuntime) -> Result<(), Fail> {
-    assert_bad_line(&rt, &["plain", "i", "--fuel"])?;
-    assert_bad_line(&rt, &["plain", "i", "--fuel="])?;
-    assert_bad_line(&rt, &["plain", "i", "--fuel", "+"])?;
-    assert_bad_line(&rt, &["plain", "i", "--fuel", "--", "1"])?;
-    assert_bad_line(&rt, &["plain", "--", "i", "--fuel", "1"])?;
-    assert_bad_line(&rt, &["plain", "i", "--help"])?;
-    assert_bad_line(&rt, &["plain"])?;
-    assert_bad_line(&rt, &["extract", "i", "--threads", "1"])
+    assert_bad_lines(&rt, &LACKING)
 }
 
 #[test]
 fn two_dashes_and_a_schedule_replay(rt: HostRuntime) -> Result<(), Fail> {
     let mut desk = desk_of(rt.alloc(), &[], &IMAGE, SCRIPT, SCHEDULE)?;
     let words = ["sim", "i", "--", "s", "c", "t", "a"];
-    assert_eq!(rt; run_words(&rt, &words, &mut desk, &[], &[])?.status, 0);
+    let run = run_words(&rt, &words, &mut desk, &[], &[])?;
+    assert_no_fault(&rt, &run);
     Ok(())
 }
 
@@ -159,6 +170,26 @@ fn assert_stops<R: Abort + Threads + Wait + Sync + AllocGlobal>(
     Ok(())
 }
 
+/// The commands that read an image as `i`.
+const READERS: [&[&str]; 3] = [
+    &["plain", "i"],
+    &["extract", "i"],
+    &["sim", "i", "s", "c", "t", "a"],
+];
+
+/// Checks that each command that reads an image stops with a status and a line on err.
+fn assert_all_stop<R: Abort + Threads + Wait + Sync + AllocGlobal>(
+    rt: &R,
+    image: &[u8],
+    status: u8,
+    line: &str,
+) -> Result<(), Fail> {
+    for words in &READERS {
+        assert_stops(rt, words, image, status, line)?;
+    }
+    Ok(())
+}
+
 #[test]
 fn an_image_is_refused_with_the_values_of_its_fault(rt: HostRuntime) -> Result<(), Fail> {
     let mut far = IMAGE;
@@ -166,17 +197,10 @@ fn an_image_is_refused_with_the_values_of_its_fault(rt: HostRuntime) -> Result<(
     far[33] = 0;
     far[34] = 0;
     far[36] = 2;
-    for (image, line) in [
-        (&REGISTER_10[..], "xray: i: image Code 0 Register 10\n"),
-        (&CALLS_PAST_A_START[..], "xray: i: image Target 11\n"),
-        (&far[..], "xray: i: image Far 0\n"),
-        (&IMAGE[..63], "xray: i: image Short\n"),
-    ] {
-        assert_stops(&rt, &["plain", "i"], image, 2, line)?;
-        assert_stops(&rt, &["extract", "i"], image, 2, line)?;
-        assert_stops(&rt, &["sim", "i", "s", "c", "t", "a"], image, 2, line)?;
-    }
-    Ok(())
+    assert_all_stop(&rt, &REGISTER_10, 2, "xray: i: image Code 0 Register 10\n")?;
+    assert_all_stop(&rt, &CALLS_PAST_A_START, 2, "xray: i: image Target 11\n")?;
+    assert_all_stop(&rt, &far, 2, "xray: i: image Far 0\n")?;
+    assert_all_stop(&rt, &IMAGE[..63], 2, "xray: i: image Short\n")
 }
 
 /// A call and two returns are counted as instructions, and the four sleds as passings.
@@ -186,11 +210,9 @@ fn an_image_with_a_call_is_run(rt: HostRuntime) -> Result<(), Fail> {
     image[CODE + 12] = 0x0C;
     let mut desk = image_desk(rt.alloc(), &image)?;
     let run = run_words(&rt, &["plain", "i"], &mut desk, &[], &[])?;
-    assert_eq!(rt; run.status, 0);
-    assert_eq!(rt;
-        run.out.as_str().lines().next().ok_or("no line")?,
-        "thread 1 returned instructions 3 passings 4"
-    );
+    assert_no_fault(&rt, &run);
+    let line = "thread 1 returned instructions 3 passings 4\n";
+    assert!(rt; run.out.as_str().starts_with(line), "{}", run.out);
     Ok(())
 }
 
@@ -203,24 +225,11 @@ fn an_image_that_is_not_held_is_a_read_fault(rt: HostRuntime) -> Result<(), Fail
 #[test]
 fn an_input_above_its_limit_is_too_long(rt: HostRuntime) -> Result<(), Fail> {
     let image = vec![in rt.alloc(); 0u8; 4_194_305]?;
-    for words in [
-        &["plain", "i"][..],
-        &["extract", "i"],
-        &["sim", "i", "s", "c", "t", "a"],
-    ] {
-        assert_stops(&rt, words, &image, 6, "xray: i: too long\n")?;
-    }
-    let script = vec![in rt.alloc(); b'\n'; 1_048_577]?;
-    let mut desk = desk_of(
-        rt.alloc(),
-        &[],
-        &IMAGE,
-        std::str::from_utf8(&script)?,
-        SCHEDULE,
-    )?;
+    assert_all_stop(&rt, &image, 6, "xray: i: too long\n")?;
+    let script = "\n".repeat(rt.alloc(), 1_048_577)?;
+    let mut desk = desk_of(rt.alloc(), &[], &IMAGE, &script, SCHEDULE)?;
     let run = run_words(&rt, &["sim", "i", "s", "c", "t", "a"], &mut desk, &[], &[])?;
-    assert_eq!(rt; run.status, 6);
-    assert_eq!(rt; run.err.as_str(), "xray: s: too long\n");
+    assert_stopped(&rt, &run, 6, "xray: s: too long\n");
     Ok(())
 }
 

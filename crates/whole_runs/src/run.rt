@@ -1,11 +1,14 @@
 //! `run`: threads beside a script, and what is left of them.
 use crate::asm::{CALL, FIBONACCI};
-use crate::runs::{Run, assert_made, run_words, words_with};
+use crate::runs::{
+    Run, assert_length, assert_made, assert_no_fault, assert_stopped, run_words, words_with,
+};
 use crate::sim::TRACED;
 use std::process::Abort;
 use std::sync::Wait;
 use std::test::Fail;
 use std::thread::Threads;
+use test_helpers::check_same;
 use xray_io::MemDesk;
 
 /// The words of a run whose trace has a wall time of 0.
@@ -48,9 +51,8 @@ fn assert_recursion<R: Abort + Threads + Wait + Sync + AllocGlobal>(
     let mut desk = desk_with(rt, FIBONACCI, TRACED)?;
     let words = words_with(rt.alloc(), &RUN, options)?;
     let run: Run = run_words(rt, &words, &mut desk, &[], &[])?;
-    assert_eq!(rt; run.err.as_str(), "");
-    assert_eq!(rt; run.status, 0);
-    assert_eq!(rt; desk.get("t").ok_or("no trace")?.len(), len);
+    assert_no_fault(rt, &run);
+    assert_length(rt, desk.get("t"), len);
     let audit = std::str::from_utf8(desk.get("a").ok_or("no audit")?)?;
     assert!(rt; has_line(audit, recycled), "{audit}");
     assert!(rt;
@@ -73,20 +75,24 @@ fn four_threads_keep_all_segments_or_the_last_ones(rt: HostRuntime) -> Result<()
     )
 }
 
+/// The records of a trace with one buffer.
+pub fn records_of(desk: &MemDesk) -> Option<&[u8]> {
+    desk.get("t")?.get(96..)
+}
+
+/// What the held thread records: an exit of function 2 and an exit of function 1.
+const HELD_RECORDS: &[u8] =
+    b"\x05\0\0\x01\0\0\0\0\0\0\0\0\0\0\0\0\x22\0\0\0\0\0\0\0\x12\0\0\0\x01\0\0\0";
+
 #[test]
 fn a_held_thread_has_the_same_marks_and_bytes_in_every_run(rt: HostRuntime) -> Result<(), Fail> {
     for _ in 0..20 {
         let mut desk = desk_with(&rt, CALL, HELD)?;
         let run = run_words(&rt, &RUN, &mut desk, &[], &[])?;
-        assert_eq!(rt; run.err.as_str(), "");
-        assert_eq!(rt; run.status, 0);
+        assert_no_fault(&rt, &run);
         assert!(rt; has_line(run.out.as_str(), "marks .2 +2"), "{}", run.out);
-        let trace = desk.get("t").ok_or("no trace")?;
-        assert!(rt; trace.len() == 128);
-        assert_eq!(rt;
-            &trace[96..128],
-            b"\x05\0\0\x01\0\0\0\0\0\0\0\0\0\0\0\0\x22\0\0\0\0\0\0\0\x12\0\0\0\x01\0\0\0".as_slice()
-        );
+        assert_length(&rt, desk.get("t"), 128);
+        check_same(&rt, &records_of(&desk), &Some(HELD_RECORDS));
     }
     Ok(())
 }
@@ -96,7 +102,6 @@ fn a_script_that_waits_is_refused_under_sim_alone(rt: HostRuntime) -> Result<(),
     let mut desk = desk_with(&rt, CALL, HELD)?;
     desk.put("c", b"")?;
     let run = run_words(&rt, &["sim", "i", "s", "c", "t", "a"], &mut desk, &[], &[])?;
-    assert_eq!(rt; run.status, 2);
-    assert_eq!(rt; run.err.as_str(), "xray: s: script Waits 3\n");
+    assert_stopped(&rt, &run, 2, "xray: s: script Waits 3\n");
     Ok(())
 }

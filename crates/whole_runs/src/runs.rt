@@ -5,6 +5,7 @@ use std::process::Abort;
 use std::sync::Wait;
 use std::test::Fail;
 use std::thread::Threads;
+use test_helpers::{check_same, check_same_at, check_same_text};
 use xray_io::{Desk, Gate, MemDesk, MemSink, OpenGate, Wall};
 use xray_program::xray;
 
@@ -107,9 +108,9 @@ pub fn run_words_at<R: Threads + Wait + Sync + AllocGlobal, D: Desk, G: Gate + S
 
 /// Checks the status of a run, and what it wrote on out and on err.
 pub fn assert_left<R: Abort>(rt: &R, run: &Run, status: u8, out: &str, err: &str) {
-    assert_eq!(rt; run.err.as_str(), err, "{out}");
-    assert_eq!(rt; run.status, status, "{out}{err}");
-    assert_eq!(rt; run.out.as_str(), out, "{err}");
+    check_same_at(rt, &run.err.as_str(), &err, &out);
+    check_same_at(rt, &run.status, &status, &(out, err));
+    check_same_at(rt, &run.out.as_str(), &out, &err);
 }
 
 /// Checks that a run stopped with a status and a line on err, and printed nothing.
@@ -117,8 +118,38 @@ pub fn assert_stopped<R: Abort>(rt: &R, run: &Run, status: u8, line: &str) {
     assert_left(rt, run, status, "", line);
 }
 
+/// Checks that a run is done, and wrote nothing on err.
+pub fn assert_no_fault<R: Abort>(rt: &R, run: &Run) {
+    check_same_text(rt, run.err.as_str(), "");
+    check_same(rt, &run.status, &0);
+}
+
+/// Checks what a name holds.
+pub fn assert_held<R: Abort>(rt: &R, held: Option<&[u8]>, bytes: &[u8]) {
+    check_same(rt, &held, &Some(bytes));
+}
+
+/// Checks how many bytes a name holds.
+pub fn assert_length<R: Abort>(rt: &R, held: Option<&[u8]>, length: usize) {
+    match held {
+        Some(bytes) => check_same(rt, &bytes.len(), &length),
+        None => panic!(rt; "nothing is held"),
+    }
+}
+
+/// Checks that none of these lists of words says a command, over a desk that holds the three inputs.
+pub fn assert_bad_lines<R: Abort + Threads + Wait + Sync + AllocGlobal>(
+    rt: &R,
+    lines: &[&[&str]],
+) -> Result<(), Fail> {
+    for words in lines {
+        assert_bad_line(rt, words)?;
+    }
+    Ok(())
+}
+
 /// Checks that words say no command, over a desk that holds the three inputs.
-pub fn assert_bad_line<R: Abort + Threads + Wait + Sync + AllocGlobal>(
+fn assert_bad_line<R: Abort + Threads + Wait + Sync + AllocGlobal>(
     rt: &R,
     words: &[&str],
 ) -> Result<(), Fail> {

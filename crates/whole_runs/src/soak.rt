@@ -1,8 +1,9 @@
 //! `soak`: what it prints, and which words it takes.
-use crate::runs::{Run, assert_bad_line, assert_left, assert_stopped, run_words};
+use crate::runs::{Run, assert_bad_lines, assert_left, assert_no_fault, assert_stopped, run_words};
 use std::sync::Wait;
 use std::test::Fail;
 use std::thread::Threads;
+use test_helpers::check_same;
 use xray_io::MemDesk;
 
 /// What the model of `tools/soak_runs.py` prints for seed 1.
@@ -35,35 +36,42 @@ fn a_number_has_the_same_summary_in_each_run(rt: HostRuntime) -> Result<(), Fail
     Ok(())
 }
 
+/// Numbers, as words.
+const NUMBERS: [&str; 10] = [
+    "0",
+    "2",
+    "3",
+    "4",
+    "5",
+    "6",
+    "7",
+    "8",
+    "9",
+    "18446744073709551615",
+];
+
 #[test]
 fn each_number_is_soaked(rt: HostRuntime) -> Result<(), Fail> {
-    for word in [
-        "0",
-        "2",
-        "3",
-        "4",
-        "5",
-        "6",
-        "7",
-        "8",
-        "9",
-        "18446744073709551615",
-    ] {
+    for word in &NUMBERS {
         let run = soak(&rt, &["soak", word], &[])?;
-        assert_eq!(rt; run.err.as_str(), "");
-        assert_eq!(rt; run.status, 0);
-        let (first, _) = run.out.as_str().split_once('\n').ok_or("no line")?;
-        assert_eq!(rt; first.strip_prefix("soak "), Some(word));
+        assert_no_fault(&rt, &run);
+        let first = run.out.as_str().lines().next().unwrap_or("");
+        check_same(&rt, &first.strip_prefix("soak "), &Some(*word));
     }
     Ok(())
 }
 
+/// Words that say no command.
+const BAD_WORDS: [&[&str]; 4] = [
+    &["soak"],
+    &["soak", "x"],
+    &["soak", "18446744073709551616"],
+    &["soak", "1", "2"],
+];
+
 #[test]
 fn other_words_are_refused(rt: HostRuntime) -> Result<(), Fail> {
-    assert_bad_line(&rt, &["soak"])?;
-    assert_bad_line(&rt, &["soak", "x"])?;
-    assert_bad_line(&rt, &["soak", "18446744073709551616"])?;
-    assert_bad_line(&rt, &["soak", "1", "2"])
+    assert_bad_lines(&rt, &BAD_WORDS)
 }
 
 #[test]

@@ -26,24 +26,27 @@ const YAML_OF_ONE_CALL: &str = "---\nheader:\n  version: 3\n  type: 1\n  constan
 
 const BAD_LINE: &str = "xray: bad command line\n";
 
+/// The parts of traces, words, and what is printed.
+const PRINTED: [(&[&[u8]], &[&str], &str); 5] = [
+    (&ONE_CALL, &["stack", "t", "i"], TEXT_OF_ONE_CALL),
+    (
+        &RECURSION,
+        &["stack", "t", "--format=flame"],
+        "#1;#1 25\n#1;#1;#1 10\n",
+    ),
+    (&[HEADER], &["stack", "--format", "flame", "t"], ""),
+    (&ONE_CALL, &["convert", "t", "i"], YAML_OF_ONE_CALL),
+    (
+        &[HEADER],
+        &["convert", "t", "--format", "yaml"],
+        YAML_OF_NONE,
+    ),
+];
+
 #[test]
 fn a_trace_is_printed_as_its_words_ask(rt: HostRuntime) -> Result<(), Fail> {
     let alloc = rt.alloc();
-    for (parts, words, text) in [
-        (&ONE_CALL[..], &["stack", "t", "i"][..], TEXT_OF_ONE_CALL),
-        (
-            &RECURSION,
-            &["stack", "t", "--format=flame"],
-            "#1;#1 25\n#1;#1;#1 10\n",
-        ),
-        (&[HEADER], &["stack", "--format", "flame", "t"], ""),
-        (&ONE_CALL, &["convert", "t", "i"], YAML_OF_ONE_CALL),
-        (
-            &[HEADER],
-            &["convert", "t", "--format", "yaml"],
-            YAML_OF_NONE,
-        ),
-    ] {
+    for (parts, words, text) in &PRINTED {
         let mut desk = trace_desk(alloc, &file(alloc, parts)?)?;
         let run = run_words(&rt, words, &mut desk, &[], &[])?;
         assert_left(&rt, &run, 0, text, "");
@@ -51,17 +54,20 @@ fn a_trace_is_printed_as_its_words_ask(rt: HostRuntime) -> Result<(), Fail> {
     Ok(())
 }
 
+/// Words that say no command.
+const BAD_WORDS: [&[&str]; 6] = [
+    &["stack", "t", "--format", "yaml"],
+    &["stack", "t", "--format=flame", "--format=flame"],
+    &["stack", "t", "i", "i"],
+    &["convert", "t", "--format", "flame"],
+    &["convert", "t", "--format=yaml", "--format", "yaml"],
+    &["convert"],
+];
+
 #[test]
 fn options_come_once_and_have_known_words(rt: HostRuntime) -> Result<(), Fail> {
     let alloc = rt.alloc();
-    for words in [
-        &["stack", "t", "--format", "yaml"][..],
-        &["stack", "t", "--format=flame", "--format=flame"],
-        &["stack", "t", "i", "i"],
-        &["convert", "t", "--format", "flame"],
-        &["convert", "t", "--format=yaml", "--format", "yaml"],
-        &["convert"],
-    ] {
+    for words in &BAD_WORDS {
         let mut desk = trace_desk(alloc, &file(alloc, &ONE_CALL)?)?;
         let run = run_words(&rt, words, &mut desk, &[], &[])?;
         assert_stopped(&rt, &run, 1, BAD_LINE);
@@ -69,26 +75,29 @@ fn options_come_once_and_have_known_words(rt: HostRuntime) -> Result<(), Fail> {
     Ok(())
 }
 
+/// The extents of a block, the number of its calls, the status, and the line on err.
+const DEEP: [(&[u8], u32, u8, &str); 2] = [
+    (b"\x0F\x40\x80\0\0\0\0\0\0\0\0\0\0\0\0\0", 4096, 0, ""),
+    (
+        b"\x0F\x48\x80\0\0\0\0\0\0\0\0\0\0\0\0\0",
+        4097,
+        2,
+        "xray: t: trace Deep 1\n",
+    ),
+];
+
 #[test]
 fn more_open_calls_than_are_followed_are_refused(rt: HostRuntime) -> Result<(), Fail> {
     let alloc = rt.alloc();
-    for (extents, count, status, line) in [
-        (b"\x0F\x40\x80\0\0\0\0\0\0\0\0\0\0\0\0\0", 4096, 0, ""),
-        (
-            b"\x0F\x48\x80\0\0\0\0\0\0\0\0\0\0\0\0\0",
-            4097,
-            2,
-            "xray: t: trace Deep 1\n",
-        ),
-    ] {
-        let mut trace = file(alloc, &[HEADER, &extents[..], PREAMBLE, CPU])?;
-        for _ in 0..count {
+    for (extents, count, status, line) in &DEEP {
+        let mut trace = file(alloc, &[HEADER, extents, PREAMBLE, CPU])?;
+        for _ in 0..*count {
             trace.extend_from_slice(ENTRY)?;
         }
         let mut desk = trace_desk(alloc, &trace)?;
         let words = ["stack", "t", "--format", "flame"];
         let run = run_words(&rt, &words, &mut desk, &[], &[])?;
-        assert_stopped(&rt, &run, status, line);
+        assert_stopped(&rt, &run, *status, line);
     }
     Ok(())
 }

@@ -1,8 +1,9 @@
 //! `sim`: the trace and the audit of worked rows, byte by byte, and what is left of them if a call
 //! of the desk fails.
 use crate::asm::{CALL, ODD_EXIT, STRAIGHT_LINE, TAIL_JUMP};
-use crate::desks::Trickle;
-use crate::runs::{IMAGE, assert_left, assert_made, desk_of, run_words, words_with};
+use crate::runs::{
+    IMAGE, assert_held, assert_left, assert_made, assert_no_fault, desk_of, run_words, words_with,
+};
 use crate::sim::{LIVE, SIM, TRACED};
 use crate::trace_bytes::{
     BUFFERS_OF_72, BUFFERS_OF_79, BUFFERS_OF_80, BUFFERS_OF_16384, CPU, CPU_AT_1, CPU_AT_2, ENTRY,
@@ -14,11 +15,13 @@ use std::process::Abort;
 use std::sync::Wait;
 use std::test::Fail;
 use std::thread::Threads;
+use test_helpers::{Trickle, check_same_at};
 
 /// The words of a replay whose trace has a wall time of 0.
 const REPLAY: [&str; 8] = ["sim", "i", "s", "c", "t", "a", "--wall", "0"];
 
 /// What `sim` is asked for, and what it leaves. The traces were worked by hand, record by record.
+#[derive(Clone, Copy)]
 struct Row<'r> {
     /// The assembler text of the image.
     text: &'r str,
@@ -50,97 +53,83 @@ const USUAL: [(&str, &str); 12] = [
     ("frequency", "0"),
 ];
 
+/// The row of a call that is recorded, with a wall time of 0. The other rows say how they differ.
+const CALLED: Row = Row {
+    text: STRAIGHT_LINE,
+    options: &["--wall", "0"],
+    script: TRACED,
+    schedule: "",
+    trace: &ONE_CALL,
+    settings: &[],
+    threads: "thread 1 returned passings 2 recorded 2 segments 1 first 0\n\
+        marks +2\n\
+        recycled 0\n",
+};
+
 const ROWS: [Row; 18] = [
     // A call is recorded.
-    Row {
-        text: STRAIGHT_LINE,
-        options: &["--wall", "0"],
-        script: TRACED,
-        schedule: "",
-        trace: &ONE_CALL,
-        settings: &[],
-        threads: "thread 1 returned passings 2 recorded 2 segments 1 first 0\n\
-            marks +2\n\
-            recycled 0\n",
-    },
+    CALLED,
     // Nothing is recorded without patching.
     Row {
-        text: STRAIGHT_LINE,
-        options: &["--wall", "0"],
         script: "go",
-        schedule: "",
         trace: &[HEADER],
-        settings: &[],
         threads: "thread 1 returned passings 2 recorded 0 segments 0 first 0\n\
             marks .2\n\
             recycled 0\n",
+        ..CALLED
     },
     // A passing that has begun is recorded, even if its sled is unpatched meanwhile.
     Row {
-        text: STRAIGHT_LINE,
-        options: &["--wall", "0"],
         script: "patch\nset_handler\ninit\ngo\nunpatch",
         schedule: "t 1 1\np 2",
         trace: &[HEADER, EXTENTS_72, PREAMBLE, CPU, ENTRY],
-        settings: &[],
         threads: "thread 1 returned passings 2 recorded 1 segments 1 first 0\n\
             marks +1 .1\n\
             recycled 0\n",
+        ..CALLED
     },
     // A sled is unpatched until its head is stored.
     Row {
-        text: STRAIGHT_LINE,
-        options: &["--wall", "0"],
         script: LIVE,
         schedule: "p 3\nt 1 1",
         trace: &[HEADER],
-        settings: &[],
         threads: "thread 1 returned passings 2 recorded 0 segments 0 first 0\n\
             marks .2\n\
             recycled 0\n",
+        ..CALLED
     },
     // An exit is recorded without its entry.
     Row {
-        text: STRAIGHT_LINE,
-        options: &["--wall", "0"],
         script: LIVE,
         schedule: "p 3\nt 1 1\np 5",
         trace: &ONE_EXIT,
-        settings: &[],
         threads: "thread 1 returned passings 2 recorded 1 segments 1 first 0\n\
             marks .1 +1\n\
             recycled 0\n",
+        ..CALLED
     },
     // Nothing is recorded without a handler.
     Row {
-        text: STRAIGHT_LINE,
-        options: &["--wall", "0"],
         script: "patch\ninit\ngo",
-        schedule: "",
         trace: &[HEADER],
-        settings: &[],
         threads: "thread 1 returned passings 2 recorded 0 segments 0 first 0\n\
             marks n2\n\
             recycled 0\n",
+        ..CALLED
     },
     // Nothing is recorded in a log that is finalized.
     Row {
-        text: STRAIGHT_LINE,
-        options: &["--wall", "0"],
         script: "patch\nset_handler\ninit\nfinalize\ngo",
-        schedule: "",
         trace: &[HEADER],
-        settings: &[],
         threads: "thread 1 returned passings 2 recorded 0 segments 0 first 0\n\
             marks f2\n\
             recycled 0\n",
+        ..CALLED
     },
     // A delta has 32 bits.
     Row {
         text: ODD_EXIT,
         options: &["--wall", "0", "--tick", "4294967295"],
-        script: TRACED,
-        schedule: "",
         trace: &[
             HEADER,
             EXTENTS_80,
@@ -150,16 +139,12 @@ const ROWS: [Row; 18] = [
             b"\x12\0\0\0\xFF\xFF\xFF\xFF",
         ],
         settings: &[("tick", "4294967295")],
-        threads: "thread 1 returned passings 2 recorded 2 segments 1 first 0\n\
-            marks +2\n\
-            recycled 0\n",
+        ..CALLED
     },
     // A greater advance of the counter gets a TSCWrap record.
     Row {
         text: ODD_EXIT,
         options: &["--wall", "0", "--tick=4294967296"],
-        script: TRACED,
-        schedule: "",
         trace: &[
             HEADER,
             EXTENTS_96,
@@ -170,16 +155,12 @@ const ROWS: [Row; 18] = [
             EXIT,
         ],
         settings: &[("tick", "4294967296")],
-        threads: "thread 1 returned passings 2 recorded 2 segments 1 first 0\n\
-            marks +2\n\
-            recycled 0\n",
+        ..CALLED
     },
     // A counter that wraps gets a TSCWrap record.
     Row {
         text: ODD_EXIT,
         options: &["--wall", "0", "--tsc", "18446744073709551615"],
-        script: TRACED,
-        schedule: "",
         trace: &[
             HEADER,
             EXTENTS_96,
@@ -190,16 +171,11 @@ const ROWS: [Row; 18] = [
             EXIT,
         ],
         settings: &[("tsc", "18446744073709551615")],
-        threads: "thread 1 returned passings 2 recorded 2 segments 1 first 0\n\
-            marks +2\n\
-            recycled 0\n",
+        ..CALLED
     },
     // A buffer of 72 bytes has room for one event.
     Row {
-        text: STRAIGHT_LINE,
         options: &["--wall", "0", "--buffer-size", "72"],
-        script: TRACED,
-        schedule: "",
         trace: &[
             FORMAT,
             BUFFERS_OF_72,
@@ -216,13 +192,11 @@ const ROWS: [Row; 18] = [
         threads: "thread 1 returned passings 2 recorded 2 segments 2 first 0\n\
             marks +2\n\
             recycled 0\n",
+        ..CALLED
     },
     // So has one of 79 bytes.
     Row {
-        text: STRAIGHT_LINE,
         options: &["--wall", "0", "--buffer-size=79"],
-        script: TRACED,
-        schedule: "",
         trace: &[
             FORMAT,
             BUFFERS_OF_79,
@@ -239,13 +213,11 @@ const ROWS: [Row; 18] = [
         threads: "thread 1 returned passings 2 recorded 2 segments 2 first 0\n\
             marks +2\n\
             recycled 0\n",
+        ..CALLED
     },
     // One of 80 bytes has room for two.
     Row {
-        text: STRAIGHT_LINE,
         options: &["--wall", "0", "--buffer-size", "80"],
-        script: TRACED,
-        schedule: "",
         trace: &[
             FORMAT,
             BUFFERS_OF_80,
@@ -256,9 +228,7 @@ const ROWS: [Row; 18] = [
             EXIT_AFTER_2,
         ],
         settings: &[("buffer-size", "80")],
-        threads: "thread 1 returned passings 2 recorded 2 segments 1 first 0\n\
-            marks +2\n\
-            recycled 0\n",
+        ..CALLED
     },
     // Threads take each other's oldest segments.
     Row {
@@ -273,8 +243,6 @@ const ROWS: [Row; 18] = [
             "--buffer-max",
             "3",
         ],
-        script: TRACED,
-        schedule: "",
         trace: &[
             FORMAT,
             BUFFERS_OF_72,
@@ -297,13 +265,11 @@ const ROWS: [Row; 18] = [
             thread 2 returned passings 4 recorded 4 segments 4 first 2\n\
             marks +4\n\
             recycled 5\n",
+        ..CALLED
     },
     // A thread that moves to another CPU says so.
     Row {
-        text: STRAIGHT_LINE,
         options: &["--wall", "0", "--cpus", "2", "--migrate", "1"],
-        script: TRACED,
-        schedule: "",
         trace: &[
             HEADER,
             EXTENTS_96,
@@ -314,16 +280,11 @@ const ROWS: [Row; 18] = [
             EXIT,
         ],
         settings: &[("cpus", "2"), ("migrate", "1")],
-        threads: "thread 1 returned passings 2 recorded 2 segments 1 first 0\n\
-            marks +2\n\
-            recycled 0\n",
+        ..CALLED
     },
     // A tail jump is a tail exit.
     Row {
         text: TAIL_JUMP,
-        options: &["--wall", "0"],
-        script: TRACED,
-        schedule: "",
         trace: &[
             HEADER,
             EXTENTS_96,
@@ -334,14 +295,13 @@ const ROWS: [Row; 18] = [
             b"\x20\0\0\0\x01\0\0\0",
             EXIT_OF_2,
         ],
-        settings: &[],
         threads: "thread 1 returned passings 4 recorded 4 segments 1 first 0\n\
             marks +4\n\
             recycled 0\n",
+        ..CALLED
     },
     // The numbers of the words are in the header, in the preamble and in the audit.
     Row {
-        text: STRAIGHT_LINE,
         options: &[
             "--frequency",
             "18446744073709551615",
@@ -350,8 +310,6 @@ const ROWS: [Row; 18] = [
             "--wall",
             "18446744073709551615",
         ],
-        script: TRACED,
-        schedule: "",
         trace: &[
             b"\x03\0\x01\0\x03\0\0\0\xFF\xFF\xFF\xFF\xFF\xFF\xFF\xFF",
             BUFFERS_OF_16384,
@@ -368,16 +326,11 @@ const ROWS: [Row; 18] = [
             ("wall", "18446744073709551615.0"),
             ("frequency", "18446744073709551615"),
         ],
-        threads: "thread 1 returned passings 2 recorded 2 segments 1 first 0\n\
-            marks +2\n\
-            recycled 0\n",
+        ..CALLED
     },
     // If the words have no wall time, the trace has the one that was passed in.
     Row {
-        text: STRAIGHT_LINE,
         options: &[],
-        script: TRACED,
-        schedule: "",
         trace: &[
             HEADER,
             EXTENTS_80,
@@ -389,9 +342,7 @@ const ROWS: [Row; 18] = [
             EXIT_AFTER_2,
         ],
         settings: &[("wall", "7.8")],
-        threads: "thread 1 returned passings 2 recorded 2 segments 1 first 0\n\
-            marks +2\n\
-            recycled 0\n",
+        ..CALLED
     },
 ];
 
@@ -429,19 +380,9 @@ fn assert_leaves<R: Abort + Threads + Wait + Sync + AllocGlobal>(
     desk.put("x", row.text.as_bytes())?;
     assert_made(rt, &mut desk)?;
     let words = words_with(alloc, &SIM, row.options)?;
-    let run = run_words(rt, &words, &mut desk, &[], &[])?;
-    assert_eq!(rt; run.err.as_str(), "", "{audit}");
-    assert_eq!(rt; run.status, 0, "{audit}");
-    let trace = file(alloc, row.trace)?;
-    assert_eq!(rt;
-        desk.get("t").ok_or("no trace")?,
-        trace.as_slice(),
-        "{audit}"
-    );
-    assert_eq!(rt;
-        std::str::from_utf8(desk.get("a").ok_or("no audit")?)?,
-        audit.as_str()
-    );
+    assert_no_fault(rt, &run_words(rt, &words, &mut desk, &[], &[])?);
+    assert_held(rt, desk.get("t"), &file(alloc, row.trace)?);
+    assert_held(rt, desk.get("a"), audit.as_bytes());
     Ok(())
 }
 
@@ -453,29 +394,31 @@ fn a_replay_leaves_its_trace_and_its_audit(rt: HostRuntime) -> Result<(), Fail> 
     Ok(())
 }
 
-/// The ends of the ranges of buffers, and of a trace of at most 67,108,864 bytes.
+/// Options of buffers, and the status. They are the ends of the ranges, and of a trace of at most
+/// 67,108,864 bytes.
+const RANGES: [([&str; 4], u8); 11] = [
+    (["--buffer-size", "71", "--buffer-max", "1"], 1),
+    (["--buffer-size", "72", "--buffer-max", "1"], 0),
+    (["--buffer-size", "1048576", "--buffer-max", "1"], 0),
+    (["--buffer-size", "1048577", "--buffer-max", "1"], 1),
+    (["--buffer-size", "72", "--buffer-max", "1024"], 0),
+    (["--buffer-size", "72", "--buffer-max", "1025"], 1),
+    (["--buffer-max", "0", "--threads", "1"], 1),
+    (["--buffer-max", "3", "--threads", "4"], 1),
+    (["--buffer-max", "4", "--threads", "4"], 0),
+    // 224 buffers of 299,577 bytes, with 16 bytes of extents each, and a header of 32 bytes.
+    (["--buffer-max", "224", "--buffer-size", "299577"], 0),
+    (["--buffer-max", "224", "--buffer-size", "299578"], 1),
+];
+
 #[test]
 fn buffers_have_their_ranges(rt: HostRuntime) -> Result<(), Fail> {
-    for (options, status) in [
-        (["--buffer-size", "71", "--buffer-max", "1"], 1),
-        (["--buffer-size", "72", "--buffer-max", "1"], 0),
-        (["--buffer-size", "1048576", "--buffer-max", "1"], 0),
-        (["--buffer-size", "1048577", "--buffer-max", "1"], 1),
-        (["--buffer-size", "72", "--buffer-max", "1024"], 0),
-        (["--buffer-size", "72", "--buffer-max", "1025"], 1),
-        (["--buffer-max", "0", "--threads", "1"], 1),
-        (["--buffer-max", "3", "--threads", "4"], 1),
-        (["--buffer-max", "4", "--threads", "4"], 0),
-        // 224 buffers of 299,577 bytes, with 16 bytes of extents each, and a header of 32 bytes.
-        (["--buffer-max", "224", "--buffer-size", "299577"], 0),
-        (["--buffer-max", "224", "--buffer-size", "299578"], 1),
-    ] {
-        let [option, value, other, number] = options;
+    for (options, status) in &RANGES {
         let mut desk = desk_of(rt.alloc(), &[], &IMAGE, TRACED, "")?;
-        let words = ["sim", "i", "s", "c", "t", "a", option, value, other, number];
+        let words = words_with(rt.alloc(), &SIM, options)?;
         let run = run_words(&rt, &words, &mut desk, &[], &[])?;
-        assert_eq!(rt; run.status, status, "{value} {number}");
-        assert_eq!(rt; desk.get("t").is_some(), status == 0, "{value} {number}");
+        check_same_at(&rt, &run.status, status, options);
+        check_same_at(&rt, &desk.get("t").is_some(), &(*status == 0), options);
     }
     Ok(())
 }
@@ -498,9 +441,9 @@ fn assert_fails<R: Abort + Threads + Wait + Sync + AllocGlobal>(
     desk.put("a", OLD)?;
     let run = run_words(rt, &REPLAY, &mut desk, out_failing, &[])?;
     assert_left(rt, &run, 4, "", line);
-    assert_eq!(rt; desk.get("t").ok_or("no trace")?, trace);
-    assert_eq!(rt; desk.get("a").ok_or("no audit")?, audit);
-    assert_eq!(rt; desk.get("i").ok_or("no image")?, IMAGE.as_slice());
+    assert_held(rt, desk.get("t"), trace);
+    assert_held(rt, desk.get("a"), audit);
+    assert_held(rt, desk.get("i"), &IMAGE);
     Ok(())
 }
 
@@ -530,9 +473,8 @@ fn a_trace_that_fails_in_the_middle_is_a_prefix(rt: HostRuntime) -> Result<(), F
     let desk = desk_of(rt.alloc(), &[reads + 2], &IMAGE, TRACED, "")?;
     let mut trickle = Trickle::new(desk);
     let run = run_words(&rt, &REPLAY, &mut trickle, &[], &[])?;
-    assert_eq!(rt; run.err.as_str(), "xray: t: write fault\n");
-    assert_eq!(rt; run.status, 4);
-    assert_eq!(rt; trickle.get("t").ok_or("no trace")?, &HEADER[..1]);
+    assert_left(&rt, &run, 4, "", "xray: t: write fault\n");
+    assert_held(&rt, trickle.get("t"), &HEADER[..1]);
     assert!(rt; trickle.get("a").is_none());
     Ok(())
 }

@@ -3,6 +3,7 @@
 use example_images::OUTPUTS_AN_A;
 use std::alloc::Global;
 use std::test::Fail;
+use test_helpers::{check_same, check_same_list};
 use xray_image::{read_image, write_extract};
 use xray_io::MemSink;
 
@@ -65,7 +66,7 @@ fn the_sled_map_is_printed_as_a_document(rt: HostRuntime) -> Result<(), Fail> {
     for line in MAIN_LINES {
         lines.extend_from_slice(line.as_bytes())?;
     }
-    assert_eq!(rt; sink.bytes(), lines.as_slice());
+    check_same_list(&rt, sink.bytes(), lines.as_slice());
     Ok(())
 }
 
@@ -73,16 +74,16 @@ fn the_sled_map_is_printed_as_a_document(rt: HostRuntime) -> Result<(), Fail> {
 fn a_function_without_a_sled_has_no_id(rt: HostRuntime) -> Result<(), Fail> {
     let bytes = three_functions(rt.alloc())?;
     let image = read_image(rt.alloc(), &bytes)?;
-    assert_eq!(rt; Some(image.code()), bytes.get(64..111));
-    assert_eq!(rt; image.id_count(), 2);
-    assert_eq!(rt; image.name_of(0), None);
-    assert_eq!(rt; image.name_of(1), Some("a"));
-    assert_eq!(rt; image.name_of(2), Some("c"));
-    assert_eq!(rt; image.name_of(3), None);
-    assert_eq!(rt; image.sled_count(), 4);
+    check_same(&rt, &Some(image.code()), &bytes.get(64..111));
+    check_same(&rt, &image.id_count(), &2);
+    check_same(&rt, &image.name_of(0), &None);
+    check_same(&rt, &image.name_of(1), &Some("a"));
+    check_same(&rt, &image.name_of(2), &Some("c"));
+    check_same(&rt, &image.name_of(3), &None);
+    check_same(&rt, &image.sled_count(), &4);
     for (number, id) in [(0, 1), (1, 1), (2, 2), (3, 2)] {
         assert!(rt; number < image.sled_count());
-        assert_eq!(rt; image.sled(number).id, id);
+        check_same(&rt, &image.sled(number).id, &id);
     }
     Ok(())
 }

@@ -3,7 +3,9 @@
 use super::*;
 use crate::setups::{DEFAULT_LIMITS, DEFAULT_SETUP};
 use example_images::{CALLS, OUTPUTS_AN_A};
+use fdr_buffer::Buffer;
 use machine_step::Limits;
+use test_helpers::{check_same, check_same_list};
 use xray_image::read_image;
 
 /// A function `main` that prints a 0: an entry sled, `out 0, al`, an exit sled.
@@ -59,8 +61,35 @@ fn body(alloc: Global, thread: u32, records: &[u8]) -> Result<Vec<u8>, AllocErro
     Ok(bytes)
 }
 
-/// Replays an image that is traced from before the start, without a schedule, and checks how many
-/// segments each thread has sealed, the first one of each that is kept, and the buffers.
+/// Checks what a buffer holds.
+fn check_buffer(rt: &impl Abort, alloc: Global, buffer: &Buffer, held: &Held) -> Result<(), Fail> {
+    let Held(thread, serial, records) = *held;
+    check_same(rt, &(buffer.thread(), buffer.serial()), &(thread, serial));
+    check_same_list(rt, buffer.bytes(), &body(alloc, thread, records)?);
+    Ok(())
+}
+
+/// Checks how many segments each thread has sealed, the first one of each that is kept, and the
+/// buffers.
+fn check_end(
+    rt: &impl Abort,
+    alloc: Global,
+    end: &SimEnd,
+    sealed: &[u32],
+    first: &[u32],
+    held: &[Held],
+) -> Result<(), Fail> {
+    check_same_list(rt, &end.sealed, sealed);
+    check_same_list(rt, &end.first, first);
+    check_same(rt, &end.buffers.len(), &held.len());
+    for (buffer, held) in end.buffers.iter().zip(held) {
+        check_buffer(rt, alloc, buffer, held)?;
+    }
+    Ok(())
+}
+
+/// Replays an image that is traced from before the start, without a schedule, and checks what it
+/// leaves, as [`check_end`] does.
 fn leaves(
     rt: &impl Abort,
     alloc: Global,
@@ -73,15 +102,7 @@ fn leaves(
     let image = read_image(alloc, image)?;
     let steps = Steps::new(alloc, &image)?;
     let end = replay_of(rt, alloc, &steps, TRACED, b"", setup)??;
-    assert_eq!(rt; end.sealed.as_slice(), sealed);
-    assert_eq!(rt; end.first.as_slice(), first);
-    assert_eq!(rt; end.buffers.len(), held.len());
-    for (buffer, Held(thread, serial, records)) in end.buffers.iter().zip(held) {
-        assert_eq!(rt; buffer.thread(), *thread);
-        assert_eq!(rt; buffer.serial(), *serial);
-        assert_eq!(rt; buffer.bytes(), body(alloc, *thread, records)?.as_slice());
-    }
-    Ok(())
+    check_end(rt, alloc, &end, sealed, first, held)
 }
 
 /// The records of a call of function 1 from counter 0 to counter 2, on processor 0.
@@ -140,42 +161,48 @@ const MOVED: &[u8] = &[
     5, 0, 0, 2, 0, 0, 0, 0, 0, 0, 0, 0, 0, 0, 0, 0, 0x12, 0, 0, 0, 0, 0, 0, 0,
 ];
 
+/// The limits under which a counter's steps are as large as a function record can say, and one larger.
+const NEAR_LIMITS: Limits = Limits {
+    tick: 4_294_967_295,
+    ..DEFAULT_LIMITS
+};
+
+const FAR_LIMITS: Limits = Limits {
+    tick: 4_294_967_296,
+    ..DEFAULT_LIMITS
+};
+
+/// Those under which the counter wraps, and those under which the thread moves.
+const WRAPPING_LIMITS: Limits = Limits {
+    tsc: 18_446_744_073_709_551_615,
+    ..DEFAULT_LIMITS
+};
+
+const MOVING_LIMITS: Limits = Limits {
+    cpus: 2,
+    migrate: 1,
+    ..DEFAULT_LIMITS
+};
+
+/// Images, limits, and the records of the thread.
+const RECORDED: [(&[u8], Limits, &[u8]); 6] = [
+    (&OUTPUTS_AN_A, DEFAULT_LIMITS, A_CALL),
+    (&TAIL_CALLS, DEFAULT_LIMITS, A_TAIL_CALL),
+    (&OUTPUTS_A_0, NEAR_LIMITS, NEAR),
+    (&OUTPUTS_A_0, FAR_LIMITS, FAR),
+    (&OUTPUTS_A_0, WRAPPING_LIMITS, WRAPPED),
+    (&OUTPUTS_AN_A, MOVING_LIMITS, MOVED),
+];
+
 #[test]
 fn calls_on_one_thread_are_recorded(rt: HostRuntime) -> Result<(), Fail> {
-    let alloc = rt.alloc();
-    let whole = DEFAULT_LIMITS;
-    let near = Limits {
-        tick: 4_294_967_295,
-        ..whole
-    };
-    let far = Limits {
-        tick: 4_294_967_296,
-        ..whole
-    };
-    let wrapping = Limits {
-        tsc: 18_446_744_073_709_551_615,
-        ..whole
-    };
-    let moving = Limits {
-        cpus: 2,
-        migrate: 1,
-        ..whole
-    };
-    let rows: [(&[u8], Limits, &[u8]); 6] = [
-        (&OUTPUTS_AN_A, whole, A_CALL),
-        (&TAIL_CALLS, whole, A_TAIL_CALL),
-        (&OUTPUTS_A_0, near, NEAR),
-        (&OUTPUTS_A_0, far, FAR),
-        (&OUTPUTS_A_0, wrapping, WRAPPED),
-        (&OUTPUTS_AN_A, moving, MOVED),
-    ];
-    for (image, limits, records) in rows {
+    for (image, limits, records) in &RECORDED {
         let setup = Setup {
-            limits,
+            limits: *limits,
             ..DEFAULT_SETUP
         };
         let held = [Held(1, 0, records)];
-        leaves(&rt, alloc, image, &setup, &[0], &[0], &held)?;
+        leaves(&rt, rt.alloc(), image, &setup, &[0], &[0], &held)?;
     }
     Ok(())
 }
