@@ -7,17 +7,19 @@ use std::test::Fail;
 /// A load: the number of the word, and the value that it has.
 pub type Load = (u32, u64);
 
-/// The parts of the patched entry sled, and those of the patched exit sled.
+/// The parts of the patched entry sled.
 pub const ENTRY: [Load; 4] = [(0, 0xBA41), (1, 1), (2, 0xE8), (3, 0x1F_FFF5)];
 
+/// The parts of the patched exit sled.
 pub const EXIT: [Load; 4] = [(4, 0xBA41), (5, 1), (6, 0xE9), (7, 0x1F_FFF3)];
 
-/// The words of the handler and of the log's state: with no handler, and with one whose log records
-/// or has ended.
+/// The word of the handler, if there is none.
 pub const NO_HANDLER: [Load; 1] = [(8, 0)];
 
+/// The words of the handler and of the log's state, if there is a handler and the log records.
 pub const RECORDS: [Load; 2] = [(8, 1), (9, 2)];
 
+/// The same words, if there is a handler and the log has ended.
 pub const HAS_ENDED: [Load; 2] = [(8, 1), (9, 4)];
 
 /// Lets a thread into its next passing, if it waits for one, and gives it the values of these loads.
