@@ -1,11 +1,11 @@
 //! Calls of `account_report`: rows that were worked by hand, orders with ties, and texts.
 
+use crate::checks::{check_same, check_same_list};
 use crate::event_traces::{NESTED, Said, trace_of};
 use account_report::*;
 use fdr_record::Kind;
 use std::alloc::Global;
 use std::test::Fail;
-use test_helpers::{check_same, check_same_list};
 use xray_io::MemSink;
 
 /// The text of rows, without an image.

@@ -1,9 +1,9 @@
 //! Calls of `asm_text`: images worked by hand, the refusals, and the limits.
 
+use crate::checks::{check_same, check_same_list};
 use asm_text::*;
 use std::alloc::{AllocError, Global};
 use std::test::Fail;
-use test_helpers::{check_same, check_same_list};
 use text_lines::count_lines;
 use xray_image::read_image;
 

@@ -1,11 +1,11 @@
 //! Calls of `fdr_buffer`: the bytes of segments, as the format says, and where a segment ends.
 
+use crate::checks::check_same;
 use fdr_buffer::*;
 use fdr_record::{Event, Kind};
 use std::alloc::Global;
 use std::process::Abort;
 use std::test::Fail;
-use test_helpers::check_same;
 use xray_io::Wall;
 
 /// NewBuffer, wall time and Pid of thread 1 and process 1 at the epoch.

@@ -1,10 +1,10 @@
 //! Calls of `command_words`: command lines and what they say.
 
+use crate::checks::{check_same, check_same_text};
 use command_words::*;
 use std::alloc::{AllocError, Global};
 use std::process::Abort;
 use std::test::Fail;
-use test_helpers::{check_same, check_same_text};
 use xray_io::Wall;
 
 /// The wall time that is passed in.

@@ -2,12 +2,13 @@
 //! the edge to the system.
 ghost use Rattle.std.specs.Prelude.{◌^◌, None};
 
+use crate::checks::{check_same, check_same_at, check_same_list};
 use std::alloc::Global;
 use std::fmt::Display;
 use std::io::Write;
 use std::test::Fail;
 use std::{fs, io};
-use test_helpers::{Trickle, check_same, check_same_at, check_same_list};
+use test_helpers::Trickle;
 use xray_io::{
     Desk, DeskFile, ErrSink, Failed, FileDesk, Gate, MemDesk, MemSink, OpenGate, OutSink, Piece,
     ReadError, ReadFail, Sink, Text, WriteFault, read_whole, write_all, write_pieces,

@@ -1,9 +1,9 @@
 //! Calls of `soak_inputs`: the inputs of the first number and of the last, as the model of
 //! `soak_inputs` draws them.
 
+use crate::checks::check_same;
 use soak_inputs::*;
 use std::test::Fail;
-use test_helpers::check_same;
 
 #[test]
 fn inputs_are_those_of_the_model(rt: HostRuntime) -> Result<(), Fail> {

@@ -1,6 +1,7 @@
 //! Calls of `trace_flush`: the audits of threads that have ended, and buffers in the order of a
 //! flush.
 
+use crate::checks::{check_same, check_same_list};
 use crate::passings::{ENTRY, EXIT, HAS_ENDED, Load, NO_HANDLER, RECORDS, pass};
 use crate::setups::DEFAULT_SETUP;
 use example_images::OUTPUTS_AN_A;
@@ -9,7 +10,6 @@ use fdr_record::{Event, Kind};
 use machine_step::{Cpu, End, Limits, Setup, Steps, Want};
 use std::alloc::Global;
 use std::test::Fail;
-use test_helpers::{check_same, check_same_list};
 use trace_flush::{AuditLine, arrange, audit_tells_its_run, write_audit};
 use xray_image::{Image, read_image};
 use xray_io::{MemSink, Wall, WriteFault};

@@ -2,11 +2,11 @@
 
 mod extracts;
 
+use crate::checks::{check_same, check_same_at};
 use example_images::OUTPUTS_AN_A;
 use std::alloc::{AllocError, Global};
 use std::test::Fail;
 use subset_decode::{DecodeFault, Instr, Reg};
-use test_helpers::{check_same, check_same_at};
 use xray_image::{
     ImageFault, Sled, SledKind, Unit, What, Which, one_reading, one_unit_list, one_verdict,
     read_image,

@@ -3,10 +3,10 @@
 
 mod two_byte_starts;
 
+use crate::checks::{check_same, check_same_at, check_same_list};
 use std::process::Abort;
 use std::test::*;
 use subset_decode::*;
-use test_helpers::{check_same, check_same_at, check_same_list};
 use two_byte_starts::{RUNS, Start};
 
 /// The register with this number, which can be named.

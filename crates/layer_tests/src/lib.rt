@@ -11,6 +11,8 @@ mod assembler;
 #[cfg(test)]
 mod buffers;
 #[cfg(test)]
+mod checks;
+#[cfg(test)]
 mod code_table;
 #[cfg(test)]
 mod command_lines;

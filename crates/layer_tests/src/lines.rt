@@ -1,8 +1,8 @@
 //! Calls of `text_lines`: lines, words, numbers and keywords.
 
+use crate::checks::{check_same, check_same_list};
 use std::alloc::{AllocError, Global};
 use std::test::Fail;
-use test_helpers::{check_same, check_same_list};
 use text_lines::*;
 
 /// Each line as its number, `!` if it isn't clean, its words with a space before each, and `;`.

@@ -1,11 +1,11 @@
 //! Calls of `machine_step`: plain runs of an image, and their text.
 
+use crate::checks::{check_same, check_same_at, check_same_list};
 use crate::setups::DEFAULT_LIMITS;
 use example_images::OUTPUTS_AN_A;
 use machine_step::{End, Limits, PlainEnd, Steps, one_end, plain_run, some_end, write_plain};
 use std::alloc::Global;
 use std::test::Fail;
-use test_helpers::{check_same, check_same_at, check_same_list};
 use xray_image::{Image, read_image};
 use xray_io::MemSink;
 

@@ -1,10 +1,10 @@
 //! Calls of `handler_word`: marks as they are kept, counted and printed.
 
+use crate::checks::{check_same, check_same_list};
 use handler_word::{Mark, Marks, add_runs, write_runs};
 use std::alloc::Global;
 use std::process::Abort;
 use std::test::Fail;
-use test_helpers::{check_same, check_same_list};
 use xray_io::{MemSink, Text, WriteFault};
 
 /// The mark of a character in the rows below.

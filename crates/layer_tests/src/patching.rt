@@ -8,6 +8,7 @@ ghost use Rattle.sled_rule.specs.Plans.{code_words};
 ghost use Rattle.sled_rule.specs.Seats.{patch_view, script_of, work_view, AllMet, IsPatcherOf, IsWorkerOf};
 ghost use Rattle.sled_rule.specs.Views.{ended_count, first_patch};
 
+use crate::checks::check_same_list;
 use crate::code_table::begin;
 use crate::sled_values::{PATCHED, UNPATCHED};
 use example_images::OUTPUTS_AN_A;
@@ -18,7 +19,6 @@ use sled_words::code_bytes;
 use std::sync::Wait;
 use std::test::Fail;
 use std::thread::{Threads, join};
-use test_helpers::check_same_list;
 use text_lines::count_lines;
 use xray_image::read_image;
 use xray_io::OpenGate;

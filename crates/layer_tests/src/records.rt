@@ -2,9 +2,9 @@
 
 ghost use Rattle.fdr_record.specs.Records.{IdFits};
 
+use crate::checks::{check_same, check_same_at, check_same_list};
 use fdr_record::*;
 use std::process::Abort;
-use test_helpers::{check_same, check_same_at, check_same_list};
 use xray_io::Wall;
 
 /// Ends the test if the function's id doesn't fit a record.

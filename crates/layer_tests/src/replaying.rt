@@ -1,12 +1,12 @@
 //! Calls of `step_sim`: schedules of texts, and why other texts aren't schedules.
 
+use crate::checks::{check_same, check_same_list};
 use machine_step::{Setup, Steps};
 use patch_script::read_script;
 use std::alloc::{AllocError, Global};
 use std::process::Abort;
 use std::test::Fail;
 use step_sim::*;
-use test_helpers::{check_same, check_same_list};
 use text_lines::count_lines;
 
 mod buffers;

@@ -2,6 +2,7 @@
 
 ghost use Rattle.std.specs.Prelude.{◌≡◌, ◌≤◌};
 
+use crate::checks::{check_same, check_same_list};
 use crate::setups::DEFAULT_SETUP;
 use example_images::{CALLS, FIBONACCI};
 use handler_word::write_runs;
@@ -12,7 +13,6 @@ use std::process::Abort;
 use std::sync::Wait;
 use std::test::Fail;
 use std::thread::Threads;
-use test_helpers::{check_same, check_same_list};
 use text_lines::count_lines;
 use thread_run::{RunEnd, run};
 use xray_image::read_image;

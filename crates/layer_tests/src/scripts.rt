@@ -1,10 +1,10 @@
 //! Calls of `patch_script`: scripts for one small image, which are refused and where, and the micro steps of the others.
 
+use crate::checks::check_same;
 use example_images::OUTPUTS_AN_A;
 use patch_script::*;
 use std::alloc::Global;
 use std::test::Fail;
-use test_helpers::check_same;
 use text_lines::count_lines;
 use xray_image::{Image, read_image};
 

@@ -1,11 +1,11 @@
 //! Calls of `sled_words`: the words of one image, with trampolines above its code and below it.
 ghost use Rattle.std.specs.Prelude.{◌<◌, length};
 
+use crate::checks::{check_same, check_same_list};
 use crate::sled_values::{PATCHED, UNPATCHED};
 use example_images::OUTPUTS_AN_A;
 use sled_words::{Part, handler_word, initial_words, part_value, word_of};
 use std::test::Fail;
-use test_helpers::{check_same, check_same_list};
 use xray_image::{Image, read_image};
 
 /// The head, id, opcode and offset of a patched sled.
@@ -24,9 +24,8 @@ fn patched_values(image: &Image, sled: u32) -> [u64; 4]
 fn words_are_unpatched_sleds_and_zeros(rt: HostRuntime) -> Result<(), Fail> {
     let image = read_image(rt.alloc(), &OUTPUTS_AN_A)?;
     let one = initial_words(rt.alloc(), &image, 1)?;
-    assert!(rt; one.len() == 12);
-    check_same_list(&rt, &one[..8], UNPATCHED.as_slice());
-    check_same_list(&rt, &one[8..], [0; 4].as_slice());
+    check_same(&rt, &one.get(..8), &Some(UNPATCHED.as_slice()));
+    check_same(&rt, &one.get(8..), &Some([0; 4].as_slice()));
     let sixteen = initial_words(rt.alloc(), &image, 16)?;
     check_same(&rt, &sixteen.len(), &42);
     check_same(&rt, &word_of(1, Part::Offset), &7);

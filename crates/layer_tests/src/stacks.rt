@@ -1,12 +1,12 @@
 //! Calls of `stack_rebuild`: stacks that were worked by hand, and their limit.
 
+use crate::checks::{check_same, check_same_text};
 use crate::event_traces::{NESTED, Said, trace_of};
 use fdr_file::Trace;
 use fdr_record::Kind;
 use stack_rebuild::*;
 use std::alloc::Global;
 use std::test::Fail;
-use test_helpers::{check_same, check_same_text};
 use xray_io::MemSink;
 
 /// A trace of calls of a thread that are made one in another, and of a call of thread 1.

@@ -2,13 +2,13 @@
 
 ghost use Rattle.std.specs.Prelude.{◌≡◌, All, IsTrue, IfOk};
 
+use crate::checks::{check_same, check_same_at, check_same_list};
 use fdr_buffer::Buffer;
 use fdr_file::*;
 use fdr_record::{Event, Kind, RecFault};
 use std::alloc::{AllocError, Global};
 use std::process::Abort;
 use std::test::Fail;
-use test_helpers::{check_same, check_same_at, check_same_list};
 use xray_io::{MemSink, Wall, WriteFault};
 
 /// A header with a constant and nonstop counter, and with buffers of 16,384 bytes.

@@ -1,4 +1,5 @@
 //! `asm`, and what the other commands do with the images that it writes.
+use crate::checks::check_same_at;
 use crate::plain::SLED_MAP;
 use crate::runs::{
     IMAGE, SCHEDULE, SCRIPT, STATE, assert_held, assert_left, assert_length, assert_stopped,
@@ -9,7 +10,7 @@ use std::process::Abort;
 use std::sync::Wait;
 use std::test::Fail;
 use std::thread::Threads;
-use test_helpers::{Trickle, check_same_at};
+use test_helpers::Trickle;
 use xray_io::MemDesk;
 
 /// A move, an output and a return. The other tests have the image of this text as bytes.

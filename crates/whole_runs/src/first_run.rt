@@ -1,4 +1,5 @@
 //! One thread, with its sleds patched before its start and unpatched after it.
+use crate::checks::check_same;
 use crate::runs::{
     IMAGE, SCHEDULE, SCRIPT, STATE, assert_bad_lines, assert_no_fault, assert_stopped, desk_of,
     run_words,
@@ -8,7 +9,7 @@ use std::process::Abort;
 use std::sync::Wait;
 use std::test::Fail;
 use std::thread::Threads;
-use test_helpers::{Trickle, check_same};
+use test_helpers::Trickle;
 
 /// Schedules, and the marks of the thread.
 const MARKS: [(&str, &str); 3] = [

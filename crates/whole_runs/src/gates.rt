@@ -1,12 +1,12 @@
 //! `run` at gates that leave its threads only one way to go on.
 use crate::asm::CALL;
+use crate::checks::check_same;
 use crate::run::{RUN, desk_with, has_line, records_of};
 use crate::runs::{assert_length, run_words_at, words_with};
 use crate::sim::TRACED;
 use std::sync::atomic::{AtomicU64, Ordering};
 use std::test::Fail;
 use std::thread::yield_now;
-use test_helpers::check_same;
 use xray_io::Gate;
 
 /// The text of the image of the first example.

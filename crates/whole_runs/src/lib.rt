@@ -7,6 +7,8 @@ mod account;
 #[cfg(test)]
 mod asm;
 #[cfg(test)]
+mod checks;
+#[cfg(test)]
 mod first_run;
 #[cfg(test)]
 mod gates;

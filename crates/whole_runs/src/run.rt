@@ -1,5 +1,6 @@
 //! `run`: threads beside a script, and what is left of them.
 use crate::asm::{CALL, FIBONACCI};
+use crate::checks::check_same;
 use crate::runs::{
     Run, assert_length, assert_made, assert_no_fault, assert_stopped, run_words, words_with,
 };
@@ -8,7 +9,6 @@ use std::process::Abort;
 use std::sync::Wait;
 use std::test::Fail;
 use std::thread::Threads;
-use test_helpers::check_same;
 use xray_io::MemDesk;
 
 /// The words of a run whose trace has a wall time of 0.

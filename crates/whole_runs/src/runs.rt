@@ -1,11 +1,11 @@
 //! A run of the top call, and what it leaves.
+use crate::checks::{check_same, check_same_at, check_same_text};
 use example_images::OUTPUTS_AN_A;
 use std::alloc::Global;
 use std::process::Abort;
 use std::sync::Wait;
 use std::test::Fail;
 use std::thread::Threads;
-use test_helpers::{check_same, check_same_at, check_same_text};
 use xray_io::{Desk, Gate, MemDesk, MemSink, OpenGate, Wall};
 use xray_program::xray;
 

@@ -1,9 +1,9 @@
 //! `soak`: what it prints, and which words it takes.
+use crate::checks::check_same;
 use crate::runs::{Run, assert_bad_lines, assert_left, assert_no_fault, assert_stopped, run_words};
 use std::sync::Wait;
 use std::test::Fail;
 use std::thread::Threads;
-use test_helpers::check_same;
 use xray_io::MemDesk;
 
 /// What the model of `tools/soak_runs.py` prints for seed 1.

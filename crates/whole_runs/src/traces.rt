@@ -1,6 +1,7 @@
 //! `sim`: the trace and the audit of worked rows, byte by byte, and what is left of them if a call
 //! of the desk fails.
 use crate::asm::{CALL, ODD_EXIT, STRAIGHT_LINE, TAIL_JUMP};
+use crate::checks::check_same_at;
 use crate::runs::{
     IMAGE, assert_held, assert_left, assert_made, assert_no_fault, desk_of, run_words, words_with,
 };
@@ -15,7 +16,7 @@ use std::process::Abort;
 use std::sync::Wait;
 use std::test::Fail;
 use std::thread::Threads;
-use test_helpers::{Trickle, check_same_at};
+use test_helpers::Trickle;
 
 /// The words of a replay whose trace has a wall time of 0.
 const REPLAY: [&str; 8] = ["sim", "i", "s", "c", "t", "a", "--wall", "0"];

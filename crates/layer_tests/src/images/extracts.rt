@@ -1,9 +1,9 @@
 //! Calls of `xray_image`: ids, names and the printed sled map of two images.
 
+use crate::checks::{check_same, check_same_list};
 use example_images::OUTPUTS_AN_A;
 use std::alloc::Global;
 use std::test::Fail;
-use test_helpers::{check_same, check_same_list};
 use xray_image::{read_image, write_extract};
 use xray_io::MemSink;
 

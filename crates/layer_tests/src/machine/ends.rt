@@ -1,11 +1,11 @@
 //! Calls of `machine_step`: an image for each end, and one with a function that calls itself twice.
 
 use super::{end_of, run_file};
+use crate::checks::{check_same, check_same_at};
 use crate::setups::DEFAULT_LIMITS;
 use example_images::FIBONACCI;
 use machine_step::End;
 use std::test::Fail;
-use test_helpers::{check_same, check_same_at};
 
 /// Code, fuel, and the end and the instructions of thread 1.
 const ENDS: [(&[u8], u64, End, u64); 8] = [

@@ -1,5 +1,6 @@
 //! Calls of `machine_step`: traced threads, load by load.
 
+use crate::checks::{check_same, check_same_list};
 use crate::passings::{ENTRY, EXIT, HAS_ENDED, Load, NO_HANDLER, RECORDS, pass};
 use crate::setups::DEFAULT_LIMITS;
 use example_images::OUTPUTS_AN_A;
@@ -9,7 +10,6 @@ use machine_step::{Cpu, End, Limits, Steps, Want, write_state};
 use std::alloc::Global;
 use std::process::Abort;
 use std::test::Fail;
-use test_helpers::{check_same, check_same_list};
 use xray_image::read_image;
 use xray_io::MemSink;
 

@@ -1,11 +1,11 @@
 //! Calls of `step_sim`: what replays leave in their buffers, byte by byte.
 
 use super::*;
+use crate::checks::{check_same, check_same_list};
 use crate::setups::{DEFAULT_LIMITS, DEFAULT_SETUP};
 use example_images::{CALLS, OUTPUTS_AN_A};
 use fdr_buffer::Buffer;
 use machine_step::Limits;
-use test_helpers::{check_same, check_same_list};
 use xray_image::read_image;
 
 /// A function `main` that prints a 0: an entry sled, `out 0, al`, an exit sled.

@@ -1,11 +1,11 @@
 //! Calls of `step_sim`: what replays of schedules leave of the threads.
 
 use super::*;
+use crate::checks::{check_same, check_same_list};
 use crate::setups::DEFAULT_SETUP;
 use example_images::OUTPUTS_AN_A;
 use handler_word::write_runs;
 use machine_step::{Cpu, End, Want};
-use test_helpers::{check_same, check_same_list};
 use xray_image::read_image;
 use xray_io::MemSink;
 

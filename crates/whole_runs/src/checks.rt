@@ -1,5 +1,4 @@
-//! Checks of values. Each is `assert_eq!`, which costs the proof of a test more than a call does. A
-//! check that fails names the line of the test that called it.
+//! Checks of values. Each is `assert_eq!`, which costs the proof of a test more than a call does.
 
 use std::fmt::Debug;
 use std::process::Abort;
@@ -18,11 +17,6 @@ pub fn check_same_at<T: PartialEq + Debug, P: Debug>(
     place: &P,
 ) {
     assert_eq!(rt; found, wanted, "at {place:?}");
-}
-
-/// Checks that two lists are equal.
-pub fn check_same_list<T: PartialEq + Debug>(rt: &impl Abort, found: &[T], wanted: &[T]) {
-    assert_eq!(rt; found, wanted);
 }
 
 /// Checks that two texts are equal.
