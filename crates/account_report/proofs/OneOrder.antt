@@ -1,64 +1,22 @@
 -- Lists in strict order: there is only one with the same items.
-use Rattle.std.proofs.Common.{◌≡◌, ◌⊎◌, ◌+◌, ◌<◌, ◌∙◌, ℕ, zero, suc, Bool, true, false, cond, List, [], ◌∷◌, length, map, refl, ap, sym, subst, arith, nat_eq, get_or, inl, inr}
-use Rattle.std.specs.Prelude.{Contains, IsPermutation}
+use Rattle.std.proofs.Common.{◌≡◌, ◌⊎◌, ◌+◌, ◌∙◌, ℕ, suc, Bool, true, false, cond, List, [], ◌∷◌, map, refl, ap, sym, subst, arith, nat_eq, get_or, inl, inr}
+use Rattle.std.specs.Prelude.{IsPermutation}
 use Rattle.std.specs.Cmp.{IsStrictWeakOrder}
 use Rattle.std.specs.List.{IsDistinct, AllByRecursion}
 use Rattle.std.specs.List.Sorted.{IsSortedBy}
 use Rattle.std.proofs.lemmas.Bool.{eq-eqb}
-use Rattle.std.proofs.lemmas.List.Sorted.{Contains-permutation, IsPermutation-map, IsPermutation-sym}
+use Rattle.std.proofs.lemmas.List.Sorted.{IsPermutation-map, IsPermutation-sym}
 use Rattle.std.proofs.lemmas.Map.Keys.{IsDistinct-head, IsDistinct-tail, IsDistinct-IsPermutation}
+use Rattle.stack_rebuild.proofs.Items.{IsIn, Pairwise, in_either, in_longer, in_permutation, same_pairwise}
 use Rattle.account_report.specs.Ascending.{ordered_by, put_in}
 use Rattle.account_report.proofs.Rows.{flipped}
 
--- an item of a list
-abbrev IsIn : {X : Type 0} → X → List X → Type 0
-IsIn x [] = ⊥
-IsIn x (y ∷ ys) = (x ≡ y) ⊎ IsIn x ys
-
-in_from_Contains : {X : Type 0} (xs : List X) (x : X) (k : ℕ) → k < length xs → get_or xs k x ≡ x → IsIn x xs
-in_from_Contains [] x k within is = absurd (omega arith)
-in_from_Contains (y ∷ ys) x zero within is = inl (sym is)
-in_from_Contains (y ∷ ys) x (suc k) within is = inr (in_from_Contains ys x k (omega arith) is)
-
-Contains_from_in : {X : Type 0} (xs : List X) (x : X) → IsIn x xs → Contains xs x
-Contains_from_in [] x is = absurd is
-Contains_from_in (y ∷ ys) x (inl is) = (0, omega arith, sym is)
-Contains_from_in (y ∷ ys) x (inr is) = let there = Contains_from_in ys x is in (suc there.0, omega (arith, there.1), there.2)
-
-in_permutation : {X : Type 0} (xs ys : List X) → IsPermutation xs ys → (z : X) → IsIn z xs → IsIn z ys
-in_permutation xs ys same z is =
-    let there = Contains-permutation xs ys z same (Contains_from_in xs z is) in in_from_Contains ys z there.0 there.1 there.2
-
--- ---- strict order
-
 -- each item precedes those after it
 abbrev Strict : {X : Type 0} → (X → X → Bool) → List X → Type 0
-Strict before [] = Unit {0}
-Strict {X} before (x ∷ xs) = ((y : X) → IsIn y xs → before x y ≡ true) × Strict before xs
+Strict before xs = Pairwise (λ x y. before x y ≡ true) xs
 
 never_both : {X : Type 0} (before : X → X → Bool) → IsStrictWeakOrder before → (x y : X) → before x y ≡ true → before y x ≡ true → ⊥
 never_both before laws x y first second = let other : before y x ≡ false = laws.one_way x y first in cc
-
-same_strict : {X : Type 0} (before : X → X → Bool) → IsStrictWeakOrder before → (xs ys : List X) → Strict before xs → Strict before ys
-    → ((z : X) → IsIn z xs → IsIn z ys) → ((z : X) → IsIn z ys → IsIn z xs) → xs ≡ ys
-same_strict before laws [] [] up also to from = refl
-same_strict before laws [] (y ∷ ys) up also to from = absurd (from y (inl refl))
-same_strict before laws (x ∷ xs) [] up also to from = absurd (to x (inl refl))
-same_strict {X} before laws (x ∷ xs) (y ∷ ys) up also to from =
-    let first : x ≡ y = by_places (to x (inl refl)) (from y (inl refl)) in
-    let rest : xs ≡ ys =
-    same_strict before laws xs ys up.1 also.1 (λ z is. rest_of x xs y ys up.0 first z is (to z (inr is))) (λ z is. rest_of y ys x xs also.0 (sym first) z is (from z (inr is))) in
-    ap (λ (z : X). z ∷ xs) first ∙ ap (λ (zs : List X). y ∷ zs) rest
-  where
-    by_places : IsIn x (y ∷ ys) → IsIn y (x ∷ xs) → x ≡ y
-    by_places (inl is) there = is
-    by_places (inr after) (inl is) = sym is
-    by_places (inr after) (inr there) = absurd (never_both before laws x y (up.0 y there) (also.0 x after))
-
-    rest_of : (a : X) (later : List X) (b : X) (others : List X) → ((w : X) → IsIn w later → before a w ≡ true) → a ≡ b → (z : X) → IsIn z later → IsIn z (b ∷ others) → IsIn z others
-    rest_of a later b others strict same z is (inr after) = after
-    rest_of a later b others strict same z is (inl here) =
-        let own : before a a ≡ true = subst (λ (w : X). before a w ≡ true) (here ∙ sym same) (strict z is) in absurd (never_both before laws a a own own)
 
 -- ---- what a sort leaves of items, if no two have the same number
 
@@ -107,11 +65,7 @@ in-put_in {X} before x (y ∷ ys) z is = by_first (before x y) (in-put_in before
     by_first : (b : Bool) → (IsIn z (put_in before x ys) → (z ≡ x) ⊎ IsIn z ys) → IsIn z (cond b (x ∷ y ∷ ys) (y ∷ put_in before x ys)) → (z ≡ x) ⊎ IsIn z (y ∷ ys)
     by_first true later there = there
     by_first false later (inl here) = inr (inl here)
-    by_first false later (inr there) = moved (later there)
-      where
-        moved : (z ≡ x) ⊎ IsIn z ys → (z ≡ x) ⊎ IsIn z (y ∷ ys)
-        moved (inl own) = inl own
-        moved (inr other) = inr (inr other)
+    by_first false later (inr there) = in_longer x y ys z (later there)
 
 put_in-in : {X : Type 0} (before : X → X → Bool) (x : X) (ys : List X) (z : X) → IsIn z (x ∷ ys) → IsIn z (put_in before x ys)
 put_in-in before x [] z is = is
@@ -125,11 +79,7 @@ put_in-in before x (y ∷ ys) z is = by_first (before x y) is (put_in-in before 
 
 in-ordered_by : {X : Type 0} (before : X → X → Bool) (xs : List X) (z : X) → IsIn z (ordered_by before xs) → IsIn z xs
 in-ordered_by before [] z is = is
-in-ordered_by before (x ∷ xs) z is = by_place (in-put_in before x (ordered_by before xs) z is) (in-ordered_by before xs z)
-  where
-    by_place : (z ≡ x) ⊎ IsIn z (ordered_by before xs) → (IsIn z (ordered_by before xs) → IsIn z xs) → IsIn z (x ∷ xs)
-    by_place (inl own) later = inl own
-    by_place (inr there) later = inr (later there)
+in-ordered_by before (x ∷ xs) z is = in_either x (ordered_by before xs) xs z (in-ordered_by before xs z) (in-put_in before x (ordered_by before xs) z is)
 
 ordered_by-in : {X : Type 0} (before : X → X → Bool) (xs : List X) (z : X) → IsIn z xs → IsIn z (ordered_by before xs)
 ordered_by-in before [] z is = is
@@ -174,7 +124,7 @@ pub one_order : {X : Type 0} (number : X → ℕ) (before : X → X → Bool) �
     → IsDistinct nat_eq (map number xs) → IsPermutation xs sorted → IsSortedBy before sorted → sorted ≡ ordered_by before xs
 one_order number before laws decides xs sorted distinct same up =
     let also = IsDistinct-IsPermutation nat_eq flipped (map number xs) (map number sorted) (IsPermutation-map number xs sorted same) distinct in
-    same_strict before laws sorted (ordered_by before xs) (strict_from_sorted number before laws decides sorted also up)
+    same_pairwise (λ x y. before x y ≡ true) (never_both before laws) sorted (ordered_by before xs) (strict_from_sorted number before laws decides sorted also up)
     (strict-ordered_by number before laws decides xs distinct)
     (λ z is. ordered_by-in before xs z (in_permutation sorted xs (IsPermutation-sym xs sorted same) z is))
     (λ z is. in_permutation xs sorted same z (in-ordered_by before xs z is))

@@ -1,13 +1,20 @@
 -- Ascending lists of numbers: there is only one with the same numbers.
-use Rattle.std.proofs.Common.{◌≡◌, ◌+◌, ◌<◌, ◌≤◌, ◌∙◌, ℕ, suc, Bool, true, false, cond, List, [], ◌∷◌, length, map, count_by, refl, ap, sym, subst, arith, nat_eq, nat_lt, get_or}
+use Rattle.std.proofs.Common.{◌≡◌, ◌+◌, ◌<◌, ◌≤◌, ◌∙◌, ℕ, suc, Bool, true, false, cond, List, [], ◌∷◌, length, map, count_by, refl, ap, sym, subst, arith, nat_eq, nat_lt, get_or, inl, inr}
 use Rattle.std.specs.Prelude.{IsPermutation}
+use Rattle.std.specs.declared.cmp.Ordering.TheVariants.{Less, Equal, Greater}
+use Rattle.std.specs.Ordering.{nat_cmp, ordering_index}
+use Rattle.std.specs.Cmp.{nat_cmp_total}
 use Rattle.std.specs.List.{AllByRecursion, IsDistinct}
 use Rattle.std.specs.List.Sorted.{IsNonDecreasingBy}
 use Rattle.std.proofs.lemmas.Bool.{eqb-true, eq-eqb}
 use Rattle.std.proofs.lemmas.Bool.Decides.{nat_tests}
+use Rattle.std.proofs.lemmas.Cmp.{tied_itself}
 use Rattle.std.proofs.lemmas.List.Sums.{sum_by-cons}
 use Rattle.std.proofs.lemmas.List.Sorted.{sum_by-IsPermutation}
-use Rattle.account_report.specs.Ascending.{ascending, each_once, put_in, with_number}
+use Rattle.std.proofs.lemmas.Map.Keys.{IsDistinct-head, IsDistinct-tail}
+use Rattle.stack_rebuild.proofs.Ascents.{Strict, each_in}
+use Rattle.stack_rebuild.proofs.Items.{IsIn}
+use Rattle.account_report.specs.Ascending.{ascending, put_in}
 
 -- how often a list has a number
 abbrev pub count : ℕ → List ℕ → ℕ
@@ -129,95 +136,38 @@ ascending-sorted xs sorted same up =
     same_rising sorted (ascending xs) (subst Rises (map_itself sorted) (rises_from_sorted (λ (x : ℕ). x) sorted up)) (rises-ascending xs)
     (λ k. sum_by-IsPermutation (one_at k) xs sorted same ∙ sym (count-ascending k xs))
 
--- ---- each number once
+-- ---- numbers of which none is another one
 
-abbrev AllAbove : ℕ → List ℕ → Type 0
-AllAbove n [] = Unit {0}
-AllAbove n (x ∷ xs) = (n < x) × AllAbove n xs
+all_from_in : (n : ℕ) (xs : List ℕ) → AllFrom n xs → (z : ℕ) → IsIn z xs → n ≤ z
+all_from_in n [] all z is = absurd is
+all_from_in n (x ∷ xs) all z (inl is) = omega (arith, all.0, is)
+all_from_in n (x ∷ xs) all z (inr is) = all_from_in n xs all.1 z is
 
-abbrev Climbs : List ℕ → Type 0
-Climbs [] = Unit {0}
-Climbs (x ∷ xs) = AllAbove x xs × Climbs xs
+less_from : (n m : ℕ) → n ≤ m → nat_eq n m ≡ false → nat_cmp n m ≡ Less
+less_from n m low other =
+    let less : nat_lt n m ≡ true = grind (arith, nat_tests) in ap (λ (b : Bool). cond b Less (cond (nat_eq n m) Equal Greater)) less
 
-all_above_less : (n m : ℕ) (xs : List ℕ) → n < m → AllAbove m xs → AllAbove n xs
-all_above_less n m [] below all = tt
-all_above_less n m (x ∷ xs) below all = (omega (arith, all.0), all_above_less n m xs below all.1)
-
-count_above : (n : ℕ) (xs : List ℕ) → AllAbove n xs → count n xs ≡ 0
-count_above n [] all = refl
-count_above n (x ∷ xs) all =
-    let apart : one_at n x ≡ 0 = let above : n < x = all.0 in grind (arith, nat_tests) in
-    omega (arith, count-cons n x xs, count_above n xs all.1)
-
-all_above-with_number : (low n : ℕ) (ms : List ℕ) → low < n → AllAbove low ms → AllAbove low (with_number n ms)
-all_above-with_number low n [] below all = (below, tt)
-all_above-with_number low n (m ∷ ms) below all = by_first (nat_lt n m) (nat_eq n m) (all_above-with_number low n ms below all.1)
+apart_from : (n m : ℕ) → nat_cmp n m ≡ Less → nat_eq n m ≡ false
+apart_from n m less = by_test (nat_eq n m) refl
   where
-    by_first : (b d : Bool) → AllAbove low (with_number n ms) → AllAbove low (cond b (n ∷ m ∷ ms) (cond d (m ∷ ms) (m ∷ with_number n ms)))
-    by_first true d behind = (below, all)
-    by_first false true behind = all
-    by_first false false behind = (all.0, behind)
+    by_test : (b : Bool) → nat_eq n m ≡ b → nat_eq n m ≡ false
+    by_test true is =
+        let equal : nat_cmp n m ≡ Equal = ap (nat_cmp n) (sym (eqb-true n m is)) ∙ tied_itself nat_cmp_total n in
+        let e : 0 ≡ 1 = ap ordering_index (sym less ∙ equal) in absurd (omega (arith, e))
+    by_test false is = is
 
-climbs-with_number : (n : ℕ) (ms : List ℕ) → Climbs ms → Climbs (with_number n ms)
-climbs-with_number n [] up = (tt, tt)
-climbs-with_number n (m ∷ ms) up = by_first (nat_lt n m) (nat_eq n m) refl refl (climbs-with_number n ms up.1)
-  where
-    by_first : (b d : Bool) → nat_lt n m ≡ b → nat_eq n m ≡ d → Climbs (with_number n ms)
-        → Climbs (cond b (n ∷ m ∷ ms) (cond d (m ∷ ms) (m ∷ with_number n ms)))
-    by_first true d less same behind = let below : n < m = grind (arith, nat_tests) in ((below, all_above_less n m ms below up.0), up)
-    by_first false true less same behind = up
-    by_first false false less same behind = let above : m < n = grind (arith, nat_tests) in (all_above-with_number m n ms above up.0, behind)
+pub strict_from_rising : (xs : List ℕ) → Rises xs → IsDistinct nat_eq xs → Strict nat_cmp xs
+strict_from_rising [] up distinct = tt
+strict_from_rising (x ∷ xs) up distinct = (
+  λ z is. less_from x z (all_from_in x xs up.0 z is) (each_in (λ (y : ℕ). nat_eq x y ≡ false) xs (IsDistinct-head nat_eq x xs distinct) z is),
+  strict_from_rising xs up.1 (IsDistinct-tail nat_eq x xs distinct),
+)
 
-count-with_number : (k n : ℕ) (ms : List ℕ) → Climbs ms → count k (with_number n ms) ≡ cond (nat_eq k n) 1 (count k ms)
-count-with_number k n [] up = count-cons k n [] ∙ (let e : one_at k n + 0 ≡ cond (nat_eq k n) 1 0 = omega arith in e)
-count-with_number k n (m ∷ ms) up =
-    by_first (nat_lt n m) (nat_eq n m) (nat_eq k n) refl refl refl (count-with_number k n ms up.1)
-  where
-    by_first : (b d e : Bool) → nat_lt n m ≡ b → nat_eq n m ≡ d → nat_eq k n ≡ e → count k (with_number n ms) ≡ cond (nat_eq k n) 1 (count k ms)
-        → count k (cond b (n ∷ m ∷ ms) (cond d (m ∷ ms) (m ∷ with_number n ms))) ≡ cond e 1 (count k (m ∷ ms))
-    by_first true d true less same here behind =
-        let below : n < m = grind (arith, nat_tests) in
-        let is : k ≡ n = eqb-true k n here in
-        let none : count n (m ∷ ms) ≡ 0 = count_above n (m ∷ ms) (below, all_above_less n m ms below up.0) in
-        omega (arith, count-cons k n (m ∷ ms), ap {B = ℕ} (λ b. cond b 1 0) here, none, ap (λ (i : ℕ). count i (m ∷ ms)) is)
-    by_first true d false less same here behind = omega (arith, count-cons k n (m ∷ ms), ap {B = ℕ} (λ b. cond b 1 0) here)
-    by_first false true true less same here behind =
-        let is : k ≡ m = eqb-true k n here ∙ eqb-true n m same in
-        omega (arith, count-cons m m ms, one_same m, count_above m ms up.0, ap (λ (i : ℕ). count i (m ∷ ms)) is)
-    by_first false true false less same here behind = refl
-    by_first false false true less same here behind =
-        let apart : one_at k m ≡ 0 = let is : k ≡ n = eqb-true k n here in grind (arith, nat_tests) in
-        omega (arith, count-cons k m (with_number n ms), apart, behind, ap {B = ℕ} (λ b. cond b 1 (count k ms)) here)
-    by_first false false false less same here behind =
-        omega (arith, count-cons k m (with_number n ms), count-cons k m ms, behind, ap {B = ℕ} (λ b. cond b 1 (count k ms)) here)
-
-pub climbs-each_once : (ns : List ℕ) → Climbs (each_once ns)
-climbs-each_once [] = tt
-climbs-each_once (n ∷ ns) = climbs-with_number n (each_once ns) (climbs-each_once ns)
-
-rises_from_climbs : (xs : List ℕ) → Climbs xs → Rises xs
-rises_from_climbs [] up = tt
-rises_from_climbs (x ∷ xs) up = (from_above x xs up.0, rises_from_climbs xs up.1)
-  where
-    from_above : (n : ℕ) (ys : List ℕ) → AllAbove n ys → AllFrom n ys
-    from_above n [] all = tt
-    from_above n (y ∷ ys) all = (omega (arith, all.0), from_above n ys all.1)
-
-pub rises-each_once : (ns : List ℕ) → Rises (each_once ns)
-rises-each_once ns = rises_from_climbs (each_once ns) (climbs-each_once ns)
-
-pub count-each_once : (k n : ℕ) (ns : List ℕ) → count k (each_once (n ∷ ns)) ≡ cond (nat_eq k n) 1 (count k (each_once ns))
-count-each_once k n ns = count-with_number k n (each_once ns) (climbs-each_once ns)
-
--- none of them is another number
-apart_from_above : (n : ℕ) (xs : List ℕ) → AllAbove n xs → AllByRecursion (λ x. nat_eq n x ≡ false) xs
-apart_from_above n [] all = tt
-apart_from_above n (x ∷ xs) all = (let above : n < x = all.0 in grind (arith, nat_tests), apart_from_above n xs all.1)
-
-distinct_from_climbs : (xs : List ℕ) → Climbs xs → IsDistinct nat_eq xs
+pub distinct_from_strict : (xs : List ℕ) → Strict nat_cmp xs → IsDistinct nat_eq xs
 unfolding IsDistinct
-distinct_from_climbs [] up = tt
-distinct_from_climbs (x ∷ xs) up = (apart_from_above x xs up.0, distinct_from_climbs xs up.1)
-
-pub distinct-each_once : (ns : List ℕ) → IsDistinct nat_eq (each_once ns)
-distinct-each_once ns = distinct_from_climbs (each_once ns) (climbs-each_once ns)
+distinct_from_strict [] up = tt
+distinct_from_strict (x ∷ xs) up = (all_apart xs up.0, distinct_from_strict xs up.1)
+  where
+    all_apart : (ys : List ℕ) → ((y : ℕ) → IsIn y ys → nat_cmp x y ≡ Less) → AllByRecursion (λ y. nat_eq x y ≡ false) ys
+    all_apart [] each = tt
+    all_apart (y ∷ ys) each = (apart_from x y (each y (inl refl)), all_apart ys (λ z is. each z (inr is)))

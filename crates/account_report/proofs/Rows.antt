@@ -1,26 +1,34 @@
 -- The rows of a table that says what a history says.
-use Rattle.std.proofs.Common.{◌≡◌, ◌-◌, ◌∙◌, length, count_by, ℕ, Bool, true, false, cond, ◌||◌, List, [], ◌∷◌, map, refl, ap, sym, subst, arith, nat_eq, Option, Some, None, is_some}
+use Rattle.std.proofs.Common.{◌≡◌, ◌-◌, ◌∙◌, length, count_by, ℕ, Bool, true, false, cond, List, [], ◌∷◌, map, refl, ap, sym, subst, arith, nat_eq, Some, None, is_some}
 use Rattle.std.specs.Prelude.{IsPermutation, All}
-use Rattle.std.specs.Cmp.{nat_eq_equiv}
+use Rattle.std.specs.Cmp.{nat_cmp_total, nat_eq_equiv}
+use Rattle.std.specs.FinMap.{nat_cmp-IsAntisymmetric}
+use Rattle.std.specs.Ordering.{nat_cmp}
 use Rattle.std.specs.List.{IsDistinct}
 use Rattle.std.specs.List.Sorted.{IsNonDecreasingBy}
 use Rattle.std.specs.Map.{keys_of, lookup}
 use Rattle.std.proofs.lemmas.Bool.{eqb-true, eq-eqb}
 use Rattle.std.proofs.lemmas.Map.{lookup-none}
 use Rattle.std.proofs.lemmas.Map.Entries.{none_past_head}
-use Rattle.std.proofs.lemmas.Map.Keys.{IsDistinct-tail}
+use Rattle.std.proofs.lemmas.Map.Keys.{IsDistinct-tail, IsDistinct-IsPermutation}
+use Rattle.std.proofs.lemmas.Map.Made.{is_some-lookup}
 use Rattle.std.proofs.lemmas.List.Elements.{All-cons, All-head, All-nil, All-tail}
-use Rattle.std.proofs.lemmas.List.Sorted.{All-permutation, IsPermutation-map, sum_by-IsPermutation}
+use Rattle.std.proofs.lemmas.List.Sorted.{All-permutation, IsPermutation-map, IsPermutation-sym}
 use Rattle.stack_rebuild.specs.Histories.{Logged}
+use Rattle.stack_rebuild.proofs.Ascents.{is_each_once, strict-each_once}
+use Rattle.stack_rebuild.proofs.Items.{IsIn, any-in, any-mapped, in-any, in_permutation, mapped-any}
 use Rattle.account_report.specs.declared.row.AccountRow.{AccountRow}
 use Rattle.account_report.specs.Account.{durations_of, functions_in, is_entry_of, is_exit_of, lone_entries, lone_exits, row_from, row_of}
 use Rattle.account_report.specs.Ascending.{ascending}
 use Rattle.account_report.specs.private.Tallies.{Tallied, has_event, row_of_entry, tally_of}
 use Rattle.account_report.proofs.Lone.{Laws, each_entry, each_exit}
-use Rattle.account_report.proofs.Rising.{length-ascending, count, count-cons, count-each_once, distinct-each_once, rises-each_once, rises_from_sorted, same_rising}
+use Rattle.account_report.proofs.Rising.{distinct_from_strict, length-ascending, rises_from_sorted, strict_from_rising}
 
 abbrev Entries : Type 0
 Entries = List (ℕ × Tallied)
+
+abbrev event_func : Logged → ℕ
+event_func l = l.event.func
 
 -- the row of an entry
 entry_told : Laws → (history : List Logged) (func : ℕ) (tally : Tallied) → tally ≡ tally_of history func → row_of_entry (func, tally) ≡ row_of history func
@@ -54,18 +62,14 @@ entries_told laws history ((func, tally) ∷ es) distinct told =
     entries_told laws history es (IsDistinct-tail nat_eq func (keys_of es) distinct) (λ k v found. told k v (found_behind k v (func, tally) es distinct found)) in
     ap (λ (row : AccountRow). row ∷ map row_of_entry es) first ∙ ap (λ (rows : List AccountRow). row_of history func ∷ rows) behind
 
--- each function of a table is there once
-count-keys : (k : ℕ) (es : Entries) → IsDistinct nat_eq (keys_of es) → count k (keys_of es) ≡ cond (is_some (lookup (nat_eq k) es)) 1 0
-count-keys k [] distinct = refl
-count-keys k ((func, tally) ∷ es) distinct =
-    by_first (nat_eq k func) refl (count-keys k es (IsDistinct-tail nat_eq func (keys_of es) distinct)) ∙ refl
-  where
-    by_first : (b : Bool) → nat_eq k func ≡ b → count k (keys_of es) ≡ cond (is_some (lookup (nat_eq k) es)) 1 0
-        → count k (func ∷ keys_of es) ≡ cond (is_some (cond b (Some tally) (lookup (nat_eq k) es))) 1 0
-    by_first true is behind =
-        let none : lookup (nat_eq k) es ≡ None = lookup-none (nat_eq k) es (none_past_head nat_eq_equiv k (func, tally) es distinct is) in
-        omega (arith, count-cons k func (keys_of es), ap {B = ℕ} (λ b. cond b 1 0) is, behind, ap {B = ℕ} (λ (o : Option Tallied). cond (is_some o) 1 0) none)
-    by_first false is behind = omega (arith, count-cons k func (keys_of es), ap {B = ℕ} (λ b. cond b 1 0) is, behind)
+-- the functions of a table
+found_key : (k : ℕ) (es : Entries) → is_some (lookup (nat_eq k) es) ≡ true → IsIn k (keys_of es)
+found_key k es found =
+    let there = any-in (nat_eq k) (keys_of es) (sym (is_some-lookup (nat_eq k) es) ∙ found) in
+    subst (λ (n : ℕ). IsIn n (keys_of es)) (sym (eqb-true k there.0 there.2)) there.1
+
+key_found : (k : ℕ) (es : Entries) → IsIn k (keys_of es) → is_some (lookup (nat_eq k) es) ≡ true
+key_found k es is = is_some-lookup (nat_eq k) es ∙ in-any (nat_eq k) (keys_of es) k is (eq-eqb k k refl)
 
 pub flipped : (a b : ℕ) → nat_eq a b ≡ nat_eq b a
 flipped a b = by_first (nat_eq a b) refl (nat_eq b a) refl
@@ -75,17 +79,6 @@ flipped a b = by_first (nat_eq a b) refl (nat_eq b a) refl
     by_first false is false also = refl
     by_first true is false also = let e : nat_eq b a ≡ true = eq-eqb b a (sym (eqb-true a b is)) in cc
     by_first false is true also = let e : nat_eq a b ≡ true = eq-eqb a b (sym (eqb-true b a also)) in cc
-
-count-functions : (k : ℕ) (history : List Logged) → count k (functions_in history) ≡ cond (has_event history k) 1 0
-count-functions k [] = refl
-count-functions k (l ∷ history) =
-    count-each_once k l.event.func (map (λ x. x.event.func) history)
-    ∙ (ap (λ b. cond b 1 (count k (functions_in history))) (flipped k l.event.func) ∙ by_first (nat_eq l.event.func k) (count-functions k history))
-  where
-    by_first : (b : Bool) → count k (functions_in history) ≡ cond (has_event history k) 1 0
-        → cond b 1 (count k (functions_in history)) ≡ cond (b || has_event history k) 1 0
-    by_first true behind = refl
-    by_first false behind = behind
 
 -- if each row is that of its function, the rows are those of their functions
 rows_of_functions : (history : List Logged) (rows : List AccountRow) → All (λ (r : AccountRow). r ≡ row_of history r.func) rows
@@ -117,12 +110,13 @@ rows_sorted laws history es rows distinct told present same up =
     let keys : IsPermutation (keys_of es) (map func rows) =
     subst (λ (fs : List ℕ). IsPermutation fs (map func rows)) (functions_again history (keys_of es)) (IsPermutation-map func _ rows listed) in
     let funcs : map func rows ≡ functions_in history =
-    same_rising (map func rows) (functions_in history) (rises_from_sorted func rows up) (rises-each_once (map (λ x. x.event.func) history))
-    (λ k. sum_by-IsPermutation (λ x. cond (nat_eq k x) 1 0) (keys_of es) (map func rows) keys
-    ∙ (count-keys k es distinct ∙ (ap {B = ℕ} (λ b. cond b 1 0) (present k) ∙ sym (count-functions k history)))) in
+    is_each_once nat_cmp nat_cmp_total nat_cmp-IsAntisymmetric (map func rows) (map event_func history)
+    (strict_from_rising (map func rows) (rises_from_sorted func rows up) (IsDistinct-IsPermutation nat_eq flipped (keys_of es) (map func rows) keys distinct))
+    (λ z is. any-mapped event_func history z (sym (present z) ∙ key_found z es (in_permutation (map func rows) (keys_of es) (IsPermutation-sym (keys_of es) (map func rows) keys) z is)))
+    (λ z is. in_permutation (keys_of es) (map func rows) keys z (found_key z es (present z ∙ mapped-any event_func history z is))) in
     rows_of_functions history rows own ∙ ap (map (row_of history)) funcs
 
 -- no function has two rows
 pub own_rows : (history : List Logged) → IsDistinct nat_eq (map (λ (r : AccountRow). r.func) (map (row_of history) (functions_in history)))
 own_rows history =
-    subst (IsDistinct nat_eq) (sym (functions_again history (functions_in history))) (distinct-each_once (map (λ x. x.event.func) history))
+    subst (IsDistinct nat_eq) (sym (functions_again history (functions_in history))) (distinct_from_strict (functions_in history) (strict-each_once nat_cmp nat_cmp_total (map event_func history)))

@@ -1,13 +1,15 @@
 -- The account of a trace: how often its functions were called, and for how long.
 use Rattle.std.specs.Prelude.{◌+◌, ◌-◌, ◌*◌, ◌/◌, ◌==◌, ◌&&◌, Bool, true, false, not, ℕ, List, [], ◌∷◌, length, map, filter, sum, slice_index, if◌then◌else◌}
 use Rattle.std.specs.List.{list_any}
+use Rattle.std.specs.Ordering.{nat_cmp}
 use Rattle.fdr_record.specs.declared.event.Kind.{Kind}
 use Rattle.fdr_record.specs.declared.event.Kind.TheVariants.{Entry, Exit, TailExit}
 use Rattle.fdr_file.specs.declared.trace.Trace.{Trace}
+use Rattle.stack_rebuild.specs.Ascending.{each_once}
 use Rattle.stack_rebuild.specs.Calls.{pairs_in}
 use Rattle.stack_rebuild.specs.Histories.{Logged, history_of, of_thread, all_pairs}
 use Rattle.account_report.specs.declared.row.AccountRow.{AccountRow}
-use Rattle.account_report.specs.Ascending.{ascending, each_once}
+use Rattle.account_report.specs.Ascending.{ascending}
 
 -- whether an event is an entry into a function
 abbrev pub enters : Kind → Bool
@@ -20,9 +22,7 @@ is_entry_of func l = (l.event.func == func) && enters l.event.kind
 
 -- whether it is an exit or a tail exit of the function
 abbrev pub leaves : Kind → Bool
-leaves Entry = false
-leaves Exit = true
-leaves TailExit = true
+leaves kind = not (enters kind)
 
 abbrev pub is_exit_of : ℕ → Logged → Bool
 is_exit_of func l = (l.event.func == func) && leaves l.event.kind
@@ -77,7 +77,7 @@ row_of history func = row_from func (ascending (durations_of func history)) (lon
 
 -- the functions that have an event, in ascending order
 abbrev pub functions_in : List Logged → List ℕ
-functions_in history = each_once (map (λ l. l.event.func) history)
+functions_in history = each_once nat_cmp (map (λ l. l.event.func) history)
 
 -- a row for each function that has an event, in ascending order
 abbrev pub account_of : Trace → List AccountRow

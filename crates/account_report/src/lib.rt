@@ -11,4 +11,4 @@ mod text;
 pub use order::order_rows;
 pub use report::{account, latencies};
 pub use row::{AccountRow, SortKey};
-pub use text::{AccountFormat, write_account};
+pub use text::{AccountFormat, AccountText};

@@ -1,17 +1,16 @@
 //! The text of an account.
 
-ghost use Rattle.std.specs.Prelude.{◌≡◌, ◌++◌, ◌==◌, codes, decimal, if◌then◌else◌};
+ghost use Rattle.std.specs.Prelude.{◌≡◌, ◌++◌, ◌==◌, ⊤, codes, decimal, if◌then◌else◌};
 ghost use Rattle.std.specs.List.{flat_map};
 ghost use Rattle.std.specs.Option.{option_map};
 ghost use Rattle.xray_io.specs.Piece.{piece_text};
 ghost use Rattle.xray_io.specs.Text.{AddsText};
-ghost use Rattle.xray_io.specs.Writes.{WritesText};
 ghost use Rattle.account_report.specs.AccountText.{account_text, column_text, duration_word, first_line, head_words, line_text, placed, row_text, separator_text, words_of};
 
 use crate::row::AccountRow;
 use function_names::add_name;
 use xray_image::Image;
-use xray_io::{Piece, Sink, Text, WriteFault};
+use xray_io::{Piece, Printed, Sink, Text, WriteFault};
 
 /// The width of an aligned column. A longer number is printed whole.
 const WIDTH: usize = 10;
@@ -26,43 +25,33 @@ pub enum AccountFormat {
     Csv,
 }
 
-/// Writes an account: a head line, and a line for each row, in the order of the rows.
-///
-/// `latencies` is the number in the first line: how many functions have a pair, whether or not they
-/// have a row. A row has the name of its function in `image`, or `#` and the id if there is no
-/// name. The columns are those of `llvm-xray account`, in cycles, and two more.
-///
-/// On `WriteFault` a prefix of the text was written, and the sink counted a fault.
-#[tactic(auto, using(xray_io::specs::Text::writes_failed))]
-pub fn write_account<S: Sink>(
-    rows: &[AccountRow],
-    latencies: u64,
-    image: Option<&Image>,
-    format: AccountFormat,
-    sink: &mut S,
-) -> Result<(), WriteFault>
-    ensures { WritesText S.written S.faults S.along sink.old sink.new
-        (account_text format latencies (option_map (λ image. image.now) image.entry) rows.now) result }
-{
-    let mut text = Text::new(sink);
-    add_account(&mut text, rows, latencies, image, format)?;
-    text.done()
+/// An account, which is printed as a head line, and a line for each row, in the order of the rows.
+/// The columns are those of `llvm-xray account`, in cycles, and two more.
+#[derive(Clone, Copy, Debug)]
+pub struct AccountText<'a> {
+    /// The rows.
+    pub rows: &'a [AccountRow],
+    /// The number in the first line: how many functions have a pair, whether or not they have a
+    /// row.
+    pub latencies: u64,
+    /// The image that names the functions of the rows. If it has no name for one, or if there is no
+    /// image, `#` and the id are printed.
+    pub image: Option<&'a Image>,
+    /// The form.
+    pub format: AccountFormat,
 }
 
-/// Adds the whole text.
-fn add_account<S: Sink>(
-    text: &mut Text<S>,
-    rows: &[AccountRow],
-    latencies: u64,
-    image: Option<&Image>,
-    format: AccountFormat,
-) -> Result<(), WriteFault>
-    ensures { AddsText S.written S.faults S.along text.old text.new
-        (account_text format latencies (option_map (λ image. image.now) image.entry) rows.now) result }
-{
-    add_first_line(text, latencies, format)?;
-    text.bytes(head_line(format))?;
-    add_rows(text, rows, image, format)
+impl Printed for AccountText<'_> {
+    ghost text = { λ account. account_text account.format account.latencies
+        (option_map (λ image. image.now) account.image) account.rows.now };
+
+    ghost ready = { λ _. ⊤ };
+
+    fn add_to<S: Sink>(&self, to: &mut Text<S>) -> Result<(), WriteFault> {
+        add_first_line(to, self.latencies, self.format)?;
+        to.bytes(head_line(self.format))?;
+        add_rows(to, self.rows, self.image, self.format)
+    }
 }
 
 /// Adds the number of functions that have a pair.

@@ -1,6 +1,6 @@
 -- Names in lists.
-use Rattle.std.proofs.Common.{◌≡◌, ℕ, ◌+◌, ◌<◌, ◌≤◌, get_or, Bool, true, false, cond, not, List, [], ◌∷◌, length, Some, refl, ap, arith, map, Bor}
-use Rattle.std.specs.Prelude.{position, find, option_map}
+use Rattle.std.proofs.Common.{◌≡◌, ℕ, ◌+◌, ◌<◌, ◌≤◌, get_or, Bool, false, cond, not, List, [], ◌∷◌, length, Some, refl, ap, arith, map, Bor}
+use Rattle.std.specs.Prelude.{position}
 use Rattle.std.specs.List.{position_or_len, list_all}
 use Rattle.std.specs.Str.{bytes_eq}
 use Rattle.std.proofs.lemmas.Bool.{le-leb}

@@ -105,6 +105,14 @@ words_said : (before : Lines) (number : ℕ) (words : List (List ℕ)) (s : Stat
 words_said before number [] s e = absurd cc
 words_said before number (word ∷ words) s e = ap (spoken before number) e
 
+-- the words of statements are written
+pub all_written : (all : List (List (List ℕ))) (statements : List Statement) → AllZip Says all statements → list_all are_written_words all ≡ true
+all_written [] [] says = refl
+all_written [] (s ∷ statements) says = absurd says
+all_written (words ∷ all) [] says = absurd says
+all_written (words ∷ all) (s ∷ statements) says =
+    and_from (are_written_words words) (list_all are_written_words all) says.0.written (all_written all statements says.1)
+
 module _ (texts : WordsRead) where
   line_read : (before : Lines) (number : ℕ) (words : List (List ℕ)) (s : Statement) → Says words s → MayFollow before s → length before < 1024
       → with_line before (number, written_line words) ≡ Ok (before ++ (number, s) ∷ [])
@@ -129,13 +137,6 @@ module _ (texts : WordsRead) where
       ap (λ r. r >>= λ ls. read_lines ls left) (line_read before number words s says.0 (orderly.follows before (number, s) behind is) room)
       ∙ lines_read said (before ++ (number, s) ∷ []) (number + 1) all statements says.1 orderly few (is ∙ sym (append_assoc before ((number, s) ∷ []) behind))
 
-  all_written : (all : List (List (List ℕ))) (statements : List Statement) → AllZip Says all statements → list_all are_written_words all ≡ true
-  all_written [] [] says = refl
-  all_written [] (s ∷ statements) says = absurd says
-  all_written (words ∷ all) [] says = absurd says
-  all_written (words ∷ all) (s ∷ statements) says =
-      and_from (are_written_words words) (list_all are_written_words all) says.0.written (all_written all statements says.1)
-
 -- ---- the end
 
 all_resolved : (said before behind : Lines) → IsOrderly said → said ≡ before ++ behind → resolved said behind ≡ Ok said
@@ -152,7 +153,7 @@ pub text_read : WordsRead → WrittenTextsRead
 text_read texts all statements says orderly few =
     let said = enumerate_from 1 statements in
     let text = written_text all in
-    let cut : lines text ≡ map written_line all = texts.lines all (all_written texts all statements says) in
+    let cut : lines text ≡ map written_line all = texts.lines all (all_written all statements says) in
     let read : read_lines [] (enumerate_from 1 (lines text)) ≡ Ok said =
     ap (λ ls. read_lines [] (enumerate_from 1 ls)) cut
     ∙ lines_read texts said [] 1 all statements says orderly (omega (arith, few, length-enumerate_from 1 statements)) refl in

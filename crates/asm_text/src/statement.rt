@@ -59,15 +59,26 @@ pub(crate) enum Written<'a> {
     Return,
 }
 
-/// What a line says, as it is written.
+/// What a line says. Its instruction is as it is written, or with checked operands.
 #[derive(Clone, Copy)]
-pub(crate) enum Spoken<'a> {
+pub(crate) enum Saying<'a, O> {
+    /// The address of the code's first byte.
     Base(u64),
+    /// The entry function.
     Entry(&'a [u8]),
+    /// Begins a function.
     Function { name: &'a [u8], choice: Choice },
+    /// A label.
     Label(&'a [u8]),
-    Does(Written<'a>),
+    /// An instruction line.
+    Does(O),
 }
+
+/// What a line says, as it is written.
+pub(crate) type Spoken<'a> = Saying<'a, Written<'a>>;
+
+/// What a line says, with checked operands.
+pub(crate) type Statement<'a> = Saying<'a, Operation<'a>>;
 
 /// An instruction that goes to no name.
 #[derive(Clone, Copy)]
@@ -120,21 +131,6 @@ pub(crate) enum Operation<'a> {
     Return,
 }
 
-/// What a line says, with checked operands.
-#[derive(Clone, Copy)]
-pub(crate) enum Statement<'a> {
-    /// The address of the code's first byte.
-    Base(u64),
-    /// The entry function.
-    Entry(&'a [u8]),
-    /// Begins a function.
-    Function { name: &'a [u8], choice: Choice },
-    /// A label.
-    Label(&'a [u8]),
-    /// An instruction line.
-    Does(Operation<'a>),
-}
-
 impl<'a> Operation<'a> {
     ghost use Rattle.asm_text.specs.Refusals.{name_in};
     ghost use Rattle.asm_text.specs.private.Views.{operation_checked};
@@ -151,7 +147,7 @@ impl<'a> Operation<'a> {
     }
 }
 
-impl<'a> Statement<'a> {
+impl<'a> Saying<'a, Operation<'a>> {
     ghost use Rattle.asm_text.specs.Layout.{names_function};
     ghost use Rattle.asm_text.specs.private.Views.{statement_said};
     ghost use Rattle.asm_text.specs.private.FirstPass.{name_defined};

@@ -14,7 +14,7 @@ use Rattle.fdr_record.specs.declared.rec.Rec.TheVariants.{NewBuffer, WallTime, P
 use Rattle.fdr_record.specs.declared.fault.RecFault.{RecFault}
 use Rattle.fdr_record.specs.Records.{length_of, FieldsFit, BeginsWith, Spells}
 use Rattle.fdr_record.specs.Refusals.{Answers}
-use Rattle.fdr_record.proofs.Fields.{IsBytes-drop, IsBytes-from_All, field_2, field_4, field_8}
+use Rattle.fdr_record.proofs.Fields.{field_2, field_4, field_8}
 use Rattle.fdr_file.specs.declared.fault.TraceFault.{TraceFault}
 use Rattle.fdr_file.specs.declared.fault.TraceFault.TheVariants as faults
 use Rattle.fdr_file.specs.declared.trace.Trace.{Trace}
@@ -272,12 +272,11 @@ header_described bytes all clean =
     let long : 32 ≤ length bytes = leb-true 32 (length bytes) (unless_true (leb 32 (length bytes)) (faults.Short 0) front.0) in
     let version : version_in bytes ≡ 3 = eqb-true (version_in bytes) 3 (unless_true (eqb (version_in bytes) 3) (faults.Version (version_in bytes)) front.1) in
     let form : type_in bytes ≡ 1 = eqb-true (type_in bytes) 1 (unless_true (eqb (type_in bytes) 1) (faults.Form (type_in bytes)) most.1) in
-    let are = IsBytes-from_All bytes all in
-    let a = field_2 bytes (omega arith) are in
-    let b = field_2 (drop 2 bytes) (omega (arith, length-drop 2 bytes)) (IsBytes-drop 2 bytes are) in
-    let g = field_4 (drop 4 bytes) (omega (arith, length-drop 4 bytes)) (IsBytes-drop 4 bytes are) in
-    let q = field_8 (drop 8 bytes) (omega (arith, length-drop 8 bytes)) (IsBytes-drop 8 bytes are) in
-    let s = field_8 (drop 16 bytes) (omega (arith, length-drop 16 bytes)) (IsBytes-drop 16 bytes are) in
+    let a = field_2 bytes (omega arith) all in
+    let b = field_2 (drop 2 bytes) (omega (arith, length-drop 2 bytes)) (All-drop (λ b. b < 256) 2 bytes all) in
+    let g = field_4 (drop 4 bytes) (omega (arith, length-drop 4 bytes)) (All-drop (λ b. b < 256) 4 bytes all) in
+    let q = field_8 (drop 8 bytes) (omega (arith, length-drop 8 bytes)) (All-drop (λ b. b < 256) 8 bytes all) in
+    let s = field_8 (drop 16 bytes) (omega (arith, length-drop 16 bytes)) (All-drop (λ b. b < 256) 16 bytes all) in
     let reserved = take 8 (drop 24 bytes) in
     let parts : take 32 bytes ≡ take 2 bytes ++ (take 2 (drop 2 bytes) ++ (take 4 (drop 4 bytes) ++ (take 8 (drop 8 bytes) ++ (take 8 (drop 16 bytes) ++ reserved)))) =
     cut 2 30 0 bytes ∙ ap (λ (x : List ℕ). take 2 bytes ++ x) (cut 2 28 2 bytes ∙ ap (λ (x : List ℕ). take 2 (drop 2 bytes) ++ x) (cut 4 24 4 bytes ∙ ap (λ (x : List ℕ). take 4 (drop 4 bytes) ++ x)

@@ -7,43 +7,45 @@ use fdr_record::Event;
 use std::marker::Model;
 use xray_io::Wall;
 
-/// The events of a block, in order. In contracts they are a list.
+/// Items in order. In contracts they are a list.
 #[derive(Debug, Drop)]
-pub struct Events {
-    list: Vec<Event>,
+pub struct Items<X> {
+    list: Vec<X>,
 }
 
-impl Model for Events {
+impl<X> Model for Items<X> {
     ghost use Rattle.std.specs.Prelude.{List};
-    ghost use Rattle.fdr_record.specs.declared.event.Event.{Event};
 
-    ghost Value = { List Event };
+    ghost Value = { List X };
 
-    ghost view = { λ e. e.list.items };
+    ghost view = { λ i. i.list.items };
 }
 
-impl Events {
-    /// These events.
-    pub fn new(list: Vec<Event>) -> Events
+impl<X> Items<X> {
+    /// These items.
+    pub fn new(list: Vec<X>) -> Items<X>
         ensures { result ≡ list.items }
     {
-        Events { list }
+        Items { list }
     }
 
-    /// The events as a slice.
-    pub fn as_slice(&self) -> &[Event]
+    /// The items as a slice.
+    pub fn as_slice(&self) -> &[X]
         ensures { result.now ≡ self.now }
     {
         &self.list
     }
 
-    /// The events as the vector that they were made of.
-    pub fn into_vec(self) -> Vec<Event>
+    /// The items as the vector that they were made of.
+    pub fn into_vec(self) -> Vec<X>
         ensures { result.items ≡ self }
     {
         self.list
     }
 }
+
+/// The events of a block, in order.
+pub type Events = Items<Event>;
 
 /// One block of a file: what a thread's buffer said.
 #[derive(Debug, Drop)]
@@ -58,43 +60,8 @@ pub struct Block {
     pub events: Events,
 }
 
-/// The blocks of a file, in order. In contracts they are a list.
-#[derive(Debug, Drop)]
-pub struct Blocks {
-    list: Vec<Block>,
-}
-
-impl Model for Blocks {
-    ghost use Rattle.std.specs.Prelude.{List};
-    ghost use Rattle.fdr_file.specs.declared.trace.Block.{Block};
-
-    ghost Value = { List Block };
-
-    ghost view = { λ b. b.list.items };
-}
-
-impl Blocks {
-    /// These blocks.
-    pub fn new(list: Vec<Block>) -> Blocks
-        ensures { result ≡ list.items }
-    {
-        Blocks { list }
-    }
-
-    /// The blocks as a slice.
-    pub fn as_slice(&self) -> &[Block]
-        ensures { result.now ≡ self.now }
-    {
-        &self.list
-    }
-
-    /// The blocks as the vector that they were made of.
-    pub fn into_vec(self) -> Vec<Block>
-        ensures { result.items ≡ self }
-    {
-        self.list
-    }
-}
+/// The blocks of a file, in order.
+pub type Blocks = Items<Block>;
 
 /// A trace: what a file says about itself, and its blocks.
 #[derive(Debug, Drop)]

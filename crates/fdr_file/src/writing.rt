@@ -13,7 +13,7 @@ use crate::Header;
 use crate::header::{CONSTANT, FDR, NONSTOP, RESERVED};
 use fdr_buffer::Buffer;
 use fdr_record::{METADATA_BYTES, Rec, put_rec};
-use xray_io::{Piece, Sink, Text, WriteFault};
+use xray_io::{Piece, Printed, Sink, Text, WriteFault};
 
 /// A header's flags as a number.
 fn flags(header: &Header) -> u32
@@ -95,6 +95,26 @@ fn add_file<S: Sink>(
 {
     add_header(text, header)?;
     add_blocks(text, buffers)
+}
+
+/// A trace file of version 3, which is written as `write_file` writes it.
+#[derive(Clone, Copy, Debug)]
+pub struct TraceFile<'a> {
+    /// The header. Its version is 3.
+    pub header: &'a Header,
+    /// The buffers, each of which is begun.
+    pub buffers: &'a [Buffer],
+}
+
+impl Printed for TraceFile<'_> {
+    ghost text = { λ file. file_bytes file.header.now file.buffers.now };
+
+    ghost ready = { λ file. (file.header.now.version ≡ 3)
+        × All (λ buffer. IsTrue buffer.begun) file.buffers.now };
+
+    fn add_to<S: Sink>(&self, to: &mut Text<S>) -> Result<(), WriteFault> {
+        add_file(to, self.header, self.buffers)
+    }
 }
 
 /// Writes a trace file of version 3: the header, and a block for each buffer. A block is a

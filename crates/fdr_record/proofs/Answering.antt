@@ -1,8 +1,9 @@
 -- What is read from bytes is an answer to them.
-use Rattle.std.proofs.Common.{rules, ◌≡◌, ◌≢◌, ℕ, ◌+◌, ◌*◌, ◌/◌, ◌%◌, ◌≤◌, ltb, List, [], ◌∷◌, ◌++◌, length, get_or, take, drop, Result, Ok, Err, refl, sym, ap, ◌∙◌, arith, inl, inr}
+use Rattle.std.proofs.Common.{rules, ◌≡◌, ◌≢◌, ℕ, ◌+◌, ◌*◌, ◌/◌, ◌%◌, ◌<◌, ◌≤◌, ltb, List, [], ◌∷◌, ◌++◌, length, get_or, take, drop, Result, Ok, Err, refl, sym, ap, ◌∙◌, arith, inl, inr}
 use Rattle.std.proofs.lemmas.Bool.{cases_Bool, ltb-false, ltb-true, ne_eqb}
 use Rattle.std.proofs.lemmas.Bool.Decides.{eqb_tells}
 use Rattle.std.proofs.lemmas.List.{length-take, length-drop}
+use Rattle.std.proofs.lemmas.List.Elements.{All-drop, All-tail}
 use Rattle.std.proofs.Math.Seq.{take-add}
 use Rattle.byteorder.specs.Endian.{little_bytes, little_number}
 use Rattle.fdr_record.specs.declared.event.Kind.{Kind}
@@ -14,7 +15,7 @@ use Rattle.fdr_record.specs.declared.fault.RecFault.TheVariants as faults
 use Rattle.fdr_record.specs.Records.{BeginsWith, action_of, first_of, head_of, length_of, told_by}
 use Rattle.fdr_record.specs.Refusals.{Answers}
 use Rattle.fdr_record.specs.Reading.{function_at, fields_read, metadata_at}
-use Rattle.fdr_record.proofs.Fields.{IsBytes, IsBytes-drop, IsBytes-rest, field_2, field_4, field_8}
+use Rattle.fdr_record.proofs.Fields.{IsBytes, field_2, field_4, field_8}
 
 -- the first bytes of a function record
 head_is : (first action : ℕ) (rest : List ℕ) → first % 2 ≡ 0 → first / 2 % 8 ≡ action → 2 * action + 16 * (little_number 4 (first ∷ rest) / 16) ≡ little_number 4 (first ∷ rest)
@@ -30,7 +31,7 @@ function_spelled : (kind : Kind) (first : ℕ) (rest : List ℕ) → IsBytes (fi
 function_spelled kind first rest fits even is long =
     let bytes = first ∷ rest in
     let front = field_4 bytes (omega arith) fits in
-    let delta = field_4 (drop 4 bytes) (omega (arith, length-drop 4 bytes)) (IsBytes-drop 4 bytes fits) in
+    let delta = field_4 (drop 4 bytes) (omega (arith, length-drop 4 bytes)) (All-drop (λ b. b < 256) 4 bytes fits) in
     let head = head_is first (action_of kind) rest even is in
     let number = little_number 4 bytes in (
       (omega (arith, front.fits), delta.fits),
@@ -88,13 +89,13 @@ fields_hold kind first rest fits is long =
       | inr not_0 ↦ elim (eqb_tells kind 2) [
         | inl e ↦
             let cpu = field_2 rest (omega arith) fits in
-            let tsc = field_8 (drop 2 rest) (omega (arith, length-drop 2 rest)) (IsBytes-drop 2 rest fits) in
+            let tsc = field_8 (drop 2 rest) (omega (arith, length-drop 2 rest)) (All-drop (λ b. b < 256) 2 rest fits) in
             rw (not_0.0, e.0) ((cpu.fits, tsc.fits), spelled (NewCpu _ _) first _ rest _ _ refl refl (omega arith) long (two_fields 2 8 5 _ _ rest cpu.back tsc.back))
         | inr not_2 ↦ elim (eqb_tells kind 3) [
           | inl e ↦ rw (not_0.0, not_2.0, e.0) (long_word.fits, spelled (TscWrap _) first _ rest _ _ refl refl (omega arith) long (one_field 8 7 _ rest long_word.back))
           | inr not_3 ↦ elim (eqb_tells kind 4) [
             | inl e ↦
-                let micros = field_4 (drop 8 rest) (omega (arith, length-drop 8 rest)) (IsBytes-drop 8 rest fits) in
+                let micros = field_4 (drop 8 rest) (omega (arith, length-drop 8 rest)) (All-drop (λ b. b < 256) 8 rest fits) in
                 rw (not_0.0, not_2.0, not_3.0, e.0) ((long_word.fits, micros.fits), spelled (WallTime _) first _ rest _ _ refl refl (omega arith) long (two_fields 8 4 3 _ _ rest long_word.back micros.back))
             | inr not_4 ↦ elim (eqb_tells kind 7) [
               | inl e ↦ rw (not_0.0, not_2.0, not_3.0, not_4.0, e.0) (long_word.fits, spelled (Extents _) first _ rest _ _ refl refl (omega arith) long (one_field 8 7 _ rest long_word.back))
@@ -125,7 +126,7 @@ metadata_holds first rest fits odd =
           rw (short, is_odd) (omega arith)
       | inr long ↦
           let le = ltb-false (length rest) 15 long in
-          rw long (fields_hold (first / 2) first rest (IsBytes-rest first rest fits) (omega arith) le)
+          rw long (fields_hold (first / 2) first rest (All-tail (λ b. b < 256) first rest fits) (omega arith) le)
     ]
 
 -- what is read from bytes, by their first byte

@@ -1,6 +1,6 @@
 -- Runs of marks: the first run of a list, and how the text of runs is put together.
 use Rattle.std.proofs.Common.{◌≡◌, ◌≢◌, ◌<◌, ◌≤◌, ◌+◌, ◌-◌, ℕ, zero, suc, List, [], ◌∷◌, ◌++◌, length, drop, replicate, Bool, refl, sym, ap, ◌∙◌, arith, append_assoc, add-one, eq-eqb}
-use Rattle.std.specs.Prelude.{◌==◌, true, false, map, slice_get, Some, Option, Ok}
+use Rattle.std.specs.Prelude.{◌==◌, if◌then◌else◌, true, false, map, slice_get, Some, Option, Ok}
 use Rattle.std.specs.List.{flat_map, join_with_byte}
 use Rattle.std.proofs.Math.Seq.{drop-cons}
 use Rattle.std.proofs.lemmas.Bool.{eqb-true, ne_eqb}
@@ -14,24 +14,19 @@ use Rattle.xray_io.specs.Calls.{Write}
 use Rattle.xray_io.specs.Text.{AddsText}
 use Rattle.xray_io.specs.declared.text.Text.{Text}
 
+-- the mark of a character
+abbrev marked : ℕ → Mark
+marked byte = if byte == 46 then Skipped else if byte == 110 then NoHandler else if byte == 102 then NotLogging else Recorded
+
+marked_back : (mark : Mark) → marked (mark_byte mark) ≡ mark
+marked_back Skipped = refl
+marked_back NoHandler = refl
+marked_back NotLogging = refl
+marked_back Recorded = refl
+
 -- marks with the same character are the same
 printed_alike : (mark other : Mark) → mark_byte mark ≡ mark_byte other → mark ≡ other
-printed_alike Skipped Skipped alike = refl
-printed_alike Skipped NoHandler alike = absurd (omega arith)
-printed_alike Skipped NotLogging alike = absurd (omega arith)
-printed_alike Skipped Recorded alike = absurd (omega arith)
-printed_alike NoHandler Skipped alike = absurd (omega arith)
-printed_alike NoHandler NoHandler alike = refl
-printed_alike NoHandler NotLogging alike = absurd (omega arith)
-printed_alike NoHandler Recorded alike = absurd (omega arith)
-printed_alike NotLogging Skipped alike = absurd (omega arith)
-printed_alike NotLogging NoHandler alike = absurd (omega arith)
-printed_alike NotLogging NotLogging alike = refl
-printed_alike NotLogging Recorded alike = absurd (omega arith)
-printed_alike Recorded Skipped alike = absurd (omega arith)
-printed_alike Recorded NoHandler alike = absurd (omega arith)
-printed_alike Recorded NotLogging alike = absurd (omega arith)
-printed_alike Recorded Recorded alike = refl
+printed_alike mark other alike = sym (marked_back mark) ∙ ap marked alike ∙ marked_back other
 
 printed_apart : (mark other : Mark) → mark ≢ other → (mark_byte mark == mark_byte other) ≡ false
 printed_apart mark other apart = ne_eqb (mark_byte mark) (mark_byte other) (λ alike. apart (printed_alike mark other alike))

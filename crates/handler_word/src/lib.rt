@@ -7,4 +7,3 @@ mod runs;
 
 pub use mark::Mark;
 pub use marks::Marks;
-pub use runs::{add_runs, write_runs};

@@ -1,44 +1,33 @@
 //! The text of marks. Each run of equal marks is printed as its character and its length.
 
-ghost use Rattle.std.specs.Prelude.{◌≡◌, ◌<◌, ◌≤◌, ◌+◌, [], ◌∷◌, ◌++◌, length, drop};
+ghost use Rattle.std.specs.Prelude.{◌≡◌, ◌<◌, ◌≤◌, ◌+◌, [], ◌∷◌, ◌++◌, ⊤, length, drop};
 ghost use Rattle.handler_word.specs.Runs.{mark_byte, runs_of, run_text, runs_text};
 ghost use Rattle.xray_io.specs.Text.{AddsText};
-ghost use Rattle.xray_io.specs.Writes.{WritesText};
 
 use crate::{Mark, Marks};
-use xray_io::{Piece, Sink, Text, WriteFault};
+use xray_io::{Piece, Printed, Sink, Text, WriteFault};
 
-/// Writes the runs of marks, as `.3 n1 +20`. Each longest run of equal marks is its character and
-/// its length, and there is a space between runs. The text is `-` if there are no marks.
-///
-/// On `WriteFault` a prefix of the text was written, and the sink counted a fault.
-#[tactic(auto, using(xray_io::specs::Text::writes_failed))]
-pub fn write_runs<S: Sink>(marks: &Marks, sink: &mut S) -> Result<(), WriteFault>
-    ensures { WritesText S.written S.faults S.along sink.old sink.new
-        (runs_text marks.now.items) result }
-{
-    let mut text = Text::new(sink);
-    add_runs(&mut text, marks)?;
-    text.done()
-}
+/// Marks are printed as their runs, as `.3 n1 +20`. Each longest run of equal marks is its character
+/// and its length, and there is a space between runs. The text is `-` if there are no marks.
+impl Printed for Marks {
+    ghost text = { λ marks. runs_text marks.items };
 
-/// Adds the runs of marks to a text that may say more. They look as `write_runs` writes them.
-pub fn add_runs<S: Sink>(text: &mut Text<S>, marks: &Marks) -> Result<(), WriteFault>
-    ensures { AddsText S.written S.faults S.along text.old text.new
-        (runs_text marks.now.items) result }
-{
-    if marks.is_empty() {
-        return text.bytes(b"-");
+    ghost ready = { λ _. ⊤ };
+
+    fn add_to<S: Sink>(&self, to: &mut Text<S>) -> Result<(), WriteFault> {
+        if self.is_empty() {
+            return to.bytes(b"-");
+        }
+        let first = run_at(self, 0);
+        add_run(to, b"", first)?;
+        let mut end = first.length;
+        'runs: while end < self.len() {
+            let run = run_at(self, end);
+            add_run(to, b" ", run)?;
+            end += run.length;
+        }
+        Ok(())
     }
-    let first = run_at(marks, 0);
-    add_run(text, b"", first)?;
-    let mut end = first.length;
-    'runs: while end < marks.len() {
-        let run = run_at(marks, end);
-        add_run(text, b" ", run)?;
-        end += run.length;
-    }
-    Ok(())
 }
 
 /// A run of equal marks, and its length.

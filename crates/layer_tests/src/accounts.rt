@@ -1,21 +1,33 @@
 //! Calls of `account_report`: rows that were worked by hand, orders with ties, and texts.
 
-use crate::checks::{check_same, check_same_list};
-use crate::event_traces::{NESTED, Said, trace_of};
+use crate::checks::{check_same, check_same_list, check_same_text};
+use crate::event_traces::{NESTED, Said, printed, trace_of};
 use account_report::*;
 use fdr_record::Kind;
 use std::alloc::Global;
+use std::process::Abort;
 use std::test::Fail;
-use xray_io::MemSink;
 
 /// The text of rows, without an image.
-fn printed(alloc: Global, rows: &[AccountRow], format: AccountFormat) -> Result<String, Fail> {
-    let mut sink = MemSink::new(alloc, Vec::new(alloc));
-    write_account(rows, latencies(rows), None, format, &mut sink).map_err(|_| "write fault")?;
-    Ok(String::from_str(alloc, std::str::from_utf8(sink.bytes())?)?)
+fn text_of(alloc: Global, rows: &[AccountRow], format: AccountFormat) -> Result<String, Fail> {
+    let text = AccountText {
+        rows,
+        latencies: latencies(rows),
+        image: None,
+        format,
+    };
+    printed(alloc, &text)
 }
 
 const CSV_HEAD: &str = "funcid,count,min,med,90p,99p,max,sum,entries,exits,function\n";
+
+/// Checks the lines of the rows of events.
+fn check_rows(rt: &impl Abort, alloc: Global, events: &[Said], lines: &str) -> Result<(), Fail> {
+    let rows = account(alloc, &trace_of(alloc, events)?)?;
+    let text = text_of(alloc, &rows, AccountFormat::Csv)?;
+    check_same(rt, &text.as_str().strip_prefix(CSV_HEAD), &Some(lines));
+    Ok(())
+}
 
 /// Events, and the lines of their rows.
 const ROWS: [(&[Said], &str); 9] = [
@@ -76,9 +88,7 @@ fn a_row_counts_the_pairs_of_its_function_and_the_events_in_none(
     rt: HostRuntime,
 ) -> Result<(), Fail> {
     for (events, lines) in &ROWS {
-        let rows = account(rt.alloc(), &trace_of(rt.alloc(), events)?)?;
-        let text = printed(rt.alloc(), &rows, AccountFormat::Csv)?;
-        check_same(&rt, &text.as_str().strip_prefix(CSV_HEAD), &Some(*lines));
+        check_rows(&rt, rt.alloc(), events, lines)?;
     }
     Ok(())
 }
@@ -95,9 +105,7 @@ fn percentiles_are_items_of_the_ascending_durations(rt: HostRuntime) -> Result<(
             events.push((1, Kind::Entry, 1, 0))?;
             events.push((1, Kind::Exit, 1, duration))?;
         }
-        let rows = account(rt.alloc(), &trace_of(rt.alloc(), &events)?)?;
-        let text = printed(rt.alloc(), &rows, AccountFormat::Csv)?;
-        check_same(&rt, &text.as_str().strip_prefix(CSV_HEAD), &Some(line));
+        check_rows(&rt, rt.alloc(), &events, line)?;
     }
     Ok(())
 }
@@ -178,43 +186,24 @@ fn rows_of_one_number_are_in_order_of_their_functions_both_ways(
     Ok(())
 }
 
-const TEXT_HEAD: &str = "    funcid      count        min        med        90p        99p        \
-    max        sum    entries      exits function\n";
-
-const ONE_PAIR: &str = "         1          1          2          2          2          2          \
-    2          2          0          0 #1\n";
+/// The text of two rows, one with numbers that are wider than their columns.
+const WIDE: &str = "Functions with latencies: 1\n    \
+    funcid      count        min        med        90p        99p        \
+    max        sum    entries      exits function\n         \
+    3          1          1          1          1          1 12345678901 \
+    12345678901          0          0 #3\n         4          0          -          -          -          \
+    -          -          -          0          0 #4\n";
 
 #[test]
 fn columns_are_aligned_and_a_longer_number_is_printed_whole(rt: HostRuntime) -> Result<(), Fail> {
-    let alloc = rt.alloc();
-    let none = printed(alloc, &[], AccountFormat::Text)?;
-    let head = none
-        .as_str()
-        .strip_prefix("Functions with latencies: 0\n")
-        .ok_or("another line")?;
-    check_same(&rt, &head, &TEXT_HEAD);
-    let events = [(1, Kind::Entry, 1, 0), (1, Kind::Exit, 1, 2)];
-    let rows = account(alloc, &trace_of(alloc, &events)?)?;
-    let one = printed(alloc, &rows, AccountFormat::Text)?;
-    let lines = one
-        .as_str()
-        .strip_prefix("Functions with latencies: 1\n")
-        .ok_or("another line")?;
-    check_same(&rt, &lines.strip_prefix(TEXT_HEAD), &Some(ONE_PAIR));
-    let wide = [
+    let rows = [
         AccountRow {
             max: 12_345_678_901,
             ..row_with(SortKey::Sum, 3, 12_345_678_901)
         },
         row_with(SortKey::Count, 4, 0),
     ];
-    let text = printed(alloc, &wide, AccountFormat::Text)?;
-    let lines = text.as_str().strip_prefix("Functions with latencies: 1\n");
-    let rows = lines.ok_or("another line")?.strip_prefix(TEXT_HEAD);
-    check_same(&rt, &rows, &Some(WIDE));
+    let text = text_of(rt.alloc(), &rows, AccountFormat::Text)?;
+    check_same_text(&rt, text.as_str(), WIDE);
     Ok(())
 }
-
-const WIDE: &str = "         3          1          1          1          1          1 12345678901 \
-    12345678901          0          0 #3\n         4          0          -          -          -          \
-    -          -          -          0          0 #4\n";

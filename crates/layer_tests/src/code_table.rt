@@ -34,6 +34,25 @@ pub fn begin<R: Abort + AllocGlobal>(
     Ok(made)
 }
 
+/// The table of an image under a script for one thread, and the seats of its patcher and of the
+/// thread, at the start.
+fn start<R: Abort + AllocGlobal>(
+    rt: &R,
+    image: &Image,
+    text: &[u8],
+) -> Result<(CodeTable, PatchSeat, WorkSeat), Fail>
+    ensures patcher { IfOk result (λ t. IsPatcherOf t.0 t.1) }
+    ensures worker { IfOk result (λ t. IsWorkerOf t.0 t.2) }
+    ensures given { IfOk result (λ t. (patch_view t.1).given ≡ 1) }
+    ensures thread { IfOk result (λ t. (work_view t.2).thread ≡ 1) }
+    ensures going { IfOk result (λ t. (work_view t.2).count ≡ 0) }
+{
+    let (table, mut seat) = begin(rt, image, text)?;
+    assert!(rt; table.is_at_start(&seat));
+    let worker = table.split(&mut seat);
+    Ok((table, seat, worker))
+}
+
 /// Makes `stores` stores. They are what the script says next.
 fn store(rt: &impl Abort, table: &CodeTable, seat: &mut PatchSeat, stores: u32)
     requires { IsPatcherOf table.now seat.old }
@@ -89,10 +108,8 @@ fn heard_head(table: &CodeTable, patcher: &mut PatchSeat, worker: &mut WorkSeat)
 #[test]
 fn a_thread_fetches_what_was_stored(rt: HostRuntime) -> Result<(), Fail> {
     let image = read_image(rt.alloc(), &OUTPUTS_AN_A)?;
-    let (table, mut seat) = begin(&rt, &image, b"go\npatch\n")?;
-    assert!(rt; table.is_at_start(&seat));
+    let (table, mut seat, mut worker) = start(&rt, &image, b"go\npatch\n")?;
     assert!(rt; table.code_word_count() == 11);
-    let mut worker = table.split(&mut seat);
     assert!(rt; table.fetch(&mut worker, 0) == 0x09EB);
     store(&rt, &table, &mut seat, 4);
     assert!(rt; table.fetch(&mut worker, 0) == 0xBA41);
@@ -107,10 +124,8 @@ fn a_thread_fetches_what_was_stored(rt: HostRuntime) -> Result<(), Fail> {
 #[test]
 fn the_last_words_are_those_of_the_script_and_the_counts(rt: HostRuntime) -> Result<(), Fail> {
     let image = read_image(rt.alloc(), &OUTPUTS_AN_A)?;
-    let (table, mut seat) = begin(&rt, &image, b"go\npatch\n")?;
-    assert!(rt; table.is_at_start(&seat));
+    let (table, mut seat, worker) = start(&rt, &image, b"go\npatch\n")?;
     assert!(rt; table.word_count() == 12);
-    let worker = table.split(&mut seat);
     store(&rt, &table, &mut seat, 8);
     let mut last = [0; 12];
     finish(table, seat, worker, &mut last);
@@ -122,9 +137,7 @@ fn the_last_words_are_those_of_the_script_and_the_counts(rt: HostRuntime) -> Res
 #[test]
 fn an_await_is_passed_once_the_thread_has_made_its_passings(rt: HostRuntime) -> Result<(), Fail> {
     let image = read_image(rt.alloc(), &OUTPUTS_AN_A)?;
-    let (table, mut seat) = begin(&rt, &image, b"go\nawait 1 1\npatch\n")?;
-    assert!(rt; table.is_at_start(&seat));
-    let mut worker = table.split(&mut seat);
+    let (table, mut seat, mut worker) = start(&rt, &image, b"go\nawait 1 1\npatch\n")?;
     assert!(rt; !look(&rt, &table, &mut seat));
     assert!(rt; seat.place() == 0);
     table.passed(&mut worker);
@@ -136,10 +149,8 @@ fn an_await_is_passed_once_the_thread_has_made_its_passings(rt: HostRuntime) -> 
 #[test]
 fn a_thread_that_hears_a_note_fetches_nothing_older(rt: HostRuntime) -> Result<(), Fail> {
     let image = read_image(rt.alloc(), &OUTPUTS_AN_A)?;
-    let (table, mut seat) = begin(&rt, &image, b"go\npatch\n")?;
-    assert!(rt; table.is_at_start(&seat));
+    let (table, mut seat, mut worker) = start(&rt, &image, b"go\npatch\n")?;
     assert!(rt; table.code_word_count() == 11);
-    let mut worker = table.split(&mut seat);
     store(&rt, &table, &mut seat, 4);
     assert!(rt; heard_head(&table, &mut seat, &mut worker) == 0xBA41);
     Ok(())
@@ -148,9 +159,7 @@ fn a_thread_that_hears_a_note_fetches_nothing_older(rt: HostRuntime) -> Result<(
 #[test]
 fn a_patcher_that_heeds_a_tally_passes_its_await(rt: HostRuntime) -> Result<(), Fail> {
     let image = read_image(rt.alloc(), &OUTPUTS_AN_A)?;
-    let (table, mut seat) = begin(&rt, &image, b"go\nawait 1 1\n")?;
-    assert!(rt; table.is_at_start(&seat));
-    let mut worker = table.split(&mut seat);
+    let (table, mut seat, mut worker) = start(&rt, &image, b"go\nawait 1 1\n")?;
     table.passed(&mut worker);
     let tally = table.tally(&mut worker);
     table.heed(&mut seat, tally);

@@ -147,7 +147,9 @@ fn shown(alloc: Global, words: &[String]) -> Result<String, AllocError> {
 /// A command, with each name in brackets, and its numbers.
 fn shown_command(alloc: Global, command: Command) -> Result<String, AllocError> {
     match command {
-        Command::Plain { image, bounds } => shown_plain(alloc, image, bounds),
+        Command::Plain { image, bounds } => {
+            format!(in alloc; "plain [{image}] {}", shown_bounds(alloc, bounds)?)
+        }
         Command::Extract { image } => format!(in alloc; "extract [{image}]"),
         Command::Asm {
             text,
@@ -158,7 +160,10 @@ fn shown_command(alloc: Global, command: Command) -> Result<String, AllocError> 
             trace,
             image,
             options,
-        } => shown_account(alloc, trace, image, options),
+        } => {
+            let options = shown_account(alloc, options)?;
+            format!(in alloc; "account [{trace}] {image:?} {options}")
+        }
         Command::Stack {
             trace,
             image,
@@ -187,30 +192,17 @@ fn shown_command(alloc: Global, command: Command) -> Result<String, AllocError> 
     }
 }
 
-/// A command that runs an image on each thread without a script.
-fn shown_plain(alloc: Global, image: &str, bounds: Bounds) -> Result<String, AllocError> {
-    let Bounds {
-        threads,
-        fuel,
-        passings,
-    } = bounds;
-    format!(in alloc; "plain [{image}] {threads} {fuel} {passings}")
+/// The limits of threads.
+fn shown_bounds(alloc: Global, bounds: Bounds) -> Result<String, AllocError> {
+    format!(in alloc; "{} {} {}", bounds.threads, bounds.fuel, bounds.passings)
 }
 
-/// A command for an account.
-fn shown_account(
-    alloc: Global,
-    trace: &str,
-    image: Option<&str>,
-    options: AccountOptions,
-) -> Result<String, AllocError> {
-    let AccountOptions {
-        sort,
-        order,
-        top,
-        format,
-    } = options;
-    format!(in alloc; "account [{trace}] {image:?} {sort:?} {order:?} {top:?} {format:?}")
+/// How an account is printed.
+fn shown_account(alloc: Global, options: AccountOptions) -> Result<String, AllocError> {
+    format!(in alloc;
+        "{:?} {:?} {:?} {:?}",
+        options.sort, options.order, options.top, options.format
+    )
 }
 
 /// A command that runs an image beside a script: its word, its files, and its options.
@@ -233,23 +225,14 @@ fn shown_run(
 
 /// The numbers of a run's options, in the order of the table.
 fn shown_options(alloc: Global, options: RunOptions) -> Result<String, AllocError> {
-    let Bounds {
-        threads,
-        fuel,
-        passings,
-    } = options.bounds;
+    let bounds = shown_bounds(alloc, options.bounds)?;
     let Buffers { size, max } = options.buffers;
-    let Stamps {
-        tick,
-        tsc,
-        frequency,
-        cpus,
-        migrate,
-    } = options.stamps;
+    let stamps = options.stamps;
+    let (tick, tsc, frequency) = (stamps.tick, stamps.tsc, stamps.frequency);
+    let (cpus, migrate, pid) = (stamps.cpus, stamps.migrate, options.pid);
     let Wall { secs, micros } = options.wall;
-    let pid = options.pid;
     format!(in alloc;
-        "{threads} {fuel} {passings} {size} {max} {tick} {tsc} {frequency} {cpus} {migrate} {pid} {secs}.{micros}"
+        "{bounds} {size} {max} {tick} {tsc} {frequency} {cpus} {migrate} {pid} {secs}.{micros}"
     )
 }
 

@@ -10,8 +10,8 @@ use std::test::Fail;
 use std::{fs, io};
 use test_helpers::Trickle;
 use xray_io::{
-    Desk, DeskFile, ErrSink, Failed, FileDesk, Gate, MemDesk, MemSink, OpenGate, OutSink, Piece,
-    ReadError, ReadFail, Sink, Text, WriteFault, read_whole, write_all, write_pieces,
+    Desk, DeskFile, Each, ErrSink, Failed, FileDesk, Gate, MemDesk, MemSink, OpenGate, OutSink,
+    Piece, ReadError, ReadFail, Sink, Text, WriteFault, read_whole, write_all, write_text,
 };
 
 /// A sink that takes at most three bytes a write.
@@ -58,12 +58,20 @@ impl Print for PrintsTo<'_> {
     }
 }
 
-fn counted(alloc: Global, len: usize) -> Result<Vec<u8>, Fail> {
-    let mut bytes = Vec::new(alloc);
-    for i in 0..len {
-        bytes.push((i % 251) as u8)?;
-    }
-    Ok(bytes)
+/// A text of 100,000 bytes. It is one piece and a half, so that two reads give bytes.
+fn long_text(alloc: Global) -> Result<String, Fail> {
+    Ok("0123456789".repeat(alloc, 10_000)?)
+}
+
+/// How many bytes a name holds, if it is read whole within a limit.
+fn whole_length<D: Desk>(
+    alloc: Global,
+    desk: &mut D,
+    name: &str,
+    limit: u64,
+) -> Result<usize, ReadError> {
+    let bytes = read_whole(alloc, desk, name, limit)?;
+    Ok(bytes.len())
 }
 
 /// Names, limits, and the lengths that are read of them.
@@ -80,12 +88,11 @@ const WHOLE: [(&str, u64, Result<usize, ReadError>); 7] = [
 #[test]
 fn a_name_is_read_whole_within_its_limit(rt: HostRuntime) -> Result<(), Fail> {
     let alloc = rt.alloc();
-    // One piece and a half, so that two reads give bytes.
-    let long = counted(alloc, 100_000)?;
+    let long = long_text(alloc)?;
     let mut desk = MemDesk::new(alloc, Vec::new(alloc));
     desk.put("empty", b"")?;
     desk.put("five", b"hello")?;
-    desk.put("long", &long)?;
+    desk.put("long", long.as_bytes())?;
     for (name, limit, wanted) in &WHOLE {
         match read_whole(alloc, &mut desk, name, *limit) {
             Ok(bytes) => {
@@ -103,8 +110,8 @@ fn read_five(alloc: Global, limit: u64) -> Result<(Result<usize, ReadError>, Tri
     let mut desk = MemDesk::new(alloc, Vec::new(alloc));
     desk.put("five", b"hello")?;
     let mut trickle = Trickle::new(desk);
-    let read = read_whole(alloc, &mut trickle, "five", limit);
-    Ok((read.map(|bytes| bytes.len()), trickle))
+    let read = whole_length(alloc, &mut trickle, "five", limit);
+    Ok((read, trickle))
 }
 
 #[test]
@@ -168,7 +175,7 @@ fn a_read_of_a_whole_input_fails_if_one_of_its_calls_does(rt: HostRuntime) -> Re
     ] {
         let mut desk = MemDesk::new(alloc, vec![in alloc; failing]?);
         desk.put("a", b"one")?;
-        let read = read_whole(alloc, &mut desk, "a", 9).map(|bytes| bytes.len());
+        let read = whole_length(alloc, &mut desk, "a", 9);
         check_same_at(&rt, &read, &wanted, &failing);
     }
     Ok(())
@@ -185,7 +192,10 @@ enum Call {
 fn make<D: Desk>(desk: &mut D, name: &str, call: &Call) -> Option<usize> {
     match call {
         Call::Read(from) => desk.read(name, *from, &mut [0; 8]).ok(),
-        Call::Create => desk.create(name).ok().map(|_| 0),
+        Call::Create => match desk.create(name) {
+            Ok(()) => Some(0),
+            Err(_) => None,
+        },
         Call::Append(bytes) => desk.append(name, bytes).ok(),
     }
 }
@@ -237,25 +247,27 @@ fn a_name_of_a_desk_takes_a_text_as_a_sink(rt: HostRuntime) -> Result<(), Fail> 
     desk.create("a")?;
     let mut file = DeskFile::new(&mut desk, "a");
     write_all(&mut file, b"first")?;
-    write_pieces(&mut file, &[Piece::Bytes(b" n="), Piece::Number(7)])?;
+    let pieces = [Piece::Bytes(b" n="), Piece::Number(7)];
+    write_text(&Each(&pieces), &mut file)?;
     write_all(&mut file, b", more")?;
     check_same(&rt, &write_all(&mut file, b", lost"), &Err(WriteFault));
     check_same(&rt, &desk.get("a"), &Some(b"first n=7, more".as_slice()));
     check_same(&rt, &desk.get("b"), &Some(b"kept".as_slice()));
-    // One byte a write, until the third fails.
-    let mut trickle = Trickle::new(MemDesk::new(alloc, vec![in alloc; 2]?));
-    check_same(
-        &rt,
-        &write_all(&mut DeskFile::new(&mut trickle, "a"), b"abc"),
-        &Err(WriteFault),
-    );
-    check_same(
-        &rt,
-        &write_all(&mut DeskFile::new(&mut trickle, "b"), b"abc"),
-        &Ok(()),
-    );
-    check_same(&rt, &trickle.get("a"), &Some(b"ab".as_slice()));
-    check_same(&rt, &trickle.get("b"), &Some(b"abc".as_slice()));
+    Ok(())
+}
+
+/// The third byte isn't written, and the next one is.
+#[test]
+fn a_desk_that_takes_one_byte_a_call_is_written_until_one_fails(
+    rt: HostRuntime,
+) -> Result<(), Fail> {
+    let mut desk = Trickle::new(MemDesk::new(rt.alloc(), vec![in rt.alloc(); 2]?));
+    let first = write_all(&mut DeskFile::new(&mut desk, "a"), b"abc");
+    check_same(&rt, &first, &Err(WriteFault));
+    let second = write_all(&mut DeskFile::new(&mut desk, "b"), b"abc");
+    check_same(&rt, &second, &Ok(()));
+    check_same(&rt, &desk.get("a"), &Some(b"ab".as_slice()));
+    check_same(&rt, &desk.get("b"), &Some(b"abc".as_slice()));
     Ok(())
 }
 
@@ -288,14 +300,13 @@ const HEXADECIMAL: [(u64, usize); 8] = [
 fn numbers_are_printed_in_their_digits(rt: HostRuntime) -> Result<(), Fail> {
     let mut sink = MemSink::new(rt.alloc(), Vec::new(rt.alloc()));
     for number in [0, 41, u64::MAX as u128, u128::MAX] {
-        write_pieces(&mut sink, &[Piece::Number(number), Piece::Bytes(b" ")])?;
+        let pieces = [Piece::Number(number), Piece::Bytes(b" ")];
+        write_text(&Each(&pieces), &mut sink)?;
     }
     for (number, digits) in &HEXADECIMAL {
         let (number, digits) = (*number, *digits);
-        write_pieces(
-            &mut sink,
-            &[Piece::Hex { number, digits }, Piece::Bytes(b" ")],
-        )?;
+        let pieces = [Piece::Hex { number, digits }, Piece::Bytes(b" ")];
+        write_text(&Each(&pieces), &mut sink)?;
     }
     let wanted = b"0 41 18446744073709551615 340282366920938463463374607431768211455 \
         0 0 00000200 abc 0f 10 ffffffffffffffff 00000000000000000001 ";
@@ -315,44 +326,37 @@ fn a_text_is_its_parts(rt: HostRuntime) -> Result<(), Fail> {
     Ok(())
 }
 
-/// Parts around the 4,096 bytes that a text gathers: the whole text, and what was written when the
-/// second write fails.
+/// Parts around the 4,096 bytes that a text gathers for a write.
+const PARTS: [&[u8]; 4] = [&[b'a'; 4000], &[b'b'; 96], &[b'c'; 904], &[b'd'; 5000]];
+
+/// Writes these parts as one text.
+fn write_parts(sink: &mut MemSink) -> Result<(), WriteFault> {
+    let mut text = Text::new(sink);
+    for part in PARTS {
+        text.bytes(part)?;
+    }
+    text.done()
+}
+
 #[test]
 fn a_long_text_is_whole_or_a_prefix_of_it(rt: HostRuntime) -> Result<(), Fail> {
     let alloc = rt.alloc();
-    let (nearly, full, rest, long) = ([b'a'; 4000], [b'b'; 96], [b'c'; 904], [b'd'; 5000]);
-    let mut want = Vec::from_slice(alloc, &nearly)?;
-    want.extend_from_slice(&full)?;
-    for failing in [9, 1] {
-        let mut sink = MemSink::new(alloc, vec![in alloc; failing]?);
-        let mut text = Text::new(&mut sink);
-        text.bytes(&nearly)?;
-        text.bytes(&full)?;
-        text.bytes(&rest)?;
-        if failing == 1 {
-            check_same(&rt, &text.bytes(&long), &Err(WriteFault));
-            check_same_list(&rt, sink.bytes(), want.as_slice());
-        } else {
-            text.bytes(&long)?;
-            text.done()?;
-            let mut all = want.clone()?;
-            all.extend_from_slice(&rest)?;
-            all.extend_from_slice(&long)?;
-            check_same_list(&rt, sink.bytes(), all.as_slice());
-        }
+    let mut all = Vec::new(alloc);
+    for part in PARTS {
+        all.extend_from_slice(part)?;
     }
+    let mut whole = MemSink::new(alloc, Vec::new(alloc));
+    check_same(&rt, &write_parts(&mut whole), &Ok(()));
+    check_same_list(&rt, whole.bytes(), &all);
+    let mut broken = MemSink::new(alloc, vec![in alloc; 1]?);
+    check_same(&rt, &write_parts(&mut broken), &Err(WriteFault));
+    check_same(&rt, &Some(broken.bytes()), &all.get(..4096));
     Ok(())
 }
 
 /// The name of a file of this process.
 fn path_of(rt: &HostRuntime, kind: &str) -> Result<String, Fail> {
     Ok(format!(in rt.alloc(); "/tmp/xray_io-{kind}-{}", std::process::id(rt.process()))?)
-}
-
-/// The length of a file, if it is read whole within a limit.
-fn read_file(rt: &HostRuntime, path: &str, limit: u64) -> Result<usize, ReadError> {
-    let bytes = read_whole(rt.alloc(), &mut FileDesk::new(rt), path, limit)?;
-    Ok(bytes.len())
 }
 
 /// The bytes of a file.
@@ -364,25 +368,24 @@ fn bytes_of(rt: &HostRuntime, path: &str) -> Result<Vec<u8>, ReadError> {
 fn files_are_read_by_name(rt: HostRuntime) -> Result<(), Fail> {
     let path = path_of(&rt, "read")?;
     let path = path.as_str();
-    let long = counted(rt.alloc(), 100_000)?;
-    fs::write(&rt, path, long.as_slice())?;
-    check_same_list(&rt, &bytes_of(&rt, path)?, &long);
-    check_same(&rt, &read_file(&rt, path, 99_999), &Err(ReadError::TooLong));
+    let long = long_text(rt.alloc())?;
+    fs::write(&rt, path, long.as_bytes())?;
+    check_same_list(&rt, &bytes_of(&rt, path)?, long.as_bytes());
+    let mut desk = FileDesk::new(&rt);
+    let part = whole_length(rt.alloc(), &mut desk, path, 99_999);
+    check_same(&rt, &part, &Err(ReadError::TooLong));
     let mut buf = [0; 4];
-    check_same(&rt, &FileDesk::new(&rt).read(path, 252, &mut buf), &Ok(4));
-    check_same_list(&rt, &buf, &[1, 2, 3, 4]);
+    check_same(&rt, &desk.read(path, 252, &mut buf), &Ok(4));
+    check_same_list(&rt, &buf, b"2345");
     fs::remove_file(&rt, path)?;
-    check_same(
-        &rt,
-        &FileDesk::new(&rt).read(path, 0, &mut buf),
-        &Err(ReadFail::Failed),
-    );
+    check_same(&rt, &desk.read(path, 0, &mut buf), &Err(ReadFail::Failed));
     for (other, error) in [
         (path, ReadError::ReadFault),
         ("/tmp", ReadError::ReadFault),
         ("/dev/zero", ReadError::TooLong),
     ] {
-        check_same_at(&rt, &read_file(&rt, other, 99_999), &Err(error), &other);
+        let read = whole_length(rt.alloc(), &mut desk, other, 99_999);
+        check_same_at(&rt, &read, &Err(error), &other);
     }
     Ok(())
 }
@@ -397,6 +400,31 @@ const FILE_CALLS: [(&str, Call, Option<usize>); 5] = [
     ("first", Call::Append(b""), Some(0)),
 ];
 
+/// Makes a call on a file of this process. Answers how many bytes it moved, if it didn't fail.
+fn make_on_file(rt: &HostRuntime, kind: &str, call: &Call) -> Result<Option<usize>, Fail> {
+    let path = path_of(rt, kind)?;
+    Ok(make(&mut FileDesk::new(rt), &path, call))
+}
+
+/// The bytes of a file of this process, which is removed.
+fn taken(rt: &HostRuntime, kind: &str) -> Result<Vec<u8>, Fail> {
+    let path = path_of(rt, kind)?;
+    let bytes = bytes_of(rt, &path)?;
+    fs::remove_file(rt, path.as_str())?;
+    Ok(bytes)
+}
+
+#[test]
+fn files_are_written_by_name(rt: HostRuntime) -> Result<(), Fail> {
+    fs::write(&rt, path_of(&rt, "first")?.as_str(), b"old".as_slice())?;
+    for (kind, call, wanted) in &FILE_CALLS {
+        check_same_at(&rt, &make_on_file(&rt, kind, call)?, wanted, kind);
+    }
+    check_same_list(&rt, &taken(&rt, "first")?, b"one two");
+    check_same_list(&rt, &taken(&rt, "second")?, b"begun");
+    Ok(())
+}
+
 /// Names that can't be written, and calls that fail.
 const FAILING_CALLS: [(&str, Call); 3] = [
     ("/tmp", Call::Create),
@@ -405,51 +433,45 @@ const FAILING_CALLS: [(&str, Call); 3] = [
 ];
 
 #[test]
-fn files_are_written_by_name(rt: HostRuntime) -> Result<(), Fail> {
-    fs::write(&rt, path_of(&rt, "first")?.as_str(), b"old".as_slice())?;
+fn what_cannot_be_written_is_a_failure(rt: HostRuntime) {
     let mut desk = FileDesk::new(&rt);
-    for (kind, call, wanted) in &FILE_CALLS {
-        let path = path_of(&rt, kind)?;
-        check_same_at(&rt, &make(&mut desk, &path, call), wanted, kind);
-    }
-    for (kind, bytes) in [("first", b"one two".as_slice()), ("second", b"begun")] {
-        let path = path_of(&rt, kind)?;
-        check_same_list(&rt, &bytes_of(&rt, &path)?, bytes);
-        fs::remove_file(&rt, path.as_str())?;
-    }
     for (name, call) in &FAILING_CALLS {
         check_same(&rt, &make(&mut desk, name, call), &None);
     }
+}
+
+/// Writes bytes on out, which goes to a file.
+fn write_out_to(rt: &HostRuntime, path: &str, bytes: &[u8]) -> Result<(), WriteFault> {
+    write_all(&mut OutSink::new(&PrintsTo { rt, path }), bytes)
+}
+
+/// Writes bytes on err, which goes to a file.
+fn write_err_to(rt: &HostRuntime, path: &str, bytes: &[u8]) -> Result<(), WriteFault> {
+    write_all(&mut ErrSink::new(&PrintsTo { rt, path }), bytes)
+}
+
+#[test]
+fn the_streams_take_bytes(rt: HostRuntime) -> Result<(), Fail> {
+    write_all(&mut OutSink::new(&rt), b"out\n")?;
+    write_all(&mut ErrSink::new(rt.stderr()), b"err\n")?;
+    let path = path_of(&rt, "out")?;
+    write_out_to(&rt, &path, b"to out")?;
+    check_same_list(&rt, &bytes_of(&rt, &path)?, b"to out");
+    write_err_to(&rt, &path, b"to err")?;
+    check_same_list(&rt, &taken(&rt, "out")?, b"to err");
     Ok(())
 }
 
 #[test]
-fn the_streams_take_bytes_and_report_failures(rt: HostRuntime) -> Result<(), Fail> {
-    write_all(&mut OutSink::new(&rt), b"out\n")?;
-    write_all(&mut ErrSink::new(rt.stderr()), b"err\n")?;
-    let path = path_of(&rt, "out")?;
-    let path = path.as_str();
-    let to_file = PrintsTo { rt: &rt, path };
-    write_all(&mut OutSink::new(&to_file), b"to out")?;
-    check_same_list(&rt, &bytes_of(&rt, path)?, b"to out");
-    write_all(&mut ErrSink::new(&to_file), b"to err")?;
-    check_same_list(&rt, &bytes_of(&rt, path)?, b"to err");
-    fs::remove_file(&rt, path)?;
-    let full = PrintsTo {
-        rt: &rt,
-        path: "/dev/full",
-    };
-    check_same(
-        &rt,
-        &write_all(&mut OutSink::new(&full), b"lost"),
-        &Err(WriteFault),
-    );
-    check_same(
-        &rt,
-        &write_all(&mut ErrSink::new(&full), b"lost"),
-        &Err(WriteFault),
-    );
+fn the_streams_report_failures(rt: HostRuntime) {
+    let out = write_out_to(&rt, "/dev/full", b"lost");
+    check_same(&rt, &out, &Err(WriteFault));
+    let err = write_err_to(&rt, "/dev/full", b"lost");
+    check_same(&rt, &err, &Err(WriteFault));
+}
+
+#[test]
+fn an_open_gate_waits_for_nothing() {
     OpenGate.before(1, 0);
     OpenGate.before_store(0);
-    Ok(())
 }

@@ -7,7 +7,7 @@ use fdr_file::{Block, Blocks, Events, Header, Trace};
 use fdr_record::{Event, Kind};
 use std::alloc::Global;
 use std::test::Fail;
-use xray_io::Wall;
+use xray_io::{MemSink, Printed, Wall, write_text};
 
 /// An event: its thread, its kind, its function and its counter.
 pub type Said = (u32, Kind, u32, u64);
@@ -53,4 +53,13 @@ pub fn trace_of(alloc: Global, events: &[Said]) -> Result<Trace, Fail>
         header: HEADER,
         blocks: Blocks::new(blocks),
     })
+}
+
+/// What is printed of a value.
+pub fn printed<T: Printed>(alloc: Global, value: &T) -> Result<String, Fail>
+    requires { T.ready value.now }
+{
+    let mut sink = MemSink::new(alloc, Vec::new(alloc));
+    write_text(value, &mut sink)?;
+    Ok(String::from_str(alloc, std::str::from_utf8(sink.bytes())?)?)
 }

@@ -10,58 +10,38 @@ use fdr_record::{Event, Kind};
 use machine_step::{Cpu, End, Limits, Setup, Steps, Want};
 use std::alloc::Global;
 use std::test::Fail;
-use trace_flush::{AuditLine, arrange, audit_tells_its_run, write_audit};
+use trace_flush::{Audit, AuditLine, arrange, audit_tells_its_run};
 use xray_image::{Image, read_image};
-use xray_io::{MemSink, Wall, WriteFault};
-
-/// How many threads run the image.
-const THREADS: u32 = 2;
+use xray_io::{MemSink, Wall, WriteFault, write_text};
 
 /// The image that the threads run.
 fn image_of(alloc: Global) -> Result<Image, Fail> {
     Ok(read_image(alloc, &OUTPUTS_AN_A)?)
 }
 
-/// A thread that has passed both sleds. It loaded these words before those of the entry sled and of
-/// the exit sled.
+/// One of two threads, which has passed both sleds. It loaded these words after those of the entry
+/// sled, and the log had ended at the exit sled.
 fn passed_thread<'a>(
     alloc: Global,
     steps: &'a Steps<'a>,
     thread: u32,
-    limits: Limits,
     entry: &[Load],
-    exit: &[Load],
 ) -> Result<Cpu<'a>, Fail> {
-    if thread == 0 || thread > THREADS || limits.cpus == 0 || limits.migrate == 0 {
+    if thread == 0 || thread > 2 {
         Err("no such thread")?;
     }
-    let mut cpu = Cpu::new(alloc, steps, thread, THREADS, None, limits)?;
-    for loads in [ENTRY.as_slice(), entry, &EXIT, exit] {
+    let mut cpu = Cpu::new(alloc, steps, thread, 2, None, LARGE_SETUP.limits)?;
+    for loads in [ENTRY.as_slice(), entry, &EXIT, &HAS_ENDED] {
         pass(&mut cpu, loads)?;
     }
     Ok(cpu)
 }
 
-/// Thread 1 of two, which has passed both sleds and recorded that.
-fn one_thread<'a>(
-    alloc: Global,
-    steps: &'a Steps<'a>,
-    limits: Limits,
-) -> Result<Vec<Cpu<'a>>, Fail> {
+/// Two such threads: the first one recorded its entry, and the other one found no handler.
+fn two_threads<'a>(alloc: Global, steps: &'a Steps<'a>) -> Result<Vec<Cpu<'a>>, Fail> {
     let mut cpus = Vec::new(alloc);
-    cpus.push(passed_thread(alloc, steps, 1, limits, &RECORDS, &RECORDS)?)?;
-    Ok(cpus)
-}
-
-/// Two threads that have passed both sleds: the first one recorded its entry, the other one nothing.
-fn two_threads<'a>(
-    alloc: Global,
-    steps: &'a Steps<'a>,
-    limits: Limits,
-) -> Result<Vec<Cpu<'a>>, Fail> {
-    let mut cpus = Vec::new(alloc);
-    cpus.push(passed_thread(alloc, steps, 1, limits, &RECORDS, &HAS_ENDED)?)?;
-    cpus.push(passed_thread(alloc, steps, 2, limits, &NO_HANDLER, &HAS_ENDED)?)?;
+    cpus.push(passed_thread(alloc, steps, 1, &RECORDS)?)?;
+    cpus.push(passed_thread(alloc, steps, 2, &NO_HANDLER)?)?;
     Ok(cpus)
 }
 
@@ -78,31 +58,7 @@ fn audit_of(
     if !cpus.iter().all(|cpu| matches!(cpu.want(), Want::Done(_))) {
         Err("a thread that hasn't ended")?;
     }
-    Ok(write_audit(setup, lines, cpus, sink))
-}
-
-#[test]
-fn the_audit_of_a_thread_that_records_all(rt: HostRuntime) -> Result<(), Fail> {
-    let alloc = rt.alloc();
-    let image = image_of(alloc)?;
-    let steps = Steps::new(alloc, &image)?;
-    let cpus = one_thread(alloc, &steps, DEFAULT_SETUP.limits)?;
-    let line = AuditLine {
-        thread: 1,
-        end: End::Returned,
-        segments: 1,
-        first: 0,
-    };
-    let mut sink = MemSink::new(alloc, Vec::new(alloc));
-    audit_of(&DEFAULT_SETUP, &[line], &cpus, &mut sink)??;
-    let text = b"xray-audit 1\n\
-        threads=1 buffer-size=16384 buffer-max=100 fuel=10000000 passings=1048576 tick=1 tsc=0 \
-        cpus=1 migrate=1048576 pid=1 wall=0.0 frequency=0\n\
-        thread 1 returned passings 2 recorded 2 segments 1 first 0\n\
-        marks +2\n\
-        recycled 0\n";
-    check_same_list(&rt, sink.bytes(), text.as_slice());
-    Ok(())
+    Ok(write_text(&Audit { setup, lines, cpus }, sink))
 }
 
 /// A setup with numbers at and near their limits.
@@ -148,7 +104,7 @@ fn the_audit_of_two_threads_that_lost_segments(rt: HostRuntime) -> Result<(), Fa
     let alloc = rt.alloc();
     let image = image_of(alloc)?;
     let steps = Steps::new(alloc, &image)?;
-    let cpus = two_threads(alloc, &steps, LARGE_SETUP.limits)?;
+    let cpus = two_threads(alloc, &steps)?;
     let mut sink = MemSink::new(alloc, Vec::new(alloc));
     audit_of(&LARGE_SETUP, &LOSSES, &cpus, &mut sink)??;
     let text = b"xray-audit 1\n\
@@ -232,15 +188,6 @@ fn buffer_of(alloc: Global, thread: u32, serial: u32, events: u32) -> Result<Buf
 /// A buffer as its thread, its segment, and the number of its events.
 type Held = (u32, u32, u32);
 
-/// The buffers, in order.
-fn held_by(alloc: Global, buffers: &[Buffer]) -> Result<Vec<Held>, Fail> {
-    let mut held = Vec::new(alloc);
-    for buffer in buffers {
-        held.push((buffer.thread(), buffer.serial(), buffer.events()))?;
-    }
-    Ok(held)
-}
-
 /// Buffers in no order, some without an event.
 const BUFFERS: [Held; 7] = [
     (2, 0, 1),
@@ -252,14 +199,8 @@ const BUFFERS: [Held; 7] = [
     (1, 11, 0),
 ];
 
-/// Those with an event, in the order of a flush.
-const ARRANGED: [Held; 5] = [
-    (1, 9, 1),
-    (1, 10, 2),
-    (2, 0, 1),
-    (2, 4_294_967_295, 1),
-    (16, 1, 5),
-];
+/// The places of those with an event, in the order of a flush.
+const ARRANGED: [usize; 5] = [3, 1, 0, 5, 4];
 
 #[test]
 fn buffers_with_an_event_are_in_order_of_thread_and_segment(rt: HostRuntime) -> Result<(), Fail> {
@@ -270,7 +211,11 @@ fn buffers_with_an_event_are_in_order_of_thread_and_segment(rt: HostRuntime) -> 
     }
     buffers.push(Buffer::new(alloc, 72)?)?;
     arrange(&mut buffers);
-    check_same_list(&rt, &held_by(alloc, &buffers)?, &ARRANGED);
+    check_same(&rt, &buffers.len(), &ARRANGED.len());
+    for (buffer, place) in buffers.iter().zip(ARRANGED) {
+        let held = (buffer.thread(), buffer.serial(), buffer.events());
+        check_same(&rt, &BUFFERS.get(place), &Some(&held));
+    }
     Ok(())
 }
 

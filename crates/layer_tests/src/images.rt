@@ -1,20 +1,23 @@
 //! Calls of `xray_image`: what an image file says, and why others are refused.
 
-mod extracts;
+mod ids;
 
 use crate::checks::{check_same, check_same_at};
-use example_images::OUTPUTS_AN_A;
+use crate::image_files::{add_entry, add_function, header_and_code, image_file};
+use example_images::{CALLS, OUTPUTS_AN_A};
 use std::alloc::{AllocError, Global};
+use std::process::Abort;
 use std::test::Fail;
 use subset_decode::{DecodeFault, Instr, Reg};
+use xray_image::ImageFault::Limit;
 use xray_image::{
     ImageFault, Sled, SledKind, Unit, What, Which, one_reading, one_unit_list, one_verdict,
     read_image,
 };
 
 /// Why the bytes are refused, if they are.
-fn fault_of(rt: &HostRuntime, bytes: &[u8]) -> Option<ImageFault> {
-    read_image(rt.alloc(), bytes).err()
+fn fault_of(alloc: Global, bytes: &[u8]) -> Option<ImageFault> {
+    read_image(alloc, bytes).err()
 }
 
 #[test]
@@ -101,18 +104,18 @@ const DAMAGES: [Damage; 24] = [
     (
         &[(16, 0xFF), (17, 0xFF), (18, 0xFF), (19, 0xFF)],
         WHOLE,
-        ImageFault::Limit(Which::Code),
+        Limit(Which::Code),
     ),
-    (&[(20, 0)], WHOLE, ImageFault::Limit(Which::Functions)),
-    (&[(21, 4)], WHOLE, ImageFault::Limit(Which::Functions)),
-    (&[(25, 0x10)], WHOLE, ImageFault::Limit(Which::Sleds)),
-    (&[(28, 1)], WHOLE, ImageFault::Limit(Which::Entry)),
-    (&[(8, 0x08)], WHOLE, ImageFault::Limit(Which::Base)),
+    (&[(20, 0)], WHOLE, Limit(Which::Functions)),
+    (&[(21, 4)], WHOLE, Limit(Which::Functions)),
+    (&[(25, 0x10)], WHOLE, Limit(Which::Sleds)),
+    (&[(28, 1)], WHOLE, Limit(Which::Entry)),
+    (&[(8, 0x08)], WHOLE, Limit(Which::Base)),
     // the base 0x7FFF_0000_0010
     (
         &[(8, 0x10), (9, 0), (12, 0xFF), (13, 0x7F)],
         WHOLE,
-        ImageFault::Limit(Which::Base),
+        Limit(Which::Base),
     ),
     (&[(65, 0x08)], WHOLE, ImageFault::Sled(0)),
     (&[(84, 0x67)], WHOLE, ImageFault::Sled(18)),
@@ -139,27 +142,11 @@ const TWICE_DAMAGED: [Damage; 15] = [
     (&[(0, 0x59)], 63, ImageFault::Short),
     (&[(0, 0x59), (4, 2)], WHOLE, ImageFault::Magic),
     (&[(4, 2), (19, 0xFF)], WHOLE, ImageFault::Version),
-    (
-        &[(19, 0xFF), (20, 0)],
-        WHOLE,
-        ImageFault::Limit(Which::Code),
-    ),
-    (
-        &[(20, 0), (25, 0x10)],
-        WHOLE,
-        ImageFault::Limit(Which::Functions),
-    ),
-    (
-        &[(25, 0x10), (28, 1)],
-        WHOLE,
-        ImageFault::Limit(Which::Sleds),
-    ),
-    (
-        &[(28, 1), (8, 0x08)],
-        WHOLE,
-        ImageFault::Limit(Which::Entry),
-    ),
-    (&[(8, 0x08)], 169, ImageFault::Limit(Which::Base)),
+    (&[(19, 0xFF), (20, 0)], WHOLE, Limit(Which::Code)),
+    (&[(20, 0), (25, 0x10)], WHOLE, Limit(Which::Functions)),
+    (&[(25, 0x10), (28, 1)], WHOLE, Limit(Which::Sleds)),
+    (&[(28, 1), (8, 0x08)], WHOLE, Limit(Which::Entry)),
+    (&[(8, 0x08)], 169, Limit(Which::Base)),
     (&[(65, 0x08)], 169, ImageFault::Short),
     (&[(75, 0x0F)], 171, ImageFault::Trailing),
     (&[(65, 0x08), (102, 0x20)], WHOLE, ImageFault::Sled(0)),
@@ -177,87 +164,23 @@ const TWICE_DAMAGED: [Damage; 15] = [
     ),
 ];
 
-#[test]
-fn a_damaged_image_is_refused_as_the_table_says(rt: HostRuntime) -> Result<(), Fail> {
-    for (changes, length, fault) in &DAMAGES {
-        let bytes = damaged(rt.alloc(), changes, *length)?;
-        check_same_at(&rt, &fault_of(&rt, &bytes), &Some(*fault), changes);
+/// Checks why damaged files are refused.
+fn check_damages(rt: &impl Abort, alloc: Global, damages: &[Damage]) -> Result<(), Fail> {
+    for (changes, length, fault) in damages {
+        let bytes = damaged(alloc, changes, *length)?;
+        check_same_at(rt, &fault_of(alloc, &bytes), &Some(*fault), changes);
     }
     Ok(())
+}
+
+#[test]
+fn a_damaged_image_is_refused_as_the_table_says(rt: HostRuntime) -> Result<(), Fail> {
+    check_damages(&rt, rt.alloc(), &DAMAGES)
 }
 
 #[test]
 fn of_two_faults_the_first_of_the_table_is_reported(rt: HostRuntime) -> Result<(), Fail> {
-    for (changes, length, fault) in &TWICE_DAMAGED {
-        let bytes = damaged(rt.alloc(), changes, *length)?;
-        check_same_at(&rt, &fault_of(&rt, &bytes), &Some(*fault), changes);
-    }
-    Ok(())
-}
-
-/// Adds a number in `length` bytes, lowest byte first.
-fn put(bytes: &mut Vec<u8>, number: u64, length: usize) -> Result<(), AllocError> {
-    let mut rest = number;
-    for _byte in 0..length {
-        bytes.push((rest % 256) as u8)?;
-        rest /= 256;
-    }
-    Ok(())
-}
-
-/// The header of a code at 0x1000 with these counts of functions and map entries, and the code. The
-/// entry function is the first.
-fn header_and_code(
-    alloc: Global,
-    code: &[u8],
-    functions: usize,
-    entries: usize,
-) -> Result<Vec<u8>, AllocError> {
-    let mut bytes = b"XRIM".to_vec(alloc)?;
-    put(&mut bytes, 1, 4)?;
-    put(&mut bytes, 0x1000, 8)?;
-    put(&mut bytes, code.len() as u64, 4)?;
-    put(&mut bytes, functions as u64, 4)?;
-    put(&mut bytes, entries as u64, 4)?;
-    put(&mut bytes, 0, 4)?;
-    for trampoline in [0x20_1000, 0x20_1010, 0x20_1020, 0x20_1030] {
-        put(&mut bytes, trampoline, 8)?;
-    }
-    bytes.extend_from_slice(code)?;
-    Ok(bytes)
-}
-
-/// Adds a function entry.
-fn add_function(bytes: &mut Vec<u8>, start: u64, name: &[u8]) -> Result<(), AllocError> {
-    put(bytes, start, 8)?;
-    put(bytes, name.len() as u64, 1)?;
-    bytes.extend_from_slice(name)?;
-    Ok(())
-}
-
-/// Adds a map entry.
-fn add_entry(bytes: &mut Vec<u8>, sled: u64, function: u64, kind: u8) -> Result<(), AllocError> {
-    put(bytes, sled, 8)?;
-    put(bytes, function, 8)?;
-    put(bytes, u64::from(kind), 16)
-}
-
-/// The file of a code at 0x1000, with functions by their starts and names, and with map entries by
-/// sled, function and kind.
-fn file(
-    alloc: Global,
-    code: &[u8],
-    functions: &[(u64, &str)],
-    entries: &[(u64, u64, u8)],
-) -> Result<Vec<u8>, AllocError> {
-    let mut bytes = header_and_code(alloc, code, functions.len(), entries.len())?;
-    for (start, name) in functions {
-        add_function(&mut bytes, *start, name.as_bytes())?;
-    }
-    for (sled, function, kind) in entries {
-        add_entry(&mut bytes, *sled, *function, *kind)?;
-    }
-    Ok(bytes)
+    check_damages(&rt, rt.alloc(), &TWICE_DAMAGED)
 }
 
 /// Codes of one function without a map, and why they are refused, if they are.
@@ -306,31 +229,24 @@ const CODES: [(&[u8], Option<ImageFault>); 14] = [
 #[test]
 fn code_is_refused_at_its_first_bad_unit_or_branch(rt: HostRuntime) -> Result<(), Fail> {
     for (code, fault) in &CODES {
-        let bytes = file(rt.alloc(), code, &[(0x1000, "main")], &[])?;
-        check_same_at(&rt, &fault_of(&rt, &bytes), fault, code);
+        let bytes = image_file(rt.alloc(), code, &[(0x1000, "main")], &[])?;
+        check_same_at(&rt, &fault_of(rt.alloc(), &bytes), fault, code);
     }
     Ok(())
 }
 
-/// A function `main` at 0x1000 that calls a function `f` at 0x101C.
-const CALLS_F: [u8; 51] = [
-    // an entry sled, the call at 11, an exit sled at 16, padding
-    0xEB, 0x09, 0x66, 0x0F, 0x1F, 0x84, 0, 0, 2, 0, 0, 0xE8, 0x0C, 0, 0, 0, 0xC3, 0x2E, 0x66, 0x0F,
-    0x1F, 0x84, 0, 0, 2, 0, 0, 0x90,
-    // an entry sled at 28, padding, an exit sled at 40
-    0xEB, 0x09, 0x66, 0x0F, 0x1F, 0x84, 0, 0, 2, 0, 0, 0x90, 0xC3, 0x2E, 0x66, 0x0F, 0x1F, 0x84, 0,
-    0, 2, 0, 0,
-];
+/// The place of the code in a file.
+const CODE: usize = 64;
 
-/// Its map.
-const CALLS_F_MAP: [(u64, u64, u8); 4] = [
+/// The map of [`CALLS`].
+const CALLS_MAP: [(u64, u64, u8); 4] = [
     (0x1000, 0x1000, 0),
     (0x1010, 0x1000, 1),
     (0x101C, 0x101C, 0),
     (0x1028, 0x101C, 1),
 ];
 
-/// The functions of that code, and others.
+/// The functions of [`CALLS`] and others, and why its code is refused with these, if it is.
 const FUNCTIONS: [(&[(u64, &str)], Option<ImageFault>); 8] = [
     (&[(0x1000, "main"), (0x101C, "f")], None),
     (
@@ -368,22 +284,25 @@ const FUNCTIONS: [(&[(u64, &str)], Option<ImageFault>); 8] = [
 
 #[test]
 fn functions_have_to_fit_the_units_and_the_map(rt: HostRuntime) -> Result<(), Fail> {
+    let mut image = CALLS;
     for (functions, fault) in &FUNCTIONS {
-        let bytes = file(rt.alloc(), &CALLS_F, functions, &CALLS_F_MAP)?;
-        check_same_at(&rt, &fault_of(&rt, &bytes), fault, functions);
+        let bytes = image_file(rt.alloc(), &image[CODE..CODE + 51], functions, &CALLS_MAP)?;
+        check_same_at(&rt, &fault_of(rt.alloc(), &bytes), fault, functions);
     }
-    let mut code = CALLS_F;
-    code[12] = 0x0D;
-    let functions = [(0x1000, "main"), (0x101C, "f")];
-    let bytes = file(rt.alloc(), &code, &functions, &CALLS_F_MAP)?;
-    check_same(&rt, &fault_of(&rt, &bytes), &Some(ImageFault::Target(11)));
+    // The call goes one byte too far.
+    image[CODE + 12] = 0x0D;
+    check_same(
+        &rt,
+        &fault_of(rt.alloc(), &image),
+        &Some(ImageFault::Target(11)),
+    );
     Ok(())
 }
 
 /// The file of a code of alignment bytes, with one function.
 fn file_of_code(alloc: Global, length: usize) -> Result<Vec<u8>, AllocError> {
     let code = vec![in alloc; 0x90_u8; length]?;
-    file(alloc, &code, &[(0x1000, "main")], &[])
+    image_file(alloc, &code, &[(0x1000, "main")], &[])
 }
 
 /// The last digit of a number, as text.
@@ -436,25 +355,19 @@ fn an_image_at_its_limits_is_read(rt: HostRuntime) -> Result<(), Fail> {
     let alloc = rt.alloc();
     let files = [
         (file_of_code(alloc, 1_048_576)?, None),
-        (
-            file_of_code(alloc, 1_048_577)?,
-            Some(ImageFault::Limit(Which::Code)),
-        ),
+        (file_of_code(alloc, 1_048_577)?, Some(Limit(Which::Code))),
         (file_of_functions(alloc, 1024)?, None),
         (
             file_of_functions(alloc, 1025)?,
-            Some(ImageFault::Limit(Which::Functions)),
+            Some(Limit(Which::Functions)),
         ),
         (file_of_sleds(alloc, 4096)?, None),
-        (
-            file_of_sleds(alloc, 4097)?,
-            Some(ImageFault::Limit(Which::Sleds)),
-        ),
+        (file_of_sleds(alloc, 4097)?, Some(Limit(Which::Sleds))),
         (file_of_names(alloc, 255, 254)?, None),
         (file_of_names(alloc, 255, 255)?, Some(ImageFault::Names(1))),
     ];
     for (bytes, fault) in &files {
-        check_same_at(&rt, &fault_of(&rt, bytes), fault, &bytes.len());
+        check_same_at(&rt, &fault_of(rt.alloc(), bytes), fault, &bytes.len());
     }
     Ok(())
 }

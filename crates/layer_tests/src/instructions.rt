@@ -66,28 +66,39 @@ fn encodings_without_registers_are_the_assemblers(rt: HostRuntime) {
     }
 }
 
-/// Bytes, and the fault that they decide.
-const FAULTS: [(&[u8], DecodeFault); 14] = [
-    (b"", DecodeFault::Short),
-    (b"\x41", DecodeFault::Short),
-    (b"\x0F\x85\0\0\0", DecodeFault::Short),
-    (b"\x41\xB8\0\0\0", DecodeFault::Short),
-    (b"\x0F\x84", DecodeFault::Unknown(132)),
-    (b"\x4A\x01\xC0", DecodeFault::Unknown(74)),
-    (b"\x48\x01\x05", DecodeFault::Unknown(5)),
-    (b"\x48\x01\xC4", DecodeFault::Register(4)),
-    (b"\x49\x01\xD2", DecodeFault::Register(10)),
-    (b"\x49\x01\xE2", DecodeFault::Register(10)),
-    (b"\x4C\x29\xD4", DecodeFault::Register(4)),
-    (b"\xBC", DecodeFault::Register(4)),
-    (b"\x54", DecodeFault::Register(4)),
-    (b"\x41\xBA", DecodeFault::Register(10)),
+/// Bytes that are too few.
+const SHORT: [&[u8]; 4] = [b"", b"\x41", b"\x0F\x85\0\0\0", b"\x41\xB8\0\0\0"];
+
+/// Bytes that no encoding begins with, and the one at which that is decided.
+const UNKNOWN: [(&[u8], u8); 3] = [
+    (b"\x0F\x84", 132),
+    (b"\x4A\x01\xC0", 74),
+    (b"\x48\x01\x05", 5),
+];
+
+/// Bytes that name a register which can't be named, and its number.
+const UNNAMED: [(&[u8], u8); 7] = [
+    (b"\x48\x01\xC4", 4),
+    (b"\x49\x01\xD2", 10),
+    (b"\x49\x01\xE2", 10),
+    (b"\x4C\x29\xD4", 4),
+    (b"\xBC", 4),
+    (b"\x54", 4),
+    (b"\x41\xBA", 10),
 ];
 
 #[test]
 fn the_shortest_prefix_that_decides_gives_the_fault(rt: HostRuntime) {
-    for (bytes, fault) in &FAULTS {
-        check_same_at(&rt, &decode(bytes, 0), &Err(*fault), bytes);
+    for bytes in &SHORT {
+        check_same_at(&rt, &decode(bytes, 0), &Err(DecodeFault::Short), bytes);
+    }
+    for (bytes, byte) in &UNKNOWN {
+        let fault = DecodeFault::Unknown(*byte);
+        check_same_at(&rt, &decode(bytes, 0), &Err(fault), bytes);
+    }
+    for (bytes, number) in &UNNAMED {
+        let fault = DecodeFault::Register(*number);
+        check_same_at(&rt, &decode(bytes, 0), &Err(fault), bytes);
     }
 }
 

@@ -27,6 +27,8 @@ mod event_traces;
 #[cfg(test)]
 mod flushes;
 #[cfg(test)]
+mod image_files;
+#[cfg(test)]
 mod images;
 #[cfg(test)]
 mod instructions;

@@ -1,6 +1,6 @@
 //! Calls of `text_lines`: lines, words, numbers and keywords.
 
-use crate::checks::{check_same, check_same_list};
+use crate::checks::{check_same, check_same_at, check_same_list};
 use std::alloc::{AllocError, Global};
 use std::test::Fail;
 use text_lines::*;
@@ -55,46 +55,38 @@ fn lines_and_words_follow_the_rules_of_texts(rt: HostRuntime) -> Result<(), Fail
     Ok(())
 }
 
-/// Words, and the numbers of 32 bits that they say.
-const NUMBERS: [(&[u8], Option<u32>); 13] = [
-    (b"0", Some(0)),
-    (b"7", Some(7)),
-    (b"007", Some(7)),
-    (b"000000000000000000000001048576", Some(1_048_576)),
-    (b"4294967295", Some(4_294_967_295)),
-    (b"4294967296", None),
-    (b"42949672950", None),
-    (b"18446744073709551617", None),
-    (b"", None),
-    (b"+1", None),
-    (b"-1", None),
-    (b"0x1", None),
-    (b"1,", None),
+/// Words, the numbers of 32 bits that they say in decimal digits, and those of 64 bits in hexadecimal
+/// ones.
+const NUMBERS: [(&[u8], Option<u32>, Option<u64>); 18] = [
+    (b"0", Some(0), Some(0)),
+    (b"7", Some(7), Some(7)),
+    (b"007", Some(7), Some(7)),
+    (
+        b"000000000000000000000001048576",
+        Some(1_048_576),
+        Some(0x104_8576),
+    ),
+    (b"4294967295", Some(4_294_967_295), Some(0x42_9496_7295)),
+    (b"4294967296", None, Some(0x42_9496_7296)),
+    (b"42949672950", None, Some(0x429_4967_2950)),
+    (b"18446744073709551617", None, None),
+    (b"ff", None, Some(0xFF)),
+    (b"00fF", None, Some(0xFF)),
+    (b"ffffffffffffffff", None, Some(u64::MAX)),
+    (b"10000000000000000", None, None),
+    (b"", None, None),
+    (b"+1", None, None),
+    (b"-1", None, None),
+    (b"0x1", None, None),
+    (b"1,", None, None),
+    (b"g", None, None),
 ];
 
 #[test]
-fn numbers_are_decimal_digits_that_fit(rt: HostRuntime) {
-    for (word, expected) in &NUMBERS {
-        check_same(&rt, &parse_number(word), expected);
-    }
-}
-
-/// Words, and the numbers of 64 bits that they say in hexadecimal digits.
-const DIGITS: [(&[u8], Option<u64>); 8] = [
-    (b"0", Some(0)),
-    (b"ff", Some(255)),
-    (b"00fF", Some(255)),
-    (b"ffffffffffffffff", Some(18_446_744_073_709_551_615)),
-    (b"10000000000000000", None),
-    (b"g", None),
-    (b"0x1", None),
-    (b"", None),
-];
-
-#[test]
-fn digits_of_a_radix_are_letters_above_nine(rt: HostRuntime) {
-    for (word, expected) in &DIGITS {
-        check_same(&rt, &parse_digits(16, word), expected);
+fn numbers_are_digits_that_fit(rt: HostRuntime) {
+    for (word, decimal, hexadecimal) in &NUMBERS {
+        check_same_at(&rt, &parse_number(word), decimal, word);
+        check_same_at(&rt, &parse_digits(16, word), hexadecimal, word);
     }
 }
 

@@ -1,11 +1,11 @@
 //! Calls of `handler_word`: marks as they are kept, counted and printed.
 
 use crate::checks::{check_same, check_same_list};
-use handler_word::{Mark, Marks, add_runs, write_runs};
+use handler_word::{Mark, Marks};
 use std::alloc::Global;
 use std::process::Abort;
 use std::test::Fail;
-use xray_io::{MemSink, Text, WriteFault};
+use xray_io::{MemSink, Printed, Text, WriteFault, write_text};
 
 /// The mark of a character in the rows below.
 fn mark_of(symbol: u8) -> Mark {
@@ -30,15 +30,12 @@ fn marks_of(rt: &impl Abort, alloc: Global, symbols: &[u8]) -> Result<Marks, Fai
 }
 
 /// Marks as characters, how many of them are recorded, and their text.
-const RUNS: [(&[u8], u32, &[u8]); 12] = [
+const RUNS: [(&[u8], u32, &[u8]); 9] = [
     (b"", 0, b"-"),
     (b"..", 0, b".2"),
     (b"++", 2, b"+2"),
-    (b"++++", 4, b"+4"),
-    (b"nn", 0, b"n2"),
     (b"ff", 0, b"f2"),
     (b"n.", 0, b"n1 .1"),
-    (b"+.", 1, b"+1 .1"),
     (b"..++", 2, b".2 +2"),
     (b".+.+", 2, b".1 +1 .1 +1"),
     (b".nf++fn.", 2, b".1 n1 f1 +2 f1 n1 .1"),
@@ -56,7 +53,7 @@ fn marks_are_kept_counted_and_printed_as_runs(rt: HostRuntime) -> Result<(), Fai
             check_same(&rt, &marks.get(n as u32), &mark_of(*symbol));
         }
         let mut sink = MemSink::new(rt.alloc(), Vec::new(rt.alloc()));
-        write_runs(&marks, &mut sink)?;
+        write_text(&marks, &mut sink)?;
         check_same_list(&rt, sink.bytes(), text);
     }
     Ok(())
@@ -76,13 +73,13 @@ fn a_million_marks_are_one_run(rt: HostRuntime) -> Result<(), Fail> {
     let mut sink = MemSink::new(alloc, Vec::new(alloc));
     let mut text = Text::new(&mut sink);
     text.bytes(b"marks ")?;
-    add_runs(&mut text, &marks)?;
+    marks.add_to(&mut text)?;
     text.bytes(b"\n")?;
     text.done()?;
     check_same_list(&rt, sink.bytes(), b"marks +1048576\n".as_slice());
 
     let mut failing = MemSink::new(alloc, vec![in alloc; 0]?);
-    check_same(&rt, &write_runs(&marks, &mut failing), &Err(WriteFault));
+    check_same(&rt, &write_text(&marks, &mut failing), &Err(WriteFault));
     check_same_list(&rt, failing.bytes(), b"".as_slice());
     Ok(())
 }

@@ -8,7 +8,7 @@ ghost use Rattle.sled_rule.specs.Plans.{code_words};
 ghost use Rattle.sled_rule.specs.Seats.{patch_view, script_of, work_view, AllMet, IsPatcherOf, IsWorkerOf};
 ghost use Rattle.sled_rule.specs.Views.{ended_count, first_patch};
 
-use crate::checks::check_same_list;
+use crate::checks::{check_same, check_same_list};
 use crate::code_table::begin;
 use crate::sled_values::{PATCHED, UNPATCHED};
 use example_images::OUTPUTS_AN_A;
@@ -16,6 +16,7 @@ use patch_script::read_script;
 use sled_patch::{run_prefix, run_script};
 use sled_rule::{CodeTable, PatchSeat, WorkSeat};
 use sled_words::code_bytes;
+use std::process::Abort;
 use std::sync::Wait;
 use std::test::Fail;
 use std::thread::{Threads, join};
@@ -23,18 +24,28 @@ use text_lines::count_lines;
 use xray_image::read_image;
 use xray_io::OpenGate;
 
+/// The code that a script for one thread leaves of [`OUTPUTS_AN_A`], if it makes this many stores.
+fn code_after<R: Abort + Wait + AllocGlobal>(
+    rt: &R,
+    text: &[u8],
+    stores: u64,
+) -> Result<Vec<u8>, Fail> {
+    let image = read_image(rt.alloc(), &OUTPUTS_AN_A)?;
+    let (table, mut seat) = begin(rt, &image, text)?;
+    assert!(rt; table.word_count() == 12);
+    run_prefix(&table, &mut seat);
+    run_script(rt, &table, &mut seat, &OpenGate);
+    assert!(rt; seat.place() == stores);
+    let mut last = [0; 12];
+    table.close(seat, &mut last);
+    Ok(code_bytes(rt.alloc(), &image, &last)?)
+}
+
 #[test]
 fn unpatching_leaves_the_head_of_a_return_and_the_patched_bytes_that_follow(
     rt: HostRuntime,
 ) -> Result<(), Fail> {
-    let image = read_image(rt.alloc(), &OUTPUTS_AN_A)?;
-    let (table, mut seat) = begin(&rt, &image, b"patch\nunpatch\ngo\n")?;
-    assert!(rt; table.word_count() == 12);
-    run_prefix(&table, &mut seat);
-    assert!(rt; seat.place() == 10);
-    let mut last = [0; 12];
-    table.close(seat, &mut last);
-    let code = code_bytes(rt.alloc(), &image, &last)?;
+    let code = code_after(&rt, b"patch\nunpatch\ngo\n", 10)?;
     let bytes = [
         0xEB, 0x09, 1, 0, 0, 0, 0xE8, 0xF5, 0xFF, 0x1F, 0, 0xB8, 0x41, 0, 0, 0, 0xE6, 0x01, 0xC3,
         0xBA, 1, 0, 0, 0, 0xE9, 0xF3, 0xFF, 0x1F, 0,
@@ -47,15 +58,8 @@ fn unpatching_leaves_the_head_of_a_return_and_the_patched_bytes_that_follow(
 fn unpatching_a_sled_that_was_never_patched_leaves_the_code_as_it_was(
     rt: HostRuntime,
 ) -> Result<(), Fail> {
-    let image = read_image(rt.alloc(), &OUTPUTS_AN_A)?;
-    let (table, mut seat) = begin(&rt, &image, b"go\nunpatch\n")?;
-    assert!(rt; table.word_count() == 12);
-    run_script(&rt, &table, &mut seat, &OpenGate);
-    assert!(rt; seat.place() == 2);
-    let mut last = [0; 12];
-    table.close(seat, &mut last);
-    let code = code_bytes(rt.alloc(), &image, &last)?;
-    check_same_list(&rt, code.as_slice(), image.code());
+    let code = code_after(&rt, b"go\nunpatch\n", 2)?;
+    check_same(&rt, &Some(code.as_slice()), &OUTPUTS_AN_A.get(64..93));
     Ok(())
 }
 

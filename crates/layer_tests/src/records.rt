@@ -145,27 +145,36 @@ fn bytes_that_follow_the_fields_are_ignored(rt: HostRuntime) {
     check_same(&rt, &take_rec(&bytes, 17), &Err(RecFault::Short));
 }
 
-/// Bytes, and why they are no record.
-const FAULTS: [(&[u8], RecFault); 14] = [
-    (b"", RecFault::Short),
-    (b"\x10\0\0\0\0\0\0", RecFault::Short),
-    (b"\x16\0\0\0\0\0\0", RecFault::Short),
-    (b"\x07\0\0\0\0\0\0\0\0\0\0\0\0\0\0", RecFault::Short),
-    (b"\x03\0\0\0\0\0\0\0\0\0\0\0\0\0\0", RecFault::Short),
-    (b"\x06\0\0\0\0\0\0\0", RecFault::Action(3)),
-    (b"\x18\0\0\0\0\0\0\0", RecFault::Action(4)),
-    (b"\xFE\xFF\xFF\xFF\0\0\0\0\0", RecFault::Action(7)),
-    (b"\x03\0\0\0\0\0\0\0\0\0\0\0\0\0\0\0", RecFault::Kind(1)),
-    (b"\x0B\0\0\0\0\0\0\0\0\0\0\0\0\0\0\0", RecFault::Kind(5)),
-    (b"\x0D\0\0\0\0\0\0\0\0\0\0\0\0\0\0\0", RecFault::Kind(6)),
-    (b"\x11\0\0\0\0\0\0\0\0\0\0\0\0\0\0\0", RecFault::Kind(8)),
-    (b"\x15\0\0\0\0\0\0\0\0\0\0\0\0\0\0\0", RecFault::Kind(10)),
-    (b"\xFF\0\0\0\0\0\0\0\0\0\0\0\0\0\0\0", RecFault::Kind(127)),
+/// Bytes that end before their record does.
+const SHORT: [&[u8]; 5] = [
+    b"",
+    b"\x10\0\0\0\0\0\0",
+    b"\x16\0\0\0\0\0\0",
+    b"\x07\0\0\0\0\0\0\0\0\0\0\0\0\0\0",
+    b"\x03\0\0\0\0\0\0\0\0\0\0\0\0\0\0",
+];
+
+/// The first byte of what is no record, and why that is.
+const FIRST_BYTES: [(u8, RecFault); 9] = [
+    (0x06, RecFault::Action(3)),
+    (0x18, RecFault::Action(4)),
+    (0xFE, RecFault::Action(7)),
+    (0x03, RecFault::Kind(1)),
+    (0x0B, RecFault::Kind(5)),
+    (0x0D, RecFault::Kind(6)),
+    (0x11, RecFault::Kind(8)),
+    (0x15, RecFault::Kind(10)),
+    (0xFF, RecFault::Kind(127)),
 ];
 
 #[test]
 fn bytes_that_are_no_record_are_refused(rt: HostRuntime) {
-    for (bytes, fault) in &FAULTS {
-        check_same_at(&rt, &take_rec(bytes, 0), &Err(*fault), bytes);
+    for bytes in &SHORT {
+        check_same_at(&rt, &take_rec(bytes, 0), &Err(RecFault::Short), bytes);
+    }
+    for (first, fault) in &FIRST_BYTES {
+        let mut bytes = [0; 16];
+        bytes[0] = *first;
+        check_same_at(&rt, &take_rec(&bytes, 0), &Err(*fault), first);
     }
 }

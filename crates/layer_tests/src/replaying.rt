@@ -1,42 +1,12 @@
-//! Calls of `step_sim`: schedules of texts, and why other texts aren't schedules.
+//! Calls of `step_sim`: schedules of texts, and why other texts aren't schedules. `whole_runs` has
+//! replays.
 
 use crate::checks::{check_same, check_same_list};
-use machine_step::{Setup, Steps};
-use patch_script::read_script;
 use std::alloc::{AllocError, Global};
-use std::process::Abort;
 use std::test::Fail;
 use step_sim::*;
-use text_lines::count_lines;
 
-mod buffers;
-mod replays;
 mod sizes;
-
-/// The script that traces everything from before the start.
-const TRACED: &[u8] = b"patch\nset_handler\ninit\ngo";
-
-/// The replay of the texts of a script and a schedule, with a setup that a command allows.
-fn replay_of<'a>(
-    rt: &impl Abort,
-    alloc: Global,
-    steps: &'a Steps<'a>,
-    script: &[u8],
-    schedule: &[u8],
-    setup: &Setup,
-) -> Result<Result<SimEnd<'a>, SimFault>, Fail> {
-    assert!(rt; setup.threads >= 1 && setup.threads <= 16);
-    assert!(rt; setup.limits.cpus > 0 && setup.limits.migrate > 0);
-    assert!(rt; setup.size >= 72 && setup.size <= 1_048_576);
-    assert!(rt; setup.threads <= setup.max && setup.max <= 1_024);
-    assert!(rt; count_lines(script) < 100);
-    let script = read_script(alloc, script, steps.image(), setup.threads)?;
-    let schedule = read_schedule(alloc, schedule, setup.threads)?;
-    Ok(match SimStart::new(alloc, steps, &script, setup) {
-        Ok(start) => Ok(start.play(&schedule)),
-        Err(fault) => Err(fault),
-    })
-}
 
 #[test]
 fn a_schedule_has_the_turns_of_its_lines(rt: HostRuntime) -> Result<(), Fail> {
@@ -59,30 +29,31 @@ fn a_schedule_has_the_turns_of_its_lines(rt: HostRuntime) -> Result<(), Fail> {
     Ok(())
 }
 
-/// Texts, and why they are no schedules for two threads.
-const REFUSALS: [(&[u8], ScheduleFault); 12] = [
-    (b"p 0", ScheduleFault::Syntax(1)),
-    (b"t 1", ScheduleFault::Syntax(1)),
-    (b"t 1 1 1", ScheduleFault::Syntax(1)),
-    (b"p", ScheduleFault::Syntax(1)),
-    (b"go", ScheduleFault::Syntax(1)),
-    (b"p 1\np -1\nt 3 1", ScheduleFault::Syntax(2)),
-    (b"p 4294967296", ScheduleFault::Syntax(1)),
-    (b"\n# \xff\np 1 \xff", ScheduleFault::Syntax(3)),
-    (b"t 3 1", ScheduleFault::Thread(1)),
-    (b"t 0 1\np 0", ScheduleFault::Thread(1)),
-    (b"p 1\r\nt x 1", ScheduleFault::Thread(2)),
-    (b"t x 0", ScheduleFault::Syntax(1)),
+/// Lines that are no turns, and texts that have them.
+const SYNTAX: [(u32, &[u8]); 9] = [
+    (1, b"p 0"),
+    (1, b"t 1"),
+    (1, b"t 1 1 1"),
+    (1, b"p"),
+    (1, b"go"),
+    (1, b"p 4294967296"),
+    (1, b"t x 0"),
+    (2, b"p 1\np -1\nt 3 1"),
+    (3, b"\n# \xff\np 1 \xff"),
 ];
+
+/// Lines that name none of two threads, and texts that have them.
+const THREAD: [(u32, &[u8]); 3] = [(1, b"t 3 1"), (1, b"t 0 1\np 0"), (2, b"p 1\r\nt x 1")];
 
 #[test]
 fn a_text_is_refused_by_its_first_fault(rt: HostRuntime) {
-    for (text, expected) in &REFUSALS {
-        check_same(
-            &rt,
-            &read_schedule(rt.alloc(), text, 2).err(),
-            &Some(*expected),
-        );
+    for (line, text) in &SYNTAX {
+        let fault = read_schedule(rt.alloc(), text, 2).err();
+        check_same(&rt, &fault, &Some(ScheduleFault::Syntax(*line)));
+    }
+    for (line, text) in &THREAD {
+        let fault = read_schedule(rt.alloc(), text, 2).err();
+        check_same(&rt, &fault, &Some(ScheduleFault::Thread(*line)));
     }
 }
 

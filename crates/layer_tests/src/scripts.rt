@@ -29,24 +29,12 @@ fn store(word: u32, value: u64) -> Micro {
     Micro::Store { word, value }
 }
 
-/// Texts, and why they aren't scripts, if they aren't.
-const FAULTS: [(&[u8], Option<ScriptFault>); 17] = [
-    (b"", Some(ScriptFault::Go(1))),
-    (b"go\ngo\n", Some(ScriptFault::Go(2))),
-    (b"patch_function 2\ngo\n", Some(ScriptFault::Function(1))),
+/// Texts, and why they aren't scripts, if they aren't. `whole_runs` has more refusals.
+const FAULTS: [(&[u8], Option<ScriptFault>); 8] = [
     (b"go\nrelease 2\n", Some(ScriptFault::Thread(2))),
-    (b"go\nrelease 1\n", Some(ScriptFault::Hold(2))),
     (b"hold 1 0\nhold 1 0\ngo\n", Some(ScriptFault::Hold(2))),
-    (b"hold 1 0\ngo\n", Some(ScriptFault::Hold(3))),
-    (b"init\ninit\ngo\n", Some(ScriptFault::Log(2))),
-    (b"finalize\ngo\n", Some(ScriptFault::Log(1))),
-    (b"patch 1\n", Some(ScriptFault::Syntax(1))),
     (b"patch_function 0", Some(ScriptFault::Function(1))),
     (b"patch\xFF\n", Some(ScriptFault::Syntax(1))),
-    (
-        b"hold 1 3\ngo\nawait 1 5\nrelease 1\n",
-        Some(ScriptFault::SelfWait(3)),
-    ),
     (b"hold 1 3\ngo\nawait 1 3\nrelease 1\n", None),
     (b"hold 1 3\ngo\nrelease 1\nawait 1 5\n", None),
     (b"init\ngo\nfinalize\n", None),

@@ -1,13 +1,13 @@
 //! Calls of `stack_rebuild`: stacks that were worked by hand, and their limit.
 
 use crate::checks::{check_same, check_same_text};
-use crate::event_traces::{NESTED, Said, trace_of};
+use crate::event_traces::{NESTED, Said, printed, trace_of};
 use fdr_file::Trace;
 use fdr_record::Kind;
 use stack_rebuild::*;
 use std::alloc::Global;
+use std::process::Abort;
 use std::test::Fail;
-use xray_io::MemSink;
 
 /// A trace of calls of a thread that are made one in another, and of a call of thread 1.
 fn deep_trace(alloc: Global, thread: u32, count: usize) -> Result<Trace, Fail> {
@@ -16,12 +16,22 @@ fn deep_trace(alloc: Global, thread: u32, count: usize) -> Result<Trace, Fail> {
     trace_of(alloc, &events)
 }
 
-/// The text of a trace's stacks without an image.
-fn printed(alloc: Global, trace: &Trace, form: StackForm) -> Result<String, Fail> {
+/// Checks the text of a trace's stacks, without an image.
+fn check_stacks(
+    rt: &impl Abort,
+    alloc: Global,
+    trace: &Trace,
+    form: StackForm,
+    lines: &str,
+) -> Result<(), Fail> {
     let rows = stacks(alloc, trace).map_err(|_| "no stacks")?;
-    let mut sink = MemSink::new(alloc, Vec::new(alloc));
-    write_stack(&rows, None, form, &mut sink).map_err(|_| "write fault")?;
-    Ok(String::from_str(alloc, std::str::from_utf8(sink.bytes())?)?)
+    let text = StackText {
+        rows: &rows,
+        image: None,
+        form,
+    };
+    check_same_text(rt, printed(alloc, &text)?.as_str(), lines);
+    Ok(())
 }
 
 /// Events, and the lines of their stacks in the form for flame graphs.
@@ -75,38 +85,26 @@ const ROWS: [(&[Said], &str); 6] = [
     ),
 ];
 
+/// The stacks of [`NESTED`], for readers.
+const TABLE: &str = "     count        sum       self stack\n         \
+    1         35         25 #1;#1\n         1         10         10 #1;#1;#1\n";
+
 #[test]
 fn stacks_are_printed_by_their_paths(rt: HostRuntime) -> Result<(), Fail> {
     for (events, lines) in &ROWS {
         let trace = trace_of(rt.alloc(), events)?;
-        check_same_text(
-            &rt,
-            printed(rt.alloc(), &trace, StackForm::Flame)?.as_str(),
-            lines,
-        );
+        check_stacks(&rt, rt.alloc(), &trace, StackForm::Flame, lines)?;
     }
-    let trace = trace_of(rt.alloc(), ROWS[1].0)?;
-    check_same_text(
-        &rt,
-        printed(rt.alloc(), &trace, StackForm::Human)?.as_str(),
-        "     count        sum       self stack\n         1         35         25 #1;#1\n         1         10         10 #1;#1;#1\n",
-    );
-    Ok(())
+    let trace = trace_of(rt.alloc(), &NESTED)?;
+    check_stacks(&rt, rt.alloc(), &trace, StackForm::Human, TABLE)
 }
 
 #[test]
 fn a_thread_with_too_many_open_calls_is_named(rt: HostRuntime) -> Result<(), Fail> {
     let full = deep_trace(rt.alloc(), 3, MOST_OPEN)?;
-    check_same_text(
-        &rt,
-        printed(rt.alloc(), &full, StackForm::Flame)?.as_str(),
-        "",
-    );
+    check_stacks(&rt, rt.alloc(), &full, StackForm::Flame, "")?;
     let deep = deep_trace(rt.alloc(), 3, MOST_OPEN + 1)?;
-    check_same(
-        &rt,
-        &stacks(rt.alloc(), &deep).err(),
-        &Some(StackFault::Deep(3)),
-    );
+    let fault = stacks(rt.alloc(), &deep).err();
+    check_same(&rt, &fault, &Some(StackFault::Deep(3)));
     Ok(())
 }

@@ -55,15 +55,6 @@ fn one_block(alloc: Global) -> Result<Vec<u8>, AllocError> {
     )
 }
 
-fn event(cpu: u16, func: u32, kind: Kind, tsc: u64) -> Event {
-    Event {
-        cpu,
-        func,
-        kind,
-        tsc,
-    }
-}
-
 /// An event: its CPU, its function, its kind and its counter.
 type Said = (u16, u32, Kind, u64);
 
@@ -71,6 +62,15 @@ type Said = (u16, u32, Kind, u64);
 fn said(said: Said) -> Event {
     let (cpu, func, kind, tsc) = said;
     event(cpu, func, kind, tsc)
+}
+
+fn event(cpu: u16, func: u32, kind: Kind, tsc: u64) -> Event {
+    Event {
+        cpu,
+        func,
+        kind,
+        tsc,
+    }
 }
 
 /// The fault of a file, if it has one.
@@ -119,20 +119,22 @@ const HEADER_FIELDS: Header = Header {
     size: 16_384,
 };
 
+/// Checks that a file has this header, and only one block, of thread 1 with these events.
+fn check_one_block(
+    rt: &impl Abort,
+    alloc: Global,
+    bytes: &[u8],
+    events: &[Event],
+) -> Result<(), Fail> {
+    check_file(rt, alloc, bytes, &HEADER_FIELDS, 1, (1, EPOCH, 1), events)
+}
+
 #[test]
 fn a_file_is_read_byte_by_byte(rt: HostRuntime) -> Result<(), Fail> {
     let bytes = one_block(rt.alloc())?;
     check_same(&rt, &bytes.len(), &128);
     let events = [event(0, 1, Kind::Entry, 0), event(0, 1, Kind::Exit, 2)];
-    check_file(
-        &rt,
-        rt.alloc(),
-        &bytes,
-        &HEADER_FIELDS,
-        1,
-        (1, EPOCH, 1),
-        &events,
-    )
+    check_one_block(&rt, rt.alloc(), &bytes, &events)
 }
 
 /// CPU 0 at the last counter, and CPU 1 at counter 2.
@@ -149,23 +151,18 @@ const WRAP_TO_2_32: &[u8] = b"\x07\0\0\0\0\x01\0\0\0\0\0\0\0\0\0\0";
 const EXIT: &[u8] = b"\x12\0\0\0\0\0\0\0";
 
 /// The parts of a block of two events, and these events.
-type TwoEvents = (&'static [&'static [u8]], Said, Said);
-
-const DELTAS: [TwoEvents; 5] = [
+const DELTAS: [(&[&[u8]], [Said; 2]); 5] = [
     (
         &[EXTENTS_96, PREAMBLE, CPU, ENTRY, WRAP_TO_2_32, EXIT],
-        (0, 1, Kind::Entry, 0),
-        (0, 1, Kind::Exit, 1 << 32),
+        [(0, 1, Kind::Entry, 0), (0, 1, Kind::Exit, 1 << 32)],
     ),
     (
         &[EXTENTS_96, PREAMBLE, CPU_AT_LAST, ENTRY, WRAP_TO_0, EXIT],
-        (0, 1, Kind::Entry, u64::MAX),
-        (0, 1, Kind::Exit, 0),
+        [(0, 1, Kind::Entry, u64::MAX), (0, 1, Kind::Exit, 0)],
     ),
     (
         &[EXTENTS_80, PREAMBLE, CPU_AT_LAST, ENTRY, EXIT_AFTER_2],
-        (0, 1, Kind::Entry, u64::MAX),
-        (0, 1, Kind::Exit, 1),
+        [(0, 1, Kind::Entry, u64::MAX), (0, 1, Kind::Exit, 1)],
     ),
     (
         &[
@@ -176,8 +173,7 @@ const DELTAS: [TwoEvents; 5] = [
             CPU_1_AT_2,
             EXIT_AFTER_2,
         ],
-        (0, 1, Kind::Exit, 2),
-        (1, 1, Kind::Exit, 4),
+        [(0, 1, Kind::Exit, 2), (1, 1, Kind::Exit, 4)],
     ),
     (
         &[
@@ -187,26 +183,19 @@ const DELTAS: [TwoEvents; 5] = [
             b"\x14\0\0\0\x01\0\0\0",
             b"\xF2\xFF\xFF\xFF\xFF\xFF\xFF\xFF",
         ],
-        (0, 1, Kind::TailExit, 3),
-        (0, (1 << 28) - 1, Kind::Exit, (1 << 32) + 2),
+        [
+            (0, 1, Kind::TailExit, 3),
+            (0, (1 << 28) - 1, Kind::Exit, (1 << 32) + 2),
+        ],
     ),
 ];
 
 #[test]
 fn deltas_add_up_from_the_last_whole_counter(rt: HostRuntime) -> Result<(), Fail> {
-    for (parts, first, second) in &DELTAS {
+    for (parts, events) in &DELTAS {
         let block = file(rt.alloc(), parts)?;
         let bytes = file(rt.alloc(), &[HEADER, &block])?;
-        let events = [said(*first), said(*second)];
-        check_file(
-            &rt,
-            rt.alloc(),
-            &bytes,
-            &HEADER_FIELDS,
-            1,
-            (1, EPOCH, 1),
-            &events,
-        )?;
+        check_one_block(&rt, rt.alloc(), &bytes, &events.map(said))?;
     }
     Ok(())
 }
@@ -303,29 +292,14 @@ fn a_file_of_llvms_runtime_is_read(rt: HostRuntime) -> Result<(), Fail> {
         event(3, 6, Kind::Exit, 22),
     ];
     let bytes = file(rt.alloc(), &OF_LLVM)?;
-    check_file(
-        &rt,
-        rt.alloc(),
-        &bytes,
-        &header,
-        2,
-        (12_345, wall, 1_000),
-        &events,
-    )
+    let begun = (12_345, wall, 1_000);
+    check_file(&rt, rt.alloc(), &bytes, &header, 2, begun, &events)
 }
 
 #[test]
 fn a_buffer_without_an_event_is_a_block_without_one(rt: HostRuntime) -> Result<(), Fail> {
     let bytes = file(rt.alloc(), &[HEADER, EXTENTS_48, PREAMBLE])?;
-    check_file(
-        &rt,
-        rt.alloc(),
-        &bytes,
-        &HEADER_FIELDS,
-        1,
-        (1, EPOCH, 1),
-        &[],
-    )
+    check_one_block(&rt, rt.alloc(), &bytes, &[])
 }
 
 /// A buffer of thread 1 with these events.
@@ -426,16 +400,8 @@ fn what_is_written_reads_back(rt: HostRuntime) -> Result<(), Fail> {
     ];
     let buffer = filled(&rt, rt.alloc(), wall, 0x0102_0304, &events)?;
     let sink = written(rt.alloc(), &HEADER_FIELDS, &[buffer])?;
-    let begun = (1, wall, 0x0102_0304);
-    check_file(
-        &rt,
-        rt.alloc(),
-        sink.bytes(),
-        &HEADER_FIELDS,
-        1,
-        begun,
-        &events,
-    )
+    let (alloc, begun) = (rt.alloc(), (1, wall, 0x0102_0304));
+    check_file(&rt, alloc, sink.bytes(), &HEADER_FIELDS, 1, begun, &events)
 }
 
 #[test]

@@ -11,3 +11,7 @@ abbrev pub ended_text : ℕ → Traced → Want → List ℕ
 ended_text thread t (Gate passing) = []
 ended_text thread t (Load word) = []
 ended_text thread t (Done end) = state_text thread end (state_at 0 t) t.marks
+
+-- the state text of a traced thread that has ended
+abbrev pub thread_text : Traced → List ℕ
+thread_text t = ended_text t.thread t t.want

@@ -30,10 +30,10 @@ pub use laws::{
 };
 pub use limits::Limits;
 pub use plain_end::PlainEnd;
-pub use plain_text::{end_name, write_plain};
+pub use plain_text::end_name;
 pub use registers::REGISTERS;
 pub use running::plain_run;
 pub use setup::Setup;
-pub use state_text::{add_marks, write_state};
+pub use state_text::add_marks;
 pub use steps::Steps;
 pub use want::Want;

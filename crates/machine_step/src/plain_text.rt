@@ -5,36 +5,24 @@ ghost use Rattle.std.specs.Prelude.{◌≡◌, ◌++◌, ◌<◌, length, slice_
 ghost use Rattle.machine_step.specs.PlainEnd.{state_of};
 ghost use Rattle.machine_step.specs.Texts.{plain_text, end_text, counts_text, registers_line, printed_registers, output_line, flag_text, line_feed};
 ghost use Rattle.xray_io.specs.Text.{AddsText};
-ghost use Rattle.xray_io.specs.Writes.{WritesText};
 
 use crate::end::End;
 use crate::plain_end::PlainEnd;
 use crate::registers::REGISTERS;
-use xray_io::{Piece, Sink, Text, WriteFault};
+use xray_io::{Piece, Printed, Sink, Text, WriteFault};
 
-/// Writes the plain text of a thread's end: three lines, each with its line feed.
-///
-/// On `WriteFault` a prefix of the text was written, and the sink counted a fault.
-#[tactic(auto, using(xray_io::specs::Text::writes_failed))]
-pub fn write_plain<S: Sink>(end: &PlainEnd, sink: &mut S) -> Result<(), WriteFault>
-    requires { length end.now.regs.items ≡ REGISTERS }
-    ensures { WritesText S.written S.faults S.along sink.old sink.new
-        (plain_text end.now.thread end.now.end (state_of end.now)) result }
-{
-    let mut text = Text::new(sink);
-    add_lines(&mut text, end)?;
-    text.done()
-}
+/// The end of a thread is printed as its plain text: three lines, each with its line feed. It needs
+/// all 16 registers.
+impl Printed for PlainEnd {
+    ghost text = { λ end. plain_text end.thread end.end (state_of end) };
 
-/// Adds the three lines.
-fn add_lines<S: Sink>(text: &mut Text<S>, end: &PlainEnd) -> Result<(), WriteFault>
-    requires { length end.now.regs.items ≡ REGISTERS }
-    ensures { AddsText S.written S.faults S.along text.old text.new
-        (plain_text end.now.thread end.now.end (state_of end.now)) result }
-{
-    add_counts(text, end.thread, end.end, end.instructions, end.passings)?;
-    add_registers(text, &end.regs, end.zf)?;
-    add_output(text, &end.output)
+    ghost ready = { λ end. length end.regs.items ≡ 16 };
+
+    fn add_to<S: Sink>(&self, to: &mut Text<S>) -> Result<(), WriteFault> {
+        add_counts(to, self.thread, self.end, self.instructions, self.passings)?;
+        add_registers(to, &self.regs, self.zf)?;
+        add_output(to, &self.output)
+    }
 }
 
 /// Adds the line of a thread's end and counts to a text.

@@ -3,41 +3,28 @@
 ghost use Rattle.std.specs.Prelude.{};
 ghost use Rattle.machine_step.specs.Texts.{marks_line, plain_text, state_text};
 ghost use Rattle.machine_step.specs.Traced.{IsDone, state_at};
-ghost use Rattle.machine_step.specs.EndedText.{ended_text};
+ghost use Rattle.machine_step.specs.EndedText.{thread_text};
 ghost use Rattle.xray_io.specs.Text.{AddsText};
-ghost use Rattle.xray_io.specs.Writes.{WritesText};
 
 use crate::cpu::Cpu;
 use crate::end::End;
 use crate::plain_text::{add_counts, add_output, add_registers};
 use crate::want::Want;
-use handler_word::{Marks, add_runs};
-use xray_io::{Sink, Text, WriteFault};
+use handler_word::Marks;
+use xray_io::{Printed, Sink, Text, WriteFault};
 
-/// Writes the state text of a thread that has ended: the three lines of its plain text and one of
-/// its marks, each with its line feed.
-///
-/// On `WriteFault` a prefix of the text was written, and the sink counted a fault.
-#[tactic(auto, using(xray_io::specs::Text::writes_failed))]
-pub fn write_state<S: Sink>(thread: u32, cpu: &Cpu, sink: &mut S) -> Result<(), WriteFault>
-    requires { IsDone cpu.now.want }
-    ensures { WritesText S.written S.faults S.along sink.old sink.new
-        (ended_text thread cpu.now cpu.now.want) result }
-{
-    let mut text = Text::new(sink);
-    add_state(&mut text, thread, cpu)?;
-    text.done()
-}
+/// A thread that has ended is printed as its state text: the three lines of its plain text and one
+/// of its marks, each with its line feed.
+impl Printed for Cpu<'_> {
+    ghost text = { thread_text };
 
-/// Adds the four lines.
-fn add_state<S: Sink>(text: &mut Text<S>, thread: u32, cpu: &Cpu) -> Result<(), WriteFault>
-    requires { IsDone cpu.now.want }
-    ensures { AddsText S.written S.faults S.along text.old text.new
-        (ended_text thread cpu.now cpu.now.want) result }
-{
-    match cpu.want() {
-        Want::Done(end) => add_ended(text, thread, end, cpu),
-        Want::Gate(_) | Want::Load(_) => unreachable!(),
+    ghost ready = { λ cpu. IsDone cpu.want };
+
+    fn add_to<S: Sink>(&self, to: &mut Text<S>) -> Result<(), WriteFault> {
+        match self.want() {
+            Want::Done(end) => add_ended(to, self.thread(), end, self),
+            Want::Gate(_) | Want::Load(_) => unreachable!(),
+        }
     }
 }
 
@@ -76,6 +63,6 @@ pub fn add_marks<S: Sink>(text: &mut Text<S>, marks: &Marks) -> Result<(), Write
         (marks_line marks.now.items) result }
 {
     text.bytes(b"marks ")?;
-    add_runs(text, marks)?;
+    marks.add_to(text)?;
     text.bytes(b"\n")
 }

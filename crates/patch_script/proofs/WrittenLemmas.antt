@@ -49,6 +49,37 @@ six_false : {A : Type 0} (a b c d e f : Bool) (p q r s t u : ScriptFault) (y : A
     → ◌≡◌ {A = Result A ScriptFault} (cond a (Err p) (cond b (Err q) (cond c (Err r) (cond d (Err s) (cond e (Err t) (cond f (Err u) (Ok y))))))) (Ok y)
 six_false a b c d e f p q r s t u y ha hb hc hd he hf = rw (ha, hb, hc, hd, he, hf) refl
 
+-- the words of commands are written
+module _ (numbers : WrittenNumbersRead) where
+  number_word : (n : ℕ) → n ≤ 4294967295 → is_written_word (decimal n) ≡ true
+  number_word n h = numbers.word n (omega (arith, h))
+
+  one_number : (n : ℕ) → n ≤ 4294967295 → are_written_words (decimal n ∷ []) ≡ true
+  one_number n h = and_from (is_written_word (decimal n)) true (number_word n h) refl
+
+  two_numbers : (n m : ℕ) → (n ≤ 4294967295) × (m ≤ 4294967295) → are_written_words (decimal n ∷ decimal m ∷ []) ≡ true
+  two_numbers n m h = and_from (is_written_word (decimal n)) (are_written_words (decimal m ∷ [])) (number_word n h.0) (one_number m h.1)
+
+  pub command_written : (command : Command) → HasWords command → are_written_words (command_words command) ≡ true
+  command_written commands.Patch h = refl
+  command_written commands.Unpatch h = refl
+  command_written (commands.PatchFunction id) h = one_number id h
+  command_written (commands.UnpatchFunction id) h = one_number id h
+  command_written commands.SetHandler h = refl
+  command_written commands.RemoveHandler h = refl
+  command_written commands.Init h = refl
+  command_written commands.Finalize h = refl
+  command_written (commands.Hold thread passing) h = two_numbers thread passing h
+  command_written commands.Go h = refl
+  command_written (commands.Release thread) h = one_number thread h
+  command_written (commands.Await thread count) h = two_numbers thread count h
+
+  pub script_written : (script : List Command) → All HasWords script → list_all are_written_words (map command_words script) ≡ true
+  script_written [] h = refl
+  script_written (command ∷ script) h =
+      and_from (are_written_words (command_words command)) (list_all are_written_words (map command_words script))
+      (command_written command (h 0 command (omega arith))) (script_written script (λ k d lt. h (suc k) d (omega (arith, lt))))
+
 module _ (program : Program) (threads : ℕ) where
   judged_admits : (before : Lines) (number : ℕ) (command : Command) → IsAdmitted program threads (commands_of before) command
       → judged program threads before number command ≡ Ok (before ++ (number, command) ∷ [])
@@ -59,29 +90,6 @@ module _ (program : Program) (threads : ℕ) where
       (before ++ (number, command) ∷ []) h.function h.thread h.place h.hold h.log h.wait
 
   module _ (texts : WrittenTextsRead) (numbers : WrittenNumbersRead) where
-    number_word : (n : ℕ) → n ≤ 4294967295 → is_written_word (decimal n) ≡ true
-    number_word n h = numbers.word n (omega (arith, h))
-
-    one_number : (n : ℕ) → n ≤ 4294967295 → are_written_words (decimal n ∷ []) ≡ true
-    one_number n h = and_from (is_written_word (decimal n)) true (number_word n h) refl
-
-    two_numbers : (n m : ℕ) → (n ≤ 4294967295) × (m ≤ 4294967295) → are_written_words (decimal n ∷ decimal m ∷ []) ≡ true
-    two_numbers n m h = and_from (is_written_word (decimal n)) (are_written_words (decimal m ∷ [])) (number_word n h.0) (one_number m h.1)
-
-    command_written : (command : Command) → HasWords command → are_written_words (command_words command) ≡ true
-    command_written commands.Patch h = refl
-    command_written commands.Unpatch h = refl
-    command_written (commands.PatchFunction id) h = one_number id h
-    command_written (commands.UnpatchFunction id) h = one_number id h
-    command_written commands.SetHandler h = refl
-    command_written commands.RemoveHandler h = refl
-    command_written commands.Init h = refl
-    command_written commands.Finalize h = refl
-    command_written (commands.Hold thread passing) h = two_numbers thread passing h
-    command_written commands.Go h = refl
-    command_written (commands.Release thread) h = one_number thread h
-    command_written (commands.Await thread count) h = two_numbers thread count h
-
     two_said : (command : ℕ → ℕ → Command) (n m : ℕ) → (n ≤ 4294967295) × (m ≤ 4294967295) → on_two command (decimal n) (decimal m) ≡ Some (command n m)
     two_said command n m h = rw (numbers.short n h.0, numbers.short m h.1) refl
 
@@ -118,7 +126,7 @@ module _ (program : Program) (threads : ℕ) where
         → with_line program threads before (number, written_line (command_words command)) ≡ Ok (before ++ (number, command) ∷ [])
     line_read before number command h room admitted =
         let line = written_line (command_words command) in
-        let written = command_written command h in
+        let written = command_written numbers command h in
         let words : words_of line ≡ command_words command = texts.words (command_words command) written in
         let some : (length (words_of line) == 0) ≡ false = ap (λ ws. length ws == 0) words ∙ has_words command in
         let few : nat_le 1024 (length before) ≡ false = lt-leb 1024 (length before) (omega (arith, room)) in
@@ -154,12 +162,6 @@ module _ (program : Program) (threads : ℕ) where
         (let e : 1 + length front + 1 ≡ 1 + length (front ++ command ∷ []) = omega (arith, length-append front (command ∷ [])) in e)
         ∙ lines_read script (front ++ command ∷ []) behind each (is ∙ sym (append_assoc front (command ∷ []) behind))
 
-    all_written : (script : List Command) → All HasWords script → list_all are_written_words (map command_words script) ≡ true
-    all_written [] h = refl
-    all_written (command ∷ script) h =
-        and_from (are_written_words (command_words command)) (list_all are_written_words (map command_words script))
-        (command_written command (h 0 command (omega arith))) (all_written script (λ k d lt. h (suc k) d (omega (arith, lt))))
-
     may_follow : (script : List Command) → All HasWords script → IsOrderly (written_plan program threads script) → EachMayFollow script
     may_follow script words orderly front command behind is =
         let at : slice_get script (length front) ≡ Some command =
@@ -191,7 +193,7 @@ pub script_read : WrittenTextsRead → WrittenNumbersRead → WrittenScriptsRead
 script_read texts numbers program threads script words orderly =
     let said = enumerate_from 1 script in
     let text = script_text script in
-    let cut : lines text ≡ map written_line (map command_words script) = texts.lines (map command_words script) (all_written program threads texts numbers script words) in
+    let cut : lines text ≡ map written_line (map command_words script) = texts.lines (map command_words script) (script_written numbers script words) in
     let read : read_lines program threads [] (enumerate_from 1 (lines text)) ≡ Ok said =
     ap (λ ls. read_lines program threads [] (enumerate_from 1 ls)) cut
     ∙ lines_read program threads texts numbers script [] script (may_follow program threads texts numbers script words orderly) refl in

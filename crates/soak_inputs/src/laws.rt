@@ -1,13 +1,9 @@
 //! Laws of the inputs. Each law is the contract of a function that does nothing.
-ghost use Rattle.std.specs.Prelude.{◌≡◌, ◌≤◌, ℕ, length, None, Ok};
-ghost use Rattle.std.specs.List.{enumerate_from};
+ghost use Rattle.std.specs.{Prelude.{◌≡◌, ◌≤◌, ℕ, length, None, Ok}, List.{enumerate_from}};
 ghost use Rattle.std.specs.Str.Lines.{lines};
-ghost use Rattle.xray_image.specs.Ids.{id_count};
-ghost use Rattle.xray_image.specs.Program.{Program};
-ghost use Rattle.asm_text.specs.Assembling.{said_by};
-ghost use Rattle.asm_text.specs.Programs.{program_said};
-ghost use Rattle.patch_script.specs.Plans.{plan_of, waiting_line};
-ghost use Rattle.patch_script.specs.WrittenScripts.{written_plan};
+ghost use Rattle.xray_image.specs.{Ids.{id_count}, Program.{Program}};
+ghost use Rattle.asm_text.specs.{Assembling.{said_by}, Programs.{program_said}};
+ghost use Rattle.patch_script.specs.{Plans.{plan_of, waiting_line}, WrittenScripts.{written_plan}};
 ghost use Rattle.step_sim.specs.Schedules.{schedule_of};
 ghost use Rattle.soak_inputs.specs.Inputs.{soak_commands, soak_schedule, soak_script, soak_text, soak_turns};
 ghost use Rattle.soak_inputs.specs.Said.{soak_said};

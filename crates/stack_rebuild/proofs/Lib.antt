@@ -2,6 +2,7 @@ pub mod Adding
 pub mod Ascents
 pub mod Depth
 pub mod Frames
+pub mod Items
 pub mod Lines
 pub mod Nesting
 pub mod Nodes

@@ -88,22 +88,20 @@ nested_more events e (call ∷ outer) nested = (
   nested_more events e outer nested.3,
 )
 
--- the calls from the innermost one of a function outwards
-pub nested_from : (events : List Event) (func : ℕ) (calls : List Call) → Nested events calls → Nested events (from_innermost func calls)
-nested_from events func [] nested = tt
-nested_from events func (call ∷ outer) nested = by_func (nat_eq call.func func) (nested_from events func outer nested.3)
+-- what holds of calls, and of the outer ones, holds of the calls from the innermost one of a function outwards
+pub kept_from : (P : List Call → Type 0) → ((call : Call) (outer : List Call) → P (call ∷ outer) → P outer) → (func : ℕ) (calls : List Call) → P calls → P (from_innermost func calls)
+kept_from P outwards func [] all = all
+kept_from P outwards func (call ∷ outer) all = by_func (nat_eq call.func func) (kept_from P outwards func outer (outwards call outer all))
   where
-    by_func : (b : Bool) → Nested events (from_innermost func outer) → Nested events (cond b (call ∷ outer) (from_innermost func outer))
-    by_func true behind = nested
+    by_func : (b : Bool) → P (from_innermost func outer) → P (cond b (call ∷ outer) (from_innermost func outer))
+    by_func true behind = all
     by_func false behind = behind
 
+pub nested_from : (events : List Event) (func : ℕ) (calls : List Call) → Nested events calls → Nested events (from_innermost func calls)
+nested_from events = kept_from (Nested events) (λ call outer nested. nested.3)
+
 pub none_from : (at func : ℕ) (calls : List Call) → NoneAt at calls → NoneAt at (from_innermost func calls)
-none_from at func [] none = tt
-none_from at func (call ∷ outer) none = by_func (nat_eq call.func func) (none_from at func outer none.1)
-  where
-    by_func : (b : Bool) → NoneAt at (from_innermost func outer) → NoneAt at (cond b (call ∷ outer) (from_innermost func outer))
-    by_func true behind = none
-    by_func false behind = behind
+none_from at = kept_from (NoneAt at) (λ call outer none. none.1)
 
 -- the innermost call of a function belongs to it
 pub its_func : (func : ℕ) (calls : List Call) (ended : Call) (outer : List Call) → from_innermost func calls ≡ ended ∷ outer → ended.func ≡ func
@@ -207,6 +205,17 @@ nested_history (e ∷ history) = by_kind e.kind refl (nested_history history)
     opened : Call
     opened = record { entry = length history; func = e.func; tsc = e.tsc }
 
+    found : List Call
+    found = from_innermost e.func (open_calls history)
+
+    by_exit : IsNested history → open_after e (length history) (open_calls history) ≡ left_open (open_calls history) found
+        → pairs_in history ++ option_to_list (pair_at e (length history) (open_calls history)) ≡ pairs_in history ++ option_to_list (pair_of_call e (length history) found)
+        → IsNested (e ∷ history)
+    by_exit known left made =
+        let both = nested_exit e history found known (nested_from (reverse history) e.func (open_calls history) known.nested)
+        (λ at none. none_from at e.func (open_calls history) none) in
+        ends (left_open (open_calls history) found) (pairs_in history ++ option_to_list (pair_of_call e (length history) found)) left made both.0 both.1
+
     by_kind : (k : Kind) → e.kind ≡ k → IsNested history → IsNested (e ∷ history)
     by_kind Entry is known =
         ends (opened ∷ open_calls history) (pairs_in history) (ap (λ (k : Kind). open_after_kind k e (length history) (open_calls history)) is)
@@ -218,16 +227,8 @@ nested_history (e ∷ history) = by_kind e.kind refl (nested_history history)
         )
         (ended_open (length history) (open_calls history) opened (pairs_in history) refl known.ended)
     by_kind Exit is known =
-        let both = nested_exit e history (from_innermost e.func (open_calls history)) known (nested_from (reverse history) e.func (open_calls history) known.nested)
-        (λ at none. none_from at e.func (open_calls history) none) in
-        ends (left_open (open_calls history) (from_innermost e.func (open_calls history)))
-        (pairs_in history ++ option_to_list (pair_of_call e (length history) (from_innermost e.func (open_calls history))))
-        (ap (λ (k : Kind). open_after_kind k e (length history) (open_calls history)) is)
-        (ap (λ (k : Kind). pairs_in history ++ option_to_list (pair_at_kind k e (length history) (open_calls history))) is) both.0 both.1
+        by_exit known (ap (λ (k : Kind). open_after_kind k e (length history) (open_calls history)) is)
+        (ap (λ (k : Kind). pairs_in history ++ option_to_list (pair_at_kind k e (length history) (open_calls history))) is)
     by_kind TailExit is known =
-        let both = nested_exit e history (from_innermost e.func (open_calls history)) known (nested_from (reverse history) e.func (open_calls history) known.nested)
-        (λ at none. none_from at e.func (open_calls history) none) in
-        ends (left_open (open_calls history) (from_innermost e.func (open_calls history)))
-        (pairs_in history ++ option_to_list (pair_of_call e (length history) (from_innermost e.func (open_calls history))))
-        (ap (λ (k : Kind). open_after_kind k e (length history) (open_calls history)) is)
-        (ap (λ (k : Kind). pairs_in history ++ option_to_list (pair_at_kind k e (length history) (open_calls history))) is) both.0 both.1
+        by_exit known (ap (λ (k : Kind). open_after_kind k e (length history) (open_calls history)) is)
+        (ap (λ (k : Kind). pairs_in history ++ option_to_list (pair_at_kind k e (length history) (open_calls history))) is)

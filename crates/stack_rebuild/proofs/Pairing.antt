@@ -1,5 +1,5 @@
 -- What holds of each pair, and of any two.
-use Rattle.std.proofs.Common.{◌≡◌, ◌≢◌, ◌++◌, ◌<◌, ◌∙◌, ℕ, suc, Bool, true, false, cond, List, [], ◌∷◌, length, reverse, refl, ap, sym, subst, arith, nat_eq, Option, All, length-append}
+use Rattle.std.proofs.Common.{◌≡◌, ◌≢◌, ◌++◌, ◌<◌, ◌∙◌, ℕ, suc, true, false, List, [], ◌∷◌, length, reverse, refl, ap, sym, subst, arith, nat_eq, Option, All, length-append}
 use Rattle.std.specs.List.{AllPairs}
 use Rattle.std.specs.Option.{option_to_list}
 use Rattle.std.proofs.Math.ListN.{get_or-append}
@@ -15,7 +15,7 @@ use Rattle.stack_rebuild.specs.declared.call.Call.{Call}
 use Rattle.stack_rebuild.specs.declared.call.Pair.{Pair}
 use Rattle.stack_rebuild.specs.Calls.{cycles_between, from_innermost, left_open, open_after_kind, open_calls, pair_of_call, pairs_in, pairs_of}
 use Rattle.stack_rebuild.specs.PairLaws.{IsWholeCall, event_at, innermost_entry, no_event}
-use Rattle.stack_rebuild.proofs.Nesting.{AllEnded, NoneAt, ended_by, nested_history, none_ended, func_ended, one_more, open_kept, open_then, pair_by}
+use Rattle.stack_rebuild.proofs.Nesting.{AllEnded, NoneAt, ended_by, kept_from, nested_history, none_ended, func_ended, one_more, open_kept, open_then, pair_by}
 
 -- the pair of an event at a position with the call that it ends
 abbrev pair_with : Event → ℕ → Call → Pair
@@ -110,12 +110,7 @@ entered_more events e (call ∷ outer) all =
     )
 
 entered_from : (events : List Event) (func : ℕ) (calls : List Call) → AllEntered events calls → AllEntered events (from_innermost func calls)
-entered_from events func [] all = tt
-entered_from events func (call ∷ outer) all = by_func (nat_eq call.func func) (entered_from events func outer all.1)
-  where
-    by_func : (b : Bool) → AllEntered events (from_innermost func outer) → AllEntered events (cond b (call ∷ outer) (from_innermost func outer))
-    by_func true behind = all
-    by_func false behind = behind
+entered_from events = kept_from (AllEntered events) (λ call outer all. all.1)
 
 entered_left : (events : List Event) (calls found : List Call) → AllEntered events calls → AllEntered events found → AllEntered events (left_open calls found)
 entered_left events calls [] all own = all

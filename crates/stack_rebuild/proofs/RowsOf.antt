@@ -23,7 +23,8 @@ use Rattle.stack_rebuild.specs.private.Rows.{row_before, row_by, rows_at, rows_f
 use Rattle.stack_rebuild.specs.private.Scanning.{AllNumbered, AreSums, no_tally, tally_of}
 use Rattle.stack_rebuild.specs.Stacks.{PathRow, Timed, has_path, path_cmp, row_of, told}
 use Rattle.stack_rebuild.proofs.Orders.{order_all, order_distinct, order_low}
-use Rattle.stack_rebuild.proofs.Ascents.{all_in, each_in, IsIn, Strict, in_permutation, is_each_once, map-in}
+use Rattle.stack_rebuild.proofs.Ascents.{Strict, each_in, is_each_once}
+use Rattle.stack_rebuild.proofs.Items.{IsIn, all_in, in_permutation, map-in}
 use Rattle.stack_rebuild.proofs.Sums.{has_own, has_path-same, path_cmp_equal}
 
 abbrev paths_of_rows : List PathRow → List (List ℕ)

@@ -29,7 +29,7 @@ path_cmp_same (n ∷ path) = ap (λ (o : Ordering). ordering_then o (path_cmp pa
 pub path_cmp_equal : (path other : List ℕ) → path_cmp path other ≡ Equal → path ≡ other
 path_cmp_equal path other is = slice_cmp-IsAntisymmetric nat_cmp-IsAntisymmetric path other is
 
-equal_from : (o : Ordering) → is_eq o ≡ true → o ≡ Equal
+pub equal_from : (o : Ordering) → is_eq o ≡ true → o ≡ Equal
 equal_from Less is = let never : false ≡ true = is in cc
 equal_from Equal is = refl
 equal_from Greater is = let never : false ≡ true = is in cc

@@ -1,28 +1,27 @@
 -- The places of each thread's blocks.
-use Rattle.std.proofs.Common.{◌≡◌, ◌+◌, ◌++◌, ◌<◌, ◌∙◌, ◌||◌, ℕ, Bool, true, false, cond, List, [], ◌∷◌, length, map, take, refl, ap, sym, subst, nat_eq, get_or, is_some, append_assoc, inl, inr, Option, Some, unwrap_or}
+use Rattle.std.proofs.Common.{◌≡◌, ◌+◌, ◌++◌, ◌<◌, ◌∙◌, ◌||◌, ℕ, Bool, true, false, cond, List, [], ◌∷◌, length, map, take, refl, ap, sym, subst, nat_eq, get_or, is_some, append_assoc, Option, Some, unwrap_or}
 use Rattle.std.specs.Prelude.{All}
 use Rattle.std.specs.List.{list_any}
 use Rattle.std.specs.Map.{keys_of, lookup}
 use Rattle.std.specs.Option.{option_map}
-use Rattle.std.specs.declared.cmp.Ordering.{Ordering}
-use Rattle.std.specs.declared.cmp.Ordering.TheVariants.{Less, Equal, Greater}
 use Rattle.std.specs.Ordering.{is_eq, nat_cmp}
 use Rattle.std.specs.Cmp.{nat_cmp_total}
 use Rattle.std.specs.FinMap.{nat_cmp-IsAntisymmetric}
 use Rattle.std.specs.BTreeMap.{IsOrdered, get, is_at}
 use Rattle.std.specs.Global.{Vec}
-use Rattle.std.proofs.lemmas.Bool.{eqb-true, eq-eqb}
 use Rattle.std.proofs.lemmas.List.{append-nil, get_or_default, take_more}
 use Rattle.std.proofs.lemmas.List.Concat.{flat_map-append}
 use Rattle.std.proofs.lemmas.List.Elements.{All-cons, All-head, All-nil, All-tail}
+use Rattle.std.proofs.lemmas.Map.Made.{is_some-lookup}
 use Rattle.std.proofs.lemmas.Map.Views.{All-found}
 use Rattle.fdr_record.specs.declared.event.Event.{Event}
 use Rattle.fdr_file.specs.declared.trace.Block.{Block}
 use Rattle.stack_rebuild.specs.declared.thread_blocks.ThreadBlocks.{ThreadBlocks}
 use Rattle.stack_rebuild.specs.private.ByThread.{ArePlaces, AreThreads, Places, events_at, no_block, places_in, thread_of}
 use Rattle.stack_rebuild.specs.Histories.{events_of}
-use Rattle.stack_rebuild.proofs.Ascents.{IsIn, is_each_once, strict_from_sorted}
-use Rattle.stack_rebuild.proofs.Sums.{nat_cmp_same}
+use Rattle.stack_rebuild.proofs.Ascents.{is_each_once, strict_from_sorted}
+use Rattle.stack_rebuild.proofs.Items.{IsIn, any-in, any-mapped, in-any, mapped-any}
+use Rattle.stack_rebuild.proofs.Sums.{equal_from, nat_cmp_same}
 
 -- the events of a thread in one more block
 events_of-more : (thread : ℕ) (blocks : List Block) (block : Block)
@@ -94,54 +93,17 @@ places_more_by blocks k block places places' is within own added present =
 
 -- ---- the threads of a map
 
-equal_from : (o : Ordering) → is_eq o ≡ true → o ≡ Equal
-equal_from Less is = let never : false ≡ true = is in cc
-equal_from Equal is = refl
-equal_from Greater is = let never : false ≡ true = is in cc
-
-any-in : (thread : ℕ) (blocks : List Block) → list_any (λ (b : Block). nat_eq b.thread thread) blocks ≡ true → IsIn thread (map (λ (b : Block). b.thread) blocks)
-any-in thread [] any = let never : false ≡ true = any in absurd (let n : ⊥ = cc in n)
-any-in thread (block ∷ blocks) any = by_first (nat_eq block.thread thread) refl any (any-in thread blocks)
-  where
-    by_first : (b : Bool) → nat_eq block.thread thread ≡ b → (b || list_any (λ (c : Block). nat_eq c.thread thread) blocks) ≡ true
-        → (list_any (λ (c : Block). nat_eq c.thread thread) blocks ≡ true → IsIn thread (map (λ (c : Block). c.thread) blocks))
-        → IsIn thread (map (λ (c : Block). c.thread) (block ∷ blocks))
-    by_first true is all later = inl (sym (eqb-true block.thread thread is))
-    by_first false is all later = inr (later all)
-
-in-any : (thread : ℕ) (blocks : List Block) → IsIn thread (map (λ (b : Block). b.thread) blocks) → list_any (λ (b : Block). nat_eq b.thread thread) blocks ≡ true
-in-any thread [] is = absurd is
-in-any thread (block ∷ blocks) (inl is) =
-    ap (λ (b : Bool). b || list_any (λ (c : Block). nat_eq c.thread thread) blocks) (eq-eqb block.thread thread (sym is))
-in-any thread (block ∷ blocks) (inr is) =
-    ap (λ (b : Bool). nat_eq block.thread thread || b) (in-any thread blocks is) ∙ or_true (nat_eq block.thread thread)
-  where
-    or_true : (b : Bool) → (b || true) ≡ true
-    or_true true = refl
-    or_true false = refl
-
 abbrev Entries : Type 0
 Entries = List (ℕ × Vec ℕ)
 
 found-in : (thread : ℕ) (es : Entries) → is_some (lookup (is_at (nat_cmp thread)) es) ≡ true → IsIn thread (keys_of es)
-found-in thread [] found = let never : false ≡ true = found in absurd (let n : ⊥ = cc in n)
-found-in thread (e ∷ es) found = by_first (is_eq (nat_cmp thread e.0)) refl found (found-in thread es)
-  where
-    by_first : (b : Bool) → is_eq (nat_cmp thread e.0) ≡ b → is_some (cond b (Some e.1) (lookup (is_at (nat_cmp thread)) es)) ≡ true
-        → (is_some (lookup (is_at (nat_cmp thread)) es) ≡ true → IsIn thread (keys_of es)) → IsIn thread (keys_of (e ∷ es))
-    by_first true is all later = inl (nat_cmp-IsAntisymmetric thread e.0 (equal_from (nat_cmp thread e.0) is))
-    by_first false is all later = inr (later all)
+found-in thread es found =
+    let there = any-in (is_at (nat_cmp thread)) (keys_of es) (sym (is_some-lookup (is_at (nat_cmp thread)) es) ∙ found) in
+    subst (λ (n : ℕ). IsIn n (keys_of es)) (sym (nat_cmp-IsAntisymmetric thread there.0 (equal_from (nat_cmp thread there.0) there.2))) there.1
 
 in-found : (thread : ℕ) (es : Entries) → IsIn thread (keys_of es) → is_some (lookup (is_at (nat_cmp thread)) es) ≡ true
-in-found thread [] is = absurd is
-in-found thread (e ∷ es) (inl is) =
-    ap (λ (b : Bool). is_some (cond b (Some e.1) (lookup (is_at (nat_cmp thread)) es)))
-    (ap (λ (n : ℕ). is_eq (nat_cmp thread n)) (sym is) ∙ ap is_eq (nat_cmp_same thread))
-in-found thread (e ∷ es) (inr is) = by_first (is_eq (nat_cmp thread e.0)) (in-found thread es is)
-  where
-    by_first : (b : Bool) → is_some (lookup (is_at (nat_cmp thread)) es) ≡ true → is_some (cond b (Some e.1) (lookup (is_at (nat_cmp thread)) es)) ≡ true
-    by_first true later = refl
-    by_first false later = later
+in-found thread es is =
+    is_some-lookup (is_at (nat_cmp thread)) es ∙ in-any (is_at (nat_cmp thread)) (keys_of es) thread is (ap is_eq (nat_cmp_same thread))
 
 threads_keys : (es : Entries) → map (λ (own : ThreadBlocks). own.thread) (map thread_of es) ≡ keys_of es
 threads_keys [] = refl
@@ -163,7 +125,7 @@ threads_listed blocks places own ordered = record {
   are = threads_keys places.entries
       ∙ is_each_once nat_cmp nat_cmp_total nat_cmp-IsAntisymmetric (keys_of places.entries) (map (λ (b : Block). b.thread) blocks)
       (strict_from_sorted nat_cmp (keys_of places.entries) ordered)
-      (λ z is. any-in z blocks (sym (own.present z) ∙ in-found z places.entries is))
-      (λ z is. found-in z places.entries (own.present z ∙ in-any z blocks is));
+      (λ z is. any-mapped (λ (b : Block). b.thread) blocks z (sym (own.present z) ∙ in-found z places.entries is))
+      (λ z is. found-in z places.entries (own.present z ∙ mapped-any (λ (b : Block). b.thread) blocks z is));
   told = events_told blocks places places.entries own (All-found nat_cmp_total places ordered);
 }

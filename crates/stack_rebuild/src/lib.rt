@@ -25,5 +25,5 @@ pub use laws::{each_exit_ends_one_call, each_pair_is_a_whole_call};
 pub use matching::{pairs, thread_events};
 pub use scan::MOST_OPEN;
 pub use stack_row::{StackFault, StackRow};
-pub use stack_text::{StackForm, write_stack};
+pub use stack_text::{StackForm, StackText};
 pub use stacks_of::stacks;

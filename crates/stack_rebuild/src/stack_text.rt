@@ -1,19 +1,18 @@
 //! The text of a stack report.
 
-ghost use Rattle.std.specs.Prelude.{◌≡◌, ◌++◌, codes, map};
+ghost use Rattle.std.specs.Prelude.{◌≡◌, ◌++◌, ⊤, codes, map};
 ghost use Rattle.std.specs.List.{flat_map};
 ghost use Rattle.std.specs.Option.{option_map};
 ghost use Rattle.function_names.specs.Name.{name_text};
 ghost use Rattle.xray_io.specs.Piece.{piece_text, right_aligned};
 ghost use Rattle.xray_io.specs.Text.{AddsText};
-ghost use Rattle.xray_io.specs.Writes.{WritesText};
 ghost use Rattle.stack_rebuild.specs.Stacks.{told};
 ghost use Rattle.stack_rebuild.specs.StackText.{columns_text, head_text, path_text, row_text, stack_text, weight_text};
 
 use crate::stack_row::StackRow;
 use function_names::{add_callee_name, add_name};
 use xray_image::Image;
-use xray_io::{Piece, Sink, Text, WriteFault};
+use xray_io::{Piece, Printed, Sink, Text, WriteFault};
 
 /// The width of a column. A longer number is printed whole.
 const WIDTH: usize = 10;
@@ -29,39 +28,31 @@ pub enum StackForm {
     Flame,
 }
 
-/// Writes stacks: a line for each row, in the order of the rows.
+/// Stacks, which are printed as a line for each row, in the order of the rows. Numbers are in
+/// cycles.
 ///
-/// A path is the names of its functions, outermost first, joined by `;`. A function has its name in
-/// `image`, or `#` and its id if there is no name. Numbers are in cycles.
-///
-/// On `WriteFault` a prefix of the text was written, and the sink counted a fault.
-#[tactic(auto, using(xray_io::specs::Text::writes_failed))]
-pub fn write_stack<S: Sink>(
-    rows: &[StackRow],
-    image: Option<&Image>,
-    form: StackForm,
-    sink: &mut S,
-) -> Result<(), WriteFault>
-    ensures { WritesText S.written S.faults S.along sink.old sink.new
-        (stack_text form (option_map (λ image. image.now) image.entry) (map told rows.now)) result }
-{
-    let mut text = Text::new(sink);
-    add_stack(&mut text, rows, image, form)?;
-    text.done()
+/// A path is the names of its functions, outermost first, joined by `;`.
+#[derive(Clone, Copy, Debug)]
+pub struct StackText<'a> {
+    /// The rows.
+    pub rows: &'a [StackRow],
+    /// The image that names the functions of the paths. If it has no name for one, or if there is no
+    /// image, `#` and the id are printed.
+    pub image: Option<&'a Image>,
+    /// The form.
+    pub form: StackForm,
 }
 
-/// Adds the whole text.
-fn add_stack<S: Sink>(
-    text: &mut Text<S>,
-    rows: &[StackRow],
-    image: Option<&Image>,
-    form: StackForm,
-) -> Result<(), WriteFault>
-    ensures { AddsText S.written S.faults S.along text.old text.new
-        (stack_text form (option_map (λ image. image.now) image.entry) (map told rows.now)) result }
-{
-    text.bytes(head_line(form))?;
-    add_rows(text, rows, image, form)
+impl Printed for StackText<'_> {
+    ghost text = { λ stacks. stack_text stacks.form (option_map (λ image. image.now) stacks.image)
+        (map told stacks.rows.now) };
+
+    ghost ready = { λ _. ⊤ };
+
+    fn add_to<S: Sink>(&self, to: &mut Text<S>) -> Result<(), WriteFault> {
+        to.bytes(head_line(self.form))?;
+        add_rows(to, self.rows, self.image, self.form)
+    }
 }
 
 /// The head line.

@@ -15,13 +15,17 @@ use Rattle.step_sim.specs.Plays.{turns}
 use Rattle.step_sim.specs.Replay.{Cast, Moment, of_thread, thread_turn}
 use Rattle.step_sim.specs.private.Turns.{line_turns, AllPooledRunOut, PooledRunsOut}
 use Rattle.step_sim.specs.Pool.{Pooled, Stock, pooled_rules, pooled_step}
-use Rattle.step_sim.specs.private.Standing.{AllStandAt, StandAt}
+use Rattle.step_sim.specs.private.Standing.{AllPlay, AllStandAt, StandAt}
 use Rattle.step_sim.specs.private.Holding.{PoolHolds}
 use Rattle.step_sim.specs.private.Recording.{AllRecord, AllRecordAt, PoolAt, RecordAt, Recording, Records, histories, line_in, pooling_in, turn_in}
-use Rattle.step_sim.proofs.AllThreads.{stand_of, turns_moved}
+use Rattle.step_sim.proofs.AllThreads.{RunOut, found_at, run_count, stand_of, turns_moved}
 use Rattle.step_sim.proofs.OneRecorded.{holds_same}
 use Rattle.step_sim.proofs.Plays.{one_more_out}
 use Rattle.step_sim.proofs.PooledReplay.{line_moment, thread_moment}
+
+-- a replay with buffers is a replay
+pub all_play : (p : Patcher) (ts : List Traced) (pool : Pool) → AllRecord p ts pool → AllPlay p ts
+all_play p ts pool (r, pooled, at) = (r.cast, r.threads, r.limits, pooled.moment, at.stands)
 
 -- ---- each of them
 
@@ -161,6 +165,12 @@ pub run_records_on : (n : ℕ) (p : Patcher) (ts us : List Traced) (a b : Pool) 
 run_records_on n p ts us a b runs (r, pooled, at) =
     let here = runs r pooled at in
     (r, here.0, here.2)
+
+-- the thread that was read, after others have run out
+pub run_found : (i : ℕ) (p : Patcher) (ts us : List Traced) (t : Traced) (pool : Pool) → RunOut i p ts us → AllRecord p ts pool → i < length ts
+    → t ≡ get_or us i t → slice_get us i ≡ Some t
+run_found i p ts us t pool runs records within e =
+    found_at us i t (omega (arith, run_count i p ts us runs (all_play p ts pool records), within)) e
 
 -- the lines, and then all threads that run out
 pub records_then_out : (lines : List Turns) (p q : Patcher) (ts us vs : List Traced) (a b c : Pool) → length us ≡ length ts

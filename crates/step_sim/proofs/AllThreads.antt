@@ -17,7 +17,7 @@ use Rattle.step_sim.specs.Along.{IsAlong}
 use Rattle.step_sim.specs.Plays.{turns}
 use Rattle.step_sim.specs.Replay.{Cast, Moment, moment_rules, of_thread, patcher_turn, thread_turn}
 use Rattle.step_sim.specs.private.Turns.{AllRunOut, RunsOut, line_turns}
-use Rattle.step_sim.specs.private.Standing.{AllPlay, AllStandAt, IsPatcherAt, IsThreadAt, Play, Rests, StandAt}
+use Rattle.step_sim.specs.private.Standing.{AllPlay, AllStandAt, IsPatcherAt, IsThreadAt, Rests, StandAt}
 use Rattle.step_sim.proofs.Plays.{one_more_out}
 use Rattle.step_sim.proofs.ReplayAlong.{patcher_keeps, turns_keep}
 use Rattle.step_sim.proofs.TurnLemmas.{patcher_turns, turns_length, turns_other}
@@ -50,9 +50,6 @@ stand_of cast threads limits m p ts i t at found = record {
   words = subst (λ (n : ℕ). word_count cast.program n ≤ vec_len p.words) (sym (at.thread i t found).threads_are) at.words;
   thread = at.each i t found;
 }
-
-pub play_of : (p : Patcher) (ts : List Traced) (i : ℕ) (t : Traced) → AllPlay p ts → slice_get ts i ≡ Some t → Play p t
-play_of p ts i t (cast, threads, limits, m, at) found = (cast, m, stand_of cast threads limits m p ts i t at found)
 
 thread_again : (cast : Cast) (threads number : ℕ) (limits : Limits) (old new : Traced) → IsThreadOf cast.program number threads None limits old
     → IsSameThread old new → IsThreadOf cast.program number threads None limits new
@@ -162,10 +159,6 @@ pub lines_all : (lines : List Turns) (i : ℕ) (p q : Patcher) (ts us : List Tra
     → LeadAll lines p ts q us
 lines_all lines i p q ts us h leads = subst (λ (ls : List Turns). LeadAll ls p ts q us) (take_all i lines h) leads
 
-pub play_on : (lines : List Turns) (p q : Patcher) (ts us : List Traced) → LeadAll lines p ts q us → AllPlay p ts → AllPlay q us
-play_on lines p q ts us leads (cast, threads, limits, m, at) =
-    (cast, threads, limits, fold (line_turns cast) m lines, leads cast threads limits m at)
-
 -- there are as many as before
 pub same_count : (lines : List Turns) (p q : Patcher) (ts us : List Traced) → LeadAll lines p ts q us → AllPlay p ts → length us ≡ length ts
 same_count lines p q ts us leads (cast, threads, limits, m, at) = (leads cast threads limits m at).count ∙ sym at.count
@@ -198,11 +191,6 @@ one_runs_out n p ts us old new runs found same run cast threads limits m at =
     let e : out.0 ≡ turns count (thread_turn cast (n + 1)) here.0 =
     out.1.1 ∙ ap (λ (k : ℕ). turns count (thread_turn cast k) here.0) number in
     (out.0, one_more_out (moment_rules cast) n 1 m here.0 out.0 here.1 own, subst (λ (x : Moment). AllStandAt cast threads limits x p (slice_set us n new)) (sym e) all)
-
-pub run_on : (n : ℕ) (p : Patcher) (ts us : List Traced) → RunOut n p ts us → AllPlay p ts → AllPlay p us
-run_on n p ts us runs (cast, threads, limits, m, at) =
-    let here = runs cast threads limits m at in
-    (cast, threads, limits, here.0, here.2)
 
 pub run_count : (n : ℕ) (p : Patcher) (ts us : List Traced) → RunOut n p ts us → AllPlay p ts → length us ≡ length ts
 run_count n p ts us runs (cast, threads, limits, m, at) =

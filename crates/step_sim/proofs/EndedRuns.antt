@@ -143,21 +143,6 @@ all_runs r last p ts pool so accepted at rests =
 
 -- ---- lists by the numbers of threads
 
--- a list with one item per thread
-pub items_are : {X : Type 0} (xs : List X) (F : ℕ → X) (first n : ℕ) → length xs ≡ n
-    → ((j : ℕ) (x : X) → slice_get xs j ≡ Some x → x ≡ F (first + j)) → xs ≡ map F (numbers_from first n)
-items_are [] F first zero count is = refl
-items_are [] F first (suc n) count is = absurd (omega (arith, count))
-items_are (x ∷ xs) F first zero count is = absurd (omega (arith, count))
-items_are {X = X} (x ∷ xs) F first (suc n) count is =
-    let here : first + zero ≡ first = omega arith in
-    ap (λ (y : X). y ∷ xs) (is zero x refl ∙ ap F here)
-    ∙ ap (λ (ys : List X). F first ∷ ys)
-    (items_are xs F (first + 1) n (omega (arith, count)) (λ j y found. is (suc j) y found ∙ ap F (behind j)))
-  where
-    behind : (j : ℕ) → first + suc j ≡ first + 1 + j
-    behind j = omega arith
-
 -- what is read of each run of a list
 pub runs_map : {Y : Type 0} (f : ThreadRun → Y) (F : ℕ → Y) (runs : List ThreadRun) (first n : ℕ) → length runs ≡ n
     → ((j : ℕ) (run : ThreadRun) → slice_get runs j ≡ Some run → f run ≡ F (first + j)) → map f runs ≡ map F (numbers_from first n)

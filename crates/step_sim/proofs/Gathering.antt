@@ -83,20 +83,20 @@ flat_same F G first (suc n) same =
     ∙ ap (λ (xs : List Filled). G first ++ xs)
     (flat_same F G (first + 1) n (λ t low high. same t (omega (arith, low)) (omega (arith, high))))
 
--- a list with one number per thread
-pub counts_are : (ns : List ℕ) (F : ℕ → ℕ) (first n : ℕ) → length ns ≡ n → ((i k : ℕ) → slice_get ns i ≡ Some k → k ≡ F (first + i))
-    → ns ≡ map F (numbers_from first n)
-counts_are [] F first zero count is = refl
-counts_are [] F first (suc n) count is = absurd (omega (arith, count))
-counts_are (k ∷ ns) F first zero count is = absurd (omega (arith, count))
-counts_are (k ∷ ns) F first (suc n) count is =
+-- a list with one item per thread
+pub items_are : {X : Type 0} (xs : List X) (F : ℕ → X) (first n : ℕ) → length xs ≡ n
+    → ((j : ℕ) (x : X) → slice_get xs j ≡ Some x → x ≡ F (first + j)) → xs ≡ map F (numbers_from first n)
+items_are [] F first zero count is = refl
+items_are [] F first (suc n) count is = absurd (omega (arith, count))
+items_are (x ∷ xs) F first zero count is = absurd (omega (arith, count))
+items_are {X = X} (x ∷ xs) F first (suc n) count is =
     let here : first + zero ≡ first = omega arith in
-    ap (λ (j : ℕ). j ∷ ns) (is zero k refl ∙ ap F here)
-    ∙ ap (λ (js : List ℕ). F first ∷ js)
-    (counts_are ns F (first + 1) n (omega (arith, count)) (λ i j found. is (suc i) j found ∙ ap F (behind i)))
+    ap (λ (y : X). y ∷ xs) (is zero x refl ∙ ap F here)
+    ∙ ap (λ (ys : List X). F first ∷ ys)
+    (items_are xs F (first + 1) n (omega (arith, count)) (λ j y found. is (suc j) y found ∙ ap F (behind j)))
   where
-    behind : (i : ℕ) → first + suc i ≡ first + 1 + i
-    behind i = omega arith
+    behind : (j : ℕ) → first + suc j ≡ first + 1 + j
+    behind j = omega arith
 
 -- ---- the queue's buffers of one thread
 
@@ -310,14 +310,14 @@ all_gathered stamp threads events stock pool holds =
 pub sealed_are : (stamp : Stamp) (threads : ℕ) (events : Histories) (stock : Stock) (pool : Pool) → PoolHolds stamp threads events stock pool
     → pool.sealed.items ≡ map (λ t. length (segments_in stamp events t) - 1) (numbers_from 1 threads)
 sealed_are stamp threads events stock pool holds =
-    counts_are pool.sealed.items (λ t. length (segments_in stamp events t) - 1) 1 threads holds.sealed_count (λ i k found.
+    items_are pool.sealed.items (λ t. length (segments_in stamp events t) - 1) 1 threads holds.sealed_count (λ i k found.
     let flipped : i + 1 ≡ 1 + i = omega arith in
     holds.sealed i k found ∙ ap (λ (t : ℕ). length (segments_in stamp events t) - 1) flipped)
 
 pub first_are : (stamp : Stamp) (threads : ℕ) (events : Histories) (stock : Stock) (pool : Pool) → PoolHolds stamp threads events stock pool
     → pool.first.items ≡ map (λ t. segments_among t stock.taken) (numbers_from 1 threads)
 first_are stamp threads events stock pool holds =
-    counts_are pool.first.items (λ t. segments_among t stock.taken) 1 threads holds.first_count (λ i k found.
+    items_are pool.first.items (λ t. segments_among t stock.taken) 1 threads holds.first_count (λ i k found.
     let flipped : i + 1 ≡ 1 + i = omega arith in
     holds.first i k found ∙ ap (λ (t : ℕ). segments_among t stock.taken) flipped)
 

@@ -19,6 +19,7 @@ use Rattle.step_sim.specs.Replay.{Cast, Moment, of_thread, thread_turn, wanted_b
 use Rattle.step_sim.specs.private.Standing.{IsThreadAt, Play, Rests, StandAt}
 use Rattle.step_sim.proofs.Bounds.{marks_alike, run_alike}
 use Rattle.step_sim.proofs.OneThread.{KeepsLoads, ended_turn, none_wanted, rest_wants_none, same_again, same_then}
+use Rattle.step_sim.proofs.Plays.{turns_add, turns_still}
 use Rattle.step_sim.proofs.PooledReplay.{ended_still}
 use Rattle.step_sim.proofs.ReplayAlong.{turn_without}
 use Rattle.step_sim.proofs.TurnLemmas.{turn_other}
@@ -219,18 +220,6 @@ not_kept p old mid value (cast, m, at) same kept =
 
 -- ---- many turns
 
-turns_add : {X : Type 0} (a b : ℕ) (turn : X → X) (x : X) → turns (a + b) turn x ≡ turns b turn (turns a turn x)
-turns_add zero b turn x =
-    let e : zero + b ≡ b = omega arith in
-    ap (λ n. turns n turn x) e
-turns_add (suc a) b turn x =
-    let e : suc a + b ≡ suc (a + b) = omega arith in
-    ap (λ n. turns n turn x) e ∙ turns_add a b turn (turn x)
-
-turns_stop : {X : Type 0} (n : ℕ) (turn : X → X) (x : X) → turn x ≡ x → turns n turn x ≡ x
-turns_stop zero turn x e = refl
-turns_stop (suc n) turn x e = ap (turns n turn) e ∙ turns_stop n turn x e
-
 -- n turns of a thread lead it and the pool on
 abbrev pub LeadsRecord : ℕ → Patcher → Traced → Pool → Traced → Pool → Type 0
 LeadsRecord n p old pool new pool' =
@@ -247,6 +236,10 @@ record_more n p old mid new pool pool' pool'' same leads turn r pooled at =
     let here : Pooled = turns n (turn_in r old.thread) pooled in
     let next = subst (λ (k : ℕ). RecordAt r (turn_in r k here) p new pool'') same.thread (turn r here (leads r pooled at)) in
     subst (λ (x : Pooled). RecordAt r x p new pool'') (sym (turns_add n 1 (turn_in r old.thread) pooled)) next
+
+-- a replay with buffers is a replay
+pub plays : (p : Patcher) (t : Traced) (pool : Pool) → Records p t pool → Play p t
+plays p t pool (r, pooled, at) = (r.cast, pooled.moment, at.stands)
 
 pub records_on : (n : ℕ) (p : Patcher) (old new : Traced) (pool pool' : Pool) → LeadsRecord n p old pool new pool' → Records p old pool
     → Records p new pool'
@@ -267,7 +260,7 @@ record_early made count p old new pool pool' few same leads rests r pooled at =
     let whole : count ≡ made + (count - made) = omega (arith, few) in
     let all : turns count (turn_in r old.thread) pooled ≡ here =
     ap (λ n. turns n (turn_in r old.thread) pooled) whole ∙ turns_add made (count - made) (turn_in r old.thread) pooled
-    ∙ turns_stop (count - made) (turn_in r old.thread) here still in
+    ∙ turns_still (count - made) (turn_in r old.thread) here still in
     subst (λ (x : Pooled). RecordAt r x p new pool') (sym all) there
 
 pub record_out : (n : ℕ) (p : Patcher) (old new : Traced) (pool pool' : Pool) → IsSameThread old new → LeadsRecord n p old pool new pool'

@@ -180,10 +180,6 @@ one_more n p old mid new same leads turn cast m at =
     let next = subst (λ (k : ℕ). StandAt cast (thread_turn cast k here) p new) same.thread (turn cast here (leads cast m at)) in
     subst (λ (x : Moment). StandAt cast x p new) (sym (turns_more n (thread_turn cast old.thread) m)) next
 
--- a thread that plays at first plays on
-pub plays_on : (n : ℕ) (p : Patcher) (old new : Traced) → LeadsOn n p old new → Play p old → Play p new
-plays_on n p old new leads (cast, m, at) = (cast, turns n (thread_turn cast old.thread) m, leads cast m at)
-
 -- a thread that rests wants nothing
 pub rest_wants_none : (cast : Cast) (m : Moment) (p : Patcher) (t : Traced) → StandAt cast m p t → Rests t → wanted_by cast t.thread m ≡ None
 rest_wants_none cast m p t at rests = none_wanted cast m p t t at (same_again t) (λ passed loads is. is) rests

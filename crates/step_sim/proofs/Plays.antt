@@ -16,6 +16,15 @@ pub turns_still : {X : Type 0} (n : ℕ) (turn : X → X) (x : X) → turn x ≡
 turns_still zero turn x e = refl
 turns_still (suc n) turn x e = ap (turns n turn) e ∙ turns_still n turn x e
 
+-- turns one after the other
+pub turns_add : {X : Type 0} (a b : ℕ) (turn : X → X) (x : X) → turns (a + b) turn x ≡ turns b turn (turns a turn x)
+turns_add zero b turn x =
+    let e : zero + b ≡ b = omega arith in
+    ap (λ n. turns n turn x) e
+turns_add (suc a) b turn x =
+    let e : suc a + b ≡ suc (a + b) = omega arith in
+    ap (λ n. turns n turn x) e ∙ turns_add a b turn (turn x)
+
 -- a thread ends at the same state, however many turns are counted
 same_end : {X : Type 0} (rules : Rules X) → EndsStill rules → (thread a b : ℕ) (x : X)
     → rules.wanted thread (turns a (rules.thread thread) x) ≡ None → rules.wanted thread (turns b (rules.thread thread) x) ≡ None

@@ -527,15 +527,7 @@ pub turn_holds : (stamp : Stamp) (threads : ℕ) (events later : Histories) (sto
     (hand taken next_hand : Filled) (next : List Event) (was : WasOpened stamp events thread hand) → 0 < thread → thread ≤ threads
     → PoolHolds stamp threads events stock old → Cuts stamp events later thread was.whole was.last next
     → n ≡ length (segments_in stamp events thread) → taken ∷ [] ≡ take 1 (old.queue ++ hand ∷ [])
-    → next_hand ≡ record {
-      size = taken.size;
-      begun = true;
-      thread = thread;
-      serial = n;
-      wall = old.wall;
-      pid = old.pid;
-      events = next;
-    }
+    → next_hand ≡ buffer_of (record { size = taken.size; wall = old.wall; pid = old.pid }) thread (n, next)
     → new.hands.items ≡ slice_set old.hands.items (thread - 1) next_hand → new.queue ≡ drop 1 (old.queue ++ hand ∷ [])
     → new.sealed.items ≡ slice_set old.sealed.items (thread - 1) n → new.first.items ≡ lost_behind taken old.first.items
     → new.wall ≡ old.wall → new.pid ≡ old.pid

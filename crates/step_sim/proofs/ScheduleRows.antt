@@ -1,5 +1,5 @@
 -- Small texts worked by hand: the schedules that they are, and why others aren't schedules.
-use Rattle.std.proofs.Common.{◌≡◌, ℕ, List, [], ◌∷◌, ◌++◌, refl}
+use Rattle.std.proofs.Common.{◌≡◌, ℕ, List, [], ◌∷◌, ◌++◌, map, refl, replicate}
 use Rattle.std.specs.Prelude.{codes, Ok, Err}
 use Rattle.step_sim.specs.declared.fault.ScheduleFault.TheVariants as faults
 use Rattle.step_sim.specs.declared.turns.Turns.TheVariants.{Thread, Patcher}
@@ -31,23 +31,10 @@ last_thread = refl
 
 -- ---- lines that aren't those of a schedule
 
-no_steps : schedule_of 1 (codes "p 0") ≡ Err (faults.Syntax 1)
-no_steps = refl
-
-word_missing : schedule_of 1 (codes "t 1") ≡ Err (faults.Syntax 1)
-word_missing = refl
-
-word_too_many : schedule_of 1 (codes "p 1 1") ≡ Err (faults.Syntax 1)
-word_too_many = refl
-
-unknown_word : schedule_of 1 (codes "tt 1 1") ≡ Err (faults.Syntax 1)
-unknown_word = refl
-
-signed : schedule_of 1 (codes "p +1") ≡ Err (faults.Syntax 1)
-signed = refl
-
-too_large : schedule_of 1 (codes "p 4294967296") ≡ Err (faults.Syntax 1)
-too_large = refl
+-- no steps, a word missing, a word too many, an unknown word, a sign, a number that is too large
+no_schedules : map (schedule_of 1) (codes "p 0" ∷ codes "t 1" ∷ codes "p 1 1" ∷ codes "tt 1 1" ∷ codes "p +1" ∷ codes "p 4294967296" ∷ [])
+    ≡ replicate 6 (Err (faults.Syntax 1))
+no_schedules = refl
 
 -- the byte 127 outside a comment
 bad_byte : schedule_of 1 (text (codes "# none" ∷ (codes "p 1 " ++ 127 ∷ []) ∷ [])) ≡ Err (faults.Syntax 2)
@@ -58,12 +45,9 @@ bad_byte = refl
 thread_above : schedule_of 1 (codes "t 2 1") ≡ Err (faults.Thread 1)
 thread_above = refl
 
-thread_zero : schedule_of 16 (codes "t 0 1") ≡ Err (faults.Thread 1)
-thread_zero = refl
-
 -- a word that isn't a number names no thread
-thread_word : schedule_of 16 (codes "t x 1") ≡ Err (faults.Thread 1)
-thread_word = refl
+no_threads : map (schedule_of 16) (codes "t 0 1" ∷ codes "t x 1" ∷ []) ≡ replicate 2 (Err (faults.Thread 1))
+no_threads = refl
 
 -- ---- the answer is the first refusal
 

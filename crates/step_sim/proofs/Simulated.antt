@@ -32,8 +32,8 @@ use Rattle.step_sim.specs.Schedules.{AreTurnsOf}
 use Rattle.step_sim.specs.private.Standing.{Rests}
 use Rattle.step_sim.specs.private.Holding.{IsHand, opened, segments_in, unbegun}
 use Rattle.step_sim.specs.private.Recording.{AllRecordAt, Recording, histories, pooling_in}
-use Rattle.step_sim.proofs.EndedRuns.{AllRuns, EndsSo, all_runs, enumerated_buffers, enumerated_map, items_are, marks_in, of_thread_at, runs_map}
-use Rattle.step_sim.proofs.Gathering.{all_gathered, first_are, sealed_are}
+use Rattle.step_sim.proofs.EndedRuns.{AllRuns, EndsSo, all_runs, enumerated_buffers, enumerated_map, marks_in, of_thread_at, runs_map}
+use Rattle.step_sim.proofs.Gathering.{all_gathered, first_are, items_are, sealed_are}
 use Rattle.step_sim.proofs.PoolLemmas.{AllSaid, SomeSaid, nonempty_count}
 use Rattle.step_sim.proofs.Recordings.{Ended, recording}
 use Rattle.step_sim.proofs.LostRuns.{replay_loses}

@@ -5,19 +5,11 @@ use Rattle.patch_script.specs.CodeAt.{code_at}
 use Rattle.patch_script.specs.Micros.{total_of}
 use Rattle.step_sim.specs.Plays.{turns}
 use Rattle.step_sim.specs.Replay.{Cast, Moment, of_thread, patcher_turn, thread_turn, wanted_by}
-use Rattle.step_sim.proofs.Plays.{turns_still}
+use Rattle.step_sim.proofs.Plays.{turns_add, turns_still}
 use Rattle.step_sim.proofs.ReplayAlong.{set_other, set_same, thread_stays, turn_with, turn_without}
 
 abbrev pub Turn : Type 0
 Turn = Moment → Moment
-
-pub turns_add : (a b : ℕ) (turn : Turn) (m : Moment) → turns (a + b) turn m ≡ turns b turn (turns a turn m)
-turns_add zero b turn m =
-    let e : zero + b ≡ b = omega arith in
-    ap (λ n. turns n turn m) e
-turns_add (suc a) b turn m =
-    let e : suc a + b ≡ suc (a + b) = omega arith in
-    ap (λ n. turns n turn m) e ∙ turns_add a b turn (turn m)
 
 pub turns_more : (n : ℕ) (turn : Turn) (m : Moment) → turns (n + 1) turn m ≡ turn (turns n turn m)
 turns_more n turn m = turns_add n 1 turn m

@@ -8,7 +8,7 @@ ghost use Rattle.step_sim.specs.Pool.{Pooled};
 ghost use Rattle.step_sim.specs.private.Turns.{AllPooledRunOut};
 ghost use Rattle.step_sim.specs.private.Recording.{AllRecord, AllRecordAt, Recording, line_in, pooling_in};
 ghost use Rattle.step_sim.specs.Schedules.{AreTurnsOf};
-ghost use Rattle.step_sim.specs.private.Standing.{AllPlay, AllStandAt, Rests};
+ghost use Rattle.step_sim.specs.private.Standing.{AllStandAt, Rests};
 
 use crate::patcher::Patcher;
 use crate::pool::Pool;
@@ -38,7 +38,6 @@ pub struct SimEnd<'a> {
 
 /// Takes the lines of a schedule, and after them runs each thread to its end.
 pub(crate) fn play(cpus: &mut Vec<Cpu>, patcher: &mut Patcher, pool: &mut Pool, lines: &[Turns])
-    requires play { AllPlay patcher.old cpus.old.items }
     requires records { AllRecord patcher.old cpus.old.items pool.old }
     requires lines { All (AreTurnsOf (length cpus.old.items)) lines.now }
     ensures at { (cast : Cast) (threads : ℕ) (limits : Limits) (moment : Moment)
@@ -61,7 +60,6 @@ pub(crate) fn play(cpus: &mut Vec<Cpu>, patcher: &mut Patcher, pool: &mut Pool, 
 
 /// Takes the turns of a line.
 fn take_turns(cpus: &mut Vec<Cpu>, patcher: &mut Patcher, pool: &mut Pool, turns: Turns)
-    requires play { AllPlay patcher.old cpus.old.items }
     requires records { AllRecord patcher.old cpus.old.items pool.old }
     requires line { AreTurnsOf (length cpus.old.items) turns }
     ensures at { (cast : Cast) (threads : ℕ) (limits : Limits) (moment : Moment)
@@ -84,7 +82,6 @@ fn take_turns(cpus: &mut Vec<Cpu>, patcher: &mut Patcher, pool: &mut Pool, turns
 
 /// Runs each thread to its end, thread 1 first.
 fn run_all_out(cpus: &mut Vec<Cpu>, patcher: &Patcher, pool: &mut Pool)
-    requires play { AllPlay patcher.now cpus.old.items }
     requires records { AllRecord patcher.now cpus.old.items pool.old }
     ensures at { (cast : Cast) (threads : ℕ) (limits : Limits) (moment : Moment)
         → AllStandAt cast threads limits moment patcher.now cpus.old.items

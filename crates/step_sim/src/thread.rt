@@ -10,7 +10,7 @@ ghost use Rattle.machine_step.specs.Traced.{HasLoaded, IsGate, IsSameThread, loa
 ghost use Rattle.step_sim.specs.Plays.{turns};
 ghost use Rattle.step_sim.specs.Replay.{Cast, Moment, thread_turn};
 ghost use Rattle.step_sim.specs.private.Turns.{RunsOut};
-ghost use Rattle.step_sim.specs.private.Standing.{HasBegun, Play, Rests, StandAt};
+ghost use Rattle.step_sim.specs.private.Standing.{HasBegun, Rests, StandAt};
 ghost use Rattle.step_sim.specs.Pool.{Pooled};
 ghost use Rattle.step_sim.specs.private.Turns.{PooledRunsOut};
 ghost use Rattle.step_sim.specs.private.Recording.{RecordAt, Recording, Records, pooling_in, turn_in};
@@ -79,7 +79,6 @@ fn next_word(cpu: &mut Cpu) -> Option<u32>
 /// A turn of a thread: its next load. Answers whether there was one. A thread that has ended makes
 /// none.
 fn make_load(cpu: &mut Cpu, patcher: &Patcher, pool: &mut Pool) -> bool
-    requires play { Play patcher.now cpu.old }
     requires records { Records patcher.now cpu.old pool.old }
     ensures thread { IsSameThread cpu.old cpu.new }
     ensures at { (cast : Cast) (moment : Moment) → StandAt cast moment patcher.now cpu.old
@@ -104,7 +103,6 @@ fn make_load(cpu: &mut Cpu, patcher: &Patcher, pool: &mut Pool) -> bool
 
 /// Makes this many turns of a thread, or all turns up to its end if there are fewer.
 pub(crate) fn make_loads(cpu: &mut Cpu, patcher: &Patcher, pool: &mut Pool, count: u32)
-    requires play { Play patcher.now cpu.old }
     requires records { Records patcher.now cpu.old pool.old }
     ensures thread { IsSameThread cpu.old cpu.new }
     ensures at { (cast : Cast) (moment : Moment) → StandAt cast moment patcher.now cpu.old
@@ -121,7 +119,6 @@ pub(crate) fn make_loads(cpu: &mut Cpu, patcher: &Patcher, pool: &mut Pool, coun
 
 /// Makes all turns of a thread up to its end.
 pub(crate) fn run_out(cpu: &mut Cpu, patcher: &Patcher, pool: &mut Pool)
-    requires play { Play patcher.now cpu.old }
     requires records { Records patcher.now cpu.old pool.old }
     ensures thread { IsSameThread cpu.old cpu.new }
     ensures at { (cast : Cast) (moment : Moment) → StandAt cast moment patcher.now cpu.old

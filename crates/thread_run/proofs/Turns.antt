@@ -10,14 +10,14 @@ use Rattle.machine_step.specs.declared.want.Want.{Want}
 use Rattle.machine_step.specs.declared.want.Want.TheVariants.{Gate, Load as Loads, Done}
 use Rattle.machine_step.specs.Events.{recorded}
 use Rattle.machine_step.specs.PlainStep.{Passing}
-use Rattle.machine_step.specs.Traced.{IsSameThread, MarksAdded, Traced, loads_left}
+use Rattle.machine_step.specs.Traced.{IsLoadable, IsSameThread, MarksAdded, Traced, loads_left}
 use Rattle.sled_rule.specs.declared.seats.WorkSeat.{WorkSeat}
 use Rattle.sled_rule.specs.declared.views.Load.{Load as SeatLoad}
 use Rattle.sled_rule.specs.Seats.{work_view}
 use Rattle.thread_run.specs.declared.worker.Worker.{Worker}
 use Rattle.thread_run.specs.Following.{is_held_by}
 use Rattle.thread_run.specs.private.Steps.{CountIsBehind, HasTaken, IsBehind}
-use Rattle.thread_run.specs.Workers.{HasMade, IsSameWorker, cpu_of, loads_of, seat_of}
+use Rattle.thread_run.specs.Workers.{HasMade, IsGoing, IsSameWorker, cpu_of, loads_of, seat_of}
 
 -- ---- the same worker
 
@@ -72,6 +72,26 @@ made_none a b same = record { made = []; loads = same ∙ sym (append-nil (loads
 pub made_one : {R : Type 0} (held : Bool) (a b : Worker R) (load : SeatLoad) → loads_of b ≡ loads_of a ++ load ∷ []
     → is_held_by (cpu_of a).program (cpu_of a).thread (load ∷ []) ≡ held → HasMade held a b
 made_one held a b load loads is = record { made = load ∷ []; loads = loads; held_is = is }
+
+-- the worker goes on, no load has held it since the first, and what it wants is known
+pub record GoesOn {R : Type 0} (stands : R → List Event → Type 0) (follows : R → R → Type 0) (first worker : Worker R) (next : Want) : Type 0 where
+  pub going : IsGoing stands worker
+  pub same : IsSameWorker follows first worker
+  pub made : HasMade false first worker
+  pub want : next ≡ (cpu_of worker).want
+  pub there : IsLoadable (cpu_of worker) (cpu_of worker).want
+
+pub goes_on : {R : Type 0} (stands : R → List Event → Type 0) (follows : R → R → Type 0)
+    → ((x y z : R) → follows x y → follows y z → follows x z) → (first mid new : Worker R) (old_want want : Want)
+    → GoesOn stands follows first mid old_want → IsSameWorker follows mid new → HasMade false mid new → IsGoing stands new
+    → want ≡ (cpu_of new).want → IsLoadable (cpu_of new) (cpu_of new).want → GoesOn stands follows first new want
+goes_on stands follows along first mid new old_want want kept same made going wants there = record {
+  going = going;
+  same = worker_then follows along first mid new kept.same same;
+  made = made_then false first mid new kept.same.thread kept.made made;
+  want = wants;
+  there = there;
+}
 
 -- ---- where a thread is
 

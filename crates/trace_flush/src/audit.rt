@@ -7,48 +7,35 @@ ghost use Rattle.machine_step.specs.Traced.{IsDone};
 ghost use Rattle.trace_flush.specs.Audit.{accounts, audit_text, buffers_text, limits_text, recycled_line, setup_lines, stamps_text};
 ghost use Rattle.trace_flush.specs.private.Parts.{first_text, rest_of, said_of, segments_text, start_text};
 ghost use Rattle.xray_io.specs.Text.{AddsText};
-ghost use Rattle.xray_io.specs.Writes.{WritesText};
 
 use crate::line::AuditLine;
 use handler_word::Marks;
 use machine_step::{Cpu, Limits, Setup, add_marks, end_name};
-use xray_io::{Piece, Sink, Text, WriteFault};
+use xray_io::{Piece, Printed, Sink, Text, WriteFault};
 
-/// Writes the audit of a run whose threads have all ended: what it was made with, two lines for
-/// each thread in order, and how many segments were recycled.
-///
-/// On `WriteFault` a prefix of the text was written, and the sink counted a fault.
-#[tactic(auto, using(xray_io::specs::Text::writes_failed))]
-pub fn write_audit<S: Sink>(
-    setup: &Setup,
-    lines: &[AuditLine],
-    cpus: &[Cpu],
-    sink: &mut S,
-) -> Result<(), WriteFault>
-    requires count { length lines.now ≡ length cpus.now }
-    requires done { All (λ cpu. IsDone cpu.want) cpus.now }
-    ensures { WritesText S.written S.faults S.along sink.old sink.new
-        (audit_text setup.now (accounts lines.now cpus.now)) result }
-{
-    let mut text = Text::new(sink);
-    add_audit(&mut text, setup, lines, cpus)?;
-    text.done()
+/// The audit of a run whose threads have all ended: what it was made with, two lines for each
+/// thread in order, and how many segments were recycled.
+#[derive(Clone, Copy)]
+pub struct Audit<'a, 'i> {
+    /// What the run was made with.
+    pub setup: &'a Setup,
+    /// What is said of each thread.
+    pub lines: &'a [AuditLine],
+    /// The threads, as many as lines and in the same order.
+    pub cpus: &'a [Cpu<'i>],
 }
 
-/// Adds the whole audit.
-fn add_audit<S: Sink>(
-    text: &mut Text<S>,
-    setup: &Setup,
-    lines: &[AuditLine],
-    cpus: &[Cpu],
-) -> Result<(), WriteFault>
-    requires { length lines.now ≡ length cpus.now }
-    ensures { AddsText S.written S.faults S.along text.old text.new
-        (audit_text setup.now (accounts lines.now cpus.now)) result }
-{
-    add_setup(text, setup)?;
-    add_threads(text, Detail::Audit, lines, cpus)?;
-    add_recycled(text, lines)
+impl Printed for Audit<'_, '_> {
+    ghost text = { λ audit. audit_text audit.setup.now (accounts audit.lines.now audit.cpus.now) };
+
+    ghost ready = { λ audit. (length audit.lines.now ≡ length audit.cpus.now)
+        × All (λ cpu. IsDone cpu.want) audit.cpus.now };
+
+    fn add_to<S: Sink>(&self, to: &mut Text<S>) -> Result<(), WriteFault> {
+        add_setup(to, self.setup)?;
+        add_threads(to, Detail::Audit, self.lines, self.cpus)?;
+        add_recycled(to, self.lines)
+    }
 }
 
 /// Adds the line of the format and the line of the setup.

@@ -10,7 +10,7 @@ mod line;
 mod order;
 mod summary;
 
-pub use audit::write_audit;
+pub use audit::Audit;
 pub use header::trace_header;
 pub use laws::{a_run_is_audited, a_run_is_traced, audit_tells_its_run};
 pub use line::{AuditLine, add_audit_lines};

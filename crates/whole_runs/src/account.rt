@@ -1,24 +1,15 @@
 //! `account`: its options, the names of functions, and each refusal.
 use crate::asm::FIBONACCI;
 use crate::runs::{
-    IMAGE, assert_left, assert_length, assert_made, assert_no_fault, assert_stopped, run_words,
+    BAD_LINE, IMAGE, assert_left, assert_length, assert_made, assert_no_fault, assert_stopped,
+    run_line,
 };
 use crate::sim::TRACED;
 use crate::trace_bytes::{
-    CPU, ENTRY, EXIT, EXTENTS_72, EXTENTS_80, HEADER, ONE_CALL, ONE_EXIT, PREAMBLE, RECURSION,
-    TWO_FUNCTIONS, file,
+    CPU, ENTRY, EXIT, EXTENTS_72, EXTENTS_80, HEADER, ONE_CALL, ONE_EXIT, PREAMBLE, Printed,
+    RECURSION, TWO_FUNCTIONS, assert_printed, trace_desk,
 };
-use std::alloc::Global;
 use std::test::Fail;
-use xray_io::MemDesk;
-
-/// A desk that holds a trace as `t` and an image as `i`.
-fn trace_desk(alloc: Global, trace: &[u8], image: &[u8]) -> Result<MemDesk, Fail> {
-    let mut desk = MemDesk::new(alloc, Vec::new(alloc));
-    desk.put("t", trace)?;
-    desk.put("i", image)?;
-    Ok(desk)
-}
 
 const TEXT_OF_NONE: &str =
     "Functions with latencies: 0\n    funcid      count        min        med        \
@@ -48,89 +39,54 @@ const CSV_OF_THE_SLOWEST: &str = "funcid,count,min,med,90p,99p,max,sum,entries,e
     1,1,5,5,5,5,5,5,0,0,#1\n";
 
 /// The words of an account with the names of an image, as a table of values.
-const AS_CSV: [&str; 5] = ["account", "t", "i", "--format", "csv"];
+const AS_CSV: &str = "account t i --format csv";
 
 /// The words of an account of the function that took longest.
-const SLOWEST: [&str; 7] = [
-    "account",
-    "t",
-    "--top",
-    "1",
-    "--sort=99p",
-    "--sortorder=desc",
-    "--format=csv",
-];
+const SLOWEST: &str = "account t --top 1 --sort=99p --sortorder=desc --format=csv";
 
 /// The parts of traces, words, and what is printed.
-const PRINTED: [(&[&[u8]], &[&str], &str); 7] = [
-    (&[HEADER], &["account", "t"], TEXT_OF_NONE),
-    (&ONE_CALL, &["account", "t", "i"], TEXT_OF_ONE_CALL),
-    (
-        &ONE_EXIT,
-        &["account", "t", "i", "--format", "csv"],
-        CSV_OF_ONE_EXIT,
-    ),
-    (
-        &RECURSION,
-        &["account", "--format=csv", "t"],
-        CSV_OF_RECURSION,
-    ),
+const PRINTED: [Printed; 7] = [
+    (&[HEADER], "account t", TEXT_OF_NONE),
+    (&ONE_CALL, "account t i", TEXT_OF_ONE_CALL),
+    (&ONE_EXIT, "account t i --format csv", CSV_OF_ONE_EXIT),
+    (&RECURSION, "account --format=csv t", CSV_OF_RECURSION),
     (
         &TWO_FUNCTIONS,
-        &["account", "t", "i", "--format", "csv", "--sort", "funcid"],
+        "account t i --format csv --sort funcid",
         CSV_OF_ONE_NAME,
     ),
-    (&TWO_FUNCTIONS, &SLOWEST, CSV_OF_THE_SLOWEST),
-    (
-        &TWO_FUNCTIONS,
-        &["account", "t", "i", "--top", "0"],
-        TEXT_OF_NO_ROWS,
-    ),
+    (&TWO_FUNCTIONS, SLOWEST, CSV_OF_THE_SLOWEST),
+    (&TWO_FUNCTIONS, "account t i --top 0", TEXT_OF_NO_ROWS),
 ];
 
 #[test]
 fn an_account_is_printed_as_its_words_ask(rt: HostRuntime) -> Result<(), Fail> {
-    for (parts, words, text) in &PRINTED {
-        let trace = file(rt.alloc(), parts)?;
-        let mut desk = trace_desk(rt.alloc(), &trace, &IMAGE)?;
-        let run = run_words(&rt, words, &mut desk, &[], &[])?;
-        assert_left(&rt, &run, 0, text, "");
-    }
-    Ok(())
+    assert_printed(&rt, &PRINTED)
 }
 
 const CSV_OF_FIBONACCI: &str = "funcid,count,min,med,90p,99p,max,sum,entries,exits,function\n\
     1,87564,3,7,142,1719,213128,11532192,0,0,fib\n";
 
 /// The words of runs that make an image and two traces of it.
-const MAKING: [&[&str]; 3] = [
-    &["asm", "x", "i"],
-    &["sim", "i", "s", "c", "t", "a", "--threads", "4"],
-    &[
-        "sim",
-        "i",
-        "s",
-        "c",
-        "u",
-        "b",
-        "--threads=4",
-        "--buffer-max=64",
-    ],
+const MAKING: [&str; 3] = [
+    "asm x i",
+    "sim i s c t a --threads 4",
+    "sim i s c u b --threads=4 --buffer-max=64",
 ];
 
 /// Four threads make 43,782 passings each. With buffers for all of their events, each call is a pair.
 #[test]
 fn four_threads_of_a_recursive_function_are_accounted(rt: HostRuntime) -> Result<(), Fail> {
-    let mut desk = trace_desk(rt.alloc(), b"", b"")?;
+    let mut desk = trace_desk(rt.alloc(), &[], b"")?;
     desk.put("x", FIBONACCI.as_bytes())?;
     desk.put("s", TRACED.as_bytes())?;
     desk.put("c", b"")?;
     for words in &MAKING {
-        assert_no_fault(&rt, &run_words(&rt, words, &mut desk, &[], &[])?);
+        assert_no_fault(&rt, &run_line(&rt, words, &mut desk)?);
     }
     assert_length(&rt, desk.get("t"), 1_408_096);
     assert_length(&rt, desk.get("u"), 1_014_496);
-    let run = run_words(&rt, &AS_CSV, &mut desk, &[], &[])?;
+    let run = run_line(&rt, AS_CSV, &mut desk)?;
     assert_left(&rt, &run, 0, CSV_OF_FIBONACCI, "");
     Ok(())
 }
@@ -142,13 +98,13 @@ const LONGEST_NAME: usize = 255;
 fn the_longest_name_is_printed_whole(rt: HostRuntime) -> Result<(), Fail> {
     let alloc = rt.alloc();
     let name = "n".repeat(alloc, LONGEST_NAME)?;
-    let mut desk = trace_desk(alloc, &file(alloc, &ONE_CALL)?, b"")?;
+    let mut desk = trace_desk(alloc, &ONE_CALL, b"")?;
     desk.put(
         "x",
         format!(in alloc; "fn {name} always\nret\n")?.as_bytes(),
     )?;
     assert_made(&rt, &mut desk)?;
-    let run = run_words(&rt, &AS_CSV, &mut desk, &[], &[])?;
+    let run = run_line(&rt, AS_CSV, &mut desk)?;
     let text = format!(in alloc; "{CSV_HEAD}1,1,2,2,2,2,2,2,0,0,{name}\n")?;
     assert_left(&rt, &run, 0, &text, "");
     Ok(())
@@ -199,37 +155,31 @@ const REFUSALS: [(&[&[u8]], &str); 11] = [
 #[test]
 fn what_is_no_trace_leaves_nothing_on_out(rt: HostRuntime) -> Result<(), Fail> {
     for (parts, line) in &REFUSALS {
-        let trace = file(rt.alloc(), parts)?;
-        let mut desk = trace_desk(rt.alloc(), &trace, &IMAGE)?;
-        let run = run_words(&rt, &["account", "t", "i"], &mut desk, &[], &[])?;
+        let mut desk = trace_desk(rt.alloc(), parts, &IMAGE)?;
+        let run = run_line(&rt, "account t i", &mut desk)?;
         assert_stopped(&rt, &run, 2, line);
     }
     Ok(())
 }
 
 /// Words, the status, and the line on err.
-const ORDER: [(&[&str], u8, &str); 7] = [
-    (&["account", "t", "i"], 2, "xray: i: image Short\n"),
-    (&["account", "i", "i"], 2, "xray: i: trace Version 21080\n"),
-    (&["account", "t", "m"], 3, "xray: m: read fault\n"),
-    (&["account", "m", "i"], 3, "xray: m: read fault\n"),
-    (&["account", "t", "i", "t"], 1, "xray: bad command line\n"),
-    (&["account"], 1, "xray: bad command line\n"),
-    (
-        &["account", "t", "--sort", "name"],
-        1,
-        "xray: bad command line\n",
-    ),
+const ORDER: [(&str, u8, &str); 7] = [
+    ("account t i", 2, "xray: i: image Short\n"),
+    ("account i i", 2, "xray: i: trace Version 21080\n"),
+    ("account t m", 3, "xray: m: read fault\n"),
+    ("account m i", 3, "xray: m: read fault\n"),
+    ("account t i t", 1, BAD_LINE),
+    ("account", 1, BAD_LINE),
+    ("account t --sort name", 1, BAD_LINE),
 ];
 
 #[test]
 fn an_image_is_refused_after_the_trace_and_a_bad_line_before_it(
     rt: HostRuntime,
 ) -> Result<(), Fail> {
-    let trace = file(rt.alloc(), &ONE_CALL)?;
     for (words, status, line) in &ORDER {
-        let mut desk = trace_desk(rt.alloc(), &trace, &IMAGE[..63])?;
-        let run = run_words(&rt, words, &mut desk, &[], &[])?;
+        let mut desk = trace_desk(rt.alloc(), &ONE_CALL, &IMAGE[..63])?;
+        let run = run_line(&rt, words, &mut desk)?;
         assert_stopped(&rt, &run, *status, line);
     }
     Ok(())

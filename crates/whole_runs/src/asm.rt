@@ -1,9 +1,8 @@
 //! `asm`, and what the other commands do with the images that it writes.
 use crate::checks::check_same_at;
-use crate::plain::SLED_MAP;
 use crate::runs::{
-    IMAGE, SCHEDULE, SCRIPT, STATE, assert_held, assert_left, assert_length, assert_stopped,
-    run_words,
+    End, IMAGE, MOVED, SCHEDULE, SCRIPT, STARTED, STATE, assert_held, assert_left, assert_length,
+    assert_stopped, run_line, text_of_end,
 };
 use std::alloc::Global;
 use std::process::Abort;
@@ -76,65 +75,74 @@ const FIBONACCI_CODE: &[u8] = &[
     0xC3, 0x2E, 0x66, 0x0F, 0x1F, 0x84, 0x00, 0x00, 0x02, 0x00, 0x00, //
 ];
 
-/// What thread 1 leaves of an odd exit, except its marks.
-const ODD_EXIT_END: &str = "thread 1 returned instructions 2 passings 2\n\
-    rax=0 rcx=0 rdx=0 rbx=0 rbp=0 rsi=0 rdi=1 r8=0 r9=0 r11=0 r12=0 r13=0 r14=0 r15=0 zf=0\n\
-    output 00\n";
+/// How thread 1 ends in the image of a straight line.
+const STRAIGHT_LINE_END: End = ("returned", 3, 2, MOVED, "41");
 
-/// What thread 1 leaves of the call, except its marks.
-pub const CALL_END: &str = "thread 1 returned instructions 3 passings 4\n\
-    rax=0 rcx=0 rdx=0 rbx=0 rbp=0 rsi=0 rdi=1 r8=0 r9=0 r11=0 r12=0 r13=0 r14=0 r15=0 zf=0\n\
-    output -\n";
+/// How it ends in the image with an exit sled at an odd place.
+const ODD_EXIT_END: End = ("returned", 2, 2, STARTED, "00");
 
-/// What thread 1 leaves of the tail jump, except its marks.
-pub const TAIL_JUMP_END: &str = "thread 1 returned instructions 2 passings 4\n\
-    rax=0 rcx=0 rdx=0 rbx=0 rbp=0 rsi=0 rdi=1 r8=0 r9=0 r11=0 r12=0 r13=0 r14=0 r15=0 zf=0\n\
-    output -\n";
+/// How it ends in the image of a call.
+pub const CALL_END: End = ("returned", 3, 4, STARTED, "-");
 
-const FIBONACCI_END: &str = "thread 1 returned instructions 213132 passings 43782\n\
-    rax=1a6d rcx=0 rdx=0 rbx=0 rbp=0 rsi=0 rdi=0 r8=0 r9=0 r11=0 r12=0 r13=0 r14=0 r15=0 zf=1\n\
-    output -\n";
+/// How it ends in the image of a tail jump.
+pub const TAIL_JUMP_END: End = ("returned", 2, 4, STARTED, "-");
 
-/// The sled maps.
-const ODD_EXIT_MAP: &str = "---\n\
-    - { id: 1, address: 0x0000000000001000, function: 0x0000000000001000, kind: function-enter, \
-    always-instrument: true, function-name: 'main' }\n\
-    - { id: 1, address: 0x000000000000100e, function: 0x0000000000001000, kind: function-exit, \
-    always-instrument: true, function-name: 'main' }\n\
-    ...\n";
+/// How it ends in the image of the recursive function.
+const FIBONACCI_END: End = (
+    "returned",
+    213_132,
+    43_782,
+    "rax=1a6d rcx=0 rdx=0 rbx=0 rbp=0 rsi=0 rdi=0 r8=0 r9=0 r11=0 r12=0 r13=0 r14=0 r15=0 zf=1",
+    "-",
+);
 
-const CALL_MAP: &str = "---\n\
-    - { id: 1, address: 0x0000000000001000, function: 0x0000000000001000, kind: function-enter, \
-    always-instrument: true, function-name: 'main' }\n\
-    - { id: 1, address: 0x0000000000001010, function: 0x0000000000001000, kind: function-exit, \
-    always-instrument: true, function-name: 'main' }\n\
-    - { id: 2, address: 0x000000000000101c, function: 0x000000000000101c, kind: function-enter, \
-    always-instrument: true, function-name: 'f' }\n\
-    - { id: 2, address: 0x0000000000001028, function: 0x000000000000101c, kind: function-exit, \
-    always-instrument: true, function-name: 'f' }\n\
-    ...\n";
+/// A sled of a map: its id, its address, that of its function, its kind and the function's name.
+type Mapped = (u32, u32, u32, &'static str, &'static str);
 
-const TAIL_JUMP_MAP: &str = "---\n\
-    - { id: 1, address: 0x0000000000001000, function: 0x0000000000001000, kind: function-enter, \
-    always-instrument: true, function-name: 'a' }\n\
-    - { id: 1, address: 0x000000000000100c, function: 0x0000000000001000, kind: tail-exit, \
-    always-instrument: true, function-name: 'a' }\n\
-    - { id: 2, address: 0x000000000000101c, function: 0x000000000000101c, kind: function-enter, \
-    always-instrument: true, function-name: 'b' }\n\
-    - { id: 2, address: 0x0000000000001028, function: 0x000000000000101c, kind: function-exit, \
-    always-instrument: true, function-name: 'b' }\n\
-    ...\n";
+const STRAIGHT_LINE_MAP: &[Mapped] = &[
+    (1, 0x1000, 0x1000, "function-enter", "main"),
+    (1, 0x1012, 0x1000, "function-exit", "main"),
+];
 
-const FIBONACCI_MAP: &str = "---\n\
-    - { id: 1, address: 0x000000000000100c, function: 0x000000000000100c, kind: function-enter, \
-    always-instrument: true, function-name: 'fib' }\n\
-    - { id: 1, address: 0x0000000000001026, function: 0x000000000000100c, kind: function-exit, \
-    always-instrument: true, function-name: 'fib' }\n\
-    - { id: 1, address: 0x0000000000001042, function: 0x000000000000100c, kind: function-exit, \
-    always-instrument: true, function-name: 'fib' }\n\
-    - { id: 1, address: 0x0000000000001062, function: 0x000000000000100c, kind: function-exit, \
-    always-instrument: true, function-name: 'fib' }\n\
-    ...\n";
+const ODD_EXIT_MAP: &[Mapped] = &[
+    (1, 0x1000, 0x1000, "function-enter", "main"),
+    (1, 0x100E, 0x1000, "function-exit", "main"),
+];
+
+const CALL_MAP: &[Mapped] = &[
+    (1, 0x1000, 0x1000, "function-enter", "main"),
+    (1, 0x1010, 0x1000, "function-exit", "main"),
+    (2, 0x101C, 0x101C, "function-enter", "f"),
+    (2, 0x1028, 0x101C, "function-exit", "f"),
+];
+
+const TAIL_JUMP_MAP: &[Mapped] = &[
+    (1, 0x1000, 0x1000, "function-enter", "a"),
+    (1, 0x100C, 0x1000, "tail-exit", "a"),
+    (2, 0x101C, 0x101C, "function-enter", "b"),
+    (2, 0x1028, 0x101C, "function-exit", "b"),
+];
+
+const FIBONACCI_MAP: &[Mapped] = &[
+    (1, 0x100C, 0x100C, "function-enter", "fib"),
+    (1, 0x1026, 0x100C, "function-exit", "fib"),
+    (1, 0x1042, 0x100C, "function-exit", "fib"),
+    (1, 0x1062, 0x100C, "function-exit", "fib"),
+];
+
+/// The text of a sled map.
+fn text_of_map(alloc: Global, sleds: &[Mapped]) -> Result<String, Fail> {
+    let mut text = String::from_str(alloc, "---\n")?;
+    for (id, address, function, kind, name) in sleds {
+        text.push_str(&format!(in alloc;
+            "- {{ id: {id}, address: 0x000000000000{address:x}, \
+            function: 0x000000000000{function:x}, kind: {kind}, always-instrument: true, \
+            function-name: '{name}' }}\n"
+        )?)?;
+    }
+    text.push_str("...\n")?;
+    Ok(text)
+}
 
 /// A desk that holds a text as `t`, and an older image as `i`.
 fn text_desk(alloc: Global, failing: &[u64], text: &[u8]) -> Result<MemDesk, Fail> {
@@ -147,29 +155,29 @@ fn text_desk(alloc: Global, failing: &[u64], text: &[u8]) -> Result<MemDesk, Fai
 /// What the image's name holds before.
 const OLD: &[u8] = b"old";
 
-/// Checks that words are done over a desk, with this text on out.
+/// Checks that a line's words are done over a desk, with this text on out.
 fn assert_done<R: Abort + Threads + Wait + Sync + AllocGlobal>(
     rt: &R,
-    words: &[&str],
+    line: &str,
     desk: &mut MemDesk,
     text: &str,
 ) -> Result<(), Fail> {
-    let run = run_words(rt, words, desk, &[], &[])?;
+    let run = run_line(rt, line, desk)?;
     assert_left(rt, &run, 0, text, "");
     Ok(())
 }
 
 /// A text, and the length, the code, the end and the sled map of its image.
-type Made = (
-    &'static str,
-    usize,
-    &'static [u8],
-    &'static str,
-    &'static str,
-);
+type Made = (&'static str, usize, &'static [u8], End, &'static [Mapped]);
 
 const MADE: [Made; 5] = [
-    (STRAIGHT_LINE, 170, STRAIGHT_LINE_CODE, STATE, SLED_MAP),
+    (
+        STRAIGHT_LINE,
+        170,
+        STRAIGHT_LINE_CODE,
+        STRAIGHT_LINE_END,
+        STRAIGHT_LINE_MAP,
+    ),
     (ODD_EXIT, 166, ODD_EXIT_CODE, ODD_EXIT_END, ODD_EXIT_MAP),
     (CALL, 266, CALL_CODE, CALL_END, CALL_MAP),
     (TAIL_JUMP, 263, TAIL_JUMP_CODE, TAIL_JUMP_END, TAIL_JUMP_MAP),
@@ -180,12 +188,14 @@ const MADE: [Made; 5] = [
 fn five_texts_become_images_that_run_and_have_their_sleds(rt: HostRuntime) -> Result<(), Fail> {
     for (text, length, code, end, map) in &MADE {
         let mut desk = text_desk(rt.alloc(), &[], text.as_bytes())?;
-        assert_done(&rt, &["asm", "t", "i"], &mut desk, "")?;
+        assert_done(&rt, "asm t i", &mut desk, "")?;
         assert_length(&rt, desk.get("i"), *length);
         let file = desk.get("i").unwrap_or(OLD);
         check_same_at(&rt, &file.get(CODE..CODE + code.len()), &Some(*code), text);
-        assert_done(&rt, &["plain", "i"], &mut desk, end)?;
-        assert_done(&rt, &["extract", "i"], &mut desk, map)?;
+        let end = text_of_end(rt.alloc(), end)?;
+        assert_done(&rt, "plain i", &mut desk, &end)?;
+        let map = text_of_map(rt.alloc(), map)?;
+        assert_done(&rt, "extract i", &mut desk, &map)?;
     }
     Ok(())
 }
@@ -195,20 +205,20 @@ fn an_assembled_image_is_replayed(rt: HostRuntime) -> Result<(), Fail> {
     let mut desk = text_desk(rt.alloc(), &[], STRAIGHT_LINE.as_bytes())?;
     desk.put("s", SCRIPT.as_bytes())?;
     desk.put("c", SCHEDULE.as_bytes())?;
-    assert_done(&rt, &["asm", "t", "i"], &mut desk, "")?;
+    assert_done(&rt, "asm t i", &mut desk, "")?;
     assert_held(&rt, desk.get("i"), &IMAGE);
     assert_held(&rt, desk.get("t"), STRAIGHT_LINE.as_bytes());
     let replayed = format!(in rt.alloc(); "{STATE}marks n1 .1\n")?;
-    assert_done(&rt, &["sim", "i", "s", "c", "n", "a"], &mut desk, &replayed)
+    assert_done(&rt, "sim i s c n a", &mut desk, &replayed)
 }
 
 /// Words, and the length of the image of a function with one instruction line.
-const THRESHOLDS: [(&[&str], usize); 5] = [
-    (&["asm", "t", "i"], 161),
-    (&["asm", "t", "--threshold", "0", "i"], 161),
-    (&["asm", "--threshold=+01", "t", "i"], 161),
-    (&["asm", "t", "i", "--threshold", "2"], 75),
-    (&["asm", "--threshold=4294967295", "--", "t", "i"], 75),
+const THRESHOLDS: [(&str, usize); 5] = [
+    ("asm t i", 161),
+    ("asm t --threshold 0 i", 161),
+    ("asm --threshold=+01 t i", 161),
+    ("asm t i --threshold 2", 75),
+    ("asm --threshold=4294967295 -- t i", 75),
 ];
 
 #[test]
@@ -228,7 +238,7 @@ fn assert_refused<R: Abort + Threads + Wait + Sync + AllocGlobal>(
     line: &str,
 ) -> Result<(), Fail> {
     let mut desk = text_desk(rt.alloc(), &[], text.as_bytes())?;
-    let run = run_words(rt, &["asm", "t", "i"], &mut desk, &[], &[])?;
+    let run = run_line(rt, "asm t i", &mut desk)?;
     assert_stopped(rt, &run, 2, line);
     assert_held(rt, desk.get("i"), OLD);
     Ok(())
@@ -273,13 +283,13 @@ fn a_call_of_the_desk_that_fails_leaves_a_front_of_the_image(rt: HostRuntime) ->
     for (failing, status, line, count) in &FAILING {
         let desk = text_desk(rt.alloc(), &[*failing], STRAIGHT_LINE.as_bytes())?;
         let mut trickle = Trickle::new(desk);
-        let run = run_words(&rt, &["asm", "t", "i"], &mut trickle, &[], &[])?;
+        let run = run_line(&rt, "asm t i", &mut trickle)?;
         assert_stopped(&rt, &run, *status, line);
         let left = match count {
             Some(count) => IMAGE.get(..*count),
             None => Some(OLD),
         };
-        check_same_at(&rt, &trickle.get("i"), &left, failing);
+        check_same_at(&rt, &trickle.get("i"), &left, line);
     }
     Ok(())
 }
@@ -290,11 +300,11 @@ fn a_text_may_be_as_long_as_its_limit(rt: HostRuntime) -> Result<(), Fail> {
     let mut text = Vec::from_slice(alloc, b"fn a\nret\n#")?;
     text.resize(4_194_304, b'-')?;
     let mut desk = text_desk(alloc, &[], &text)?;
-    assert_done(&rt, &["asm", "t", "i"], &mut desk, "")?;
+    assert_done(&rt, "asm t i", &mut desk, "")?;
     assert_length(&rt, desk.get("i"), 161);
     text.push(b'-')?;
     let mut desk = text_desk(alloc, &[], &text)?;
-    let run = run_words(&rt, &["asm", "t", "i"], &mut desk, &[], &[])?;
+    let run = run_line(&rt, "asm t i", &mut desk)?;
     assert_stopped(&rt, &run, 6, "xray: t: too long\n");
     assert_held(&rt, desk.get("i"), OLD);
     Ok(())
@@ -303,37 +313,10 @@ fn a_text_may_be_as_long_as_its_limit(rt: HostRuntime) -> Result<(), Fail> {
 #[test]
 fn a_text_that_is_not_held_begins_no_image(rt: HostRuntime) -> Result<(), Fail> {
     let mut desk = text_desk(rt.alloc(), &[], CALL.as_bytes())?;
-    let run = run_words(&rt, &["asm", "q", "n"], &mut desk, &[], &[])?;
+    let run = run_line(&rt, "asm q n", &mut desk)?;
     assert_stopped(&rt, &run, 3, "xray: q: read fault\n");
     assert!(rt; desk.get("n").is_none());
-    assert_done(&rt, &["asm", "t", "n"], &mut desk, "")?;
+    assert_done(&rt, "asm t n", &mut desk, "")?;
     assert_length(&rt, desk.get("n"), 266);
-    Ok(())
-}
-
-/// Words that say no command.
-const BAD_WORDS: [&[&str]; 11] = [
-    &["asm"],
-    &["asm", "t"],
-    &["asm", "t", "i", "j"],
-    &["asm", "t", "t"],
-    &["asm", "--", "t", "t"],
-    &["asm", "t", "i", "--threshold"],
-    &["asm", "t", "i", "--threshold", "4294967296"],
-    &["asm", "t", "i", "--threshold", "-1"],
-    &["asm", "t", "i", "--threshold=1", "--threshold=1"],
-    &["asm", "t", "i", "--threads", "1"],
-    &["plain", "i", "--threshold", "1"],
-];
-
-#[test]
-fn words_that_asm_does_not_know_are_a_bad_line(rt: HostRuntime) -> Result<(), Fail> {
-    for words in &BAD_WORDS {
-        let mut desk = text_desk(rt.alloc(), &[], CALL.as_bytes())?;
-        let run = run_words(&rt, words, &mut desk, &[], &[])?;
-        assert_stopped(&rt, &run, 1, "xray: bad command line\n");
-        assert_held(&rt, desk.get("i"), OLD);
-        assert_held(&rt, desk.get("t"), CALL.as_bytes());
-    }
     Ok(())
 }

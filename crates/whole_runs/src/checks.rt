@@ -8,18 +8,7 @@ pub fn check_same<T: PartialEq + Debug>(rt: &impl Abort, found: &T, wanted: &T) 
     assert_eq!(rt; found, wanted);
 }
 
-/// Checks that two values are equal. A failure also shows where they were found, as the row of a
-/// table.
-pub fn check_same_at<T: PartialEq + Debug, P: Debug>(
-    rt: &impl Abort,
-    found: &T,
-    wanted: &T,
-    place: &P,
-) {
-    assert_eq!(rt; found, wanted, "at {place:?}");
-}
-
-/// Checks that two texts are equal.
-pub fn check_same_text(rt: &impl Abort, found: &str, wanted: &str) {
-    assert_eq!(rt; found, wanted);
+/// Checks that two values are equal. A failure also shows a text, as a word of the row.
+pub fn check_same_at<T: PartialEq + Debug>(rt: &impl Abort, found: &T, wanted: &T, text: &str) {
+    assert_eq!(rt; found, wanted, "at {text:?}");
 }

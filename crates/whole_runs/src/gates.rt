@@ -1,16 +1,15 @@
 //! `run` at gates that leave its threads only one way to go on.
-use crate::asm::CALL;
+use crate::asm::{CALL, STRAIGHT_LINE};
 use crate::checks::check_same;
 use crate::run::{RUN, desk_with, has_line, records_of};
-use crate::runs::{assert_length, run_words_at, words_with};
-use crate::sim::TRACED;
+use crate::runs::{assert_length, assert_no_fault, run_at};
+use crate::sim::{LIVE, TRACED};
+use std::process::Abort;
+use std::sync::Wait;
 use std::sync::atomic::{AtomicU64, Ordering};
 use std::test::Fail;
-use std::thread::yield_now;
-use xray_io::Gate;
-
-/// The text of the image of the first example.
-const OUTPUTS_AN_A: &str = "base 0x1000\nfn main always\nmov eax, 65\nout 1\nret\n";
+use std::thread::{Threads, yield_now};
+use xray_io::{Gate, MemDesk};
 
 /// How often a gate looks for what it waits for, before it gives up.
 const TURNS: u32 = 5_000_000;
@@ -48,106 +47,114 @@ impl Sign {
     }
 }
 
-/// Lets passing 0 of each of two threads go on once the other thread has come to its own.
+/// Where a gate is asked: before a passing of a thread, or before the store at a place.
+#[derive(Clone, Copy, PartialEq, Drop)]
+enum Point {
+    Passing(u32, u32),
+    Place(u64),
+}
+
+/// What is at one point goes on once something has come to another.
 #[derive(Drop)]
-struct Meeting {
-    first: Sign,
-    second: Sign,
+struct Order {
+    at: Point,
+    after: Point,
+    come: Sign,
+}
+
+impl Order {
+    fn new(at: Point, after: Point) -> Order {
+        Order {
+            at,
+            after,
+            come: Sign::new(),
+        }
+    }
+}
+
+/// A gate that keeps these orders, and a sign that one of them was waited for in vain.
+#[derive(Drop)]
+struct Ordered<'a> {
+    orders: &'a [Order],
     late: Sign,
 }
 
-impl Gate for Meeting {
-    fn before(&self, thread: u32, passing: u32) {
-        if passing == 0 {
-            if thread == 1 {
-                self.first.give();
-                self.late.wait_or_give(&self.second);
-            } else {
-                self.second.give();
-                self.late.wait_or_give(&self.first);
+impl Ordered<'_> {
+    fn come_to(&self, point: Point) {
+        for order in self.orders {
+            if order.after == point {
+                order.come.give();
+            }
+        }
+        for order in self.orders {
+            if order.at == point {
+                self.late.wait_or_give(&order.come);
             }
         }
     }
-
-    fn before_store(&self, _place: u64) {}
 }
 
-/// Lets the store at place 3 go on once the thread has come to passing 1. Lets passing 1 go on once
-/// the patcher has come to place 15. Lets the store there go on once the thread has come to passing
-/// 3.
-#[derive(Drop)]
-struct Relay {
-    at_passing_1: Sign,
-    at_place_15: Sign,
-    at_passing_3: Sign,
-    late: Sign,
-}
-
-impl Gate for Relay {
-    fn before(&self, _thread: u32, passing: u32) {
-        if passing == 1 {
-            self.at_passing_1.give();
-            self.late.wait_or_give(&self.at_place_15);
-        }
-        if passing == 3 {
-            self.at_passing_3.give();
-        }
+impl Gate for Ordered<'_> {
+    fn before(&self, thread: u32, passing: u32) {
+        self.come_to(Point::Passing(thread, passing));
     }
 
     fn before_store(&self, place: u64) {
-        if place == 3 {
-            self.late.wait_or_give(&self.at_passing_1);
-        }
-        if place == 15 {
-            self.at_place_15.give();
-            self.late.wait_or_give(&self.at_passing_3);
-        }
+        self.come_to(Point::Place(place));
     }
 }
 
-#[test]
-fn two_threads_run_beside_each_other(rt: HostRuntime) -> Result<(), Fail> {
-    let meeting = Meeting {
-        first: Sign::new(),
-        second: Sign::new(),
+/// Runs a line over a text's image and a script, with a gate that keeps these orders. Checks that
+/// each was kept, and that a thread has these marks.
+fn run_ordered<R: Abort + Threads + Wait + Sync + AllocGlobal>(
+    rt: &R,
+    line: &str,
+    text: &str,
+    script: &str,
+    orders: &[Order],
+    marks: &str,
+) -> Result<MemDesk, Fail> {
+    let gate = Ordered {
+        orders,
         late: Sign::new(),
     };
-    let mut desk = desk_with(&rt, OUTPUTS_AN_A, TRACED)?;
-    let words = words_with(rt.alloc(), &RUN, &["--threads", "2"])?;
-    let run = run_words_at(&rt, &words, &mut desk, &[], &[], &meeting)?;
-    check_same(&rt, &run.status, &0);
-    assert!(rt; !meeting.late.is_given());
-    assert!(rt; meeting.first.is_given() && meeting.second.is_given());
-    assert!(rt; has_line(run.out.as_str(), "marks +2"), "{}", run.out);
+    let mut desk = desk_with(rt, text, script)?;
+    let run = run_at(rt, line, &mut desk, &[], &[], &gate)?;
+    assert_no_fault(rt, &run);
+    assert!(rt; !gate.late.is_given());
+    for order in orders {
+        assert!(rt; order.come.is_given());
+    }
+    assert!(rt; has_line(run.out.as_str(), marks), "{}", run.out);
+    Ok(desk)
+}
+
+/// Passing 0 of each of two threads goes on once the other thread has come to its own.
+#[test]
+fn two_threads_run_beside_each_other(rt: HostRuntime) -> Result<(), Fail> {
+    let (first, second) = (Point::Passing(1, 0), Point::Passing(2, 0));
+    let orders = [Order::new(first, second), Order::new(second, first)];
+    let line = "run i s t a --wall 0 --threads 2";
+    let desk = run_ordered(&rt, line, STRAIGHT_LINE, TRACED, &orders, "marks +2")?;
     assert_length(&rt, desk.get("t"), 32 + 2 * (16 + 80));
     Ok(())
 }
 
-/// What the relayed thread records: an entry of function 2 and an exit of function 1.
-const RELAYED_RECORDS: &[u8] =
+/// What the thread records: an entry of function 2 and an exit of function 1.
+const RECORDS: &[u8] =
     b"\x05\0\0\x01\0\0\0\0\0\0\0\0\0\0\0\0\x20\0\0\0\0\0\0\0\x12\0\0\0\x01\0\0\0";
 
+/// The store at place 3 goes on once the thread has come to passing 1, passing 1 once the patcher
+/// has come to place 15, and the store there once the thread has come to passing 3.
 #[test]
 fn a_thread_and_the_patcher_run_beside_each_other(rt: HostRuntime) -> Result<(), Fail> {
-    let relay = Relay {
-        at_passing_1: Sign::new(),
-        at_place_15: Sign::new(),
-        at_passing_3: Sign::new(),
-        late: Sign::new(),
-    };
-    let script = "set_handler\ninit\ngo\npatch\n";
-    let mut desk = desk_with(&rt, CALL, script)?;
-    let run = run_words_at(&rt, &RUN, &mut desk, &[], &[], &relay)?;
-    check_same(&rt, &run.status, &0);
-    assert!(rt; !relay.late.is_given());
-    assert!(rt; relay.at_passing_1.is_given() && relay.at_place_15.is_given());
-    assert!(rt; relay.at_passing_3.is_given());
-    assert!(rt;
-        has_line(run.out.as_str(), "marks .1 +1 .1 +1"),
-        "{}",
-        run.out
-    );
+    let orders = [
+        Order::new(Point::Place(3), Point::Passing(1, 1)),
+        Order::new(Point::Passing(1, 1), Point::Place(15)),
+        Order::new(Point::Place(15), Point::Passing(1, 3)),
+    ];
+    let desk = run_ordered(&rt, RUN, CALL, LIVE, &orders, "marks .1 +1 .1 +1")?;
     assert_length(&rt, desk.get("t"), 128);
-    check_same(&rt, &records_of(&desk), &Some(RELAYED_RECORDS));
+    check_same(&rt, &records_of(&desk), &Some(RECORDS));
     Ok(())
 }

@@ -7,6 +7,8 @@ mod account;
 #[cfg(test)]
 mod asm;
 #[cfg(test)]
+mod bad_lines;
+#[cfg(test)]
 mod checks;
 #[cfg(test)]
 mod first_run;

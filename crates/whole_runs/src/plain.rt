@@ -1,15 +1,17 @@
 //! `plain` and `extract`, their options, and the refusals of their image.
 use crate::runs::{
-    IMAGE, SCHEDULE, SCRIPT, STATE, assert_bad_lines, assert_left, assert_no_fault, assert_stopped,
-    desk_of, image_desk, run_words,
+    End, IMAGE, MOVED, SCHEDULE, SCRIPT, STATE, assert_left, assert_no_fault, assert_stopped,
+    desk_of, image_desk, run_failing, run_line, text_of_end,
 };
+use crate::sim::SIM;
+use example_images::CALLS;
 use std::process::Abort;
 use std::sync::Wait;
 use std::test::Fail;
 use std::thread::Threads;
 
 /// The sled map of the image.
-pub const SLED_MAP: &str = "---\n\
+const SLED_MAP: &str = "---\n\
     - { id: 1, address: 0x0000000000001000, function: 0x0000000000001000, kind: function-enter, \
     always-instrument: true, function-name: 'main' }\n\
     - { id: 1, address: 0x0000000000001012, function: 0x0000000000001000, kind: function-exit, \
@@ -20,10 +22,6 @@ pub const SLED_MAP: &str = "---\n\
 const SECOND: &str = "thread 2 returned instructions 3 passings 2\n\
     rax=41 rcx=0 rdx=0 rbx=0 rbp=0 rsi=0 rdi=2 r8=0 r9=0 r11=0 r12=0 r13=0 r14=0 r15=0 zf=0\n\
     output 41\n";
-
-/// The registers of thread 1 after `mov eax, 0x41`.
-const REGISTERS: &str = "rax=41 rcx=0 rdx=0 rbx=0 rbp=0 rsi=0 rdi=1 r8=0 r9=0 r11=0 r12=0 r13=0 \
-    r14=0 r15=0 zf=0\n";
 
 /// A file with the code `41 BA 01 00 00 00 C3`, a `mov` to register 10, in one function without
 /// sleds.
@@ -39,119 +37,55 @@ const REGISTER_10: [u8; 84] = [
 /// The place of the code in a file.
 const CODE: usize = 64;
 
-/// A file of two functions. The first one calls the second, and the call goes one byte too far.
-const CALLS_PAST_A_START: [u8; 266] = [
-    b'X', b'R', b'I', b'M', 1, 0, 0, 0, 0x00, 0x10, 0, 0, 0, 0, 0, 0, //
-    51, 0, 0, 0, 2, 0, 0, 0, 4, 0, 0, 0, 0, 0, 0, 0, //
-    0x00, 0x10, 0x20, 0, 0, 0, 0, 0, 0x10, 0x10, 0x20, 0, 0, 0, 0, 0, //
-    0x20, 0x10, 0x20, 0, 0, 0, 0, 0, 0x30, 0x10, 0x20, 0, 0, 0, 0, 0, //
-    // main: the entry sled, the call, the exit sled, and an alignment byte.
-    0xEB, 0x09, 0x66, 0x0F, 0x1F, 0x84, 0x00, 0x00, 0x02, 0x00, 0x00, //
-    0xE8, 0x0D, 0x00, 0x00, 0x00, //
-    0xC3, 0x2E, 0x66, 0x0F, 0x1F, 0x84, 0x00, 0x00, 0x02, 0x00, 0x00, 0x90, //
-    // f: the entry sled, an alignment byte, and the exit sled.
-    0xEB, 0x09, 0x66, 0x0F, 0x1F, 0x84, 0x00, 0x00, 0x02, 0x00, 0x00, 0x90, //
-    0xC3, 0x2E, 0x66, 0x0F, 0x1F, 0x84, 0x00, 0x00, 0x02, 0x00, 0x00, //
-    // The functions.
-    0x00, 0x10, 0, 0, 0, 0, 0, 0, 4, b'm', b'a', b'i', b'n', //
-    0x1C, 0x10, 0, 0, 0, 0, 0, 0, 1, b'f', //
-    // The map.
-    0x00, 0x10, 0, 0, 0, 0, 0, 0, 0x00, 0x10, 0, 0, 0, 0, 0, 0, //
-    0, 1, 0, 0, 0, 0, 0, 0, 0, 0, 0, 0, 0, 0, 0, 0, //
-    0x10, 0x10, 0, 0, 0, 0, 0, 0, 0x00, 0x10, 0, 0, 0, 0, 0, 0, //
-    1, 1, 0, 0, 0, 0, 0, 0, 0, 0, 0, 0, 0, 0, 0, 0, //
-    0x1C, 0x10, 0, 0, 0, 0, 0, 0, 0x1C, 0x10, 0, 0, 0, 0, 0, 0, //
-    0, 1, 0, 0, 0, 0, 0, 0, 0, 0, 0, 0, 0, 0, 0, 0, //
-    0x28, 0x10, 0, 0, 0, 0, 0, 0, 0x1C, 0x10, 0, 0, 0, 0, 0, 0, //
-    1, 1, 0, 0, 0, 0, 0, 0, 0, 0, 0, 0, 0, 0, 0, 0, //
-];
-
 /// Runs words over a desk that holds an image, and checks that they are done with this text.
 fn assert_prints<R: Abort + Threads + Wait + Sync + AllocGlobal>(
     rt: &R,
-    words: &[&str],
+    words: &str,
     text: &str,
 ) -> Result<(), Fail> {
     let mut desk = image_desk(rt.alloc(), &IMAGE)?;
-    let run = run_words(rt, words, &mut desk, &[], &[])?;
+    let run = run_line(rt, words, &mut desk)?;
     assert_left(rt, &run, 0, text, "");
     Ok(())
 }
 
+/// Lines, and how thread 1 ends.
+const ENDS: [(&str, End); 3] = [
+    ("plain i", ("returned", 3, 2, MOVED, "41")),
+    ("plain i --fuel 1", ("fuel", 1, 1, MOVED, "-")),
+    ("plain i --passings=1", ("passings", 2, 1, MOVED, "41")),
+];
+
 #[test]
 fn a_plain_run_ends_where_it_returns_or_at_a_limit(rt: HostRuntime) -> Result<(), Fail> {
-    let alloc = rt.alloc();
-    assert_prints(&rt, &["plain", "i"], STATE)?;
-    let fuel = format!(in alloc; "thread 1 fuel instructions 1 passings 1\n{REGISTERS}output -\n")?;
-    assert_prints(&rt, &["plain", "i", "--fuel", "1"], &fuel)?;
-    let passings = format!(in alloc;
-        "thread 1 passings instructions 2 passings 1\n{REGISTERS}output 41\n"
-    )?;
-    assert_prints(&rt, &["plain", "i", "--passings=1"], &passings)
+    for (line, end) in &ENDS {
+        assert_prints(&rt, line, &text_of_end(rt.alloc(), end)?)?;
+    }
+    Ok(())
 }
 
 #[test]
 fn threads_are_printed_in_the_order_of_their_numbers(rt: HostRuntime) -> Result<(), Fail> {
     let both = format!(in rt.alloc(); "{STATE}{SECOND}")?;
-    assert_prints(&rt, &["plain", "--threads", "2", "i"], &both)
+    assert_prints(&rt, "plain --threads 2 i", &both)
 }
 
 #[test]
 fn the_sled_map_is_printed_in_the_order_of_the_file(rt: HostRuntime) -> Result<(), Fail> {
-    assert_prints(&rt, &["extract", "i"], SLED_MAP)
+    assert_prints(&rt, "extract i", SLED_MAP)
 }
 
 #[test]
 fn options_stand_anywhere_before_two_dashes(rt: HostRuntime) -> Result<(), Fail> {
-    assert_prints(
-        &rt,
-        &["plain", "--fuel=+0010", "i", "--threads", "1"],
-        STATE,
-    )?;
-    assert_prints(&rt, &["plain", "--fuel=1000000000", "--", "i"], STATE)?;
-    assert_prints(&rt, &["extract", "--", "i"], SLED_MAP)
-}
-
-/// Options out of their range, twice, or unknown.
-const BAD_OPTIONS: [&[&str]; 9] = [
-    &[],
-    &["plain", "i", "--threads", "17"],
-    &["plain", "i", "--threads", "0"],
-    &["plain", "i", "--threads", "1", "--threads", "1"],
-    &["plain", "i", "--threads", "1", "--threads=1"],
-    &["plain", "i", "--thread", "1"],
-    &["plain", "i", "--fuel", "1000000001"],
-    &["plain", "i", "--fuel", "18446744073709551617"],
-    &["plain", "i", "--fuel", "-1"],
-];
-
-#[test]
-fn options_out_of_range_twice_or_unknown_are_a_bad_line(rt: HostRuntime) -> Result<(), Fail> {
-    assert_bad_lines(&rt, &BAD_OPTIONS)
-}
-
-/// Words that lack a value or a name.
-const LACKING: [&[&str]; 8] = [
-    &["plain", "i", "--fuel"],
-    &["plain", "i", "--fuel="],
-    &["plain", "i", "--fuel", "+"],
-    &["plain", "i", "--fuel", "--", "1"],
-    &["plain", "--", "i", "--fuel", "1"],
-    &["plain", "i", "--help"],
-    &["plain"],
-    &["extract", "i", "--threads", "1"],
-];
-
-#[test]
-fn words_that_lack_a_value_or_a_name_are_a_bad_line(rt: HostRuntime) -> Result<(), Fail> {
-    assert_bad_lines(&rt, &LACKING)
+    assert_prints(&rt, "plain --fuel=+0010 i --threads 1", STATE)?;
+    assert_prints(&rt, "plain --fuel=1000000000 -- i", STATE)?;
+    assert_prints(&rt, "extract -- i", SLED_MAP)
 }
 
 #[test]
 fn two_dashes_and_a_schedule_replay(rt: HostRuntime) -> Result<(), Fail> {
     let mut desk = desk_of(rt.alloc(), &[], &IMAGE, SCRIPT, SCHEDULE)?;
-    let words = ["sim", "i", "--", "s", "c", "t", "a"];
-    let run = run_words(&rt, &words, &mut desk, &[], &[])?;
+    let run = run_line(&rt, "sim i -- s c t a", &mut desk)?;
     assert_no_fault(&rt, &run);
     Ok(())
 }
@@ -159,23 +93,19 @@ fn two_dashes_and_a_schedule_replay(rt: HostRuntime) -> Result<(), Fail> {
 /// Checks that a command over an image ends with a status and a line on err, and prints nothing.
 fn assert_stops<R: Abort + Threads + Wait + Sync + AllocGlobal>(
     rt: &R,
-    words: &[&str],
+    words: &str,
     image: &[u8],
     status: u8,
     line: &str,
 ) -> Result<(), Fail> {
     let mut desk = image_desk(rt.alloc(), image)?;
-    let run = run_words(rt, words, &mut desk, &[], &[])?;
+    let run = run_line(rt, words, &mut desk)?;
     assert_stopped(rt, &run, status, line);
     Ok(())
 }
 
 /// The commands that read an image as `i`.
-const READERS: [&[&str]; 3] = [
-    &["plain", "i"],
-    &["extract", "i"],
-    &["sim", "i", "s", "c", "t", "a"],
-];
+const READERS: [&str; 3] = ["plain i", "extract i", SIM];
 
 /// Checks that each command that reads an image stops with a status and a line on err.
 fn assert_all_stop<R: Abort + Threads + Wait + Sync + AllocGlobal>(
@@ -197,8 +127,11 @@ fn an_image_is_refused_with_the_values_of_its_fault(rt: HostRuntime) -> Result<(
     far[33] = 0;
     far[34] = 0;
     far[36] = 2;
+    // The call goes one byte too far.
+    let mut past = CALLS;
+    past[CODE + 12] = 0x0D;
     assert_all_stop(&rt, &REGISTER_10, 2, "xray: i: image Code 0 Register 10\n")?;
-    assert_all_stop(&rt, &CALLS_PAST_A_START, 2, "xray: i: image Target 11\n")?;
+    assert_all_stop(&rt, &past, 2, "xray: i: image Target 11\n")?;
     assert_all_stop(&rt, &far, 2, "xray: i: image Far 0\n")?;
     assert_all_stop(&rt, &IMAGE[..63], 2, "xray: i: image Short\n")
 }
@@ -206,10 +139,8 @@ fn an_image_is_refused_with_the_values_of_its_fault(rt: HostRuntime) -> Result<(
 /// A call and two returns are counted as instructions, and the four sleds as passings.
 #[test]
 fn an_image_with_a_call_is_run(rt: HostRuntime) -> Result<(), Fail> {
-    let mut image = CALLS_PAST_A_START;
-    image[CODE + 12] = 0x0C;
-    let mut desk = image_desk(rt.alloc(), &image)?;
-    let run = run_words(&rt, &["plain", "i"], &mut desk, &[], &[])?;
+    let mut desk = image_desk(rt.alloc(), &CALLS)?;
+    let run = run_line(&rt, "plain i", &mut desk)?;
     assert_no_fault(&rt, &run);
     let line = "thread 1 returned instructions 3 passings 4\n";
     assert!(rt; run.out.as_str().starts_with(line), "{}", run.out);
@@ -218,8 +149,8 @@ fn an_image_with_a_call_is_run(rt: HostRuntime) -> Result<(), Fail> {
 
 #[test]
 fn an_image_that_is_not_held_is_a_read_fault(rt: HostRuntime) -> Result<(), Fail> {
-    assert_stops(&rt, &["plain", "q"], &IMAGE, 3, "xray: q: read fault\n")?;
-    assert_stops(&rt, &["extract", "q"], &IMAGE, 3, "xray: q: read fault\n")
+    assert_stops(&rt, "plain q", &IMAGE, 3, "xray: q: read fault\n")?;
+    assert_stops(&rt, "extract q", &IMAGE, 3, "xray: q: read fault\n")
 }
 
 #[test]
@@ -228,7 +159,7 @@ fn an_input_above_its_limit_is_too_long(rt: HostRuntime) -> Result<(), Fail> {
     assert_all_stop(&rt, &image, 6, "xray: i: too long\n")?;
     let script = "\n".repeat(rt.alloc(), 1_048_577)?;
     let mut desk = desk_of(rt.alloc(), &[], &IMAGE, &script, SCHEDULE)?;
-    let run = run_words(&rt, &["sim", "i", "s", "c", "t", "a"], &mut desk, &[], &[])?;
+    let run = run_line(&rt, SIM, &mut desk)?;
     assert_stopped(&rt, &run, 6, "xray: s: too long\n");
     Ok(())
 }
@@ -236,8 +167,7 @@ fn an_input_above_its_limit_is_too_long(rt: HostRuntime) -> Result<(), Fail> {
 #[test]
 fn a_write_that_fails_between_threads_is_a_write_fault(rt: HostRuntime) -> Result<(), Fail> {
     let mut desk = image_desk(rt.alloc(), &IMAGE)?;
-    let words = ["plain", "i", "--threads=3"];
-    let run = run_words(&rt, &words, &mut desk, &[1], &[])?;
+    let run = run_failing(&rt, "plain i --threads=3", &mut desk, &[1], &[])?;
     assert_left(&rt, &run, 4, STATE, "xray: output: write fault\n");
     Ok(())
 }

@@ -1,10 +1,8 @@
 //! `run`: threads beside a script, and what is left of them.
 use crate::asm::{CALL, FIBONACCI};
 use crate::checks::check_same;
-use crate::runs::{
-    Run, assert_length, assert_made, assert_no_fault, assert_stopped, run_words, words_with,
-};
-use crate::sim::TRACED;
+use crate::runs::{assert_length, assert_made, assert_no_fault, assert_stopped, run_line};
+use crate::sim::{SIM, TRACED};
 use std::process::Abort;
 use std::sync::Wait;
 use std::test::Fail;
@@ -12,7 +10,7 @@ use std::thread::Threads;
 use xray_io::MemDesk;
 
 /// The words of a run whose trace has a wall time of 0.
-pub const RUN: [&str; 7] = ["run", "i", "s", "t", "a", "--wall", "0"];
+pub const RUN: &str = "run i s t a --wall 0";
 
 /// The thread is held at its third passing until the sleds are patched.
 const HELD: &str = "set_handler\ninit\nhold 1 2\ngo\nawait 1 2\npatch\nrelease 1\n";
@@ -44,13 +42,13 @@ pub fn has_line(text: &str, line: &str) -> bool {
 /// Checks that four threads of the recursion leave a trace of this length, and this many lost segments.
 fn assert_recursion<R: Abort + Threads + Wait + Sync + AllocGlobal>(
     rt: &R,
-    options: &[&str],
+    options: &str,
     len: usize,
     recycled: &str,
 ) -> Result<(), Fail> {
     let mut desk = desk_with(rt, FIBONACCI, TRACED)?;
-    let words = words_with(rt.alloc(), &RUN, options)?;
-    let run: Run = run_words(rt, &words, &mut desk, &[], &[])?;
+    let line = format!(in rt.alloc(); "{RUN} {options}")?;
+    let run = run_line(rt, &line, &mut desk)?;
     assert_no_fault(rt, &run);
     assert_length(rt, desk.get("t"), len);
     let audit = std::str::from_utf8(desk.get("a").ok_or("no audit")?)?;
@@ -66,13 +64,8 @@ fn assert_recursion<R: Abort + Threads + Wait + Sync + AllocGlobal>(
 
 #[test]
 fn four_threads_keep_all_segments_or_the_last_ones(rt: HostRuntime) -> Result<(), Fail> {
-    assert_recursion(&rt, &["--threads", "4"], 1_408_096, "recycled 0")?;
-    assert_recursion(
-        &rt,
-        &["--threads", "4", "--buffer-max", "64"],
-        1_014_496,
-        "recycled 24",
-    )
+    assert_recursion(&rt, "--threads 4", 1_408_096, "recycled 0")?;
+    assert_recursion(&rt, "--threads 4 --buffer-max 64", 1_014_496, "recycled 24")
 }
 
 /// The records of a trace with one buffer.
@@ -88,7 +81,7 @@ const HELD_RECORDS: &[u8] =
 fn a_held_thread_has_the_same_marks_and_bytes_in_every_run(rt: HostRuntime) -> Result<(), Fail> {
     for _ in 0..20 {
         let mut desk = desk_with(&rt, CALL, HELD)?;
-        let run = run_words(&rt, &RUN, &mut desk, &[], &[])?;
+        let run = run_line(&rt, RUN, &mut desk)?;
         assert_no_fault(&rt, &run);
         assert!(rt; has_line(run.out.as_str(), "marks .2 +2"), "{}", run.out);
         assert_length(&rt, desk.get("t"), 128);
@@ -101,7 +94,7 @@ fn a_held_thread_has_the_same_marks_and_bytes_in_every_run(rt: HostRuntime) -> R
 fn a_script_that_waits_is_refused_under_sim_alone(rt: HostRuntime) -> Result<(), Fail> {
     let mut desk = desk_with(&rt, CALL, HELD)?;
     desk.put("c", b"")?;
-    let run = run_words(&rt, &["sim", "i", "s", "c", "t", "a"], &mut desk, &[], &[])?;
+    let run = run_line(&rt, SIM, &mut desk)?;
     assert_stopped(&rt, &run, 2, "xray: s: script Waits 3\n");
     Ok(())
 }

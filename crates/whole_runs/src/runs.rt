@@ -1,5 +1,5 @@
 //! A run of the top call, and what it leaves.
-use crate::checks::{check_same, check_same_at, check_same_text};
+use crate::checks::{check_same, check_same_at};
 use example_images::OUTPUTS_AN_A;
 use std::alloc::Global;
 use std::process::Abort;
@@ -24,28 +24,35 @@ pub const STATE: &str = "thread 1 returned instructions 3 passings 2\n\
     rax=41 rcx=0 rdx=0 rbx=0 rbp=0 rsi=0 rdi=1 r8=0 r9=0 r11=0 r12=0 r13=0 r14=0 r15=0 zf=0\n\
     output 41\n";
 
+/// How thread 1 ends: why, its instructions, its passings, its registers and its output.
+pub type End = (&'static str, u32, u32, &'static str, &'static str);
+
+/// The registers of thread 1 at its start.
+pub const STARTED: &str =
+    "rax=0 rcx=0 rdx=0 rbx=0 rbp=0 rsi=0 rdi=1 r8=0 r9=0 r11=0 r12=0 r13=0 r14=0 r15=0 zf=0";
+
+/// Its registers after `mov eax, 0x41`.
+pub const MOVED: &str =
+    "rax=41 rcx=0 rdx=0 rbx=0 rbp=0 rsi=0 rdi=1 r8=0 r9=0 r11=0 r12=0 r13=0 r14=0 r15=0 zf=0";
+
+/// What is printed of an end, before the marks.
+pub fn text_of_end(alloc: Global, end: &End) -> Result<String, Fail> {
+    let (why, instructions, passings, registers, output) = *end;
+    Ok(format!(in alloc;
+        "thread 1 {why} instructions {instructions} passings {passings}\n\
+        {registers}\noutput {output}\n"
+    )?)
+}
+
+/// The line on err if the words say no command.
+pub const BAD_LINE: &str = "xray: bad command line\n";
+
 /// What a run left: its status, and what was written on out and err.
 #[derive(Drop)]
 pub struct Run {
     pub status: u8,
     pub out: String,
     pub err: String,
-}
-
-/// The words of a command, and options after them.
-pub fn words_with<'w>(
-    alloc: Global,
-    command: &[&'static str],
-    options: &[&'w str],
-) -> Result<Vec<&'w str>, Fail> {
-    let mut words: Vec<&'w str> = Vec::new(alloc);
-    for word in command {
-        words.push(*word)?;
-    }
-    for word in options {
-        words.push(*word)?;
-    }
-    Ok(words)
 }
 
 /// A desk that holds the three inputs as `i`, `s` and `c`.
@@ -70,21 +77,30 @@ pub fn image_desk(alloc: Global, image: &[u8]) -> Result<MemDesk, Fail> {
     Ok(desk)
 }
 
-/// Runs the top call over a desk, and over sinks that fail at these of their calls.
-pub fn run_words<R: Threads + Wait + Sync + AllocGlobal, D: Desk>(
+/// Runs the top call over a desk. A line says its words.
+pub fn run_line<R: Threads + Wait + Sync + AllocGlobal, D: Desk>(
     rt: &R,
-    words: &[&str],
+    line: &str,
+    desk: &mut D,
+) -> Result<Run, Fail> {
+    run_failing(rt, line, desk, &[], &[])
+}
+
+/// Runs the top call over a desk, and over sinks that fail at these of their calls.
+pub fn run_failing<R: Threads + Wait + Sync + AllocGlobal, D: Desk>(
+    rt: &R,
+    line: &str,
     desk: &mut D,
     out_failing: &[u64],
     err_failing: &[u64],
 ) -> Result<Run, Fail> {
-    run_words_at(rt, words, desk, out_failing, err_failing, &OpenGate)
+    run_at(rt, line, desk, out_failing, err_failing, &OpenGate)
 }
 
 /// Runs the top call with a gate, over a desk, and over sinks that fail at these of their calls.
-pub fn run_words_at<R: Threads + Wait + Sync + AllocGlobal, D: Desk, G: Gate + Sync>(
+pub fn run_at<R: Threads + Wait + Sync + AllocGlobal, D: Desk, G: Gate + Sync>(
     rt: &R,
-    words: &[&str],
+    line: &str,
     desk: &mut D,
     out_failing: &[u64],
     err_failing: &[u64],
@@ -92,7 +108,7 @@ pub fn run_words_at<R: Threads + Wait + Sync + AllocGlobal, D: Desk, G: Gate + S
 ) -> Result<Run, Fail> {
     let alloc = rt.alloc();
     let mut said = Vec::new(alloc);
-    for word in words {
+    for word in line.split_whitespace() {
         said.push(String::from_str(alloc, word)?)?;
     }
     let wall = Wall { secs: 7, micros: 8 };
@@ -108,9 +124,9 @@ pub fn run_words_at<R: Threads + Wait + Sync + AllocGlobal, D: Desk, G: Gate + S
 
 /// Checks the status of a run, and what it wrote on out and on err.
 pub fn assert_left<R: Abort>(rt: &R, run: &Run, status: u8, out: &str, err: &str) {
-    check_same_at(rt, &run.err.as_str(), &err, &out);
-    check_same_at(rt, &run.status, &status, &(out, err));
-    check_same_at(rt, &run.out.as_str(), &out, &err);
+    check_same_at(rt, &run.err.as_str(), &err, out);
+    check_same_at(rt, &run.status, &status, err);
+    check_same_at(rt, &run.out.as_str(), &out, err);
 }
 
 /// Checks that a run stopped with a status and a line on err, and printed nothing.
@@ -120,7 +136,7 @@ pub fn assert_stopped<R: Abort>(rt: &R, run: &Run, status: u8, line: &str) {
 
 /// Checks that a run is done, and wrote nothing on err.
 pub fn assert_no_fault<R: Abort>(rt: &R, run: &Run) {
-    check_same_text(rt, run.err.as_str(), "");
+    check_same(rt, &run.err.as_str(), &"");
     check_same(rt, &run.status, &0);
 }
 
@@ -137,34 +153,12 @@ pub fn assert_length<R: Abort>(rt: &R, held: Option<&[u8]>, length: usize) {
     }
 }
 
-/// Checks that none of these lists of words says a command, over a desk that holds the three inputs.
-pub fn assert_bad_lines<R: Abort + Threads + Wait + Sync + AllocGlobal>(
-    rt: &R,
-    lines: &[&[&str]],
-) -> Result<(), Fail> {
-    for words in lines {
-        assert_bad_line(rt, words)?;
-    }
-    Ok(())
-}
-
-/// Checks that words say no command, over a desk that holds the three inputs.
-fn assert_bad_line<R: Abort + Threads + Wait + Sync + AllocGlobal>(
-    rt: &R,
-    words: &[&str],
-) -> Result<(), Fail> {
-    let mut desk = desk_of(rt.alloc(), &[], &IMAGE, SCRIPT, SCHEDULE)?;
-    let run = run_words(rt, words, &mut desk, &[], &[])?;
-    assert_stopped(rt, &run, 1, "xray: bad command line\n");
-    Ok(())
-}
-
 /// Assembles the text that a desk holds as `x`. The image is `i`.
 pub fn assert_made<R: Abort + Threads + Wait + Sync + AllocGlobal>(
     rt: &R,
     desk: &mut MemDesk,
 ) -> Result<(), Fail> {
-    let made = run_words(rt, &["asm", "x", "i"], desk, &[], &[])?;
+    let made = run_line(rt, "asm x i", desk)?;
     assert_left(rt, &made, 0, "", "");
     Ok(())
 }

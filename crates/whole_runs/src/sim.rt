@@ -1,16 +1,17 @@
 //! `sim`: marks by scripts and schedules, several threads, limits, and the refusals of scripts and schedules.
 use crate::asm::{CALL, CALL_END, TAIL_JUMP, TAIL_JUMP_END};
 use crate::runs::{
-    IMAGE, Run, SCHEDULE, SCRIPT, STATE, assert_bad_lines, assert_left, assert_made,
-    assert_no_fault, assert_stopped, desk_of, run_words,
+    End, IMAGE, MOVED, Run, SCHEDULE, SCRIPT, STARTED, STATE, assert_left, assert_made,
+    assert_no_fault, assert_stopped, desk_of, run_line, text_of_end,
 };
+use std::alloc::Global;
 use std::process::Abort;
 use std::sync::Wait;
 use std::test::Fail;
 use std::thread::Threads;
 
 /// The words of a replay, without options.
-pub const SIM: [&str; 6] = ["sim", "i", "s", "c", "t", "a"];
+pub const SIM: &str = "sim i s c t a";
 
 /// Everything is ready before the thread starts: the sleds are patched, a handler is set, and the
 /// log is initialized.
@@ -23,23 +24,23 @@ pub const LIVE: &str = "set_handler\ninit\ngo\npatch\n";
 /// Runs words over the image of one function, a script and a schedule.
 fn run_image<R: Threads + Wait + Sync + AllocGlobal>(
     rt: &R,
-    words: &[&str],
+    line: &str,
     script: &str,
     schedule: &str,
 ) -> Result<Run, Fail> {
     let mut desk = desk_of(rt.alloc(), &[], &IMAGE, script, schedule)?;
-    run_words(rt, words, &mut desk, &[], &[])
+    run_line(rt, line, &mut desk)
 }
 
 /// Checks that words over an image of one function are done, and what they print.
 fn assert_prints<R: Abort + Threads + Wait + Sync + AllocGlobal>(
     rt: &R,
-    words: &[&str],
+    line: &str,
     script: &str,
     schedule: &str,
     text: &str,
 ) -> Result<(), Fail> {
-    let run = run_image(rt, words, script, schedule)?;
+    let run = run_image(rt, line, script, schedule)?;
     assert_left(rt, &run, 0, text, "");
     Ok(())
 }
@@ -52,7 +53,7 @@ fn assert_marks<R: Abort + Threads + Wait + Sync + AllocGlobal>(
     marks: &str,
 ) -> Result<(), Fail> {
     let state = format!(in rt.alloc(); "{STATE}marks {marks}\n")?;
-    assert_prints(rt, &SIM, script, schedule, &state)
+    assert_prints(rt, SIM, script, schedule, &state)
 }
 
 /// Scripts, schedules, and the marks of thread 1.
@@ -105,28 +106,11 @@ fn marks_tell_of_the_handler_and_the_log(rt: HostRuntime) -> Result<(), Fail> {
     Ok(())
 }
 
-/// Thread 1 has passed the entry sled before it is patched. Thread 2 runs after that.
-#[test]
-fn each_thread_has_marks_of_its_own(rt: HostRuntime) -> Result<(), Fail> {
-    let words = ["sim", "i", "s", "c", "t", "a", "--threads", "2"];
-    let states = "thread 1 returned instructions 3 passings 2\n\
-        rax=41 rcx=0 rdx=0 rbx=0 rbp=0 rsi=0 rdi=1 r8=0 r9=0 r11=0 r12=0 r13=0 r14=0 r15=0 zf=0\n\
-        output 41\n\
-        marks .1 +1\n\
-        thread 2 returned instructions 3 passings 2\n\
-        rax=41 rcx=0 rdx=0 rbx=0 rbp=0 rsi=0 rdi=2 r8=0 r9=0 r11=0 r12=0 r13=0 r14=0 r15=0 zf=0\n\
-        output 41\n\
-        marks +2\n";
-    assert_prints(&rt, &words, LIVE, "t 1 1\np 8", states)
-}
-
-/// Thread 16 makes the first load, and all others run after the schedule.
-#[test]
-fn there_may_be_sixteen_threads(rt: HostRuntime) -> Result<(), Fail> {
-    let alloc = rt.alloc();
+/// The states of threads of which only one has passed the entry sled before it is patched.
+fn states_of(alloc: Global, threads: u32, early: u32) -> Result<String, Fail> {
     let mut states = String::new(alloc);
-    for thread in 1..=16u32 {
-        let marks = if thread == 16 { ".1 +1" } else { "+2" };
+    for thread in 1..=threads {
+        let marks = if thread == early { ".1 +1" } else { "+2" };
         states.push_str(&format!(in alloc;
             "thread {thread} returned instructions 3 passings 2\n\
             rax=41 rcx=0 rdx=0 rbx=0 rbp=0 rsi=0 rdi={thread:x} r8=0 r9=0 r11=0 r12=0 r13=0 r14=0 \
@@ -135,12 +119,26 @@ fn there_may_be_sixteen_threads(rt: HostRuntime) -> Result<(), Fail> {
             marks {marks}\n"
         )?)?;
     }
-    let words = ["sim", "--threads=16", "i", "s", "c", "t", "a"];
-    assert_prints(&rt, &words, LIVE, "t 16 1\np 8", &states)
+    Ok(states)
 }
 
-/// Texts, what thread 1 leaves of them, scripts, and the marks.
-const CALLED: [(&str, &str, &str, &str); 3] = [
+/// A thread makes the first load, and the others run after the schedule.
+#[test]
+fn each_of_up_to_sixteen_threads_has_marks_of_its_own(rt: HostRuntime) -> Result<(), Fail> {
+    let two = states_of(rt.alloc(), 2, 1)?;
+    assert_prints(&rt, "sim i s c t a --threads 2", LIVE, "t 1 1\np 8", &two)?;
+    let sixteen = states_of(rt.alloc(), 16, 16)?;
+    assert_prints(
+        &rt,
+        "sim --threads=16 i s c t a",
+        LIVE,
+        "t 16 1\np 8",
+        &sixteen,
+    )
+}
+
+/// Texts, how thread 1 ends in their images, scripts, and the marks.
+const CALLED: [(&str, End, &str, &str); 3] = [
     (TAIL_JUMP, TAIL_JUMP_END, TRACED, "+4"),
     (CALL, CALL_END, TRACED, "+4"),
     // The called function has id 2: its sleds are passed between the caller's.
@@ -153,87 +151,39 @@ fn images_with_calls_and_tail_jumps_are_replayed(rt: HostRuntime) -> Result<(), 
         let mut desk = desk_of(rt.alloc(), &[], b"", script, "")?;
         desk.put("x", text.as_bytes())?;
         assert_made(&rt, &mut desk)?;
-        let run = run_words(&rt, &SIM, &mut desk, &[], &[])?;
-        let state = format!(in rt.alloc(); "{end}marks {marks}\n")?;
+        let run = run_line(&rt, SIM, &mut desk)?;
+        let state = format!(in rt.alloc(); "{}marks {marks}\n", text_of_end(rt.alloc(), end)?)?;
         assert_left(&rt, &run, 0, &state, "");
     }
     Ok(())
 }
 
-/// An option, its value, and what thread 1 then leaves. A sled needs no fuel, but the return of an
+/// An option, and how thread 1 then ends, with its marks. A sled needs no fuel, but the return of an
 /// exit sled does.
-const LIMITED: [(&str, &str, &str); 5] = [
-    (
-        "--fuel",
-        "1",
-        "thread 1 fuel instructions 1 passings 1\n\
-        rax=41 rcx=0 rdx=0 rbx=0 rbp=0 rsi=0 rdi=1 r8=0 r9=0 r11=0 r12=0 r13=0 r14=0 r15=0 zf=0\n\
-        output -\nmarks +1\n",
-    ),
-    (
-        "--fuel",
-        "0",
-        "thread 1 fuel instructions 0 passings 1\n\
-        rax=0 rcx=0 rdx=0 rbx=0 rbp=0 rsi=0 rdi=1 r8=0 r9=0 r11=0 r12=0 r13=0 r14=0 r15=0 zf=0\n\
-        output -\nmarks +1\n",
-    ),
-    (
-        "--fuel",
-        "2",
-        "thread 1 fuel instructions 2 passings 2\n\
-        rax=41 rcx=0 rdx=0 rbx=0 rbp=0 rsi=0 rdi=1 r8=0 r9=0 r11=0 r12=0 r13=0 r14=0 r15=0 zf=0\n\
-        output 41\nmarks +2\n",
-    ),
-    (
-        "--passings",
-        "1",
-        "thread 1 passings instructions 2 passings 1\n\
-        rax=41 rcx=0 rdx=0 rbx=0 rbp=0 rsi=0 rdi=1 r8=0 r9=0 r11=0 r12=0 r13=0 r14=0 r15=0 zf=0\n\
-        output 41\nmarks +1\n",
-    ),
-    (
-        "--passings",
-        "0",
-        "thread 1 passings instructions 0 passings 0\n\
-        rax=0 rcx=0 rdx=0 rbx=0 rbp=0 rsi=0 rdi=1 r8=0 r9=0 r11=0 r12=0 r13=0 r14=0 r15=0 zf=0\n\
-        output -\nmarks -\n",
-    ),
+const LIMITED: [(&str, End, &str); 5] = [
+    ("--fuel 1", ("fuel", 1, 1, MOVED, "-"), "+1"),
+    ("--fuel 0", ("fuel", 0, 1, STARTED, "-"), "+1"),
+    ("--fuel 2", ("fuel", 2, 2, MOVED, "41"), "+2"),
+    ("--passings 1", ("passings", 2, 1, MOVED, "41"), "+1"),
+    ("--passings 0", ("passings", 0, 0, STARTED, "-"), "-"),
 ];
 
 #[test]
 fn a_replay_ends_at_the_limits_of_its_options(rt: HostRuntime) -> Result<(), Fail> {
-    for (option, value, state) in &LIMITED {
-        let words = ["sim", "i", "s", option, value, "c", "t", "a"];
-        assert_prints(&rt, &words, TRACED, "", state)?;
+    let alloc = rt.alloc();
+    for (option, end, marks) in &LIMITED {
+        let line = format!(in alloc; "sim i s {option} c t a")?;
+        let text = format!(in alloc; "{}marks {marks}\n", text_of_end(alloc, end)?)?;
+        assert_prints(&rt, &line, TRACED, "", &text)?;
     }
     Ok(())
 }
 
 /// Words with options at the ends of their ranges.
-const PLACED: [&[&str]; 3] = [
-    &[
-        "sim",
-        "--fuel=1000000000",
-        "--passings",
-        "+1048576",
-        "i",
-        "s",
-        "c",
-        "t",
-        "a",
-    ],
-    &[
-        "sim",
-        "i",
-        "s",
-        "c",
-        "t",
-        "a",
-        "--passings=1048576",
-        "--fuel",
-        "01000000000",
-    ],
-    &["sim", "i", "--threads=1", "--", "s", "c", "t", "a"],
+const PLACED: [&str; 3] = [
+    "sim --fuel=1000000000 --passings +1048576 i s c t a",
+    "sim i s c t a --passings=1048576 --fuel 01000000000",
+    "sim i --threads=1 -- s c t a",
 ];
 
 #[test]
@@ -241,149 +191,108 @@ fn options_of_sim_stand_anywhere_and_at_the_ends_of_their_ranges(
     rt: HostRuntime,
 ) -> Result<(), Fail> {
     let state = format!(in rt.alloc(); "{STATE}marks n1 .1\n")?;
-    for words in &PLACED {
-        assert_prints(&rt, words, SCRIPT, SCHEDULE, &state)?;
+    for line in &PLACED {
+        assert_prints(&rt, line, SCRIPT, SCHEDULE, &state)?;
     }
     Ok(())
 }
 
-/// Words that say no command.
-const BAD_WORDS: [&[&str]; 9] = [
-    &["sim", "i", "s", "c", "t", "a", "--threads", "17"],
-    &["sim", "i", "s", "c", "t", "a", "--threads", "0"],
-    &[
-        "sim",
-        "i",
-        "s",
-        "c",
-        "t",
-        "a",
-        "--threads",
-        "1",
-        "--threads=1",
-    ],
-    &["sim", "i", "s", "c", "t", "a", "--thread", "1"],
-    &["sim", "i", "s", "c", "t", "a", "--fuel", "1000000001"],
-    &["sim", "i", "s", "c", "t", "a", "--passings", "1048577"],
-    &["sim", "i", "s", "c", "t", "a", "--fuel"],
-    &["sim", "i", "s", "--", "c", "t", "a", "--fuel=1"],
-    &["sim", "i", "s", "c", "t", "a", "--threshold", "1"],
-];
+/// A script, a schedule, and the fault on err.
+type Refusal<'r> = (&'r str, &'r str, &'r str);
 
-#[test]
-fn options_that_sim_does_not_take_are_a_bad_line(rt: HostRuntime) -> Result<(), Fail> {
-    assert_bad_lines(&rt, &BAD_WORDS)
-}
-
-/// Checks that an input is refused with a line on err.
+/// Checks that inputs are refused with their faults on err.
 fn assert_refused<R: Abort + Threads + Wait + Sync + AllocGlobal>(
     rt: &R,
-    words: &[&str],
-    script: &str,
-    schedule: &str,
     line: &str,
+    refusals: &[Refusal],
 ) -> Result<(), Fail> {
-    let run = run_image(rt, words, script, schedule)?;
-    let line = format!(in rt.alloc(); "{line}\n")?;
-    assert_stopped(rt, &run, 2, &line);
+    for (script, schedule, fault) in refusals {
+        let run = run_image(rt, line, script, schedule)?;
+        let fault = format!(in rt.alloc(); "xray: {fault}\n")?;
+        assert_stopped(rt, &run, 2, &fault);
+    }
     Ok(())
-}
-
-/// Scripts, and the lines on err.
-const SCRIPTS: [(&str, &str); 17] = [
-    ("", "xray: s: script Go 1"),
-    ("go\ngo", "xray: s: script Go 2"),
-    ("# nothing\n", "xray: s: script Go 2"),
-    ("go\nhold 1 0", "xray: s: script Go 2"),
-    ("await 1 0\ngo", "xray: s: script Go 1"),
-    ("patch_function 2\ngo", "xray: s: script Function 1"),
-    ("go\nunpatch_function 0", "xray: s: script Function 2"),
-    ("go\nrelease 2", "xray: s: script Thread 2"),
-    ("go\nrelease 1", "xray: s: script Hold 2"),
-    ("hold 1 0\ngo", "xray: s: script Hold 3"),
-    (
-        "hold 1 0\ngo\nrelease 1\nrelease 1",
-        "xray: s: script Hold 4",
-    ),
-    ("init\ninit\ngo", "xray: s: script Log 2"),
-    ("finalize\ngo", "xray: s: script Log 1"),
-    (
-        "hold 1 3\ngo\nawait 1 5\nrelease 1",
-        "xray: s: script SelfWait 3",
-    ),
-    ("patch 1", "xray: s: script Syntax 1"),
-    ("go\npatch_function 4294967296", "xray: s: script Syntax 2"),
-    ("\n# \u{1}\ngo \u{1}", "xray: s: script Syntax 3"),
-];
-
-/// The schedule would be refused too.
-#[test]
-fn a_script_is_refused_before_the_schedule(rt: HostRuntime) -> Result<(), Fail> {
-    for (script, line) in &SCRIPTS {
-        assert_refused(&rt, &SIM, script, "p 0", line)?;
-    }
-    let too_many = "patch\n".repeat(rt.alloc(), 1025)?;
-    assert_refused(&rt, &SIM, &too_many, "p 0", "xray: s: script Limit 1025")
-}
-
-/// Schedules, and the lines on err.
-const SCHEDULES: [(&str, &str); 5] = [
-    ("p 0", "xray: c: schedule Syntax 1"),
-    ("t 1", "xray: c: schedule Syntax 1"),
-    ("t 2 1", "xray: c: schedule Thread 1"),
-    ("p 1\nt 2 0", "xray: c: schedule Syntax 2"),
-    ("t 1 4294967296", "xray: c: schedule Syntax 1"),
-];
-
-#[test]
-fn a_schedule_is_refused_by_its_first_fault(rt: HostRuntime) -> Result<(), Fail> {
-    for (schedule, line) in &SCHEDULES {
-        assert_refused(&rt, &SIM, "go", schedule, line)?;
-    }
-    let too_many = "p 0\n".repeat(rt.alloc(), 1_048_577)?;
-    assert_refused(&rt, &SIM, "go", &too_many, "xray: c: schedule Limit")
 }
 
 /// A script that holds thread 1 until it has passed two sleds.
 const HELD: &str = "set_handler\ninit\nhold 1 2\ngo\nawait 1 2\npatch\nrelease 1";
 
-/// Scripts, schedules, and the lines on err.
-const WAITING: [(&str, &str, &str); 4] = [
-    (HELD, "", "xray: s: script Waits 3"),
-    (HELD, "p 0", "xray: c: schedule Syntax 1"),
+const REFUSALS: [Refusal; 26] = [
+    // Scripts. The schedule would be refused too.
+    ("", "p 0", "s: script Go 1"),
+    ("go\ngo", "p 0", "s: script Go 2"),
+    ("# nothing\n", "p 0", "s: script Go 2"),
+    ("go\nhold 1 0", "p 0", "s: script Go 2"),
+    ("await 1 0\ngo", "p 0", "s: script Go 1"),
+    ("patch_function 2\ngo", "p 0", "s: script Function 1"),
+    ("go\nunpatch_function 0", "p 0", "s: script Function 2"),
+    ("go\nrelease 2", "p 0", "s: script Thread 2"),
+    ("go\nrelease 1", "p 0", "s: script Hold 2"),
+    ("hold 1 0\ngo", "p 0", "s: script Hold 3"),
+    (
+        "hold 1 0\ngo\nrelease 1\nrelease 1",
+        "p 0",
+        "s: script Hold 4",
+    ),
+    ("init\ninit\ngo", "p 0", "s: script Log 2"),
+    ("finalize\ngo", "p 0", "s: script Log 1"),
+    (
+        "hold 1 3\ngo\nawait 1 5\nrelease 1",
+        "p 0",
+        "s: script SelfWait 3",
+    ),
+    ("patch 1", "p 0", "s: script Syntax 1"),
+    ("go\npatch_function 4294967296", "p 0", "s: script Syntax 2"),
+    ("\n# \u{1}\ngo \u{1}", "p 0", "s: script Syntax 3"),
+    // Schedules.
+    ("go", "p 0", "c: schedule Syntax 1"),
+    ("go", "t 1", "c: schedule Syntax 1"),
+    ("go", "t 2 1", "c: schedule Thread 1"),
+    ("go", "p 1\nt 2 0", "c: schedule Syntax 2"),
+    ("go", "t 1 4294967296", "c: schedule Syntax 1"),
+    // Scripts that wait. The schedule is judged before that.
+    (HELD, "", "s: script Waits 3"),
+    (HELD, "p 0", "c: schedule Syntax 1"),
     (
         "hold 1 3\ngo\nawait 1 3\nrelease 1",
         "t 1 1",
-        "xray: s: script Waits 1",
+        "s: script Waits 1",
     ),
-    ("go\n\nawait 1 0", "", "xray: s: script Waits 3"),
+    ("go\n\nawait 1 0", "", "s: script Waits 3"),
 ];
 
-/// The schedule is judged before a script that waits is refused.
 #[test]
-fn a_script_that_waits_is_refused_behind_the_schedule(rt: HostRuntime) -> Result<(), Fail> {
-    for (script, schedule, line) in &WAITING {
-        assert_refused(&rt, &SIM, script, schedule, line)?;
-    }
-    Ok(())
+fn the_script_is_judged_before_the_schedule_and_waits_after_it(
+    rt: HostRuntime,
+) -> Result<(), Fail> {
+    assert_refused(&rt, SIM, &REFUSALS)
+}
+
+#[test]
+fn longer_scripts_and_schedules_are_refused(rt: HostRuntime) -> Result<(), Fail> {
+    let patches = "patch\n".repeat(rt.alloc(), 1025)?;
+    let turns = "p 0\n".repeat(rt.alloc(), 1_048_577)?;
+    let refusals = [
+        (patches.as_str(), "p 0", "s: script Limit 1025"),
+        ("go", turns.as_str(), "c: schedule Limit"),
+    ];
+    assert_refused(&rt, SIM, &refusals)
 }
 
 /// The words of a replay of three threads.
-const THREE: [&str; 7] = ["sim", "i", "s", "c", "t", "a", "--threads=3"];
+const THREE: &str = "sim i s c t a --threads=3";
 
-/// Scripts, schedules, and the lines on err.
-const REFUSED_TO_THREE: [(&str, &str, &str); 3] = [
-    ("hold 4 0\ngo", "", "xray: s: script Thread 1"),
-    ("hold 3 0\ngo", "", "xray: s: script Hold 3"),
-    ("go", "t 4 1", "xray: c: schedule Thread 1"),
+/// What is refused to three threads.
+const REFUSED_TO_THREE: [Refusal; 3] = [
+    ("hold 4 0\ngo", "", "s: script Thread 1"),
+    ("hold 3 0\ngo", "", "s: script Hold 3"),
+    ("go", "t 4 1", "c: schedule Thread 1"),
 ];
 
 #[test]
 fn scripts_and_schedules_are_read_for_the_number_of_threads(rt: HostRuntime) -> Result<(), Fail> {
-    for (script, schedule, line) in &REFUSED_TO_THREE {
-        assert_refused(&rt, &THREE, script, schedule, line)?;
-    }
-    let run = run_image(&rt, &THREE, "go", "t 3 1")?;
+    assert_refused(&rt, THREE, &REFUSED_TO_THREE)?;
+    let run = run_image(&rt, THREE, "go", "t 3 1")?;
     assert_no_fault(&rt, &run);
     Ok(())
 }
@@ -394,5 +303,5 @@ fn a_script_may_have_1024_commands(rt: HostRuntime) -> Result<(), Fail> {
     let script = format!(in rt.alloc(); "go\n{patches}")?;
     let state = format!(in rt.alloc(); "{STATE}marks .1 n1\n")?;
     // The last head is that of the exit sled.
-    assert_prints(&rt, &SIM, &script, "t 1 1\np 8184", &state)
+    assert_prints(&rt, SIM, &script, "t 1 1\np 8184", &state)
 }

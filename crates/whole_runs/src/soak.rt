@@ -1,6 +1,6 @@
 //! `soak`: what it prints, and which words it takes.
 use crate::checks::check_same;
-use crate::runs::{Run, assert_bad_lines, assert_left, assert_no_fault, assert_stopped, run_words};
+use crate::runs::{Run, assert_left, assert_no_fault, assert_stopped, run_failing};
 use std::sync::Wait;
 use std::test::Fail;
 use std::thread::Threads;
@@ -16,21 +16,22 @@ const SUMMARY_OF_1: &str = "soak 1\n\
     trace 16912\n\
     pairs 935 entries 128 exits 54\n";
 
-/// What comes of these words over a desk that holds nothing.
+/// What comes of a number over a desk that holds nothing.
 fn soak<R: Threads + Wait + Sync + AllocGlobal>(
     rt: &R,
-    words: &[&str],
+    number: &str,
     out_failing: &[u64],
 ) -> Result<Run, Fail> {
     let alloc = rt.alloc();
+    let line = format!(in alloc; "soak {number}")?;
     let mut desk = MemDesk::new(alloc, Vec::new(alloc));
-    run_words(rt, words, &mut desk, out_failing, &[])
+    run_failing(rt, &line, &mut desk, out_failing, &[])
 }
 
 #[test]
 fn a_number_has_the_same_summary_in_each_run(rt: HostRuntime) -> Result<(), Fail> {
     for word in ["1", "+01"] {
-        let run = soak(&rt, &["soak", word], &[])?;
+        let run = soak(&rt, word, &[])?;
         assert_left(&rt, &run, 0, SUMMARY_OF_1, "");
     }
     Ok(())
@@ -53,7 +54,7 @@ const NUMBERS: [&str; 10] = [
 #[test]
 fn each_number_is_soaked(rt: HostRuntime) -> Result<(), Fail> {
     for word in &NUMBERS {
-        let run = soak(&rt, &["soak", word], &[])?;
+        let run = soak(&rt, word, &[])?;
         assert_no_fault(&rt, &run);
         let first = run.out.as_str().lines().next().unwrap_or("");
         check_same(&rt, &first.strip_prefix("soak "), &Some(*word));
@@ -61,22 +62,9 @@ fn each_number_is_soaked(rt: HostRuntime) -> Result<(), Fail> {
     Ok(())
 }
 
-/// Words that say no command.
-const BAD_WORDS: [&[&str]; 4] = [
-    &["soak"],
-    &["soak", "x"],
-    &["soak", "18446744073709551616"],
-    &["soak", "1", "2"],
-];
-
-#[test]
-fn other_words_are_refused(rt: HostRuntime) -> Result<(), Fail> {
-    assert_bad_lines(&rt, &BAD_WORDS)
-}
-
 #[test]
 fn an_output_that_fails_is_named(rt: HostRuntime) -> Result<(), Fail> {
-    let run = soak(&rt, &["soak", "1"], &[0])?;
+    let run = soak(&rt, "1", &[0])?;
     assert_stopped(&rt, &run, 4, "xray: output: write fault\n");
     Ok(())
 }

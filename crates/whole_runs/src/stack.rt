@@ -1,17 +1,9 @@
 //! `stack` and `convert`: their texts, their options, and a trace with calls that go too deep.
-use crate::runs::{IMAGE, assert_left, assert_stopped, run_words};
-use crate::trace_bytes::{CPU, ENTRY, HEADER, ONE_CALL, PREAMBLE, RECURSION, file};
-use std::alloc::Global;
+use crate::runs::{IMAGE, assert_stopped, run_line};
+use crate::trace_bytes::{
+    CPU, ENTRY, HEADER, ONE_CALL, PREAMBLE, Printed, RECURSION, assert_printed, trace_desk,
+};
 use std::test::Fail;
-use xray_io::MemDesk;
-
-/// A desk that holds a trace as `t` and an image as `i`.
-fn trace_desk(alloc: Global, trace: &[u8]) -> Result<MemDesk, Fail> {
-    let mut desk = MemDesk::new(alloc, Vec::new(alloc));
-    desk.put("t", trace)?;
-    desk.put("i", &IMAGE)?;
-    Ok(desk)
-}
 
 const TEXT_OF_ONE_CALL: &str =
     "     count        sum       self stack\n         1          2          2 main\n";
@@ -24,55 +16,22 @@ const YAML_OF_ONE_CALL: &str = "---\nheader:\n  version: 3\n  type: 1\n  constan
     - { type: 0, func-id: 1, function: 'main', cpu: 0, thread: 1, process: 1, kind: function-enter, tsc: 0 }\n  \
     - { type: 0, func-id: 1, function: 'main', cpu: 0, thread: 1, process: 1, kind: function-exit, tsc: 2 }\n...\n";
 
-const BAD_LINE: &str = "xray: bad command line\n";
-
 /// The parts of traces, words, and what is printed.
-const PRINTED: [(&[&[u8]], &[&str], &str); 5] = [
-    (&ONE_CALL, &["stack", "t", "i"], TEXT_OF_ONE_CALL),
+const PRINTED: [Printed; 5] = [
+    (&ONE_CALL, "stack t i", TEXT_OF_ONE_CALL),
     (
         &RECURSION,
-        &["stack", "t", "--format=flame"],
+        "stack t --format=flame",
         "#1;#1 25\n#1;#1;#1 10\n",
     ),
-    (&[HEADER], &["stack", "--format", "flame", "t"], ""),
-    (&ONE_CALL, &["convert", "t", "i"], YAML_OF_ONE_CALL),
-    (
-        &[HEADER],
-        &["convert", "t", "--format", "yaml"],
-        YAML_OF_NONE,
-    ),
+    (&[HEADER], "stack --format flame t", ""),
+    (&ONE_CALL, "convert t i", YAML_OF_ONE_CALL),
+    (&[HEADER], "convert t --format yaml", YAML_OF_NONE),
 ];
 
 #[test]
 fn a_trace_is_printed_as_its_words_ask(rt: HostRuntime) -> Result<(), Fail> {
-    let alloc = rt.alloc();
-    for (parts, words, text) in &PRINTED {
-        let mut desk = trace_desk(alloc, &file(alloc, parts)?)?;
-        let run = run_words(&rt, words, &mut desk, &[], &[])?;
-        assert_left(&rt, &run, 0, text, "");
-    }
-    Ok(())
-}
-
-/// Words that say no command.
-const BAD_WORDS: [&[&str]; 6] = [
-    &["stack", "t", "--format", "yaml"],
-    &["stack", "t", "--format=flame", "--format=flame"],
-    &["stack", "t", "i", "i"],
-    &["convert", "t", "--format", "flame"],
-    &["convert", "t", "--format=yaml", "--format", "yaml"],
-    &["convert"],
-];
-
-#[test]
-fn options_come_once_and_have_known_words(rt: HostRuntime) -> Result<(), Fail> {
-    let alloc = rt.alloc();
-    for words in &BAD_WORDS {
-        let mut desk = trace_desk(alloc, &file(alloc, &ONE_CALL)?)?;
-        let run = run_words(&rt, words, &mut desk, &[], &[])?;
-        assert_stopped(&rt, &run, 1, BAD_LINE);
-    }
-    Ok(())
+    assert_printed(&rt, &PRINTED)
 }
 
 /// The extents of a block, the number of its calls, the status, and the line on err.
@@ -90,13 +49,12 @@ const DEEP: [(&[u8], u32, u8, &str); 2] = [
 fn more_open_calls_than_are_followed_are_refused(rt: HostRuntime) -> Result<(), Fail> {
     let alloc = rt.alloc();
     for (extents, count, status, line) in &DEEP {
-        let mut trace = file(alloc, &[HEADER, extents, PREAMBLE, CPU])?;
+        let mut parts = Vec::from_slice(alloc, &[HEADER, *extents, PREAMBLE, CPU])?;
         for _ in 0..*count {
-            trace.extend_from_slice(ENTRY)?;
+            parts.push(ENTRY)?;
         }
-        let mut desk = trace_desk(alloc, &trace)?;
-        let words = ["stack", "t", "--format", "flame"];
-        let run = run_words(&rt, &words, &mut desk, &[], &[])?;
+        let mut desk = trace_desk(alloc, &parts, &IMAGE)?;
+        let run = run_line(&rt, "stack t --format flame", &mut desk)?;
         assert_stopped(&rt, &run, *status, line);
     }
     Ok(())

@@ -3,13 +3,13 @@
 use crate::asm::{CALL, ODD_EXIT, STRAIGHT_LINE, TAIL_JUMP};
 use crate::checks::check_same_at;
 use crate::runs::{
-    IMAGE, assert_held, assert_left, assert_made, assert_no_fault, desk_of, run_words, words_with,
+    IMAGE, assert_held, assert_left, assert_made, assert_no_fault, desk_of, run_failing, run_line,
 };
 use crate::sim::{LIVE, SIM, TRACED};
 use crate::trace_bytes::{
     BUFFERS_OF_72, BUFFERS_OF_79, BUFFERS_OF_80, BUFFERS_OF_16384, CPU, CPU_AT_1, CPU_AT_2, ENTRY,
     EXIT, EXIT_AFTER_2, EXIT_OF_2, EXTENTS_72, EXTENTS_80, EXTENTS_96, FORMAT, HEADER, ONE_CALL,
-    ONE_EXIT, PREAMBLE, PREAMBLE_OF_2, PROCESS_1, THREAD_1, file,
+    PREAMBLE, PREAMBLE_OF_2, PROCESS_1, THREAD_1, file,
 };
 use std::alloc::Global;
 use std::process::Abort;
@@ -19,7 +19,7 @@ use std::thread::Threads;
 use test_helpers::Trickle;
 
 /// The words of a replay whose trace has a wall time of 0.
-const REPLAY: [&str; 8] = ["sim", "i", "s", "c", "t", "a", "--wall", "0"];
+const REPLAY: &str = "sim i s c t a --wall 0";
 
 /// What `sim` is asked for, and what it leaves. The traces were worked by hand, record by record.
 #[derive(Clone, Copy)]
@@ -27,11 +27,13 @@ struct Row<'r> {
     /// The assembler text of the image.
     text: &'r str,
     /// The words after the names of the files.
-    options: &'r [&'r str],
+    options: &'r str,
     script: &'r str,
     schedule: &'r str,
-    /// The parts of the trace.
-    trace: &'r [&'r [u8]],
+    /// The parts of the trace's header.
+    header: &'r [&'r [u8]],
+    /// Its blocks, each with its parts.
+    blocks: &'r [&'r [&'r [u8]]],
     /// The settings in the audit that aren't the usual ones, each with its value.
     settings: &'r [(&'r str, &'r str)],
     /// The lines of the audit after its settings.
@@ -54,36 +56,80 @@ const USUAL: [(&str, &str); 12] = [
     ("frequency", "0"),
 ];
 
+/// A block with the entry of function 1 at counter 0.
+const ENTERED: &[&[u8]] = &[EXTENTS_72, PREAMBLE, CPU, ENTRY];
+
+/// One with its exit at counter 2, and the same of thread 2.
+const LEFT: &[&[u8]] = &[EXTENTS_72, PREAMBLE, CPU_AT_2, EXIT];
+
+const LEFT_BY_2: &[&[u8]] = &[EXTENTS_72, PREAMBLE_OF_2, CPU_AT_2, EXIT];
+
+/// One with thread 2's exit of function 2 at counter 1.
+const LEFT_F_BY_2: &[&[u8]] = &[EXTENTS_72, PREAMBLE_OF_2, CPU_AT_1, EXIT_OF_2];
+
 /// The row of a call that is recorded, with a wall time of 0. The other rows say how they differ.
 const CALLED: Row = Row {
     text: STRAIGHT_LINE,
-    options: &["--wall", "0"],
+    options: "--wall 0",
     script: TRACED,
     schedule: "",
-    trace: &ONE_CALL,
+    header: &[HEADER],
+    blocks: &[&[EXTENTS_80, PREAMBLE, CPU, ENTRY, EXIT_AFTER_2]],
     settings: &[],
     threads: "thread 1 returned passings 2 recorded 2 segments 1 first 0\n\
         marks +2\n\
         recycled 0\n",
 };
 
-const ROWS: [Row; 18] = [
+/// The row of a call of which nothing is recorded.
+const UNRECORDED: Row = Row {
+    blocks: &[],
+    threads: "thread 1 returned passings 2 recorded 0 segments 0 first 0\n\
+        marks .2\n\
+        recycled 0\n",
+    ..CALLED
+};
+
+/// The row of a call whose entry and exit are in two segments, with the smallest buffers.
+const SPLIT: Row = Row {
+    options: "--wall 0 --buffer-size 72",
+    header: &[FORMAT, BUFFERS_OF_72],
+    blocks: &[ENTERED, LEFT],
+    settings: &[("buffer-size", "72")],
+    threads: "thread 1 returned passings 2 recorded 2 segments 2 first 0\n\
+        marks +2\n\
+        recycled 0\n",
+    ..CALLED
+};
+
+/// The row of two threads that call a function, and lose the oldest segments of each other.
+const LOSING: Row = Row {
+    text: CALL,
+    options: "--wall 0 --threads 2 --buffer-size 72 --buffer-max 3",
+    header: &[FORMAT, BUFFERS_OF_72],
+    blocks: &[LEFT, LEFT_F_BY_2, LEFT_BY_2],
+    settings: &[("threads", "2"), ("buffer-size", "72"), ("buffer-max", "3")],
+    threads: "thread 1 returned passings 4 recorded 4 segments 4 first 3\n\
+        marks +4\n\
+        thread 2 returned passings 4 recorded 4 segments 4 first 2\n\
+        marks +4\n\
+        recycled 5\n",
+    ..CALLED
+};
+
+const ROWS: [Row; 19] = [
     // A call is recorded.
     CALLED,
     // Nothing is recorded without patching.
     Row {
         script: "go",
-        trace: &[HEADER],
-        threads: "thread 1 returned passings 2 recorded 0 segments 0 first 0\n\
-            marks .2\n\
-            recycled 0\n",
-        ..CALLED
+        ..UNRECORDED
     },
     // A passing that has begun is recorded, even if its sled is unpatched meanwhile.
     Row {
         script: "patch\nset_handler\ninit\ngo\nunpatch",
         schedule: "t 1 1\np 2",
-        trace: &[HEADER, EXTENTS_72, PREAMBLE, CPU, ENTRY],
+        blocks: &[ENTERED],
         threads: "thread 1 returned passings 2 recorded 1 segments 1 first 0\n\
             marks +1 .1\n\
             recycled 0\n",
@@ -93,17 +139,13 @@ const ROWS: [Row; 18] = [
     Row {
         script: LIVE,
         schedule: "p 3\nt 1 1",
-        trace: &[HEADER],
-        threads: "thread 1 returned passings 2 recorded 0 segments 0 first 0\n\
-            marks .2\n\
-            recycled 0\n",
-        ..CALLED
+        ..UNRECORDED
     },
     // An exit is recorded without its entry.
     Row {
         script: LIVE,
         schedule: "p 3\nt 1 1\np 5",
-        trace: &ONE_EXIT,
+        blocks: &[LEFT],
         threads: "thread 1 returned passings 2 recorded 1 segments 1 first 0\n\
             marks .1 +1\n\
             recycled 0\n",
@@ -112,182 +154,111 @@ const ROWS: [Row; 18] = [
     // Nothing is recorded without a handler.
     Row {
         script: "patch\ninit\ngo",
-        trace: &[HEADER],
         threads: "thread 1 returned passings 2 recorded 0 segments 0 first 0\n\
             marks n2\n\
             recycled 0\n",
-        ..CALLED
+        ..UNRECORDED
     },
     // Nothing is recorded in a log that is finalized.
     Row {
         script: "patch\nset_handler\ninit\nfinalize\ngo",
-        trace: &[HEADER],
         threads: "thread 1 returned passings 2 recorded 0 segments 0 first 0\n\
             marks f2\n\
             recycled 0\n",
-        ..CALLED
+        ..UNRECORDED
     },
     // A delta has 32 bits.
     Row {
         text: ODD_EXIT,
-        options: &["--wall", "0", "--tick", "4294967295"],
-        trace: &[
-            HEADER,
+        options: "--wall 0 --tick 4294967295",
+        blocks: &[&[
             EXTENTS_80,
             PREAMBLE,
             CPU,
             ENTRY,
             b"\x12\0\0\0\xFF\xFF\xFF\xFF",
-        ],
+        ]],
         settings: &[("tick", "4294967295")],
         ..CALLED
     },
     // A greater advance of the counter gets a TSCWrap record.
     Row {
         text: ODD_EXIT,
-        options: &["--wall", "0", "--tick=4294967296"],
-        trace: &[
-            HEADER,
+        options: "--wall 0 --tick=4294967296",
+        blocks: &[&[
             EXTENTS_96,
             PREAMBLE,
             CPU,
             ENTRY,
             b"\x07\0\0\0\0\x01\0\0\0\0\0\0\0\0\0\0",
             EXIT,
-        ],
+        ]],
         settings: &[("tick", "4294967296")],
         ..CALLED
     },
     // A counter that wraps gets a TSCWrap record.
     Row {
         text: ODD_EXIT,
-        options: &["--wall", "0", "--tsc", "18446744073709551615"],
-        trace: &[
-            HEADER,
+        options: "--wall 0 --tsc 18446744073709551615",
+        blocks: &[&[
             EXTENTS_96,
             PREAMBLE,
             b"\x05\0\0\xFF\xFF\xFF\xFF\xFF\xFF\xFF\xFF\0\0\0\0\0",
             ENTRY,
             b"\x07\0\0\0\0\0\0\0\0\0\0\0\0\0\0\0",
             EXIT,
-        ],
+        ]],
         settings: &[("tsc", "18446744073709551615")],
         ..CALLED
     },
     // A buffer of 72 bytes has room for one event.
-    Row {
-        options: &["--wall", "0", "--buffer-size", "72"],
-        trace: &[
-            FORMAT,
-            BUFFERS_OF_72,
-            EXTENTS_72,
-            PREAMBLE,
-            CPU,
-            ENTRY,
-            EXTENTS_72,
-            PREAMBLE,
-            CPU_AT_2,
-            EXIT,
-        ],
-        settings: &[("buffer-size", "72")],
-        threads: "thread 1 returned passings 2 recorded 2 segments 2 first 0\n\
-            marks +2\n\
-            recycled 0\n",
-        ..CALLED
-    },
+    SPLIT,
     // So has one of 79 bytes.
     Row {
-        options: &["--wall", "0", "--buffer-size=79"],
-        trace: &[
-            FORMAT,
-            BUFFERS_OF_79,
-            EXTENTS_72,
-            PREAMBLE,
-            CPU,
-            ENTRY,
-            EXTENTS_72,
-            PREAMBLE,
-            CPU_AT_2,
-            EXIT,
-        ],
+        options: "--wall 0 --buffer-size=79",
+        header: &[FORMAT, BUFFERS_OF_79],
         settings: &[("buffer-size", "79")],
-        threads: "thread 1 returned passings 2 recorded 2 segments 2 first 0\n\
-            marks +2\n\
-            recycled 0\n",
-        ..CALLED
+        ..SPLIT
     },
     // One of 80 bytes has room for two.
     Row {
-        options: &["--wall", "0", "--buffer-size", "80"],
-        trace: &[
-            FORMAT,
-            BUFFERS_OF_80,
-            EXTENTS_80,
-            PREAMBLE,
-            CPU,
-            ENTRY,
-            EXIT_AFTER_2,
-        ],
+        options: "--wall 0 --buffer-size 80",
+        header: &[FORMAT, BUFFERS_OF_80],
         settings: &[("buffer-size", "80")],
         ..CALLED
     },
     // Threads take each other's oldest segments.
+    LOSING,
+    // If no buffer is queued, each thread gets its own back.
     Row {
-        text: CALL,
-        options: &[
-            "--wall",
-            "0",
-            "--threads",
-            "2",
-            "--buffer-size",
-            "72",
-            "--buffer-max",
-            "3",
-        ],
-        trace: &[
-            FORMAT,
-            BUFFERS_OF_72,
-            EXTENTS_72,
-            PREAMBLE,
-            CPU_AT_2,
-            EXIT,
-            EXTENTS_72,
-            PREAMBLE_OF_2,
-            CPU_AT_1,
-            EXIT_OF_2,
-            EXTENTS_72,
-            PREAMBLE_OF_2,
-            CPU_AT_2,
-            EXIT,
-        ],
-        settings: &[("threads", "2"), ("buffer-size", "72"), ("buffer-max", "3")],
+        options: "--wall 0 --threads 2 --buffer-size 72 --buffer-max 2",
+        blocks: &[LEFT, LEFT_BY_2],
+        settings: &[("threads", "2"), ("buffer-size", "72"), ("buffer-max", "2")],
         threads: "thread 1 returned passings 4 recorded 4 segments 4 first 3\n\
             marks +4\n\
-            thread 2 returned passings 4 recorded 4 segments 4 first 2\n\
+            thread 2 returned passings 4 recorded 4 segments 4 first 3\n\
             marks +4\n\
-            recycled 5\n",
-        ..CALLED
+            recycled 6\n",
+        ..LOSING
     },
     // A thread that moves to another CPU says so.
     Row {
-        options: &["--wall", "0", "--cpus", "2", "--migrate", "1"],
-        trace: &[
-            HEADER,
+        options: "--wall 0 --cpus 2 --migrate 1",
+        blocks: &[&[
             EXTENTS_96,
             PREAMBLE,
             b"\x05\x01\0\0\0\0\0\0\0\0\0\0\0\0\0\0",
             ENTRY,
             CPU_AT_2,
             EXIT,
-        ],
+        ]],
         settings: &[("cpus", "2"), ("migrate", "1")],
         ..CALLED
     },
     // A tail jump is a tail exit.
     Row {
         text: TAIL_JUMP,
-        trace: &[
-            HEADER,
+        blocks: &[&[
             EXTENTS_96,
             PREAMBLE,
             CPU,
@@ -295,7 +266,7 @@ const ROWS: [Row; 18] = [
             b"\x14\0\0\0\0\0\0\0",
             b"\x20\0\0\0\x01\0\0\0",
             EXIT_OF_2,
-        ],
+        ]],
         threads: "thread 1 returned passings 4 recorded 4 segments 1 first 0\n\
             marks +4\n\
             recycled 0\n",
@@ -303,17 +274,12 @@ const ROWS: [Row; 18] = [
     },
     // The numbers of the words are in the header, in the preamble and in the audit.
     Row {
-        options: &[
-            "--frequency",
-            "18446744073709551615",
-            "--pid",
-            "2147483647",
-            "--wall",
-            "18446744073709551615",
-        ],
-        trace: &[
+        options: "--frequency 18446744073709551615 --pid 2147483647 --wall 18446744073709551615",
+        header: &[
             b"\x03\0\x01\0\x03\0\0\0\xFF\xFF\xFF\xFF\xFF\xFF\xFF\xFF",
             BUFFERS_OF_16384,
+        ],
+        blocks: &[&[
             EXTENTS_80,
             THREAD_1,
             b"\x09\xFF\xFF\xFF\xFF\xFF\xFF\xFF\xFF\0\0\0\0\0\0\0",
@@ -321,7 +287,7 @@ const ROWS: [Row; 18] = [
             CPU,
             ENTRY,
             EXIT_AFTER_2,
-        ],
+        ]],
         settings: &[
             ("pid", "2147483647"),
             ("wall", "18446744073709551615.0"),
@@ -331,9 +297,8 @@ const ROWS: [Row; 18] = [
     },
     // If the words have no wall time, the trace has the one that was passed in.
     Row {
-        options: &[],
-        trace: &[
-            HEADER,
+        options: "",
+        blocks: &[&[
             EXTENTS_80,
             THREAD_1,
             b"\x09\x07\0\0\0\0\0\0\0\x08\0\0\0\0\0\0",
@@ -341,7 +306,7 @@ const ROWS: [Row; 18] = [
             CPU,
             ENTRY,
             EXIT_AFTER_2,
-        ],
+        ]],
         settings: &[("wall", "7.8")],
         ..CALLED
     },
@@ -380,9 +345,13 @@ fn assert_leaves<R: Abort + Threads + Wait + Sync + AllocGlobal>(
     let mut desk = desk_of(alloc, &[], b"", row.script, row.schedule)?;
     desk.put("x", row.text.as_bytes())?;
     assert_made(rt, &mut desk)?;
-    let words = words_with(alloc, &SIM, row.options)?;
-    assert_no_fault(rt, &run_words(rt, &words, &mut desk, &[], &[])?);
-    assert_held(rt, desk.get("t"), &file(alloc, row.trace)?);
+    let line = format!(in alloc; "{SIM} {}", row.options)?;
+    assert_no_fault(rt, &run_line(rt, &line, &mut desk)?);
+    let mut trace = file(alloc, row.header)?;
+    for block in row.blocks {
+        trace.extend_from_slice(&file(alloc, block)?)?;
+    }
+    assert_held(rt, desk.get("t"), &trace);
     assert_held(rt, desk.get("a"), audit.as_bytes());
     Ok(())
 }
@@ -397,27 +366,27 @@ fn a_replay_leaves_its_trace_and_its_audit(rt: HostRuntime) -> Result<(), Fail> 
 
 /// Options of buffers, and the status. They are the ends of the ranges, and of a trace of at most
 /// 67,108,864 bytes.
-const RANGES: [([&str; 4], u8); 11] = [
-    (["--buffer-size", "71", "--buffer-max", "1"], 1),
-    (["--buffer-size", "72", "--buffer-max", "1"], 0),
-    (["--buffer-size", "1048576", "--buffer-max", "1"], 0),
-    (["--buffer-size", "1048577", "--buffer-max", "1"], 1),
-    (["--buffer-size", "72", "--buffer-max", "1024"], 0),
-    (["--buffer-size", "72", "--buffer-max", "1025"], 1),
-    (["--buffer-max", "0", "--threads", "1"], 1),
-    (["--buffer-max", "3", "--threads", "4"], 1),
-    (["--buffer-max", "4", "--threads", "4"], 0),
+const RANGES: [(&str, u8); 11] = [
+    ("--buffer-size 71 --buffer-max 1", 1),
+    ("--buffer-size 72 --buffer-max 1", 0),
+    ("--buffer-size 1048576 --buffer-max 1", 0),
+    ("--buffer-size 1048577 --buffer-max 1", 1),
+    ("--buffer-size 72 --buffer-max 1024", 0),
+    ("--buffer-size 72 --buffer-max 1025", 1),
+    ("--buffer-max 0 --threads 1", 1),
+    ("--buffer-max 3 --threads 4", 1),
+    ("--buffer-max 4 --threads 4", 0),
     // 224 buffers of 299,577 bytes, with 16 bytes of extents each, and a header of 32 bytes.
-    (["--buffer-max", "224", "--buffer-size", "299577"], 0),
-    (["--buffer-max", "224", "--buffer-size", "299578"], 1),
+    ("--buffer-max 224 --buffer-size 299577", 0),
+    ("--buffer-max 224 --buffer-size 299578", 1),
 ];
 
 #[test]
 fn buffers_have_their_ranges(rt: HostRuntime) -> Result<(), Fail> {
     for (options, status) in &RANGES {
         let mut desk = desk_of(rt.alloc(), &[], &IMAGE, TRACED, "")?;
-        let words = words_with(rt.alloc(), &SIM, options)?;
-        let run = run_words(&rt, &words, &mut desk, &[], &[])?;
+        let line = format!(in rt.alloc(); "{SIM} {options}")?;
+        let run = run_line(&rt, &line, &mut desk)?;
         check_same_at(&rt, &run.status, status, options);
         check_same_at(&rt, &desk.get("t").is_some(), &(*status == 0), options);
     }
@@ -440,7 +409,7 @@ fn assert_fails<R: Abort + Threads + Wait + Sync + AllocGlobal>(
     let mut desk = desk_of(rt.alloc(), failing, &IMAGE, TRACED, "p 1")?;
     desk.put("t", OLD)?;
     desk.put("a", OLD)?;
-    let run = run_words(rt, &REPLAY, &mut desk, out_failing, &[])?;
+    let run = run_failing(rt, REPLAY, &mut desk, out_failing, &[])?;
     assert_left(rt, &run, 4, "", line);
     assert_held(rt, desk.get("t"), trace);
     assert_held(rt, desk.get("a"), audit);
@@ -453,10 +422,7 @@ fn assert_fails<R: Abort + Threads + Wait + Sync + AllocGlobal>(
 fn a_call_of_the_desk_that_fails_leaves_later_outputs_untouched(
     rt: HostRuntime,
 ) -> Result<(), Fail> {
-    let (trace, audit) = (
-        file(rt.alloc(), &ONE_CALL)?,
-        audit_of(rt.alloc(), &ROWS[0])?,
-    );
+    let (trace, audit) = (file(rt.alloc(), &ONE_CALL)?, audit_of(rt.alloc(), &CALLED)?);
     let (trace, audit) = (trace.as_slice(), audit.as_bytes());
     assert_fails(&rt, &[6], &[], "xray: t: write fault\n", OLD, OLD)?;
     assert_fails(&rt, &[7], &[], "xray: t: write fault\n", b"", OLD)?;
@@ -473,7 +439,7 @@ fn a_trace_that_fails_in_the_middle_is_a_prefix(rt: HostRuntime) -> Result<(), F
     let reads = (IMAGE.len() + 1 + TRACED.len() + 1 + 1) as u64;
     let desk = desk_of(rt.alloc(), &[reads + 2], &IMAGE, TRACED, "")?;
     let mut trickle = Trickle::new(desk);
-    let run = run_words(&rt, &REPLAY, &mut trickle, &[], &[])?;
+    let run = run_line(&rt, REPLAY, &mut trickle)?;
     assert_left(&rt, &run, 4, "", "xray: t: write fault\n");
     assert_held(&rt, trickle.get("t"), &HEADER[..1]);
     assert!(rt; trickle.get("a").is_none());

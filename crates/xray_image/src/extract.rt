@@ -1,44 +1,37 @@
 //! The text of a sled map.
 
-ghost use Rattle.std.specs.Prelude.{◌≡◌, []};
+ghost use Rattle.std.specs.Prelude.{◌≡◌, [], ⊤};
 ghost use Rattle.std.specs.Option.{unwrap_or};
 ghost use Rattle.xray_io.specs.Text.{AddsText};
-ghost use Rattle.xray_io.specs.Writes.{WritesText};
 ghost use Rattle.xray_image.specs.Extract.{extract_text, sled_line, kind_text, truth_text};
 ghost use Rattle.xray_image.specs.Ids.{name_of};
 
 use crate::image::Image;
 use crate::sled::{Sled, SledKind};
-use xray_io::{Piece, Sink, Text, WriteFault};
+use xray_io::{Piece, Printed, Sink, Text, WriteFault};
 
 /// How many hexadecimal digits an address is printed with.
 const ADDRESS_DIGITS: usize = 16;
 
-/// Writes the sled map of an image as `llvm-xray extract` does: a YAML document with a line for
-/// each sled, in the order of the map.
-///
-/// On `WriteFault` a prefix of the text was written, and the sink counted a fault.
-#[tactic(auto, using(xray_io::specs::Text::writes_failed))]
-pub fn write_extract<S: Sink>(image: &Image, sink: &mut S) -> Result<(), WriteFault>
-    ensures { WritesText S.written S.faults S.along sink.old sink.new
-        (extract_text image.now) result }
-{
-    let mut text = Text::new(sink);
-    add_extract(&mut text, image)?;
-    text.done()
-}
+/// The sled map of an image, as `llvm-xray extract` prints it: a YAML document with a line for each
+/// sled, in the order of the map.
+#[derive(Clone, Copy, Debug)]
+pub struct SledMap<'a>(pub &'a Image);
 
-/// Adds the whole document.
-fn add_extract<S: Sink>(text: &mut Text<S>, image: &Image) -> Result<(), WriteFault>
-    ensures { AddsText S.written S.faults S.along text.old text.new
-        (extract_text image.now) result }
-{
-    text.bytes(b"---\n")?;
-    for number in 0..image.sled_count() {
-        let sled = image.sled(number);
-        add_sled(text, image, &sled)?;
+impl Printed for SledMap<'_> {
+    ghost text = { λ map. extract_text map.0.now };
+
+    ghost ready = { λ _. ⊤ };
+
+    fn add_to<S: Sink>(&self, to: &mut Text<S>) -> Result<(), WriteFault> {
+        let image = self.0;
+        to.bytes(b"---\n")?;
+        for number in 0..image.sled_count() {
+            let sled = image.sled(number);
+            add_sled(to, image, &sled)?;
+        }
+        to.bytes(b"...\n")
     }
-    text.bytes(b"...\n")
 }
 
 /// Adds the line of a sled.

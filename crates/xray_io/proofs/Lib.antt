@@ -1,5 +1,5 @@
 pub mod Calling
+pub mod Copies
 pub mod Gathering
 pub mod HexDigits
-pub mod Pieces
 pub mod Reading

@@ -27,5 +27,5 @@ pub use outputs::write_output;
 pub use piece::Piece;
 pub use sink::Sink;
 pub use system::{ErrSink, FileDesk, OutSink};
-pub use text::{Text, write_pieces};
+pub use text::{Each, Printed, Text, write_text};
 pub use whole::{read_whole, write_all};

@@ -1,5 +1,5 @@
 //! Text, gathered on its way to a sink.
-ghost use Rattle.std.specs.Prelude.{◌≡◌, ◌+◌, ◌<◌, ◌≤◌, [], length, replicate, OnOk};
+ghost use Rattle.std.specs.Prelude.{◌≡◌, ◌+◌, ◌<◌, ◌≤◌, ℕ, [], ⊤, length, replicate, List, OnOk};
 ghost use Rattle.std.specs.Fmt.{decimal};
 ghost use Rattle.xray_io.specs.Piece.{piece_text, text_of, hexadecimal, right_aligned};
 ghost use Rattle.xray_io.specs.Writes.{Sends, WritesText};
@@ -136,26 +136,11 @@ impl<'a, S: Sink> Text<'a, S> {
         self.bytes(&buffer[start..])
     }
 
-    /// Adds a piece.
-    pub fn piece(&mut self, piece: &Piece) -> Result<(), WriteFault>
-        ensures adds { AddsText S.written S.faults S.along self.old self.new (piece_text piece.now) result }
-    {
-        match *piece {
-            Piece::Bytes(bytes) => self.bytes(bytes),
-            Piece::Number(n) => self.number(n),
-            Piece::Right { number, width } => self.right(number, width),
-            Piece::Hex { number, digits } => self.hex(number, digits),
-        }
-    }
-
     /// Adds pieces, one after the other.
     pub fn pieces(&mut self, pieces: &[Piece]) -> Result<(), WriteFault>
         ensures adds { AddsText S.written S.faults S.along self.old self.new (text_of pieces.now) result }
     {
-        for piece in pieces {
-            self.piece(piece)?;
-        }
-        Ok(())
+        Each(pieces).add_to(self)
     }
 
     /// Writes what still waits. Then the sink has all of the text.
@@ -168,12 +153,63 @@ impl<'a, S: Sink> Text<'a, S> {
     }
 }
 
-/// Writes the text of these pieces. On `WriteFault` a prefix of it was written, and the sink
-/// counted a fault.
-pub fn write_pieces<S: Sink>(sink: &mut S, pieces: &[Piece]) -> Result<(), WriteFault>
-    ensures writes { WritesText S.written S.faults S.along sink.old sink.new (text_of pieces.now) result }
+/// A value that is written as text.
+pub trait Printed {
+    ghost use Rattle.xray_io.specs.Text.{AddsText};
+
+    /// Its text.
+    ghost text: { Self → List ℕ };
+
+    /// What its text needs of it.
+    ghost ready: { Self → Type 0 };
+
+    /// Adds its text to one that is on its way.
+    fn add_to<S: Sink>(&self, to: &mut Text<S>) -> Result<(), WriteFault>
+        requires ready { ready self.now }
+        ensures adds { AddsText S.written S.faults S.along to.old to.new (text self.now) result };
+}
+
+/// Writes the text of this value. On `WriteFault` a prefix of it was written, and the sink counted a
+/// fault.
+pub fn write_text<T: Printed, S: Sink>(value: &T, sink: &mut S) -> Result<(), WriteFault>
+    requires ready { T.ready value.now }
+    ensures writes { WritesText S.written S.faults S.along sink.old sink.new (T.text value.now) result }
 {
     let mut text = Text::new(sink);
-    text.pieces(pieces)?;
+    value.add_to(&mut text)?;
     text.done()
+}
+
+impl Printed for Piece<'_> {
+    ghost text = { piece_text };
+
+    ghost ready = { λ _. ⊤ };
+
+    fn add_to<S: Sink>(&self, to: &mut Text<S>) -> Result<(), WriteFault> {
+        match *self {
+            Piece::Bytes(bytes) => to.bytes(bytes),
+            Piece::Number(n) => to.number(n),
+            Piece::Right { number, width } => to.right(number, width),
+            Piece::Hex { number, digits } => to.hex(number, digits),
+        }
+    }
+}
+
+/// Values, one after the other.
+#[derive(Debug, Clone, Copy, PartialEq, Eq)]
+pub struct Each<'a, T>(pub &'a [T]);
+
+impl<T: Printed> Printed for Each<'_, T> {
+    ghost use Rattle.std.specs.List.{All, flat_map};
+
+    ghost text = { λ each. flat_map T.text each.0.now };
+
+    ghost ready = { λ each. All T.ready each.0.now };
+
+    fn add_to<S: Sink>(&self, to: &mut Text<S>) -> Result<(), WriteFault> {
+        for value in self.0 {
+            value.add_to(to)?;
+        }
+        Ok(())
+    }
 }

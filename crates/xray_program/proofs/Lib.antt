@@ -14,7 +14,6 @@ pub mod Outputting
 pub mod PlainLaws
 pub mod PlainThreads
 pub mod Reports
-pub mod Rows
 pub mod RunExists
 pub mod RunLaws
 pub mod RunLoads

@@ -19,7 +19,7 @@ use Rattle.trace_flush.specs.declared.line.AuditLine.{AuditLine}
 use Rattle.traced_run.specs.Kept.{buffer_of, kept_buffers, segment_count, segments_of, stamp_of, thread_buffers}
 use Rattle.traced_run.specs.Left.{HasRun, Leaves}
 use Rattle.traced_run.specs.Runs.{ThreadRun}
-use Rattle.xray_program.specs.private.Ends.{thread_text}
+use Rattle.machine_step.specs.EndedText.{thread_text}
 use Rattle.xray_program.specs.Traced.{state_texts, written_of}
 
 -- the text of a thread that has run is its state text

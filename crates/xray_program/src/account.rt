@@ -5,13 +5,11 @@ use crate::account_options::{format_of, is_descending, key_of};
 use crate::delivery::{NoOutputs, deliver};
 use crate::report_inputs::{ReportInputs, take_report};
 use crate::stop::Stop;
-use crate::text::Printed;
 use crate::work::Work;
-use account_report::{AccountFormat, AccountRow, account, latencies, order_rows, write_account};
+use account_report::{AccountText, account, latencies, order_rows};
 use command_words::AccountOptions;
 use std::alloc::Global;
-use xray_image::Image;
-use xray_io::{Desk, Sink, WriteFault};
+use xray_io::{Desk, Sink};
 
 /// `account TRACE [IMAGE]`.
 #[derive(Drop)]
@@ -26,8 +24,7 @@ pub(crate) struct Account<'a> {
 
 impl<'a> Work<'a> for Account<'a> {
     ghost use Rattle.std.specs.Prelude.{[], ⊤};
-    ghost use Rattle.xray_program.specs.Account.{account_report};
-    ghost use Rattle.xray_program.specs.Outcomes.{Done};
+    ghost use Rattle.xray_program.specs.{Account.{account_report}, Outcomes.{Done}};
     ghost use Rattle.command_words.specs.Words as words;
 
     type Inputs = ReportInputs;
@@ -58,34 +55,12 @@ impl<'a> Work<'a> for Account<'a> {
             is_descending(options.order),
             options.top,
         );
-        let text = Rows {
+        let text = AccountText {
             rows: &rows,
             latencies,
             image: inputs.image.as_ref(),
             format: format_of(options.format),
         };
         deliver(desk, out, &NoOutputs, &text, None)
-    }
-}
-
-/// The rows of an account, as they are printed.
-#[derive(Drop)]
-struct Rows<'t> {
-    rows: &'t [AccountRow],
-    latencies: u64,
-    image: Option<&'t Image>,
-    format: AccountFormat,
-}
-
-impl Printed for Rows<'_> {
-    ghost use Rattle.std.specs.Prelude.{⊤};
-    ghost use Rattle.account_report.specs.AccountText.{account_text};
-
-    ghost text = { λ r. account_text r.format r.latencies (option_map (λ image. image.now) r.image) r.rows.now };
-
-    ghost ready = { λ _. ⊤ };
-
-    fn print<S: Sink>(&self, sink: &mut S) -> Result<(), WriteFault> {
-        write_account(self.rows, self.latencies, self.image, self.format, sink)
     }
 }

@@ -6,10 +6,9 @@ use crate::image_file::ImageFile;
 use crate::input::take;
 use crate::inputs::TextKind;
 use crate::stop::Stop;
-use crate::text::{Bytes, NoText};
 use crate::work::Work;
 use std::alloc::Global;
-use xray_io::{Desk, Sink};
+use xray_io::{Desk, Piece, Sink};
 
 /// `asm TEXT IMAGE`.
 #[derive(Drop)]
@@ -49,11 +48,11 @@ impl<'a> Work<'a> for Asm<'a> {
         desk: &mut D,
         out: &mut O,
     ) -> Result<(), Stop<'a>> {
-        let text = Bytes { bytes: &file.bytes };
+        let text = Piece::Bytes(&file.bytes);
         let output = Output {
             name: self.image,
             text: &text,
         };
-        deliver(desk, out, &output, &NoText, None)
+        deliver(desk, out, &output, &Piece::Bytes(b""), None)
     }
 }

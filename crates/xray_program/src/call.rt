@@ -1,12 +1,9 @@
 //! The top call.
 ghost use Rattle.std.specs.Prelude.{◌≡◌, IfErr, IfOk, OnOk, Some};
-ghost use Rattle.command_words.specs.Items.{texts};
-ghost use Rattle.command_words.specs.Ranges.{HasRanges};
-ghost use Rattle.command_words.specs.Views.{command_view};
+ghost use Rattle.command_words.specs.{Items.{texts}, Ranges.{HasRanges}, Views.{command_view}};
 ghost use Rattle.command_words.specs.Words.{reading};
 ghost use Rattle.xray_io.specs.World.{desk_view, sink_view};
-ghost use Rattle.xray_program.specs.Answers.{Answered, Says};
-ghost use Rattle.xray_program.specs.Commands.{IsStill};
+ghost use Rattle.xray_program.specs.{Answers.{Answered, Says}, Commands.{IsStill}};
 ghost use Rattle.xray_program.specs.private.CallLaws.{CallLaws};
 ghost use Rattle.xray_program.specs.private.Stops.{answer_of, told_of, IsUnsaid};
 ghost use Rattle.xray_program.specs.private.Works.{Ends, FitsTraces, IsOther, IsReport, SaidFits};

@@ -4,13 +4,10 @@ ghost use Rattle.std.specs.Prelude.{◌≡◌, option_map};
 use crate::delivery::{NoOutputs, deliver};
 use crate::report_inputs::{ReportInputs, take_report};
 use crate::stop::Stop;
-use crate::text::Printed;
 use crate::work::Work;
-use fdr_file::Trace;
 use std::alloc::Global;
-use xray_image::Image;
-use xray_io::{Desk, Sink, WriteFault};
-use yaml_convert::write_yaml;
+use xray_io::{Desk, Sink};
+use yaml_convert::YamlText;
 
 /// `convert TRACE [IMAGE]`.
 #[derive(Drop)]
@@ -46,30 +43,10 @@ impl<'a> Work<'a> for Convert<'a> {
         desk: &mut D,
         out: &mut O,
     ) -> Result<(), Stop<'a>> {
-        let text = Yaml {
+        let text = YamlText {
             trace: &inputs.trace,
             image: inputs.image.as_ref(),
         };
         deliver(desk, out, &NoOutputs, &text, None)
-    }
-}
-
-/// A trace, as it is printed.
-#[derive(Drop)]
-struct Yaml<'t> {
-    trace: &'t Trace,
-    image: Option<&'t Image>,
-}
-
-impl Printed for Yaml<'_> {
-    ghost use Rattle.std.specs.Prelude.{⊤};
-    ghost use Rattle.yaml_convert.specs.Yaml.{yaml_text};
-
-    ghost text = { λ y. yaml_text (option_map (λ image. image.now) y.image) y.trace.now };
-
-    ghost ready = { λ _. ⊤ };
-
-    fn print<S: Sink>(&self, sink: &mut S) -> Result<(), WriteFault> {
-        write_yaml(self.trace, self.image, sink)
     }
 }

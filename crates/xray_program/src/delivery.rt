@@ -1,16 +1,14 @@
 //! The end of a command's work: its outputs are written, and then its text.
 ghost use Rattle.std.specs.Prelude.{◌≡◌, ℕ, List, [], ◌∷◌, Contains, Option, option_map, IfErr, OnOk};
 ghost use Rattle.fault_words.specs.Words.{words_text};
-ghost use Rattle.xray_io.specs.Calls.{Went};
-ghost use Rattle.xray_io.specs.Outputs.{AppendsText, MakesOutput};
+ghost use Rattle.xray_io.specs.{Calls.{Went}, Outputs.{AppendsText, MakesOutput}};
 ghost use Rattle.xray_io.specs.World.{desk_view, sink_view};
 ghost use Rattle.xray_program.specs.Outputs.{AreWhole};
 ghost use Rattle.xray_program.specs.private.Works.{AreMakings, Delivers, KeepsOthers, StopsOutputs, names_of};
 
 use crate::stop::Stop;
-use crate::text::Printed;
 use fault_words::Words;
-use xray_io::{Desk, DeskFile, Sink, WriteFault};
+use xray_io::{Desk, DeskFile, Printed, Sink, WriteFault, write_text};
 
 /// The name of the standard output in a line on err.
 const OUT: &str = "output";
@@ -124,7 +122,7 @@ fn append<P: Printed, D: Desk>(desk: &mut D, name: &str, text: &P) -> Result<(),
         desk.old desk.new name.now (P.text text.now) result }
 {
     let mut file = DeskFile::new(desk, name);
-    text.print(&mut file)
+    write_text(text, &mut file)
 }
 
 /// Creates and writes the outputs, each in its turn, and then writes the text on out. After a
@@ -148,7 +146,7 @@ pub(crate) fn deliver<'a, W: Outputs<'a>, P: Printed, D: Desk, O: Sink>(
         KeepsOthers (names_of (W.all outputs.now)) (seen desk.old) (seen desk.new) }
 {
     outputs.write(desk)?;
-    match text.print(out) {
+    match write_text(text, out) {
         Ok(()) => match trouble {
             Some(words) => Err(Stop::Fell(words)),
             None => Ok(()),

@@ -1,16 +1,12 @@
 //! The inputs of `soak`, which are drawn from a number, and their replay.
 ghost use Rattle.std.specs.Prelude.{◌≡◌, ◌<◌, ◌≤◌, ℕ, length, IfErr, IfOk, None, Ok};
 ghost use Rattle.std.specs.Str.Lines.{lines};
-ghost use Rattle.asm_text.specs.Assembling.{said_by};
-ghost use Rattle.asm_text.specs.Layout.{Lines};
-ghost use Rattle.asm_text.specs.Programs.{program_said};
-ghost use Rattle.patch_script.specs.Plans.{waiting_line};
-ghost use Rattle.patch_script.specs.Refusals.{commands_of};
+ghost use Rattle.asm_text.specs.{Assembling.{said_by}, Layout.{Lines}, Programs.{program_said}};
+ghost use Rattle.patch_script.specs.{Plans.{waiting_line}, Refusals.{commands_of}};
 ghost use Rattle.soak_inputs.specs.Inputs.{soak_script, soak_text};
 ghost use Rattle.step_sim.specs.Replayed.{IsSimulated};
 ghost use Rattle.xray_program.specs.Soak.{AreInputs, soak_setup};
-ghost use Rattle.xray_program.specs.private.Drawn.{InputLaws};
-ghost use Rattle.xray_program.specs.private.SimInputs.{AreReadFor};
+ghost use Rattle.xray_program.specs.private.{Drawn.{InputLaws}, SimInputs.{AreReadFor}};
 
 use crate::sim_inputs::SimInputs;
 use asm_text::{an_assembled_file_is_accepted, assemble};

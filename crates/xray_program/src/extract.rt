@@ -5,11 +5,10 @@ use crate::delivery::{NoOutputs, deliver};
 use crate::input::take;
 use crate::inputs::ImageKind;
 use crate::stop::Stop;
-use crate::text::Printed;
 use crate::work::Work;
 use std::alloc::Global;
-use xray_image::{Image, write_extract};
-use xray_io::{Desk, Sink, WriteFault};
+use xray_image::{Image, SledMap};
+use xray_io::{Desk, Sink};
 
 /// `extract IMAGE`.
 #[derive(Drop)]
@@ -43,25 +42,6 @@ impl<'a> Work<'a> for Extract<'a> {
         desk: &mut D,
         out: &mut O,
     ) -> Result<(), Stop<'a>> {
-        deliver(desk, out, &NoOutputs, &SledMap { image }, None)
-    }
-}
-
-/// The text of an image's sled map.
-#[derive(Drop)]
-struct SledMap<'t> {
-    image: &'t Image,
-}
-
-impl Printed for SledMap<'_> {
-    ghost use Rattle.std.specs.Prelude.{⊤};
-    ghost use Rattle.xray_image.specs.Extract.{extract_text};
-
-    ghost text = { λ m. extract_text m.image.now };
-
-    ghost ready = { λ _. ⊤ };
-
-    fn print<S: Sink>(&self, sink: &mut S) -> Result<(), WriteFault> {
-        write_extract(self.image, sink)
+        deliver(desk, out, &NoOutputs, &SledMap(image), None)
     }
 }

@@ -1,7 +1,6 @@
 //! An input in its turn: it is read, measured and judged before the next one is opened.
 ghost use Rattle.std.specs.Prelude.{◌≡◌, ◌≤◌, ℕ, List, Some, length, option_map, IfOk, IfErr};
-ghost use Rattle.xray_io.specs.Calls.{Went};
-ghost use Rattle.xray_io.specs.World.{desk_view};
+ghost use Rattle.xray_io.specs.{Calls.{Went}, World.{desk_view}};
 ghost use Rattle.xray_program.specs.private.Takes.{IsFaultStop, IsMaybeTaken, IsMaybeTaking, IsReadStop, IsTaken, IsTaking};
 ghost use Rattle.xray_program.specs.Taking.{Form};
 

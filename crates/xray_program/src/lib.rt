@@ -37,7 +37,6 @@ mod soak;
 mod stack;
 mod stop;
 mod summary;
-mod text;
 mod traced;
 mod work;
 

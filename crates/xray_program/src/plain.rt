@@ -1,21 +1,18 @@
 //! `plain`: the plain runs of an image's threads.
 ghost use Rattle.std.specs.Prelude.{◌≡◌, IfOk};
-ghost use Rattle.std.specs.List.{All, flat_map};
-ghost use Rattle.xray_io.specs.Writes.{WritesText};
-ghost use Rattle.xray_program.specs.private.Ends.{AreEnds, HasRegisters, end_text};
+ghost use Rattle.xray_program.specs.private.Ends.{AreEnds};
 
 use crate::delivery::{NoOutputs, deliver};
 use crate::input::take;
 use crate::inputs::ImageKind;
 use crate::setups::plain_limits;
 use crate::stop::Stop;
-use crate::text::Printed;
 use crate::work::Work;
 use command_words::Bounds;
-use machine_step::{PlainEnd, Steps, plain_run, write_plain};
+use machine_step::{PlainEnd, Steps, plain_run};
 use std::alloc::Global;
 use xray_image::Image;
-use xray_io::{Desk, NoMemory, Sink, WriteFault};
+use xray_io::{Desk, Each, NoMemory, Sink};
 
 /// `plain IMAGE`.
 #[derive(Drop)]
@@ -28,8 +25,7 @@ pub(crate) struct Plain<'a> {
 
 impl<'a> Work<'a> for Plain<'a> {
     ghost use Rattle.std.specs.Prelude.{⊤};
-    ghost use Rattle.xray_program.specs.Plain.{PlainPrints};
-    ghost use Rattle.xray_program.specs.Taking.{Prints};
+    ghost use Rattle.xray_program.specs.{Plain.{PlainPrints}, Taking.{Prints}};
     ghost use Rattle.command_words.specs.Words as words;
 
     type Inputs = Image;
@@ -52,7 +48,7 @@ impl<'a> Work<'a> for Plain<'a> {
         out: &mut O,
     ) -> Result<(), Stop<'a>> {
         let ends = run_threads(alloc, image, self.bounds)?;
-        deliver(desk, out, &NoOutputs, &Ends { ends: &ends }, None)
+        deliver(desk, out, &NoOutputs, &Each(&ends), None)
     }
 }
 
@@ -66,34 +62,4 @@ fn run_threads(alloc: Global, image: &Image, bounds: Bounds) -> Result<Vec<Plain
         ends.push(plain_run(alloc, &steps, thread + 1, plain_limits(bounds))?)?;
     }
     Ok(ends)
-}
-
-/// The plain texts of threads, in the order of their numbers.
-#[derive(Drop)]
-struct Ends<'t> {
-    ends: &'t [PlainEnd],
-}
-
-impl Printed for Ends<'_> {
-    ghost use Rattle.std.specs.List.{All, flat_map};
-    ghost use Rattle.xray_program.specs.private.Ends.{HasRegisters, end_text};
-
-    ghost text = { λ e. flat_map end_text e.ends.now };
-
-    ghost ready = { λ e. All HasRegisters e.ends.now };
-
-    fn print<S: Sink>(&self, sink: &mut S) -> Result<(), WriteFault> {
-        write_ends(sink, self.ends)
-    }
-}
-
-/// Writes the plain texts of threads, one after another.
-fn write_ends<S: Sink>(sink: &mut S, ends: &[PlainEnd]) -> Result<(), WriteFault>
-    requires { All HasRegisters ends.now }
-    ensures { WritesText S.written S.faults S.along sink.old sink.new (flat_map end_text ends.now) result }
-{
-    for end in ends {
-        write_plain(end, sink)?;
-    }
-    Ok(())
 }

@@ -1,7 +1,6 @@
 //! The inputs of a report on a trace.
 ghost use Rattle.std.specs.Prelude.{◌≡◌, ◌≤◌, option_map};
-ghost use Rattle.xray_io.specs.Calls.{Went};
-ghost use Rattle.xray_io.specs.World.{desk_view};
+ghost use Rattle.xray_io.specs.{Calls.{Went}, World.{desk_view}};
 ghost use Rattle.xray_program.specs.Reports.{report_inputs};
 ghost use Rattle.xray_program.specs.private.ReportTakes.{IsReportTaken, StopsReport};
 ghost use Rattle.xray_program.specs.private.Takes.{AreTakings};

@@ -35,8 +35,7 @@ pub(crate) struct Sim<'a> {
 }
 
 impl<'a> Work<'a> for Sim<'a> {
-    ghost use Rattle.xray_program.specs.Setups.{setup_of};
-    ghost use Rattle.xray_program.specs.Sim.{Replays};
+    ghost use Rattle.xray_program.specs.{Setups.{setup_of}, Sim.{Replays}};
     ghost use Rattle.xray_program.specs.private.SimInputs.{AreReadFor};
     ghost use Rattle.command_words.specs.Words as words;
 

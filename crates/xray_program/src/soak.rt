@@ -3,10 +3,9 @@
 use crate::delivery::{NoOutputs, deliver};
 use crate::stop::Stop;
 use crate::summary::summary_of;
-use crate::text::Bytes;
 use crate::work::Work;
 use std::alloc::Global;
-use xray_io::{Desk, Sink};
+use xray_io::{Desk, Piece, Sink};
 
 /// `soak SEED`.
 #[derive(Drop)]
@@ -40,9 +39,6 @@ impl<'a> Work<'a> for Soak {
         out: &mut O,
     ) -> Result<(), Stop<'a>> {
         let summary = summary_of(alloc, self.number)?;
-        let text = Bytes {
-            bytes: summary.bytes(),
-        };
-        deliver(desk, out, &NoOutputs, &text, None)
+        deliver(desk, out, &NoOutputs, &Piece::Bytes(summary.bytes()), None)
     }
 }

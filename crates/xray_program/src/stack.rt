@@ -6,13 +6,11 @@ use crate::delivery::{NoOutputs, deliver};
 use crate::input::fault_stop;
 use crate::report_inputs::{ReportInputs, take_report};
 use crate::stop::Stop;
-use crate::text::Printed;
 use crate::work::Work;
 use command_words::StackFormat;
-use stack_rebuild::{StackForm, StackRow, stacks, write_stack};
+use stack_rebuild::{StackForm, StackText, stacks};
 use std::alloc::Global;
-use xray_image::Image;
-use xray_io::{Desk, Sink, WriteFault};
+use xray_io::{Desk, Sink};
 
 /// The word for a trace in a line on err.
 const TRACE: &str = "trace";
@@ -54,7 +52,7 @@ impl<'a> Work<'a> for Stack<'a> {
     ) -> Result<(), Stop<'a>> {
         match stacks(alloc, &inputs.trace) {
             Ok(rows) => {
-                let text = Stacks {
+                let text = StackText {
                     rows: &rows,
                     image: inputs.image.as_ref(),
                     form: form_of(self.format),
@@ -73,27 +71,5 @@ fn form_of(format: StackFormat) -> StackForm
     match format {
         StackFormat::Human => StackForm::Human,
         StackFormat::Flame => StackForm::Flame,
-    }
-}
-
-/// Stacks, as they are printed.
-#[derive(Drop)]
-struct Stacks<'t> {
-    rows: &'t [StackRow],
-    image: Option<&'t Image>,
-    form: StackForm,
-}
-
-impl Printed for Stacks<'_> {
-    ghost use Rattle.std.specs.Prelude.{⊤, map};
-    ghost use Rattle.stack_rebuild.specs.Stacks.{told};
-    ghost use Rattle.stack_rebuild.specs.StackText.{stack_text};
-
-    ghost text = { λ s. stack_text s.form (option_map (λ image. image.now) s.image) (map told s.rows.now) };
-
-    ghost ready = { λ _. ⊤ };
-
-    fn print<S: Sink>(&self, sink: &mut S) -> Result<(), WriteFault> {
-        write_stack(self.rows, self.image, self.form, sink)
     }
 }

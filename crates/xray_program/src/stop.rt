@@ -1,14 +1,12 @@
 //! What ends a call before all is done.
 ghost use Rattle.std.specs.Prelude.{◌≡◌, ◌++◌};
 ghost use Rattle.fault_words.specs.Words.{words_text};
-ghost use Rattle.xray_io.specs.Piece.{text_of};
-ghost use Rattle.xray_io.specs.World.{sink_view};
-ghost use Rattle.xray_program.specs.Answers.{Says};
-ghost use Rattle.xray_program.specs.Outcomes.{Refused, err_line, line_of};
+ghost use Rattle.xray_io.specs.{Piece.{text_of}, World.{sink_view}};
+ghost use Rattle.xray_program.specs.{Answers.{Says}, Outcomes.{Refused, err_line, line_of}};
 ghost use Rattle.xray_program.specs.private.Stops.{stop_line, stop_status};
 
 use fault_words::Words;
-use xray_io::{NoMemory, Piece, Sink, write_pieces};
+use xray_io::{Each, NoMemory, Piece, Sink, write_text};
 
 /// The start of each line on err.
 const PROGRAM: Piece = Piece::Bytes(b"xray: ");
@@ -141,5 +139,5 @@ fn say<E: Sink>(err: &mut E, line: &[Piece])
     ensures { let heard = sink_view E.written E.faults in
         Says (heard err.old) (heard err.new) (text_of line.now) }
 {
-    let _ = write_pieces(err, line);
+    let _ = write_text(&Each(line), err);
 }

@@ -1,14 +1,10 @@
 //! The summary that `soak` prints.
 ghost use Rattle.std.specs.Prelude.{◌≡◌, ◌++◌, All, IfOk, IsTrue, Ok, codes, decimal, length, sum_by};
-ghost use Rattle.fdr_file.specs.Files.{file_bytes};
-ghost use Rattle.fdr_file.specs.Traces.{trace_of};
+ghost use Rattle.fdr_file.specs.{Files.{file_bytes}, Traces.{trace_of}};
 ghost use Rattle.fdr_file.specs.declared.trace.Trace.{Trace};
 ghost use Rattle.machine_step.specs.Texts.{line_feed};
-ghost use Rattle.trace_flush.specs.Audit.{accounts};
-ghost use Rattle.trace_flush.specs.Flush.{header_of};
-ghost use Rattle.xray_io.specs.Memory.{sink_bytes};
-ghost use Rattle.xray_io.specs.Text.{AddsText};
-ghost use Rattle.xray_io.specs.Writes.{WritesText};
+ghost use Rattle.trace_flush.specs.{Audit.{accounts}, Flush.{header_of}};
+ghost use Rattle.xray_io.specs.{Memory.{sink_bytes}, Text.{AddsText}};
 ghost use Rattle.xray_program.specs.Soak.{IsSummary, soak_setup, trace_lines};
 ghost use Rattle.xray_program.specs.private.Drawn.{IsReadBack, summary_with};
 
@@ -21,7 +17,7 @@ use machine_step::{Cpu, Steps};
 use std::alloc::Global;
 use trace_flush::{AuditLine, a_run_is_audited, add_audit_lines, add_summary, trace_header};
 use trace_words::TraceRefusal;
-use xray_io::{MemSink, NoMemory, Piece, Sink, Text, WriteFault};
+use xray_io::{MemSink, NoMemory, Piece, Printed, Sink, Text, WriteFault, write_text};
 
 /// What was read back of a trace.
 #[derive(Drop)]
@@ -44,8 +40,29 @@ pub(crate) fn summary_of(alloc: Global, number: u64) -> Result<MemSink, NoMemory
     let back = read_back(alloc, &end.buffers)?;
     let mut lines = room_for(alloc, SOAK_SETUP.threads)?;
     add_audit_lines(&end.cpus, &end.segments, &end.first, &mut lines);
+    summed_up(alloc, number, &lines, &end.cpus, &back)
+}
+
+/// A summary in memory.
+fn summed_up(
+    alloc: Global,
+    number: u64,
+    lines: &[AuditLine],
+    cpus: &[Cpu],
+    back: &ReadBack,
+) -> Result<MemSink, NoMemory>
+    requires { length lines.now ≡ length cpus.now }
+    ensures { IfOk result (λ sink. sink_bytes sink
+        ≡ summary_with number (accounts lines.now cpus.now) back.now.bytes back.now.rows.items) }
+{
     let mut sink = MemSink::new(alloc, Vec::new(alloc));
-    match write_summary(&mut sink, number, &lines, &end.cpus, &back) {
+    let summary = Summary {
+        number,
+        lines,
+        cpus,
+        back,
+    };
+    match write_text(&summary, &mut sink) {
         Ok(()) => Ok(sink),
         Err(WriteFault) => Err(NoMemory),
     }
@@ -92,39 +109,30 @@ fn trace_in(alloc: Global, bytes: &[u8]) -> Result<Trace, NoMemory>
     unrefused(read)
 }
 
-/// Writes the summary.
-#[tactic(auto, using(xray_io::specs::Text::writes_failed))]
-fn write_summary<S: Sink>(
-    sink: &mut S,
+/// What is summed up of a run and its trace.
+#[derive(Drop)]
+struct Summary<'a, 'i> {
+    /// The number that the inputs were drawn from.
     number: u64,
-    lines: &[AuditLine],
-    cpus: &[Cpu],
-    back: &ReadBack,
-) -> Result<(), WriteFault>
-    requires { length lines.now ≡ length cpus.now }
-    ensures { WritesText S.written S.faults S.along sink.old sink.new
-        (summary_with number (accounts lines.now cpus.now) back.now.bytes back.now.rows.items) result }
-{
-    let mut text = Text::new(sink);
-    add_all(&mut text, number, lines, cpus, back)?;
-    text.done()
+    /// What is said of each thread.
+    lines: &'a [AuditLine],
+    /// The threads, as many as lines and in the same order.
+    cpus: &'a [Cpu<'i>],
+    /// What was read back of the trace.
+    back: &'a ReadBack,
 }
 
-/// Adds the whole summary.
-fn add_all<S: Sink>(
-    text: &mut Text<S>,
-    number: u64,
-    lines: &[AuditLine],
-    cpus: &[Cpu],
-    back: &ReadBack,
-) -> Result<(), WriteFault>
-    requires { length lines.now ≡ length cpus.now }
-    ensures { AddsText S.written S.faults S.along text.old text.new
-        (summary_with number (accounts lines.now cpus.now) back.now.bytes back.now.rows.items) result }
-{
-    add_number(text, number)?;
-    add_summary(text, lines, cpus)?;
-    add_trace(text, back)
+impl Printed for Summary<'_, '_> {
+    ghost text = { λ all. summary_with all.number (accounts all.lines.now all.cpus.now)
+        all.back.now.bytes all.back.now.rows.items };
+
+    ghost ready = { λ all. length all.lines.now ≡ length all.cpus.now };
+
+    fn add_to<S: Sink>(&self, to: &mut Text<S>) -> Result<(), WriteFault> {
+        add_number(to, self.number)?;
+        add_summary(to, self.lines, self.cpus)?;
+        add_trace(to, self.back)
+    }
 }
 
 /// Adds the line of the number.

@@ -3,26 +3,21 @@
 ghost use Rattle.std.specs.Prelude.{◌≡◌, ◌≢◌, ◌≤◌, [], ◌∷◌, IfOk, IsTrue, List, None, length, vec_capacity};
 ghost use Rattle.std.specs.List.{All, flat_map};
 ghost use Rattle.fdr_file.specs.Files.{file_bytes};
-ghost use Rattle.machine_step.specs.Traced.{IsDone};
-ghost use Rattle.trace_flush.specs.Audit.{accounts, audit_text};
-ghost use Rattle.trace_flush.specs.Flush.{header_of};
-ghost use Rattle.traced_run.specs.Left.{Leaves};
-ghost use Rattle.traced_run.specs.Runs.{ThreadRun};
+ghost use Rattle.machine_step.specs.{EndedText.{thread_text}, Traced.{IsDone}};
+ghost use Rattle.trace_flush.specs.{Audit.{accounts, audit_text}, Flush.{header_of}};
+ghost use Rattle.traced_run.specs.{Left.{Leaves}, Runs.{ThreadRun}};
 ghost use Rattle.xray_io.specs.World.{desk_view, sink_view};
-ghost use Rattle.xray_io.specs.Writes.{WritesText};
-ghost use Rattle.xray_program.specs.private.Ends.{thread_text};
 ghost use Rattle.xray_program.specs.Traced.{state_texts, written_of};
 ghost use Rattle.xray_program.specs.private.Works.{Delivers, KeepsOthers};
 
 use crate::delivery::{Output, TwoOutputs, deliver};
 use crate::stop::Stop;
-use crate::text::Printed;
 use fdr_buffer::Buffer;
-use fdr_file::{Header, write_file};
-use machine_step::{Cpu, Setup, write_state};
+use fdr_file::TraceFile;
+use machine_step::{Cpu, Setup};
 use std::alloc::Global;
-use trace_flush::{AuditLine, a_run_is_audited, add_audit_lines, trace_header, write_audit};
-use xray_io::{Desk, NoMemory, Sink, WriteFault};
+use trace_flush::{Audit, AuditLine, a_run_is_audited, add_audit_lines, trace_header};
+use xray_io::{Desk, Each, NoMemory, Sink};
 
 /// The outputs of a command that runs traced threads.
 #[derive(Clone, Copy)]
@@ -114,11 +109,11 @@ fn deliver_texts<'a, D: Desk, O: Sink>(
         KeepsOthers (files.now.trace.now ∷ files.now.audit.now ∷ []) (seen desk.old) (seen desk.new) }
 {
     let header = trace_header(setup);
-    let trace = TraceText {
+    let trace = TraceFile {
         header: &header,
         buffers,
     };
-    let audit = AuditText { setup, lines, cpus };
+    let audit = Audit { setup, lines, cpus };
     let outputs = TwoOutputs {
         first: Output {
             name: files.trace,
@@ -129,79 +124,5 @@ fn deliver_texts<'a, D: Desk, O: Sink>(
             text: &audit,
         },
     };
-    let states = States { cpus };
-    deliver(desk, out, &outputs, &states, None)
-}
-
-/// The bytes of a trace file.
-#[derive(Drop)]
-struct TraceText<'t> {
-    header: &'t Header,
-    buffers: &'t [Buffer],
-}
-
-impl Printed for TraceText<'_> {
-    ghost use Rattle.std.specs.Prelude.{◌≡◌, All, IsTrue};
-    ghost use Rattle.fdr_file.specs.Files.{file_bytes};
-
-    ghost text = { λ t. file_bytes t.header.now t.buffers.now };
-
-    ghost ready = { λ t. (t.header.now.version ≡ 3) × All (λ buffer. IsTrue buffer.begun) t.buffers.now };
-
-    fn print<S: Sink>(&self, sink: &mut S) -> Result<(), WriteFault> {
-        write_file(self.header, self.buffers, sink)
-    }
-}
-
-/// The text of an audit.
-#[derive(Drop)]
-struct AuditText<'t, 'i> {
-    setup: &'t Setup,
-    lines: &'t [AuditLine],
-    cpus: &'t [Cpu<'i>],
-}
-
-impl Printed for AuditText<'_, '_> {
-    ghost use Rattle.std.specs.Prelude.{◌≡◌, All, length};
-    ghost use Rattle.machine_step.specs.Traced.{IsDone};
-    ghost use Rattle.trace_flush.specs.Audit.{accounts, audit_text};
-
-    ghost text = { λ t. audit_text t.setup.now (accounts t.lines.now t.cpus.now) };
-
-    ghost ready = { λ t. (length t.lines.now ≡ length t.cpus.now) × All (λ cpu. IsDone cpu.want) t.cpus.now };
-
-    fn print<S: Sink>(&self, sink: &mut S) -> Result<(), WriteFault> {
-        write_audit(self.setup, self.lines, self.cpus, sink)
-    }
-}
-
-/// The state texts of threads that have ended, in their order.
-#[derive(Drop)]
-struct States<'t, 'i> {
-    cpus: &'t [Cpu<'i>],
-}
-
-impl Printed for States<'_, '_> {
-    ghost use Rattle.std.specs.List.{All, flat_map};
-    ghost use Rattle.machine_step.specs.Traced.{IsDone};
-    ghost use Rattle.xray_program.specs.private.Ends.{thread_text};
-
-    ghost text = { λ s. flat_map thread_text s.cpus.now };
-
-    ghost ready = { λ s. All (λ t. IsDone t.want) s.cpus.now };
-
-    fn print<S: Sink>(&self, sink: &mut S) -> Result<(), WriteFault> {
-        write_states(sink, self.cpus)
-    }
-}
-
-/// Writes the state texts of threads that have ended, one after another.
-fn write_states<S: Sink>(sink: &mut S, cpus: &[Cpu]) -> Result<(), WriteFault>
-    requires { All (λ t. IsDone t.want) cpus.now }
-    ensures { WritesText S.written S.faults S.along sink.old sink.new (flat_map thread_text cpus.now) result }
-{
-    for cpu in cpus {
-        write_state(cpu.thread(), cpu, sink)?;
-    }
-    Ok(())
+    deliver(desk, out, &outputs, &Each(cpus), None)
 }

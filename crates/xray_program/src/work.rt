@@ -1,11 +1,8 @@
 //! A command: which inputs it takes, and what it does with them.
 ghost use Rattle.std.specs.Prelude.{◌≡◌, ◌≤◌, ℕ, List, Some, IfOk};
 ghost use Rattle.command_words.specs.Words.{Command, outputs_of};
-ghost use Rattle.xray_io.specs.Calls.{Went};
-ghost use Rattle.xray_io.specs.World.{desk_view, sink_view};
-ghost use Rattle.xray_program.specs.Commands.{Comes};
-ghost use Rattle.xray_program.specs.Order.{inputs_of};
-ghost use Rattle.xray_program.specs.Outcomes.{Outcome};
+ghost use Rattle.xray_io.specs.{Calls.{Went}, World.{desk_view, sink_view}};
+ghost use Rattle.xray_program.specs.{Commands.{Comes}, Order.{inputs_of}, Outcomes.{Outcome}};
 ghost use Rattle.xray_program.specs.private.Stops.{answer_of, told_of};
 ghost use Rattle.xray_program.specs.private.Takes.{AreTaken, AreTakings};
 ghost use Rattle.xray_program.specs.private.Works.{Ends, Finishes, KeepsOthers};

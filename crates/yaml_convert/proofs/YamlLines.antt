@@ -1,34 +1,15 @@
 -- The lines of a YAML document, as they are put together.
-use Rattle.std.proofs.Common.{◌≡◌, ◌<◌, ◌≤◌, ◌+◌, ◌++◌, ◌∙◌, ◌||◌, ℕ, zero, suc, Bool, true, false, cond, arith, Option, List, [], ◌∷◌, length, take, drop, get_or, refl, sym, ap, append_assoc}
+use Rattle.std.proofs.Common.{◌≡◌, ◌<◌, ◌≤◌, ◌+◌, ◌++◌, ◌∙◌, ◌||◌, ℕ, zero, suc, Bool, true, false, cond, arith, Option, List, [], ◌∷◌, length, take, get_or, refl, sym, ap, append_assoc}
 use Rattle.std.specs.Prelude.{codes, decimal}
 use Rattle.std.specs.List.{flat_map, list_any}
-use Rattle.std.proofs.lemmas.List.{append-nil, take-append-drop, take_all, take_more}
+use Rattle.std.proofs.lemmas.List.{take_all, take_more}
 use Rattle.std.proofs.lemmas.List.Folds.{list_any-append}
-use Rattle.std.proofs.lemmas.Grind.{flat_map-append}
 use Rattle.fdr_record.specs.declared.event.Event.{Event}
-use Rattle.fdr_record.specs.declared.event.Kind.TheVariants.{Entry}
 use Rattle.fdr_file.specs.declared.header.Header.{Header}
 use Rattle.fdr_file.specs.declared.trace.Block.{Block}
 use Rattle.fdr_file.specs.declared.trace.Trace.{Trace}
 use Rattle.xray_image.specs.Program.{Program}
 use Rattle.yaml_convert.specs.Yaml.{event_end, event_start, has_events, header_text, kind_text, records_start, truth_text, block_lines, yaml_text}
-
--- the lines so far, and one more
-pub lines_more : {X : Type 0} (line : X → List ℕ) (xs : List X) (i : ℕ) (x : X) → x ≡ get_or xs i x → i < length xs
-    → flat_map line (take i xs) ++ line x ≡ flat_map line (take (i + 1) xs)
-lines_more line xs i x is within =
-    ap (λ (text : List ℕ). flat_map line (take i xs) ++ text) (ap line is ∙ sym (append-nil (line (get_or xs i x))))
-    ∙ (sym (flat_map-append line (take i xs) (get_or xs i x ∷ [])) ∙ ap (flat_map line) (sym (take_more xs i x within)))
-
-pub lines_at : {X : Type 0} (line : X → List ℕ) (xs : List X) (i : ℕ) (d : X) → i < length xs
-    → flat_map line (take i xs) ++ line (get_or xs i d) ≡ flat_map line (take (i + 1) xs)
-lines_at line xs i d within =
-    ap (λ (text : List ℕ). flat_map line (take i xs) ++ text) (sym (append-nil (line (get_or xs i d))))
-    ∙ (sym (flat_map-append line (take i xs) (get_or xs i d ∷ [])) ∙ ap (flat_map line) (sym (take_more xs i d within)))
-
--- the lines of the first items, and those of the others
-pub lines_split : {X : Type 0} (line : X → List ℕ) (xs : List X) (i : ℕ) → flat_map line (take i xs) ++ flat_map line (drop i xs) ≡ flat_map line xs
-lines_split line xs i = sym (flat_map-append line (take i xs) (drop i xs)) ∙ ap (flat_map line) (take-append-drop i xs)
 
 -- ---- pieces
 
@@ -51,10 +32,6 @@ pub end_pieces : (block : Block) (event : Event) (cpu thread pid tsc : ℕ) (kin
     ≡ event_end block event
 end_pieces block event cpu thread pid tsc kind same_cpu same_thread same_pid same_kind same_tsc =
     rw (same_cpu, same_thread, same_pid, same_kind, same_tsc) (simp append_assoc)
-
--- what stands for an event that a slice doesn't have
-abbrev pub no_event : Event
-no_event = record { cpu = 0; func = 0; kind = Entry; tsc = 0 }
 
 -- ---- whether there is an event
 

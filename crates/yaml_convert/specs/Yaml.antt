@@ -1,5 +1,5 @@
 -- The YAML text of a trace.
-use Rattle.std.specs.Prelude.{◌++◌, ◌<◌, Bool, true, false, ℕ, List, length, nat_lt, codes, decimal, Option, if◌then◌else◌}
+use Rattle.std.specs.Prelude.{◌++◌, Bool, true, false, ℕ, List, length, nat_lt, codes, decimal, Option, if◌then◌else◌}
 use Rattle.std.specs.List.{flat_map, list_any}
 use Rattle.fdr_record.specs.declared.event.Event.{Event}
 use Rattle.fdr_record.specs.declared.event.Kind.{Kind}

@@ -3,4 +3,4 @@
 
 mod yaml;
 
-pub use yaml::write_yaml;
+pub use yaml::YamlText;

@@ -1,52 +1,41 @@
 //! The YAML text of a trace.
 
-ghost use Rattle.std.specs.Prelude.{◌≡◌, ◌++◌};
+ghost use Rattle.std.specs.Prelude.{◌≡◌, ◌++◌, ⊤};
 ghost use Rattle.std.specs.List.{flat_map};
 ghost use Rattle.std.specs.Option.{option_map};
 ghost use Rattle.xray_io.specs.Text.{AddsText};
-ghost use Rattle.xray_io.specs.Writes.{WritesText};
 ghost use Rattle.yaml_convert.specs.Yaml.{block_lines, event_end, event_line, event_start, has_events, header_text, kind_text, records_start, truth_text, yaml_text};
 
 use fdr_file::{Block, Header, Trace};
 use fdr_record::{Event, Kind};
 use function_names::add_name;
 use xray_image::Image;
-use xray_io::{Piece, Sink, Text, WriteFault};
+use xray_io::{Piece, Printed, Sink, Text, WriteFault};
 
-/// Writes a trace as `llvm-xray convert -f=yaml` does, as a YAML document: its header, and a line
-/// for each event, block by block in the order of the file.
+/// A trace, which is printed as `llvm-xray convert -f=yaml` does, as a YAML document: its header, and
+/// a line for each event, block by block in the order of the file.
 ///
-/// A function has its name in `image`, or `#` and its id if there is no name. The type of the
-/// header is always 1, that of the Flight Data Recorder mode. The type of a record is always 0.
-/// `process` is the process of the event's block, and `tsc` its counter in cycles.
-///
-/// On `WriteFault` a prefix of the text was written, and the sink counted a fault.
-#[tactic(auto, using(xray_io::specs::Text::writes_failed))]
-pub fn write_yaml<S: Sink>(
-    trace: &Trace,
-    image: Option<&Image>,
-    sink: &mut S,
-) -> Result<(), WriteFault>
-    ensures { WritesText S.written S.faults S.along sink.old sink.new
-        (yaml_text (option_map (λ image. image.now) image.entry) trace.now) result }
-{
-    let mut text = Text::new(sink);
-    add_yaml(&mut text, trace, image)?;
-    text.done()
+/// The type of the header is always 1, that of the Flight Data Recorder mode. The type of a record is
+/// always 0. `process` is the process of the event's block, and `tsc` its counter in cycles.
+#[derive(Clone, Copy, Debug)]
+pub struct YamlText<'a> {
+    /// The trace.
+    pub trace: &'a Trace,
+    /// The image that names the functions of the events. If it has no name for one, or if there is no
+    /// image, `#` and the id are printed.
+    pub image: Option<&'a Image>,
 }
 
-/// Adds the whole document.
-fn add_yaml<S: Sink>(
-    text: &mut Text<S>,
-    trace: &Trace,
-    image: Option<&Image>,
-) -> Result<(), WriteFault>
-    ensures { AddsText S.written S.faults S.along text.old text.new
-        (yaml_text (option_map (λ image. image.now) image.entry) trace.now) result }
-{
-    add_header(text, &trace.header)?;
-    add_records(text, trace.blocks.as_slice(), image)?;
-    text.bytes(b"...\n")
+impl Printed for YamlText<'_> {
+    ghost text = { λ yaml. yaml_text (option_map (λ image. image.now) yaml.image) yaml.trace.now };
+
+    ghost ready = { λ _. ⊤ };
+
+    fn add_to<S: Sink>(&self, to: &mut Text<S>) -> Result<(), WriteFault> {
+        add_header(to, &self.trace.header)?;
+        add_records(to, self.trace.blocks.as_slice(), self.image)?;
+        to.bytes(b"...\n")
+    }
 }
 
 /// Adds the header.

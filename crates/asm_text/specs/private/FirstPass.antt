@@ -6,7 +6,7 @@ use Rattle.xray_image.specs.Limits.{most_code, most_functions, most_sleds}
 use Rattle.asm_text.specs.declared.fault.AsmFault.{AsmFault}
 use Rattle.asm_text.specs.declared.fault.AsmFault.TheVariants as faults
 use Rattle.asm_text.specs.declared.totals.Standing.{Standing}
-use Rattle.asm_text.specs.declared.totals.Standing.TheVariants.{Outside, Bare, Filled}
+use Rattle.asm_text.specs.declared.totals.Standing.TheVariants.{Outside, Bare}
 use Rattle.asm_text.specs.declared.totals.Totals.{Totals}
 use Rattle.asm_text.specs.declared.name_table.NameTable.{NameTable}
 use Rattle.asm_text.specs.declared.first_pass.Entry.{Entry}

@@ -1,5 +1,5 @@
 -- What the assembler's own types mean, for the contracts of its private functions.
-use Rattle.std.specs.Prelude.{◌≡◌, ℕ, ◌<◌, List, [], ◌∷◌, length, Option, Some, None, Result, Ok, Err, if◌then◌else◌}
+use Rattle.std.specs.Prelude.{◌≡◌, ℕ, List, Option, Some, None, Result, Ok, Err, if◌then◌else◌}
 use Rattle.subset_decode.specs.declared.instr.Instr.{Instr}
 use Rattle.subset_decode.specs.declared.instr.Instr.TheVariants as instrs
 use Rattle.asm_text.specs.declared.registers.Register.{Register}
@@ -10,12 +10,10 @@ use Rattle.asm_text.specs.declared.fault.AsmFault.{AsmFault}
 use Rattle.asm_text.specs.declared.fault.AsmFault.TheVariants as faults
 use Rattle.asm_text.specs.declared.statement.Written.{Written}
 use Rattle.asm_text.specs.declared.statement.Written.TheVariants as written
-use Rattle.asm_text.specs.declared.statement.Spoken.{Spoken}
-use Rattle.asm_text.specs.declared.statement.Spoken.TheVariants as spoken
 use Rattle.asm_text.specs.declared.statement.Operation.{Operation as Checked}
 use Rattle.asm_text.specs.declared.statement.Operation.TheVariants as checked
-use Rattle.asm_text.specs.declared.statement.Statement.{Statement as Said}
-use Rattle.asm_text.specs.declared.statement.Statement.TheVariants as said
+use Rattle.asm_text.specs.declared.statement.Saying.{Saying}
+use Rattle.asm_text.specs.declared.statement.Saying.TheVariants as said
 use Rattle.asm_text.specs.Statements.{Operation, Plain, Go, TailJump, Return, Statement, Base, Entry, Func, Label, Does}
 use Rattle.asm_text.specs.Layout.{Lines}
 use Rattle.asm_text.specs.Refusals.{with_line, judged, operation_reserves, operation_exceeds, names_reserved, is_out_of_range}
@@ -31,12 +29,16 @@ operation_written (written.Go branch name) = Go branch name.now
 operation_written (written.TailJump name) = TailJump name.now
 operation_written written.Return = Return
 
-abbrev pub statement_spoken : Spoken → Statement
-statement_spoken (spoken.Base address) = Base address
-statement_spoken (spoken.Entry name) = Entry name.now
-statement_spoken (spoken.Function name choice) = Func name.now choice
-statement_spoken (spoken.Label name) = Label name.now
-statement_spoken (spoken.Does asked) = Does (operation_written asked)
+-- a statement, by what its instruction means
+abbrev pub statement_by : {O : Type 0} → (O → Operation) → Saying O → Statement
+statement_by view (said.Base address) = Base address
+statement_by view (said.Entry name) = Entry name.now
+statement_by view (said.Function name choice) = Func name.now choice
+statement_by view (said.Label name) = Label name.now
+statement_by view (said.Does operation) = Does (view operation)
+
+abbrev pub statement_spoken : Saying Written → Statement
+statement_spoken = statement_by operation_written
 
 -- the number of a register
 abbrev pub register_number : Register → ℕ
@@ -69,15 +71,11 @@ operation_checked (checked.Go branch name) = Go branch name.now
 operation_checked (checked.TailJump name) = TailJump name.now
 operation_checked checked.Return = Return
 
-abbrev pub statement_said : Said → Statement
-statement_said (said.Base address) = Base address
-statement_said (said.Entry name) = Entry name.now
-statement_said (said.Function name choice) = Func name.now choice
-statement_said (said.Label name) = Label name.now
-statement_said (said.Does operation) = Does (operation_checked operation)
+abbrev pub statement_said : Saying Checked → Statement
+statement_said = statement_by operation_checked
 
 -- what reading a line means for the text, whatever lines come before it
-abbrev pub LineGives : ℕ → List ℕ → Result (Option Spoken) AsmFault → Type 0
+abbrev pub LineGives : ℕ → List ℕ → Result (Option (Saying Written)) AsmFault → Type 0
 LineGives number line (Ok None) = (before : Lines) → with_line before (number, line) ≡ Ok before
 LineGives number line (Ok (Some says)) = (before : Lines) → with_line before (number, line) ≡ judged before number (statement_spoken says)
 LineGives number line (Err fault) = (before : Lines) → with_line before (number, line) ≡ Err fault

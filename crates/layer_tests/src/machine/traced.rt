@@ -1,17 +1,16 @@
 //! Calls of `machine_step`: traced threads, load by load.
 
-use crate::checks::{check_same, check_same_list};
+use crate::checks::check_same;
 use crate::passings::{ENTRY, EXIT, HAS_ENDED, Load, NO_HANDLER, RECORDS, pass};
 use crate::setups::DEFAULT_LIMITS;
 use example_images::OUTPUTS_AN_A;
 use fdr_record::{Event, Kind};
-use handler_word::Mark;
-use machine_step::{Cpu, End, Limits, Steps, Want, write_state};
+use machine_step::{Cpu, End, Limits, Steps, Want};
 use std::alloc::Global;
 use std::process::Abort;
 use std::test::Fail;
 use xray_image::read_image;
-use xray_io::MemSink;
+use xray_io::{MemSink, write_text};
 
 /// The entry into function 1 at counter 0, and the exit at counter 2, on processor 0.
 const ENTERED: Event = Event {
@@ -28,45 +27,74 @@ const LEFT: Event = Event {
     tsc: 2,
 };
 
-/// The loads of a patched thread, and the events that come of them.
-const RECORDED: [(&[Load], Option<Event>); 4] = [
-    (&ENTRY, None),
-    (&RECORDS, Some(ENTERED)),
-    (&EXIT, None),
-    (&RECORDS, Some(LEFT)),
+/// Loads of a thread, and the events that come of them.
+type Loaded = (&'static [Load], Option<Event>);
+
+/// The loads of threads that return, with their events, and then their marks.
+const RETURNED: [(&[Loaded], &[u8]); 3] = [
+    // Both sleds are patched, and the passings recorded.
+    (
+        &[
+            (&ENTRY, None),
+            (&RECORDS, Some(ENTERED)),
+            (&EXIT, None),
+            (&RECORDS, Some(LEFT)),
+        ],
+        b"+2\n",
+    ),
+    // There is no handler, and then a log that has ended.
+    (
+        &[
+            (&ENTRY, None),
+            (&NO_HANDLER, None),
+            (&EXIT, None),
+            (&HAS_ENDED, None),
+        ],
+        b"n1 f1\n",
+    ),
+    // The sleds are unpatched.
+    (&[(&[(0, 0x09EB)], None), (&[(4, 0xBAC3)], None)], b".2\n"),
 ];
 
-/// Checks the events of a thread, and its state text.
-fn check_recorded(rt: &impl Abort, alloc: Global, steps: &Steps) -> Result<(), Fail> {
-    let mut cpu = Cpu::new(alloc, steps, 1, 1, None, DEFAULT_LIMITS)?;
-    for (loads, event) in &RECORDED {
-        check_same(rt, &pass(&mut cpu, loads)?, event);
-    }
-    check_state(
-        rt,
-        alloc,
-        &cpu,
-        b"thread 1 returned instructions 3 passings 2\n\
-        rax=41 rcx=0 rdx=0 rbx=0 rbp=0 rsi=0 rdi=1 r8=0 r9=0 r11=0 r12=0 r13=0 r14=0 r15=0 zf=0\n\
-        output 41\nmarks +2\n",
-    )
-}
+/// The text of these threads, up to their marks.
+const STATE: &[u8] = b"thread 1 returned instructions 3 passings 2\n\
+    rax=41 rcx=0 rdx=0 rbx=0 rbp=0 rsi=0 rdi=1 r8=0 r9=0 r11=0 r12=0 r13=0 r14=0 r15=0 zf=0\n\
+    output 41\nmarks ";
 
-/// Checks the state text of a thread that has ended.
-fn check_state(rt: &impl Abort, alloc: Global, cpu: &Cpu, text: &[u8]) -> Result<(), Fail> {
+/// The text of a thread that has ended.
+fn text_of(alloc: Global, cpu: &Cpu) -> Result<MemSink, Fail> {
     let mut sink = MemSink::new(alloc, Vec::new(alloc));
     if let Want::Done(_) = cpu.want() {
-        write_state(1, cpu, &mut sink)?;
+        write_text(cpu, &mut sink)?;
     }
-    check_same_list(rt, sink.bytes(), text);
+    Ok(sink)
+}
+
+/// Checks the events and the marks of a thread that makes these loads.
+fn check_returned(
+    rt: &impl Abort,
+    alloc: Global,
+    steps: &Steps,
+    loaded: &[Loaded],
+    marks: &[u8],
+) -> Result<(), Fail> {
+    let mut cpu = Cpu::new(alloc, steps, 1, 1, None, DEFAULT_LIMITS)?;
+    for (loads, event) in loaded {
+        check_same(rt, &pass(&mut cpu, loads)?, event);
+    }
+    let text = text_of(alloc, &cpu)?;
+    check_same(rt, &text.bytes().strip_prefix(STATE), &Some(marks));
     Ok(())
 }
 
 #[test]
-fn a_patched_thread_records_its_passings(rt: HostRuntime) -> Result<(), Fail> {
+fn each_value_leads_to_its_event_and_its_mark(rt: HostRuntime) -> Result<(), Fail> {
     let image = read_image(rt.alloc(), &OUTPUTS_AN_A)?;
     let steps = Steps::new(rt.alloc(), &image)?;
-    check_recorded(&rt, rt.alloc(), &steps)
+    for (loaded, marks) in &RETURNED {
+        check_returned(&rt, rt.alloc(), &steps, loaded, marks)?;
+    }
+    Ok(())
 }
 
 /// Checks the loads of a thread that is held. Two sleds have eight words. The handler's word follows
@@ -92,44 +120,4 @@ fn a_held_thread_loads_its_release_word_until_it_is_1(rt: HostRuntime) -> Result
     let image = read_image(rt.alloc(), &OUTPUTS_AN_A)?;
     let steps = Steps::new(rt.alloc(), &image)?;
     check_held(&rt, rt.alloc(), &steps)
-}
-
-/// Checks the marks of a thread that finds no handler and then a log that has ended.
-fn check_marks(rt: &impl Abort, alloc: Global, steps: &Steps) -> Result<(), Fail> {
-    let mut cpu = Cpu::new(alloc, steps, 1, 1, None, DEFAULT_LIMITS)?;
-    for loads in [ENTRY.as_slice(), &NO_HANDLER, &EXIT, &HAS_ENDED] {
-        pass(&mut cpu, loads)?;
-    }
-    let marks = cpu.marks();
-    assert!(rt; marks.len() == 2);
-    check_same(rt, &marks.get(0), &Mark::NoHandler);
-    check_same(rt, &marks.get(1), &Mark::NotLogging);
-    Ok(())
-}
-
-#[test]
-fn each_value_leads_to_its_mark(rt: HostRuntime) -> Result<(), Fail> {
-    let image = read_image(rt.alloc(), &OUTPUTS_AN_A)?;
-    let steps = Steps::new(rt.alloc(), &image)?;
-    check_marks(&rt, rt.alloc(), &steps)
-}
-
-/// Checks what a thread leaves whose sleds are unpatched.
-fn check_left(rt: &impl Abort, alloc: Global, steps: &Steps) -> Result<(), Fail> {
-    let mut cpu = Cpu::new(alloc, steps, 1, 1, None, DEFAULT_LIMITS)?;
-    pass(&mut cpu, &[(0, 0x09EB)])?;
-    pass(&mut cpu, &[(4, 0xBAC3)])?;
-    check_same(rt, &cpu.reg(0), &0x41);
-    assert!(rt; !cpu.zf());
-    check_same_list(rt, cpu.output(), &[0x41]);
-    check_same(rt, &cpu.instructions(), &3);
-    check_same(rt, &cpu.passings(), &2);
-    Ok(())
-}
-
-#[test]
-fn a_thread_that_has_ended_shows_what_it_left(rt: HostRuntime) -> Result<(), Fail> {
-    let image = read_image(rt.alloc(), &OUTPUTS_AN_A)?;
-    let steps = Steps::new(rt.alloc(), &image)?;
-    check_left(&rt, rt.alloc(), &steps)
 }

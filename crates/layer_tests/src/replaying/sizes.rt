@@ -1,21 +1,46 @@
 //! Calls of `step_sim` that allocate, at their limits and at sizes between them: with enough memory
 //! they answer.
 
-use super::*;
 use crate::draws::draw;
 use crate::setups::{DEFAULT_LIMITS, DEFAULT_SETUP};
 use example_images::OUTPUTS_AN_A;
-use machine_step::{Cpu, End, Limits, Want};
+use machine_step::{Cpu, End, Limits, Setup, Steps, Want};
+use patch_script::read_script;
+use std::alloc::Global;
+use std::process::Abort;
+use std::test::Fail;
+use step_sim::*;
+use text_lines::count_lines;
 use xray_image::read_image;
+
+/// The script that traces everything from before the start.
+const TRACED: &[u8] = b"patch\nset_handler\ninit\ngo";
 
 /// The most bytes that the buffers of a replay have together.
 const ROOM: u32 = 67_108_864;
+
+/// What a replay of traced threads leaves, with a setup that a command allows and no schedule.
+fn replay_of<'a>(
+    rt: &impl Abort,
+    alloc: Global,
+    steps: &'a Steps<'a>,
+    setup: &Setup,
+) -> Result<SimEnd<'a>, Fail> {
+    assert!(rt; setup.threads >= 1 && setup.threads <= 16);
+    assert!(rt; setup.limits.cpus > 0 && setup.limits.migrate > 0);
+    assert!(rt; setup.size >= 72 && setup.size <= 1_048_576);
+    assert!(rt; setup.threads <= setup.max && setup.max <= 1_024);
+    assert!(rt; count_lines(TRACED) < 100);
+    let script = read_script(alloc, TRACED, steps.image(), setup.threads)?;
+    let schedule = read_schedule(alloc, b"", setup.threads)?;
+    Ok(SimStart::new(alloc, steps, &script, setup)?.play(&schedule))
+}
 
 /// Whether all threads of a replay with this setup return. A thread makes two passings.
 fn all_return(rt: &impl Abort, alloc: Global, setup: &Setup) -> Result<bool, Fail> {
     let image = read_image(alloc, &OUTPUTS_AN_A)?;
     let steps = Steps::new(alloc, &image)?;
-    let end = replay_of(rt, alloc, &steps, TRACED, b"", setup)??;
+    let end = replay_of(rt, alloc, &steps, setup)?;
     let returned = |cpu: &Cpu| matches!(cpu.want(), Want::Done(End::Returned));
     Ok(end.cpus.len() == setup.threads as usize && end.cpus.iter().all(returned))
 }

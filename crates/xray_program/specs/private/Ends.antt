@@ -3,20 +3,14 @@ use Rattle.std.specs.Prelude.{◌≡◌, ◌+◌, ℕ, List, length, Some, slice
 use Rattle.std.specs.List.{All}
 use Rattle.xray_image.specs.Program.{Program}
 use Rattle.machine_step.specs.declared.plain_end.PlainEnd.{PlainEnd}
-use Rattle.machine_step.specs.EndedText.{ended_text}
 use Rattle.machine_step.specs.PlainEnd.{IsPlainEnd, state_of}
 use Rattle.machine_step.specs.Texts.{plain_text}
-use Rattle.machine_step.specs.Traced.{Traced}
 use Rattle.xray_program.specs.Setups.{plain_limits}
 use Rattle.command_words.specs.declared.run_options.Bounds.{Bounds}
 
 -- the plain text of a thread
 abbrev pub end_text : PlainEnd → List ℕ
 end_text e = plain_text e.thread e.end (state_of e)
-
--- the state text of a traced thread
-abbrev pub thread_text : Traced → List ℕ
-thread_text t = ended_text t.thread t t.want
 
 -- the end of a thread has all 16 registers
 abbrev pub HasRegisters : PlainEnd → Type 0

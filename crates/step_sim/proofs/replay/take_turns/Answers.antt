@@ -2,27 +2,18 @@ use Rattle.std.proofs.Common.{◌≤◌, ◌+◌, ◌-◌, ℕ, arith, length, m
 use Rattle.patch_script.specs.Micros.{total_of}
 use Rattle.step_sim.specs.private.Standing.{IsPatcherAt}
 use Rattle.step_sim.specs.Schedules.{AreTurnsOf}
-use Rattle.step_sim.proofs.AllThreads.{found_at, patcher_line, play_of, stand_of, thread_line}
+use Rattle.step_sim.proofs.AllThreads.{found_at, patcher_line, stand_of, thread_line}
 use Rattle.step_sim.proofs.AllRecorded.{patcher_recorded, record_of, records_of, thread_recorded}
 use Rattle.step_sim.proofs.replay.take_turns.Goals as goal
 
-pub make_loads-requires-clause-play : goal.make_loads-requires-clause-play
-make_loads-requires-clause-play c =
+pub make_loads-requires : goal.make_loads-requires
+make_loads-requires c =
     let ts = c.args.cpus.now.items in
     let number = c.in-Thread.thread in
     let line : (1 ≤ number) × (number ≤ length ts) × (1 ≤ c.in-Thread.count) =
     subst (AreTurnsOf (length ts)) c.in-Thread.is c.requires.line in
-    play_of c.args.patcher.now ts (number - 1) c.index_mut.result.now c.requires.play
-    (found_at ts (number - 1) _ (omega (arith, line.0, line.1)) c.index_mut.ensures.value)
-
-pub make_loads-requires-clause-records : goal.make_loads-requires-clause-records
-make_loads-requires-clause-records c =
-    let ts = c.args.cpus.now.items in
-    let number = c.in-Thread.thread in
-    let line : (1 ≤ number) × (number ≤ length ts) × (1 ≤ c.in-Thread.count) =
-    subst (AreTurnsOf (length ts)) c.in-Thread.is c.requires.line in
-    records_of c.args.patcher.now ts c.args.pool.now (number - 1) c.index_mut.result.now c.requires.records
-    (found_at ts (number - 1) _ (omega (arith, line.0, line.1)) c.index_mut.ensures.value)
+    let found = found_at ts (number - 1) _ (omega (arith, line.0, line.1)) c.index_mut.ensures.value in
+    record { records = records_of c.args.patcher.now ts c.args.pool.now (number - 1) c.index_mut.result.now c.requires.records found }
 
 pub returns-in-Thread : goal.returns-in-Thread
 returns-in-Thread c =

@@ -1,19 +1,19 @@
 use Rattle.std.proofs.Common.{arith}
-use Rattle.step_sim.proofs.OneRecorded.{can_note, ended_recorded, load_recorded, not_kept}
+use Rattle.step_sim.proofs.OneRecorded.{can_note, ended_recorded, load_recorded, not_kept, plays}
 use Rattle.step_sim.proofs.OneThread.{ended_turn, load_made, value_allowed, word_there}
 use Rattle.step_sim.proofs.thread.make_load.Goals as goal
 
 pub load-requires : goal.load-requires
 load-requires c =
     let said = c.in-Some.ensures in
-    word_there c.args.patcher.now c.args.cpu.now c.next_word.new.cpu c.in-Some.word c.requires.play said.thread said.loads said.word
+    word_there c.args.patcher.now c.args.cpu.now c.next_word.new.cpu c.in-Some.word (plays _ _ _ c.requires.records) said.thread said.loads said.word
 
 pub give-event-requires : goal.give-event-requires
 give-event-requires c =
     let said = c.in-Some.ensures in
     let old = c.args.cpu.now in
     let mid = c.next_word.new.cpu in
-    let allowed = value_allowed c.args.patcher.now old mid c.in-Some.word c.load.result c.requires.play said.thread said.loads said.word
+    let allowed = value_allowed c.args.patcher.now old mid c.in-Some.word c.load.result (plays _ _ _ c.requires.records) said.thread said.loads said.word
     c.a_replay_reads_along.ensures.allowed
     (λ cast moment at. c.load.ensures cast.program cast.script moment.place at.patcher) in
     rw said.word allowed
@@ -57,5 +57,5 @@ returns-in-Some-clause-nearer c =
     omega (
       arith,
       said.nearer,
-      c.give-event.ensures.nearer (not_kept c.args.patcher.now c.args.cpu.now c.next_word.new.cpu c.load.result c.requires.play said.thread),
+      c.give-event.ensures.nearer (not_kept c.args.patcher.now c.args.cpu.now c.next_word.new.cpu c.load.result (plays _ _ _ c.requires.records) said.thread),
     )

@@ -1,18 +1,14 @@
 use Rattle.std.proofs.Common.{◌+◌}
 use Rattle.step_sim.proofs.OneRecorded.{record_more, record_none, record_out, records_on}
-use Rattle.step_sim.proofs.OneThread.{has_run_out, leads_none, one_more, plays_on, same_again, same_then}
+use Rattle.step_sim.proofs.OneThread.{has_run_out, leads_none, one_more, same_again, same_then}
 use Rattle.step_sim.proofs.thread.run_out.Goals as goal
 
 pub loads-init : goal.loads-init
 loads-init c = (same_again c.args.cpu.now, (0, leads_none c.args.patcher.now c.args.cpu.now, record_none c.args.patcher.now c.args.cpu.now c.args.pool.now))
 
-pub make_load-requires-clause-play : goal.make_load-requires-clause-play
-make_load-requires-clause-play c =
-    plays_on c.loads.invariant.1.0 c.args.patcher.now c.args.cpu.now c.loads.cpu c.loads.invariant.1.1 c.requires.play
-
-pub make_load-requires-clause-records : goal.make_load-requires-clause-records
-make_load-requires-clause-records c =
-    records_on c.loads.invariant.1.0 c.args.patcher.now c.args.cpu.now c.loads.cpu c.args.pool.now c.loads.pool c.loads.invariant.1.2 c.requires.records
+pub make_load-requires : goal.make_load-requires
+make_load-requires c =
+    record { records = records_on c.loads.invariant.1.0 c.args.patcher.now c.args.cpu.now c.loads.cpu c.args.pool.now c.loads.pool c.loads.invariant.1.2 c.requires.records }
 
 pub loads-smaller : goal.loads-smaller
 loads-smaller c = c.loads-test.ensures.nearer
@@ -37,18 +33,12 @@ pub returns-clause-at : goal.returns-clause-at
 returns-clause-at c =
     let said = c.loads-test.ensures in
     let made = c.loads.invariant.1 in
-    let p = c.args.patcher.now in
-    let old = c.args.cpu.now in
-    let new = c.make_load.new.cpu in
-    has_run_out (made.0 + 1) p old new (same_then _ _ _ c.loads.invariant.0 said.thread)
-    (one_more made.0 p old c.loads.cpu new c.loads.invariant.0 made.1 said.at) said.ended
+    has_run_out (made.0 + 1) _ _ _ (same_then _ _ _ c.loads.invariant.0 said.thread)
+    (one_more made.0 _ _ _ _ c.loads.invariant.0 made.1 said.at) said.ended
 
 pub returns-clause-records : goal.returns-clause-records
 returns-clause-records c =
     let said = c.loads-test.ensures in
     let made = c.loads.invariant.1 in
-    let p = c.args.patcher.now in
-    let old = c.args.cpu.now in
-    let new = c.make_load.new.cpu in
-    record_out (made.0 + 1) p old new c.args.pool.now c.make_load.new.pool (same_then _ _ _ c.loads.invariant.0 said.thread)
-    (record_more made.0 p old c.loads.cpu new c.args.pool.now c.loads.pool c.make_load.new.pool c.loads.invariant.0 made.2 said.records) said.ended
+    record_out (made.0 + 1) _ _ _ _ _ (same_then _ _ _ c.loads.invariant.0 said.thread)
+    (record_more made.0 _ _ _ _ _ _ _ c.loads.invariant.0 made.2 said.records) said.ended

@@ -16,9 +16,9 @@ pub returns-in-Err-clause-delivers : goal.returns-in-Err-clause-delivers
 returns-in-Err-clause-delivers g c = (
   inr (record {
     is_out = refl;
-    fault = c.in-Err.ensures.fault;
+    fault = c.in-Err.ensures.writes.fault;
     whole = c.in_ok-write.ensures.whole;
-    prefix = prefix_of c.print.ensures;
+    prefix = prefix_of c.write_text.ensures.writes;
   }),
   went_as (g.D.Desk.along c.args.desk.now c.write.new.desk) _ _ c.in_ok-write.ensures.made (λ calls p. inr (refl, p)),
 )

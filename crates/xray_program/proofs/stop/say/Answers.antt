@@ -2,4 +2,4 @@ use Rattle.xray_program.proofs.Saying.{line_said}
 use Rattle.xray_program.proofs.stop.say.Goals as goal
 
 pub returns : goal.returns
-returns g c = line_said c.write_pieces.result c.write_pieces.ensures.writes
+returns g c = line_said c.write_text.result c.write_text.ensures.writes

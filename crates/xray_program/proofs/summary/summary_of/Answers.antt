@@ -1,5 +1,6 @@
-use Rattle.std.proofs.Common.{◌∙◌, List, ap, length, subst, sym}
+use Rattle.std.proofs.Common.{◌≡◌, ◌∙◌, List, ap, length, subst, sym}
 use Rattle.std.specs.List.{All}
+use Rattle.std.proofs.lemmas.Result.{IfOk-weaker}
 use Rattle.fdr_buffer.specs.Filled.{Filled}
 use Rattle.fdr_file.specs.Files.{file_bytes}
 use Rattle.machine_step.specs.Traced.{IsDone}
@@ -8,12 +9,11 @@ use Rattle.trace_flush.specs.Flush.{header_of}
 use Rattle.trace_flush.specs.Lines.{lines_of}
 use Rattle.trace_flush.specs.declared.line.AuditLine.{AuditLine}
 use Rattle.xray_io.specs.Memory.{sink_bytes}
-use Rattle.xray_io.specs.Writes.{text_of_writes}
-use Rattle.xray_program.specs.Soak.{soak_setup}
+use Rattle.xray_io.specs.declared.memory.MemSink.{MemSink}
+use Rattle.xray_program.specs.Soak.{IsSummary, soak_setup}
 use Rattle.xray_program.specs.private.Drawn.{IsReadBack, summary_with}
 use Rattle.xray_program.proofs.RunWritten.{all_begun, lines_count, lost_counts, only_lines, run_ended, segment_counts}
 use Rattle.xray_program.proofs.SoakReads.{summary_is}
-use Rattle.xray_program.proofs.SoakTexts.{all_written}
 use Rattle.xray_program.proofs.summary.summary_of.Goals as goal
 
 pub read_back-requires : goal.read_back-requires
@@ -26,8 +26,8 @@ add_audit_lines-requires-clause-done c =
     let left = c.in_ok-end.ensures in
     subst (All (λ t. IsDone t.want)) (sym c.deref-2.ensures.value) (run_ended soak_setup left.runs _ _ _ _ left.leaves)
 
-pub write_summary-requires : goal.write_summary-requires
-write_summary-requires c =
+pub summed_up-requires : goal.summed_up-requires
+summed_up-requires c =
     let left = c.in_ok-end.ensures in
     let end = c.in_ok-end.end in
     let lines = only_lines c.deref-5.result.now c.in_ok-lines.lines.items end.cpus.items c.deref-2.result.now end.segments.items c.deref-3.result.now
@@ -36,8 +36,8 @@ write_summary-requires c =
     ap length lines ∙ lines_count end.cpus.items end.segments.items end.first.items (segment_counts soak_setup left.runs _ _ _ _ left.leaves)
     (lost_counts soak_setup left.runs _ _ _ _ left.leaves) ∙ sym (ap length c.deref-6.ensures.value)
 
-pub returns-in-Ok : goal.returns-in-Ok
-returns-in-Ok c =
+pub returns : goal.returns
+returns c =
     let left = c.in_ok-end.ensures in
     let end = c.in_ok-end.end in
     let inputs = c.in_ok-inputs.inputs in
@@ -52,8 +52,8 @@ returns-in-Ok c =
     let read = subst (λ (buffers : List Filled). IsReadBack (file_bytes (header_of soak_setup) buffers) back.bytes back.rows.items)
     c.deref.ensures.value c.in_ok-back.ensures in
     let text = summary_with c.args.number threads back.bytes back.rows.items in
-    let written = all_written (sink_bytes c.new-sink.result) (sink_bytes c.write_summary.new.sink) text c.new-sink.ensures.empty
-    (text_of_writes c.in-Ok.ensures) in
+    IfOk-weaker c.summed_up.result (λ (sink : MemSink). sink_bytes sink ≡ text) (λ (sink : MemSink). IsSummary c.args.number (sink_bytes sink))
+    (λ (sink : MemSink) (written : sink_bytes sink ≡ text).
     summary_is c.args.number inputs.image inputs.script inputs.schedule c.in_ok-inputs.ensures.inputs left.runs left.replay end.cpus.items
-    end.segments.items end.first.items end.buffers.items left.leaves back.bytes back.rows.items read threads accounted
-    (sink_bytes c.write_summary.new.sink) written
+    end.segments.items end.first.items end.buffers.items left.leaves back.bytes back.rows.items read threads accounted (sink_bytes sink) written)
+    c.summed_up.ensures

@@ -4,7 +4,7 @@ use Rattle.fdr_file.specs.declared.header.Header.{Header}
 use Rattle.fdr_file.specs.Files.{file_bytes}
 use Rattle.trace_flush.specs.Audit.{accounts, audit_text}
 use Rattle.xray_io.specs.World.{desk_view, sink_view}
-use Rattle.xray_program.specs.private.Ends.{thread_text}
+use Rattle.machine_step.specs.EndedText.{thread_text}
 use Rattle.xray_program.specs.private.Works.{Delivers}
 use Rattle.xray_program.proofs.traced.deliver_texts.Goals as goal
 

@@ -1,4 +1,4 @@
-use Rattle.std.proofs.Common.{◌++◌, List, ℕ, sym, refl, append_assoc}
+use Rattle.std.proofs.Common.{◌++◌, sym, refl, append_assoc}
 use Rattle.std.specs.Option.{option_map}
 use Rattle.xray_io.specs.Text.{adds_more, adds_stop, adds_within, adds_failed}
 use Rattle.function_names.specs.Name.{name_text}

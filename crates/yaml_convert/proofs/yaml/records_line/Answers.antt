@@ -1,4 +1,4 @@
-use Rattle.std.proofs.Common.{◌≡◌, ◌∙◌, arith, sym, ap, true, false}
+use Rattle.std.proofs.Common.{◌∙◌, arith, sym}
 use Rattle.yaml_convert.specs.Yaml.{has_events}
 use Rattle.yaml_convert.proofs.YamlLines.{none_at_all, none_more, some_at, starts_empty, starts_records}
 use Rattle.yaml_convert.proofs.yaml.records_line.Goals as goal

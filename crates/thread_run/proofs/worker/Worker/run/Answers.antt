@@ -3,7 +3,7 @@ use Rattle.std.proofs.lemmas.Bool.{false≢true}
 use Rattle.machine_step.specs.declared.want.Want.TheVariants.{Load as Loads}
 use Rattle.machine_step.specs.Traced.{Traced, loads_left}
 use Rattle.thread_run.specs.Workers.{cpu_of}
-use Rattle.thread_run.proofs.Turns.{behind_taken, held_again, made_none, made_one, made_then, moved_on, worker_again, worker_then}
+use Rattle.thread_run.proofs.Turns.{behind_taken, goes_on, held_again, made_none, made_one, made_then, moved_on, worker_again, worker_then}
 use Rattle.thread_run.proofs.worker.Worker.run.Goals as goal
 
 pub loads-init : goal.loads-init
@@ -19,17 +19,11 @@ loads-init g c =
 
 pub loads-preserved-in-Gate : goal.loads-preserved-in-Gate
 loads-preserved-in-Gate g c =
-    let first = c.args.self.now in
     let mid = c.loads.self in
     let new = c.open-want.new.self in
-    let kept = c.loads.invariant in
-    record {
-      going = c.open-want.ensures.going;
-      same = worker_then g.R.Recorder.follows g.met.R.Recorder.follows_along first mid new kept.same c.open-want.ensures.same;
-      made = made_then false first mid new kept.same.thread kept.made (made_none mid new c.open-want.ensures.loads);
-      want = c.open-want.ensures.want;
-      there = c.open-want.ensures.there;
-    }
+    let said = c.open-want.ensures in
+    goes_on g.R.Recorder.stands g.R.Recorder.follows g.met.R.Recorder.follows_along c.args.self.now mid new _ _ c.loads.invariant said.same
+    (made_none mid new said.loads) said.going said.want said.there
 
 pub note-want-requires-clause-behind : goal.note-want-requires-clause-behind
 note-want-requires-clause-behind g c = behind_taken c.in-Load.word c.loads.self c.take.new.self c.in-Some.ensures.taken
@@ -55,21 +49,15 @@ loads-smaller-in-Some g c =
 
 pub loads-preserved-in-Some : goal.loads-preserved-in-Some
 loads-preserved-in-Some g c =
-    let first = c.args.self.now in
     let old = c.loads.self in
     let mid = c.take.new.self in
     let new = c.note-want.new.self in
-    let kept = c.loads.invariant in
-    let taken = c.in-Some.ensures.taken in
-    let on = moved_on c.in-Load.word old mid taken (sym kept.want ∙ c.in-Load.is) (c.in-Some.ensures.ends refl c.in-Load.word) in
-    let same = worker_then g.R.Recorder.follows g.met.R.Recorder.follows_along old mid new c.in-Some.ensures.same c.note-want.ensures.same in
-    record {
-      going = c.note-want.ensures.going;
-      same = worker_then g.R.Recorder.follows g.met.R.Recorder.follows_along first old new kept.same same;
-      made = made_then false first old new kept.same.thread kept.made (made_one false old new taken.load (c.note-want.ensures.loads ∙ taken.loads) on);
-      want = c.note-want.ensures.want;
-      there = c.note-want.ensures.there;
-    }
+    let took = c.in-Some.ensures in
+    let said = c.note-want.ensures in
+    let on = moved_on c.in-Load.word old mid took.taken (sym c.loads.invariant.want ∙ c.in-Load.is) (took.ends refl c.in-Load.word) in
+    goes_on g.R.Recorder.stands g.R.Recorder.follows g.met.R.Recorder.follows_along c.args.self.now old new _ _ c.loads.invariant
+    (worker_then g.R.Recorder.follows g.met.R.Recorder.follows_along old mid new took.same said.same)
+    (made_one false old new took.taken.load (said.loads ∙ took.taken.loads) on) said.going said.want said.there
 
 pub returns-then-is_load-clause-same : goal.returns-then-is_load-clause-same
 returns-then-is_load-clause-same g c =
@@ -102,19 +90,11 @@ loads-smaller g c =
 
 pub loads-preserved : goal.loads-preserved
 loads-preserved g c =
-    let first = c.args.self.now in
     let old = c.loads.self in
-    let mid = c.take.new.self in
-    let new = c.go_on-want.new.self in
-    let kept = c.loads.invariant in
-    let taken = c.in-None.ensures.taken in
-    let on = moved_on c.in-Load.word old mid taken (sym kept.want ∙ c.in-Load.is)
-    (λ again. false≢true (sym c.if-is_load.false ∙ c.is_load.ensures.1 (c.go_on-want.ensures.want ∙ ap (λ (t : Traced). t.want) c.go_on-want.ensures.cpu ∙ again))) in
-    let same = worker_then g.R.Recorder.follows g.met.R.Recorder.follows_along old mid new c.in-None.ensures.same c.go_on-want.ensures.same in
-    record {
-      going = c.go_on-want.ensures.going;
-      same = worker_then g.R.Recorder.follows g.met.R.Recorder.follows_along first old new kept.same same;
-      made = made_then false first old new kept.same.thread kept.made (made_one false old new taken.load (c.go_on-want.ensures.loads ∙ taken.loads) on);
-      want = c.go_on-want.ensures.want;
-      there = c.go_on-want.ensures.there;
-    }
+    let took = c.in-None.ensures in
+    let said = c.go_on-want.ensures in
+    let on = moved_on c.in-Load.word old c.take.new.self took.taken (sym c.loads.invariant.want ∙ c.in-Load.is)
+    (λ again. false≢true (sym c.if-is_load.false ∙ c.is_load.ensures.1 (said.want ∙ ap (λ (t : Traced). t.want) said.cpu ∙ again))) in
+    goes_on g.R.Recorder.stands g.R.Recorder.follows g.met.R.Recorder.follows_along c.args.self.now old c.go_on-want.new.self _ _ c.loads.invariant
+    (worker_then g.R.Recorder.follows g.met.R.Recorder.follows_along old c.take.new.self c.go_on-want.new.self took.same said.same)
+    (made_one false old c.go_on-want.new.self took.taken.load (said.loads ∙ took.taken.loads) on) said.going said.want said.there

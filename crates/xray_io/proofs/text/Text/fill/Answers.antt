@@ -1,6 +1,6 @@
 use Rattle.std.proofs.Common.{◌≡◌, ◌-◌, ◌++◌, ℕ, List, Ok, sym, subst, ap, ◌∙◌, arith}
 use Rattle.xray_io.specs.Text.{AddsText, adds_nothing, adds_more, adds_within, adds_failed}
-use Rattle.xray_io.proofs.Pieces.{copies, copies_more, copies_split}
+use Rattle.xray_io.proofs.Copies.{copies, copies_more, copies_split}
 use Rattle.xray_io.proofs.text.Text.fill.Goals as goal
 
 pub filling-init : goal.filling-init

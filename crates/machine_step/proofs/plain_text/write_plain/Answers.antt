@@ -1,7 +1,0 @@
-use Rattle.std.proofs.Common.{rules}
-use Rattle.xray_io.specs.Text.{writes_all}
-use Rattle.machine_step.proofs.plain_text.write_plain.Goals as goal
-
-pub returns : goal.returns
-returns g c =
-    let made = c.new-text.ensures in let w = writes_all {along = g.S.Sink.along} g.met.S.Sink.along_both _ _ _ _ made.sink made.waits c.in_ok-add_lines.ensures c.done.ensures.writes in search rules
