@@ -275,16 +275,16 @@ one_taken func thread k old new more was (l ∷ h) within = by_thread (nat_eq l.
 
     other : nat_eq l.thread thread ≡ false → Before
         → count_placed (free_entry func new) (l ∷ h) + cond (entry_at func (of_thread thread (l ∷ h)) k) 1 0 ≡ count_placed (free_entry func old) (l ∷ h)
-    other is behind =
+    other is following =
         let part = other_part thread l h is in
         let inside : k < length (of_thread thread h) = subst (λ (es : List Event). k < length es) part within in
         let at : cond (entry_at func (of_thread thread (l ∷ h)) k) 1 0 ≡ cond (entry_at func (of_thread thread h) k) 1 0 =
         ap {B = ℕ} (λ (es : List Event). cond (entry_at func es k) 1 0) part in
-        omega (arith, same_head (ap (λ (b : Bool). b && nat_eq k i) is), behind inside, at)
+        omega (arith, same_head (ap (λ (b : Bool). b && nat_eq k i) is), following inside, at)
 
     later : nat_eq l.thread thread ≡ true → nat_eq i k ≡ false → i ≡ length (of_thread thread h) → Before
         → count_placed (free_entry func new) (l ∷ h) + cond (entry_at func (of_thread thread (l ∷ h)) k) 1 0 ≡ count_placed (free_entry func old) (l ∷ h)
-    later is not_here size behind =
+    later is not_here size following =
         let part = own_part thread l h is in
         let under : k < suc (length (of_thread thread h)) = subst (λ (es : List Event). k < length es) part within in
         let not_it : nat_eq (length (of_thread thread h)) k ≡ false = ap (λ (n : ℕ). nat_eq n k) (sym size) ∙ not_here in
@@ -296,7 +296,7 @@ one_taken func thread k old new more was (l ∷ h) within = by_thread (nat_eq l.
         omega (
           arith,
           same_head (ap (λ (b : Bool). nat_eq l.thread thread && b) flip ∙ and_none (nat_eq l.thread thread)),
-          behind inside,
+          following inside,
           at,
         )
 
@@ -335,13 +335,13 @@ one_taken func thread k old new more was (l ∷ h) within = by_thread (nat_eq l.
 
     by_place : nat_eq l.thread thread ≡ true → i ≡ length (of_thread thread h) → (b : Bool) → nat_eq i k ≡ b → Before
         → count_placed (free_entry func new) (l ∷ h) + cond (entry_at func (of_thread thread (l ∷ h)) k) 1 0 ≡ count_placed (free_entry func old) (l ∷ h)
-    by_place is size true e behind = here is e size
-    by_place is size false e behind = later is e size behind
+    by_place is size true e following = here is e size
+    by_place is size false e following = later is e size following
 
     by_thread : (b : Bool) → nat_eq l.thread thread ≡ b → Before
         → count_placed (free_entry func new) (l ∷ h) + cond (entry_at func (of_thread thread (l ∷ h)) k) 1 0 ≡ count_placed (free_entry func old) (l ∷ h)
-    by_thread true is behind = by_place is (ap (λ (t : ℕ). length (of_thread t h)) (eqb-true l.thread thread is)) (nat_eq i k) refl behind
-    by_thread false is behind = other is behind
+    by_thread true is following = by_place is (ap (λ (t : ℕ). length (of_thread t h)) (eqb-true l.thread thread is)) (nat_eq i k) refl following
+    by_thread false is following = other is following
 
 -- ---- what is left
 

@@ -32,8 +32,8 @@ apart_from_distinct {X} number x (z ∷ zs) apart y (inl is) same =
     let different : nat_eq (number x) (number z) ≡ false = apart.0 in cc
 apart_from_distinct number x (z ∷ zs) apart y (inr is) same = apart_from_distinct number x zs apart.1 y is same
 
-sorted_behind : {X : Type 0} (before : X → X → Bool) (x : X) (xs : List X) → IsSortedBy before (x ∷ xs) → IsSortedBy before xs
-sorted_behind {X} before x xs up k d low within =
+sorted_after : {X : Type 0} (before : X → X → Bool) (x : X) (xs : List X) → IsSortedBy before (x ∷ xs) → IsSortedBy before xs
+sorted_after {X} before x xs up k d low within =
     let P : ℕ → Type 0 = λ n. before (get_or (x ∷ xs) n d) (get_or xs k d) ≡ false in
     let next : suc k + 1 ≡ suc (k + 1) = omega arith in
     subst P next (up (suc k) d (omega arith) (omega arith))
@@ -43,7 +43,7 @@ not_after : {X : Type 0} (before : X → X → Bool) → IsStrictWeakOrder befor
 not_after before laws x [] up z is = absurd is
 not_after {X} before laws x (y ∷ ys) up z (inl is) = subst (λ (w : X). before w x ≡ false) (sym is) (up 0 x (omega arith) (omega arith))
 not_after before laws x (y ∷ ys) up z (inr is) =
-    laws.chain z y x (not_after before laws y ys (sorted_behind before x (y ∷ ys) up) z is) (up 0 x (omega arith) (omega arith))
+    laws.chain z y x (not_after before laws y ys (sorted_after before x (y ∷ ys) up) z is) (up 0 x (omega arith) (omega arith))
 
 strict_from_sorted : {X : Type 0} (number : X → ℕ) (before : X → X → Bool) → IsStrictWeakOrder before → Decides number before → (xs : List X)
     → IsDistinct nat_eq (map number xs) → IsSortedBy before xs → Strict before xs
@@ -53,7 +53,7 @@ strict_from_sorted number before laws decides (x ∷ xs) distinct up = (
       (λ same. apart_from_distinct number x xs (IsDistinct-head nat_eq (number x) (map number xs) distinct) y is (sym same))
       (not_after before laws x xs up y is),
   strict_from_sorted number before laws decides xs (IsDistinct-tail nat_eq (number x) (map number xs) distinct)
-      (sorted_behind before x xs up),
+      (sorted_after before x xs up),
 )
 
 -- ---- items put in order

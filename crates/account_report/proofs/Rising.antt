@@ -48,8 +48,8 @@ counted_from n k [] all some = absurd (omega arith)
 counted_from n k (x ∷ xs) all some = by_first (nat_eq k x) refl (counted_from n k xs all.1)
   where
     by_first : (b : Bool) → nat_eq k x ≡ b → (0 < count k xs → n ≤ k) → n ≤ k
-    by_first true is behind = omega (arith, all.0, eqb-true k x is)
-    by_first false is behind = behind (omega (arith, count-cons k x xs, ap {B = ℕ} (λ b. cond b 1 0) is, some))
+    by_first true is following = omega (arith, all.0, eqb-true k x is)
+    by_first false is following = following (omega (arith, count-cons k x xs, ap {B = ℕ} (λ b. cond b 1 0) is, some))
 
 first_least : (x k : ℕ) (xs : List ℕ) → AllFrom x xs → 0 < count k (x ∷ xs) → x ≤ k
 first_least x k xs all some = counted_from x k (x ∷ xs) (omega arith, all) some
@@ -86,16 +86,16 @@ all_from-put_in low x [] below all = (below, tt)
 all_from-put_in low x (y ∷ ys) below all = by_first (nat_lt x y) (all_from-put_in low x ys below all.1)
   where
     by_first : (b : Bool) → AllFrom low (put_in nat_lt x ys) → AllFrom low (cond b (x ∷ y ∷ ys) (y ∷ put_in nat_lt x ys))
-    by_first true behind = (below, all)
-    by_first false behind = (all.0, behind)
+    by_first true following = (below, all)
+    by_first false following = (all.0, following)
 
 rises-put_in : (x : ℕ) (xs : List ℕ) → Rises xs → Rises (put_in nat_lt x xs)
 rises-put_in x [] up = (tt, tt)
 rises-put_in x (y ∷ ys) up = by_first (nat_lt x y) refl (rises-put_in x ys up.1)
   where
     by_first : (b : Bool) → nat_lt x y ≡ b → Rises (put_in nat_lt x ys) → Rises (cond b (x ∷ y ∷ ys) (y ∷ put_in nat_lt x ys))
-    by_first true is behind = let low : x ≤ y = grind (arith, nat_tests) in ((low, all_from_less x y ys low up.0), up)
-    by_first false is behind = let low : y ≤ x = grind (arith, nat_tests) in (all_from-put_in y x ys low up.0, behind)
+    by_first true is following = let low : x ≤ y = grind (arith, nat_tests) in ((low, all_from_less x y ys low up.0), up)
+    by_first false is following = let low : y ≤ x = grind (arith, nat_tests) in (all_from-put_in y x ys low up.0, following)
 
 count-put_in : (k x : ℕ) (xs : List ℕ) → count k (put_in nat_lt x xs) ≡ one_at k x + count k xs
 count-put_in k x [] = count-cons k x []
@@ -103,8 +103,8 @@ count-put_in k x (y ∷ ys) = by_first (nat_lt x y) (count-put_in k x ys)
   where
     by_first : (b : Bool) → count k (put_in nat_lt x ys) ≡ one_at k x + count k ys
         → count k (cond b (x ∷ y ∷ ys) (y ∷ put_in nat_lt x ys)) ≡ one_at k x + count k (y ∷ ys)
-    by_first true behind = count-cons k x (y ∷ ys)
-    by_first false behind = omega (arith, count-cons k y (put_in nat_lt x ys), count-cons k y ys, behind)
+    by_first true following = count-cons k x (y ∷ ys)
+    by_first false following = omega (arith, count-cons k y (put_in nat_lt x ys), count-cons k y ys, following)
 
 rises-ascending : (xs : List ℕ) → Rises (ascending xs)
 rises-ascending [] = tt
@@ -119,8 +119,8 @@ length-put_in x [] = refl
 length-put_in x (y ∷ ys) = by_first (nat_lt x y) (length-put_in x ys)
   where
     by_first : (b : Bool) → length (put_in nat_lt x ys) ≡ suc (length ys) → length (cond b (x ∷ y ∷ ys) (y ∷ put_in nat_lt x ys)) ≡ suc (length (y ∷ ys))
-    by_first true behind = refl
-    by_first false behind = ap suc behind
+    by_first true following = refl
+    by_first false following = ap suc following
 
 pub length-ascending : (xs : List ℕ) → length (ascending xs) ≡ length xs
 length-ascending [] = refl

@@ -45,9 +45,9 @@ found_here : (func : ℕ) (tally : Tallied) (es : Entries) → lookup (nat_eq fu
 found_here func tally es = ap (λ b. cond b (Some tally) (lookup (nat_eq func) es)) (eq-eqb func func refl)
 
 -- what an entry after the first one has is found there
-found_behind : (k : ℕ) (v : Tallied) (e : ℕ × Tallied) (es : Entries) → IsDistinct nat_eq (keys_of (e ∷ es)) → lookup (nat_eq k) es ≡ Some v
+found_after : (k : ℕ) (v : Tallied) (e : ℕ × Tallied) (es : Entries) → IsDistinct nat_eq (keys_of (e ∷ es)) → lookup (nat_eq k) es ≡ Some v
     → lookup (nat_eq k) (e ∷ es) ≡ Some v
-found_behind k v e es distinct found = by_first (nat_eq k e.0) refl
+found_after k v e es distinct found = by_first (nat_eq k e.0) refl
   where
     by_first : (b : Bool) → nat_eq k e.0 ≡ b → cond b (Some e.1) (lookup (nat_eq k) es) ≡ Some v
     by_first true is = let none : lookup (nat_eq k) es ≡ None = lookup-none (nat_eq k) es (none_past_head nat_eq_equiv k e es distinct is) in cc
@@ -58,9 +58,9 @@ pub entries_told : Laws → (history : List Logged) (es : Entries) → IsDistinc
 entries_told laws history [] distinct told = refl
 entries_told laws history ((func, tally) ∷ es) distinct told =
     let first : row_of_entry (func, tally) ≡ row_of history func = entry_told laws history func tally (told func tally (found_here func tally es)) in
-    let behind : map row_of_entry es ≡ map (row_of history) (keys_of es) =
-    entries_told laws history es (IsDistinct-tail nat_eq func (keys_of es) distinct) (λ k v found. told k v (found_behind k v (func, tally) es distinct found)) in
-    ap (λ (row : AccountRow). row ∷ map row_of_entry es) first ∙ ap (λ (rows : List AccountRow). row_of history func ∷ rows) behind
+    let following : map row_of_entry es ≡ map (row_of history) (keys_of es) =
+    entries_told laws history es (IsDistinct-tail nat_eq func (keys_of es) distinct) (λ k v found. told k v (found_after k v (func, tally) es distinct found)) in
+    ap (λ (row : AccountRow). row ∷ map row_of_entry es) first ∙ ap (λ (rows : List AccountRow). row_of history func ∷ rows) following
 
 -- the functions of a table
 found_key : (k : ℕ) (es : Entries) → is_some (lookup (nat_eq k) es) ≡ true → IsIn k (keys_of es)

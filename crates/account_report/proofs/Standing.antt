@@ -17,8 +17,8 @@ of_thread-append thread (l ∷ ls) later = by_thread (nat_eq l.thread thread) (o
     by_thread : (b : Bool) → of_thread thread (ls ++ later) ≡ of_thread thread ls ++ of_thread thread later
         → cond b (l.event ∷ of_thread thread (ls ++ later)) (of_thread thread (ls ++ later))
         ≡ cond b (l.event ∷ of_thread thread ls) (of_thread thread ls) ++ of_thread thread later
-    by_thread true behind = ap (λ (es : List Event). l.event ∷ es) behind
-    by_thread false behind = behind
+    by_thread true following = ap (λ (es : List Event). l.event ∷ es) following
+    by_thread false following = following
 
 -- events of one thread aren't events of another
 none_of_other : (thread other : ℕ) (events : List Event) → nat_eq thread other ≡ false → of_thread other (reverse (map (logged thread) events)) ≡ []
@@ -39,13 +39,13 @@ different : (thread other : ℕ) → nat_eq thread other ≡ false → thread �
 different thread other apart same = let is : nat_eq thread other ≡ true = eq-eqb thread other same in cc
 
 -- the threads after a block of one of them
-pub stands_behind : (thread : ℕ) (events : List Event) (h : List Logged) (threads rest behind : Table Standing) (calls : Standing)
+pub stands_after : (thread : ℕ) (events : List Event) (h : List Logged) (threads rest following : Table Standing) (calls : Standing)
     → AreStanding threads h → ((other : ℕ) → (thread ≡ other → ⊥) → standing_in rest other ≡ standing_in threads other)
-    → ((other : ℕ) → get nat_eq behind other ≡ cond (nat_eq thread other) (Some calls) (get nat_eq rest other))
-    → calls ≡ standing_after (of_thread thread (going_on thread events h)) → AreStanding behind (going_on thread events h)
-stands_behind thread events h threads rest behind calls stand others put stands = record { each = λ other. each other (nat_eq thread other) refl }
+    → ((other : ℕ) → get nat_eq following other ≡ cond (nat_eq thread other) (Some calls) (get nat_eq rest other))
+    → calls ≡ standing_after (of_thread thread (going_on thread events h)) → AreStanding following (going_on thread events h)
+stands_after thread events h threads rest following calls stand others put stands = record { each = λ other. each other (nat_eq thread other) refl }
   where
-    each : (other : ℕ) (b : Bool) → nat_eq thread other ≡ b → standing_in behind other ≡ standing_after (of_thread other (going_on thread events h))
+    each : (other : ℕ) (b : Bool) → nat_eq thread other ≡ b → standing_in following other ≡ standing_after (of_thread other (going_on thread events h))
     each other true is =
         ap (λ (o : Option Standing). unwrap_or o (standing_after [])) (put other ∙ ap (λ b. cond b (Some calls) (get nat_eq rest other)) is)
         ∙ (stands ∙ ap (λ t. standing_after (of_thread t (going_on thread events h))) (eqb-true thread other is))

@@ -90,12 +90,12 @@ going_on-more thread events i d h within =
     ∙ ap (λ (ls : List Logged). ls ++ h) (reverse-append (map (logged thread) (take i events)) (logged thread (get_or events i d) ∷ [])))
 
 -- one more event of the thread
-reached_behind : (thread : ℕ) (h : List Logged) (e : Event) (pair : Option Pair) (calls calls' : Standing) (tallies tallies' : Table Tallied)
+reached_after : (thread : ℕ) (h : List Logged) (e : Event) (pair : Option Pair) (calls calls' : Standing) (tallies tallies' : Table Tallied)
     → Reached thread h calls tallies → pair ≡ pair_at e calls.events calls.calls → calls' ≡ next_standing e calls
     → ((func : ℕ) → tally_in tallies' func ≡ cond (nat_eq e.func func) (with_event e.kind (durations_in pair) (tally_in tallies func)) (tally_in tallies func))
     → ((func : ℕ) → is_some (get nat_eq tallies' func) ≡ (nat_eq e.func func || is_some (get nat_eq tallies func)))
     → Reached thread (logged thread e ∷ h) calls' tallies'
-reached_behind thread h e pair calls calls' tallies tallies' reached made stands each present =
+reached_after thread h e pair calls calls' tallies tallies' reached made stands each present =
     let made_after : pair ≡ pair_after (logged thread e) h = made ∙ ap (λ (s : Standing). pair_at e s.events s.calls) reached.stands in record {
       stands = stands ∙ (ap (next_standing e) reached.stands ∙ ap standing_after (sym (of_thread-own thread e h)));
       tallied = record {
@@ -116,7 +116,7 @@ pub reached_more : (thread : ℕ) (h : List Logged) (events : List Event) (i : �
     → Reached thread (going_on thread (take (i + 1) events) h) calls' tallies'
 reached_more thread h events i d pair calls calls' tallies tallies' within reached made stands each present =
     subst (λ (history : List Logged). Reached thread history calls' tallies') (sym (going_on-more thread events i d h within))
-    (reached_behind thread (going_on thread (take i events) h) (get_or events i d) pair calls calls' tallies tallies' reached made stands each present)
+    (reached_after thread (going_on thread (take i events) h) (get_or events i d) pair calls calls' tallies tallies' reached made stands each present)
 
 -- what stands for an item that a slice doesn't have
 abbrev pub no_event : Event

@@ -1,7 +1,6 @@
 //! Rows in the order of a column.
 
-ghost use Rattle.std.specs.Prelude.{◌≡◌, IsPermutation, List, map, nat_eq};
-ghost use Rattle.std.specs.List.{IsDistinct};
+ghost use Rattle.std.specs.{Prelude.{◌≡◌, IsPermutation, List, map, nat_eq}, List.{IsDistinct}};
 ghost use Rattle.std.specs.List.Sorted.{IsSortedBy};
 ghost use Rattle.std.specs.Ordering.{is_lt};
 ghost use Rattle.account_report.specs.declared.row.AccountRow.{AccountRow};

@@ -1,10 +1,8 @@
 //! The rows of the account.
 
-ghost use Rattle.std.specs.Prelude.{◌≡◌, nat_eq, map, IfOk};
-ghost use Rattle.std.specs.HashMap.{IsUnique};
+ghost use Rattle.std.specs.{Prelude.{◌≡◌, nat_eq, map, IfOk}, HashMap.{IsUnique}};
 ghost use Rattle.std.specs.List.{IsDistinct};
-ghost use Rattle.account_report.specs.Account.{account_of};
-ghost use Rattle.account_report.specs.AccountText.{latencies_of};
+ghost use Rattle.account_report.specs.{Account.{account_of}, AccountText.{latencies_of}};
 ghost use Rattle.account_report.specs.private.Tallies.{row_of_entry};
 
 use crate::row::AccountRow;

@@ -1,10 +1,8 @@
 //! The text of an account.
 
 ghost use Rattle.std.specs.Prelude.{◌≡◌, ◌++◌, ◌==◌, ⊤, codes, decimal, if◌then◌else◌};
-ghost use Rattle.std.specs.List.{flat_map};
-ghost use Rattle.std.specs.Option.{option_map};
-ghost use Rattle.xray_io.specs.Piece.{piece_text};
-ghost use Rattle.xray_io.specs.Text.{AddsText};
+ghost use Rattle.std.specs.{List.{flat_map}, Option.{option_map}};
+ghost use Rattle.xray_io.specs.{Piece.{piece_text}, Text.{AddsText}};
 ghost use Rattle.account_report.specs.AccountText.{account_text, column_text, duration_word, first_line, head_words, line_text, placed, row_text, separator_text, words_of};
 
 use crate::row::AccountRow;

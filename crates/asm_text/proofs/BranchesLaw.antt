@@ -41,8 +41,8 @@ OwnHas P p = (own : ℕ) → own_place p ≡ Some own → P own
 
 next_has : (P : ℕ → Type 0) (all : List Placed) → AllByRecursion (OwnHas P) all → (own : ℕ) → next_place all ≡ Some own → P own
 next_has P [] has own e = absurd (cc e)
-next_has P (p ∷ behind) has own e =
-    earlier_has P (own_place p) (next_place behind) has.0 (next_has P behind has.1) own (sym (next_place-cons p behind) ∙ e)
+next_has P (p ∷ following) has own e =
+    earlier_has P (own_place p) (next_place following) has.0 (next_has P following has.1) own (sym (next_place-cons p following) ∙ e)
 
 by_definition : (P : ℕ → Type 0) (t : Bool) (here there : Option ℕ) (place : ℕ) → (here ≡ Some place → P place) → (there ≡ Some place → P place) → cond t here there ≡ Some place → P place
 by_definition P true here there place h i e = h e
@@ -50,39 +50,39 @@ by_definition P false here there place h i e = i e
 
 name_has : (P : ℕ → Type 0) (all : List Placed) → AllByRecursion (OwnHas P) all → (name : List ℕ) (place : ℕ) → place_of name all ≡ Some place → P place
 name_has P [] has name place e = absurd (cc e)
-name_has P (p ∷ behind) has name place e =
-    by_definition P (defines name p.statement) (next_place (p ∷ behind)) (place_of name behind) place (next_has P (p ∷ behind) has place) (name_has P behind has.1 name place) e
+name_has P (p ∷ following) has name place e =
+    by_definition P (defines name p.statement) (next_place (p ∷ following)) (place_of name following) place (next_has P (p ∷ following) has place) (name_has P following has.1 name place) e
 
 -- a line that defines a name has a place, or a later line has
-defined_here : (lines : Lines) (name : List ℕ) (p : Placed) (s : Statement) (behind : List Placed) → s ≡ p.statement → defines name s ≡ true → is_unresolved lines s (lines_of behind) ≡ false
-    → is_some (next_place (p ∷ behind)) ≡ true
-defined_here lines name p (Base address) behind is here settled = absurd (cc here)
-defined_here lines name p (Entry other) behind is here settled = absurd (cc here)
-defined_here lines name p (Func other choice) behind is here settled =
+defined_here : (lines : Lines) (name : List ℕ) (p : Placed) (s : Statement) (following : List Placed) → s ≡ p.statement → defines name s ≡ true → is_unresolved lines s (lines_of following) ≡ false
+    → is_some (next_place (p ∷ following)) ≡ true
+defined_here lines name p (Base address) following is here settled = absurd (cc here)
+defined_here lines name p (Entry other) following is here settled = absurd (cc here)
+defined_here lines name p (Func other choice) following is here settled =
     let own : own_place p ≡ Some p.owner.start = subst (λ s. cond (is_function s) (Some p.owner.start) (cond (is_instruction s) (Some p.place) None) ≡ Some p.owner.start) is refl in
-    ap is_some (next_place-cons p behind ∙ ap (λ o. earlier o (next_place behind)) own)
-defined_here lines name p (Label other) behind is here settled =
+    ap is_some (next_place-cons p following ∙ ap (λ o. earlier o (next_place following)) own)
+defined_here lines name p (Label other) following is here settled =
     let own : own_place p ≡ None = subst (λ s. cond (is_function s) (Some p.owner.start) (cond (is_instruction s) (Some p.place) None) ≡ None) is refl in
-    not-false (is_some (next_place (p ∷ behind))) (label_unresolved p behind own ∙ settled)
-defined_here lines name p (Does operation) behind is here settled = absurd (cc here)
+    not-false (is_some (next_place (p ∷ following))) (label_unresolved p following own ∙ settled)
+defined_here lines name p (Does operation) following is here settled = absurd (cc here)
 
-defined_first : (name : List ℕ) (p : Placed) (behind : List Placed) (rest : Bool) (t : Bool) → (t ≡ true → is_some (next_place (p ∷ behind)) ≡ true) → (rest ≡ true → is_some (place_of name behind) ≡ true)
-    → (t || rest) ≡ true → is_some (cond t (next_place (p ∷ behind)) (place_of name behind)) ≡ true
-defined_first name p behind rest true here there e = here refl
-defined_first name p behind rest false here there e = there e
+defined_first : (name : List ℕ) (p : Placed) (following : List Placed) (rest : Bool) (t : Bool) → (t ≡ true → is_some (next_place (p ∷ following)) ≡ true) → (rest ≡ true → is_some (place_of name following) ≡ true)
+    → (t || rest) ≡ true → is_some (cond t (next_place (p ∷ following)) (place_of name following)) ≡ true
+defined_first name p following rest true here there e = here refl
+defined_first name p following rest false here there e = there e
 
 -- a name that lines define has a place
 defined_has_place : (all : Lines) (name : List ℕ) (chosen : Choosing) (place : ℕ) (owner : Owner) (lines : Lines) → Settled all lines → is_defined name lines ≡ true
     → is_some (place_of name (placed_from chosen place owner lines)) ≡ true
 defined_has_place all name chosen place owner [] settled e = absurd (cc e)
-defined_has_place all name chosen place owner (line ∷ behind) settled e =
-    let here = owner_of chosen place owner line.1 behind in
+defined_has_place all name chosen place owner (line ∷ following) settled e =
+    let here = owner_of chosen place owner line.1 following in
     let p : Placed = record { line = line.0; statement = line.1; owner = here; place = place } in
     let next = place + widths (parts_of here.traced place line.1) in
-    let left = placed_from chosen next here behind in
-    let known : is_unresolved all line.1 (lines_of left) ≡ false = subst (λ ls. is_unresolved all line.1 ls ≡ false) (sym (lines_of-placed chosen next here behind)) settled.0 in
-    defined_first name p left (is_defined name behind) (defines name line.1) (λ t. defined_here all name p line.1 left refl t known)
-    (defined_has_place all name chosen next here behind settled.1) e
+    let left = placed_from chosen next here following in
+    let known : is_unresolved all line.1 (lines_of left) ≡ false = subst (λ ls. is_unresolved all line.1 ls ≡ false) (sym (lines_of-placed chosen next here following)) settled.0 in
+    defined_first name p left (is_defined name following) (defines name line.1) (λ t. defined_here all name p line.1 left refl t known)
+    (defined_has_place all name chosen next here following settled.1) e
 
 some_place : (P : ℕ → Type 0) (o : Option ℕ) → is_some o ≡ true → ((place : ℕ) → o ≡ Some place → P place) → P (unwrap_or o 0)
 some_place P None some h = absurd (cc some)
@@ -138,41 +138,41 @@ module _ (all : List Placed) (base : ℕ) (begins : List ℕ) where
   abbrev target : List ℕ → ℕ
   target name = unwrap_or (place_of name all) 0
 
-  jump_reaches : (behind address : ℕ) (branch : Branch) (name : List ℕ) → address + branch_width branch ≡ base + behind → Contains begins (base + target name)
-      → Reaches begins address (piece_of all behind (Jump branch name))
-  jump_reaches behind address branches.Call name ends there = (base + target name, omega (arith, ints, ends), there)
-  jump_reaches behind address branches.Jmp name ends there = (base + target name, omega (arith, ints, ends), there)
-  jump_reaches behind address branches.Jnz name ends there = (base + target name, omega (arith, ints, ends), there)
+  jump_reaches : (following address : ℕ) (branch : Branch) (name : List ℕ) → address + branch_width branch ≡ base + following → Contains begins (base + target name)
+      → Reaches begins address (piece_of all following (Jump branch name))
+  jump_reaches following address branches.Call name ends there = (base + target name, omega (arith, ints, ends), there)
+  jump_reaches following address branches.Jmp name ends there = (base + target name, omega (arith, ints, ends), there)
+  jump_reaches following address branches.Jnz name ends there = (base + target name, omega (arith, ints, ends), there)
 
-  plain_reaches : (behind address : ℕ) (instr : Instr) → NamesNoPlace instr → Reaches begins address (piece_of all behind (Fixed (Instruction instr)))
-  plain_reaches behind address (instrs.Mov dst imm) plain = tt
-  plain_reaches behind address (instrs.Add dst src) plain = tt
-  plain_reaches behind address (instrs.Sub dst src) plain = tt
-  plain_reaches behind address (instrs.Push reg) plain = tt
-  plain_reaches behind address (instrs.Pop reg) plain = tt
-  plain_reaches behind address (instrs.Call rel) plain = absurd plain
-  plain_reaches behind address (instrs.Jmp rel) plain = absurd plain
-  plain_reaches behind address (instrs.Jnz rel) plain = absurd plain
-  plain_reaches behind address instrs.Ret plain = tt
-  plain_reaches behind address (instrs.Out port) plain = tt
+  plain_reaches : (following address : ℕ) (instr : Instr) → NamesNoPlace instr → Reaches begins address (piece_of all following (Fixed (Instruction instr)))
+  plain_reaches following address (instrs.Mov dst imm) plain = tt
+  plain_reaches following address (instrs.Add dst src) plain = tt
+  plain_reaches following address (instrs.Sub dst src) plain = tt
+  plain_reaches following address (instrs.Push reg) plain = tt
+  plain_reaches following address (instrs.Pop reg) plain = tt
+  plain_reaches following address (instrs.Call rel) plain = absurd plain
+  plain_reaches following address (instrs.Jmp rel) plain = absurd plain
+  plain_reaches following address (instrs.Jnz rel) plain = absurd plain
+  plain_reaches following address instrs.Ret plain = tt
+  plain_reaches following address (instrs.Out port) plain = tt
 
   -- a sled goes nowhere
   abbrev GoesNowhere : Piece → Type 0
   GoesNowhere piece = (address : ℕ) → Reaches begins address piece
 
-  sled_reaches : (behind address place : ℕ) (sled : Piece) → GoesNowhere sled → Reach begins address (map (piece_of all behind) (aligned place sled))
-  sled_reaches behind address place sled nowhere =
-      elim (eqb (place % 2) 0) as (λ t. Reach begins address (map (piece_of all behind) (cond t (Fixed sled ∷ []) (Fixed Align ∷ Fixed sled ∷ [])))) [
+  sled_reaches : (following address place : ℕ) (sled : Piece) → GoesNowhere sled → Reach begins address (map (piece_of all following) (aligned place sled))
+  sled_reaches following address place sled nowhere =
+      elim (eqb (place % 2) 0) as (λ t. Reach begins address (map (piece_of all following) (cond t (Fixed sled ∷ []) (Fixed Align ∷ Fixed sled ∷ [])))) [
         | true ↦ (nowhere address, tt)
         | false ↦ (tt, (nowhere (address + 1), tt))
       ]
 
   -- a tail jump after its sled
-  tail_at : (behind address : ℕ) (r : ℕ) (name : List ℕ) → r < 2 → address + (r + 11 + 5) ≡ base + behind → Contains begins (base + target name)
-      → Reach begins address (map (piece_of all behind) (at_parity r (JumpSled sled_shift) ++ Jump branches.Jmp name ∷ []))
-  tail_at behind address zero name h ends there = (tt, (jump_reaches behind (address + 11) branches.Jmp name (omega (arith, ends)) there, tt))
-  tail_at behind address (suc zero) name h ends there = (tt, (tt, (jump_reaches behind (address + 1 + 11) branches.Jmp name (omega (arith, ends)) there, tt)))
-  tail_at behind address (suc (suc r)) name h ends there = absurd (omega arith)
+  tail_at : (following address : ℕ) (r : ℕ) (name : List ℕ) → r < 2 → address + (r + 11 + 5) ≡ base + following → Contains begins (base + target name)
+      → Reach begins address (map (piece_of all following) (at_parity r (JumpSled sled_shift) ++ Jump branches.Jmp name ∷ []))
+  tail_at following address zero name h ends there = (tt, (jump_reaches following (address + 11) branches.Jmp name (omega (arith, ends)) there, tt))
+  tail_at following address (suc zero) name h ends there = (tt, (tt, (jump_reaches following (address + 1 + 11) branches.Jmp name (omega (arith, ends)) there, tt)))
+  tail_at following address (suc (suc r)) name h ends there = absurd (omega arith)
 
   tail_reaches : (place : ℕ) (name : List ℕ) → Contains begins (base + target name)
       → let xs = aligned place (JumpSled sled_shift) ++ Jump branches.Jmp name ∷ [] in Reach begins (base + place) (map (piece_of all (place + widths xs)) xs)
@@ -208,27 +208,27 @@ module _ (all : List Placed) (base : ℕ) (begins : List ℕ) where
       let same : other ≡ name = cc e in
       subst (λ n. Contains begins (base + target n)) same (knows other (not-false (is_defined other said) settled))
 
-  line_reaches : (said before : Lines) (traced : Bool) (place : ℕ) (s : Statement) (behind : Lines) → KnowsPlaces said → IsAllowed before s → is_unresolved said s behind ≡ false
+  line_reaches : (said before : Lines) (traced : Bool) (place : ℕ) (s : Statement) (following : Lines) → KnowsPlaces said → IsAllowed before s → is_unresolved said s following ≡ false
       → let xs = parts_of traced place s in Reach begins (base + place) (map (piece_of all (place + widths xs)) xs)
-  line_reaches said before traced place (Base address) behind knows may settled = tt
-  line_reaches said before traced place (Entry name) behind knows may settled = tt
-  line_reaches said before true place (Func name choice) behind knows may settled = sled_reaches (place + widths (aligned place (JumpSled sled_shift))) (base + place) place (JumpSled sled_shift) (λ _. tt)
-  line_reaches said before false place (Func name choice) behind knows may settled = tt
-  line_reaches said before traced place (Label name) behind knows may settled = tt
-  line_reaches said before traced place (Does operation) behind knows may settled = operation_reaches traced place operation may.short (found said (name_in operation) knows settled)
+  line_reaches said before traced place (Base address) following knows may settled = tt
+  line_reaches said before traced place (Entry name) following knows may settled = tt
+  line_reaches said before true place (Func name choice) following knows may settled = sled_reaches (place + widths (aligned place (JumpSled sled_shift))) (base + place) place (JumpSled sled_shift) (λ _. tt)
+  line_reaches said before false place (Func name choice) following knows may settled = tt
+  line_reaches said before traced place (Label name) following knows may settled = tt
+  line_reaches said before traced place (Does operation) following knows may settled = operation_reaches traced place operation may.short (found said (name_in operation) knows settled)
 
   lines_reach : (said : Lines) (chosen : Choosing) (place : ℕ) (owner : Owner) (before lines : Lines) → KnowsPlaces said → Allowed before lines → Settled said lines
       → Reach begins (base + place) (flat_map (line_pieces all) (placed_from chosen place owner lines))
   lines_reach said chosen place owner before [] knows may settled = tt
-  lines_reach said chosen place owner before (line ∷ behind) knows may settled =
-      let here = owner_of chosen place owner line.1 behind in
+  lines_reach said chosen place owner before (line ∷ following) knows may settled =
+      let here = owner_of chosen place owner line.1 following in
       let xs = parts_of here.traced place line.1 in
       let next = place + widths xs in
       let first = map (piece_of all next) xs in
       let same : base + next ≡ base + place + length (flat_map piece_bytes first) = sym (ap (λ w. base + place + w) (parts_length all next xs) ∙ add_assoc base place (widths xs)) in
-      let others = flat_map (line_pieces all) (placed_from chosen next here behind) in
-      reach-append begins (base + place) first others (line_reaches said before here.traced place line.1 behind knows may.0 settled.0)
-      (subst (λ a. Reach begins a others) same (lines_reach said chosen next here (before ++ line ∷ []) behind knows may.1 settled.1))
+      let others = flat_map (line_pieces all) (placed_from chosen next here following) in
+      reach-append begins (base + place) first others (line_reaches said before here.traced place line.1 following knows may.0 settled.0)
+      (subst (λ a. Reach begins a others) same (lines_reach said chosen next here (before ++ line ∷ []) following knows may.1 settled.1))
 
 -- ---- all together
 

@@ -22,7 +22,7 @@ use Rattle.asm_text.proofs.NameTableLemmas.{is_defined-at}
 -- a test of the statements
 pub any_laid : (p : Statement → Bool) (laid : List Laid) → list_any (λ line. p line.1) (lines_of (placed_in laid)) ≡ list_any (λ line. p (statement_said line.statement)) laid
 any_laid p [] = refl
-any_laid p (line ∷ behind) = ap (λ t. p (statement_said line.statement) || t) (any_laid p behind)
+any_laid p (line ∷ following) = ap (λ t. p (statement_said line.statement) || t) (any_laid p following)
 
 -- whether an instruction line or a function follows
 abbrev pub has_place : ℕ × Statement → Bool
@@ -30,16 +30,16 @@ has_place line = is_function line.1 || is_instruction line.1
 
 none_next : (lines : List Placed) → not (is_some (next_place lines)) ≡ not (list_any has_place (lines_of lines))
 none_next [] = refl
-none_next (p ∷ behind) =
-    ap (λ o. not (is_some o)) (next_place-cons p behind)
-    ∙ (elim (is_function p.statement) as (λ f. not (is_some (earlier (cond f (Some p.owner.start) (cond (is_instruction p.statement) (Some p.place) None)) (next_place behind))) ≡ not ((f || is_instruction p.statement) || list_any has_place (lines_of behind))) [
+none_next (p ∷ following) =
+    ap (λ o. not (is_some o)) (next_place-cons p following)
+    ∙ (elim (is_function p.statement) as (λ f. not (is_some (earlier (cond f (Some p.owner.start) (cond (is_instruction p.statement) (Some p.place) None)) (next_place following))) ≡ not ((f || is_instruction p.statement) || list_any has_place (lines_of following))) [
       | true ↦ refl
-      | false ↦ (elim (is_instruction p.statement) as (λ i. not (is_some (earlier (cond i (Some p.place) None) (next_place behind))) ≡ not (i || list_any has_place (lines_of behind))) [ true ↦ refl | false ↦ none_next behind ])
+      | false ↦ (elim (is_instruction p.statement) as (λ i. not (is_some (earlier (cond i (Some p.place) None) (next_place following))) ≡ not (i || list_any has_place (lines_of following))) [ true ↦ refl | false ↦ none_next following ])
     ])
 
 -- a label's next place
-pub label_unresolved : (p : Placed) (behind : List Placed) → own_place p ≡ None → not (is_some (next_place (p ∷ behind))) ≡ not (list_any has_place (lines_of behind))
-label_unresolved p behind none = ap (λ o. not (is_some o)) (next_place-cons p behind ∙ ap (λ o. earlier o (next_place behind)) none) ∙ none_next behind
+pub label_unresolved : (p : Placed) (following : List Placed) → own_place p ≡ None → not (is_some (next_place (p ∷ following))) ≡ not (list_any has_place (lines_of following))
+label_unresolved p following none = ap (λ o. not (is_some o)) (next_place-cons p following ∙ ap (λ o. earlier o (next_place following)) none) ∙ none_next following
 
 -- a name that isn't in the table
 pub missing_name : (lines : Lines) (names : NameTable) (name : List ℕ) → IsNames lines names → not (is_some (line_named names name)) ≡ not (is_defined name lines)
@@ -62,10 +62,10 @@ after_one x xs (Some n) = refl
 -- the place of a name by the line that defines it
 pub place_by_line : (name : List ℕ) (all : List Placed) → inner (option_and_then (slice_get (next_places all)) (defined_at name (lines_of all))) ≡ place_of name all
 place_by_line name [] = refl
-place_by_line name (p ∷ behind) =
-    elim (defines name p.statement) as (λ t. inner (option_and_then (slice_get (next_place (p ∷ behind) ∷ next_places behind)) (cond t (Some 0) (option_map suc (defined_at name (lines_of behind))))) ≡ cond t (next_place (p ∷ behind)) (place_of name behind)) [
+place_by_line name (p ∷ following) =
+    elim (defines name p.statement) as (λ t. inner (option_and_then (slice_get (next_place (p ∷ following) ∷ next_places following)) (cond t (Some 0) (option_map suc (defined_at name (lines_of following))))) ≡ cond t (next_place (p ∷ following)) (place_of name following)) [
       | true ↦ refl
-      | false ↦ after_one (next_place (p ∷ behind)) (next_places behind) (defined_at name (lines_of behind)) ∙ place_by_line name behind
+      | false ↦ after_one (next_place (p ∷ following)) (next_places following) (defined_at name (lines_of following)) ∙ place_by_line name following
     ]
 
 -- the line of a name leads to its place
@@ -95,7 +95,7 @@ place_nowhere name all table next are none =
 
 length-next_places : (all : List Placed) → length (next_places all) ≡ length all
 length-next_places [] = refl
-length-next_places (p ∷ behind) = ap suc (length-next_places behind)
+length-next_places (p ∷ following) = ap suc (length-next_places following)
 
 -- there are as many places as lines
 pub places_count : (laid : List Laid) (table : NameTable) (next : List (Option ℕ)) → ArePlaces (placed_in laid) table next → length next ≡ length laid
@@ -103,8 +103,8 @@ places_count laid table next are = ap length are.targets ∙ length-next_places 
 
 next_places-at : (all : List Placed) (i : ℕ) (d : Option ℕ) → i < length all → get_or (next_places all) i d ≡ next_place (drop i all)
 next_places-at [] i d within = absurd (omega arith)
-next_places-at (p ∷ behind) zero d within = refl
-next_places-at (p ∷ behind) (suc i) d within = next_places-at behind i d (omega arith)
+next_places-at (p ∷ following) zero d within = refl
+next_places-at (p ∷ following) (suc i) d within = next_places-at following i d (omega arith)
 
 -- the place of a line and of those after it
 pub target_at : (laid : List Laid) (i : ℕ) (d : Option ℕ) (e : Laid) (table : NameTable) (next : List (Option ℕ)) → ArePlaces (placed_in laid) table next → i < length laid
@@ -122,8 +122,8 @@ resolved_step lines laid i e within = ap (λ ls. resolved lines (lines_of (place
 -- what one turn of the search finds
 abbrev pub Finds : List Laid → NameTable → ℕ → Option ℕ → Laid → Bool → Type 0
 Finds laid table i target line answer =
-    (behind : List Placed) → IsNames (lines_of (placed_in laid)) table → target ≡ next_place (line_placed line ∷ behind)
-    → answer ≡ is_unresolved (lines_of (placed_in laid)) (statement_said line.statement) (lines_of behind)
+    (following : List Placed) → IsNames (lines_of (placed_in laid)) table → target ≡ next_place (line_placed line ∷ following)
+    → answer ≡ is_unresolved (lines_of (placed_in laid)) (statement_said line.statement) (lines_of following)
 
 module _ (laid : List Laid) (i : ℕ) (d : Option ℕ) (e : Laid) (table : NameTable) (next : List (Option ℕ)) (are : ArePlaces (placed_in laid) table next) (within : i < length laid) (answer : Bool)
     (finds : Finds laid table i (get_or next i d) (get_or laid i e) answer) where

@@ -24,11 +24,11 @@ some_first base p (Does operation) fs t h rest = rest h
 
 some_function : (base : ℕ) (chosen : Choosing) (place : ℕ) (owner : Owner) (lines : Lines) → has_function lines ≡ true → 0 < length (functions base (placed_from chosen place owner lines))
 some_function base chosen place owner [] h = absurd (cc h)
-some_function base chosen place owner (line ∷ behind) h =
-    let here = owner_of chosen place owner line.1 behind in
+some_function base chosen place owner (line ∷ following) h =
+    let here = owner_of chosen place owner line.1 following in
     let p : Placed = record { line = line.0; statement = line.1; owner = here; place = place } in
     let next = place + widths (parts_of here.traced place line.1) in
-    some_first base p line.1 (functions base (placed_from chosen next here behind)) (has_function behind) h (some_function base chosen next here behind)
+    some_first base p line.1 (functions base (placed_from chosen next here following)) (has_function following) h (some_function base chosen next here following)
 
 named_first : (name : List ℕ) (base : ℕ) (p : Placed) (s : Statement) (fs : List Function)
     → list_any (λ f. bytes_eq f.name name) (cons_option (function_in base p s) fs) ≡ (names_function name s || list_any (λ f. bytes_eq f.name name) fs)
@@ -42,12 +42,12 @@ named_first name base p (Does operation) fs = refl
 named_function : (name : List ℕ) (base : ℕ) (chosen : Choosing) (place : ℕ) (owner : Owner) (lines : Lines)
     → list_any (λ f. bytes_eq f.name name) (functions base (placed_from chosen place owner lines)) ≡ list_any (λ line. names_function name line.1) lines
 named_function name base chosen place owner [] = refl
-named_function name base chosen place owner (line ∷ behind) =
-    let here = owner_of chosen place owner line.1 behind in
+named_function name base chosen place owner (line ∷ following) =
+    let here = owner_of chosen place owner line.1 following in
     let p : Placed = record { line = line.0; statement = line.1; owner = here; place = place } in
     let next = place + widths (parts_of here.traced place line.1) in
-    named_first name base p line.1 (functions base (placed_from chosen next here behind))
-    ∙ ap (λ t. names_function name line.1 || t) (named_function name base chosen next here behind)
+    named_first name base p line.1 (functions base (placed_from chosen next here following))
+    ∙ ap (λ t. names_function name line.1 || t) (named_function name base chosen next here following)
 
 -- ---- the first place that passes
 
@@ -61,23 +61,23 @@ place_found test (x ∷ xs) h = first_place (test x) (list_any test xs) (positio
 
 -- ---- the entry
 
-entry_first : (all : Lines) (s : Statement) (behind : Lines) (names : List (List ℕ)) (name : List ℕ) → is_unresolved all s behind ≡ false
+entry_first : (all : Lines) (s : Statement) (following : Lines) (names : List (List ℕ)) (name : List ℕ) → is_unresolved all s following ≡ false
     → (slice_get names 0 ≡ Some name → list_any (λ line. names_function name line.1) all ≡ true)
     → slice_get (cons_option (entry_in_line s) names) 0 ≡ Some name → list_any (λ line. names_function name line.1) all ≡ true
-entry_first all (Base address) behind names name free rest h = rest h
-entry_first all (Entry other) behind names name free rest h =
+entry_first all (Base address) following names name free rest h = rest h
+entry_first all (Entry other) following names name free rest h =
     let same : other ≡ name = cc h in
     subst (λ (n : List ℕ). list_any (λ (line : ℕ × Statement). names_function n line.1) all ≡ true) same (not-false (list_any (λ (line : ℕ × Statement). names_function other line.1) all) free)
-entry_first all (Func other choice) behind names name free rest h = rest h
-entry_first all (Label other) behind names name free rest h = rest h
-entry_first all (Does operation) behind names name free rest h = rest h
+entry_first all (Func other choice) following names name free rest h = rest h
+entry_first all (Label other) following names name free rest h = rest h
+entry_first all (Does operation) following names name free rest h = rest h
 
 -- an entry names a function
 entry_named : (all lines : Lines) → Settled all lines → (name : List ℕ) → slice_get (filter_map (λ line. entry_in_line line.1) lines) 0 ≡ Some name
     → list_any (λ line. names_function name line.1) all ≡ true
 entry_named all [] settled name h = absurd (cc h)
-entry_named all (line ∷ behind) settled name h =
-    entry_first all line.1 behind (filter_map (λ line. entry_in_line line.1) behind) name settled.0 (entry_named all behind settled.1 name) h
+entry_named all (line ∷ following) settled name h =
+    entry_first all line.1 following (filter_map (λ line. entry_in_line line.1) following) name settled.0 (entry_named all following settled.1 name) h
 
 -- the number of the entry is a function's
 pub entry_exists : (base : ℕ) (chosen : Choosing) (said : Lines) → AreSaid said → entry_of said (functions base (placed chosen said)) < length (functions base (placed chosen said))

@@ -11,13 +11,13 @@ use Rattle.asm_text.proofs.Owners.{start_to}
 use Rattle.asm_text.proofs.ReadBack.{FunctionFits, EntryFits}
 
 -- each line's function starts within the code
-start_small : (chosen : Choosing) (place : ℕ) (owner : Owner) (s : Statement) (behind : Lines) → owner.start ≤ 1048576
-    → let here = owner_of chosen place owner s behind in place + widths (parts_of here.traced place s) ≤ 1048576 → here.start ≤ 1048576
-start_small chosen place owner (Base address) behind small within = small
-start_small chosen place owner (Entry name) behind small within = small
-start_small chosen place owner (Func name choice) behind small within = omega (arith, start_to chosen place owner name choice behind, within)
-start_small chosen place owner (Label name) behind small within = small
-start_small chosen place owner (Does operation) behind small within = small
+start_small : (chosen : Choosing) (place : ℕ) (owner : Owner) (s : Statement) (following : Lines) → owner.start ≤ 1048576
+    → let here = owner_of chosen place owner s following in place + widths (parts_of here.traced place s) ≤ 1048576 → here.start ≤ 1048576
+start_small chosen place owner (Base address) following small within = small
+start_small chosen place owner (Entry name) following small within = small
+start_small chosen place owner (Func name choice) following small within = omega (arith, start_to chosen place owner name choice following, within)
+start_small chosen place owner (Label name) following small within = small
+start_small chosen place owner (Does operation) following small within = small
 
 function_first : (base : ℕ) (p : Placed) (s : Statement) (fs : List Function) → base ≤ 0x7FFF00000000 → p.owner.start ≤ 1048576 → Fits s
     → AllByRecursion FunctionFits fs → AllByRecursion FunctionFits (cons_option (function_in base p s) fs)
@@ -38,14 +38,14 @@ lines_fit_file : (base : ℕ) (chosen : Choosing) (place : ℕ) (owner : Owner) 
     → place + widths (flat_map parts_at (placed_from chosen place owner lines)) ≤ 1048576
     → AllByRecursion FunctionFits (functions base (placed_from chosen place owner lines)) × AllByRecursion EntryFits (map_entries base (placed_from chosen place owner lines))
 lines_fit_file base chosen place owner [] low small fit within = (tt, tt)
-lines_fit_file base chosen place owner (line ∷ behind) low small fit within =
-    let here = owner_of chosen place owner line.1 behind in
+lines_fit_file base chosen place owner (line ∷ following) low small fit within =
+    let here = owner_of chosen place owner line.1 following in
     let p : Placed = record { line = line.0; statement = line.1; owner = here; place = place } in
     let xs = parts_of here.traced place line.1 in
-    let left = placed_from chosen (place + widths xs) here behind in
+    let left = placed_from chosen (place + widths xs) here following in
     let more : place + widths xs + widths (flat_map parts_at left) ≤ 1048576 = omega (arith, within, sum_by-append width xs (flat_map parts_at left)) in
-    let start : here.start ≤ 1048576 = start_small chosen place owner line.1 behind small (omega (arith, more)) in
-    let rest = lines_fit_file base chosen (place + widths xs) here behind low start fit.1 more in
+    let start : here.start ≤ 1048576 = start_small chosen place owner line.1 following small (omega (arith, more)) in
+    let rest = lines_fit_file base chosen (place + widths xs) here following low start fit.1 more in
     (function_first base p line.1 (functions base left) low start fit.0 rest.0, entry_first base p here.traced (sled_kind line.1) (map_entries base left) low start (omega (arith, more)) rest.1)
 
 -- each function and each map entry

@@ -32,17 +32,17 @@ header_front f rest fits low entry_fits =
     let third = little_bytes 8 (f.base + 0x200020) in
     let last = little_bytes 8 (f.base + 0x200030) in
     let trampolines = little_bytes 8 (f.base + 0x200000) ++ (second ++ (third ++ (last ++ rest))) in
-    let entry_behind = little_bytes 4 f.entry ++ trampolines in
-    let entries_behind = little_bytes 4 (length f.entries) ++ entry_behind in
-    let functions_behind = little_bytes 4 (length f.functions) ++ entries_behind in
+    let entry_after = little_bytes 4 f.entry ++ trampolines in
+    let entries_after = little_bytes 4 (length f.entries) ++ entry_after in
+    let functions_after = little_bytes 4 (length f.functions) ++ entries_after in
     record {
       whole = omega arith;
       begins = refl;
       first = refl;
-      base = little_number-reads_back 8 f.base (little_bytes 4 (length f.code) ++ functions_behind) (omega arith);
-      code = little_number-reads_back 4 (length f.code) functions_behind fits.code;
-      functions = little_number-reads_back 4 (length f.functions) entries_behind fits.function_count;
-      entries = little_number-reads_back 4 (length f.entries) entry_behind fits.entry_count;
+      base = little_number-reads_back 8 f.base (little_bytes 4 (length f.code) ++ functions_after) (omega arith);
+      code = little_number-reads_back 4 (length f.code) functions_after fits.code;
+      functions = little_number-reads_back 4 (length f.functions) entries_after fits.function_count;
+      entries = little_number-reads_back 4 (length f.entries) entry_after fits.entry_count;
       entry = little_number-reads_back 4 f.entry trampolines entry_fits;
       entry_trampoline = little_number-reads_back 8 (f.base + 0x200000) (second ++ (third ++ (last ++ rest))) (omega arith);
       exit_trampoline = little_number-reads_back 8 (f.base + 0x200010) (third ++ (last ++ rest)) (omega arith);
@@ -131,7 +131,7 @@ module _ (f : File) (pieces : List Piece) (ordered : IsInOrder f pieces) where
         };
         parts = record { code = f.code; functions = f.functions; entries = f.entries; rest = [] };
         reaches = parts_back f ordered.fits;
-        nothing_behind = refl;
+        nothing_after = refl;
         pieces = pieces;
         units = ordered.units;
         even_sleds = subst (λ n. All (λ place. place.address % 2 ≡ 0) (places_from n pieces)) back ordered.even_sleds;

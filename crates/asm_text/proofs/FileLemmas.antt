@@ -16,10 +16,10 @@ entry_first (Some e) es = refl
 
 pub functions_by_lines : (base : ℕ) (lines : List Placed) → flat_map function_bytes (functions base lines) ≡ flat_map (function_line_bytes base) lines
 functions_by_lines base [] = refl
-functions_by_lines base (p ∷ behind) =
-    function_first (function_in base p p.statement) (functions base behind) ∙ ap (λ bytes. function_line_bytes base p ++ bytes) (functions_by_lines base behind)
+functions_by_lines base (p ∷ following) =
+    function_first (function_in base p p.statement) (functions base following) ∙ ap (λ bytes. function_line_bytes base p ++ bytes) (functions_by_lines base following)
 
 pub entries_by_lines : (base : ℕ) (lines : List Placed) → flat_map entry_bytes (map_entries base lines) ≡ flat_map (sled_line_bytes base) lines
 entries_by_lines base [] = refl
-entries_by_lines base (p ∷ behind) =
-    entry_first (entry_in base p) (map_entries base behind) ∙ ap (λ bytes. sled_line_bytes base p ++ bytes) (entries_by_lines base behind)
+entries_by_lines base (p ∷ following) =
+    entry_first (entry_in base p) (map_entries base following) ∙ ap (λ bytes. sled_line_bytes base p ++ bytes) (entries_by_lines base following)

@@ -127,7 +127,7 @@ chosen word choice = by_name (is_name word) refl
     by_name true h = mapped (λ c. Func word c) choice (λ _ _. h)
     by_name false h = tt
 
-says_short : (keyword : Keyword) (behind : List (List ℕ)) → SaysShort (says keyword behind)
+says_short : (keyword : Keyword) (following : List (List ℕ)) → SaysShort (says keyword following)
 says_short words.Base (number ∷ []) = mapped Base (number_of number) (λ _ _. tt)
 says_short words.Entry (name ∷ []) = mapped Entry (name_of name) (λ _ _. tt)
 says_short words.Function (name ∷ []) = named name ByLength
@@ -149,16 +149,16 @@ says_short words.Jnz (name ∷ []) = mapped (λ n. Does (Go branches.Jnz n)) (na
 says_short words.TailJump (name ∷ []) = mapped (λ n. Does (TailJump n)) (name_of name) (λ _ _. tt)
 says_short words.Ret [] = tt
 says_short words.Out (number ∷ []) = mapped (λ n. Does (Plain (instrs.Out n))) (number_of number) (λ _ _. (tt, tt))
-says_short keyword behind = tt
+says_short keyword following = tt
 
-label_short : (word : List ℕ) (behind : List (List ℕ)) → SaysShort (label_of word behind)
+label_short : (word : List ℕ) (following : List (List ℕ)) → SaysShort (label_of word following)
 label_short word [] = mapped Label (option_and_then name_of (before_end 58 word)) (λ _ _. tt)
-label_short word (next ∷ behind) = tt
+label_short word (next ∷ following) = tt
 
 -- the statement of a line
-pub line_short : (keyword : Option Keyword) (word : List ℕ) (behind : List (List ℕ)) → SaysShort (line_of keyword word behind)
-line_short None word behind = label_short word behind
-line_short (Some keyword) word behind = says_short keyword behind
+pub line_short : (keyword : Option Keyword) (word : List ℕ) (following : List (List ℕ)) → SaysShort (line_of keyword word following)
+line_short None word following = label_short word following
+line_short (Some keyword) word following = says_short keyword following
 
 -- a register among the sixteen that isn't reserved can be named
 register_fits : (n : ℕ) → n < 16 → is_reserved n ≡ false → IsRegister n
@@ -205,7 +205,7 @@ fits_from (Does operation) short free range = operation_fits operation short fre
 
 AllFit-more : (lines : Lines) (number : ℕ) (s : Statement) → AllFit lines → Fits s → AllFit (lines ++ (number, s) ∷ [])
 AllFit-more [] number s fit h = (h, tt)
-AllFit-more (line ∷ behind) number s fit h = (fit.0, AllFit-more behind number s fit.1 h)
+AllFit-more (line ∷ following) number s fit h = (fit.0, AllFit-more following number s fit.1 h)
 
 abbrev pub Good : Result Lines AsmFault → Type 0
 Good (Ok lines) = AllFit lines
@@ -230,7 +230,7 @@ spoken_good before number (Some s) fit short = judged_good before number s fit s
 
 words_good : (before : Lines) (number : ℕ) (words : List (List ℕ)) → AllFit before → Good (with_words before number words)
 words_good before number [] fit = fit
-words_good before number (word ∷ behind) fit = spoken_good before number (statement_of (word ∷ behind)) fit (line_short (keyword_of word) word behind)
+words_good before number (word ∷ following) fit = spoken_good before number (statement_of (word ∷ following)) fit (line_short (keyword_of word) word following)
 
 line_good : (before : Lines) (line : ℕ × List ℕ) → AllFit before → Good (with_line before line)
 line_good before (number, line) fit = by_clean (is_clean line)
@@ -246,7 +246,7 @@ then_good (Err fault) f good more = tt
 -- all that was read fits
 pub read_good : (before : Lines) (lines : List (ℕ × List ℕ)) → AllFit before → Good (read_lines before lines)
 read_good before [] fit = fit
-read_good before (line ∷ behind) fit = then_good (with_line before line) (λ lines. read_lines lines behind) (line_good before line fit) (λ lines more. read_good lines behind more)
+read_good before (line ∷ following) fit = then_good (with_line before line) (λ lines. read_lines lines following) (line_good before line fit) (λ lines more. read_good lines following more)
 
 abbrev pub BaseFits : Option ℕ → Type 0
 BaseFits None = ⊤
@@ -261,7 +261,7 @@ base_first (Does operation) bases fit h = h
 
 first_base : (lines : Lines) → AllFit lines → BaseFits (slice_get (filter_map (λ line. base_in line.1) lines) 0)
 first_base [] fit = tt
-first_base (line ∷ behind) fit = base_first line.1 (filter_map (λ line. base_in line.1) behind) fit.0 (first_base behind fit.1)
+first_base (line ∷ following) fit = base_first line.1 (filter_map (λ line. base_in line.1) following) fit.0 (first_base following fit.1)
 
 or_default : (o : Option ℕ) → BaseFits o → (unwrap_or o 4096 % 16 ≡ 0) × (unwrap_or o 4096 ≤ 0x7FFF00000000)
 or_default None h = (refl, omega arith)
@@ -284,5 +284,5 @@ short_from (Does operation) fit = tt
 -- the names of lines that fit
 pub names_fit : (laid : List Laid) → AllFit (lines_of (placed_in laid)) → (i : ℕ) (d : Laid) → i < length laid → HasShortName (statement_said (get_or laid i d).statement)
 names_fit [] fit i d within = absurd (omega arith)
-names_fit (line ∷ behind) fit zero d within = short_from (statement_said line.statement) fit.0
-names_fit (line ∷ behind) fit (suc i) d within = names_fit behind fit.1 i d (omega arith)
+names_fit (line ∷ following) fit zero d within = short_from (statement_said line.statement) fit.0
+names_fit (line ∷ following) fit (suc i) d within = names_fit following fit.1 i d (omega arith)

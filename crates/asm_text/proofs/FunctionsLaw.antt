@@ -8,7 +8,7 @@ use Rattle.std.proofs.lemmas.List.Elements.{All-from_recursion}
 use Rattle.std.proofs.lemmas.Slice.Eq.{bytes_eq-Decides}
 use Rattle.xray_image.specs.Units.{units_from}
 use Rattle.xray_image.specs.Container.{Function}
-use Rattle.xray_image.specs.Program.{addresses, is_name_byte, BeginsBehind, IsFunction, AreFunctions}
+use Rattle.xray_image.specs.Program.{addresses, is_name_byte, BeginsAfter, IsFunction, AreFunctions}
 use Rattle.asm_text.specs.declared.statement.Choice.{Choice}
 use Rattle.asm_text.specs.Names.{is_name, is_decimal}
 use Rattle.asm_text.specs.Statements.{Statement, Base, Entry, Func, Label, Does}
@@ -35,18 +35,18 @@ starts_first base begins p (Does operation) fs is stands rest = rest
 
 starts_at_units : (base : ℕ) (begins : List ℕ) (lines : List Placed) → AllByRecursion (Stands base begins) lines → AllByRecursion (λ f. Contains begins f.start) (functions base lines)
 starts_at_units base begins [] all = tt
-starts_at_units base begins (p ∷ behind) all = starts_first base begins p p.statement (functions base behind) refl all.0 (starts_at_units base begins behind all.1)
+starts_at_units base begins (p ∷ following) all = starts_first base begins p p.statement (functions base following) refl all.0 (starts_at_units base begins following all.1)
 
 -- ---- starts ascend
 
 -- each function begins after the one before it
 abbrev pub Ascend : ℕ → Option Function → List Function → Type 0
 Ascend base o [] = ⊤
-Ascend base o (f ∷ fs) = BeginsBehind base o f.start × Ascend base (Some f) fs
+Ascend base o (f ∷ fs) = BeginsAfter base o f.start × Ascend base (Some f) fs
 
-ascend_at : (base : ℕ) (o : Option Function) (fs : List Function) (i : ℕ) (f : Function) → Ascend base o fs → slice_get fs i ≡ Some f → BeginsBehind base (last_or o (take i fs)) f.start
+ascend_at : (base : ℕ) (o : Option Function) (fs : List Function) (i : ℕ) (f : Function) → Ascend base o fs → slice_get fs i ≡ Some f → BeginsAfter base (last_or o (take i fs)) f.start
 ascend_at base o [] i f ascend e = absurd (cc e)
-ascend_at base o (g ∷ fs) zero f ascend e = let at : g ≡ f = cc e in subst (λ (x : Function). BeginsBehind base o x.start) at ascend.0
+ascend_at base o (g ∷ fs) zero f ascend e = let at : g ≡ f = cc e in subst (λ (x : Function). BeginsAfter base o x.start) at ascend.0
 ascend_at base o (g ∷ fs) (suc i) f ascend e = ascend_at base (Some g) fs i f ascend.1 e
 
 -- where lines come: before all functions and all code, or not before the start of the last function
@@ -61,7 +61,7 @@ latest (Some f) o = Some f
 
 abbrev pub MayBegin : ℕ → Option Function → Option Function → Type 0
 MayBegin base o None = ⊤
-MayBegin base o (Some f) = BeginsBehind base o f.start
+MayBegin base o (Some f) = BeginsAfter base o f.start
 
 ascend_first : (base : ℕ) (o new : Option Function) (fs : List Function) → MayBegin base o new → Ascend base (latest new o) fs → Ascend base o (cons_option new fs)
 ascend_first base o None fs begins rest = rest
@@ -79,45 +79,45 @@ stood_same base place before number s (Some g) f i stood =
     (omega (arith, stood.0), λ h. omega (arith, stood.1 (sym (more ∙ same) ∙ h)))
 
 -- where a function starts
-first_start : (chosen : Choosing) (base place : ℕ) (owner : Owner) (name : List ℕ) (choice : Choice) (behind : Lines) → place ≡ 0
-    → base + (owner_of chosen place owner (Func name choice) behind).start ≡ base
-first_start chosen base place owner name choice behind h = by_traced (chosen choice (instruction_lines behind))
+first_start : (chosen : Choosing) (base place : ℕ) (owner : Owner) (name : List ℕ) (choice : Choice) (following : Lines) → place ≡ 0
+    → base + (owner_of chosen place owner (Func name choice) following).start ≡ base
+first_start chosen base place owner name choice following h = by_traced (chosen choice (instruction_lines following))
   where
     by_traced : (t : Bool) → base + (function_at t choice place).start ≡ base
     by_traced true = omega (arith, h)
     by_traced false = omega (arith, h)
 
 -- one line
-line_ascends : (chosen : Choosing) (base place : ℕ) (owner : Owner) (before : Lines) (number : ℕ) (s : Statement) (behind : Lines) (o : Option Function)
+line_ascends : (chosen : Choosing) (base place : ℕ) (owner : Owner) (before : Lines) (number : ℕ) (s : Statement) (following : Lines) (o : Option Function)
     → IsAllowed before s → Stood base place before o
-    → let p : Placed = record { line = number; statement = s; owner = owner_of chosen place owner s behind; place = place } in
+    → let p : Placed = record { line = number; statement = s; owner = owner_of chosen place owner s following; place = place } in
     MayBegin base o (function_in base p s) × Stood base (place + widths (parts_at p)) (before ++ (number, s) ∷ []) (latest (function_in base p s) o)
-line_ascends chosen base place owner before number (Base address) behind o may stood = (tt, stood_same base place before number (Base address) o refl refl stood)
-line_ascends chosen base place owner before number (Entry name) behind o may stood = (tt, stood_same base place before number (Entry name) o refl refl stood)
-line_ascends chosen base place owner before number (Func name choice) behind o may stood =
-    let here = owner_of chosen place owner (Func name choice) behind in
-    (by_last o stood, (omega (arith, start_to chosen place owner name choice behind), λ h. absurd (cc (h, is_bare-more before (number, Func name choice)))))
+line_ascends chosen base place owner before number (Base address) following o may stood = (tt, stood_same base place before number (Base address) o refl refl stood)
+line_ascends chosen base place owner before number (Entry name) following o may stood = (tt, stood_same base place before number (Entry name) o refl refl stood)
+line_ascends chosen base place owner before number (Func name choice) following o may stood =
+    let here = owner_of chosen place owner (Func name choice) following in
+    (by_last o stood, (omega (arith, start_to chosen place owner name choice following), λ h. absurd (cc (h, is_bare-more before (number, Func name choice)))))
   where
-    by_last : (o : Option Function) → Stood base place before o → BeginsBehind base o (base + (owner_of chosen place owner (Func name choice) behind).start)
-    by_last None stood = first_start chosen base place owner name choice behind stood.0
-    by_last (Some f) stood = omega (arith, stood.1 may.in_place, start_from chosen place owner name choice behind)
-line_ascends chosen base place owner before number (Label name) behind o may stood = (tt, stood_same base place before number (Label name) o refl refl stood)
-line_ascends chosen base place owner before number (Does operation) behind None may stood =
+    by_last : (o : Option Function) → Stood base place before o → BeginsAfter base o (base + (owner_of chosen place owner (Func name choice) following).start)
+    by_last None stood = first_start chosen base place owner name choice following stood.0
+    by_last (Some f) stood = omega (arith, stood.1 may.in_place, start_from chosen place owner name choice following)
+line_ascends chosen base place owner before number (Label name) following o may stood = (tt, stood_same base place before number (Label name) o refl refl stood)
+line_ascends chosen base place owner before number (Does operation) following None may stood =
     let some : has_function before ≡ true = not-false (has_function before) may.in_place in absurd (cc (some, stood.1))
-line_ascends chosen base place owner before number (Does operation) behind (Some f) may stood =
+line_ascends chosen base place owner before number (Does operation) following (Some f) may stood =
     (tt, (omega (arith, stood.0), λ h. omega (arith, stood.0, operation_width owner.traced place operation)))
 
 pub ascending : (base : ℕ) (chosen : Choosing) (place : ℕ) (owner : Owner) (before lines : Lines) (o : Option Function) → Allowed before lines → Stood base place before o
     → Ascend base o (functions base (placed_from chosen place owner lines))
 ascending base chosen place owner before [] o all stood = tt
-ascending base chosen place owner before (line ∷ behind) o all stood =
-    let here = owner_of chosen place owner line.1 behind in
+ascending base chosen place owner before (line ∷ following) o all stood =
+    let here = owner_of chosen place owner line.1 following in
     let p : Placed = record { line = line.0; statement = line.1; owner = here; place = place } in
     let next = place + widths (parts_at p) in
     let new = function_in base p line.1 in
-    let one = line_ascends chosen base place owner before line.0 line.1 behind o all.0 stood in
-    ascend_first base o new (functions base (placed_from chosen next here behind)) one.0
-    (ascending base chosen next here (before ++ line ∷ []) behind (latest new o) all.1 one.1)
+    let one = line_ascends chosen base place owner before line.0 line.1 following o all.0 stood in
+    ascend_first base o new (functions base (placed_from chosen next here following)) one.0
+    (ascending base chosen next here (before ++ line ∷ []) following (latest new o) all.1 one.1)
 
 -- ---- names
 
@@ -133,11 +133,11 @@ names_first base before p (Does operation) fs may rest = rest
 
 have_names : (base : ℕ) (chosen : Choosing) (place : ℕ) (owner : Owner) (before lines : Lines) → Allowed before lines → AllByRecursion HasName (functions base (placed_from chosen place owner lines))
 have_names base chosen place owner before [] all = tt
-have_names base chosen place owner before (line ∷ behind) all =
-    let here = owner_of chosen place owner line.1 behind in
+have_names base chosen place owner before (line ∷ following) all =
+    let here = owner_of chosen place owner line.1 following in
     let p : Placed = record { line = line.0; statement = line.1; owner = here; place = place } in
     let next = place + widths (parts_at p) in
-    names_first base before p line.1 (functions base (placed_from chosen next here behind)) all.0 (have_names base chosen next here (before ++ line ∷ []) behind all.1)
+    names_first base before p line.1 (functions base (placed_from chosen next here following)) all.0 (have_names base chosen next here (before ++ line ∷ []) following all.1)
 
 name_parts : (name : List ℕ) → is_name name ≡ true → (leb 1 (length name) ≡ true) × (list_all is_name_byte name ≡ true)
 name_parts name h =
@@ -181,12 +181,12 @@ apart_first base before p (Does operation) fs name may knows rest = rest
 apart : (base : ℕ) (chosen : Choosing) (place : ℕ) (owner : Owner) (before lines : Lines) (name : List ℕ) → Allowed before lines → Knows name before
     → AllByRecursion (λ g. bytes_eq name g.name ≡ false) (functions base (placed_from chosen place owner lines))
 apart base chosen place owner before [] name all knows = tt
-apart base chosen place owner before (line ∷ behind) name all knows =
-    let here = owner_of chosen place owner line.1 behind in
+apart base chosen place owner before (line ∷ following) name all knows =
+    let here = owner_of chosen place owner line.1 following in
     let p : Placed = record { line = line.0; statement = line.1; owner = here; place = place } in
     let next = place + widths (parts_at p) in
-    apart_first base before p line.1 (functions base (placed_from chosen next here behind)) name all.0 knows
-    (apart base chosen next here (before ++ line ∷ []) behind name all.1 (knows-more name before line knows))
+    apart_first base before p line.1 (functions base (placed_from chosen next here following)) name all.0 knows
+    (apart base chosen next here (before ++ line ∷ []) following name all.1 (knows-more name before line knows))
 
 -- each name differs from those after it
 abbrev pub OwnNames : List Function → Type 0
@@ -203,12 +203,12 @@ own_first base p (Does operation) fs first rest = rest
 
 own_names : (base : ℕ) (chosen : Choosing) (place : ℕ) (owner : Owner) (before lines : Lines) → Allowed before lines → OwnNames (functions base (placed_from chosen place owner lines))
 own_names base chosen place owner before [] all = tt
-own_names base chosen place owner before (line ∷ behind) all =
-    let here = owner_of chosen place owner line.1 behind in
+own_names base chosen place owner before (line ∷ following) all =
+    let here = owner_of chosen place owner line.1 following in
     let p : Placed = record { line = line.0; statement = line.1; owner = here; place = place } in
     let next = place + widths (parts_at p) in
-    own_first base p line.1 (functions base (placed_from chosen next here behind))
-    (λ name choice is. apart base chosen next here (before ++ line ∷ []) behind name all.1 (knows_line name choice is)) (own_names base chosen next here (before ++ line ∷ []) behind all.1)
+    own_first base p line.1 (functions base (placed_from chosen next here following))
+    (λ name choice is. apart base chosen next here (before ++ line ∷ []) following name all.1 (knows_line name choice is)) (own_names base chosen next here (before ++ line ∷ []) following all.1)
   where
     knows_line : (name : List ℕ) (choice : Choice) → line.1 ≡ Func name choice → Knows name (before ++ line ∷ [])
     knows_line name choice is = subst (λ s. Knows name (before ++ (line.0, s) ∷ [])) (sym is) (knows_itself before line.0 name choice)

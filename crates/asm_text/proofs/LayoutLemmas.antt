@@ -11,15 +11,15 @@ use Rattle.asm_text.specs.private.FirstPass.{traced_after, traced_by}
 -- where the lines end, and the function that the last one belongs to
 abbrev pub end_of : ℕ → Owner → Lines → ℕ
 end_of place owner [] = place
-end_of place owner (line ∷ behind) =
-    let here = owner_of unless_never place owner line.1 behind in
-    end_of (place + widths (parts_of here.traced place line.1)) here behind
+end_of place owner (line ∷ following) =
+    let here = owner_of unless_never place owner line.1 following in
+    end_of (place + widths (parts_of here.traced place line.1)) here following
 
 abbrev pub owner_after : ℕ → Owner → Lines → Owner
 owner_after place owner [] = owner
-owner_after place owner (line ∷ behind) =
-    let here = owner_of unless_never place owner line.1 behind in
-    owner_after (place + widths (parts_of here.traced place line.1)) here behind
+owner_after place owner (line ∷ following) =
+    let here = owner_of unless_never place owner line.1 following in
+    owner_after (place + widths (parts_of here.traced place line.1)) here following
 
 -- the lines after this one decide nothing here
 same_owner : (place : ℕ) (owner : Owner) (statement : Statement) (xs ys : Lines) → owner_of unless_never place owner statement xs ≡ owner_of unless_never place owner statement ys
@@ -43,38 +43,38 @@ placed_last place owner lines number statement = record {
 placed_from-more : (place : ℕ) (owner : Owner) (lines : Lines) (number : ℕ) (statement : Statement)
     → placed_from unless_never place owner (lines ++ (number, statement) ∷ []) ≡ placed_from unless_never place owner lines ++ placed_last place owner lines number statement ∷ []
 placed_from-more place owner [] number statement = refl
-placed_from-more place owner (line ∷ behind) number statement =
-    let here = owner_of unless_never place owner line.1 behind in
-    let more = placed_from-more (place + widths (parts_of here.traced place line.1)) here behind number statement in
-    let same = same_owner place owner line.1 (behind ++ (number, statement) ∷ []) behind in
-    ap (λ (o : Owner). record { line = line.0; statement = line.1; owner = o; place = place } ∷ placed_from unless_never (place + widths (parts_of o.traced place line.1)) o (behind ++ (number, statement) ∷ [])) same
+placed_from-more place owner (line ∷ following) number statement =
+    let here = owner_of unless_never place owner line.1 following in
+    let more = placed_from-more (place + widths (parts_of here.traced place line.1)) here following number statement in
+    let same = same_owner place owner line.1 (following ++ (number, statement) ∷ []) following in
+    ap (λ (o : Owner). record { line = line.0; statement = line.1; owner = o; place = place } ∷ placed_from unless_never (place + widths (parts_of o.traced place line.1)) o (following ++ (number, statement) ∷ [])) same
     ∙ ap (λ ps. record { line = line.0; statement = line.1; owner = here; place = place } ∷ ps) more
 
 end_of-is : (place : ℕ) (owner : Owner) (lines : Lines) → end_of place owner lines ≡ place + widths (flat_map parts_at (placed_from unless_never place owner lines))
 end_of-is place owner [] = omega arith
-end_of-is place owner (line ∷ behind) =
-    let here = owner_of unless_never place owner line.1 behind in
+end_of-is place owner (line ∷ following) =
+    let here = owner_of unless_never place owner line.1 following in
     let next = place + widths (parts_of here.traced place line.1) in
-    omega (arith, end_of-is next here behind, sum_by-append width (parts_of here.traced place line.1) (flat_map parts_at (placed_from unless_never next here behind)))
+    omega (arith, end_of-is next here following, sum_by-append width (parts_of here.traced place line.1) (flat_map parts_at (placed_from unless_never next here following)))
 
 -- how many bytes the lines have
 pub end_of_lines : (lines : Lines) → end_of 0 no_owner lines ≡ widths (all_parts unless_never lines)
 end_of_lines lines = omega (arith, end_of-is 0 no_owner lines)
 
-traced_after-is : (place : ℕ) (owner : Owner) (statement : Statement) (behind : Lines) → (owner_of unless_never place owner statement behind).traced ≡ traced_after owner.traced statement
-traced_after-is place owner (Base address) behind = refl
-traced_after-is place owner (Entry name) behind = refl
-traced_after-is place owner (Func name ByLength) behind = refl
-traced_after-is place owner (Func name Always) behind = refl
-traced_after-is place owner (Func name Never) behind = refl
-traced_after-is place owner (Label name) behind = refl
-traced_after-is place owner (Does operation) behind = refl
+traced_after-is : (place : ℕ) (owner : Owner) (statement : Statement) (following : Lines) → (owner_of unless_never place owner statement following).traced ≡ traced_after owner.traced statement
+traced_after-is place owner (Base address) following = refl
+traced_after-is place owner (Entry name) following = refl
+traced_after-is place owner (Func name ByLength) following = refl
+traced_after-is place owner (Func name Always) following = refl
+traced_after-is place owner (Func name Never) following = refl
+traced_after-is place owner (Label name) following = refl
+traced_after-is place owner (Does operation) following = refl
 
 owner_after-traced : (place : ℕ) (owner : Owner) (lines : Lines) → (owner_after place owner lines).traced ≡ traced_by owner.traced lines
 owner_after-traced place owner [] = refl
-owner_after-traced place owner (line ∷ behind) =
-    let here = owner_of unless_never place owner line.1 behind in
-    owner_after-traced (place + widths (parts_of here.traced place line.1)) here behind ∙ ap (λ t. traced_by t behind) (traced_after-is place owner line.1 behind)
+owner_after-traced place owner (line ∷ following) =
+    let here = owner_of unless_never place owner line.1 following in
+    owner_after-traced (place + widths (parts_of here.traced place line.1)) here following ∙ ap (λ t. traced_by t following) (traced_after-is place owner line.1 following)
 
 -- the parts of one more line
 pub all_parts-more : (lines : Lines) (number : ℕ) (statement : Statement)
@@ -92,4 +92,4 @@ all_parts-more lines number statement =
 
 pub traced_by-more : (traced : Bool) (lines : Lines) (number : ℕ) (statement : Statement) → traced_by traced (lines ++ (number, statement) ∷ []) ≡ traced_after (traced_by traced lines) statement
 traced_by-more traced [] number statement = refl
-traced_by-more traced (line ∷ behind) number statement = traced_by-more (traced_after traced line.1) behind number statement
+traced_by-more traced (line ∷ following) number statement = traced_by-more (traced_after traced line.1) following number statement

@@ -59,16 +59,16 @@ counted_too threshold p q o c (Does operation) xs ys i h = i h
 lines_no_more : (threshold p q : ℕ) (o c : Owner) (lines : Lines) → p ≤ q → (o.traced ≡ true → c.traced ≡ true)
     → NoMore p (flat_map parts_at (placed_from (by_threshold threshold) p o lines)) q (flat_map parts_at (placed_from unless_never q c lines))
 lines_no_more threshold p q o c [] h i = (omega arith, omega arith)
-lines_no_more threshold p q o c (line ∷ behind) h i =
-    let here = owner_of (by_threshold threshold) p o line.1 behind in
-    let counted = owner_of unless_never q c line.1 behind in
-    let traced : here.traced ≡ true → counted.traced ≡ true = counted_too threshold p q o c line.1 behind behind i in
+lines_no_more threshold p q o c (line ∷ following) h i =
+    let here = owner_of (by_threshold threshold) p o line.1 following in
+    let counted = owner_of unless_never q c line.1 following in
+    let traced : here.traced ≡ true → counted.traced ≡ true = counted_too threshold p q o c line.1 following following i in
     let one = line_no_more here.traced counted.traced p q line.1 h traced in
     let xs = parts_of here.traced p line.1 in
     let ys = parts_of counted.traced q line.1 in
-    let left = placed_from (by_threshold threshold) (p + widths xs) here behind in
-    let left_counted = placed_from unless_never (q + widths ys) counted behind in
-    let more = lines_no_more threshold (p + widths xs) (q + widths ys) here counted behind one.0 traced in (
+    let left = placed_from (by_threshold threshold) (p + widths xs) here following in
+    let left_counted = placed_from unless_never (q + widths ys) counted following in
+    let more = lines_no_more threshold (p + widths xs) (q + widths ys) here counted following one.0 traced in (
       omega (arith, more.0, sum_by-append width xs (flat_map parts_at left), sum_by-append width ys (flat_map parts_at left_counted)),
       omega (arith, one.1, more.1, sum_by-append sleds_of xs (flat_map parts_at left), sum_by-append sleds_of ys (flat_map parts_at left_counted)),
     )

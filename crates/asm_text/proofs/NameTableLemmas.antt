@@ -40,10 +40,10 @@ some_map (Some n) = refl
 -- a name is defined exactly if a line defines it
 pub is_defined-at : (q : List ℕ) (lines : Lines) → is_defined q lines ≡ is_some (defined_at q lines)
 is_defined-at q [] = refl
-is_defined-at q (line ∷ behind) =
-    elim (defines q line.1) as (λ t. (t || is_defined q behind) ≡ is_some (cond t (Some 0) (option_map suc (defined_at q behind)))) [
+is_defined-at q (line ∷ following) =
+    elim (defines q line.1) as (λ t. (t || is_defined q following) ≡ is_some (cond t (Some 0) (option_map suc (defined_at q following)))) [
       | true ↦ refl
-      | false ↦ is_defined-at q behind ∙ sym (some_map (defined_at q behind))
+      | false ↦ is_defined-at q following ∙ sym (some_map (defined_at q following))
     ]
 
 -- the answer for the first lines, or else that for one more
@@ -59,10 +59,10 @@ map_or_last (Some i) here n = refl
 defined_at-more : (q : List ℕ) (lines : Lines) (number : ℕ) (statement : Statement)
     → defined_at q (lines ++ (number, statement) ∷ []) ≡ or_last (defined_at q lines) (defines q statement) (length lines)
 defined_at-more q [] number statement = refl
-defined_at-more q (line ∷ behind) number statement =
-    elim (defines q line.1) as (λ t. cond t (Some 0) (option_map suc (defined_at q (behind ++ (number, statement) ∷ []))) ≡ or_last (cond t (Some 0) (option_map suc (defined_at q behind))) (defines q statement) (length (line ∷ behind))) [
+defined_at-more q (line ∷ following) number statement =
+    elim (defines q line.1) as (λ t. cond t (Some 0) (option_map suc (defined_at q (following ++ (number, statement) ∷ []))) ≡ or_last (cond t (Some 0) (option_map suc (defined_at q following))) (defines q statement) (length (line ∷ following))) [
       | true ↦ refl
-      | false ↦ ap (option_map suc) (defined_at-more q behind number statement) ∙ map_or_last (defined_at q behind) (defines q statement) (length behind)
+      | false ↦ ap (option_map suc) (defined_at-more q following number statement) ∙ map_or_last (defined_at q following) (defines q statement) (length following)
     ]
 
 none_from : (o : Option ℕ) → is_some o ≡ false → o ≡ None

@@ -18,36 +18,36 @@ use Rattle.asm_text.proofs.Addresses.{addresses_from, addresses-append, first_ad
 abbrev pub Stands : ℕ → List ℕ → Placed → Type 0
 Stands base begins p = (own : ℕ) → own_place p ≡ Some own → Contains begins (base + own)
 
-stand_behind : (base : ℕ) (xs ys : List ℕ) (lines : List Placed) → AllByRecursion (Stands base ys) lines → AllByRecursion (Stands base (xs ++ ys)) lines
-stand_behind base xs ys [] all = tt
-stand_behind base xs ys (p ∷ lines) all = ((λ own e. Contains-append_right xs ys (base + own) (all.0 own e)), stand_behind base xs ys lines all.1)
+stand_after : (base : ℕ) (xs ys : List ℕ) (lines : List Placed) → AllByRecursion (Stands base ys) lines → AllByRecursion (Stands base (xs ++ ys)) lines
+stand_after base xs ys [] all = tt
+stand_after base xs ys (p ∷ lines) all = ((λ own e. Contains-append_right xs ys (base + own) (all.0 own e)), stand_after base xs ys lines all.1)
 
-module _ (all : List Placed) (behind : ℕ) where
+module _ (all : List Placed) (following : ℕ) where
   abbrev made : List Part → List Piece
-  made parts = map (piece_of all behind) parts
+  made parts = map (piece_of all following) parts
 
   -- the alignment byte of a sled, or the sled, begins where its line does
   aligned_first : (address place : ℕ) (sled : Piece) (rest : List Part) → Contains (addresses_from address (made (aligned place sled ++ rest))) address
   aligned_first address place sled rest =
-      elim (eqb (place % 2) 0) as (λ t. Contains (addresses_from address (map (piece_of all behind) (cond t (Fixed sled ∷ []) (Fixed Align ∷ Fixed sled ∷ []) ++ rest))) address) [
-        | true ↦ first_address address sled (map (piece_of all behind) rest)
-        | false ↦ first_address address Align (sled ∷ map (piece_of all behind) rest)
+      elim (eqb (place % 2) 0) as (λ t. Contains (addresses_from address (map (piece_of all following) (cond t (Fixed sled ∷ []) (Fixed Align ∷ Fixed sled ∷ []) ++ rest))) address) [
+        | true ↦ first_address address sled (map (piece_of all following) rest)
+        | false ↦ first_address address Align (sled ∷ map (piece_of all following) rest)
       ]
 
   aligned_only : (address place : ℕ) (sled : Piece) → Contains (addresses_from address (made (aligned place sled))) address
   aligned_only address place sled =
-      subst (λ parts. Contains (addresses_from address (map (piece_of all behind) parts)) address) (append-nil (aligned place sled)) (aligned_first address place sled [])
+      subst (λ parts. Contains (addresses_from address (map (piece_of all following) parts)) address) (append-nil (aligned place sled)) (aligned_first address place sled [])
 
   -- an instruction line has a unit at its place
   operation_first : (traced : Bool) (address place : ℕ) (operation : Operation) → Contains (addresses_from address (made (parts_of traced place (Does operation)))) address
-  operation_first true address place (Plain instr) = first_address address (piece_of all behind (Fixed (Instruction instr))) []
-  operation_first true address place (Go branch name) = first_address address (piece_of all behind (Jump branch name)) []
+  operation_first true address place (Plain instr) = first_address address (piece_of all following (Fixed (Instruction instr))) []
+  operation_first true address place (Go branch name) = first_address address (piece_of all following (Jump branch name)) []
   operation_first true address place (TailJump name) = aligned_first address place (JumpSled sled_shift) (Jump branches.Jmp name ∷ [])
   operation_first true address place Return = aligned_only address place (ReturnSled sled_shift)
-  operation_first false address place (Plain instr) = first_address address (piece_of all behind (Fixed (Instruction instr))) []
-  operation_first false address place (Go branch name) = first_address address (piece_of all behind (Jump branch name)) []
-  operation_first false address place (TailJump name) = first_address address (piece_of all behind (Jump branches.Jmp name)) []
-  operation_first false address place Return = first_address address (piece_of all behind (Fixed (Instruction instrs.Ret))) []
+  operation_first false address place (Plain instr) = first_address address (piece_of all following (Fixed (Instruction instr))) []
+  operation_first false address place (Go branch name) = first_address address (piece_of all following (Jump branch name)) []
+  operation_first false address place (TailJump name) = first_address address (piece_of all following (Jump branches.Jmp name)) []
+  operation_first false address place Return = first_address address (piece_of all following (Fixed (Instruction instrs.Ret))) []
 
   sled_at : (address : ℕ) (sled : Piece) (r : ℕ) → r < 2 → Contains (addresses_from address (made (at_parity r sled))) (address + r)
   sled_at address sled zero h = (0, omega arith, sym (add-zero address))
@@ -57,7 +57,7 @@ module _ (all : List Placed) (behind : ℕ) where
   -- the sled itself begins after any alignment byte
   aligned_sled : (base place : ℕ) (sled : Piece) → Contains (addresses_from (base + place) (made (aligned place sled))) (base + (place + place % 2))
   aligned_sled base place sled =
-      subst (λ a. Contains (addresses_from (base + place) (map (piece_of all behind) (aligned place sled))) a) (add_assoc base place (place % 2)) (sled_at (base + place) sled (place % 2) (omega arith))
+      subst (λ a. Contains (addresses_from (base + place) (map (piece_of all following) (aligned place sled))) a) (add_assoc base place (place % 2)) (sled_at (base + place) sled (place % 2) (omega arith))
 
 module _ (all : List Placed) (base : ℕ) where
   -- where the units of lines begin
@@ -67,74 +67,74 @@ module _ (all : List Placed) (base : ℕ) where
   -- if an instruction line follows, a unit begins at the place of the lines
   next_unit : (chosen : Choosing) (place : ℕ) (owner : Owner) (lines : Lines) → 0 < instruction_lines lines → Contains (begins chosen place owner lines) (base + place)
   next_unit chosen place owner [] h = absurd (omega arith)
-  next_unit chosen place owner ((number, Base address) ∷ behind) h =
-      subst (λ n. Contains (addresses_from (base + place) (flat_map (line_pieces all) (placed_from chosen n owner behind))) (base + place)) (sym (add-zero place)) (next_unit chosen place owner behind h)
-  next_unit chosen place owner ((number, Entry name) ∷ behind) h =
-      subst (λ n. Contains (addresses_from (base + place) (flat_map (line_pieces all) (placed_from chosen n owner behind))) (base + place)) (sym (add-zero place)) (next_unit chosen place owner behind h)
-  next_unit chosen place owner ((number, Func name choice) ∷ behind) h = absurd (omega arith)
-  next_unit chosen place owner ((number, Label name) ∷ behind) h =
-      subst (λ n. Contains (addresses_from (base + place) (flat_map (line_pieces all) (placed_from chosen n owner behind))) (base + place)) (sym (add-zero place)) (next_unit chosen place owner behind h)
-  next_unit chosen place owner ((number, Does operation) ∷ behind) h =
+  next_unit chosen place owner ((number, Base address) ∷ following) h =
+      subst (λ n. Contains (addresses_from (base + place) (flat_map (line_pieces all) (placed_from chosen n owner following))) (base + place)) (sym (add-zero place)) (next_unit chosen place owner following h)
+  next_unit chosen place owner ((number, Entry name) ∷ following) h =
+      subst (λ n. Contains (addresses_from (base + place) (flat_map (line_pieces all) (placed_from chosen n owner following))) (base + place)) (sym (add-zero place)) (next_unit chosen place owner following h)
+  next_unit chosen place owner ((number, Func name choice) ∷ following) h = absurd (omega arith)
+  next_unit chosen place owner ((number, Label name) ∷ following) h =
+      subst (λ n. Contains (addresses_from (base + place) (flat_map (line_pieces all) (placed_from chosen n owner following))) (base + place)) (sym (add-zero place)) (next_unit chosen place owner following h)
+  next_unit chosen place owner ((number, Does operation) ∷ following) h =
       let xs = parts_of owner.traced place (Does operation) in
       let next = place + widths xs in
-      address_within (base + place) (map (piece_of all next) xs) (flat_map (line_pieces all) (placed_from chosen next owner behind)) (base + place)
+      address_within (base + place) (map (piece_of all next) xs) (flat_map (line_pieces all) (placed_from chosen next owner following)) (base + place)
       (operation_first all next owner.traced (base + place) place operation)
 
   -- the units of a line, and those after it
-  abbrev line_begins : (here : Owner) (chosen : Choosing) (place : ℕ) (s : Statement) (behind : Lines) → List ℕ
-  line_begins here chosen place s behind =
+  abbrev line_begins : (here : Owner) (chosen : Choosing) (place : ℕ) (s : Statement) (following : Lines) → List ℕ
+  line_begins here chosen place s following =
       addresses_from (base + place) (map (piece_of all (place + widths (parts_of here.traced place s))) (parts_of here.traced place s))
-      ++ begins chosen (place + widths (parts_of here.traced place s)) here behind
+      ++ begins chosen (place + widths (parts_of here.traced place s)) here following
 
-  function_stands : (traced : Bool) (chosen : Choosing) (place : ℕ) (name : List ℕ) (choice : Choice) (behind : Lines) → 0 < instruction_lines behind
-      → let here = function_at traced choice place in Contains (line_begins here chosen place (Func name choice) behind) (base + here.start)
-  function_stands true chosen place name choice behind h =
+  function_stands : (traced : Bool) (chosen : Choosing) (place : ℕ) (name : List ℕ) (choice : Choice) (following : Lines) → 0 < instruction_lines following
+      → let here = function_at traced choice place in Contains (line_begins here chosen place (Func name choice) following) (base + here.start)
+  function_stands true chosen place name choice following h =
       let here = function_at true choice place in
       let xs = aligned place (JumpSled sled_shift) in
       let next = place + widths xs in
-      Contains-append_left (addresses_from (base + place) (map (piece_of all next) xs)) (begins chosen next here behind) (base + (place + place % 2)) (aligned_sled all next base place (JumpSled sled_shift))
-  function_stands false chosen place name choice behind h =
+      Contains-append_left (addresses_from (base + place) (map (piece_of all next) xs)) (begins chosen next here following) (base + (place + place % 2)) (aligned_sled all next base place (JumpSled sled_shift))
+  function_stands false chosen place name choice following h =
       let here = function_at false choice place in
-      subst (λ n. Contains (begins chosen (place + 0) here behind) (base + n)) (add-zero place) (next_unit chosen (place + 0) here behind h)
+      subst (λ n. Contains (begins chosen (place + 0) here following) (base + n)) (add-zero place) (next_unit chosen (place + 0) here following h)
 
-  own_first : (chosen : Choosing) (place : ℕ) (owner : Owner) (number : ℕ) (s : Statement) (behind : Lines) → IsFilled s behind
-      → let here = owner_of chosen place owner s behind in Stands base (line_begins here chosen place s behind) (record { line = number; statement = s; owner = here; place = place })
-  own_first chosen place owner number (Base address) behind filled own e = absurd (cc e)
-  own_first chosen place owner number (Entry name) behind filled own e = absurd (cc e)
-  own_first chosen place owner number (Func name choice) behind filled own e =
-      let here = owner_of chosen place owner (Func name choice) behind in
+  own_first : (chosen : Choosing) (place : ℕ) (owner : Owner) (number : ℕ) (s : Statement) (following : Lines) → IsFilled s following
+      → let here = owner_of chosen place owner s following in Stands base (line_begins here chosen place s following) (record { line = number; statement = s; owner = here; place = place })
+  own_first chosen place owner number (Base address) following filled own e = absurd (cc e)
+  own_first chosen place owner number (Entry name) following filled own e = absurd (cc e)
+  own_first chosen place owner number (Func name choice) following filled own e =
+      let here = owner_of chosen place owner (Func name choice) following in
       let at : here.start ≡ own = cc e in
-      subst (λ n. Contains (line_begins here chosen place (Func name choice) behind) (base + n)) at (function_stands (chosen choice (instruction_lines behind)) chosen place name choice behind filled)
-  own_first chosen place owner number (Label name) behind filled own e = absurd (cc e)
-  own_first chosen place owner number (Does operation) behind filled own e =
+      subst (λ n. Contains (line_begins here chosen place (Func name choice) following) (base + n)) at (function_stands (chosen choice (instruction_lines following)) chosen place name choice following filled)
+  own_first chosen place owner number (Label name) following filled own e = absurd (cc e)
+  own_first chosen place owner number (Does operation) following filled own e =
       let at : place ≡ own = cc e in
       let xs = parts_of owner.traced place (Does operation) in
       let next = place + widths xs in
-      subst (λ n. Contains (line_begins owner chosen place (Does operation) behind) (base + n)) at
-      (Contains-append_left (addresses_from (base + place) (map (piece_of all next) xs)) (begins chosen next owner behind) (base + place) (operation_first all next owner.traced (base + place) place operation))
+      subst (λ n. Contains (line_begins owner chosen place (Does operation) following) (base + n)) at
+      (Contains-append_left (addresses_from (base + place) (map (piece_of all next) xs)) (begins chosen next owner following) (base + place) (operation_first all next owner.traced (base + place) place operation))
 
-  line_joins : (here : Owner) (chosen : Choosing) (place : ℕ) (s : Statement) (behind : Lines)
+  line_joins : (here : Owner) (chosen : Choosing) (place : ℕ) (s : Statement) (following : Lines)
       → let xs = parts_of here.traced place s in
-      addresses_from (base + place) (map (piece_of all (place + widths xs)) xs ++ flat_map (line_pieces all) (placed_from chosen (place + widths xs) here behind)) ≡ line_begins here chosen place s behind
-  line_joins here chosen place s behind =
+      addresses_from (base + place) (map (piece_of all (place + widths xs)) xs ++ flat_map (line_pieces all) (placed_from chosen (place + widths xs) here following)) ≡ line_begins here chosen place s following
+  line_joins here chosen place s following =
       let xs = parts_of here.traced place s in
       let next = place + widths xs in
       let first = map (piece_of all next) xs in
-      let others = flat_map (line_pieces all) (placed_from chosen next here behind) in
+      let others = flat_map (line_pieces all) (placed_from chosen next here following) in
       addresses-append (base + place) first others
       ∙ ap (λ n. addresses_from (base + place) first ++ addresses_from n others) (ap (λ w. base + place + w) (parts_length all next xs) ∙ add_assoc base place (widths xs))
 
   all_stand : (chosen : Choosing) (place : ℕ) (owner : Owner) (lines : Lines) → AllFilled lines → AllByRecursion (Stands base (begins chosen place owner lines)) (placed_from chosen place owner lines)
   all_stand chosen place owner [] filled = tt
-  all_stand chosen place owner (line ∷ behind) filled =
-      let here = owner_of chosen place owner line.1 behind in
+  all_stand chosen place owner (line ∷ following) filled =
+      let here = owner_of chosen place owner line.1 following in
       let p : Placed = record { line = line.0; statement = line.1; owner = here; place = place } in
       let xs = parts_of here.traced place line.1 in
       let next = place + widths xs in
-      let left = placed_from chosen next here behind in
-      subst (λ ns. AllByRecursion (Stands base ns) (p ∷ left)) (sym (line_joins here chosen place line.1 behind)) (
-        own_first chosen place owner line.0 line.1 behind filled.0,
-        stand_behind base (addresses_from (base + place) (map (piece_of all next) xs)) (begins chosen next here behind) left (all_stand chosen next here behind filled.1),
+      let left = placed_from chosen next here following in
+      subst (λ ns. AllByRecursion (Stands base ns) (p ∷ left)) (sym (line_joins here chosen place line.1 following)) (
+        own_first chosen place owner line.0 line.1 following filled.0,
+        stand_after base (addresses_from (base + place) (map (piece_of all next) xs)) (begins chosen next here following) left (all_stand chosen next here following filled.1),
       )
 
 -- each line's own place

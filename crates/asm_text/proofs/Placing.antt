@@ -20,48 +20,48 @@ use Rattle.asm_text.proofs.WidthLemmas.{widths_aligned, sleds_aligned, sleds_ali
 -- the lines that were placed
 pub lines_of-placed : (chosen : Choosing) (place : ℕ) (owner : Owner) (lines : Lines) → lines_of (placed_from chosen place owner lines) ≡ lines
 lines_of-placed chosen place owner [] = refl
-lines_of-placed chosen place owner (line ∷ behind) =
-    let here = owner_of chosen place owner line.1 behind in
-    ap (λ ls. line ∷ ls) (lines_of-placed chosen (place + widths (parts_of here.traced place line.1)) here behind)
+lines_of-placed chosen place owner (line ∷ following) =
+    let here = owner_of chosen place owner line.1 following in
+    ap (λ ls. line ∷ ls) (lines_of-placed chosen (place + widths (parts_of here.traced place line.1)) here following)
 
 -- a line, and the place that it gives, are within
 abbrev pub Lies : ℕ → Placed → Type 0
 Lies n p = (p.place ≤ n) × ((own : ℕ) → own_place p ≡ Some own → own ≤ n)
 
-start_within : (chosen : Choosing) (place : ℕ) (owner : Owner) (s : Statement) (behind : Lines) (n own : ℕ)
-    → let here = owner_of chosen place owner s behind in place + widths (parts_of here.traced place s) ≤ n
+start_within : (chosen : Choosing) (place : ℕ) (owner : Owner) (s : Statement) (following : Lines) (n own : ℕ)
+    → let here = owner_of chosen place owner s following in place + widths (parts_of here.traced place s) ≤ n
     → cond (is_function s) (Some here.start) (cond (is_instruction s) (Some place) None) ≡ Some own → own ≤ n
-start_within chosen place owner (Base address) behind n own h e = absurd (cc e)
-start_within chosen place owner (Entry name) behind n own h e = absurd (cc e)
-start_within chosen place owner (Func name choice) behind n own h e =
-    by_traced (chosen choice (instruction_lines behind)) h e
+start_within chosen place owner (Base address) following n own h e = absurd (cc e)
+start_within chosen place owner (Entry name) following n own h e = absurd (cc e)
+start_within chosen place owner (Func name choice) following n own h e =
+    by_traced (chosen choice (instruction_lines following)) h e
   where
     by_traced : (t : Bool) → place + widths (parts_of t place (Func name choice)) ≤ n → Some (function_at t choice place).start ≡ Some own → own ≤ n
     by_traced true h e = let at : place + place % 2 ≡ own = cc e in omega (arith, at, widths_aligned place (JumpSled sled_shift))
     by_traced false h e = let at : place ≡ own = cc e in omega arith
-start_within chosen place owner (Label name) behind n own h e = absurd (cc e)
-start_within chosen place owner (Does operation) behind n own h e = let at : place ≡ own = cc e in omega arith
+start_within chosen place owner (Label name) following n own h e = absurd (cc e)
+start_within chosen place owner (Does operation) following n own h e = let at : place ≡ own = cc e in omega arith
 
 -- the same for each line of a list
 abbrev pub AllLie : ℕ → List Placed → Type 0
 AllLie n [] = Unit {0}
-AllLie n (p ∷ behind) = Lies n p × AllLie n behind
+AllLie n (p ∷ following) = Lies n p × AllLie n following
 
 pub all_lie : (chosen : Choosing) (n place : ℕ) (owner : Owner) (lines : Lines)
     → place + widths (flat_map parts_at (placed_from chosen place owner lines)) ≤ n → AllLie n (placed_from chosen place owner lines)
 all_lie chosen n place owner [] h = tt
-all_lie chosen n place owner (line ∷ behind) h =
-    let here = owner_of chosen place owner line.1 behind in
+all_lie chosen n place owner (line ∷ following) h =
+    let here = owner_of chosen place owner line.1 following in
     let xs = parts_of here.traced place line.1 in
-    let left = placed_from chosen (place + widths xs) here behind in
+    let left = placed_from chosen (place + widths xs) here following in
     let sums = sum_by-append width xs (flat_map parts_at left) in
     let next : place + widths xs + widths (flat_map parts_at left) ≤ n = omega (arith, h, sums) in
-    ((omega (arith, next), λ own e. start_within chosen place owner line.1 behind n own (omega (arith, next)) e), all_lie chosen n (place + widths xs) here behind next)
+    ((omega (arith, next), λ own e. start_within chosen place owner line.1 following n own (omega (arith, next)) e), all_lie chosen n (place + widths xs) here following next)
 
 pub lies_at : (n : ℕ) (all : List Placed) (i : ℕ) (d : Placed) → AllLie n all → i < length all → (get_or all i d).place ≤ n
 lies_at n [] i d lie within = absurd (omega arith)
-lies_at n (p ∷ behind) zero d lie within = lie.0.0
-lies_at n (p ∷ behind) (suc i) d lie within = lies_at n behind i d lie.1 (omega arith)
+lies_at n (p ∷ following) zero d lie within = lie.0.0
+lies_at n (p ∷ following) (suc i) d lie within = lies_at n following i d lie.1 (omega arith)
 
 -- the same for the lines that were laid out
 pub laid_lie : (n : ℕ) (laid : List Laid) (i : ℕ) (d : Laid) → AllLie n (placed_in laid) → i < length laid → (get_or laid i d).place ≤ n
@@ -75,8 +75,8 @@ earlier_within n (Some x) b ha hb own e = ha own e
 
 next_within : (n : ℕ) (all : List Placed) → AllLie n all → (own : ℕ) → next_place all ≡ Some own → own ≤ n
 next_within n [] lie own e = absurd (cc e)
-next_within n (p ∷ behind) lie own e =
-    earlier_within n (own_place p) (next_place behind) lie.0.1 (next_within n behind lie.1) own (sym (next_place-cons p behind) ∙ e)
+next_within n (p ∷ following) lie own e =
+    earlier_within n (own_place p) (next_place following) lie.0.1 (next_within n following lie.1) own (sym (next_place-cons p following) ∙ e)
 
 place_by_case : (t : Bool) (here there : Option ℕ) (n place : ℕ) → (here ≡ Some place → place ≤ n) → (there ≡ Some place → place ≤ n) → cond t here there ≡ Some place → place ≤ n
 place_by_case true here there n place h i e = h e
@@ -85,8 +85,8 @@ place_by_case false here there n place h i e = i e
 -- the places of names
 pub name_within : (n : ℕ) (all : List Placed) → AllLie n all → (name : List ℕ) (place : ℕ) → place_of name all ≡ Some place → place ≤ n
 name_within n [] lie name place e = absurd (cc e)
-name_within n (p ∷ behind) lie name place e =
-    place_by_case (defines name p.statement) (next_place (p ∷ behind)) (place_of name behind) n place (next_within n (p ∷ behind) lie place) (name_within n behind lie.1 name place) e
+name_within n (p ∷ following) lie name place e =
+    place_by_case (defines name p.statement) (next_place (p ∷ following)) (place_of name following) n place (next_within n (p ∷ following) lie place) (name_within n following lie.1 name place) e
 
 -- ---- the length of the code
 
@@ -95,22 +95,22 @@ branch_bytes branches.Call rel = refl
 branch_bytes branches.Jmp rel = refl
 branch_bytes branches.Jnz rel = refl
 
-part_bytes : (all : List Placed) (behind : ℕ) (part : Part) → length (piece_bytes (piece_of all behind part)) ≡ width part
-part_bytes all behind (Fixed piece) = refl
-part_bytes all behind (Jump branch name) = branch_bytes branch (pos (unwrap_or (place_of name all) 0) -ℤ pos behind)
+part_bytes : (all : List Placed) (following : ℕ) (part : Part) → length (piece_bytes (piece_of all following part)) ≡ width part
+part_bytes all following (Fixed piece) = refl
+part_bytes all following (Jump branch name) = branch_bytes branch (pos (unwrap_or (place_of name all) 0) -ℤ pos following)
 
-pub parts_length : (all : List Placed) (behind : ℕ) (parts : List Part) → length (flat_map piece_bytes (map (piece_of all behind) parts)) ≡ widths parts
-parts_length all behind [] = refl
-parts_length all behind (part ∷ parts) =
-    length-append (piece_bytes (piece_of all behind part)) (flat_map piece_bytes (map (piece_of all behind) parts))
-    ∙ omega (arith, part_bytes all behind part, parts_length all behind parts, sum_by-append width (part ∷ []) parts)
+pub parts_length : (all : List Placed) (following : ℕ) (parts : List Part) → length (flat_map piece_bytes (map (piece_of all following) parts)) ≡ widths parts
+parts_length all following [] = refl
+parts_length all following (part ∷ parts) =
+    length-append (piece_bytes (piece_of all following part)) (flat_map piece_bytes (map (piece_of all following) parts))
+    ∙ omega (arith, part_bytes all following part, parts_length all following parts, sum_by-append width (part ∷ []) parts)
 
 lines_length : (all lines : List Placed) → length (flat_map piece_bytes (flat_map (line_pieces all) lines)) ≡ widths (flat_map parts_at lines)
 lines_length all [] = refl
-lines_length all (p ∷ behind) =
-    ap length (flat_map-append piece_bytes (line_pieces all p) (flat_map (line_pieces all) behind))
-    ∙ length-append (flat_map piece_bytes (line_pieces all p)) (flat_map piece_bytes (flat_map (line_pieces all) behind))
-    ∙ omega (arith, parts_length all (p.place + widths (parts_at p)) (parts_at p), lines_length all behind, sum_by-append width (parts_at p) (flat_map parts_at behind))
+lines_length all (p ∷ following) =
+    ap length (flat_map-append piece_bytes (line_pieces all p) (flat_map (line_pieces all) following))
+    ∙ length-append (flat_map piece_bytes (line_pieces all p)) (flat_map piece_bytes (flat_map (line_pieces all) following))
+    ∙ omega (arith, parts_length all (p.place + widths (parts_at p)) (parts_at p), lines_length all following, sum_by-append width (parts_at p) (flat_map parts_at following))
 
 pub code_length : (all : List Placed) → length (flat_map piece_bytes (pieces all)) ≡ widths (flat_map parts_at all)
 code_length all = lines_length all all
@@ -119,12 +119,12 @@ code_length all = lines_length all all
 
 pub functions_count : (chosen : Choosing) (place : ℕ) (owner : Owner) (lines : Lines) → length (functions 0 (placed_from chosen place owner lines)) ≡ count_by (λ line. is_function line.1) lines
 functions_count chosen place owner [] = refl
-functions_count chosen place owner (line ∷ behind) =
-    let here = owner_of chosen place owner line.1 behind in
+functions_count chosen place owner (line ∷ following) =
+    let here = owner_of chosen place owner line.1 following in
     let p : Placed = record { line = line.0; statement = line.1; owner = here; place = place } in
-    let left = placed_from chosen (place + widths (parts_of here.traced place line.1)) here behind in
+    let left = placed_from chosen (place + widths (parts_of here.traced place line.1)) here following in
     one p line.1 (functions 0 left)
-    ∙ omega (arith, functions_count chosen (place + widths (parts_of here.traced place line.1)) here behind, sum_by-append (λ (line : ℕ × Statement). cond (is_function line.1) 1 0) (line ∷ []) behind)
+    ∙ omega (arith, functions_count chosen (place + widths (parts_of here.traced place line.1)) here following, sum_by-append (λ (line : ℕ × Statement). cond (is_function line.1) 1 0) (line ∷ []) following)
   where
     one : (p : Placed) (s : Statement) (fs : List Function) → length (cons_option (function_in 0 p s) fs) ≡ cond (is_function s) 1 0 + length fs
     one p (Base address) fs = omega arith
@@ -159,5 +159,5 @@ one_entry p es =
 
 pub sleds_count : (all : List Placed) → length (map_entries 0 all) ≡ sum_by sleds_of (flat_map parts_at all)
 sleds_count [] = refl
-sleds_count (p ∷ behind) =
-    one_entry p (map_entries 0 behind) ∙ omega (arith, sleds_count behind, sum_by-append sleds_of (parts_at p) (flat_map parts_at behind))
+sleds_count (p ∷ following) =
+    one_entry p (map_entries 0 following) ∙ omega (arith, sleds_count following, sum_by-append sleds_of (parts_at p) (flat_map parts_at following))

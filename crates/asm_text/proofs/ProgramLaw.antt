@@ -31,7 +31,7 @@ use Rattle.asm_text.proofs.BranchesLaw.{branches_reach}
 sleds_by_lines : (base : ℕ) (entries : List MapEntry) (lines : List (Placed × ℕ))
     → map (sled_of entries) (zip (map (place_for base) lines) (map (entry_for base) lines)) ≡ map (sled_said entries) (map (entry_for base) lines)
 sleds_by_lines base entries [] = refl
-sleds_by_lines base entries (line ∷ behind) = ap (λ ss. sled_said entries (entry_for base line) ∷ ss) (sleds_by_lines base entries behind)
+sleds_by_lines base entries (line ∷ following) = ap (λ ss. sled_said entries (entry_for base line) ∷ ss) (sleds_by_lines base entries following)
 
 sleds_told : (base : ℕ) (chosen : Choosing) (said : Lines) → let es = map_entries base (placed chosen said) in
     map (sled_of es) (zip (places_from base (pieces (placed chosen said))) es) ≡ map (sled_said es) es

@@ -31,11 +31,11 @@ function_back f rest fits =
     let n = length f.name in
     let start : number8_at bytes 0 ≡ f.start = little_number-reads_back 8 f.start (n ∷ f.name ++ rest) fits.0 in
     let long : ltb (length bytes) (9 + n) ≡ false = le-ltb (length bytes) (9 + n) (omega (arith, length-append f.name rest)) in
-    let behind : drop (9 + n) bytes ≡ rest = drop_more 9 n bytes ∙ drop-append_seam f.name rest in
+    let following : drop (9 + n) bytes ≡ rest = drop_more 9 n bytes ∙ drop-append_seam f.name rest in
     ap (λ t. cond t None (Some (record { start = number8_at bytes 0; name = take n (drop 9 bytes) }, drop (9 + n) bytes))) long
     ∙ ap (λ m. Some (record { start = m; name = take n (drop 9 bytes) }, drop (9 + n) bytes)) start
     ∙ ap (λ name. Some (record { start = f.start; name = name }, drop (9 + n) bytes)) (take-append_seam f.name rest)
-    ∙ ap (λ xs. Some (f, xs)) behind
+    ∙ ap (λ xs. Some (f, xs)) following
 
 entry_back : (e : MapEntry) (rest : List ℕ) → EntryFits e → map_entry_at (entry_bytes e ++ rest) ≡ Some (e, rest)
 entry_back e rest fits =
@@ -100,7 +100,7 @@ parts_back f fits =
     let shape : file_bytes f ≡ b =
     append_assoc (header_bytes f ++ f.code) functions_part entries_part ∙ append_assoc (header_bytes f) f.code (functions_part ++ entries_part) in
     let long : ltb (length b) (64 + n) ≡ false = le-ltb (length b) (64 + n) (omega (arith, length-append f.code (functions_part ++ entries_part))) in
-    let behind : drop (64 + n) b ≡ functions_part ++ entries_part = drop_more 64 n b ∙ drop-append_seam f.code (functions_part ++ entries_part) in
+    let following : drop (64 + n) b ≡ functions_part ++ entries_part = drop_more 64 n b ∙ drop-append_seam f.code (functions_part ++ entries_part) in
     let code : take n (drop 64 b) ≡ f.code = take-append_seam f.code (functions_part ++ entries_part) in
     let last : several map_entry_at (length f.entries) entries_part ≡ Some (f.entries, []) =
     ap (several map_entry_at (length f.entries)) (sym (append-nil entries_part)) ∙ entries_back f.entries [] fits.each_entry in
@@ -108,7 +108,7 @@ parts_back f fits =
     ap parts_of shape
     ∙ counts_back f rest fits
     ∙ ap (λ t. cond t None (option_and_then (λ (fs : List Function × List ℕ). option_map (λ (es : List MapEntry × List ℕ). with_code (take n (drop 64 b)) es fs) (several map_entry_at (length f.entries) fs.1)) (several function_at (length f.functions) (drop (64 + n) b)))) long
-    ∙ ap (λ xs. option_and_then (λ (fs : List Function × List ℕ). option_map (λ (es : List MapEntry × List ℕ). with_code (take n (drop 64 b)) es fs) (several map_entry_at (length f.entries) fs.1)) (several function_at (length f.functions) xs)) behind
+    ∙ ap (λ xs. option_and_then (λ (fs : List Function × List ℕ). option_map (λ (es : List MapEntry × List ℕ). with_code (take n (drop 64 b)) es fs) (several map_entry_at (length f.entries) fs.1)) (several function_at (length f.functions) xs)) following
     ∙ ap (λ o. option_and_then (λ (fs : List Function × List ℕ). option_map (λ (es : List MapEntry × List ℕ). with_code (take n (drop 64 b)) es fs) (several map_entry_at (length f.entries) fs.1)) o) (functions_back f.functions entries_part fits.each_function)
     ∙ ap (λ o. option_map (λ (es : List MapEntry × List ℕ). with_code (take n (drop 64 b)) es (f.functions, entries_part)) o) last
     ∙ ap (λ c. Some (with_code c (f.entries, []) (f.functions, entries_part))) code

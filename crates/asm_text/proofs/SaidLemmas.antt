@@ -54,7 +54,7 @@ module _ (P : Lines → Type 0) (keeps : Keeps P) where
 
   words_keep : (before : Lines) (number : ℕ) (words : List (List ℕ)) → P before → OnLines P (with_words before number words)
   words_keep before number [] h = h
-  words_keep before number (word ∷ behind) h = spoken_keeps before number (word ∷ behind) (statement_of (word ∷ behind)) h refl
+  words_keep before number (word ∷ following) h = spoken_keeps before number (word ∷ following) (statement_of (word ∷ following)) h refl
 
   line_keeps : (before : Lines) (line : ℕ × List ℕ) → P before → OnLines P (with_line before line)
   line_keeps before (number, line) h = by_clean (is_clean line)
@@ -69,7 +69,7 @@ module _ (P : Lines → Type 0) (keeps : Keeps P) where
 
   pub read_keeps : (before : Lines) (lines : List (ℕ × List ℕ)) → P before → OnLines P (read_lines before lines)
   read_keeps before [] h = h
-  read_keeps before (line ∷ behind) h = then_keeps (with_line before line) (λ lines. read_lines lines behind) (line_keeps before line h) (λ lines more. read_keeps lines behind more)
+  read_keeps before (line ∷ following) h = then_keeps (with_line before line) (λ lines. read_lines lines following) (line_keeps before line h) (λ lines more. read_keeps lines following more)
 
 -- ---- the rows at the end of the text
 
@@ -80,8 +80,8 @@ not_refused false fault r x e = (refl, e)
 -- they leave the lines unchanged
 resolved_same : (all lines said : Lines) → resolved all lines ≡ Ok said → all ≡ said
 resolved_same all [] said e = cc e
-resolved_same all (line ∷ behind) said e =
-    resolved_same all behind said (not_refused (is_unresolved all line.1 behind) (faults.Label line.0) (resolved all behind) said e).1
+resolved_same all (line ∷ following) said e =
+    resolved_same all following said (not_refused (is_unresolved all line.1 following) (faults.Label line.0) (resolved all following) said e).1
 
 -- the lines were read, there is a function and none without an instruction, and each name has its place
 pub record IsSaid (text : List ℕ) (said : Lines) : Type 0 where

@@ -25,17 +25,17 @@ pub record IsAllowed (before : Lines) (s : Statement) : Type 0 where
 -- each line may come after those before it
 abbrev pub Allowed : Lines → Lines → Type 0
 Allowed before [] = ⊤
-Allowed before (line ∷ behind) = IsAllowed before line.1 × Allowed (before ++ line ∷ []) behind
+Allowed before (line ∷ following) = IsAllowed before line.1 × Allowed (before ++ line ∷ []) following
 
 allowed-more : (before lines : Lines) (number : ℕ) (s : Statement) → Allowed before lines → IsAllowed (before ++ lines) s → Allowed before (lines ++ (number, s) ∷ [])
 allowed-more before [] number s all h = (subst (λ ls. IsAllowed ls s) (append-nil before) h, tt)
-allowed-more before (line ∷ behind) number s all h =
-    (all.0, allowed-more (before ++ line ∷ []) behind number s all.1 (subst (λ ls. IsAllowed ls s) (sym (append_assoc before (line ∷ []) behind)) h))
+allowed-more before (line ∷ following) number s all h =
+    (all.0, allowed-more (before ++ line ∷ []) following number s all.1 (subst (λ ls. IsAllowed ls s) (sym (append_assoc before (line ∷ []) following)) h))
 
 -- what the words of a line say
 statement_short : (words : List (List ℕ)) → SaysShort (statement_of words)
 statement_short [] = tt
-statement_short (word ∷ behind) = line_short (keyword_of word) word behind
+statement_short (word ∷ following) = line_short (keyword_of word) word following
 
 allowed_keeps : Keeps (Allowed [])
 allowed_keeps before number words s all taken =
@@ -46,7 +46,7 @@ allowed_keeps before number words s all taken =
 -- no line is unresolved
 abbrev pub Settled : Lines → Lines → Type 0
 Settled lines [] = ⊤
-Settled lines (line ∷ behind) = (is_unresolved lines line.1 behind ≡ false) × Settled lines behind
+Settled lines (line ∷ following) = (is_unresolved lines line.1 following ≡ false) × Settled lines following
 
 -- the lines of a text that was read to its end
 pub record AreSaid (said : Lines) : Type 0 where
@@ -55,11 +55,11 @@ pub record AreSaid (said : Lines) : Type 0 where
   pub whole : is_bare said ≡ false
   pub settled : Settled said said
 
-settled_by : (lines behind said : Lines) → resolved lines behind ≡ Ok said → Settled lines behind
+settled_by : (lines following said : Lines) → resolved lines following ≡ Ok said → Settled lines following
 settled_by lines [] said e = tt
-settled_by lines (line ∷ behind) said e =
-    let row = not_refused (is_unresolved lines line.1 behind) (faults.Label line.0) (resolved lines behind) said e in
-    (row.0, settled_by lines behind said row.1)
+settled_by lines (line ∷ following) said e =
+    let row = not_refused (is_unresolved lines line.1 following) (faults.Label line.0) (resolved lines following) said e in
+    (row.0, settled_by lines following said row.1)
 
 -- all lines of a text
 pub are_said : (text : List ℕ) (said : Lines) → said_by text ≡ Ok said → AreSaid said
@@ -92,42 +92,42 @@ is_defined-more name before line = list_any-append (λ line. defines name line.1
 
 -- after a function an instruction line comes before the next function
 abbrev pub IsFilled : Statement → Lines → Type 0
-IsFilled (Base address) behind = ⊤
-IsFilled (Entry name) behind = ⊤
-IsFilled (Func name choice) behind = 0 < instruction_lines behind
-IsFilled (Label name) behind = ⊤
-IsFilled (Does operation) behind = ⊤
+IsFilled (Base address) following = ⊤
+IsFilled (Entry name) following = ⊤
+IsFilled (Func name choice) following = 0 < instruction_lines following
+IsFilled (Label name) following = ⊤
+IsFilled (Does operation) following = ⊤
 
 abbrev pub AllFilled : Lines → Type 0
 AllFilled [] = ⊤
-AllFilled (line ∷ behind) = IsFilled line.1 behind × AllFilled behind
+AllFilled (line ∷ following) = IsFilled line.1 following × AllFilled following
 
-whole_behind : (before : Lines) (line : ℕ × Statement) (behind : Lines) → is_bare (before ++ line ∷ behind) ≡ false → is_bare ((before ++ line ∷ []) ++ behind) ≡ false
-whole_behind before line behind whole = subst (λ ls. is_bare ls ≡ false) (sym (append_assoc before (line ∷ []) behind)) whole
+whole_after : (before : Lines) (line : ℕ × Statement) (following : Lines) → is_bare (before ++ line ∷ following) ≡ false → is_bare ((before ++ line ∷ []) ++ following) ≡ false
+whole_after before line following whole = subst (λ ls. is_bare ls ≡ false) (sym (append_assoc before (line ∷ []) following)) whole
 
 -- a function that has no instruction line yet gets one
-line_behind : (before behind : Lines) → Allowed before behind → is_bare (before ++ behind) ≡ false → is_bare before ≡ true → 0 < instruction_lines behind
-line_behind before [] all whole bare =
+line_after : (before following : Lines) → Allowed before following → is_bare (before ++ following) ≡ false → is_bare before ≡ true → 0 < instruction_lines following
+line_after before [] all whole bare =
     let none : is_bare before ≡ false = subst (λ ls. is_bare ls ≡ false) (append-nil before) whole in absurd (cc (bare, none))
-line_behind before ((number, Base address) ∷ behind) all whole bare =
-    line_behind (before ++ (number, Base address) ∷ []) behind all.1 (whole_behind before (number, Base address) behind whole) (is_bare-more before (number, Base address) ∙ bare)
-line_behind before ((number, Entry name) ∷ behind) all whole bare =
-    line_behind (before ++ (number, Entry name) ∷ []) behind all.1 (whole_behind before (number, Entry name) behind whole) (is_bare-more before (number, Entry name) ∙ bare)
-line_behind before ((number, Func name choice) ∷ behind) all whole bare =
+line_after before ((number, Base address) ∷ following) all whole bare =
+    line_after (before ++ (number, Base address) ∷ []) following all.1 (whole_after before (number, Base address) following whole) (is_bare-more before (number, Base address) ∙ bare)
+line_after before ((number, Entry name) ∷ following) all whole bare =
+    line_after (before ++ (number, Entry name) ∷ []) following all.1 (whole_after before (number, Entry name) following whole) (is_bare-more before (number, Entry name) ∙ bare)
+line_after before ((number, Func name choice) ∷ following) all whole bare =
     let filled : is_bare before ≡ false = all.0.in_place in absurd (cc (bare, filled))
-line_behind before ((number, Label name) ∷ behind) all whole bare =
-    line_behind (before ++ (number, Label name) ∷ []) behind all.1 (whole_behind before (number, Label name) behind whole) (is_bare-more before (number, Label name) ∙ bare)
-line_behind before ((number, Does operation) ∷ behind) all whole bare = omega arith
+line_after before ((number, Label name) ∷ following) all whole bare =
+    line_after (before ++ (number, Label name) ∷ []) following all.1 (whole_after before (number, Label name) following whole) (is_bare-more before (number, Label name) ∙ bare)
+line_after before ((number, Does operation) ∷ following) all whole bare = omega arith
 
-filled_first : (before : Lines) (number : ℕ) (s : Statement) (behind : Lines) → Allowed (before ++ (number, s) ∷ []) behind → is_bare ((before ++ (number, s) ∷ []) ++ behind) ≡ false → IsFilled s behind
-filled_first before number (Base address) behind all whole = tt
-filled_first before number (Entry name) behind all whole = tt
-filled_first before number (Func name choice) behind all whole = line_behind (before ++ (number, Func name choice) ∷ []) behind all whole (is_bare-more before (number, Func name choice))
-filled_first before number (Label name) behind all whole = tt
-filled_first before number (Does operation) behind all whole = tt
+filled_first : (before : Lines) (number : ℕ) (s : Statement) (following : Lines) → Allowed (before ++ (number, s) ∷ []) following → is_bare ((before ++ (number, s) ∷ []) ++ following) ≡ false → IsFilled s following
+filled_first before number (Base address) following all whole = tt
+filled_first before number (Entry name) following all whole = tt
+filled_first before number (Func name choice) following all whole = line_after (before ++ (number, Func name choice) ∷ []) following all whole (is_bare-more before (number, Func name choice))
+filled_first before number (Label name) following all whole = tt
+filled_first before number (Does operation) following all whole = tt
 
 pub all_filled : (before lines : Lines) → Allowed before lines → is_bare (before ++ lines) ≡ false → AllFilled lines
 all_filled before [] all whole = tt
-all_filled before (line ∷ behind) all whole =
-    let rest = whole_behind before line behind whole in
-    (filled_first before line.0 line.1 behind all.1 rest, all_filled (before ++ line ∷ []) behind all.1 rest)
+all_filled before (line ∷ following) all whole =
+    let rest = whole_after before line following whole in
+    (filled_first before line.0 line.1 following all.1 rest, all_filled (before ++ line ∷ []) following all.1 rest)

@@ -17,23 +17,23 @@ use Rattle.asm_text.specs.Programs.{trampolines_at}
 use Rattle.asm_text.proofs.Owners.{LiesAmong, lines_lie}
 
 -- the sleds of pieces after others
-places_behind : (address : ℕ) (xs ys : List Piece) → places_from address (xs ++ ys) ≡ places_from address xs ++ places_from (address + length (flat_map piece_bytes xs)) ys
-places_behind address [] ys = ap (λ n. places_from n ys) (sym (add_zero address))
+places_after : (address : ℕ) (xs ys : List Piece) → places_from address (xs ++ ys) ≡ places_from address xs ++ places_from (address + length (flat_map piece_bytes xs)) ys
+places_after address [] ys = ap (λ n. places_from n ys) (sym (add_zero address))
   where
     add_zero : (n : ℕ) → n + 0 ≡ n
     add_zero n = omega arith
-places_behind address (Instruction instr ∷ xs) ys =
+places_after address (Instruction instr ∷ xs) ys =
     let n = length (piece_bytes (Instruction instr)) in
-    places_behind (address + n) xs ys
+    places_after (address + n) xs ys
     ∙ ap (λ m. places_from (address + n) xs ++ places_from m ys) (add_assoc address n (length (flat_map piece_bytes xs)) ∙ ap (λ m. address + m) (sym (length-append (piece_bytes (Instruction instr)) (flat_map piece_bytes xs))))
-places_behind address (JumpSled shift ∷ xs) ys =
+places_after address (JumpSled shift ∷ xs) ys =
     ap (λ ps. record { address = address; shift = shift; returns = false } ∷ ps)
-    (places_behind (address + 11) xs ys ∙ ap (λ m. places_from (address + 11) xs ++ places_from m ys) (add_assoc address 11 (length (flat_map piece_bytes xs)) ∙ ap (λ m. address + m) (sym (length-append (piece_bytes (JumpSled shift)) (flat_map piece_bytes xs)))))
-places_behind address (ReturnSled shift ∷ xs) ys =
+    (places_after (address + 11) xs ys ∙ ap (λ m. places_from (address + 11) xs ++ places_from m ys) (add_assoc address 11 (length (flat_map piece_bytes xs)) ∙ ap (λ m. address + m) (sym (length-append (piece_bytes (JumpSled shift)) (flat_map piece_bytes xs)))))
+places_after address (ReturnSled shift ∷ xs) ys =
     ap (λ ps. record { address = address; shift = shift; returns = true } ∷ ps)
-    (places_behind (address + 11) xs ys ∙ ap (λ m. places_from (address + 11) xs ++ places_from m ys) (add_assoc address 11 (length (flat_map piece_bytes xs)) ∙ ap (λ m. address + m) (sym (length-append (piece_bytes (ReturnSled shift)) (flat_map piece_bytes xs)))))
-places_behind address (Align ∷ xs) ys =
-    places_behind (address + 1) xs ys
+    (places_after (address + 11) xs ys ∙ ap (λ m. places_from (address + 11) xs ++ places_from m ys) (add_assoc address 11 (length (flat_map piece_bytes xs)) ∙ ap (λ m. address + m) (sym (length-append (piece_bytes (ReturnSled shift)) (flat_map piece_bytes xs)))))
+places_after address (Align ∷ xs) ys =
+    places_after (address + 1) xs ys
     ∙ ap (λ m. places_from (address + 1) xs ++ places_from m ys) (add_assoc address 1 (length (flat_map piece_bytes xs)) ∙ ap (λ m. address + m) (sym (length-append (piece_bytes Align) (flat_map piece_bytes xs))))
 
 -- the lines that have sleds, each with its sled's kind
@@ -67,8 +67,8 @@ entry_first base false p kind lines = refl
 
 pub map_by_lines : (base : ℕ) (lines : List Placed) → map_entries base lines ≡ map (entry_for base) (sled_lines lines)
 map_by_lines base [] = refl
-map_by_lines base (p ∷ behind) =
-    ap (λ es. cons_option (entry_in base p) es) (map_by_lines base behind) ∙ entry_first base p.owner.traced p (sled_kind p.statement) (sled_lines behind)
+map_by_lines base (p ∷ following) =
+    ap (λ es. cons_option (entry_in base p) es) (map_by_lines base following) ∙ entry_first base p.owner.traced p (sled_kind p.statement) (sled_lines following)
 
 -- ---- the code
 
@@ -76,23 +76,23 @@ add_zero : (n : ℕ) → n + 0 ≡ n
 add_zero n = omega arith
 
 -- a sled by the parity of its place
-sled_at : (all : List Placed) (behind at : ℕ) (sled : Piece) (r : ℕ) → r < 2 → (rest : List Part)
-    → places_from at (map (piece_of all behind) (cond (eqb r 0) (Fixed sled ∷ []) (Fixed Align ∷ Fixed sled ∷ []) ++ rest)) ≡ places_from (at + r) (sled ∷ map (piece_of all behind) rest)
-sled_at all behind at sled zero h rest = ap (λ n. places_from n (sled ∷ map (piece_of all behind) rest)) (sym (add_zero at))
-sled_at all behind at sled (suc zero) h rest = refl
-sled_at all behind at sled (suc (suc r)) h rest = absurd (omega arith)
+sled_at : (all : List Placed) (following at : ℕ) (sled : Piece) (r : ℕ) → r < 2 → (rest : List Part)
+    → places_from at (map (piece_of all following) (cond (eqb r 0) (Fixed sled ∷ []) (Fixed Align ∷ Fixed sled ∷ []) ++ rest)) ≡ places_from (at + r) (sled ∷ map (piece_of all following) rest)
+sled_at all following at sled zero h rest = ap (λ n. places_from n (sled ∷ map (piece_of all following) rest)) (sym (add_zero at))
+sled_at all following at sled (suc zero) h rest = refl
+sled_at all following at sled (suc (suc r)) h rest = absurd (omega arith)
 
 -- a sled after its alignment byte
-sled_behind : (all : List Placed) (behind base place : ℕ) (sled : Piece) (rest : List Part)
-    → places_from (base + place) (map (piece_of all behind) (aligned place sled ++ rest)) ≡ places_from (base + (place + place % 2)) (sled ∷ map (piece_of all behind) rest)
-sled_behind all behind base place sled rest =
-    sled_at all behind (base + place) sled (place % 2) (omega arith) rest
-    ∙ ap (λ n. places_from n (sled ∷ map (piece_of all behind) rest)) (add_assoc base place (place % 2))
+sled_after : (all : List Placed) (following base place : ℕ) (sled : Piece) (rest : List Part)
+    → places_from (base + place) (map (piece_of all following) (aligned place sled ++ rest)) ≡ places_from (base + (place + place % 2)) (sled ∷ map (piece_of all following) rest)
+sled_after all following base place sled rest =
+    sled_at all following (base + place) sled (place % 2) (omega arith) rest
+    ∙ ap (λ n. places_from n (sled ∷ map (piece_of all following) rest)) (add_assoc base place (place % 2))
 
-sled_only : (all : List Placed) (behind base place : ℕ) (sled : Piece)
-    → places_from (base + place) (map (piece_of all behind) (aligned place sled)) ≡ places_from (base + (place + place % 2)) (sled ∷ [])
-sled_only all behind base place sled =
-    ap (λ parts. places_from (base + place) (map (piece_of all behind) parts)) (sym (append-nil (aligned place sled))) ∙ sled_behind all behind base place sled []
+sled_only : (all : List Placed) (following base place : ℕ) (sled : Piece)
+    → places_from (base + place) (map (piece_of all following) (aligned place sled)) ≡ places_from (base + (place + place % 2)) (sled ∷ [])
+sled_only all following base place sled =
+    ap (λ parts. places_from (base + place) (map (piece_of all following) parts)) (sym (append-nil (aligned place sled))) ∙ sled_after all following base place sled []
 
 -- the sled that a line has
 abbrev pub places_of : ℕ → Option (Placed × ℕ) → List SledPlace
@@ -104,24 +104,24 @@ no_sled base true p = refl
 no_sled base false p = refl
 
 -- the parts of a line, from its place on
-line_places : (all : List Placed) (base behind : ℕ) (p : Placed) (traced : Bool) (s : Statement)
-    → places_from (base + p.place) (map (piece_of all behind) (parts_of traced p.place s)) ≡ places_of base (sled_line traced p (sled_kind s))
-line_places all base behind p traced (Base address) = no_sled base traced p
-line_places all base behind p traced (Entry name) = no_sled base traced p
-line_places all base behind p true (Func name choice) = sled_only all behind base p.place (JumpSled sled_shift)
-line_places all base behind p false (Func name choice) = refl
-line_places all base behind p traced (Label name) = no_sled base traced p
-line_places all base behind p true (Does (Plain instr)) = refl
-line_places all base behind p true (Does (Go branch name)) = by_branch branch
+line_places : (all : List Placed) (base following : ℕ) (p : Placed) (traced : Bool) (s : Statement)
+    → places_from (base + p.place) (map (piece_of all following) (parts_of traced p.place s)) ≡ places_of base (sled_line traced p (sled_kind s))
+line_places all base following p traced (Base address) = no_sled base traced p
+line_places all base following p traced (Entry name) = no_sled base traced p
+line_places all base following p true (Func name choice) = sled_only all following base p.place (JumpSled sled_shift)
+line_places all base following p false (Func name choice) = refl
+line_places all base following p traced (Label name) = no_sled base traced p
+line_places all base following p true (Does (Plain instr)) = refl
+line_places all base following p true (Does (Go branch name)) = by_branch branch
   where
-    by_branch : (b : Branch) → places_from (base + p.place) (piece_of all behind (Jump b name) ∷ []) ≡ []
+    by_branch : (b : Branch) → places_from (base + p.place) (piece_of all following (Jump b name) ∷ []) ≡ []
     by_branch b = refl
-line_places all base behind p true (Does (TailJump name)) = sled_behind all behind base p.place (JumpSled sled_shift) (Jump branches.Jmp name ∷ [])
-line_places all base behind p true (Does Return) = sled_only all behind base p.place (ReturnSled sled_shift)
-line_places all base behind p false (Does (Plain instr)) = refl
-line_places all base behind p false (Does (Go branch name)) = refl
-line_places all base behind p false (Does (TailJump name)) = refl
-line_places all base behind p false (Does Return) = refl
+line_places all base following p true (Does (TailJump name)) = sled_after all following base p.place (JumpSled sled_shift) (Jump branches.Jmp name ∷ [])
+line_places all base following p true (Does Return) = sled_only all following base p.place (ReturnSled sled_shift)
+line_places all base following p false (Does (Plain instr)) = refl
+line_places all base following p false (Does (Go branch name)) = refl
+line_places all base following p false (Does (TailJump name)) = refl
+line_places all base following p false (Does Return) = refl
 
 places_first : (base : ℕ) (o : Option (Placed × ℕ)) (lines : List (Placed × ℕ)) → places_of base o ++ map (place_for base) lines ≡ map (place_for base) (cons_option o lines)
 places_first base None lines = refl
@@ -130,17 +130,17 @@ places_first base (Some line) lines = refl
 code_places : (all : List Placed) (base : ℕ) (chosen : Choosing) (place : ℕ) (owner : Owner) (lines : Lines)
     → places_from (base + place) (flat_map (line_pieces all) (placed_from chosen place owner lines)) ≡ map (place_for base) (sled_lines (placed_from chosen place owner lines))
 code_places all base chosen place owner [] = refl
-code_places all base chosen place owner (line ∷ behind) =
-    let here = owner_of chosen place owner line.1 behind in
+code_places all base chosen place owner (line ∷ following) =
+    let here = owner_of chosen place owner line.1 following in
     let p : Placed = record { line = line.0; statement = line.1; owner = here; place = place } in
     let xs = parts_at p in
-    let left = placed_from chosen (place + widths xs) here behind in
+    let left = placed_from chosen (place + widths xs) here following in
     let first = map (piece_of all (place + widths xs)) xs in
     let others = flat_map (line_pieces all) left in
-    places_behind (base + place) first others
+    places_after (base + place) first others
     ∙ ap (λ ps. ps ++ places_from (base + place + length (flat_map piece_bytes first)) others) (line_places all base (place + widths xs) p here.traced line.1)
     ∙ ap (λ n. places_of base (sled_line here.traced p (sled_kind line.1)) ++ places_from n others) (ap (λ w. base + place + w) (parts_length all (place + widths xs) xs) ∙ add_assoc base place (widths xs))
-    ∙ ap (λ ps. places_of base (sled_line here.traced p (sled_kind line.1)) ++ ps) (code_places all base chosen (place + widths xs) here behind)
+    ∙ ap (λ ps. places_of base (sled_line here.traced p (sled_kind line.1)) ++ ps) (code_places all base chosen (place + widths xs) here following)
     ∙ places_first base (sled_line here.traced p (sled_kind line.1)) (sled_lines left)
 
 -- the sleds of the whole code
@@ -155,12 +155,12 @@ even_address base place aligned = omega (arith, aligned)
 
 even_lines : (base : ℕ) (lines : List (Placed × ℕ)) → base % 16 ≡ 0 → All (λ place. place.address % 2 ≡ 0) (map (place_for base) lines)
 even_lines base [] aligned k d within = absurd (omega arith)
-even_lines base (line ∷ behind) aligned zero d within = even_address base line.0.place aligned
-even_lines base (line ∷ behind) aligned (suc k) d within = even_lines base behind aligned k d (omega arith)
+even_lines base (line ∷ following) aligned zero d within = even_address base line.0.place aligned
+even_lines base (line ∷ following) aligned (suc k) d within = even_lines base following aligned k d (omega arith)
 
 same_order : (base : ℕ) (lines : List (Placed × ℕ)) → map (λ e. e.sled) (map (entry_for base) lines) ≡ map (λ p. p.address) (map (place_for base) lines)
 same_order base [] = refl
-same_order base (line ∷ behind) = ap (λ ns. (base + (line.0.place + line.0.place % 2)) ∷ ns) (same_order base behind)
+same_order base (line ∷ following) = ap (λ ns. (base + (line.0.place + line.0.place % 2)) ∷ ns) (same_order base following)
 
 -- sleds stand at even addresses
 pub even_sleds : (base : ℕ) (chosen : Choosing) (said : Lines) → base % 16 ≡ 0 → All (λ place. place.address % 2 ≡ 0) (places_from base (pieces (placed chosen said)))
@@ -187,17 +187,17 @@ facts_first base fs false p kind lines h e t among rest = rest
 
 sled_facts : (base : ℕ) (fs : List Function) (lines : List Placed) → AllLie 1048576 lines → AllByRecursion (LiesAmong base None fs) lines → AllByRecursion (SledFacts base fs) (sled_lines lines)
 sled_facts base fs [] lie among = tt
-sled_facts base fs (p ∷ behind) lie among =
-    facts_first base fs p.owner.traced p (sled_kind p.statement) (sled_lines behind) lie.0.0 refl refl among.0 (sled_facts base fs behind lie.1 among.1)
+sled_facts base fs (p ∷ following) lie among =
+    facts_first base fs p.owner.traced p (sled_kind p.statement) (sled_lines following) lie.0.0 refl refl among.0 (sled_facts base fs following lie.1 among.1)
 
 each_line : (base : ℕ) (fs : List Function) (P : SledPlace → MapEntry → Type 0) (lines : List (Placed × ℕ)) → AllByRecursion (SledFacts base fs) lines
     → ((line : Placed × ℕ) → SledFacts base fs line → P (place_for base line) (entry_for base line)) → EachSled (map (place_for base) lines) (map (entry_for base) lines) P
 each_line base fs P [] facts h i place entry e d = absurd (cc e)
-each_line base fs P (line ∷ behind) facts h zero place entry e d =
+each_line base fs P (line ∷ following) facts h zero place entry e d =
     let at : place_for base line ≡ place = cc e in
     let of : entry_for base line ≡ entry = cc d in
     subst (λ p. P p entry) at (subst (λ x. P (place_for base line) x) of (h line facts.0))
-each_line base fs P (line ∷ behind) facts h (suc i) place entry e d = each_line base fs P behind facts.1 h i place entry e d
+each_line base fs P (line ∷ following) facts h (suc i) place entry e d = each_line base fs P following facts.1 h i place entry e d
 
 -- the kinds that lines have
 kind_cases : (K : ℕ → Type 0) → K 0 → K 1 → K 2 → (s : Statement) (k : ℕ) → sled_kind s ≡ Some k → K k

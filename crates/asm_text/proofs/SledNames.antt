@@ -88,11 +88,11 @@ above : (base : ℕ) (n : ℕ) (f : Function) (fs : List Function) → n < f.sta
 above base n f [] low ascend = tt
 above base n f (g ∷ fs) low ascend = (omega (arith, ascend.0), above base n g fs (omega (arith, ascend.0)) ascend.1)
 
-behind_first : (f : Function) (fs gs : List Function) → AllByRecursion (λ g. f.start < g.start) gs → AllByRecursion (IsFound fs) gs → AllByRecursion (IsFound (f ∷ fs)) gs
-behind_first f fs [] up found = tt
-behind_first f fs (g ∷ gs) up found =
+after_first : (f : Function) (fs gs : List Function) → AllByRecursion (λ g. f.start < g.start) gs → AllByRecursion (IsFound fs) gs → AllByRecursion (IsFound (f ∷ fs)) gs
+after_first f fs [] up found = tt
+after_first f fs (g ∷ gs) up found =
     let apart : eqb f.start g.start ≡ false = ne_eqb f.start g.start (λ same. absurd (omega (arith, same, up.0))) in
-    (ap (λ t. cond t (Some f) (find (λ h. eqb h.start g.start) fs)) apart ∙ found.0, behind_first f fs gs up.1 found.1)
+    (ap (λ t. cond t (Some f) (find (λ h. eqb h.start g.start) fs)) apart ∙ found.0, after_first f fs gs up.1 found.1)
 
 all_above : (base : ℕ) (f : Function) (fs : List Function) → Ascend base (Some f) fs → AllByRecursion (λ g. f.start < g.start) fs
 all_above base f [] ascend = tt
@@ -101,7 +101,7 @@ all_above base f (g ∷ fs) ascend = (ascend.0, above base f.start g fs ascend.0
 all_found : (base : ℕ) (o : Option Function) (fs : List Function) → Ascend base o fs → AllByRecursion (IsFound fs) fs
 all_found base o [] ascend = tt
 all_found base o (f ∷ fs) ascend =
-    (ap (λ t. cond t (Some f) (find (λ g. eqb g.start f.start) fs)) (eq-eqb f.start f.start refl), behind_first f fs fs (all_above base f fs ascend.1) (all_found base (Some f) fs ascend.1))
+    (ap (λ t. cond t (Some f) (find (λ g. eqb g.start f.start) fs)) (eq-eqb f.start f.start refl), after_first f fs fs (all_above base f fs ascend.1) (all_found base (Some f) fs ascend.1))
 
 -- ---- the last function line
 
@@ -112,15 +112,15 @@ OwnerIs all base (Some name) owner = IsFound all (record { start = base + owner.
 
 module _ (all : List Function) (base : ℕ) (chosen : Choosing) where
   -- one line
-  owner_first : (place : ℕ) (owner : Owner) (number : ℕ) (s : Statement) (behind : Lines) (name : Option (List ℕ)) (fs : List Function) → OwnerIs all base name owner
-      → let p : Placed = record { line = number; statement = s; owner = owner_of chosen place owner s behind; place = place } in
+  owner_first : (place : ℕ) (owner : Owner) (number : ℕ) (s : Statement) (following : Lines) (name : Option (List ℕ)) (fs : List Function) → OwnerIs all base name owner
+      → let p : Placed = record { line = number; statement = s; owner = owner_of chosen place owner s following; place = place } in
       AllByRecursion (IsFound all) (cons_option (function_in base p s) fs)
       → OwnerIs all base (last_or name (cons_option (function_named s) [])) p.owner × AllByRecursion (IsFound all) fs
-  owner_first place owner number (Base address) behind name fs is found = (is, found)
-  owner_first place owner number (Entry other) behind name fs is found = (is, found)
-  owner_first place owner number (Func other choice) behind name fs is found = found
-  owner_first place owner number (Label other) behind name fs is found = (is, found)
-  owner_first place owner number (Does operation) behind name fs is found = (is, found)
+  owner_first place owner number (Base address) following name fs is found = (is, found)
+  owner_first place owner number (Entry other) following name fs is found = (is, found)
+  owner_first place owner number (Func other choice) following name fs is found = found
+  owner_first place owner number (Label other) following name fs is found = (is, found)
+  owner_first place owner number (Does operation) following name fs is found = (is, found)
 
   name_first : (s : Statement) (name : Option (List ℕ)) (names : List (List ℕ))
       → last_or (last_or name (cons_option (function_named s) [])) names ≡ last_or name (cons_option (function_named s) names)
@@ -134,20 +134,20 @@ module _ (all : List Function) (base : ℕ) (chosen : Choosing) where
       → AllByRecursion (IsFound all) (functions base (placed_from chosen place owner lines)) → slice_get (placed_from chosen place owner lines) i ≡ Some p
       → OwnerIs all base (last_or name (filter_map (λ line. function_named line.1) (take (suc i) lines))) p.owner
   owner_at place owner [] name i p is found e = absurd (cc e)
-  owner_at place owner (line ∷ behind) name zero p is found e =
-      let here = owner_of chosen place owner line.1 behind in
+  owner_at place owner (line ∷ following) name zero p is found e =
+      let here = owner_of chosen place owner line.1 following in
       let q : Placed = record { line = line.0; statement = line.1; owner = here; place = place } in
-      let left = placed_from chosen (place + widths (parts_at q)) here behind in
+      let left = placed_from chosen (place + widths (parts_at q)) here following in
       let at : q ≡ p = cc e in
-      subst (λ (x : Placed). OwnerIs all base (last_or name (cons_option (function_named line.1) [])) x.owner) at (owner_first place owner line.0 line.1 behind name (functions base left) is found).0
-  owner_at place owner (line ∷ behind) name (suc i) p is found e =
-      let here = owner_of chosen place owner line.1 behind in
+      subst (λ (x : Placed). OwnerIs all base (last_or name (cons_option (function_named line.1) [])) x.owner) at (owner_first place owner line.0 line.1 following name (functions base left) is found).0
+  owner_at place owner (line ∷ following) name (suc i) p is found e =
+      let here = owner_of chosen place owner line.1 following in
       let q : Placed = record { line = line.0; statement = line.1; owner = here; place = place } in
       let next = place + widths (parts_at q) in
-      let left = placed_from chosen next here behind in
-      let first = owner_first place owner line.0 line.1 behind name (functions base left) is found in
-      subst (λ o. OwnerIs all base o p.owner) (name_first line.1 name (filter_map (λ line. function_named line.1) (take (suc i) behind)))
-      (owner_at next here behind (last_or name (cons_option (function_named line.1) [])) i p first.0 first.1 e)
+      let left = placed_from chosen next here following in
+      let first = owner_first place owner line.0 line.1 following name (functions base left) is found in
+      subst (λ o. OwnerIs all base o p.owner) (name_first line.1 name (filter_map (λ line. function_named line.1) (take (suc i) following)))
+      (owner_at next here following (last_or name (cons_option (function_named line.1) [])) i p first.0 first.1 e)
 
 -- ---- all together
 

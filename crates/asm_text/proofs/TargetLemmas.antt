@@ -11,7 +11,7 @@ use Rattle.asm_text.specs.private.Laying.{earlier, next_places, placed_in, line_
 -- the places of the next lines, if `next` is the place after them
 abbrev pub next_before : Option ℕ → List Placed → List (Option ℕ)
 next_before next [] = []
-next_before next (p ∷ behind) = earlier (next_place (p ∷ behind)) next ∷ next_before next behind
+next_before next (p ∷ following) = earlier (next_place (p ∷ following)) next ∷ next_before next following
 
 earlier_none : (o : Option ℕ) → earlier o None ≡ o
 earlier_none None = refl
@@ -22,10 +22,10 @@ earlier_assoc None b c = refl
 earlier_assoc (Some n) b c = refl
 
 -- a line's own place comes first
-pub next_place-cons : (p : Placed) (behind : List Placed) → next_place (p ∷ behind) ≡ earlier (own_place p) (next_place behind)
-next_place-cons p behind = first (own_place p)
+pub next_place-cons : (p : Placed) (following : List Placed) → next_place (p ∷ following) ≡ earlier (own_place p) (next_place following)
+next_place-cons p following = first (own_place p)
   where
-    first : (o : Option ℕ) → slice_get (cons_option o (filter_map own_place behind)) 0 ≡ earlier o (slice_get (filter_map own_place behind) 0)
+    first : (o : Option ℕ) → slice_get (cons_option o (filter_map own_place following)) 0 ≡ earlier o (slice_get (filter_map own_place following) 0)
     first None = refl
     first (Some n) = refl
 
@@ -47,7 +47,7 @@ next_before-last next (q ∷ front) p =
 -- all lines
 pub next_before-none : (lines : List Placed) → next_before None lines ≡ next_places lines
 next_before-none [] = refl
-next_before-none (p ∷ behind) = ap (λ o. o ∷ next_before None behind) (earlier_none (next_place (p ∷ behind))) ∙ ap (λ os. next_place (p ∷ behind) ∷ os) (next_before-none behind)
+next_before-none (p ∷ following) = ap (λ o. o ∷ next_before None following) (earlier_none (next_place (p ∷ following))) ∙ ap (λ os. next_place (p ∷ following) ∷ os) (next_before-none following)
 
 -- one turn of the loop
 pub next_step : (laid : List Laid) (i : ℕ) (d : Laid) (next : Option ℕ) (targets : List (Option ℕ)) → 0 < i → i ≤ length laid

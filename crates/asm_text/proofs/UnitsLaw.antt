@@ -18,13 +18,13 @@ all_both P [] ys first second = second
 all_both P (x ∷ xs) ys first second = (first.0, all_both P xs ys first.1 second)
 
 -- a distance within the code fits its field
-distance_fits : (target behind : ℕ) → target ≤ 1048576 → behind ≤ 1048576 → FitsSigned w32 (pos target -ℤ pos behind)
-distance_fits target behind t b = omega (arith, ints)
+distance_fits : (target following : ℕ) → target ≤ 1048576 → following ≤ 1048576 → FitsSigned w32 (pos target -ℤ pos following)
+distance_fits target following t b = omega (arith, ints)
 
-branch_fits : (branch : Branch) (target behind : ℕ) → target ≤ 1048576 → behind ≤ 1048576 → IsPiece (Instruction (branch_to branch (pos target -ℤ pos behind)))
-branch_fits branches.Call target behind t b = distance_fits target behind t b
-branch_fits branches.Jmp target behind t b = distance_fits target behind t b
-branch_fits branches.Jnz target behind t b = distance_fits target behind t b
+branch_fits : (branch : Branch) (target following : ℕ) → target ≤ 1048576 → following ≤ 1048576 → IsPiece (Instruction (branch_to branch (pos target -ℤ pos following)))
+branch_fits branches.Call target following t b = distance_fits target following t b
+branch_fits branches.Jmp target following t b = distance_fits target following t b
+branch_fits branches.Jnz target following t b = distance_fits target following t b
 
 target_within : (o : Option ℕ) → ((place : ℕ) → o ≡ Some place → place ≤ 1048576) → unwrap_or o 0 ≤ 1048576
 target_within None h = omega arith
@@ -33,65 +33,65 @@ target_within (Some place) h = h place refl
 module _ (all : List Placed) (lie : AllLie 1048576 all) where
   -- the parts are pieces whose fields fit
   Fit : ℕ → List Part → Type 0
-  Fit behind parts = AllByRecursion IsPiece (map (piece_of all behind) parts)
+  Fit following parts = AllByRecursion IsPiece (map (piece_of all following) parts)
 
-  sled_fits : (behind place : ℕ) (sled : Piece) → IsPiece sled → Fit behind (aligned place sled)
+  sled_fits : (following place : ℕ) (sled : Piece) → IsPiece sled → Fit following (aligned place sled)
   unfolding Fit
-  sled_fits behind place sled h =
-      elim (eqb (place % 2) 0) as (λ t. AllByRecursion IsPiece (map (piece_of all behind) (cond t (Fixed sled ∷ []) (Fixed Align ∷ Fixed sled ∷ [])))) [
+  sled_fits following place sled h =
+      elim (eqb (place % 2) 0) as (λ t. AllByRecursion IsPiece (map (piece_of all following) (cond t (Fixed sled ∷ []) (Fixed Align ∷ Fixed sled ∷ [])))) [
         | true ↦ (h, tt)
         | false ↦ (tt, (h, tt))
       ]
 
-  jump_fits : (behind : ℕ) (branch : Branch) (name : List ℕ) → behind ≤ 1048576 → IsPiece (piece_of all behind (Jump branch name))
-  jump_fits behind branch name within = branch_fits branch (unwrap_or (place_of name all) 0) behind (target_within (place_of name all) (name_within 1048576 all lie name)) within
+  jump_fits : (following : ℕ) (branch : Branch) (name : List ℕ) → following ≤ 1048576 → IsPiece (piece_of all following (Jump branch name))
+  jump_fits following branch name within = branch_fits branch (unwrap_or (place_of name all) 0) following (target_within (place_of name all) (name_within 1048576 all lie name)) within
 
-  sled_jump_fits : (behind place : ℕ) (sled : Piece) (branch : Branch) (name : List ℕ) → IsPiece sled → behind ≤ 1048576 → Fit behind (aligned place sled ++ Jump branch name ∷ [])
+  sled_jump_fits : (following place : ℕ) (sled : Piece) (branch : Branch) (name : List ℕ) → IsPiece sled → following ≤ 1048576 → Fit following (aligned place sled ++ Jump branch name ∷ [])
   unfolding Fit
-  sled_jump_fits behind place sled branch name h within =
-      elim (eqb (place % 2) 0) as (λ t. AllByRecursion IsPiece (map (piece_of all behind) (cond t (Fixed sled ∷ []) (Fixed Align ∷ Fixed sled ∷ []) ++ Jump branch name ∷ []))) [
-        | true ↦ (h, (jump_fits behind branch name within, tt))
-        | false ↦ (tt, (h, (jump_fits behind branch name within, tt)))
+  sled_jump_fits following place sled branch name h within =
+      elim (eqb (place % 2) 0) as (λ t. AllByRecursion IsPiece (map (piece_of all following) (cond t (Fixed sled ∷ []) (Fixed Align ∷ Fixed sled ∷ []) ++ Jump branch name ∷ []))) [
+        | true ↦ (h, (jump_fits following branch name within, tt))
+        | false ↦ (tt, (h, (jump_fits following branch name within, tt)))
       ]
 
   shift_fits : sled_shift < 4294967296
   shift_fits = omega arith
 
-  plain_fits : (behind : ℕ) (operation : Operation) → OperationFits operation → behind ≤ 1048576 → Fit behind (plain_parts operation)
+  plain_fits : (following : ℕ) (operation : Operation) → OperationFits operation → following ≤ 1048576 → Fit following (plain_parts operation)
   unfolding Fit
-  plain_fits behind (Plain instr) fit within = (fit, tt)
-  plain_fits behind (Go branch name) fit within = (jump_fits behind branch name within, tt)
-  plain_fits behind (TailJump name) fit within = (jump_fits behind branches.Jmp name within, tt)
-  plain_fits behind Return fit within = (tt, tt)
+  plain_fits following (Plain instr) fit within = (fit, tt)
+  plain_fits following (Go branch name) fit within = (jump_fits following branch name within, tt)
+  plain_fits following (TailJump name) fit within = (jump_fits following branches.Jmp name within, tt)
+  plain_fits following Return fit within = (tt, tt)
 
-  traced_fits : (behind place : ℕ) (operation : Operation) → OperationFits operation → behind ≤ 1048576 → Fit behind (traced_parts place operation)
+  traced_fits : (following place : ℕ) (operation : Operation) → OperationFits operation → following ≤ 1048576 → Fit following (traced_parts place operation)
   unfolding Fit
-  traced_fits behind place (Plain instr) fit within = (fit, tt)
-  traced_fits behind place (Go branch name) fit within = (jump_fits behind branch name within, tt)
-  traced_fits behind place (TailJump name) fit within = sled_jump_fits behind place (JumpSled sled_shift) branches.Jmp name shift_fits within
-  traced_fits behind place Return fit within = sled_fits behind place (ReturnSled sled_shift) shift_fits
+  traced_fits following place (Plain instr) fit within = (fit, tt)
+  traced_fits following place (Go branch name) fit within = (jump_fits following branch name within, tt)
+  traced_fits following place (TailJump name) fit within = sled_jump_fits following place (JumpSled sled_shift) branches.Jmp name shift_fits within
+  traced_fits following place Return fit within = sled_fits following place (ReturnSled sled_shift) shift_fits
 
-  line_fits : (traced : Bool) (behind place : ℕ) (s : Statement) → Fits s → behind ≤ 1048576 → Fit behind (parts_of traced place s)
+  line_fits : (traced : Bool) (following place : ℕ) (s : Statement) → Fits s → following ≤ 1048576 → Fit following (parts_of traced place s)
   unfolding Fit
-  line_fits traced behind place (Base address) fit within = tt
-  line_fits traced behind place (Entry name) fit within = tt
-  line_fits true behind place (Func name choice) fit within = sled_fits behind place (JumpSled sled_shift) shift_fits
-  line_fits false behind place (Func name choice) fit within = tt
-  line_fits traced behind place (Label name) fit within = tt
-  line_fits true behind place (Does operation) fit within = traced_fits behind place operation fit within
-  line_fits false behind place (Does operation) fit within = plain_fits behind operation fit within
+  line_fits traced following place (Base address) fit within = tt
+  line_fits traced following place (Entry name) fit within = tt
+  line_fits true following place (Func name choice) fit within = sled_fits following place (JumpSled sled_shift) shift_fits
+  line_fits false following place (Func name choice) fit within = tt
+  line_fits traced following place (Label name) fit within = tt
+  line_fits true following place (Does operation) fit within = traced_fits following place operation fit within
+  line_fits false following place (Does operation) fit within = plain_fits following operation fit within
 
   lines_fit : (chosen : Choosing) (place : ℕ) (owner : Owner) (lines : Lines) → AllFit lines → place + widths (flat_map parts_at (placed_from chosen place owner lines)) ≤ 1048576
       → AllByRecursion IsPiece (flat_map (line_pieces all) (placed_from chosen place owner lines))
   unfolding Fit
   lines_fit chosen place owner [] fit within = tt
-  lines_fit chosen place owner (line ∷ behind) fit within =
-      let here = owner_of chosen place owner line.1 behind in
+  lines_fit chosen place owner (line ∷ following) fit within =
+      let here = owner_of chosen place owner line.1 following in
       let xs = parts_of here.traced place line.1 in
-      let left = placed_from chosen (place + widths xs) here behind in
+      let left = placed_from chosen (place + widths xs) here following in
       let more : place + widths xs + widths (flat_map parts_at left) ≤ 1048576 = omega (arith, within, sum_by-append width xs (flat_map parts_at left)) in
       let first : Fit (place + widths xs) xs = line_fits here.traced (place + widths xs) place line.1 fit.0 (omega (arith, more)) in
-      all_both IsPiece (map (piece_of all (place + widths xs)) xs) (flat_map (line_pieces all) left) first (lines_fit chosen (place + widths xs) here behind fit.1 more)
+      all_both IsPiece (map (piece_of all (place + widths xs)) xs) (flat_map (line_pieces all) left) first (lines_fit chosen (place + widths xs) here following fit.1 more)
 
 -- the whole code
 pub code_is_units : (chosen : Choosing) (said : Lines) → AllFit said → widths (all_parts chosen said) ≤ 1048576

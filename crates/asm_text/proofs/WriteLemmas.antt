@@ -27,11 +27,11 @@ function_some base p (Does operation) = refl
 
 pub length-functions : (base : ℕ) (all : List Placed) → length (functions base all) ≡ length (functions 0 all)
 length-functions base [] = refl
-length-functions base (p ∷ behind) =
-    length_cons (function_in base p p.statement) (functions base behind)
-    ∙ ap (λ b. cond b 1 0 + length (functions base behind)) (function_some base p p.statement)
-    ∙ ap (λ n. cond (is_some (function_in 0 p p.statement)) 1 0 + n) (length-functions base behind)
-    ∙ sym (length_cons (function_in 0 p p.statement) (functions 0 behind))
+length-functions base (p ∷ following) =
+    length_cons (function_in base p p.statement) (functions base following)
+    ∙ ap (λ b. cond b 1 0 + length (functions base following)) (function_some base p p.statement)
+    ∙ ap (λ n. cond (is_some (function_in 0 p p.statement)) 1 0 + n) (length-functions base following)
+    ∙ sym (length_cons (function_in 0 p p.statement) (functions 0 following))
 
 entry_some : (base : ℕ) (p : Placed) → is_some (entry_in base p) ≡ is_some (entry_in 0 p)
 entry_some base p = elim p.owner.traced as (λ t. is_some (cond t (option_map (entry_for base) (sled_kind p.statement)) None) ≡ is_some (cond t (option_map (entry_for 0) (sled_kind p.statement)) None)) [
@@ -48,11 +48,11 @@ entry_some base p = elim p.owner.traced as (λ t. is_some (cond t (option_map (e
 
 pub length-map_entries : (base : ℕ) (all : List Placed) → length (map_entries base all) ≡ length (map_entries 0 all)
 length-map_entries base [] = refl
-length-map_entries base (p ∷ behind) =
-    length_cons (entry_in base p) (map_entries base behind)
-    ∙ ap (λ b. cond b 1 0 + length (map_entries base behind)) (entry_some base p)
-    ∙ ap (λ n. cond (is_some (entry_in 0 p)) 1 0 + n) (length-map_entries base behind)
-    ∙ sym (length_cons (entry_in 0 p) (map_entries 0 behind))
+length-map_entries base (p ∷ following) =
+    length_cons (entry_in base p) (map_entries base following)
+    ∙ ap (λ b. cond b 1 0 + length (map_entries base following)) (entry_some base p)
+    ∙ ap (λ n. cond (is_some (entry_in 0 p)) 1 0 + n) (length-map_entries base following)
+    ∙ sym (length_cons (entry_in 0 p) (map_entries 0 following))
 
 position_front : (name : List ℕ) (base : ℕ) (p : Placed) (s : Statement) (fs gs : List Function)
     → position_or_len (λ f. bytes_eq f.name name) fs ≡ position_or_len (λ f. bytes_eq f.name name) gs
@@ -66,7 +66,7 @@ position_front name base p (Does operation) fs gs h = h
 pub position-functions : (name : List ℕ) (base : ℕ) (all : List Placed)
     → position_or_len (λ f. bytes_eq f.name name) (functions base all) ≡ position_or_len (λ f. bytes_eq f.name name) (functions 0 all)
 position-functions name base [] = refl
-position-functions name base (p ∷ behind) = position_front name base p p.statement (functions base behind) (functions 0 behind) (position-functions name base behind)
+position-functions name base (p ∷ following) = position_front name base p p.statement (functions base following) (functions 0 following) (position-functions name base following)
 
 number_same : (o : Option (List ℕ)) (base : ℕ) (all : List Placed) → number_of_function o (functions base all) ≡ number_of_function o (functions 0 all)
 number_same None base all = refl

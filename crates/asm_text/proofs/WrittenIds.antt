@@ -67,10 +67,10 @@ module _ (threshold base : ℕ) where
   Counts said = (place : ℕ) (owner : Owner) (seen : List ℕ) → IsKnown base place owner seen → counted place owner seen said ≡ function_count said
 
   -- the entries of the lines after a line, and the sled's entry of a line that has one
-  abbrev entries_behind : (place : ℕ) → Owner → Statement → Lines → List MapEntry
-  entries_behind place owner s behind =
-      let here = owner_of (by_threshold threshold) place owner s behind in
-      map_entries base (placed_from (by_threshold threshold) (place + widths (parts_of here.traced place s)) here behind)
+  abbrev entries_after : (place : ℕ) → Owner → Statement → Lines → List MapEntry
+  entries_after place owner s following =
+      let here = owner_of (by_threshold threshold) place owner s following in
+      map_entries base (placed_from (by_threshold threshold) (place + widths (parts_of here.traced place s)) here following)
 
   abbrev entry_at : (place : ℕ) → Owner → (kind : ℕ) → MapEntry
   entry_at place owner kind = record {
@@ -86,25 +86,25 @@ module _ (threshold base : ℕ) where
       → length (distinct seen (functions_in (cons_option made entries))) ≡ length (distinct seen (functions_in entries))
   adds_none place owner seen made entries e = ap (λ m. length (distinct seen (functions_in (cons_option m entries)))) e
 
-  one : (place : ℕ) (owner : Owner) (seen : List ℕ) (number : ℕ) (s : Statement) (behind : Lines) → IsKnown base place owner seen
-      → is_always_function s ≡ true → Counts behind
-      → counted place owner seen ((number, s) ∷ behind) ≡ cond (is_function s) 1 0 + function_count behind
-  one place owner seen number (Base address) behind known always rest =
-      adds_none place owner seen (cond owner.traced (option_map (λ kind. entry_at place owner kind) None) None) (entries_behind place owner (Base address) behind) (no_entry owner.traced (λ kind. entry_at place owner kind))
+  one : (place : ℕ) (owner : Owner) (seen : List ℕ) (number : ℕ) (s : Statement) (following : Lines) → IsKnown base place owner seen
+      → is_always_function s ≡ true → Counts following
+      → counted place owner seen ((number, s) ∷ following) ≡ cond (is_function s) 1 0 + function_count following
+  one place owner seen number (Base address) following known always rest =
+      adds_none place owner seen (cond owner.traced (option_map (λ kind. entry_at place owner kind) None) None) (entries_after place owner (Base address) following) (no_entry owner.traced (λ kind. entry_at place owner kind))
       ∙ rest (place + 0) owner seen (further base place 0 owner seen known) ∙ omega arith
-  one place owner seen number (Entry name) behind known always rest =
-      adds_none place owner seen (cond owner.traced (option_map (λ kind. entry_at place owner kind) None) None) (entries_behind place owner (Entry name) behind) (no_entry owner.traced (λ kind. entry_at place owner kind))
+  one place owner seen number (Entry name) following known always rest =
+      adds_none place owner seen (cond owner.traced (option_map (λ kind. entry_at place owner kind) None) None) (entries_after place owner (Entry name) following) (no_entry owner.traced (λ kind. entry_at place owner kind))
       ∙ rest (place + 0) owner seen (further base place 0 owner seen known) ∙ omega arith
-  one place owner seen number (Label name) behind known always rest =
-      adds_none place owner seen (cond owner.traced (option_map (λ kind. entry_at place owner kind) None) None) (entries_behind place owner (Label name) behind) (no_entry owner.traced (λ kind. entry_at place owner kind))
+  one place owner seen number (Label name) following known always rest =
+      adds_none place owner seen (cond owner.traced (option_map (λ kind. entry_at place owner kind) None) None) (entries_after place owner (Label name) following) (no_entry owner.traced (λ kind. entry_at place owner kind))
       ∙ rest (place + 0) owner seen (further base place 0 owner seen known) ∙ omega arith
-  one place owner seen number (Func name ByLength) behind known always rest = absurd (cc always)
-  one place owner seen number (Func name Never) behind known always rest = absurd (cc always)
-  one place owner seen number (Func name Always) behind known always rest =
+  one place owner seen number (Func name ByLength) following known always rest = absurd (cc always)
+  one place owner seen number (Func name Never) following known always rest = absurd (cc always)
+  one place owner seen number (Func name Always) following known always rest =
       let start = base + (place + place % 2) in
       let here : Owner = record { traced = true; always = true; start = place + place % 2 } in
       let width = widths (parts_of true place (Func name Always)) in
-      let left = functions_in (entries_behind place owner (Func name Always) behind) in
+      let left = functions_in (entries_after place owner (Func name Always) following) in
       let fresh : list_any (λ y. y == start) seen ≡ false = not_seen start seen (weaker (base + place) start seen (omega arith) known.below) in
       let known_then : IsKnown base (place + width) here (start ∷ seen) = record {
         own = λ h. or_left (start == start) (list_any (λ y. y == start) seen) (eq-eqb start start refl);
@@ -112,29 +112,29 @@ module _ (threshold base : ℕ) where
       } in
       ap (λ t. length (cond t (distinct seen left) (start ∷ distinct (start ∷ seen) left))) fresh
       ∙ (let more = rest (place + width) here (start ∷ seen) known_then in omega (arith, more))
-  one place owner seen number (Does (Plain instr)) behind known always rest =
+  one place owner seen number (Does (Plain instr)) following known always rest =
       let width = widths (parts_of owner.traced place (Does (Plain instr))) in
-      adds_none place owner seen (cond owner.traced (option_map (λ kind. entry_at place owner kind) None) None) (entries_behind place owner (Does (Plain instr)) behind) (no_entry owner.traced (λ kind. entry_at place owner kind))
+      adds_none place owner seen (cond owner.traced (option_map (λ kind. entry_at place owner kind) None) None) (entries_after place owner (Does (Plain instr)) following) (no_entry owner.traced (λ kind. entry_at place owner kind))
       ∙ rest (place + width) owner seen (further base place width owner seen known) ∙ omega arith
-  one place owner seen number (Does (Go branch name)) behind known always rest =
+  one place owner seen number (Does (Go branch name)) following known always rest =
       let width = widths (parts_of owner.traced place (Does (Go branch name))) in
-      adds_none place owner seen (cond owner.traced (option_map (λ kind. entry_at place owner kind) None) None) (entries_behind place owner (Does (Go branch name)) behind) (no_entry owner.traced (λ kind. entry_at place owner kind))
+      adds_none place owner seen (cond owner.traced (option_map (λ kind. entry_at place owner kind) None) None) (entries_after place owner (Does (Go branch name)) following) (no_entry owner.traced (λ kind. entry_at place owner kind))
       ∙ rest (place + width) owner seen (further base place width owner seen known) ∙ omega arith
-  one place owner seen number (Does (TailJump name)) behind known always rest =
+  one place owner seen number (Does (TailJump name)) following known always rest =
       let width = widths (parts_of owner.traced place (Does (TailJump name))) in
-      ap length (maybe_seen owner.traced seen (entry_at place owner 2) (entries_behind place owner (Does (TailJump name)) behind) known.own)
+      ap length (maybe_seen owner.traced seen (entry_at place owner 2) (entries_after place owner (Does (TailJump name)) following) known.own)
       ∙ rest (place + width) owner seen (further base place width owner seen known) ∙ omega arith
-  one place owner seen number (Does Return) behind known always rest =
+  one place owner seen number (Does Return) following known always rest =
       let width = widths (parts_of owner.traced place (Does Return)) in
-      ap length (maybe_seen owner.traced seen (entry_at place owner 1) (entries_behind place owner (Does Return) behind) known.own)
+      ap length (maybe_seen owner.traced seen (entry_at place owner 1) (entries_after place owner (Does Return) following) known.own)
       ∙ rest (place + width) owner seen (further base place width owner seen known) ∙ omega arith
 
   ids : (said : Lines) → list_all (λ line. is_always_function line.1) said ≡ true → Counts said
   ids [] always place owner seen known = omega arith
-  ids ((number, s) ∷ behind) always place owner seen known =
-      let parts = and_parts (is_always_function s) (list_all (λ line. is_always_function line.1) behind) always in
-      one place owner seen number s behind known parts.0 (ids behind parts.1)
-      ∙ omega (arith, sum_by-cons (λ (line : ℕ × Statement). cond (is_function line.1) 1 0) (number, s) behind)
+  ids ((number, s) ∷ following) always place owner seen known =
+      let parts = and_parts (is_always_function s) (list_all (λ line. is_always_function line.1) following) always in
+      one place owner seen number s following known parts.0 (ids following parts.1)
+      ∙ omega (arith, sum_by-cons (λ (line : ℕ × Statement). cond (is_function line.1) 1 0) (number, s) following)
 
 pub all_have_ids : AllHaveIds
 all_have_ids threshold said always =

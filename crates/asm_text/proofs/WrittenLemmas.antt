@@ -70,12 +70,12 @@ line_short false place (Does Return) = (omega arith, omega arith)
 lines_short : (chosen : Choosing) (place : ℕ) (owner : Owner) (said : Lines)
     → (widths (flat_map parts_at (placed_from chosen place owner said)) ≤ 18 * length said) × (sum_by sleds_of (flat_map parts_at (placed_from chosen place owner said)) ≤ length said)
 lines_short chosen place owner [] = (omega arith, omega arith)
-lines_short chosen place owner (line ∷ behind) =
-    let here = owner_of chosen place owner line.1 behind in
+lines_short chosen place owner (line ∷ following) =
+    let here = owner_of chosen place owner line.1 following in
     let xs = parts_of here.traced place line.1 in
-    let ys = flat_map parts_at (placed_from chosen (place + widths xs) here behind) in
+    let ys = flat_map parts_at (placed_from chosen (place + widths xs) here following) in
     let one = line_short here.traced place line.1 in
-    let more = lines_short chosen (place + widths xs) here behind in
+    let more = lines_short chosen (place + widths xs) here following in
     (omega (arith, one.0, more.0, sum_by-append width xs ys), omega (arith, one.1, more.1, sum_by-append sleds_of xs ys))
 
 few_fit : (said : Lines) → length said ≤ 1024 → exceeds_limits said ≡ false
@@ -131,19 +131,19 @@ module _ (texts : WordsRead) where
   lines_read said before number [] (s ∷ statements) says orderly few is = absurd says
   lines_read said before number (words ∷ all) [] says orderly few is = absurd says
   lines_read said before number (words ∷ all) (s ∷ statements) says orderly few is =
-      let behind = enumerate_from (number + 1) statements in
-      let room : length before < 1024 = omega (arith, few, ap length is, length-append before ((number, s) ∷ behind)) in
+      let following = enumerate_from (number + 1) statements in
+      let room : length before < 1024 = omega (arith, few, ap length is, length-append before ((number, s) ∷ following)) in
       let left = enumerate_from (number + 1) (map written_line all) in
-      ap (λ r. r >>= λ ls. read_lines ls left) (line_read before number words s says.0 (orderly.follows before (number, s) behind is) room)
-      ∙ lines_read said (before ++ (number, s) ∷ []) (number + 1) all statements says.1 orderly few (is ∙ sym (append_assoc before ((number, s) ∷ []) behind))
+      ap (λ r. r >>= λ ls. read_lines ls left) (line_read before number words s says.0 (orderly.follows before (number, s) following is) room)
+      ∙ lines_read said (before ++ (number, s) ∷ []) (number + 1) all statements says.1 orderly few (is ∙ sym (append_assoc before ((number, s) ∷ []) following))
 
 -- ---- the end
 
-all_resolved : (said before behind : Lines) → IsOrderly said → said ≡ before ++ behind → resolved said behind ≡ Ok said
+all_resolved : (said before following : Lines) → IsOrderly said → said ≡ before ++ following → resolved said following ≡ Ok said
 all_resolved said before [] orderly is = refl
-all_resolved said before (line ∷ behind) orderly is =
-    ap (λ t. cond t (Err (faults.Label line.0)) (resolved said behind)) (orderly.resolved before line behind is)
-    ∙ all_resolved said (before ++ line ∷ []) behind orderly (is ∙ sym (append_assoc before (line ∷ []) behind))
+all_resolved said before (line ∷ following) orderly is =
+    ap (λ t. cond t (Err (faults.Label line.0)) (resolved said following)) (orderly.resolved before line following is)
+    ∙ all_resolved said (before ++ line ∷ []) following orderly (is ∙ sym (append_assoc before (line ∷ []) following))
 
 end_read : (number : ℕ) (said : Lines) → IsOrderly said → ended number said ≡ Ok said
 end_read number said orderly =

@@ -63,19 +63,19 @@ says words.Jnz (name ∷ []) = option_map (λ n. Does (Go branches.Jnz n)) (name
 says words.TailJump (name ∷ []) = option_map (λ n. Does (TailJump n)) (name_of name)
 says words.Ret [] = Some (Does Return)
 says words.Out (number ∷ []) = option_map (λ n. Does (Plain (instrs.Out n))) (number_of number)
-says keyword behind = None
+says keyword following = None
 
 -- a label: a name and a colon (58), by itself in a line
 abbrev pub label_of : List ℕ → List (List ℕ) → Option Statement
 label_of word [] = option_map Label (option_and_then name_of (before_end 58 word))
-label_of word (next ∷ behind) = None
+label_of word (next ∷ following) = None
 
 -- a line that begins with a keyword, or a label
 abbrev pub line_of : Option Keyword → List ℕ → List (List ℕ) → Option Statement
-line_of (Some keyword) word behind = says keyword behind
-line_of None word behind = label_of word behind
+line_of (Some keyword) word following = says keyword following
+line_of None word following = label_of word following
 
 -- what the words of a line say
 abbrev pub statement_of : List (List ℕ) → Option Statement
 statement_of [] = None
-statement_of (word ∷ behind) = line_of (keyword_of word) word behind
+statement_of (word ∷ following) = line_of (keyword_of word) word following

@@ -78,8 +78,8 @@ is_instruction statement = false
 -- how many instruction lines there are before the next function
 abbrev pub instruction_lines : Lines → ℕ
 instruction_lines [] = 0
-instruction_lines (line ∷ behind) =
-    if is_function line.1 then 0 else if is_instruction line.1 then suc (instruction_lines behind) else instruction_lines behind
+instruction_lines (line ∷ following) =
+    if is_function line.1 then 0 else if is_instruction line.1 then suc (instruction_lines following) else instruction_lines following
 
 -- which functions are instrumented, by what they say and by their numbers of instruction lines
 abbrev pub Choosing : Type 0
@@ -120,11 +120,11 @@ function_at traced choice place =
 
 -- the function that a line belongs to, by that of the line before it and by the lines after it
 abbrev pub owner_of : Choosing → ℕ → Owner → Statement → Lines → Owner
-owner_of chosen place owner (Base address) behind = owner
-owner_of chosen place owner (Entry name) behind = owner
-owner_of chosen place owner (Func name choice) behind = function_at (chosen choice (instruction_lines behind)) choice place
-owner_of chosen place owner (Label name) behind = owner
-owner_of chosen place owner (Does operation) behind = owner
+owner_of chosen place owner (Base address) following = owner
+owner_of chosen place owner (Entry name) following = owner
+owner_of chosen place owner (Func name choice) following = function_at (chosen choice (instruction_lines following)) choice place
+owner_of chosen place owner (Label name) following = owner
+owner_of chosen place owner (Does operation) following = owner
 
 -- a line with its function and the place where it begins
 pub record Placed : Type 0 where
@@ -139,10 +139,10 @@ parts_at p = parts_of p.owner.traced p.place p.statement
 -- the first line begins at 0, and each other one after the parts of the line before it
 abbrev pub placed_from : Choosing → ℕ → Owner → Lines → List Placed
 placed_from chosen place owner [] = []
-placed_from chosen place owner (line ∷ behind) =
-    let here = owner_of chosen place owner line.1 behind in
+placed_from chosen place owner (line ∷ following) =
+    let here = owner_of chosen place owner line.1 following in
     record { line = line.0; statement = line.1; owner = here; place = place }
-    ∷ placed_from chosen (place + widths (parts_of here.traced place line.1)) here behind
+    ∷ placed_from chosen (place + widths (parts_of here.traced place line.1)) here following
 
 abbrev pub placed : Choosing → Lines → List Placed
 placed chosen lines = placed_from chosen 0 no_owner lines
@@ -188,7 +188,7 @@ next_place lines = slice_get (filter_map own_place lines) 0
 -- the place of a name: a function's start, or for a label the place of the next instruction line or function after it
 abbrev pub place_of : List ℕ → List Placed → Option ℕ
 place_of name [] = None
-place_of name (p ∷ behind) = if defines name p.statement then next_place (p ∷ behind) else place_of name behind
+place_of name (p ∷ following) = if defines name p.statement then next_place (p ∷ following) else place_of name following
 
 -- ---- the program
 
@@ -199,9 +199,9 @@ branch_to branches.Jnz rel = instrs.Jnz rel
 
 -- A part as a unit. A branch is the last part of its line, so its distance counts from the end of the line.
 abbrev pub piece_of : List Placed → ℕ → Part → Piece
-piece_of lines behind (Fixed piece) = piece
-piece_of lines behind (Jump branch name) =
-    Instruction (branch_to branch (pos (unwrap_or (place_of name lines) 0) -ℤ pos behind))
+piece_of lines following (Fixed piece) = piece
+piece_of lines following (Jump branch name) =
+    Instruction (branch_to branch (pos (unwrap_or (place_of name lines) 0) -ℤ pos following))
 
 abbrev pub line_pieces : List Placed → Placed → List Piece
 line_pieces lines p = map (piece_of lines (p.place + widths (parts_at p))) (parts_at p)

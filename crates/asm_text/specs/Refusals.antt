@@ -137,16 +137,16 @@ is_missing lines (Some name) = not (is_defined name lines)
 
 -- an entry that names no function, a label with no instruction line or function after it, or a name that isn't defined
 abbrev pub is_unresolved : Lines → Statement → Lines → Bool
-is_unresolved lines (Base address) behind = false
-is_unresolved lines (Entry name) behind = not (list_any (λ line. names_function name line.1) lines)
-is_unresolved lines (Func name choice) behind = false
-is_unresolved lines (Label name) behind = not (list_any (λ line. is_function line.1 || is_instruction line.1) behind)
-is_unresolved lines (Does operation) behind = is_missing lines (name_in operation)
+is_unresolved lines (Base address) following = false
+is_unresolved lines (Entry name) following = not (list_any (λ line. names_function name line.1) lines)
+is_unresolved lines (Func name choice) following = false
+is_unresolved lines (Label name) following = not (list_any (λ line. is_function line.1 || is_instruction line.1) following)
+is_unresolved lines (Does operation) following = is_missing lines (name_in operation)
 
 -- all lines, or the refusal of the first line among those left that is unresolved
 abbrev pub resolved : Lines → Lines → Result Lines AsmFault
 resolved lines [] = Ok lines
-resolved lines (line ∷ behind) = First (is_unresolved lines line.1 behind) (Err (Unresolved line.0)) (resolved lines behind)
+resolved lines (line ∷ following) = First (is_unresolved lines line.1 following) (Err (Unresolved line.0)) (resolved lines following)
 
 abbrev pub ended : ℕ → Lines → Result Lines AsmFault
 ended number lines = First (ends_early lines) (Err (Syntax number)) (resolved lines lines)

@@ -25,8 +25,8 @@ pub record MayFollow (before : Lines) (statement : Statement) : Type 0 where
 
 -- each line may follow those before it, each name is defined, and the last function has an instruction line
 pub record IsOrderly (said : Lines) : Type 0 where
-  pub follows : (before : Lines) (line : ℕ × Statement) (behind : Lines) → said ≡ before ++ line ∷ behind → MayFollow before line.1
-  pub resolved : (before : Lines) (line : ℕ × Statement) (behind : Lines) → said ≡ before ++ line ∷ behind → is_unresolved said line.1 behind ≡ false
+  pub follows : (before : Lines) (line : ℕ × Statement) (following : Lines) → said ≡ before ++ line ∷ following → MayFollow before line.1
+  pub resolved : (before : Lines) (line : ℕ × Statement) (following : Lines) → said ≡ before ++ line ∷ following → is_unresolved said line.1 following ≡ false
   pub ends : ends_early said ≡ false
 
 -- Lines in order say what is written in them, if there are no more of them than functions may be. So few lines exceed no

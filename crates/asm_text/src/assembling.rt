@@ -3,8 +3,7 @@
 ghost use Rattle.std.specs.Prelude.{◌≡◌, ◌<◌, ◌⊎◌, length, IfOk};
 ghost use Rattle.std.specs.Str.Lines.{lines};
 ghost use Rattle.asm_text.specs.declared.fault.AsmFault.TheVariants.{NoMemory};
-ghost use Rattle.asm_text.specs.Assembling.{assembled, seen};
-ghost use Rattle.asm_text.specs.Programs.{IsProgramOf};
+ghost use Rattle.asm_text.specs.{Assembling.{assembled, seen}, Programs.{IsProgramOf}};
 
 use crate::ending::resolve;
 use crate::fault::AsmFault;

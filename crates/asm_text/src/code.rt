@@ -49,13 +49,13 @@ fn push_sled(out: &mut Vec<u8>, place: u32, head: &[u8; 2]) -> Result<(), AllocE
     push_filled(out, head)
 }
 
-/// A branch to a target. The distance counts from the place after the branch, which is `behind`.
-fn branch(branch: Branch, target: u32, behind: u32) -> Instr
+/// A branch to a target. The distance counts from the place after the branch, which is `following`.
+fn branch(branch: Branch, target: u32, following: u32) -> Instr
     requires target { target ≤ CODE_LIMIT }
-    requires behind { behind ≤ 2 * CODE_LIMIT }
-    ensures { result ≡ branch_to branch (pos target -ℤ pos behind) }
+    requires following { following ≤ 2 * CODE_LIMIT }
+    ensures { result ≡ branch_to branch (pos target -ℤ pos following) }
 {
-    let rel = target as i32 - behind as i32;
+    let rel = target as i32 - following as i32;
     match branch {
         Branch::Call => Instr::Call { rel },
         Branch::Jmp => Instr::Jmp { rel },
@@ -69,14 +69,14 @@ fn push_branch(
     text: &LaidText,
     kind: Branch,
     name: &[u8],
-    behind: u32,
+    following: u32,
 ) -> Result<(), AllocError>
     requires text { IsLaidText text.now }
-    requires behind { behind ≤ 2 * CODE_LIMIT }
+    requires following { following ≤ 2 * CODE_LIMIT }
     ensures { OnOk result (out.new.items ≡ out.old.items
-        ++ piece_bytes (piece_of (all_in text.now) behind (Jump kind name.now))) }
+        ++ piece_bytes (piece_of (all_in text.now) following (Jump kind name.now))) }
 {
-    push_instr(out, &branch(kind, text.target_of(name), behind))
+    push_instr(out, &branch(kind, text.target_of(name), following))
 }
 
 /// Adds an instruction line of a function that isn't instrumented.
@@ -84,17 +84,17 @@ fn push_plain(
     out: &mut Vec<u8>,
     text: &LaidText,
     operation: &Operation,
-    behind: u32,
+    following: u32,
 ) -> Result<(), AllocError>
     requires text { IsLaidText text.now }
-    requires behind { behind ≤ 2 * CODE_LIMIT }
+    requires following { following ≤ 2 * CODE_LIMIT }
     ensures { OnOk result (out.new.items ≡ out.old.items
-        ++ parts_bytes (all_in text.now) behind (plain_parts (operation_checked operation.now))) }
+        ++ parts_bytes (all_in text.now) following (plain_parts (operation_checked operation.now))) }
 {
     match operation {
         Operation::Plain(plain) => push_instr(out, &plain.instr()),
-        Operation::Go { branch, name } => push_branch(out, text, *branch, *name, behind),
-        Operation::TailJump { name } => push_branch(out, text, Branch::Jmp, *name, behind),
+        Operation::Go { branch, name } => push_branch(out, text, *branch, *name, following),
+        Operation::TailJump { name } => push_branch(out, text, Branch::Jmp, *name, following),
         Operation::Return => push_instr(out, &Instr::Ret),
     }
 }
@@ -105,19 +105,19 @@ fn push_traced(
     text: &LaidText,
     place: u32,
     operation: &Operation,
-    behind: u32,
+    following: u32,
 ) -> Result<(), AllocError>
     requires text { IsLaidText text.now }
-    requires behind { behind ≤ 2 * CODE_LIMIT }
+    requires following { following ≤ 2 * CODE_LIMIT }
     ensures { OnOk result (out.new.items ≡ out.old.items
-        ++ parts_bytes (all_in text.now) behind
+        ++ parts_bytes (all_in text.now) following
         (traced_parts place (operation_checked operation.now))) }
 {
     match operation {
-        Operation::Plain(_) | Operation::Go { .. } => push_plain(out, text, operation, behind),
+        Operation::Plain(_) | Operation::Go { .. } => push_plain(out, text, operation, following),
         Operation::TailJump { name } => {
             push_sled(out, place, &JUMP_HEAD)?;
-            push_branch(out, text, Branch::Jmp, *name, behind)
+            push_branch(out, text, Branch::Jmp, *name, following)
         }
         Operation::Return => push_sled(out, place, &RETURN_HEAD),
     }
@@ -132,13 +132,13 @@ fn push_line(out: &mut Vec<u8>, text: &LaidText, line: &Laid) -> Result<(), Allo
         ++ flat_map piece_bytes (line_pieces (all_in text.now) (line_placed line.now))) }
 {
     let traced = line.owner.traced;
-    let behind = line.place + line_width(traced, line.place, &line.statement);
+    let following = line.place + line_width(traced, line.place, &line.statement);
     match &line.statement {
         Statement::Function { .. } if traced => push_sled(out, line.place, &JUMP_HEAD),
         Statement::Does(operation) if traced => {
-            push_traced(out, text, line.place, operation, behind)
+            push_traced(out, text, line.place, operation, following)
         }
-        Statement::Does(operation) => push_plain(out, text, operation, behind),
+        Statement::Does(operation) => push_plain(out, text, operation, following),
         Statement::Base(_)
         | Statement::Entry(_)
         | Statement::Function { .. }

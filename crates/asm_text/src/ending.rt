@@ -1,7 +1,6 @@
 //! The refusals at the end of the text.
 
-ghost use Rattle.std.specs.Prelude.{◌≡◌, ◌∷◌, List, MatchResult, Ok, Err};
-ghost use Rattle.std.specs.List.{list_any};
+ghost use Rattle.std.specs.{Prelude.{◌≡◌, ◌∷◌, List, MatchResult, Ok, Err}, List.{list_any}};
 ghost use Rattle.asm_text.specs.Layout.{Placed, names_function, next_place};
 ghost use Rattle.asm_text.specs.Refusals.{is_unresolved, resolved};
 ghost use Rattle.asm_text.specs.private.FirstPass.{IsNames};
@@ -28,10 +27,10 @@ fn has_function(laid: &[Laid], name: &[u8]) -> bool
 /// Whether a line's name has no place. `target` is the place of the next instruction line or
 /// function, from this line on.
 fn is_unresolved(laid: &[Laid], names: &NameTable, line: &Laid, target: Option<u32>) -> bool
-    ensures { (behind : List Placed) → IsNames (lines_of (placed_in laid.now)) names.now
-        → target ≡ next_place (line_placed line.now ∷ behind)
+    ensures { (following : List Placed) → IsNames (lines_of (placed_in laid.now)) names.now
+        → target ≡ next_place (line_placed line.now ∷ following)
         → result ≡ is_unresolved (lines_of (placed_in laid.now)) (line_placed line.now).statement
-        (lines_of behind) }
+        (lines_of following) }
 {
     match &line.statement {
         Statement::Entry(name) => !has_function(laid, *name),

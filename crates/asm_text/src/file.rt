@@ -4,8 +4,7 @@ ghost use Rattle.std.specs.Prelude.{◌≡◌, ◌≤◌, ◌++◌, ◌∷◌, O
 ghost use Rattle.std.specs.List.{flat_map};
 ghost use Rattle.asm_text.specs.Layout.{functions, map_entries, sled_kind};
 ghost use Rattle.asm_text.specs.Writing.{function_bytes, entry_bytes};
-ghost use Rattle.asm_text.specs.private.Views.{statement_said};
-ghost use Rattle.asm_text.specs.private.Laying.{line_placed, placed_in};
+ghost use Rattle.asm_text.specs.private.{Views.{statement_said}, Laying.{line_placed, placed_in}};
 ghost use Rattle.asm_text.specs.private.Files.{function_line_bytes, sled_line_bytes, HasShortName, AreShortNames};
 
 use crate::fields::{push_addresses, push_u64};

@@ -3,10 +3,8 @@
 ghost use Rattle.std.specs.Prelude.{◌≡◌, ◌<◌, ℕ, List, [], ◌∷◌, ◌++◌, Some, option_copied, OnOk, IfOk, length, if◌then◌else◌};
 ghost use Rattle.std.specs.Str.Lines.{lines};
 ghost use Rattle.text_lines.specs.Lines.{numbered_lines};
-ghost use Rattle.asm_text.specs.Refusals.{repeats, with_line, read_lines};
-ghost use Rattle.asm_text.specs.Layout.{Lines as Said};
-ghost use Rattle.asm_text.specs.private.NameTables.{line_named};
-ghost use Rattle.asm_text.specs.private.Views.{statement_said};
+ghost use Rattle.asm_text.specs.{Refusals.{repeats, with_line, read_lines}, Layout.{Lines as Said}};
+ghost use Rattle.asm_text.specs.private.{NameTables.{line_named}, Views.{statement_said}};
 ghost use Rattle.asm_text.specs.private.Fits.{AllFit};
 ghost use Rattle.asm_text.specs.private.FirstPass.{lines_in, IsFirstPass, IsNames, Takes, Admits, Reads, is_named};
 

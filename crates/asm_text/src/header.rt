@@ -1,7 +1,6 @@
 //! The header of the image file.
 
-ghost use Rattle.std.specs.Prelude.{◌≡◌, ◌≤◌, ◌+◌, ◌++◌, OnOk, codes};
-ghost use Rattle.std.specs.List.{flat_map};
+ghost use Rattle.std.specs.{Prelude.{◌≡◌, ◌≤◌, ◌+◌, ◌++◌, OnOk, codes}, List.{flat_map}};
 ghost use Rattle.byteorder.specs.Endian.{little_bytes};
 ghost use Rattle.asm_text.specs.Writing.{header_of, trampolines_of};
 

@@ -36,10 +36,8 @@ impl LaidText<'_> {
 }
 
 impl<'a> LaidText<'a> {
-    ghost use Rattle.asm_text.specs.private.Fits.{AllFit};
-    ghost use Rattle.asm_text.specs.private.FirstPass.{lines_in, IsFirstPass};
-    ghost use Rattle.asm_text.specs.private.LaidTexts.{all_in};
-    ghost use Rattle.asm_text.specs.private.Files.{IsWritable};
+    ghost use Rattle.asm_text.specs.private.{Fits.{AllFit}, FirstPass.{lines_in, IsFirstPass}};
+    ghost use Rattle.asm_text.specs.private.{LaidTexts.{all_in}, Files.{IsWritable}};
 
     /// Lays out the lines that were read.
     pub(crate) fn new(

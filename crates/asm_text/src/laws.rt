@@ -2,10 +2,8 @@
 
 ghost use Rattle.std.specs.Prelude.{◌≡◌, List, ℕ, Ok, Some};
 ghost use Rattle.xray_image.specs.declared.sled.Sled.{Sled};
-ghost use Rattle.xray_image.specs.Ids.{name_of};
-ghost use Rattle.xray_image.specs.Program.{IsAccepted};
-ghost use Rattle.asm_text.specs.Layout.{Lines};
-ghost use Rattle.asm_text.specs.Writing.{file_bytes};
+ghost use Rattle.xray_image.specs.{Ids.{name_of}, Program.{IsAccepted}};
+ghost use Rattle.asm_text.specs.{Layout.{Lines}, Writing.{file_bytes}};
 ghost use Rattle.asm_text.specs.Assembling.{said_by, image_of};
 ghost use Rattle.asm_text.specs.Programs.{program_said, sled_at_line, function_over};
 

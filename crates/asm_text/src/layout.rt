@@ -2,8 +2,7 @@
 
 ghost use Rattle.std.specs.Prelude.{◌≡◌, ◌≤◌, IfOk};
 ghost use Rattle.asm_text.specs.Layout.{widths, all_parts, by_threshold, placed, owner_of, instruction_lines};
-ghost use Rattle.asm_text.specs.private.FirstPass.{lines_in};
-ghost use Rattle.asm_text.specs.private.Views.{statement_said};
+ghost use Rattle.asm_text.specs.private.{FirstPass.{lines_in}, Views.{statement_said}};
 ghost use Rattle.asm_text.specs.private.Laying.{owner_in, placed_in};
 
 use crate::first_pass::Entry;
@@ -51,13 +50,13 @@ fn instruction_lines(entries: &[Entry]) -> usize
 }
 
 /// Whether a function is instrumented, by what it says and by the lines after it.
-fn is_traced(threshold: u32, choice: Choice, behind: &[Entry]) -> bool
-    ensures { result ≡ by_threshold threshold choice (instruction_lines (lines_in behind.now)) }
+fn is_traced(threshold: u32, choice: Choice, following: &[Entry]) -> bool
+    ensures { result ≡ by_threshold threshold choice (instruction_lines (lines_in following.now)) }
 {
     match choice {
         Choice::Always => true,
         Choice::Never => false,
-        Choice::ByLength => threshold as usize <= instruction_lines(behind),
+        Choice::ByLength => threshold as usize <= instruction_lines(following),
     }
 }
 
@@ -67,15 +66,15 @@ fn line_owner(
     place: u32,
     owner: Owner,
     statement: &Statement,
-    behind: &[Entry],
+    following: &[Entry],
 ) -> Owner
     requires { place ≤ CODE_LIMIT }
     ensures { owner_in result ≡ owner_of (by_threshold threshold) place (owner_in owner)
-        (statement_said statement.now) (lines_in behind.now) }
+        (statement_said statement.now) (lines_in following.now) }
 {
     match statement {
         Statement::Function { choice, .. } => {
-            let traced = is_traced(threshold, *choice, behind);
+            let traced = is_traced(threshold, *choice, following);
             Owner {
                 traced,
                 always: *choice == Choice::Always,
@@ -105,8 +104,8 @@ pub(crate) fn lay_out<'a>(
         start: 0,
     };
     for (i, entry) in entries.iter().enumerate() {
-        let (_, behind) = entries.split_at(i + 1);
-        owner = line_owner(threshold, place, owner, &entry.statement, behind);
+        let (_, following) = entries.split_at(i + 1);
+        owner = line_owner(threshold, place, owner, &entry.statement, following);
         laid.push(Laid {
             line: entry.line,
             statement: entry.statement,

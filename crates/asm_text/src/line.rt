@@ -1,10 +1,8 @@
 //! A line as what it says.
 
 ghost use Rattle.std.specs.Prelude.{◌≡◌, ◌∷◌, [], option_map, option_and_then};
-ghost use Rattle.asm_text.specs.Names.{name_of};
-ghost use Rattle.asm_text.specs.Registers.{register64, before_comma};
-ghost use Rattle.asm_text.specs.Statements.{Go, Does};
-ghost use Rattle.asm_text.specs.Language.{says, label_of};
+ghost use Rattle.asm_text.specs.{Names.{name_of}, Registers.{register64, before_comma}};
+ghost use Rattle.asm_text.specs.{Statements.{Go, Does}, Language.{says, label_of}};
 ghost use Rattle.asm_text.specs.private.Views.{statement_spoken, LineGives};
 
 use crate::fault::AsmFault;

@@ -1,7 +1,6 @@
 //! The names of functions and labels.
 
-ghost use Rattle.std.specs.Prelude.{◌≡◌, option_copied};
-ghost use Rattle.std.specs.List.{list_all};
+ghost use Rattle.std.specs.{Prelude.{◌≡◌, option_copied}, List.{list_all}};
 ghost use Rattle.xray_image.specs.Program.{is_name_byte};
 ghost use Rattle.asm_text.specs.Names.{is_name, name_of, before_end};
 

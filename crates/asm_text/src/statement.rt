@@ -149,8 +149,7 @@ impl<'a> Operation<'a> {
 
 impl<'a> Saying<'a, Operation<'a>> {
     ghost use Rattle.asm_text.specs.Layout.{names_function};
-    ghost use Rattle.asm_text.specs.private.Views.{statement_said};
-    ghost use Rattle.asm_text.specs.private.FirstPass.{name_defined};
+    ghost use Rattle.asm_text.specs.private.{Views.{statement_said}, FirstPass.{name_defined}};
 
     /// The name that the statement defines, for a function or a label.
     pub(crate) fn defined_name(&self) -> Option<&'a [u8]>

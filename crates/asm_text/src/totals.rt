@@ -81,8 +81,7 @@ pub(crate) struct Totals {
 
 impl Totals {
     ghost use Rattle.std.specs.Prelude.{[]};
-    ghost use Rattle.asm_text.specs.Refusals.{is_misplaced, ends_early};
-    ghost use Rattle.asm_text.specs.Layout.{Lines};
+    ghost use Rattle.asm_text.specs.{Refusals.{is_misplaced, ends_early}, Layout.{Lines}};
     ghost use Rattle.asm_text.specs.private.FirstPass.{traced_after, Follows, IsTotals, IsWithin, totals_exceed};
     ghost use Rattle.asm_text.specs.private.Views.{statement_spoken};
 

@@ -1,13 +1,11 @@
 //! The image file of a text whose lines have their places.
 
 ghost use Rattle.std.specs.Prelude.{◌≡◌, ◌≤◌, ◌<◌, IfOk, length, option_copied, slice_get};
-ghost use Rattle.std.specs.List.{position_or_len, filter_map};
-ghost use Rattle.std.specs.Str.{bytes_eq};
+ghost use Rattle.std.specs.{List.{position_or_len, filter_map}, Str.{bytes_eq}};
 ghost use Rattle.xray_image.specs.Limits.{most_code, most_functions, most_sleds};
 ghost use Rattle.asm_text.specs.Layout.{functions, map_entries, base_of, entry_of, entry_in_line};
 ghost use Rattle.asm_text.specs.Writing.{file_bytes};
-ghost use Rattle.asm_text.specs.private.Laying.{placed_in, lines_of};
-ghost use Rattle.asm_text.specs.private.LaidTexts.{all_in};
+ghost use Rattle.asm_text.specs.private.{Laying.{placed_in, lines_of}, LaidTexts.{all_in}};
 ghost use Rattle.asm_text.specs.private.Files.{image_laid, IsWritable, IsHeaderOf};
 
 use crate::code::push_code;

@@ -154,7 +154,7 @@ none_drained items views place v k e between =
     (λ (lt : 0 < length k.state.drained). let n = (k.draining lt).1 in absurd (omega arith)) (eq-or-lt_of_le (zero-le {n = length k.state.drained})))
 
 -- what is left when the buffer at the front goes
-record Behind (size bound : ℕ) (x : Filled) (items : List Filled) (fresh : ℕ) (used : List Filled) : Type 0 where
+record Following (size bound : ℕ) (x : Filled) (items : List Filled) (fresh : ℕ) (used : List Filled) : Type 0 where
   fresh' : ℕ
   used' : List Filled
   all : items ≡ replicate fresh' (empty_buffer size) ++ used'
@@ -170,10 +170,10 @@ of_suffix p x buffers = ⊎_elim
     (λ (ne : x.thread ≢ p). ([], rw (ne_eqb x.thread p ne)))
     (cases_eq x.thread p)
 
-behind : (size bound : ℕ) (x : Filled) (items : List Filled) (fresh : ℕ) (used : List Filled) → x ∷ items ≡ replicate fresh (empty_buffer size) ++ used
-    → All (IsUsed size bound) used → Behind size bound x items fresh used
-behind size bound x items zero [] e u = let e' : x ∷ items ≡ [] = e in absurd (cc)
-behind size bound x items zero (y ∷ ys) e u = let e' : x ∷ items ≡ y ∷ ys = e in let same : x ≡ y = cc in let rest : items ≡ ys = cc in record {
+following : (size bound : ℕ) (x : Filled) (items : List Filled) (fresh : ℕ) (used : List Filled) → x ∷ items ≡ replicate fresh (empty_buffer size) ++ used
+    → All (IsUsed size bound) used → Following size bound x items fresh used
+following size bound x items zero [] e u = let e' : x ∷ items ≡ [] = e in absurd (cc)
+following size bound x items zero (y ∷ ys) e u = let e' : x ∷ items ≡ y ∷ ys = e in let same : x ≡ y = cc in let rest : items ≡ ys = cc in record {
   fresh' = 0;
   used' = ys;
   all = rest;
@@ -183,7 +183,7 @@ behind size bound x items zero (y ∷ ys) e u = let e' : x ∷ items ≡ y ∷ y
   none = λ nil. absurd (cc);
   each = All-tail (IsUsed size bound) y ys u;
 }
-behind size bound x items (suc n) used e u = let e' : x ∷ items ≡ empty_buffer size ∷ (replicate n (empty_buffer size) ++ used) = e in
+following size bound x items (suc n) used e u = let e' : x ∷ items ≡ empty_buffer size ∷ (replicate n (empty_buffer size) ++ used) = e in
     let same : x ≡ empty_buffer size = cc in let rest : items ≡ replicate n (empty_buffer size) ++ used = cc in record {
       fresh' = n;
       used' = used;
@@ -205,7 +205,7 @@ takes place v live between x items views holds at =
     let l = f.live live in
     let nil = none_drained (x ∷ items) views place v k at between in
     let all : x ∷ items ≡ replicate k.fresh (empty_buffer k.state.setup.size) ++ k.used = ap (λ (d : List Filled). d ++ (x ∷ items)) (sym nil) ∙ k.all in
-    let b = behind k.state.setup.size k.state.passes x items k.fresh k.used all k.each in
+    let b = following k.state.setup.size k.state.passes x items k.fresh k.used all k.each in
     let w : View = taking v in (
       w,
       inr (record {

@@ -2,10 +2,8 @@
 
 ghost use Rattle.std.specs.Prelude.{◌≡◌, ◌<◌, ◌≤◌, ◌+◌, [], ◌∷◌, length, true, vec_capacity, vec_len};
 ghost use Rattle.crossbeam_queue.specs.Passes.{view, IsPassOf, IsSamePass};
-ghost use Rattle.buffer_queue.specs.Left.{AddsLeft};
-ghost use Rattle.buffer_queue.specs.Passes.{sealed_of, AreOf};
-ghost use Rattle.buffer_queue.specs.private.Ready.{pool_is};
-ghost use Rattle.buffer_queue.specs.private.Steps.{MayDrain};
+ghost use Rattle.buffer_queue.specs.{Left.{AddsLeft}, Passes.{sealed_of, AreOf}};
+ghost use Rattle.buffer_queue.specs.private.{Ready.{pool_is}, Steps.{MayDrain}};
 ghost use Rattle.buffer_queue.specs.private.Changes.{draining, taking_in};
 
 use crate::law::{Drains, HasDrained, Queue, TakesIn};

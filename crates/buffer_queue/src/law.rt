@@ -12,8 +12,7 @@ use std::marker::{Brand, PhantomData};
 pub struct PoolRule;
 
 impl Protocol<Buffer, View> for PoolRule {
-    ghost use Rattle.buffer_queue.specs.Rule.{KeepsPool};
-    ghost use Rattle.buffer_queue.specs.Views.{opener};
+    ghost use Rattle.buffer_queue.specs.{Rule.{KeepsPool}, Views.{opener}};
 
     ghost holds = { KeepsPool };
 

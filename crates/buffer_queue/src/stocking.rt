@@ -3,8 +3,7 @@
 ghost use Rattle.std.specs.Prelude.{◌≡◌, ◌<◌, ◌≤◌, ◌+◌, ◌-◌, IfOk};
 ghost use Rattle.crossbeam_queue.specs.Passes.{view, IsPassOf, IsSamePass, ruled_capacity};
 ghost use Rattle.buffer_queue.specs.Passes.{new_pass, AreNew};
-ghost use Rattle.buffer_queue.specs.private.Ready.{pass_is, pool_is};
-ghost use Rattle.buffer_queue.specs.private.Steps.{MayGive, MayStock};
+ghost use Rattle.buffer_queue.specs.private.{Ready.{pass_is, pool_is}, Steps.{MayGive, MayStock}};
 ghost use Rattle.buffer_queue.specs.Views.{opener};
 ghost use Rattle.buffer_queue.specs.private.Changes.{giving, head_view, new_view, stocking};
 

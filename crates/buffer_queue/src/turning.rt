@@ -2,8 +2,7 @@
 
 ghost use Rattle.std.specs.Prelude.{◌≡◌, true};
 ghost use Rattle.crossbeam_queue.specs.Passes.{view, IsPassOf, IsSamePass, ruled_capacity};
-ghost use Rattle.buffer_queue.specs.private.Steps.{MayPut};
-ghost use Rattle.buffer_queue.specs.private.Changes.{putting, taking};
+ghost use Rattle.buffer_queue.specs.private.{Steps.{MayPut}, Changes.{putting, taking}};
 
 use crate::law::{Puts, Queue, Takes};
 use crate::view::View;

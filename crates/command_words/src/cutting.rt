@@ -1,11 +1,9 @@
 //! Cutting words into a line with `clap`, by the row of a command.
 ghost use Rattle.std.specs.Prelude.{◌≡◌, IfOk, count_by, fold, map, option_map, true};
 ghost use Rattle.std.specs.Str.{bytes_eq};
-ghost use Rattle.clap.specs.Faults.{is_simple_and_free};
-ghost use Rattle.clap.specs.Simple.{app_of, with_rule};
+ghost use Rattle.clap.specs.{Faults.{is_simple_and_free}, Simple.{app_of, with_rule}};
 ghost use Rattle.command_words.specs.private.Clapped.{app_by, bare_app, clap_rows, file_rule, given_in, line_in, names_in, option_rule, rows_in};
-ghost use Rattle.command_words.specs.Items.{items_of, texts};
-ghost use Rattle.command_words.specs.Lines.{line_of, outputs_differ};
+ghost use Rattle.command_words.specs.{Items.{items_of, texts}, Lines.{line_of, outputs_differ}};
 ghost use Rattle.command_words.specs.private.Allowed.{is_row};
 ghost use Rattle.command_words.specs.private.CodeViews.{file_view, line_view, option_view, row_view};
 

@@ -1,7 +1,6 @@
 //! A line: the words after a command, cut into the names of its files and the values of its options.
 ghost use Rattle.std.specs.Prelude.{◌≡◌, ◌<◌, ◌≤◌, IfSome, length, option_copied, true};
-ghost use Rattle.std.specs.List.{position_from};
-ghost use Rattle.std.specs.Str.{bytes_eq};
+ghost use Rattle.std.specs.{List.{position_from}, Str.{bytes_eq}};
 ghost use Rattle.command_words.specs.Lines.{number_in, value_in};
 ghost use Rattle.command_words.specs.Numbers.{number_of, number_within};
 ghost use Rattle.command_words.specs.private.Allowed.{IsAmongValues};

@@ -1,10 +1,7 @@
 //! The command that a command line says.
 ghost use Rattle.std.specs.Prelude.{◌≡◌, IfOk, IfSome, option_map, true};
-ghost use Rattle.command_words.specs.Items.{texts};
-ghost use Rattle.command_words.specs.Lines.{outputs_differ};
-ghost use Rattle.command_words.specs.Ranges.{HasRanges};
-ghost use Rattle.command_words.specs.Views.{command_view};
-ghost use Rattle.command_words.specs.Words.{reading};
+ghost use Rattle.command_words.specs.{Items.{texts}, Lines.{outputs_differ}, Ranges.{HasRanges}};
+ghost use Rattle.command_words.specs.{Views.{command_view}, Words.{reading}};
 ghost use Rattle.command_words.specs.private.CodeViews.{line_view, row_view};
 ghost use Rattle.command_words.specs.private.Verbs.{command_by, report_said, row_by, verb_of};
 

@@ -11,7 +11,7 @@ use Rattle.fdr_record.specs.declared.event.Event.{Event}
 use Rattle.fdr_record.specs.Records.{record_bytes}
 use Rattle.fdr_buffer.specs.declared.buffer.TheConstants.{LEAST_SIZE, LARGEST_SIZE}
 use Rattle.fdr_buffer.specs.declared.buffer.Buffer.TheInside.{Inside}
-use Rattle.fdr_buffer.specs.Segments.{bytes_of, is_out_of_reach, records_of, records_behind, segment_bytes, preamble, body, has_room, EventFits}
+use Rattle.fdr_buffer.specs.Segments.{bytes_of, is_out_of_reach, records_of, records_after, segment_bytes, preamble, body, has_room, EventFits}
 use Rattle.fdr_buffer.specs.declared.lead.Lead.{Lead}
 use Rattle.fdr_buffer.specs.private.Leads.{lead_records}
 use Rattle.fdr_buffer.specs.Filled.{Filled, empty_buffer, used_bytes}
@@ -23,8 +23,8 @@ use Rattle.fdr_buffer.proofs.Records.{last_of-push, segment_bytes-push}
 use Rattle.fdr_buffer.proofs.Telling.{segment_told, nothing_told}
 
 -- the bytes after the preamble
-behind_preamble : (thread : ℕ) (wall : Wall) (pid : ℕ) (events : List Event) → drop 48 (body thread wall pid events) ≡ segment_bytes events
-behind_preamble thread wall pid events = refl
+after_preamble : (thread : ℕ) (wall : Wall) (pid : ℕ) (events : List Event) → drop 48 (body thread wall pid events) ≡ segment_bytes events
+after_preamble thread wall pid events = refl
 
 -- the events that a buffer says are those that it holds
 pub told_is : (a : Inside) (events : List Event) → Holds a events → events_told a ≡ events
@@ -116,10 +116,10 @@ records_not_empty (Some before) event =
       | inr other ↦ rw other.0 (omega arith)
     ]
 
-events_short : (before : Option Event) (events : List Event) → length events ≤ length (bytes_of (records_behind before events))
+events_short : (before : Option Event) (events : List Event) → length events ≤ length (bytes_of (records_after before events))
 events_short before [] = omega arith
 events_short before (event ∷ events) =
-    let all = ap length (flat_map-append record_bytes (records_of before event) (records_behind (Some event) events)) ∙ length-append (bytes_of (records_of before event)) (bytes_of (records_behind (Some event) events)) in
+    let all = ap length (flat_map-append record_bytes (records_of before event) (records_after (Some event) events)) ∙ length-append (bytes_of (records_of before event)) (bytes_of (records_after (Some event) events)) in
     omega (arith, all, records_not_empty before event, events_short (Some event) events)
 
 -- one more event still has a number

@@ -5,8 +5,8 @@ use Rattle.std.proofs.lemmas.List.Concat.{flat_map-append}
 use Rattle.fdr_record.specs.declared.event.Event.{Event}
 use Rattle.fdr_record.specs.declared.rec.Rec.{Rec}
 use Rattle.fdr_record.specs.Records.{record_bytes}
-use Rattle.fdr_buffer.specs.Segments.{bytes_of, records_of, records_behind, segment_bytes}
-use Rattle.fdr_buffer.specs.private.Last.{last_behind, last_of}
+use Rattle.fdr_buffer.specs.Segments.{bytes_of, records_of, records_after, segment_bytes}
+use Rattle.fdr_buffer.specs.private.Last.{last_after, last_of}
 
 -- two records after a prefix
 pub two_records : (front mid all : List ℕ) (a b : Rec) → mid ≡ front ++ record_bytes a → all ≡ mid ++ record_bytes b → all ≡ front ++ bytes_of (a ∷ b ∷ [])
@@ -14,20 +14,20 @@ two_records front mid all a b first second =
     second ∙ ap (λ (x : List ℕ). x ++ record_bytes b) first ∙ append_assoc front (record_bytes a) (record_bytes b) ∙ ap (λ (x : List ℕ). front ++ (record_bytes a ++ x)) (sym (append-nil (record_bytes b)))
 
 -- the last of some events, with one more
-last_behind-push : (before : Option Event) (events : List Event) (event : Event) → last_behind before (events ++ event ∷ []) ≡ Some event
-last_behind-push before [] event = refl
-last_behind-push before (next ∷ events) event = last_behind-push (Some next) events event
+last_after-push : (before : Option Event) (events : List Event) (event : Event) → last_after before (events ++ event ∷ []) ≡ Some event
+last_after-push before [] event = refl
+last_after-push before (next ∷ events) event = last_after-push (Some next) events event
 
 pub last_of-push : (events : List Event) (event : Event) → last_of (events ++ event ∷ []) ≡ Some event
-last_of-push events event = last_behind-push None events event
+last_of-push events event = last_after-push None events event
 
 -- the records of some events, with one more
-records_behind-push : (before : Option Event) (events : List Event) (event : Event) → records_behind before (events ++ event ∷ []) ≡ records_behind before events ++ records_of (last_behind before events) event
-records_behind-push before [] event = append-nil (records_of before event)
-records_behind-push before (next ∷ events) event =
-    ap (λ (rs : List Rec). records_of before next ++ rs) (records_behind-push (Some next) events event)
-    ∙ sym (append_assoc (records_of before next) (records_behind (Some next) events) (records_of (last_behind (Some next) events) event))
+records_after-push : (before : Option Event) (events : List Event) (event : Event) → records_after before (events ++ event ∷ []) ≡ records_after before events ++ records_of (last_after before events) event
+records_after-push before [] event = append-nil (records_of before event)
+records_after-push before (next ∷ events) event =
+    ap (λ (rs : List Rec). records_of before next ++ rs) (records_after-push (Some next) events event)
+    ∙ sym (append_assoc (records_of before next) (records_after (Some next) events) (records_of (last_after (Some next) events) event))
 
 pub segment_bytes-push : (events : List Event) (event : Event) → segment_bytes (events ++ event ∷ []) ≡ segment_bytes events ++ bytes_of (records_of (last_of events) event)
 segment_bytes-push events event =
-    ap bytes_of (records_behind-push None events event) ∙ flat_map-append record_bytes (records_behind None events) (records_of (last_of events) event)
+    ap bytes_of (records_after-push None events event) ∙ flat_map-append record_bytes (records_after None events) (records_of (last_of events) event)

@@ -11,23 +11,23 @@ use Rattle.fdr_record.specs.declared.event.Kind.TheVariants.{Entry, Exit, TailEx
 use Rattle.fdr_record.specs.declared.event.Event.{Event}
 use Rattle.fdr_record.specs.declared.rec.Rec.TheVariants.{NewCpu, TscWrap, Function}
 use Rattle.fdr_record.specs.Records.{action_of, head_of, record_bytes}
-use Rattle.fdr_buffer.specs.Segments.{function_record, is_out_of_reach, records_on_new_cpu, records_on_same_cpu, records_of, records_behind, bytes_of, segment_bytes, EventFits}
-use Rattle.fdr_buffer.specs.private.Telling.{kind_told, events_behind, events_in}
+use Rattle.fdr_buffer.specs.Segments.{function_record, is_out_of_reach, records_on_new_cpu, records_on_same_cpu, records_of, records_after, bytes_of, segment_bytes, EventFits}
+use Rattle.fdr_buffer.specs.private.Telling.{kind_told, events_after, events_in}
 
-behind_both : (cpu cpu' tsc tsc' : ℕ) (rest : List ℕ) → cpu ≡ cpu' → tsc ≡ tsc' → events_behind 0 cpu tsc rest ≡ events_behind 0 cpu' tsc' rest
-behind_both cpu cpu' tsc tsc' rest e f = rw (e, f) refl
+after_both : (cpu cpu' tsc tsc' : ℕ) (rest : List ℕ) → cpu ≡ cpu' → tsc ≡ tsc' → events_after 0 cpu tsc rest ≡ events_after 0 cpu' tsc' rest
+after_both cpu cpu' tsc tsc' rest e f = rw (e, f) refl
 
-cpu_told : (cpu tsc c t : ℕ) (rest : List ℕ) → c < 2 ^ 16 → t < 2 ^ 64 → events_behind 0 cpu tsc (record_bytes (NewCpu c t) ++ rest) ≡ events_behind 0 c t rest
-unfolding events_behind
+cpu_told : (cpu tsc c t : ℕ) (rest : List ℕ) → c < 2 ^ 16 → t < 2 ^ 64 → events_after 0 cpu tsc (record_bytes (NewCpu c t) ++ rest) ≡ events_after 0 c t rest
+unfolding events_after
 cpu_told cpu tsc c t rest lt lt' =
-    behind_both _ c _ t rest (little_number-reads_back 2 c [] lt) (little_number-reads_back 8 t [] lt')
+    after_both _ c _ t rest (little_number-reads_back 2 c [] lt) (little_number-reads_back 8 t [] lt')
 
-wrap_told : (cpu tsc t : ℕ) (rest : List ℕ) → t < 2 ^ 64 → events_behind 0 cpu tsc (record_bytes (TscWrap t) ++ rest) ≡ events_behind 0 cpu t rest
-unfolding events_behind
-wrap_told cpu tsc t rest lt = behind_both cpu cpu _ t rest refl (little_number-reads_back 8 t [] lt)
+wrap_told : (cpu tsc t : ℕ) (rest : List ℕ) → t < 2 ^ 64 → events_after 0 cpu tsc (record_bytes (TscWrap t) ++ rest) ≡ events_after 0 cpu t rest
+unfolding events_after
+wrap_told cpu tsc t rest lt = after_both cpu cpu _ t rest refl (little_number-reads_back 8 t [] lt)
 
 event_made : (cpu tsc func func' delta delta' : ℕ) (kind kind' : Kind) (rest : List ℕ) → func ≡ func' → kind ≡ kind' → delta ≡ delta'
-    → record { cpu = cpu; func = func; kind = kind; tsc = tsc + delta } ∷ events_behind 0 cpu (tsc + delta) rest ≡ record { cpu = cpu; func = func'; kind = kind'; tsc = tsc + delta' } ∷ events_behind 0 cpu (tsc + delta') rest
+    → record { cpu = cpu; func = func; kind = kind; tsc = tsc + delta } ∷ events_after 0 cpu (tsc + delta) rest ≡ record { cpu = cpu; func = func'; kind = kind'; tsc = tsc + delta' } ∷ events_after 0 cpu (tsc + delta') rest
 event_made cpu tsc func func' delta delta' kind kind' rest e f g = rw (e, f, g) refl
 
 action_small : (kind : Kind) → action_of kind < 8
@@ -53,8 +53,8 @@ head_fits : (action func : ℕ) → action < 8 → func < 2 ^ 28 → 2 * action 
 head_fits action func lt lt' = omega arith
 
 function_told : (cpu tsc func delta : ℕ) (kind : Kind) (rest : List ℕ) → func < 2 ^ 28 → delta < 2 ^ 32
-    → events_behind 0 cpu tsc (record_bytes (Function kind func delta) ++ rest) ≡ record { cpu = cpu; func = func; kind = kind; tsc = tsc + delta } ∷ events_behind 0 cpu (tsc + delta) rest
-unfolding events_behind
+    → events_after 0 cpu tsc (record_bytes (Function kind func delta) ++ rest) ≡ record { cpu = cpu; func = func; kind = kind; tsc = tsc + delta } ∷ events_after 0 cpu (tsc + delta) rest
+unfolding events_after
 function_told cpu tsc func delta kind rest fits lt =
     let small = action_small kind in
     let even = eq-eqb (head_of kind func % 256 % 2) 0 (head_even (action_of kind) func) in
@@ -63,10 +63,10 @@ function_told cpu tsc func delta kind rest fits lt =
 
 -- an event by its parts
 event_is : (event : Event) (cpu tsc : ℕ) (rest : List ℕ) → cpu ≡ event.cpu → tsc ≡ event.tsc
-    → record { cpu = cpu; func = event.func; kind = event.kind; tsc = tsc } ∷ events_behind 0 cpu tsc rest ≡ event ∷ events_behind 0 event.cpu event.tsc rest
+    → record { cpu = cpu; func = event.func; kind = event.kind; tsc = tsc } ∷ events_after 0 cpu tsc rest ≡ event ∷ events_after 0 event.cpu event.tsc rest
 event_is event cpu tsc rest e f = rw (e, f) refl
 
-new_cpu_told : (cpu tsc : ℕ) (event : Event) (rest : List ℕ) → EventFits event → events_behind 0 cpu tsc (bytes_of (records_on_new_cpu event) ++ rest) ≡ event ∷ events_behind 0 event.cpu event.tsc rest
+new_cpu_told : (cpu tsc : ℕ) (event : Event) (rest : List ℕ) → EventFits event → events_after 0 cpu tsc (bytes_of (records_on_new_cpu event) ++ rest) ≡ event ∷ events_after 0 event.cpu event.tsc rest
 new_cpu_told cpu tsc event rest fits =
     cpu_told cpu tsc event.cpu event.tsc (record_bytes (function_record event 0) ++ rest) fits.cpu fits.tsc
     ∙ function_told event.cpu event.tsc event.func 0 event.kind rest fits.func (lit< tt)
@@ -75,7 +75,7 @@ new_cpu_told cpu tsc event rest fits =
 within_reach : (before tsc : ℕ) → is_out_of_reach before tsc ≡ false → (before ≤ tsc) × (tsc ≤ before + (2 ^ 32 - 1))
 within_reach before tsc h = grind (arith, nat_tests)
 
-same_cpu_told : (cpu tsc : ℕ) (event : Event) (rest : List ℕ) → cpu ≡ event.cpu → EventFits event → events_behind 0 cpu tsc (bytes_of (records_on_same_cpu tsc event) ++ rest) ≡ event ∷ events_behind 0 event.cpu event.tsc rest
+same_cpu_told : (cpu tsc : ℕ) (event : Event) (rest : List ℕ) → cpu ≡ event.cpu → EventFits event → events_after 0 cpu tsc (bytes_of (records_on_same_cpu tsc event) ++ rest) ≡ event ∷ events_after 0 event.cpu event.tsc rest
 same_cpu_told cpu tsc event rest same fits =
     elim (cases_Bool (is_out_of_reach tsc event.tsc)) [
       | inl out ↦ rw out (wrap_told cpu tsc event.tsc (record_bytes (function_record event 0) ++ rest) fits.tsc
@@ -92,26 +92,26 @@ abbrev IsBehind : Option Event → ℕ → ℕ → Type 0
 IsBehind None cpu tsc = Unit {0}
 IsBehind (Some event) cpu tsc = (cpu ≡ event.cpu) × (tsc ≡ event.tsc)
 
-event_told : (before : Option Event) (cpu tsc : ℕ) (event : Event) (rest : List ℕ) → IsBehind before cpu tsc → EventFits event → events_behind 0 cpu tsc (bytes_of (records_of before event) ++ rest) ≡ event ∷ events_behind 0 event.cpu event.tsc rest
-event_told None cpu tsc event rest behind fits = new_cpu_told cpu tsc event rest fits
-event_told (Some before) cpu tsc event rest behind fits =
+event_told : (before : Option Event) (cpu tsc : ℕ) (event : Event) (rest : List ℕ) → IsBehind before cpu tsc → EventFits event → events_after 0 cpu tsc (bytes_of (records_of before event) ++ rest) ≡ event ∷ events_after 0 event.cpu event.tsc rest
+event_told None cpu tsc event rest following fits = new_cpu_told cpu tsc event rest fits
+event_told (Some before) cpu tsc event rest following fits =
     elim (eqb_tells before.cpu event.cpu) [
-      | inl same ↦ rw (behind.0, behind.1, same.0) (same_cpu_told before.cpu before.tsc event rest same.1 fits)
+      | inl same ↦ rw (following.0, following.1, same.0) (same_cpu_told before.cpu before.tsc event rest same.1 fits)
       | inr other ↦ rw other.0 (new_cpu_told cpu tsc event rest fits)
     ]
 
-events_told_behind : (before : Option Event) (cpu tsc : ℕ) (events : List Event) → IsBehind before cpu tsc → AllByRecursion EventFits events → events_behind 0 cpu tsc (bytes_of (records_behind before events)) ≡ events
-unfolding events_behind
-events_told_behind before cpu tsc [] behind fit = refl
-events_told_behind before cpu tsc (event ∷ events) behind fit =
-    ap (events_behind 0 cpu tsc) (flat_map-append record_bytes (records_of before event) (records_behind (Some event) events))
-    ∙ event_told before cpu tsc event (bytes_of (records_behind (Some event) events)) behind fit.0
-    ∙ ap (λ (es : List Event). event ∷ es) (events_told_behind (Some event) event.cpu event.tsc events (refl, refl) fit.1)
+events_told_after : (before : Option Event) (cpu tsc : ℕ) (events : List Event) → IsBehind before cpu tsc → AllByRecursion EventFits events → events_after 0 cpu tsc (bytes_of (records_after before events)) ≡ events
+unfolding events_after
+events_told_after before cpu tsc [] following fit = refl
+events_told_after before cpu tsc (event ∷ events) following fit =
+    ap (events_after 0 cpu tsc) (flat_map-append record_bytes (records_of before event) (records_after (Some event) events))
+    ∙ event_told before cpu tsc event (bytes_of (records_after (Some event) events)) following fit.0
+    ∙ ap (λ (es : List Event). event ∷ es) (events_told_after (Some event) event.cpu event.tsc events (refl, refl) fit.1)
 
 pub segment_told : (events : List Event) → All EventFits events → events_in (segment_bytes events) ≡ events
 unfolding events_in
-segment_told events fit = events_told_behind None 0 0 events tt (recursion_from_All EventFits events fit)
+segment_told events fit = events_told_after None 0 0 events tt (recursion_from_All EventFits events fit)
 
 pub nothing_told : events_in [] ≡ []
-unfolding events_in events_behind
+unfolding events_in events_after
 nothing_told = refl

@@ -31,9 +31,9 @@ records_of None event = records_on_new_cpu event
 records_of (Some before) event = if before.cpu == event.cpu then records_on_same_cpu before.tsc event else records_on_new_cpu event
 
 -- the records of events, each after the event before
-abbrev pub records_behind : Option Event → List Event → List Rec
-records_behind before [] = []
-records_behind before (event ∷ events) = records_of before event ++ records_behind (Some event) events
+abbrev pub records_after : Option Event → List Event → List Rec
+records_after before [] = []
+records_after before (event ∷ events) = records_of before event ++ records_after (Some event) events
 
 -- the bytes of records, one after the other
 abbrev pub bytes_of : List Rec → List ℕ
@@ -41,7 +41,7 @@ bytes_of records = flat_map record_bytes records
 
 -- the bytes of a segment
 abbrev pub segment_bytes : List Event → List ℕ
-segment_bytes events = bytes_of (records_behind None events)
+segment_bytes events = bytes_of (records_after None events)
 
 -- the bytes that a buffer begins with
 abbrev pub preamble : ℕ → Wall → ℕ → List ℕ

@@ -1,8 +1,7 @@
 //! A buffer with one segment of a thread's events.
 
 ghost use Rattle.std.specs.Prelude.{◌≡◌, ◌<◌, ◌≤◌, ◌^◌, [], ◌∷◌, ◌++◌, true, length, IsTrue, IfOk};
-ghost use Rattle.fdr_buffer.specs.Segments.{has_room};
-ghost use Rattle.fdr_buffer.specs.Filled.{Filled, empty_buffer, used_bytes};
+ghost use Rattle.fdr_buffer.specs.{Segments.{has_room}, Filled.{Filled, empty_buffer, used_bytes}};
 ghost use Rattle.fdr_buffer.specs.private.Buffer.{filled_in, IsFilled};
 ghost use Rattle.fdr_buffer.specs.Fits.{BufferFits};
 

@@ -32,8 +32,8 @@ stand_from at [] = []
 stand_from at (r ∷ records) = (at, Ok r) ∷ stand_from (at + length_of r) records
 
 -- a spelling at the start
-begins : (r : Rec) (front behind : List ℕ) → Spells front r → BeginsWith r (front ++ behind)
-begins r front behind is = subst (λ (x : List ℕ). Spells x r) (sym (take_at front behind (length_of r) is.whole)) is
+begins : (r : Rec) (front following : List ℕ) → Spells front r → BeginsWith r (front ++ following)
+begins r front following is = subst (λ (x : List ℕ). Spells x r) (sym (take_at front following (length_of r) is.whole)) is
 
 -- a record has 8 to 16 bytes
 pub length_between : (r : Rec) → (8 ≤ length_of r) × (length_of r ≤ 16)
@@ -48,14 +48,14 @@ length_between (Function kind func delta) = (lit≤ tt, lit≤ tt)
 spelled_stand : (at : ℕ) (records : List Rec) (bytes : List ℕ) → AreSpelled records bytes → standings at bytes ≡ stand_from at records
 unfolding starts
 spelled_stand at [] bytes is = ap (standings at) is
-spelled_stand at (r ∷ records) bytes (front, behind, parts, fits, spells, rest) =
-    let begin = begins r front behind spells in
-    let is = told_again r (front ++ behind) fits begin in
-    let long = length_told r (front ++ behind) fits begin in
-    let some : 0 < length (front ++ behind) = omega (arith, length-append front behind, spells.whole, (length_between r).0) in
+spelled_stand at (r ∷ records) bytes (front, following, parts, fits, spells, rest) =
+    let begin = begins r front following spells in
+    let is = told_again r (front ++ following) fits begin in
+    let long = length_told r (front ++ following) fits begin in
+    let some : 0 < length (front ++ following) = omega (arith, length-append front following, spells.whole, (length_between r).0) in
     ap (standings at) parts
-    ∙ stands_first at (front ++ behind) some
-    ∙ rw (is, long, drop_at front behind (length_of r) spells.whole) (ap (λ (x : List Standing). (at, Ok r) ∷ x) (spelled_stand (at + length_of r) records behind rest))
+    ∙ stands_first at (front ++ following) some
+    ∙ rw (is, long, drop_at front following (length_of r) spells.whole) (ap (λ (x : List Standing). (at, Ok r) ∷ x) (spelled_stand (at + length_of r) records following rest))
 
 pub stand_records : (at : ℕ) (records : List Rec) → records_of (stand_from at records) ≡ records
 stand_records at [] = refl
@@ -85,40 +85,40 @@ preamble_clean before at (r ∷ records) many inner based = absurd cc
 -- ---- blocks
 
 -- what a block's bytes are, if others follow
-record Stands (bytes : List ℕ) (at : ℕ) (block : Block) (behind : List ℕ) : Type 0 where
+record Stands (bytes : List ℕ) (at : ℕ) (block : Block) (following : List ℕ) : Type 0 where
   some : 0 < length bytes
   clean : block_faults (at, bytes) ≡ []
   told : block_in (at, bytes) ≡ block
-  rest : drop (block_length bytes) bytes ≡ behind
+  rest : drop (block_length bytes) bytes ≡ following
 
 -- a preamble has its full length
 preamble_long : (block : Block) (records : List Rec) (bytes : List ℕ) → AreSpelled (block_records block records) bytes → 48 ≤ length bytes
 preamble_long block records bytes (a, b, e1, f1, s1, (c, d, e2, f2, s2, (x, y, e3, f3, s3, rest))) =
     omega (arith, ap length e1, length-append a b, ap length e2, length-append c d, ap length e3, length-append x y, s1.whole, s2.whole, s3.whole)
 
-block_stands : (bytes behind : List ℕ) (at : ℕ) (block : Block) → IsBlock bytes block → Stands (bytes ++ behind) at block behind
-block_stands bytes behind at block is =
+block_stands : (bytes following : List ℕ) (at : ℕ) (block : Block) → IsBlock bytes block → Stands (bytes ++ following) at block following
+block_stands bytes following at block is =
     let n = length is.body in
-    let all = is.extents ++ (is.body ++ behind) in
-    let parts : bytes ++ behind ≡ all = ap (λ (x : List ℕ). x ++ behind) is.parts ∙ append_assoc is.extents is.body behind in
-    let found : record_in all ≡ Ok (Extents n) = told_again (Extents n) all is.few (begins (Extents n) is.extents (is.body ++ behind) is.named) in
+    let all = is.extents ++ (is.body ++ following) in
+    let parts : bytes ++ following ≡ all = ap (λ (x : List ℕ). x ++ following) is.parts ∙ append_assoc is.extents is.body following in
+    let found : record_in all ≡ Ok (Extents n) = told_again (Extents n) all is.few (begins (Extents n) is.extents (is.body ++ following) is.named) in
     let named : extents_in all ≡ n = extents_is all n found in
-    let body : drop 16 all ≡ is.body ++ behind = drop_at is.extents (is.body ++ behind) 16 is.named.whole in
+    let body : drop 16 all ≡ is.body ++ following = drop_at is.extents (is.body ++ following) 16 is.named.whole in
     let many = preamble_long block is.records is.body is.spelled in
-    let size : length all ≡ 16 + (n + length behind) = length-append is.extents (is.body ++ behind) ∙ omega (arith, is.named.whole, length-append is.body behind) in
+    let size : length all ≡ 16 + (n + length following) = length-append is.extents (is.body ++ following) ∙ omega (arith, is.named.whole, length-append is.body following) in
     let records = block_records block is.records in
     let standing : block_standings (at, all) ≡ stand_from (at + 16) records =
-    ap (λ (k : ℕ). standings (at + 16) (take k (drop 16 all))) named ∙ ap (λ (x : List ℕ). standings (at + 16) (take n x)) body ∙ ap (standings (at + 16)) (take_at is.body behind n refl)
+    ap (λ (k : ℕ). standings (at + 16) (take k (drop 16 all))) named ∙ ap (λ (x : List ℕ). standings (at + 16) (take n x)) body ∙ ap (standings (at + 16)) (take_at is.body following n refl)
     ∙ spelled_stand (at + 16) records is.body is.spelled in
     let inner = preamble_clean (Pid block.pid ∷ WallTime block.wall ∷ NewBuffer block.thread ∷ []) (at + 16 + 16 + 16 + 16) is.records (0, refl) is.inner is.based in
     let long : ltb (length all) 16 ≡ false = le-ltb (length all) 16 (omega arith) in
     let least : leb 48 n ≡ true = le-leb 48 n many in
     let whole : leb (16 + n) (length all) ≡ true = le-leb (16 + n) (length all) (omega arith) in
-    subst (λ (x : List ℕ). Stands x at block behind) (sym parts) (record {
+    subst (λ (x : List ℕ). Stands x at block following) (sym parts) (record {
       some = omega arith;
       clean = rw (long, found, least, whole, standing) inner;
       told = rw (standing, stand_records (at + 16 + 16 + 16 + 16) is.records) (ap (λ (events : List Event). let made : Block = record { thread = block.thread; wall = block.wall; pid = block.pid; events = events } in made) (sym is.told));
-      rest = ap (λ (k : ℕ). drop (16 + k) all) named ∙ sym (drop-drop n 16 all) ∙ ap (drop n) body ∙ drop_at is.body behind n refl;
+      rest = ap (λ (k : ℕ). drop (16 + k) all) named ∙ sym (drop-drop n 16 all) ∙ ap (drop n) body ∙ drop_at is.body following n refl;
     })
 
 abbrev AllRead : ℕ → List Block → List ℕ → Type 0
@@ -127,14 +127,14 @@ AllRead at blocks bytes = (flat_map block_faults (starts block_length 0 at bytes
 blocks_stand : (at : ℕ) (blocks : List Block) (bytes : List ℕ) → AreBlocks blocks bytes → AllRead at blocks bytes
 unfolding starts
 blocks_stand at [] bytes is = subst (AllRead at []) (sym is) (refl, refl)
-blocks_stand at (block ∷ blocks) bytes (front, behind, parts, is, rest) =
-    let all = front ++ behind in
-    let here = block_stands front behind at block is in
+blocks_stand at (block ∷ blocks) bytes (front, following, parts, is, rest) =
+    let all = front ++ following in
+    let here = block_stands front following at block is in
     let next = at + block_length all in
-    let first : starts block_length 0 at all ≡ (at, all) ∷ starts block_length 0 next behind = starts_first block_length at all here.some (omega arith) ∙ ap (λ (x : List ℕ). (at, all) ∷ starts block_length 0 next x) here.rest in
-    let others = blocks_stand next blocks behind rest in
+    let first : starts block_length 0 at all ≡ (at, all) ∷ starts block_length 0 next following = starts_first block_length at all here.some (omega arith) ∙ ap (λ (x : List ℕ). (at, all) ∷ starts block_length 0 next x) here.rest in
+    let others = blocks_stand next blocks following rest in
     subst (AllRead at (block ∷ blocks)) (sym parts) (
-      ap (flat_map block_faults) first ∙ flat_map-cons block_faults (at, all) (starts block_length 0 next behind) ∙ rw (here.clean, others.0) refl,
+      ap (flat_map block_faults) first ∙ flat_map-cons block_faults (at, all) (starts block_length 0 next following) ∙ rw (here.clean, others.0) refl,
       ap (map block_in) first ∙ rw (here.told, others.1) refl,
     )
 
@@ -144,19 +144,19 @@ header_of : (h : Header) (version : ℕ) (constant nonstop : Bool) → version �
     → record { version = version; constant = constant; nonstop = nonstop; frequency = h.frequency; size = h.size } ≡ h
 header_of h version constant nonstop e1 e2 e3 = rw (e1, e2, e3) refl
 
-header_reads : (bytes behind : List ℕ) (header : Header) → IsHeader bytes header → (header_faults (bytes ++ behind) ≡ []) × (header_in (bytes ++ behind) ≡ header) × (drop 32 (bytes ++ behind) ≡ behind)
-header_reads bytes behind header is =
-    let rest = is.reserved ++ behind in
+header_reads : (bytes following : List ℕ) (header : Header) → IsHeader bytes header → (header_faults (bytes ++ following) ≡ []) × (header_in (bytes ++ following) ≡ header) × (drop 32 (bytes ++ following) ≡ following)
+header_reads bytes following header is =
+    let rest = is.reserved ++ following in
     let all = little_bytes 2 3 ++ (little_bytes 2 1 ++ (little_bytes 4 is.flags ++ (little_bytes 8 header.frequency ++ (little_bytes 8 header.size ++ rest)))) in
-    let parts : bytes ++ behind ≡ all = ap (λ (x : List ℕ). x ++ behind) is.spelled in
-    let long : leb 32 (length all) ≡ true = le-leb 32 (length all) (omega (arith, length-append is.reserved behind, is.whole)) in
+    let parts : bytes ++ following ≡ all = ap (λ (x : List ℕ). x ++ following) is.spelled in
+    let long : leb 32 (length all) ≡ true = le-leb 32 (length all) (omega (arith, length-append is.reserved following, is.whole)) in
     let flags = little_number-reads_back 4 is.flags (little_bytes 8 header.frequency ++ (little_bytes 8 header.size ++ rest)) is.flags_fit in
     let frequency = little_number-reads_back 8 header.frequency (little_bytes 8 header.size ++ rest) is.frequency_fits in
     let size = little_number-reads_back 8 header.size rest is.size_fits in
-    subst (λ (x : List ℕ). (header_faults x ≡ []) × (header_in x ≡ header) × (drop 32 x ≡ behind)) (sym parts) (
+    subst (λ (x : List ℕ). (header_faults x ≡ []) × (header_in x ≡ header) × (drop 32 x ≡ following)) (sym parts) (
       rw long refl,
       rw (flags, frequency, size) (header_of header 3 (eqb (is.flags % 2) 1) (eqb (is.flags / 2 % 2) 1) (sym is.version) (sym is.constant) (sym is.nonstop)),
-      drop_at is.reserved behind 8 is.whole,
+      drop_at is.reserved following 8 is.whole,
     )
 
 abbrev read : Trace → Result Trace TraceFault
@@ -164,8 +164,8 @@ read trace = Ok trace
 
 pub trace_again : (bytes : List ℕ) (trace : Trace) → IsTrace bytes trace → trace_of bytes ≡ Ok trace
 trace_again bytes trace is =
-    let header = header_reads is.front is.behind trace.header is.header in
-    let blocks = blocks_stand 32 trace.blocks is.behind is.blocks in
+    let header = header_reads is.front is.following trace.header is.header in
+    let blocks = blocks_stand 32 trace.blocks is.following is.blocks in
     rows_decide bytes ∙ ap by_places is.parts ∙ rw (header.0, header.1, header.2, blocks.0, blocks.1) refl
 
 pub one_trace : (bytes : List ℕ) (trace other : Trace) → IsTrace bytes trace → IsTrace bytes other → trace ≡ other

@@ -23,7 +23,7 @@ use Rattle.fdr_record.specs.Reading.{function_at, metadata_at}
 use Rattle.fdr_file.specs.declared.events.Base.{Base}
 use Rattle.fdr_file.specs.declared.fault.TraceFault.{TraceFault}
 use Rattle.fdr_file.specs.declared.fault.TraceFault.TheVariants as faults
-use Rattle.fdr_file.specs.Events.{counter_at, cpu_of, deltas_since, events_behind, whole_counter}
+use Rattle.fdr_file.specs.Events.{counter_at, cpu_of, deltas_since, events_after, whole_counter}
 use Rattle.fdr_file.specs.Traces.{extents_in, names_cpu, needs_cpu, record_in, records_of, Standing, block_in, block_of, block_standings, pid_named, block_length, record_length, standings, thread_named, wall_named}
 use Rattle.fdr_file.specs.private.Faults.{decided, record_faults, standing_faults, block_faults, unless}
 use Rattle.fdr_file.specs.private.Reading.{Left, blocks_read, body_on, end_named, end_on, events_on, left_at, named_on, preamble_on, read_first, record_on, step_on}
@@ -59,21 +59,21 @@ or_true true = refl
 or_true false = refl
 
 abbrev Decides : Option Base → List Rec → List Standing → Type 0
-Decides base before said = events_on base said ≡ decided (standing_faults before said) (events_behind before (records_of said))
+Decides base before said = events_on base said ≡ decided (standing_faults before said) (events_after before (records_of said))
 
-one_more : (base : Option Base) (before : List Rec) (at : ℕ) (r : Rec) (behind : List Standing) (next : Base) (event : Option Event) → step_on at r base ≡ Ok (next, event) → record_faults before at r ≡ []
-    → events_behind before (r ∷ records_of behind) ≡ option_to_list event ++ events_behind (r ∷ before) (records_of behind) → Decides (Some next) (r ∷ before) behind → Decides base before ((at, Ok r) ∷ behind)
+one_more : (base : Option Base) (before : List Rec) (at : ℕ) (r : Rec) (following : List Standing) (next : Base) (event : Option Event) → step_on at r base ≡ Ok (next, event) → record_faults before at r ≡ []
+    → events_after before (r ∷ records_of following) ≡ option_to_list event ++ events_after (r ∷ before) (records_of following) → Decides (Some next) (r ∷ before) following → Decides base before ((at, Ok r) ∷ following)
 unfolding events_on
-one_more base before at r behind next event stepped clean told rest =
-    rw (stepped, rest, clean, told) (decided_more (option_to_list event) (standing_faults (r ∷ before) behind) (events_behind (r ∷ before) (records_of behind)))
+one_more base before at r following next event stepped clean told rest =
+    rw (stepped, rest, clean, told) (decided_more (option_to_list event) (standing_faults (r ∷ before) following) (events_after (r ∷ before) (records_of following)))
 
-no_more : (base : Option Base) (before : List Rec) (at : ℕ) (r : Rec) (behind : List Standing) (e : TraceFault) (later : List TraceFault) → step_on at r base ≡ Err e → record_faults before at r ≡ e ∷ later
-    → Decides base before ((at, Ok r) ∷ behind)
+no_more : (base : Option Base) (before : List Rec) (at : ℕ) (r : Rec) (following : List Standing) (e : TraceFault) (later : List TraceFault) → step_on at r base ≡ Err e → record_faults before at r ≡ e ∷ later
+    → Decides base before ((at, Ok r) ∷ following)
 unfolding events_on
-no_more base before at r behind e later stepped wrong = rw (stepped, wrong) refl
+no_more base before at r following e later stepped wrong = rw (stepped, wrong) refl
 
-one_behind : (before : List Rec) (r : Rec) → IsBehind before → IsBehind (r ∷ before)
-one_behind before r (n, is) = (suc n, ap suc is)
+one_after : (before : List Rec) (r : Rec) → IsBehind before → IsBehind (r ∷ before)
+one_after before r (n, is) = (suc n, ap suc is)
 
 -- the counter of a function record
 counter_more : (tsc whole sum delta : ℕ) → tsc % 2 ^ 64 ≡ (whole + sum) % 2 ^ 64 → (tsc + delta) % 2 ^ 64 ≡ (whole + (delta + sum)) % 2 ^ 64
@@ -85,20 +85,20 @@ twice n = omega arith
 pub events_decided : (base : Option Base) (before : List Rec) (said : List Standing) → IsBehind before → IsBase base before → Decides base before said
 unfolding events_on
 events_decided base before [] many is = refl
-events_decided base before ((at, Err fault) ∷ behind) many is = refl
-events_decided base before ((at, Ok (NewCpu cpu tsc)) ∷ behind) many is =
+events_decided base before ((at, Err fault) ∷ following) many is = refl
+events_decided base before ((at, Ok (NewCpu cpu tsc)) ∷ following) many is =
     let next : Base = record { cpu = cpu; tsc = tsc } in
-    one_more base before at (NewCpu cpu tsc) behind next None refl (rw (many.1, or_true (list_any names_cpu before)) refl) refl
-    (events_decided (Some next) (NewCpu cpu tsc ∷ before) behind (one_behind before (NewCpu cpu tsc) many) (refl, refl, ap (λ (n : ℕ). n % 2 ^ 64) (sym (add-zero tsc))))
-events_decided None before ((at, Ok (TscWrap tsc)) ∷ behind) many is =
-    no_more None before at (TscWrap tsc) behind (faults.NoBase at) [] refl (rw (many.1, is) refl)
-events_decided (Some base) before ((at, Ok (TscWrap tsc)) ∷ behind) many is =
+    one_more base before at (NewCpu cpu tsc) following next None refl (rw (many.1, or_true (list_any names_cpu before)) refl) refl
+    (events_decided (Some next) (NewCpu cpu tsc ∷ before) following (one_after before (NewCpu cpu tsc) many) (refl, refl, ap (λ (n : ℕ). n % 2 ^ 64) (sym (add-zero tsc))))
+events_decided None before ((at, Ok (TscWrap tsc)) ∷ following) many is =
+    no_more None before at (TscWrap tsc) following (faults.NoBase at) [] refl (rw (many.1, is) refl)
+events_decided (Some base) before ((at, Ok (TscWrap tsc)) ∷ following) many is =
     let next : Base = record { cpu = base.cpu; tsc = tsc } in
-    one_more (Some base) before at (TscWrap tsc) behind next None refl (rw (many.1, is.0) refl) refl
-    (events_decided (Some next) (TscWrap tsc ∷ before) behind (one_behind before (TscWrap tsc) many) (is.0, is.1, ap (λ (n : ℕ). n % 2 ^ 64) (sym (add-zero tsc))))
-events_decided None before ((at, Ok (Function kind func delta)) ∷ behind) many is =
-    no_more None before at (Function kind func delta) behind (faults.NoBase at) [] refl (rw (many.1, is) refl)
-events_decided (Some base) before ((at, Ok (Function kind func delta)) ∷ behind) many is =
+    one_more (Some base) before at (TscWrap tsc) following next None refl (rw (many.1, is.0) refl) refl
+    (events_decided (Some next) (TscWrap tsc ∷ before) following (one_after before (TscWrap tsc) many) (is.0, is.1, ap (λ (n : ℕ). n % 2 ^ 64) (sym (add-zero tsc))))
+events_decided None before ((at, Ok (Function kind func delta)) ∷ following) many is =
+    no_more None before at (Function kind func delta) following (faults.NoBase at) [] refl (rw (many.1, is) refl)
+events_decided (Some base) before ((at, Ok (Function kind func delta)) ∷ following) many is =
     let tsc = (base.tsc + delta) % 2 ^ 64 in
     let next : Base = record { cpu = base.cpu; tsc = tsc } in
     let counter : tsc ≡ counter_at (Function kind func delta ∷ before) = counter_more base.tsc (whole_counter before) (sum (deltas_since before)) delta is.2 ∙ ap (λ (s : ℕ). (whole_counter before + s) % 2 ^ 64) (sym (sum_by-cons (λ x. x) delta (deltas_since before))) in
@@ -106,13 +106,13 @@ events_decided (Some base) before ((at, Ok (Function kind func delta)) ∷ behin
     let make : ℕ → ℕ → Event = λ c t. record { cpu = c; func = func; kind = kind; tsc = t } in
     let told : make (cpu_of before) (counter_at (Function kind func delta ∷ before)) ≡ event =
     ap (λ (c : ℕ). make c (counter_at (Function kind func delta ∷ before))) (sym is.1) ∙ ap (make base.cpu) (sym counter) in
-    one_more (Some base) before at (Function kind func delta) behind next (Some event) refl (rw (many.1, is.0) refl)
-    (ap (λ (e : Event). e ∷ events_behind (Function kind func delta ∷ before) (records_of behind)) told)
-    (events_decided (Some next) (Function kind func delta ∷ before) behind (one_behind before (Function kind func delta) many) (is.0, is.1, twice (base.tsc + delta) ∙ counter))
-events_decided base before ((at, Ok (NewBuffer thread)) ∷ behind) many is = no_more base before at (NewBuffer thread) behind (faults.Order at) (unless (list_any names_cpu before || true) (faults.NoBase at)) refl (rw (many.1) refl)
-events_decided base before ((at, Ok (WallTime wall)) ∷ behind) many is = no_more base before at (WallTime wall) behind (faults.Order at) (unless (list_any names_cpu before || true) (faults.NoBase at)) refl (rw (many.1) refl)
-events_decided base before ((at, Ok (Pid pid)) ∷ behind) many is = no_more base before at (Pid pid) behind (faults.Order at) (unless (list_any names_cpu before || true) (faults.NoBase at)) refl (rw (many.1) refl)
-events_decided base before ((at, Ok (Extents size)) ∷ behind) many is = no_more base before at (Extents size) behind (faults.Order at) (unless (list_any names_cpu before || true) (faults.NoBase at)) refl (rw (many.1) refl)
+    one_more (Some base) before at (Function kind func delta) following next (Some event) refl (rw (many.1, is.0) refl)
+    (ap (λ (e : Event). e ∷ events_after (Function kind func delta ∷ before) (records_of following)) told)
+    (events_decided (Some next) (Function kind func delta ∷ before) following (one_after before (Function kind func delta) many) (is.0, is.1, twice (base.tsc + delta) ∙ counter))
+events_decided base before ((at, Ok (NewBuffer thread)) ∷ following) many is = no_more base before at (NewBuffer thread) following (faults.Order at) (unless (list_any names_cpu before || true) (faults.NoBase at)) refl (rw (many.1) refl)
+events_decided base before ((at, Ok (WallTime wall)) ∷ following) many is = no_more base before at (WallTime wall) following (faults.Order at) (unless (list_any names_cpu before || true) (faults.NoBase at)) refl (rw (many.1) refl)
+events_decided base before ((at, Ok (Pid pid)) ∷ following) many is = no_more base before at (Pid pid) following (faults.Order at) (unless (list_any names_cpu before || true) (faults.NoBase at)) refl (rw (many.1) refl)
+events_decided base before ((at, Ok (Extents size)) ∷ following) many is = no_more base before at (Extents size) following (faults.Order at) (unless (list_any names_cpu before || true) (faults.NoBase at)) refl (rw (many.1) refl)
 
 -- ---- a preamble
 
@@ -137,8 +137,8 @@ left_long at bytes r left e = by_answer (record_in bytes) e
   where
     by_answer : (a : Result Rec RecFault) → read_first (at, bytes) a ≡ Ok (r, left) → length bytes ≤ 16 + length left.1
     by_answer (Ok s) h =
-        let behind : Left = (at + record_length bytes, drop (record_length bytes) bytes) in
-        let first : Rec × Left = (s, behind) in
+        let following : Left = (at + record_length bytes, drop (record_length bytes) bytes) in
+        let first : Rec × Left = (s, following) in
         let wanted : Rec × Left = (r, left) in
         let both : first ≡ wanted = cc in
         let left_is : drop (record_length bytes) bytes ≡ left.1 = ap (λ (x : Rec × Left). x.1.1) both in
@@ -206,7 +206,7 @@ body_decided at bytes long =
                       let before : List Rec = Pid pid ∷ WallTime wall ∷ NewBuffer thread ∷ [] in
                       let said = standings left''.0 left''.1 in
                       let make : List Event → Block = λ events. record { thread = thread; wall = wall; pid = pid; events = events } in
-                      rw (on, on', on'', first.stands, second.stands, third.stands, events_decided None before said (0, refl) refl) (decided_in make (standing_faults before said) (events_behind before (records_of said)))
+                      rw (on, on', on'', first.stands, second.stands, third.stands, events_decided None before said (0, refl) refl) (decided_in make (standing_faults before said) (events_after before (records_of said)))
                 ]
           ]
     ]

@@ -60,41 +60,41 @@ told_again (NewBuffer thread) bytes fits is =
     subst (Comes (NewBuffer thread)) (sym e) (rw (long, one_back 4 thread (is.filler ++ drop 16 bytes) fits) refl)
 told_again (TscWrap tsc) bytes fits is =
     let e = unspelled 16 (told_by (TscWrap tsc)) is.filler bytes is.told in
-    let behind = is.filler ++ drop 16 bytes in
-    let long = is_whole bytes (little_bytes 8 tsc ++ behind) 7 is.whole e in
-    subst (Comes (TscWrap tsc)) (sym e) (rw (long, one_back 8 tsc behind fits) refl)
+    let following = is.filler ++ drop 16 bytes in
+    let long = is_whole bytes (little_bytes 8 tsc ++ following) 7 is.whole e in
+    subst (Comes (TscWrap tsc)) (sym e) (rw (long, one_back 8 tsc following fits) refl)
 told_again (Pid pid) bytes fits is =
     let e = unspelled 16 (told_by (Pid pid)) is.filler bytes is.told in
-    let behind = is.filler ++ drop 16 bytes in
-    let long = is_whole bytes (little_bytes 4 pid ++ behind) 19 is.whole e in
-    subst (Comes (Pid pid)) (sym e) (rw (long, one_back 4 pid behind fits) refl)
+    let following = is.filler ++ drop 16 bytes in
+    let long = is_whole bytes (little_bytes 4 pid ++ following) 19 is.whole e in
+    subst (Comes (Pid pid)) (sym e) (rw (long, one_back 4 pid following fits) refl)
 told_again (Extents size) bytes fits is =
     let e = unspelled 16 (told_by (Extents size)) is.filler bytes is.told in
-    let behind = is.filler ++ drop 16 bytes in
-    let long = is_whole bytes (little_bytes 8 size ++ behind) 15 is.whole e in
-    subst (Comes (Extents size)) (sym e) (rw (long, one_back 8 size behind fits) refl)
+    let following = is.filler ++ drop 16 bytes in
+    let long = is_whole bytes (little_bytes 8 size ++ following) 15 is.whole e in
+    subst (Comes (Extents size)) (sym e) (rw (long, one_back 8 size following fits) refl)
 told_again (NewCpu cpu tsc) bytes fits is =
     let e = unspelled 16 (told_by (NewCpu cpu tsc)) is.filler bytes is.told in
-    let behind = is.filler ++ drop 16 bytes in
-    let long = is_whole bytes ((little_bytes 2 cpu ++ little_bytes 8 tsc) ++ behind) 5 is.whole e in
-    subst (Comes (NewCpu cpu tsc)) (sym e) (rw (long, first_back 2 8 cpu tsc behind fits.0, two_back 2 8 cpu tsc behind fits.1) refl)
+    let following = is.filler ++ drop 16 bytes in
+    let long = is_whole bytes ((little_bytes 2 cpu ++ little_bytes 8 tsc) ++ following) 5 is.whole e in
+    subst (Comes (NewCpu cpu tsc)) (sym e) (rw (long, first_back 2 8 cpu tsc following fits.0, two_back 2 8 cpu tsc following fits.1) refl)
 told_again (WallTime wall) bytes fits is =
     let e = unspelled 16 (told_by (WallTime wall)) is.filler bytes is.told in
-    let behind = is.filler ++ drop 16 bytes in
-    let long = is_whole bytes ((little_bytes 8 wall.secs ++ little_bytes 4 wall.micros) ++ behind) 9 is.whole e in
-    subst (Comes (WallTime wall)) (sym e) (rw (long, first_back 8 4 wall.secs wall.micros behind fits.0, two_back 8 4 wall.secs wall.micros behind fits.1) refl)
+    let following = is.filler ++ drop 16 bytes in
+    let long = is_whole bytes ((little_bytes 8 wall.secs ++ little_bytes 4 wall.micros) ++ following) 9 is.whole e in
+    subst (Comes (WallTime wall)) (sym e) (rw (long, first_back 8 4 wall.secs wall.micros following fits.0, two_back 8 4 wall.secs wall.micros following fits.1) refl)
 told_again (Function kind func delta) bytes fits is =
     let e = unspelled 8 (told_by (Function kind func delta)) is.filler bytes is.told in
-    let behind = is.filler ++ drop 8 bytes in
+    let following = is.filler ++ drop 8 bytes in
     let head = head_of kind func in
     let action = action_small kind in
-    let whole = (little_bytes 4 head ++ little_bytes 4 delta) ++ behind in
+    let whole = (little_bytes 4 head ++ little_bytes 4 delta) ++ following in
     let long : ltb (length whole) 8 ≡ false = le-ltb (length whole) 8 (omega (arith, length-take 8 bytes, is.whole, ap length e)) in
     let even : eqb (head % 256 % 2) 0 ≡ true = eq-eqb (head % 256 % 2) 0 (omega arith) in
     let acted : head % 256 / 2 % 8 ≡ action_of kind = omega arith in
-    let number = first_back 4 4 head delta behind (omega (arith, fits.0)) in
+    let number = first_back 4 4 head delta following (omega (arith, fits.0)) in
     let id : head / 16 ≡ func = omega arith in
-    subst (Comes (Function kind func delta)) (sym e) (rw (even, long, acted, kind_again kind, number, id, two_back 4 4 head delta behind fits.1) refl)
+    subst (Comes (Function kind func delta)) (sym e) (rw (even, long, acted, kind_again kind, number, id, two_back 4 4 head delta following fits.1) refl)
 
 abbrev HasLength : ℕ → List ℕ → Type 0
 HasLength n bytes = record_length bytes ≡ n

@@ -92,14 +92,14 @@ spelled decodes (suc n) before at (b ∷ rest) few all clean = by_answer (spelle
     by_answer again (Ok r) is =
         let h = record_stands decodes (b ∷ rest) r all is in
         let long = length_told r (b ∷ rest) h.0 h.1 in
-        let behind = drop (length_of r) (b ∷ rest) in
-        let first : standings at (b ∷ rest) ≡ (at, Ok r) ∷ standings (at + length_of r) behind = stands_first at (b ∷ rest) (omega arith) ∙ rw (is, long) refl in
-        let none = both_empty (record_faults before at r) (standing_faults (r ∷ before) (standings (at + length_of r) behind)) (sym (ap (standing_faults before) first) ∙ clean) in
-        let others = again (r ∷ before) (at + length_of r) behind (omega (arith, length-drop (length_of r) (b ∷ rest), (length_between r).0)) (All-drop (λ x. x < 256) (length_of r) (b ∷ rest) all) none.1 in
+        let following = drop (length_of r) (b ∷ rest) in
+        let first : standings at (b ∷ rest) ≡ (at, Ok r) ∷ standings (at + length_of r) following = stands_first at (b ∷ rest) (omega arith) ∙ rw (is, long) refl in
+        let none = both_empty (record_faults before at r) (standing_faults (r ∷ before) (standings (at + length_of r) following)) (sym (ap (standing_faults before) first) ∙ clean) in
+        let others = again (r ∷ before) (at + length_of r) following (omega (arith, length-drop (length_of r) (b ∷ rest), (length_between r).0)) (All-drop (λ x. x < 256) (length_of r) (b ∷ rest) all) none.1 in
         record {
           records = r ∷ others.records;
           stand = first ∙ ap (λ (x : List Standing). (at, Ok r) ∷ x) others.stand;
-          spelled = (take (length_of r) (b ∷ rest), behind, sym (take-append-drop (length_of r) (b ∷ rest)), h.0, h.1, others.spelled);
+          spelled = (take (length_of r) (b ∷ rest), following, sym (take-append-drop (length_of r) (b ∷ rest)), h.0, h.1, others.spelled);
         }
 
 -- ---- the records of a block
@@ -251,14 +251,14 @@ blocks_described decodes zero at (b ∷ rest) few all clean = absurd (omega arit
 blocks_described decodes (suc n) at (b ∷ rest) few all clean =
     let bytes : List ℕ = b ∷ rest in
     let k = block_length bytes in
-    let behind = drop k bytes in
-    let first : starts block_length 0 at (b ∷ rest) ≡ (at, b ∷ rest) ∷ starts block_length 0 (at + k) behind = starts_first block_length at (b ∷ rest) (omega arith) (omega arith) in
-    let none = both_empty (block_faults (at, b ∷ rest)) (flat_map block_faults (starts block_length 0 (at + k) behind))
-    (sym (ap (flat_map block_faults) first ∙ flat_map-cons block_faults (at, b ∷ rest) (starts block_length 0 (at + k) behind)) ∙ clean) in
+    let following = drop k bytes in
+    let first : starts block_length 0 at (b ∷ rest) ≡ (at, b ∷ rest) ∷ starts block_length 0 (at + k) following = starts_first block_length at (b ∷ rest) (omega arith) (omega arith) in
+    let none = both_empty (block_faults (at, b ∷ rest)) (flat_map block_faults (starts block_length 0 (at + k) following))
+    (sym (ap (flat_map block_faults) first ∙ flat_map-cons block_faults (at, b ∷ rest) (starts block_length 0 (at + k) following)) ∙ clean) in
     let here = block_described decodes at (b ∷ rest) all none.0 in
-    let others = blocks_described decodes n (at + k) behind (omega (arith, length-drop k (b ∷ rest))) (All-drop (λ x. x < 256) k (b ∷ rest) all) none.1 in
+    let others = blocks_described decodes n (at + k) following (omega (arith, length-drop k (b ∷ rest))) (All-drop (λ x. x < 256) k (b ∷ rest) all) none.1 in
     subst (λ (x : List (ℕ × List ℕ)). AreBlocks (map block_in x) (b ∷ rest)) (sym first)
-    (take k (b ∷ rest), behind, sym (take-append-drop k (b ∷ rest)), here.0, others)
+    (take k (b ∷ rest), following, sym (take-append-drop k (b ∷ rest)), here.0, others)
 
 -- ---- a file
 
@@ -302,7 +302,7 @@ trace_described decodes bytes trace all is =
     let both = both_empty (header_faults bytes) (flat_map block_faults (starts block_length 0 32 (drop 32 bytes))) whole.0 in
     subst (IsTrace bytes) whole.1 (record {
       front = take 32 bytes;
-      behind = drop 32 bytes;
+      following = drop 32 bytes;
       parts = sym (take-append-drop 32 bytes);
       header = header_described bytes all both.0;
       blocks = blocks_described decodes (length (drop 32 bytes)) 32 (drop 32 bytes) (omega arith) (All-drop (λ x. x < 256) 32 bytes all) both.1;

@@ -12,10 +12,10 @@ use Rattle.fdr_record.specs.declared.event.Event.{Event}
 use Rattle.fdr_record.specs.declared.rec.Rec.{Rec}
 use Rattle.fdr_record.specs.declared.rec.Rec.TheVariants.{NewBuffer, NewCpu, TscWrap, WallTime, Pid, Extents, Function}
 use Rattle.fdr_record.specs.Records.{length_of, record_bytes, told_by, FieldsFit, Spells}
-use Rattle.fdr_buffer.specs.Segments.{bytes_of, is_out_of_reach, records_behind, records_of, EventFits}
+use Rattle.fdr_buffer.specs.Segments.{bytes_of, is_out_of_reach, records_after, records_of, EventFits}
 use Rattle.fdr_buffer.specs.Filled.{Filled, used_bytes}
 use Rattle.fdr_file.specs.declared.header.Header.{Header}
-use Rattle.fdr_file.specs.Events.{counter_at, cpu_of, deltas_since, events_behind, whole_counter}
+use Rattle.fdr_file.specs.Events.{counter_at, cpu_of, deltas_since, events_after, whole_counter}
 use Rattle.fdr_file.specs.Grammar.{AreBlocks, AreSpelled, BeginWithCpu, IsBlock, IsHeader, IsInner, IsTrace, block_records}
 use Rattle.fdr_file.specs.Files.{BlockFits, HeaderFits, block_bytes, block_told, file_bytes, flags_of, header_bytes, trace_told}
 
@@ -47,7 +47,7 @@ Follows (Some before) past = (cpu_of past ≡ before.cpu) × (counter_at past �
 -- the records of an event say it
 record Tells (before : Option Event) (event : Event) (past : List Rec) (rest : List Rec) : Type 0 where
   now : List Rec
-  told : events_behind past (records_of before event ++ rest) ≡ event ∷ events_behind now rest
+  told : events_after past (records_of before event ++ rest) ≡ event ∷ events_after now rest
   follows : Follows (Some event) now
   fit : AllByRecursion FieldsFit rest → AllByRecursion FieldsFit (records_of before event ++ rest)
   inner : AllByRecursion IsInner rest → AllByRecursion IsInner (records_of before event ++ rest)
@@ -81,7 +81,7 @@ tells_new before event past rest fits is =
     let now : List Rec = Function event.kind event.func 0 ∷ NewCpu event.cpu event.tsc ∷ past in
     record {
       now = now;
-      told = ap (λ (x : List Rec). events_behind past (x ++ rest)) is ∙ ap (λ (e : Event). e ∷ events_behind now rest) (event_is event event.cpu (counter_at now) refl counter);
+      told = ap (λ (x : List Rec). events_after past (x ++ rest)) is ∙ ap (λ (e : Event). e ∷ events_after now rest) (event_is event event.cpu (counter_at now) refl counter);
       follows = (refl, counter);
       fit = λ h. subst (λ (x : List Rec). AllByRecursion FieldsFit (x ++ rest)) (sym is) ((fits.cpu, fits.tsc), ((fits.func, lit< tt), h));
       inner = λ h. subst (λ (x : List Rec). AllByRecursion IsInner (x ++ rest)) (sym is) (refl, (refl, h));
@@ -95,7 +95,7 @@ tells_wrap b event past rest fits follows same is =
     let cpu : cpu_of past ≡ event.cpu = follows.0 ∙ same in
     record {
       now = now;
-      told = ap (λ (x : List Rec). events_behind past (x ++ rest)) is ∙ ap (λ (e : Event). e ∷ events_behind now rest) (event_is event (cpu_of past) (counter_at now) cpu counter);
+      told = ap (λ (x : List Rec). events_after past (x ++ rest)) is ∙ ap (λ (e : Event). e ∷ events_after now rest) (event_is event (cpu_of past) (counter_at now) cpu counter);
       follows = (cpu, counter);
       fit = λ h. subst (λ (x : List Rec). AllByRecursion FieldsFit (x ++ rest)) (sym is) (fits.tsc, ((fits.func, lit< tt), h));
       inner = λ h. subst (λ (x : List Rec). AllByRecursion IsInner (x ++ rest)) (sym is) (refl, (refl, h));
@@ -110,7 +110,7 @@ tells_delta b event past rest fits follows same near is =
     let cpu : cpu_of past ≡ event.cpu = follows.0 ∙ same in
     record {
       now = now;
-      told = ap (λ (x : List Rec). events_behind past (x ++ rest)) is ∙ ap (λ (e : Event). e ∷ events_behind now rest) (event_is event (cpu_of past) (counter_at now) cpu counter);
+      told = ap (λ (x : List Rec). events_after past (x ++ rest)) is ∙ ap (λ (e : Event). e ∷ events_after now rest) (event_is event (cpu_of past) (counter_at now) cpu counter);
       follows = (cpu, counter);
       fit = λ h. subst (λ (x : List Rec). AllByRecursion FieldsFit (x ++ rest)) (sym is) ((fits.func, omega (arith, near.1)), h);
       inner = λ h. subst (λ (x : List Rec). AllByRecursion IsInner (x ++ rest)) (sym is) (refl, h);
@@ -128,14 +128,14 @@ tells (Some b) event past rest fits follows =
     ]
 
 record TellAll (before : Option Event) (events : List Event) (past : List Rec) : Type 0 where
-  told : events_behind past (records_behind before events) ≡ events
-  fit : AllByRecursion FieldsFit (records_behind before events)
-  inner : AllByRecursion IsInner (records_behind before events)
+  told : events_after past (records_after before events) ≡ events
+  fit : AllByRecursion FieldsFit (records_after before events)
+  inner : AllByRecursion IsInner (records_after before events)
 
 tell_all : (before : Option Event) (events : List Event) (past : List Rec) → AllByRecursion EventFits events → Follows before past → TellAll before events past
 tell_all before [] past fit follows = record { told = refl; fit = tt; inner = tt }
 tell_all before (event ∷ events) past (here, rest) follows =
-    let one = tells before event past (records_behind (Some event) events) here follows in
+    let one = tells before event past (records_after (Some event) events) here follows in
     let others = tell_all (Some event) events one.now rest one.follows in
     record {
       told = one.told ∙ ap (λ (x : List Event). event ∷ x) others.told;
@@ -145,18 +145,18 @@ tell_all before (event ∷ events) past (here, rest) follows =
 
 -- ---- blocks
 
-based : (events : List Event) → BeginWithCpu (records_behind None events)
+based : (events : List Event) → BeginWithCpu (records_after None events)
 based [] = tt
 based (event ∷ events) = refl
 
-body_spelled : (b : Filled) → b.begun ≡ true → bytes_of (block_records (block_told b) (records_behind None b.events)) ≡ used_bytes b
+body_spelled : (b : Filled) → b.begun ≡ true → bytes_of (block_records (block_told b) (records_after None b.events)) ≡ used_bytes b
 body_spelled b begun =
-    rw begun (flat_map-append record_bytes (NewBuffer b.thread ∷ WallTime b.wall ∷ Pid b.pid ∷ []) (records_behind None b.events))
+    rw begun (flat_map-append record_bytes (NewBuffer b.thread ∷ WallTime b.wall ∷ Pid b.pid ∷ []) (records_after None b.events))
 
 block_is : (b : Filled) → BlockFits b → IsBlock (block_bytes b) (block_told b)
 block_is b block =
     let fits = block.fits in
-    let records = records_behind None b.events in
+    let records = records_after None b.events in
     let all = tell_all None b.events (Pid b.pid ∷ WallTime b.wall ∷ NewBuffer b.thread ∷ []) (recursion_from_All EventFits b.events fits.events) tt in
     record {
       extents = record_bytes (Extents (length (used_bytes b)));
@@ -212,7 +212,7 @@ header_is header fits = record {
 pub file_is_trace : (header : Header) (buffers : List Filled) → HeaderFits header → All BlockFits buffers → IsTrace (file_bytes header buffers) (trace_told header buffers)
 file_is_trace header buffers header_fits fit = record {
   front = header_bytes header;
-  behind = flat_map block_bytes buffers;
+  following = flat_map block_bytes buffers;
   parts = refl;
   header = header_is header header_fits;
   blocks = blocks_are buffers (recursion_from_All BlockFits buffers fit);

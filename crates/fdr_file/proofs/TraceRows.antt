@@ -29,14 +29,14 @@ below_is n m =
 records_decide : {A : Type 0} (x : A) (before : List Rec) (said : List Standing)
     → (InTurn record_rows before said >>= λ _. Ok x) ≡ decided (standing_faults before said) x
 records_decide x before [] = refl
-records_decide x before ((at, Err fault) ∷ behind) = refl
-records_decide {A} x before ((at, Ok r) ∷ behind) =
-    by_tests (records_decide x (r ∷ before) behind) (may_be (length before) r) (list_any names_cpu before) (needs_cpu r)
+records_decide x before ((at, Err fault) ∷ following) = refl
+records_decide {A} x before ((at, Ok r) ∷ following) =
+    by_tests (records_decide x (r ∷ before) following) (may_be (length before) r) (list_any names_cpu before) (needs_cpu r)
   where
-    by_tests : (InTurn record_rows (r ∷ before) behind >>= λ _. Ok x) ≡ decided (standing_faults (r ∷ before) behind) x → (may named needs : Bool)
+    by_tests : (InTurn record_rows (r ∷ before) following >>= λ _. Ok x) ≡ decided (standing_faults (r ∷ before) following) x → (may named needs : Bool)
         → (First (not may) (Err (faults.Order at)) (First (needs && not named) (Err (faults.NoBase at)) (Ok (r ∷ before)))
-        >>= (λ after. InTurn record_rows after behind) >>= λ _. Ok x)
-        ≡ decided ((unless may (faults.Order at) ++ unless (named || not needs) (faults.NoBase at)) ++ standing_faults (r ∷ before) behind) x
+        >>= (λ after. InTurn record_rows after following) >>= λ _. Ok x)
+        ≡ decided ((unless may (faults.Order at) ++ unless (named || not needs) (faults.NoBase at)) ++ standing_faults (r ∷ before) following) x
     by_tests rest false named needs = refl
     by_tests rest true true true = rest
     by_tests rest true true false = rest

@@ -14,12 +14,12 @@ use Rattle.fdr_file.specs.Traces.{fault_at, record_in, record_length, standing_a
 use Rattle.fdr_file.specs.private.Reading.{Left, events_on, read_first, record_on, step_on, with_front}
 
 -- bytes of a part that was begun earlier are skipped
-pub starts_behind : (len : List ℕ → ℕ) (left at : ℕ) (bytes : List ℕ) → starts len left at bytes ≡ starts len 0 (at + left) (drop left bytes)
+pub starts_after : (len : List ℕ → ℕ) (left at : ℕ) (bytes : List ℕ) → starts len left at bytes ≡ starts len 0 (at + left) (drop left bytes)
 unfolding starts
-starts_behind len zero at bytes = ap (λ (k : ℕ). starts len 0 k bytes) (omega arith)
-starts_behind len (suc left) at [] = refl
-starts_behind len (suc left) at (byte ∷ bytes) =
-    starts_behind len left (at + 1) bytes ∙ ap (λ (k : ℕ). starts len 0 k (drop left bytes)) (omega arith)
+starts_after len zero at bytes = ap (λ (k : ℕ). starts len 0 k bytes) (omega arith)
+starts_after len (suc left) at [] = refl
+starts_after len (suc left) at (byte ∷ bytes) =
+    starts_after len left (at + 1) bytes ∙ ap (λ (k : ℕ). starts len 0 k (drop left bytes)) (omega arith)
 
 -- the first part, and what begins after it
 pub starts_first : (len : List ℕ → ℕ) (at : ℕ) (bytes : List ℕ) → 0 < length bytes → 0 < len bytes → starts len 0 at bytes ≡ (at, bytes) ∷ starts len 0 (at + len bytes) (drop (len bytes) bytes)
@@ -29,8 +29,8 @@ starts_first len at (byte ∷ bytes) some whole =
     let n = len (byte ∷ bytes) in
     let more : n ≡ suc (n - 1) = omega arith in
     let place : at + 1 + (n - 1) ≡ at + n = omega arith in
-    ap (λ (behind : List (ℕ × List ℕ)). (at, byte ∷ bytes) ∷ behind)
-    (starts_behind len (n - 1) (at + 1) bytes
+    ap (λ (following : List (ℕ × List ℕ)). (at, byte ∷ bytes) ∷ following)
+    (starts_after len (n - 1) (at + 1) bytes
     ∙ ap (λ (k : ℕ). starts len 0 k (drop (n - 1) bytes)) place
     ∙ ap (λ (k : ℕ). starts len 0 (at + n) (drop k (byte ∷ bytes))) (sym more))
 
@@ -48,20 +48,20 @@ stands_taken at bytes r left some e = by_answer (record_in bytes) refl e
   where
     by_answer : (a : Result Rec RecFault) → record_in bytes ≡ a → read_first (at, bytes) a ≡ Ok (r, left) → standings at bytes ≡ (at, Ok r) ∷ standings left.0 left.1
     by_answer (Ok s) is h =
-        let behind : Left = (at + record_length bytes, drop (record_length bytes) bytes) in
-        let first : Rec × Left = (s, behind) in
+        let following : Left = (at + record_length bytes, drop (record_length bytes) bytes) in
+        let first : Rec × Left = (s, following) in
         let wanted : Rec × Left = (r, left) in
         let both : first ≡ wanted = cc in
         let same : s ≡ r = ap (λ (x : Rec × Left). x.0) both in
-        let left_is : behind ≡ left = ap (λ (x : Rec × Left). x.1) both in
+        let left_is : following ≡ left = ap (λ (x : Rec × Left). x.1) both in
         stands_first at bytes some ∙ rw (is, same) (ap (λ (l : Left). (at, Ok r) ∷ standings l.0 l.1) left_is)
     by_answer (Err f) is h = absurd cc
 
 -- why there is no first record
 pub record StandsNone (at : ℕ) (bytes : List ℕ) (e : TraceFault) : Type 0 where
   pub why : RecFault
-  pub behind : List Standing
-  pub stands : standings at bytes ≡ (at, Err why) ∷ behind
+  pub following : List Standing
+  pub stands : standings at bytes ≡ (at, Err why) ∷ following
   pub fault : fault_at at why ≡ e
 
 pub stands_none : (at : ℕ) (bytes : List ℕ) (e : TraceFault) → 0 < length bytes → record_on (at, bytes) ≡ Err e → StandsNone at bytes e
@@ -72,7 +72,7 @@ stands_none at bytes e some is = by_answer (record_in bytes) refl is
     by_answer (Ok s) is h = absurd cc
     by_answer (Err f) is h = record {
       why = f;
-      behind = standings (at + record_length bytes) (drop (record_length bytes) bytes);
+      following = standings (at + record_length bytes) (drop (record_length bytes) bytes);
       stands = stands_first at bytes some ∙ rw is refl;
       fault = cc;
     }

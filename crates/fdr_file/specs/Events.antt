@@ -32,13 +32,13 @@ abbrev pub counter_at : List Rec → ℕ
 counter_at records = (whole_counter records + sum (deltas_since records)) % 2 ^ 64
 
 -- the events of records, after those before them; there is one for each function record
-abbrev pub events_behind : List Rec → List Rec → List Event
-events_behind before [] = []
-events_behind before (Function kind func delta ∷ records) =
+abbrev pub events_after : List Rec → List Rec → List Event
+events_after before [] = []
+events_after before (Function kind func delta ∷ records) =
     record { cpu = cpu_of before; func = func; kind = kind; tsc = counter_at (Function kind func delta ∷ before) }
-    ∷ events_behind (Function kind func delta ∷ before) records
-events_behind before (r ∷ records) = events_behind (r ∷ before) records
+    ∷ events_after (Function kind func delta ∷ before) records
+events_after before (r ∷ records) = events_after (r ∷ before) records
 
 -- the events of a block's records
 abbrev pub events_of : List Rec → List Event
-events_of records = events_behind [] records
+events_of records = events_after [] records

@@ -30,7 +30,7 @@ pub record IsHeader (bytes : List ℕ) (header : Header) : Type 0 where
 abbrev pub AreSpelled : List Rec → List ℕ → Type 0
 AreSpelled [] bytes = bytes ≡ []
 AreSpelled (r ∷ records) bytes =
-    (front : List ℕ) × (behind : List ℕ) × (bytes ≡ front ++ behind) × FieldsFit r × Spells front r × AreSpelled records behind
+    (front : List ℕ) × (following : List ℕ) × (bytes ≡ front ++ following) × FieldsFit r × Spells front r × AreSpelled records following
 
 -- records that may follow a preamble: CPUs, counters and functions, the first of which names a CPU
 abbrev pub IsInner : Rec → Type 0
@@ -62,12 +62,12 @@ pub record IsBlock (bytes : List ℕ) (block : Block) : Type 0 where
 abbrev pub AreBlocks : List Block → List ℕ → Type 0
 AreBlocks [] bytes = bytes ≡ []
 AreBlocks (block ∷ blocks) bytes =
-    (front : List ℕ) × (behind : List ℕ) × (bytes ≡ front ++ behind) × IsBlock front block × AreBlocks blocks behind
+    (front : List ℕ) × (following : List ℕ) × (bytes ≡ front ++ following) × IsBlock front block × AreBlocks blocks following
 
 -- The bytes of a file are this trace.
 pub record IsTrace (bytes : List ℕ) (trace : Trace) : Type 0 where
   pub front : List ℕ
-  pub behind : List ℕ
-  pub parts : bytes ≡ front ++ behind
+  pub following : List ℕ
+  pub parts : bytes ≡ front ++ following
   pub header : IsHeader front trace.header
-  pub blocks : AreBlocks trace.blocks behind
+  pub blocks : AreBlocks trace.blocks following

@@ -73,8 +73,8 @@ standings at bytes = map standing_at (starts record_length 0 at bytes)
 -- the records among these
 abbrev pub records_of : List Standing → List Rec
 records_of [] = []
-records_of ((at, Ok r) ∷ behind) = r ∷ records_of behind
-records_of ((at, Err fault) ∷ behind) = records_of behind
+records_of ((at, Ok r) ∷ following) = r ∷ records_of following
+records_of ((at, Err fault) ∷ following) = records_of following
 
 -- the thread that a record names, if a buffer begins with it
 abbrev pub thread_named : Rec → Option ℕ

@@ -6,8 +6,7 @@ ghost use Rattle.fdr_record.specs.Refusals.{Answers};
 ghost use Rattle.fdr_file.specs.declared.header.Header.{Header};
 ghost use Rattle.fdr_file.specs.declared.trace.Trace.{Trace};
 ghost use Rattle.fdr_file.specs.Files.{file_bytes, trace_told, BlockFits, HeaderFits};
-ghost use Rattle.fdr_file.specs.Grammar.{IsTrace};
-ghost use Rattle.fdr_file.specs.Traces.{record_in, trace_of};
+ghost use Rattle.fdr_file.specs.{Grammar.{IsTrace}, Traces.{record_in, trace_of}};
 
 use fdr_record::one_answer;
 

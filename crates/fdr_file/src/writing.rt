@@ -1,9 +1,7 @@
 //! Writing traces as the bytes of a file.
 
-ghost use Rattle.std.specs.Prelude.{◌≡◌, All, IsTrue, OnOk};
-ghost use Rattle.std.specs.List.{flat_map};
-ghost use Rattle.xray_io.specs.Text.{AddsText};
-ghost use Rattle.xray_io.specs.Writes.{WritesText};
+ghost use Rattle.std.specs.{Prelude.{◌≡◌, All, IsTrue, OnOk}, List.{flat_map}};
+ghost use Rattle.xray_io.specs.{Text.{AddsText}, Writes.{WritesText}};
 ghost use Rattle.fdr_record.specs.declared.rec.Rec.TheVariants.{Extents};
 ghost use Rattle.fdr_record.specs.Records.{record_bytes};
 ghost use Rattle.fdr_file.specs.Files.{block_bytes, file_bytes, flags_of, header_bytes, trace_told, BlockFits, HeaderFits};

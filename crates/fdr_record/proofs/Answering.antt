@@ -69,14 +69,14 @@ one_field : (n k a : ℕ) (bytes : List ℕ) → little_bytes n a ≡ take n byt
 one_field n k a bytes is = take-add n k bytes ∙ rw is refl
 
 -- a first byte, and what is spelled after it
-behind_first : (a b : ℕ) (xs ys : List ℕ) → a ≡ b → xs ≡ ys → a ∷ xs ≡ b ∷ ys
-behind_first a b xs ys e f = rw (e, f) refl
+after_first : (a b : ℕ) (xs ys : List ℕ) → a ≡ b → xs ≡ ys → a ∷ xs ≡ b ∷ ys
+after_first a b xs ys e f = rw (e, f) refl
 
--- a record of 16 bytes is spelled if its fields are, behind its first byte
+-- a record of 16 bytes is spelled if its fields are, after its first byte
 spelled : (r : Rec) (first head : ℕ) (rest fields filler : List ℕ) → length_of r ≡ 16 → told_by r ≡ head ∷ fields → first ≡ head → 15 ≤ length rest → take 15 rest ≡ fields ++ filler → BeginsWith r (first ∷ rest)
 spelled r first head rest fields filler size told is long parts = record {
   filler = filler;
-  told = ap (λ (n : ℕ). take n (first ∷ rest)) size ∙ behind_first first head (take 15 rest) (fields ++ filler) is parts ∙ ap (λ (xs : List ℕ). xs ++ filler) (sym told);
+  told = ap (λ (n : ℕ). take n (first ∷ rest)) size ∙ after_first first head (take 15 rest) (fields ++ filler) is parts ∙ ap (λ (xs : List ℕ). xs ++ filler) (sym told);
   whole = omega (arith, length-take (length_of r) (first ∷ rest), size);
 }
 

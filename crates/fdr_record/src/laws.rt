@@ -9,10 +9,10 @@ ghost use Rattle.fdr_record.specs.Refusals.{Answers};
 /// Bytes that begin with what is written for a record read as this record and as no other, whatever
 /// follows.
 pub fn a_record_reads_back()
-    ensures stands { (r : Rec) (behind : List ℕ) → FieldsFit r
-        → BeginsWith r (record_bytes r ++ behind) }
-    ensures answered { (r : Rec) (behind : List ℕ) → FieldsFit r
-        → (a : Result Rec RecFault) → Answers (record_bytes r ++ behind) a → a ≡ Ok r }
+    ensures stands { (r : Rec) (following : List ℕ) → FieldsFit r
+        → BeginsWith r (record_bytes r ++ following) }
+    ensures answered { (r : Rec) (following : List ℕ) → FieldsFit r
+        → (a : Result Rec RecFault) → Answers (record_bytes r ++ following) a → a ≡ Ok r }
 {}
 
 /// Bytes begin with at most one record.

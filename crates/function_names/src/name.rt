@@ -1,7 +1,6 @@
 //! The name of the function with an id.
 
-ghost use Rattle.std.specs.Prelude.{◌≡◌, ◌<◌, ◌≤◌, ◌++◌, codes, drop};
-ghost use Rattle.std.specs.Option.{option_map};
+ghost use Rattle.std.specs.{Prelude.{◌≡◌, ◌<◌, ◌≤◌, ◌++◌, codes, drop}, Option.{option_map}};
 ghost use Rattle.xray_io.specs.Text.{AddsText};
 ghost use Rattle.function_names.specs.Name.{name_in, name_text, number_text};
 

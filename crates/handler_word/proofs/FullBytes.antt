@@ -34,9 +34,9 @@ four_there bytes count n bits first room small is =
     let two = mark_in_front marks (n + 1) mark (alike_there bytes count n bits (n + 1) first room small is (omega arith) (omega arith)) in
     let three = mark_in_front marks (n + 1 + 1) mark (alike_there bytes count n bits (n + 1 + 1) first room small is (omega arith) (omega arith)) in
     let four = mark_in_front marks (n + 1 + 1 + 1) mark (alike_there bytes count n bits (n + 1 + 1 + 1) first room small is (omega arith) (omega arith)) in
-    let behind : n + 1 + 1 + 1 + 1 ≡ n + 4 = omega arith in
+    let following : n + 1 + 1 + 1 + 1 ≡ n + 4 = omega arith in
     one ∙ ap (λ (rest : List Mark). mark ∷ rest) (two ∙ ap (λ (rest : List Mark). mark ∷ rest) (three ∙ ap (λ (rest : List Mark). mark ∷ rest)
-    (four ∙ ap (λ (k : ℕ). mark ∷ drop k marks) behind)))
+    (four ∙ ap (λ (k : ℕ). mark ∷ drop k marks) following)))
 
 -- the marks of several such bytes, one after the other
 pub bytes_there : (bytes : List ℕ) (count n bits more : ℕ) → n % 4 ≡ 0 → n + more * 4 ≤ count → bits < 4
@@ -49,12 +49,12 @@ bytes_there bytes count n bits (suc more) first room small alike =
     let quarter : (n + 4) / 4 ≡ n / 4 + 1 = omega arith in
     let rest = bytes_there bytes count (n + 4) bits more (omega arith) (omega arith) small
     (λ i from to. alike i (omega (arith, quarter)) (omega (arith, quarter))) in
-    let behind : (n + 4) + more * 4 ≡ n + suc more * 4 = omega arith in
+    let following : (n + 4) + more * 4 ≡ n + suc more * 4 = omega arith in
     let size : suc more * 4 ≡ 4 + more * 4 = omega arith in
     let all : replicate (suc more * 4) mark ≡ replicate 4 mark ++ replicate (more * 4) mark =
     ap (λ (k : ℕ). replicate k mark) size ∙ sym (replicate-append-replicate 4 (more * 4) mark) in
     four_there bytes count n bits first (omega arith) small (alike (n / 4) (omega arith) (omega arith))
-    ∙ (ap (λ (l : List Mark). mark ∷ mark ∷ mark ∷ mark ∷ l) (rest ∙ ap (λ (k : ℕ). replicate (more * 4) mark ++ drop k marks) behind)
+    ∙ (ap (λ (l : List Mark). mark ∷ mark ∷ mark ∷ mark ∷ l) (rest ∙ ap (λ (k : ℕ). replicate (more * 4) mark ++ drop k marks) following)
     ∙ ap (λ (l : List Mark). l ++ drop (n + suc more * 4) marks) (sym all))
 
 -- two runs of the same mark are one

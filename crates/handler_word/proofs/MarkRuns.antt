@@ -82,8 +82,8 @@ pub run_there : (marks : List Mark) (start end : ℕ) (mark : Mark) → start < 
     → runs_of (drop start marks) ≡ (mark, end - start) ∷ runs_of (drop (start + (end - start)) marks)
 run_there marks start end mark begun same ends =
     let more : end - start ≡ suc (end - start - 1) = omega arith in
-    let behind : start + (end - start) ≡ end = omega arith in
-    rw (same, behind, more) (run_in_front mark (end - start - 1) (drop end marks) ends)
+    let following : start + (end - start) ≡ end = omega arith in
+    rw (same, following, more) (run_in_front mark (end - start - 1) (drop end marks) ends)
 
 -- later runs, each with a space before it
 abbrev pub later_runs : List Mark → List ℕ
@@ -94,16 +94,16 @@ joined run [] = sym (append-nil (run_text run))
 joined run (next ∷ runs) = ap (λ text. run_text run ++ 32 ∷ text) (joined next runs)
 
 -- the first run and the later ones are the text
-pub first_and_later : (marks : List Mark) (run : Mark × ℕ) (behind : List Mark) → 0 < length marks → runs_of marks ≡ run ∷ runs_of behind
-    → run_text run ++ later_runs behind ≡ runs_text marks
-first_and_later [] run behind some front = absurd (omega arith)
-first_and_later (mark ∷ marks) run behind some front =
-    sym (ap (λ runs. join_with_byte 32 (map run_text runs)) front ∙ joined run (runs_of behind))
+pub first_and_later : (marks : List Mark) (run : Mark × ℕ) (following : List Mark) → 0 < length marks → runs_of marks ≡ run ∷ runs_of following
+    → run_text run ++ later_runs following ≡ runs_text marks
+first_and_later [] run following some front = absurd (omega arith)
+first_and_later (mark ∷ marks) run following some front =
+    sym (ap (λ runs. join_with_byte 32 (map run_text runs)) front ∙ joined run (runs_of following))
 
 -- a run and the later ones
-pub next_and_later : (marks : List Mark) (run : Mark × ℕ) (behind : List Mark) → runs_of marks ≡ run ∷ runs_of behind
-    → (32 ∷ run_text run) ++ later_runs behind ≡ later_runs marks
-next_and_later marks run behind front = sym (ap (flat_map (λ run. 32 ∷ run_text run)) front)
+pub next_and_later : (marks : List Mark) (run : Mark × ℕ) (following : List Mark) → runs_of marks ≡ run ∷ runs_of following
+    → (32 ∷ run_text run) ++ later_runs following ≡ later_runs marks
+next_and_later marks run following front = sym (ap (flat_map (λ run. 32 ∷ run_text run)) front)
 
 -- the runs of all marks before this one were added to a text
 pub record HasRunsTo {S : Type 0} (written : S → Option (List ℕ)) (faults : S → ℕ) (along : S → S → List Write → Type 0) (old new : Text S) (marks : List Mark) (end : ℕ) : Type 0 where

@@ -105,7 +105,7 @@ fn a_name_is_read_whole_within_its_limit(rt: HostRuntime) -> Result<(), Fail> {
     Ok(())
 }
 
-/// What a reading of five bytes, one byte a call, leaves behind.
+/// What a reading of five bytes, one byte a call, leaves after.
 fn read_five(alloc: Global, limit: u64) -> Result<(Result<usize, ReadError>, Trickle), Fail> {
     let mut desk = MemDesk::new(alloc, Vec::new(alloc));
     desk.put("five", b"hello")?;

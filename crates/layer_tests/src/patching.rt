@@ -1,8 +1,7 @@
 //! Calls of `sled_patch`: runs of scripts over the table of an image with one function that prints
 //! an A.
 
-ghost use Rattle.std.specs.Prelude.{◌≡◌, ◌+◌, ◌*◌, ◌<◌, ◌≤◌, [], length, IfOk};
-ghost use Rattle.std.specs.Thread.{IsSync};
+ghost use Rattle.std.specs.{Prelude.{◌≡◌, ◌+◌, ◌*◌, ◌<◌, ◌≤◌, [], length, IfOk}, Thread.{IsSync}};
 ghost use Rattle.sled_words.specs.Words.{word_count};
 ghost use Rattle.sled_rule.specs.Plans.{code_words};
 ghost use Rattle.sled_rule.specs.Seats.{patch_view, script_of, work_view, AllMet, IsPatcherOf, IsWorkerOf};

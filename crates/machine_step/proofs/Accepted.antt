@@ -125,48 +125,48 @@ width_of_piece sleds (ReturnSled shift) = refl
 width_of_piece sleds Align = refl
 
 -- units from an address on begin there or after it
-begins_behind : (address sleds : ℕ) (pieces : List Piece) (i : ℕ) (u : Unit) → slice_get (units_from address sleds pieces) i ≡ Some u
+begins_after : (address sleds : ℕ) (pieces : List Piece) (i : ℕ) (u : Unit) → slice_get (units_from address sleds pieces) i ≡ Some u
     → address ≤ u.address
-begins_behind address sleds [] i u found = absurd cc
-begins_behind address sleds (piece ∷ pieces) zero u found =
+begins_after address sleds [] i u found = absurd cc
+begins_after address sleds (piece ∷ pieces) zero u found =
     let first : Unit = record { address = address; what = what_of sleds piece } in
     let same : first ≡ u = cc in
     let at : address ≡ u.address = ap (λ (v : Unit). v.address) same in omega arith
-begins_behind address sleds (piece ∷ pieces) (suc i) u found =
-    let later = begins_behind (address + length (piece_bytes piece)) (sleds + sleds_in piece) pieces i u found in omega arith
+begins_after address sleds (piece ∷ pieces) (suc i) u found =
+    let later = begins_after (address + length (piece_bytes piece)) (sleds + sleds_in piece) pieces i u found in omega arith
 
 -- the first address has the first place
 first_place : (address sleds : ℕ) (pieces : List Piece) → IsPlaceOf (units_from address sleds pieces) address 0
 first_place address sleds [] = inr (refl, λ among. omega (arith, among.1))
 first_place address sleds (piece ∷ pieces) = inl refl
 
-place_behind : (address sleds : ℕ) (pieces : List Piece) (i : ℕ) (u : Unit) → slice_get (units_from address sleds pieces) i ≡ Some u
+place_following : (address sleds : ℕ) (pieces : List Piece) (i : ℕ) (u : Unit) → slice_get (units_from address sleds pieces) i ≡ Some u
     → IsPlaceOf (units_from address sleds pieces) (u.address + width_of u.what) (suc i)
-place_behind address sleds [] i u found = absurd cc
-place_behind address sleds (piece ∷ pieces) zero u found =
+place_following address sleds [] i u found = absurd cc
+place_following address sleds (piece ∷ pieces) zero u found =
     let first : Unit = record { address = address; what = what_of sleds piece } in
     let same : first ≡ u = cc in
     let byte = has_byte piece in
-    let behind : address + length (piece_bytes piece) ≡ u.address + width_of u.what =
+    let following : address + length (piece_bytes piece) ≡ u.address + width_of u.what =
     ap (λ w. address + w) (sym (width_of_piece sleds piece)) ∙ ap (λ (v : Unit). v.address + width_of v.what) same in
     let other : address ≢ address + length (piece_bytes piece) = λ e. omega arith in
-    subst (λ a. IsPlaceOf (units_from address sleds (piece ∷ pieces)) a 1) behind
+    subst (λ a. IsPlaceOf (units_from address sleds (piece ∷ pieces)) a 1) following
     (place_more first _ (address + length (piece_bytes piece)) 0 other (first_place (address + length (piece_bytes piece)) (sleds + sleds_in piece) pieces))
-place_behind address sleds (piece ∷ pieces) (suc i) u found =
+place_following address sleds (piece ∷ pieces) (suc i) u found =
     let first : Unit = record { address = address; what = what_of sleds piece } in
     let byte = has_byte piece in
-    let from = begins_behind (address + length (piece_bytes piece)) (sleds + sleds_in piece) pieces i u found in
+    let from = begins_after (address + length (piece_bytes piece)) (sleds + sleds_in piece) pieces i u found in
     let other : address ≢ u.address + width_of u.what = λ e. omega arith in
     place_more first _ (u.address + width_of u.what) (suc i) other
-    (place_behind (address + length (piece_bytes piece)) (sleds + sleds_in piece) pieces i u found)
+    (place_following (address + length (piece_bytes piece)) (sleds + sleds_in piece) pieces i u found)
 
 pub are_in_order : (bytes : List ℕ) (program : Program) → IsAccepted bytes program → AreInOrder program
 are_in_order bytes program accepted =
     let units : program.units ≡ units_from (base_address bytes) 0 accepted.pieces = ap (λ (p : Program). p.units) accepted.holds in
     record {
-      behind = λ place u found.
+      following = λ place u found.
           let next : IsPlaceOf (units_from (base_address bytes) 0 accepted.pieces) (u.address + width_of u.what) (suc place) =
-          place_behind (base_address bytes) 0 accepted.pieces place u (subst (λ us. slice_get us place ≡ Some u) units found) in
+          place_following (base_address bytes) 0 accepted.pieces place u (subst (λ us. slice_get us place ≡ Some u) units found) in
           rw add-one (subst (λ us. IsPlaceOf us (u.address + width_of u.what) (suc place)) (sym units) next);
     }
 

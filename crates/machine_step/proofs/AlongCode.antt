@@ -67,9 +67,9 @@ fits_same program code next other low (load ∷ loads) high same (place, le, fir
 -- ---- the stages of a passing
 
 -- the word that is wanted after loads that bring a passing this far
-abbrev pub behind : Reading → (List Load → Option ℕ) → Option ℕ
-behind (Wants word) next = Some word
-behind (Marked mark loads) next = next loads
+abbrev pub following : Reading → (List Load → Option ℕ) → Option ℕ
+following (Wants word) next = Some word
+following (Marked mark loads) next = next loads
 
 -- whatever loads fit, the value of the word that is wanted after them is allowed
 abbrev IsSafe : Program → ℕ → (ℕ → ℕ → ℕ) → (List Load → Option ℕ) → ℕ → Type 0
@@ -88,45 +88,45 @@ by_test false M at_true at_false = at_false refl
 
 module _ (program : Program) (thread : ℕ) (code : ℕ → ℕ → ℕ) (keeps : KeepsSleds program thread code) (next : List Load → Option ℕ)
     (safe : (low : ℕ) → IsSafe program thread code next low) where
-  safe_state : (low : ℕ) → IsSafe program thread code (λ loads. behind (from_state program loads) next) low
+  safe_state : (low : ℕ) → IsSafe program thread code (λ loads. following (from_state program loads) next) low
   safe_state low [] high word fits wanted =
       allowed_at program thread code high (state_word program) word wanted (keeps.other high (state_word program) (omega arith))
   safe_state low (load ∷ loads) high word (place, le, first, value, rest) wanted = safe place loads high word rest wanted
 
-  safe_handler : (low : ℕ) → IsSafe program thread code (λ loads. behind (from_handler program loads) next) low
+  safe_handler : (low : ℕ) → IsSafe program thread code (λ loads. following (from_handler program loads) next) low
   safe_handler low [] high word fits wanted =
       allowed_at program thread code high (handler_word program) word wanted (keeps.other high (handler_word program) (omega arith))
   safe_handler low (load ∷ loads) high word (place, le, first, value, rest) wanted =
       by_test (load.value == 0)
-      (λ b. Fits program code (λ more. behind (if b then Marked NoHandler more else from_state program more) next) place loads high
-      → behind (if b then Marked NoHandler loads else from_state program loads) next ≡ Some word
+      (λ b. Fits program code (λ more. following (if b then Marked NoHandler more else from_state program more) next) place loads high
+      → following (if b then Marked NoHandler loads else from_state program loads) next ≡ Some word
       → IsAllowed program thread word (code high word))
       (λ e. safe place loads high word) (λ e. safe_state place loads high word) rest wanted
 
   -- the rest of the passing, if its head was patched at place `p`
   module _ (p k : ℕ) (head : code p (word_of k Head) ≡ patched_head) where
-    safe_offset : (low : ℕ) → p ≤ low → IsSafe program thread code (λ loads. behind (from_offset program k loads) next) low
+    safe_offset : (low : ℕ) → p ≤ low → IsSafe program thread code (λ loads. following (from_offset program k loads) next) low
     safe_offset low up [] high word fits wanted =
         allowed_at program thread code high (word_of k Offset) word wanted (keeps.part p high k Offset (omega arith) head)
     safe_offset low up (load ∷ loads) high word (place, le, first, value, rest) wanted = safe_handler place loads high word rest wanted
 
-    safe_opcode : (low : ℕ) → p ≤ low → IsSafe program thread code (λ loads. behind (from_opcode program k loads) next) low
+    safe_opcode : (low : ℕ) → p ≤ low → IsSafe program thread code (λ loads. following (from_opcode program k loads) next) low
     safe_opcode low up [] high word fits wanted =
         allowed_at program thread code high (word_of k Opcode) word wanted (keeps.part p high k Opcode (omega arith) head)
     safe_opcode low up (load ∷ loads) high word (place, le, first, value, rest) wanted = safe_offset place (omega arith) loads high word rest wanted
 
-    safe_id : (low : ℕ) → p ≤ low → IsSafe program thread code (λ loads. behind (from_id program k loads) next) low
+    safe_id : (low : ℕ) → p ≤ low → IsSafe program thread code (λ loads. following (from_id program k loads) next) low
     safe_id low up [] high word fits wanted =
         allowed_at program thread code high (word_of k Id) word wanted (keeps.part p high k Id (omega arith) head)
     safe_id low up (load ∷ loads) high word (place, le, first, value, rest) wanted = safe_opcode place (omega arith) loads high word rest wanted
 
-  safe_head : (k low : ℕ) → IsSafe program thread code (λ loads. behind (from_head program k loads) next) low
+  safe_head : (k low : ℕ) → IsSafe program thread code (λ loads. following (from_head program k loads) next) low
   safe_head k low [] high word fits wanted =
       allowed_at program thread code high (word_of k Head) word wanted (keeps.head high k)
   safe_head k low (load ∷ loads) high word (place, le, first, value, rest) wanted =
       by_test (load.value == patched_head)
-      (λ b. Fits program code (λ more. behind (if b then from_id program k more else Marked Skipped more) next) place loads high
-      → behind (if b then from_id program k loads else Marked Skipped loads) next ≡ Some word
+      (λ b. Fits program code (λ more. following (if b then from_id program k more else Marked Skipped more) next) place loads high
+      → following (if b then from_id program k loads else Marked Skipped loads) next ≡ Some word
       → IsAllowed program thread word (code high word))
       (λ e.
       let head : code place (word_of k Head) ≡ patched_head =
@@ -134,17 +134,17 @@ module _ (program : Program) (thread : ℕ) (code : ℕ → ℕ → ℕ) (keeps 
       safe_id place k head place (omega arith) loads high word)
       (λ e. safe place loads high word) rest wanted
 
-  safe_release : (k low : ℕ) → IsSafe program thread code (λ loads. behind (from_release program thread k loads) next) low
+  safe_release : (k low : ℕ) → IsSafe program thread code (λ loads. following (from_release program thread k loads) next) low
   safe_release k low [] high word fits wanted =
       allowed_at program thread code high (release_word program thread) word wanted (keeps.other high (release_word program thread) (omega arith))
   safe_release k low (load ∷ loads) high word (place, le, first, value, rest) wanted =
       by_test (load.value == 0)
-      (λ b. Fits program code (λ more. behind (if b then from_release program thread k more else from_head program k more) next) place loads high
-      → behind (if b then from_release program thread k loads else from_head program k loads) next ≡ Some word
+      (λ b. Fits program code (λ more. following (if b then from_release program thread k more else from_head program k more) next) place loads high
+      → following (if b then from_release program thread k loads else from_head program k loads) next ≡ Some word
       → IsAllowed program thread word (code high word))
       (λ e. safe_release k place loads high word) (λ e. safe_head k place loads high word) rest wanted
 
-  safe_start : (held : Bool) (k low : ℕ) → IsSafe program thread code (λ loads. behind (from_start program thread held k loads) next) low
+  safe_start : (held : Bool) (k low : ℕ) → IsSafe program thread code (λ loads. following (from_start program thread held k loads) next) low
   safe_start true k low = safe_release k low
   safe_start false k low = safe_head k low
 
@@ -152,7 +152,7 @@ module _ (program : Program) (thread : ℕ) (code : ℕ → ℕ → ℕ) (keeps 
 
 pub next_is : (program : Program) (thread : ℕ) (hold : Option ℕ) (number k : ℕ) (sleds : List ℕ) (loads : List Load) (r : Reading)
     → from_start program thread (is_held_at hold number) k loads ≡ r
-    → next_from program thread hold number (k ∷ sleds) loads ≡ behind r (next_from program thread hold (number + 1) sleds)
+    → next_from program thread hold number (k ∷ sleds) loads ≡ following r (next_from program thread hold (number + 1) sleds)
 next_is program thread hold number k sleds loads (Wants word) e = rw e refl
 next_is program thread hold number k sleds loads (Marked mark more) e = rw e refl
 
@@ -162,12 +162,12 @@ safe_from program thread code keeps hold number [] low loads high word fits want
 safe_from program thread code keeps hold number (k ∷ sleds) low loads high word fits wanted =
     let rest : List Load → Option ℕ = next_from program thread hold (number + 1) sleds in
     let same : (ls : List Load) → next_from program thread hold number (k ∷ sleds) ls
-    ≡ behind (from_start program thread (is_held_at hold number) k ls) rest =
+    ≡ following (from_start program thread (is_held_at hold number) k ls) rest =
     λ ls. next_is program thread hold number k sleds ls (from_start program thread (is_held_at hold number) k ls) refl in
     safe_start program thread code keeps rest (safe_from program thread code keeps hold (number + 1) sleds) (is_held_at hold number) k low
     loads high word
     (fits_same program code (next_from program thread hold number (k ∷ sleds))
-    (λ ls. behind (from_start program thread (is_held_at hold number) k ls) rest) low loads high same fits)
+    (λ ls. following (from_start program thread (is_held_at hold number) k ls) rest) low loads high same fits)
     (sym (same loads) ∙ wanted)
 
 -- ---- the law

@@ -9,7 +9,7 @@ use Rattle.xray_image.specs.declared.unit.What.TheVariants.{Plain, Sled, Pad}
 use Rattle.machine_step.specs.declared.limits.Limits.{Limits}
 use Rattle.machine_step.specs.declared.end.End.{End}
 use Rattle.machine_step.specs.declared.end.End.TheVariants as ends
-use Rattle.machine_step.specs.PlainStep.{Ends, Next, Passing, PlainStep, RunsTo, State, UnitStep, behind_passing, passing_at}
+use Rattle.machine_step.specs.PlainStep.{Ends, Next, Passing, PlainStep, RunsTo, State, UnitStep, after_passing, passing_at}
 
 -- it is true of the passings of all sleds
 abbrev pub OfEach : (Passing → Type 0) → Program → Limits → ℕ → Type 0
@@ -29,7 +29,7 @@ unit_each P program limits thread s (Sled k) made next each step = by_left (s.pa
         → MatchBool left ((made ≡ []) × (next ≡ Ends ends.Passings s))
         ((sled : XraySled) × (slice_get program.sleds k ≡ Some sled)
         × (made ≡ passing_at limits thread s k sled ∷ [])
-        × (next ≡ behind_passing limits (record s { passings = s.passings + 1 }) sled.kind))
+        × (next ≡ after_passing limits (record s { passings = s.passings + 1 }) sled.kind))
         → All P made
     by_left true ended = none_made P made ended.0
     by_left false (sled, found, e, goes) =

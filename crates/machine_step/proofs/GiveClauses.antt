@@ -21,7 +21,7 @@ use Rattle.machine_step.specs.private.Inside.{traced, want_at, IsAtPassing, IsSo
 use Rattle.machine_step.specs.Loads.{Load}
 use Rattle.machine_step.specs.private.Machine.{state_at, IsWithin}
 use Rattle.machine_step.specs.PlainStep.{State, Passing, PlainRun, passing_at}
-use Rattle.machine_step.specs.private.Stages.{word_at, behind_load}
+use Rattle.machine_step.specs.private.Stages.{word_at, after_load}
 use Rattle.machine_step.specs.private.Standing.{IsAtSled, PassesTo}
 use Rattle.machine_step.specs.Traced.{Allows, HasLoaded, load_of}
 use Rattle.machine_step.proofs.Giving.{Ending, IsBetween, passed_on, goes_on_loads, ends_loads, is_between}
@@ -41,21 +41,21 @@ load_here a place k at_stage value is =
     ap (λ (s : Stand). load_of (want_at a.steps.now a.thread a.machine.passings s) value) (sym is)
 
 pub clause_goes_on : (a : Inside) → IsSound a → (place k : ℕ) (at_stage next : Stage) (value : ℕ) → a.stand ≡ Loading place k at_stage
-    → behind_load at_stage value ≡ Loads next → Allows (traced a) (traced a).want value
+    → after_load at_stage value ≡ Loads next → Allows (traced a) (traced a).want value
     → (all : List Passing) (loads : List Load) → HasLoaded (traced a) all loads
     → HasLoaded (traced (standing a (Loading place k next))) all (loads ++ load_of (traced a).want value)
-clause_goes_on a sound place k at_stage next value is behind allows all loads has =
+clause_goes_on a sound place k at_stage next value is following allows all loads has =
     subst (λ (ls : List Load). HasLoaded (traced (standing a (Loading place k next))) all (loads ++ ls)) (load_here a place k at_stage value is)
-    (goes_on_loads a sound place k at_stage next value is behind (allowed_here a place k at_stage value is allows) all loads has)
+    (goes_on_loads a sound place k at_stage next value is following (allowed_here a place k at_stage value is allows) all loads has)
 
 pub clause_ends : (a : Inside) → IsSound a → (place k : ℕ) (at_stage : Stage) (value : ℕ) → (is : a.stand ≡ Loading place k at_stage) (mark : Mark)
-    → behind_load at_stage value ≡ Ends mark → Allows (traced a) (traced a).want value
+    → after_load at_stage value ≡ Ends mark → Allows (traced a) (traced a).want value
     → (m : Machine) (ms : MarkList) (stand : Stand) (at : IsAtPassing a place k) → Ending a m ms stand at.address mark
     → (all : List Passing) (loads : List Load) → HasLoaded (traced a) all loads
     → HasLoaded (traced (passed_on a m ms stand)) all (loads ++ load_of (traced a).want value)
-clause_ends a sound place k at_stage value is mark behind allows m ms stand at ending all loads has =
+clause_ends a sound place k at_stage value is mark following allows m ms stand at ending all loads has =
     subst (λ (ls : List Load). HasLoaded (traced (passed_on a m ms stand)) all (loads ++ ls)) (load_here a place k at_stage value is)
-    (ends_loads a sound place k at_stage value is mark behind (allowed_here a place k at_stage value is allows) m ms stand at ending all loads has)
+    (ends_loads a sound place k at_stage value is mark following (allowed_here a place k at_stage value is allows) m ms stand at ending all loads has)
 
 -- the passing ended in this way
 pub ending_of : (a : Inside) (place k : ℕ) (at : IsAtPassing a place k) (m : Machine) (ms : MarkList) (stand : Stand) (mark : Mark)
@@ -88,26 +88,26 @@ clause_events a sound place k at ms mark answer sled more found answered =
     one s t is = cc
 
 -- a release word is loaded again only after a release word
-only_behind : (at_stage : Stage) (value : ℕ) → behind_load at_stage value ≡ Loads stages.Release → at_stage ≡ stages.Release
-only_behind stages.Release value behind = refl
-only_behind stages.Head value behind = by (value == patched_head) behind
+only_after : (at_stage : Stage) (value : ℕ) → after_load at_stage value ≡ Loads stages.Release → at_stage ≡ stages.Release
+only_after stages.Release value following = refl
+only_after stages.Head value following = by (value == patched_head) following
   where
     by : (b : Bool) → (if b then Loads stages.Id else Ends marks.Skipped) ≡ Loads stages.Release → stages.Head ≡ stages.Release
     by true is = absurd cc
     by false is = absurd cc
-only_behind stages.Id value behind = absurd cc
-only_behind stages.Opcode value behind = absurd cc
-only_behind stages.Offset value behind = absurd cc
-only_behind stages.Handler value behind = by (value == 0) behind
+only_after stages.Id value following = absurd cc
+only_after stages.Opcode value following = absurd cc
+only_after stages.Offset value following = absurd cc
+only_after stages.Handler value following = by (value == 0) following
   where
     by : (b : Bool) → (if b then Ends marks.NoHandler else Loads stages.State) ≡ Loads stages.Release → stages.Handler ≡ stages.Release
     by true is = absurd cc
     by false is = absurd cc
-only_behind stages.State value behind = absurd cc
+only_after stages.State value following = absurd cc
 
-pub stage_behind : (hold : Option ℕ) (passing : ℕ) (at_stage next : Stage) (value : ℕ) → behind_load at_stage value ≡ Loads next
+pub stage_after : (hold : Option ℕ) (passing : ℕ) (at_stage next : Stage) (value : ℕ) → after_load at_stage value ≡ Loads next
     → IsStageOf hold passing at_stage → IsStageOf hold passing next
-stage_behind hold passing at_stage next value behind held same = held (only_behind at_stage value (behind ∙ ap Loads same))
+stage_after hold passing at_stage next value following held same = held (only_after at_stage value (following ∙ ap Loads same))
 
 pub held_at : (a : Inside) → IsSound a → (place k : ℕ) (at_stage : Stage) → a.stand ≡ Loading place k at_stage → IsStageOf a.hold a.machine.passings at_stage
 held_at a sound place k at_stage is = (subst (StandsSo a) is sound.stands).1

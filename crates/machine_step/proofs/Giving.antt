@@ -20,17 +20,17 @@ use Rattle.machine_step.specs.PlainStep.{State, Passing, PlainRun, opening, pass
 use Rattle.machine_step.specs.private.Inside.{traced, want_at, IsAtPassing, IsSound, StandsSo}
 use Rattle.machine_step.specs.Loads.{Load, marks_of, next_from}
 use Rattle.machine_step.specs.private.Machine.{state_at, IsWithin}
-use Rattle.machine_step.specs.private.Stages.{word_at, first_stage, behind_load}
+use Rattle.machine_step.specs.private.Stages.{word_at, first_stage, after_load}
 use Rattle.machine_step.specs.private.Standing.{RunsBy}
-use Rattle.machine_step.specs.Traced.{Traced, HasLoaded, IsWant, sleds_of, wanted_behind}
+use Rattle.machine_step.specs.Traced.{Traced, HasLoaded, IsWant, sleds_of, wanted_after}
 use Rattle.machine_step.proofs.Accepted.{are_in_order}
 use Rattle.machine_step.proofs.OneUnit.{accepted_units}
 use Rattle.machine_step.proofs.OneEnd.{same_run}
 use Rattle.machine_step.proofs.Loading.{Adds, in_passing, first_next}
-use Rattle.machine_step.proofs.OnCourse.{reaches_behind, runs_behind, way_count, run_count}
+use Rattle.machine_step.proofs.OnCourse.{reaches_after, runs_after, way_count, run_count}
 use Rattle.machine_step.proofs.Opening.{loading_at, standing}
 use Rattle.machine_step.proofs.ToSled.{at_passing}
-use Rattle.machine_step.proofs.Tracing.{before_of, found_behind, same_split, sleds_split, sleds_length, goes_on_by, first_word_is}
+use Rattle.machine_step.proofs.Tracing.{before_of, found_after, same_split, sleds_split, sleds_length, goes_on_by, first_word_is}
 use Rattle.machine_step.proofs.WordsAt.{same_stage}
 
 -- ---- what a load adds
@@ -41,12 +41,12 @@ pub record LoadsHere (a : Inside) (k : ℕ) (at_stage : Stage) (passed : List Pa
   pub goes_on : all ≡ passed ++ next ∷ later
   pub adds : (load : Load) → Adds a.steps.now a.thread a.hold 0 k (sleds_of later) a.marks.items
       (marks_of a.steps.now a.thread a.hold (sleds_of all) (loads ++ load ∷ []))
-      (wanted_behind (traced a) all (loads ++ load ∷ [])) (behind_load at_stage load.value)
+      (wanted_after (traced a) all (loads ++ load ∷ [])) (after_load at_stage load.value)
 
 wanted_word : (a : Inside) (place k : ℕ) (at_stage : Stage) → a.stand ≡ Loading place k at_stage → (all : List Passing) (loads : List Load)
-    → (has : HasLoaded (traced a) all loads) → wanted_behind (traced a) all loads ≡ Some (word_at a.steps.now a.thread k at_stage)
+    → (has : HasLoaded (traced a) all loads) → wanted_after (traced a) all loads ≡ Some (word_at a.steps.now a.thread k at_stage)
 wanted_word a place k at_stage is all loads has =
-    subst (λ (s : Stand). IsWant (traced a) all (wanted_behind (traced a) all loads) has.end (want_at a.steps.now a.thread a.machine.passings s)) is has.wants
+    subst (λ (s : Stand). IsWant (traced a) all (wanted_after (traced a) all loads) has.end (want_at a.steps.now a.thread a.machine.passings s)) is has.wants
 
 pub loads_here : (a : Inside) → IsSound a → (place k : ℕ) (at_stage : Stage) → a.stand ≡ Loading place k at_stage → (at : IsAtPassing a place k)
     → (all : List Passing) (loads : List Load) → HasLoaded (traced a) all loads
@@ -69,11 +69,11 @@ loads_here a sound place k at_stage is at all loads has =
       goes_on = on.is;
       adds = λ load.
           let all_marks = marks_of a.steps.now a.thread a.hold (sleds_of all) (loads ++ load ∷ []) in
-          let wanted = wanted_behind (traced a) all (loads ++ load ∷ []) in
-          subst (λ (s : Stage). Adds a.steps.now a.thread a.hold 0 k (sleds_of on.later) a.marks.items all_marks wanted (behind_load s load.value)) (sym same)
-          (subst (λ j. Adds a.steps.now a.thread a.hold 0 j (sleds_of on.later) a.marks.items all_marks wanted (behind_load here.at load.value)) sled
-          (subst (λ (ks : List ℕ). Adds a.steps.now a.thread a.hold 0 here.sled ks a.marks.items all_marks wanted (behind_load here.at load.value)) split.1
-          (subst (λ (ms : List Mark). Adds a.steps.now a.thread a.hold 0 here.sled here.rest ms all_marks wanted (behind_load here.at load.value)) (sym has.marks)
+          let wanted = wanted_after (traced a) all (loads ++ load ∷ []) in
+          subst (λ (s : Stage). Adds a.steps.now a.thread a.hold 0 k (sleds_of on.later) a.marks.items all_marks wanted (after_load s load.value)) (sym same)
+          (subst (λ j. Adds a.steps.now a.thread a.hold 0 j (sleds_of on.later) a.marks.items all_marks wanted (after_load here.at load.value)) sled
+          (subst (λ (ks : List ℕ). Adds a.steps.now a.thread a.hold 0 here.sled ks a.marks.items all_marks wanted (after_load here.at load.value)) split.1
+          (subst (λ (ms : List Mark). Adds a.steps.now a.thread a.hold 0 here.sled here.rest ms all_marks wanted (after_load here.at load.value)) (sym has.marks)
           (here.adds load))));
     }
 
@@ -93,15 +93,15 @@ got_more {X} (first ∷ xs) x (suc i) y found = later (got_more xs x i y found)
     later (inr (last, same)) = inr (last, ap (λ (zs : List X). first ∷ zs) same)
 
 wanted_more : (t : Traced) (all : List Passing) (loads : List Load) (load : Load)
-    → ((i : ℕ) (l : Load) → slice_get loads i ≡ Some l → wanted_behind t all (take i loads) ≡ Some l.word)
-    → wanted_behind t all loads ≡ Some load.word
-    → (i : ℕ) (l : Load) → slice_get (loads ++ load ∷ []) i ≡ Some l → wanted_behind t all (take i (loads ++ load ∷ [])) ≡ Some l.word
+    → ((i : ℕ) (l : Load) → slice_get loads i ≡ Some l → wanted_after t all (take i loads) ≡ Some l.word)
+    → wanted_after t all loads ≡ Some load.word
+    → (i : ℕ) (l : Load) → slice_get (loads ++ load ∷ []) i ≡ Some l → wanted_after t all (take i (loads ++ load ∷ [])) ≡ Some l.word
 wanted_more t all loads load wanted next i l found = by (got_more loads load i l found)
   where
     by : ((slice_get loads i ≡ Some l) × (take i (loads ++ load ∷ []) ≡ take i loads)) ⊎ ((load ≡ l) × (take i (loads ++ load ∷ []) ≡ loads))
-        → wanted_behind t all (take i (loads ++ load ∷ [])) ≡ Some l.word
-    by (inl (before, same)) = ap (wanted_behind t all) same ∙ wanted i l before
-    by (inr (last, same)) = ap (wanted_behind t all) same ∙ (next ∙ ap (λ (x : Load). Some x.word) last)
+        → wanted_after t all (take i (loads ++ load ∷ [])) ≡ Some l.word
+    by (inl (before, same)) = ap (wanted_after t all) same ∙ wanted i l before
+    by (inr (last, same)) = ap (wanted_after t all) same ∙ (next ∙ ap (λ (x : Load). Some x.word) last)
 
 all_one : {X : Type 0} (P : X → Type 0) (x : X) → P x → All P (x ∷ [])
 all_one P x p zero d below = p
@@ -125,7 +125,7 @@ loaded_more : (a : Inside) (m : Machine) (ms : MarkList) (stand : Stand) (place 
     → (all : List Passing) (loads : List Load) (has : HasLoaded (traced a) all loads)
     → let more = loads ++ record { word = word_at a.steps.now a.thread k at_stage; value = value } ∷ [] in
     ms.items ≡ marks_of a.steps.now a.thread a.hold (sleds_of all) more
-    → IsWant (traced (passed_on a m ms stand)) all (wanted_behind (traced a) all more) has.end (want_at a.steps.now a.thread m.passings stand)
+    → IsWant (traced (passed_on a m ms stand)) all (wanted_after (traced a) all more) has.end (want_at a.steps.now a.thread m.passings stand)
     → HasLoaded (traced (passed_on a m ms stand)) all more
 loaded_more a m ms stand place k at_stage value is allowed all loads has marks wants =
     let load : Load = record { word = word_at a.steps.now a.thread k at_stage; value = value } in
@@ -142,15 +142,15 @@ loaded_more a m ms stand place k at_stage value is allowed all loads has marks w
 -- ---- a passing that goes on
 
 pub goes_on_loads : (a : Inside) → IsSound a → (place k : ℕ) (at_stage next : Stage) (value : ℕ) → a.stand ≡ Loading place k at_stage
-    → behind_load at_stage value ≡ Loads next → IsAllowed a.steps.now a.thread (word_at a.steps.now a.thread k at_stage) value
+    → after_load at_stage value ≡ Loads next → IsAllowed a.steps.now a.thread (word_at a.steps.now a.thread k at_stage) value
     → (all : List Passing) (loads : List Load) → HasLoaded (traced a) all loads
     → HasLoaded (traced (standing a (Loading place k next))) all (loads ++ record { word = word_at a.steps.now a.thread k at_stage; value = value } ∷ [])
-goes_on_loads a sound place k at_stage next value is behind allowed all loads has =
+goes_on_loads a sound place k at_stage next value is following allowed all loads has =
     let at = loading_at a sound place k at_stage is in
     let load : Load = record { word = word_at a.steps.now a.thread k at_stage; value = value } in
     let here = loads_here a sound place k at_stage is at all loads has in
     let adds = subst (λ (n : Next). Adds a.steps.now a.thread a.hold 0 k (sleds_of here.later) a.marks.items
-    (marks_of a.steps.now a.thread a.hold (sleds_of all) (loads ++ load ∷ [])) (wanted_behind (traced a) all (loads ++ load ∷ [])) n) behind (here.adds load) in
+    (marks_of a.steps.now a.thread a.hold (sleds_of all) (loads ++ load ∷ [])) (wanted_after (traced a) all (loads ++ load ∷ [])) n) following (here.adds load) in
     loaded_more a a.machine a.marks (Loading place k next) place k at_stage value is allowed all loads has (sym adds.0) adds.1
 
 -- ---- a passing that ends
@@ -163,12 +163,12 @@ pub record Ending (a : Inside) (m : Machine) (ms : MarkList) (stand : Stand) (ad
   pub made : Passing
   pub runs : RunsBy a.steps.now a.limits a.thread address a.machine (made ∷ []) stand m
 
-stands_behind : (a : Inside) → IsSound a → (place k : ℕ) (at : IsAtPassing a place k) (m : Machine) (ms : MarkList) (made : Passing)
+stands_after : (a : Inside) → IsSound a → (place k : ℕ) (at : IsAtPassing a place k) (m : Machine) (ms : MarkList) (made : Passing)
     → IsWithin a.limits m → (whole stand : Stand) → RunsBy a.steps.now a.limits a.thread at.address a.machine (made ∷ []) stand m
     → StandsSo (passed_on a m ms whole) stand × (m.passings ≡ a.machine.passings + 1)
-stands_behind a sound place k at m ms made within whole (Gate place' k') (there, at', (n, reached)) =
+stands_after a sound place k at m ms made within whole (Gate place' k') (there, at', (n, reached)) =
     let program = a.steps.now in
-    let way = reaches_behind program a.limits a.thread at.comes.steps n (opening program a.thread) (state_at at.address a.machine) (state_at there m)
+    let way = reaches_after program a.limits a.thread at.comes.steps n (opening program a.thread) (state_at at.address a.machine) (state_at there m)
     at.passed (made ∷ []) at.comes.reached reached in
     let count : m.passings ≡ 0 + length (at.passed ++ made ∷ []) =
     way_count program a.limits a.thread way.0 (opening program a.thread) (state_at there m) (at.passed ++ made ∷ []) way.1 in
@@ -181,14 +181,14 @@ stands_behind a sound place k at m ms made within whole (Gate place' k') (there,
         passed = at.passed ++ made ∷ [];
         next = passing_at a.limits a.thread (state_at there m) k' next.sled;
         count = omega (arith);
-        comes = record { steps = way.0; reached = way.1; behind = next.next; passes = next.passes };
+        comes = record { steps = way.0; reached = way.1; following = next.next; passes = next.passes };
       },
       omega (arith, at.count),
     )
-stands_behind a sound place k at m ms made within whole (Loading place' k' at_stage) run = absurd run
-stands_behind a sound place k at m ms made within whole (Ended end) (there, (n, run)) =
+stands_after a sound place k at m ms made within whole (Loading place' k' at_stage) run = absurd run
+stands_after a sound place k at m ms made within whole (Ended end) (there, (n, run)) =
     let program = a.steps.now in
-    let way = runs_behind program a.limits a.thread at.comes.steps n (opening program a.thread) (state_at at.address a.machine) (state_at there m)
+    let way = runs_after program a.limits a.thread at.comes.steps n (opening program a.thread) (state_at at.address a.machine) (state_at there m)
     at.passed (made ∷ []) end at.comes.reached run in
     let count : m.passings ≡ 0 + length (at.passed ++ made ∷ []) =
     run_count program a.limits a.thread way.0 (opening program a.thread) (state_at there m) (at.passed ++ made ∷ []) end way.1 in
@@ -202,10 +202,10 @@ stands_behind a sound place k at m ms made within whole (Ended end) (there, (n, 
       omega (arith, at.count),
     )
 
-pub sound_behind : (a : Inside) → IsSound a → (place k : ℕ) (at : IsAtPassing a place k) (m : Machine) (ms : MarkList) (stand : Stand) (mark : Mark)
+pub sound_after : (a : Inside) → IsSound a → (place k : ℕ) (at : IsAtPassing a place k) (m : Machine) (ms : MarkList) (stand : Stand) (mark : Mark)
     → Ending a m ms stand at.address mark → IsSound (passed_on a m ms stand)
-sound_behind a sound place k at m ms stand mark ending =
-    let stands = stands_behind a sound place k at m ms ending.made ending.within stand stand ending.runs in
+sound_after a sound place k at m ms stand mark ending =
+    let stands = stands_after a sound place k at m ms ending.made ending.within stand stand ending.runs in
     let long : length ms.items ≡ length a.marks.items + 1 = ap length ending.items ∙ length-append a.marks.items (mark ∷ []) in
     record {
       setup = sound.setup;
@@ -252,7 +252,7 @@ wants_at b sound passed rest all end last wanted run is long wants (Gate place k
       sym sound.made,
       record {
         passing = at.next;
-        found = ap (slice_get all) here ∙ (ap (λ (ps : List Passing). slice_get ps (length at.passed)) on.is ∙ found_behind at.passed at.next on.later);
+        found = ap (slice_get all) here ∙ (ap (λ (ps : List Passing). slice_get ps (length at.passed)) on.is ∙ found_after at.passed at.next on.later);
         first = wants
             ∙ (ap (λ (ps : List Passing). next_from b.steps.now b.thread b.hold (length b.marks.items) (sleds_of ps) []) rest_is
             ∙ (first_next b.steps.now b.thread b.hold (length b.marks.items) at.next.sled (sleds_of on.later)
@@ -272,23 +272,23 @@ wants_at b sound passed rest all end last wanted run is long wants (Ended e) pas
     )
 
 pub ends_loads : (a : Inside) → IsSound a → (place k : ℕ) (at_stage : Stage) (value : ℕ) (is : a.stand ≡ Loading place k at_stage) (mark : Mark)
-    → behind_load at_stage value ≡ Ends mark → IsAllowed a.steps.now a.thread (word_at a.steps.now a.thread k at_stage) value
+    → after_load at_stage value ≡ Ends mark → IsAllowed a.steps.now a.thread (word_at a.steps.now a.thread k at_stage) value
     → (m : Machine) (ms : MarkList) (stand : Stand) → (at : IsAtPassing a place k) → Ending a m ms stand at.address mark
     → (all : List Passing) (loads : List Load) → HasLoaded (traced a) all loads
     → HasLoaded (traced (passed_on a m ms stand)) all (loads ++ record { word = word_at a.steps.now a.thread k at_stage; value = value } ∷ [])
-ends_loads a sound place k at_stage value is mark behind allowed m ms stand at ending all loads has =
+ends_loads a sound place k at_stage value is mark following allowed m ms stand at ending all loads has =
     let load : Load = record { word = word_at a.steps.now a.thread k at_stage; value = value } in
     let here = loads_here a sound place k at_stage is at all loads has in
     let adds = subst (λ (n : Next). Adds a.steps.now a.thread a.hold 0 k (sleds_of here.later) a.marks.items
-    (marks_of a.steps.now a.thread a.hold (sleds_of all) (loads ++ load ∷ [])) (wanted_behind (traced a) all (loads ++ load ∷ [])) n) behind (here.adds load) in
-    let after = sound_behind a sound place k at m ms stand mark ending in
+    (marks_of a.steps.now a.thread a.hold (sleds_of all) (loads ++ load ∷ [])) (wanted_after (traced a) all (loads ++ load ∷ [])) n) following (here.adds load) in
+    let after = sound_after a sound place k at m ms stand mark ending in
     let long : length ms.items ≡ length a.marks.items + 1 = ap length ending.items ∙ length-append a.marks.items (mark ∷ []) in
     let here_long : length a.marks.items ≡ length at.passed = sound.made ∙ sym at.count in
     let more_long = length-append at.passed (at.next ∷ []) in
     let number : 0 + length a.marks.items + 1 ≡ length ms.items = omega arith in
     loaded_more a m ms stand place k at_stage value is allowed all loads has (ending.items ∙ sym adds.0)
     (wants_at (passed_on a m ms stand) after (at.passed ++ at.next ∷ []) here.later all has.end has.last
-    (wanted_behind (traced a) all (loads ++ load ∷ [])) has.run
+    (wanted_after (traced a) all (loads ++ load ∷ [])) has.run
     (here.goes_on ∙ sym (append_assoc at.passed (at.next ∷ []) here.later)) (omega arith)
     (adds.1 ∙ ap (λ n. next_from a.steps.now a.thread a.hold n (sleds_of here.later) []) number)
     stand after.stands (is_between a.steps.now a.limits a.thread at.address a.machine m (ending.made ∷ []) stand ending.runs))

@@ -24,7 +24,7 @@ use Rattle.machine_step.specs.Events.{event_of, events_in, recorded}
 use Rattle.machine_step.specs.private.Inside.{traced, want_at, IsAtPassing, IsSound, StandsSo}
 use Rattle.machine_step.specs.private.Machine.{state_at}
 use Rattle.machine_step.specs.PlainStep.{State, Passing, PlainRun, passing_at}
-use Rattle.machine_step.specs.private.Stages.{word_at, behind_load}
+use Rattle.machine_step.specs.private.Stages.{word_at, after_load}
 use Rattle.machine_step.specs.Traced.{IsKept, MarksAdded, loads_left, steps_left}
 use Rattle.machine_step.proofs.Giving.{IsBetween, passed_on}
 use Rattle.machine_step.proofs.Opening.{loading_at, standing}
@@ -53,20 +53,20 @@ state_is : (value : ℕ) (b : Bool) (mark : Mark) → (value == 2) ≡ b → is_
 state_is value true mark is recorded same = eqb-true value 2 is
 state_is value false mark is recorded same = let marks : marks.NotLogging ≡ mark = cc in absurd (cc (ap is_recorded marks))
 
-recorded_behind : (at_stage : Stage) (value : ℕ) (mark : Mark) → behind_load at_stage value ≡ Ends mark → is_recorded mark ≡ true
+recorded_after : (at_stage : Stage) (value : ℕ) (mark : Mark) → after_load at_stage value ≡ Ends mark → is_recorded mark ≡ true
     → (at_stage ≡ stages.State) × (value ≡ 2)
-recorded_behind stages.Release value mark is recorded = absurd (loads_or_loads (value == 0) stages.Release stages.Head mark is)
-recorded_behind stages.Head value mark is recorded = absurd (loads_or_unrecorded (value == patched_head) stages.Id mark marks.Skipped refl recorded is)
-recorded_behind stages.Id value mark is recorded = absurd cc
-recorded_behind stages.Opcode value mark is recorded = absurd cc
-recorded_behind stages.Offset value mark is recorded = absurd cc
-recorded_behind stages.Handler value mark is recorded = absurd (unrecorded_or_loads (value == 0) stages.State mark marks.NoHandler refl recorded is)
-recorded_behind stages.State value mark is recorded = (refl, state_is value (value == 2) mark refl recorded is)
+recorded_after stages.Release value mark is recorded = absurd (loads_or_loads (value == 0) stages.Release stages.Head mark is)
+recorded_after stages.Head value mark is recorded = absurd (loads_or_unrecorded (value == patched_head) stages.Id mark marks.Skipped refl recorded is)
+recorded_after stages.Id value mark is recorded = absurd cc
+recorded_after stages.Opcode value mark is recorded = absurd cc
+recorded_after stages.Offset value mark is recorded = absurd cc
+recorded_after stages.Handler value mark is recorded = absurd (unrecorded_or_loads (value == 0) stages.State mark marks.NoHandler refl recorded is)
+recorded_after stages.State value mark is recorded = (refl, state_is value (value == 2) mark refl recorded is)
 
 -- and after that it is
-recorded_at : (value : ℕ) (mark : Mark) → value ≡ 2 → behind_load stages.State value ≡ Ends mark → is_recorded mark ≡ true
+recorded_at : (value : ℕ) (mark : Mark) → value ≡ 2 → after_load stages.State value ≡ Ends mark → is_recorded mark ≡ true
 recorded_at value mark two is =
-    let at : behind_load stages.State 2 ≡ Ends mark = ap (behind_load stages.State) (sym two) ∙ is in
+    let at : after_load stages.State 2 ≡ Ends mark = ap (after_load stages.State) (sym two) ∙ is in
     let same : marks.Recorded ≡ mark = cc in ap is_recorded (sym same)
 
 -- the stage of the state word
@@ -90,27 +90,27 @@ some_if true event is = refl
 some_if false event is = absurd cc
 
 pub some_at_end : (a : Inside) → IsSound a → (place k : ℕ) (at_stage : Stage) (value : ℕ) (mark : Mark) (event : Event) (answer : Option Event)
-    → a.stand ≡ Loading place k at_stage → behind_load at_stage value ≡ Ends mark → answer ≡ (if is_recorded mark then Some event else None)
+    → a.stand ≡ Loading place k at_stage → after_load at_stage value ≡ Ends mark → answer ≡ (if is_recorded mark then Some event else None)
     → IsSome answer ↔ ((traced a).want ≡ wants.Load (state_word a.steps.now)) × (value ≡ 2)
-some_at_end a sound place k at_stage value mark event answer is behind answered = (
+some_at_end a sound place k at_stage value mark event answer is following answered = (
   λ some.
-      let here = recorded_behind at_stage value mark behind
+      let here = recorded_after at_stage value mark following
       (some_if (is_recorded mark) event (subst (λ (o : Option Event). IsSome o) answered some)) in
       (wants_state a place k at_stage is here.0, here.1),
   λ (wanted, two).
       let at = at_state a sound place k at_stage is wanted in
-      let recorded = recorded_at value mark two (ap (λ (s : Stage). behind_load s value) (sym at) ∙ behind) in
+      let recorded = recorded_at value mark two (ap (λ (s : Stage). after_load s value) (sym at) ∙ following) in
       subst (λ (o : Option Event). IsSome o) (sym (answered ∙ ap (λ b. if b then Some event else None) recorded)) refl,
 )
 
 pub some_goes_on : (a : Inside) → IsSound a → (place k : ℕ) (at_stage next : Stage) (value : ℕ) (answer : Option Event)
-    → a.stand ≡ Loading place k at_stage → behind_load at_stage value ≡ Loads next → answer ≡ None
+    → a.stand ≡ Loading place k at_stage → after_load at_stage value ≡ Loads next → answer ≡ None
     → IsSome answer ↔ ((traced a).want ≡ wants.Load (state_word a.steps.now)) × (value ≡ 2)
-some_goes_on a sound place k at_stage next value answer is behind none = (
+some_goes_on a sound place k at_stage next value answer is following none = (
   λ some. absurd (no_event answer none some),
   λ (wanted, two).
       let at = at_state a sound place k at_stage is wanted in
-      let other : behind_load stages.State value ≡ Loads next = ap (λ (s : Stage). behind_load s value) (sym at) ∙ behind in
+      let other : after_load stages.State value ≡ Loads next = ap (λ (s : Stage). after_load s value) (sym at) ∙ following in
       absurd cc,
 )
   where
@@ -197,21 +197,21 @@ release_at a sound place k at_stage is wanted =
     same_stage a.steps.now a.thread k at_stage stages.Release within sound.setup.some_thread words
 
 pub kept_same : (a : Inside) → IsSound a → (place k : ℕ) (at_stage next : Stage) (value : ℕ) → a.stand ≡ Loading place k at_stage
-    → behind_load at_stage value ≡ Loads next → IsKept (traced a) value → traced (standing a (Loading place k next)) ≡ traced a
-kept_same a sound place k at_stage next value is behind kept =
+    → after_load at_stage value ≡ Loads next → IsKept (traced a) value → traced (standing a (Loading place k next)) ≡ traced a
+kept_same a sound place k at_stage next value is following kept =
     let at = release_at a sound place k at_stage is kept.word in
-    let by_value : behind_load stages.Release 0 ≡ Loads next =
-    sym (ap (behind_load stages.Release) kept.unset) ∙ (ap (λ (s : Stage). behind_load s value) (sym at) ∙ behind) in
+    let by_value : after_load stages.Release 0 ≡ Loads next =
+    sym (ap (after_load stages.Release) kept.unset) ∙ (ap (λ (s : Stage). after_load s value) (sym at) ∙ following) in
     let same : stages.Release ≡ next = cc in
     let stands : Loading place k next ≡ a.stand = ap (Loading place k) (sym same ∙ sym at) ∙ sym is in
     ap (λ (s : Stand). traced (standing a s)) stands
 
 pub kept_not : (a : Inside) → IsSound a → (place k : ℕ) (at_stage : Stage) (value : ℕ) (mark : Mark) → a.stand ≡ Loading place k at_stage
-    → behind_load at_stage value ≡ Ends mark → IsKept (traced a) value → ⊥
-kept_not a sound place k at_stage value mark is behind kept =
+    → after_load at_stage value ≡ Ends mark → IsKept (traced a) value → ⊥
+kept_not a sound place k at_stage value mark is following kept =
     let at = release_at a sound place k at_stage is kept.word in
-    let by_value : behind_load stages.Release 0 ≡ Ends mark =
-    sym (ap (behind_load stages.Release) kept.unset) ∙ (ap (λ (s : Stage). behind_load s value) (sym at) ∙ behind) in
+    let by_value : after_load stages.Release 0 ≡ Ends mark =
+    sym (ap (after_load stages.Release) kept.unset) ∙ (ap (λ (s : Stage). after_load s value) (sym at) ∙ following) in
     cc
 
 -- ---- how far it is from its end
@@ -247,38 +247,38 @@ steps_left_at program thread k stages.State within some = low_word program (word
 
 -- a load that goes on comes to a nearer stage, unless it is a release word of 0
 pub next_left : (program : Program) (thread k : ℕ) (at_stage next : Stage) (value : ℕ) → k < length program.sleds → 0 < thread
-    → behind_load at_stage value ≡ Loads next → ((at_stage ≡ stages.Release) × (value ≡ 0) → ⊥)
+    → after_load at_stage value ≡ Loads next → ((at_stage ≡ stages.Release) × (value ≡ 0) → ⊥)
     → left_at program thread k next < left_at program thread k at_stage
-next_left program thread k stages.Release next value within some behind free = by_value (value == 0) refl behind
+next_left program thread k stages.Release next value within some following free = by_value (value == 0) refl following
   where
     by_value : (b : Bool) → (value == 0) ≡ b → (if b then Loads stages.Release else Loads stages.Head) ≡ Loads next
         → left_at program thread k next < state_word program + 2
     by_value true is same = absurd (free (refl, eqb-true value 0 is))
     by_value false is same = let at : stages.Head ≡ next = cc in subst (λ (s : Stage). left_at program thread k s < state_word program + 2) at (omega arith)
-next_left program thread k stages.Head next value within some behind free = by_value (value == patched_head) behind
+next_left program thread k stages.Head next value within some following free = by_value (value == patched_head) following
   where
     by_value : (b : Bool) → (if b then Loads stages.Id else Ends marks.Skipped) ≡ Loads next
         → left_at program thread k next < left_at program thread k stages.Head
     by_value true same = let at : stages.Id ≡ next = cc in subst (λ (s : Stage). left_at program thread k s < left_at program thread k stages.Head) at (omega arith)
     by_value false same = absurd cc
-next_left program thread k stages.Id next value within some behind free =
+next_left program thread k stages.Id next value within some following free =
     let at : stages.Opcode ≡ next = cc in subst (λ (s : Stage). left_at program thread k s < left_at program thread k stages.Id) at (omega arith)
-next_left program thread k stages.Opcode next value within some behind free =
+next_left program thread k stages.Opcode next value within some following free =
     let at : stages.Offset ≡ next = cc in subst (λ (s : Stage). left_at program thread k s < left_at program thread k stages.Opcode) at (omega arith)
-next_left program thread k stages.Offset next value within some behind free =
+next_left program thread k stages.Offset next value within some following free =
     let at : stages.Handler ≡ next = cc in subst (λ (s : Stage). left_at program thread k s < left_at program thread k stages.Offset) at (omega arith)
-next_left program thread k stages.Handler next value within some behind free = by_value (value == 0) behind
+next_left program thread k stages.Handler next value within some following free = by_value (value == 0) following
   where
     by_value : (b : Bool) → (if b then Ends marks.NoHandler else Loads stages.State) ≡ Loads next
         → left_at program thread k next < left_at program thread k stages.Handler
     by_value true same = absurd cc
     by_value false same = let at : stages.State ≡ next = cc in subst (λ (s : Stage). left_at program thread k s < left_at program thread k stages.Handler) at (omega arith)
-next_left program thread k stages.State next value within some behind free = absurd cc
+next_left program thread k stages.State next value within some following free = absurd cc
 
 pub nearer_on : (a : Inside) → IsSound a → (place k : ℕ) (at_stage next : Stage) (value : ℕ) → a.stand ≡ Loading place k at_stage
-    → behind_load at_stage value ≡ Loads next → (IsKept (traced a) value → ⊥)
+    → after_load at_stage value ≡ Loads next → (IsKept (traced a) value → ⊥)
     → loads_left (traced (standing a (Loading place k next))) < loads_left (traced a)
-nearer_on a sound place k at_stage next value is behind free =
+nearer_on a sound place k at_stage next value is following free =
     let program = a.steps.now in
     let before = before_of a sound place k (loading_at a sound place k at_stage is) in
     let within = slice_get_within program.sleds k before.sled before.found in
@@ -288,7 +288,7 @@ nearer_on a sound place k at_stage next value is behind free =
       word = ap (want_at program a.thread a.machine.passings) (is ∙ ap (Loading place k) here.0);
       unset = here.1;
     }) in
-    let less = next_left program a.thread k at_stage next value within sound.setup.some_thread behind not_kept in
+    let less = next_left program a.thread k at_stage next value within sound.setup.some_thread following not_kept in
     let new = steps_left_at program a.thread k next within sound.setup.some_thread in
     let old : steps_left program (traced a).want ≡ left_at program a.thread k at_stage =
     ap (λ (s : Stand). steps_left program (want_at program a.thread a.machine.passings s)) is ∙ steps_left_at program a.thread k at_stage within sound.setup.some_thread in

@@ -10,7 +10,7 @@ use Rattle.machine_step.specs.declared.stage.Stage.TheVariants as stages
 use Rattle.machine_step.specs.declared.stage.Next.{Next}
 use Rattle.machine_step.specs.declared.stage.Next.TheVariants.{Loads, Ends}
 use Rattle.machine_step.specs.Loads.{Load, Reading, Wants, Marked, from_start, from_release, from_head, from_id, from_opcode, from_offset, from_handler, from_state, is_held_at, marks_from, next_from}
-use Rattle.machine_step.specs.private.Stages.{word_at, stage_by, first_stage, behind_load}
+use Rattle.machine_step.specs.private.Stages.{word_at, stage_by, first_stage, after_load}
 
 -- ---- one passing
 
@@ -40,7 +40,7 @@ read_if program thread k true x y loads = refl
 read_if program thread k false x y loads = refl
 
 stage_reads : (program : Program) (thread k : ℕ) (stage : Stage) (load : Load) (more : List Load)
-    → from_stage program thread k stage (load ∷ more) ≡ read_on program thread k (behind_load stage load.value) more
+    → from_stage program thread k stage (load ∷ more) ≡ read_on program thread k (after_load stage load.value) more
 stage_reads program thread k stages.Release load more = read_if program thread k (load.value == 0) (Loads stages.Release) (Loads stages.Head) more
 stage_reads program thread k stages.Head load more = read_if program thread k (load.value == patched_head) (Loads stages.Id) (Ends marks.Skipped) more
 stage_reads program thread k stages.Id load more = refl
@@ -60,22 +60,22 @@ stage_wants program thread k stages.Handler = refl
 stage_wants program thread k stages.State = refl
 
 -- a passing loads a release word only at its beginning
-release_behind : (from : Stage) (value : ℕ) → behind_load from value ≡ Loads stages.Release → from ≡ stages.Release
-release_behind stages.Release value is = refl
-release_behind stages.Head value is = absurd (loads_or_ends (value == patched_head) is)
+release_after : (from : Stage) (value : ℕ) → after_load from value ≡ Loads stages.Release → from ≡ stages.Release
+release_after stages.Release value is = refl
+release_after stages.Head value is = absurd (loads_or_ends (value == patched_head) is)
   where
     loads_or_ends : (b : Bool) → (if b then Loads stages.Id else Ends marks.Skipped) ≡ Loads stages.Release → ⊥
     loads_or_ends true is = cc
     loads_or_ends false is = cc
-release_behind stages.Id value is = absurd cc
-release_behind stages.Opcode value is = absurd cc
-release_behind stages.Offset value is = absurd cc
-release_behind stages.Handler value is = absurd (ends_or_loads (value == 0) is)
+release_after stages.Id value is = absurd cc
+release_after stages.Opcode value is = absurd cc
+release_after stages.Offset value is = absurd cc
+release_after stages.Handler value is = absurd (ends_or_loads (value == 0) is)
   where
     ends_or_loads : (b : Bool) → (if b then Ends marks.NoHandler else Loads stages.State) ≡ Loads stages.Release → ⊥
     ends_or_loads true is = cc
     ends_or_loads false is = cc
-release_behind stages.State value is = absurd cc
+release_after stages.State value is = absurd cc
 
 -- if loads bring a passing to a word, they bring it to a stage
 record OpenAt (program : Program) (thread k : ℕ) (from : Stage) (loads : List Load) (word : ℕ) : Type 0 where
@@ -86,18 +86,18 @@ record OpenAt (program : Program) (thread k : ℕ) (from : Stage) (loads : List 
 
 open_on : (program : Program) (thread k : ℕ) (from : Stage) (load : Load) (loads : List Load) (word : ℕ)
     → ((stage : Stage) → from_stage program thread k stage loads ≡ Wants word → OpenAt program thread k stage loads word)
-    → (next : Next) → behind_load from load.value ≡ next → read_on program thread k next loads ≡ Wants word
+    → (next : Next) → after_load from load.value ≡ next → read_on program thread k next loads ≡ Wants word
     → OpenAt program thread k from (load ∷ loads) word
-open_on program thread k from load loads word later (Loads stage) behind is =
+open_on program thread k from load loads word later (Loads stage) following is =
     let found = later stage is in
     record {
       at = found.at;
-      begins = λ release. release_behind from load.value (behind ∙ ap Loads (found.begins release));
+      begins = λ release. release_after from load.value (following ∙ ap Loads (found.begins release));
       word_is = found.word_is;
       on = λ more. stage_reads program thread k from load (loads ++ more)
-          ∙ (ap (λ (n : Next). read_on program thread k n (loads ++ more)) behind ∙ found.on more);
+          ∙ (ap (λ (n : Next). read_on program thread k n (loads ++ more)) following ∙ found.on more);
     }
-open_on program thread k from load loads word later (Ends mark) behind is = absurd cc
+open_on program thread k from load loads word later (Ends mark) following is = absurd cc
 
 open_at : (program : Program) (thread k : ℕ) (from : Stage) (loads : List Load) (word : ℕ)
     → from_stage program thread k from loads ≡ Wants word → OpenAt program thread k from loads word
@@ -106,49 +106,49 @@ open_at program thread k from [] word is =
     record { at = from; begins = λ release. release; word_is = cc; on = λ more. refl }
 open_at program thread k from (load ∷ loads) word is =
     open_on program thread k from load loads word (λ stage wants. open_at program thread k stage loads word wants)
-    (behind_load from load.value) refl (sym (stage_reads program thread k from load loads) ∙ is)
+    (after_load from load.value) refl (sym (stage_reads program thread k from load loads) ∙ is)
 
-closed_on : (program : Program) (thread k : ℕ) (loads : List Load) (mark : Mark) (behind more : List Load)
-    → ((stage : Stage) → from_stage program thread k stage loads ≡ Marked mark behind
-    → from_stage program thread k stage (loads ++ more) ≡ Marked mark (behind ++ more))
-    → (next : Next) → read_on program thread k next loads ≡ Marked mark behind
-    → read_on program thread k next (loads ++ more) ≡ Marked mark (behind ++ more)
-closed_on program thread k loads mark behind more later (Loads stage) is = later stage is
-closed_on program thread k loads mark behind more later (Ends m) is = cc
+closed_on : (program : Program) (thread k : ℕ) (loads : List Load) (mark : Mark) (following more : List Load)
+    → ((stage : Stage) → from_stage program thread k stage loads ≡ Marked mark following
+    → from_stage program thread k stage (loads ++ more) ≡ Marked mark (following ++ more))
+    → (next : Next) → read_on program thread k next loads ≡ Marked mark following
+    → read_on program thread k next (loads ++ more) ≡ Marked mark (following ++ more)
+closed_on program thread k loads mark following more later (Loads stage) is = later stage is
+closed_on program thread k loads mark following more later (Ends m) is = cc
 
 -- loads after its mark belong to the next passing
-closed_at : (program : Program) (thread k : ℕ) (from : Stage) (loads : List Load) (mark : Mark) (behind more : List Load)
-    → from_stage program thread k from loads ≡ Marked mark behind
-    → from_stage program thread k from (loads ++ more) ≡ Marked mark (behind ++ more)
-closed_at program thread k from [] mark behind more is =
+closed_at : (program : Program) (thread k : ℕ) (from : Stage) (loads : List Load) (mark : Mark) (following more : List Load)
+    → from_stage program thread k from loads ≡ Marked mark following
+    → from_stage program thread k from (loads ++ more) ≡ Marked mark (following ++ more)
+closed_at program thread k from [] mark following more is =
     let wants = stage_wants program thread k from in absurd cc
-closed_at program thread k from (load ∷ loads) mark behind more is =
+closed_at program thread k from (load ∷ loads) mark following more is =
     stage_reads program thread k from load (loads ++ more)
-    ∙ closed_on program thread k loads mark behind more (λ stage marked. closed_at program thread k stage loads mark behind more marked)
-    (behind_load from load.value) (sym (stage_reads program thread k from load loads) ∙ is)
+    ∙ closed_on program thread k loads mark following more (λ stage marked. closed_at program thread k stage loads mark following more marked)
+    (after_load from load.value) (sym (stage_reads program thread k from load loads) ∙ is)
 
 -- ---- all passings
 
 -- the marks and the next word, by the reading of the first passing
 abbrev marks_by : Reading → (List Load → List Mark) → List Mark
 marks_by (Wants word) later = []
-marks_by (Marked mark behind) later = mark ∷ later behind
+marks_by (Marked mark following) later = mark ∷ later following
 
 abbrev next_by : Reading → (List Load → Option ℕ) → Option ℕ
 next_by (Wants word) later = Some word
-next_by (Marked mark behind) later = later behind
+next_by (Marked mark following) later = later following
 
 pub marks_step : (program : Program) (thread : ℕ) (hold : Option ℕ) (number k : ℕ) (sleds : List ℕ) (loads : List Load) (reading : Reading)
     → from_start program thread (is_held_at hold number) k loads ≡ reading
     → marks_from program thread hold number (k ∷ sleds) loads ≡ marks_by reading (marks_from program thread hold (number + 1) sleds)
 marks_step program thread hold number k sleds loads (Wants word) is = rw is refl
-marks_step program thread hold number k sleds loads (Marked mark behind) is = rw is refl
+marks_step program thread hold number k sleds loads (Marked mark following) is = rw is refl
 
 pub next_step : (program : Program) (thread : ℕ) (hold : Option ℕ) (number k : ℕ) (sleds : List ℕ) (loads : List Load) (reading : Reading)
     → from_start program thread (is_held_at hold number) k loads ≡ reading
     → next_from program thread hold number (k ∷ sleds) loads ≡ next_by reading (next_from program thread hold (number + 1) sleds)
 next_step program thread hold number k sleds loads (Wants word) is = rw is refl
-next_step program thread hold number k sleds loads (Marked mark behind) is = rw is refl
+next_step program thread hold number k sleds loads (Marked mark following) is = rw is refl
 
 first_reading : (program : Program) (thread k : ℕ) (held : Bool)
     → from_start program thread held k [] ≡ Wants (word_at program thread k (stage_by held))
@@ -215,7 +215,7 @@ pub record InPassing (program : Program) (thread : ℕ) (hold : Option ℕ) (num
   pub word_is : word ≡ word_at program thread sled at
   pub adds : (load : Load) → Adds program thread hold number sled rest
       (marks_from program thread hold number sleds loads) (marks_from program thread hold number sleds (loads ++ load ∷ []))
-      (next_from program thread hold number sleds (loads ++ load ∷ [])) (behind_load at load.value)
+      (next_from program thread hold number sleds (loads ++ load ∷ [])) (after_load at load.value)
 
 -- a passing begins with the release word if the thread is held
 held_if : (held : Bool) → stage_by held ≡ stages.Release → held ≡ true
@@ -242,19 +242,19 @@ in_first program thread hold number k sleds loads word is =
       word_is = found.word_is;
       adds = λ load. subst (λ (ms : List Mark). Adds program thread hold number k sleds ms
           (marks_from program thread hold number (k ∷ sleds) (loads ++ load ∷ [])) (next_from program thread hold number (k ∷ sleds) (loads ++ load ∷ []))
-          (behind_load found.at load.value)) (sym none)
-          (adds_first program thread hold number k sleds (loads ++ load ∷ []) (behind_load found.at load.value)
+          (after_load found.at load.value)) (sym none)
+          (adds_first program thread hold number k sleds (loads ++ load ∷ []) (after_load found.at load.value)
           (starts program thread k held (loads ++ load ∷ []) ∙ (found.on (load ∷ []) ∙ stage_reads program thread k found.at load [])));
     }
 
-in_later : (program : Program) (thread : ℕ) (hold : Option ℕ) (number k : ℕ) (sleds : List ℕ) (loads : List Load) (word : ℕ) (mark : Mark) (behind : List Load)
-    → from_start program thread (is_held_at hold number) k loads ≡ Marked mark behind
-    → InPassing program thread hold (number + 1) sleds behind word
+in_later : (program : Program) (thread : ℕ) (hold : Option ℕ) (number k : ℕ) (sleds : List ℕ) (loads : List Load) (word : ℕ) (mark : Mark) (following : List Load)
+    → from_start program thread (is_held_at hold number) k loads ≡ Marked mark following
+    → InPassing program thread hold (number + 1) sleds following word
     → InPassing program thread hold number (k ∷ sleds) loads word
-in_later program thread hold number k sleds loads word mark behind is later =
+in_later program thread hold number k sleds loads word mark following is later =
     let held = is_held_at hold number in
-    let all : marks_from program thread hold number (k ∷ sleds) loads ≡ mark ∷ marks_from program thread hold (number + 1) sleds behind =
-    marks_step program thread hold number k sleds loads (Marked mark behind) is in
+    let all : marks_from program thread hold number (k ∷ sleds) loads ≡ mark ∷ marks_from program thread hold (number + 1) sleds following =
+    marks_step program thread hold number k sleds loads (Marked mark following) is in
     record {
       sled = later.sled;
       rest = later.rest;
@@ -263,21 +263,21 @@ in_later program thread hold number k sleds loads word mark behind is later =
       count = ap suc later.count ∙ sym (ap length all);
       at = later.at;
       held = λ release.
-          let there : number + 1 + length (marks_from program thread hold (number + 1) sleds behind)
+          let there : number + 1 + length (marks_from program thread hold (number + 1) sleds following)
           ≡ number + length (marks_from program thread hold number (k ∷ sleds) loads) = omega (arith, ap length all) in
           subst (λ (n : ℕ). is_held_at hold n ≡ true) there (later.held release);
       word_is = later.word_is;
       adds = λ load.
-          let more = starts program thread k held (loads ++ load ∷ []) ∙ closed_at program thread k (stage_by held) loads mark behind (load ∷ [])
+          let more = starts program thread k held (loads ++ load ∷ []) ∙ closed_at program thread k (stage_by held) loads mark following (load ∷ [])
           (sym (starts program thread k held loads) ∙ is) in
-          adds_in_front program thread hold number later.sled later.rest mark _ _ _ _ _ _ (behind_load later.at load.value) all
-          (marks_step program thread hold number k sleds (loads ++ load ∷ []) (Marked mark (behind ++ load ∷ [])) more)
-          (next_step program thread hold number k sleds (loads ++ load ∷ []) (Marked mark (behind ++ load ∷ [])) more)
+          adds_in_front program thread hold number later.sled later.rest mark _ _ _ _ _ _ (after_load later.at load.value) all
+          (marks_step program thread hold number k sleds (loads ++ load ∷ []) (Marked mark (following ++ load ∷ [])) more)
+          (next_step program thread hold number k sleds (loads ++ load ∷ []) (Marked mark (following ++ load ∷ [])) more)
           (later.adds load);
     }
 
 in_by : (program : Program) (thread : ℕ) (hold : Option ℕ) (number k : ℕ) (sleds : List ℕ) (loads : List Load) (word : ℕ)
-    → ((behind : List Load) → next_from program thread hold (number + 1) sleds behind ≡ Some word → InPassing program thread hold (number + 1) sleds behind word)
+    → ((following : List Load) → next_from program thread hold (number + 1) sleds following ≡ Some word → InPassing program thread hold (number + 1) sleds following word)
     → (reading : Reading) → from_start program thread (is_held_at hold number) k loads ≡ reading
     → next_from program thread hold number (k ∷ sleds) loads ≡ Some word
     → InPassing program thread hold number (k ∷ sleds) loads word
@@ -285,14 +285,14 @@ in_by program thread hold number k sleds loads word later (Wants w) is wants =
     let other = next_step program thread hold number k sleds loads (Wants w) is in
     let same : w ≡ word = cc in
     in_first program thread hold number k sleds loads word (is ∙ ap Wants same)
-in_by program thread hold number k sleds loads word later (Marked mark behind) is wants =
-    in_later program thread hold number k sleds loads word mark behind is
-    (later behind (sym (next_step program thread hold number k sleds loads (Marked mark behind) is) ∙ wants))
+in_by program thread hold number k sleds loads word later (Marked mark following) is wants =
+    in_later program thread hold number k sleds loads word mark following is
+    (later following (sym (next_step program thread hold number k sleds loads (Marked mark following) is) ∙ wants))
 
 pub in_passing : (program : Program) (thread : ℕ) (hold : Option ℕ) (number : ℕ) (sleds : List ℕ) (loads : List Load) (word : ℕ)
     → next_from program thread hold number sleds loads ≡ Some word → InPassing program thread hold number sleds loads word
 in_passing program thread hold number [] loads word wants = absurd cc
 in_passing program thread hold number (k ∷ sleds) loads word wants =
     in_by program thread hold number k sleds loads word
-    (λ behind next. in_passing program thread hold (number + 1) sleds behind word next)
+    (λ following next. in_passing program thread hold (number + 1) sleds following word next)
     (from_start program thread (is_held_at hold number) k loads) refl wants

@@ -12,7 +12,7 @@ use Rattle.xray_image.specs.Program.{Program}
 use Rattle.machine_step.specs.declared.limits.Limits.{Limits}
 use Rattle.machine_step.specs.declared.end.End.{End}
 use Rattle.machine_step.specs.declared.end.End.TheVariants as ends
-use Rattle.machine_step.specs.PlainStep.{State, Next, Goes, Ends, Passing, PlainStep, PlainRun, RunsTo, UnitStep, opening, behind_passing, does, returns, popped, stack_limit, output_limit}
+use Rattle.machine_step.specs.PlainStep.{State, Next, Goes, Ends, Passing, PlainStep, PlainRun, RunsTo, UnitStep, opening, after_passing, does, returns, popped, stack_limit, output_limit}
 use Rattle.machine_step.specs.Course.{Reaches, ComesTo}
 use Rattle.machine_step.proofs.OneUnit.{OneUnit}
 use Rattle.machine_step.proofs.OneEnd.{Passes, same_step}
@@ -41,33 +41,33 @@ reaches_more program limits thread (suc n) s t u passed made (first, later, mid,
 )
 
 -- a run after a way
-pub runs_behind : (program : Program) (limits : Limits) (thread n n' : ℕ) (s t last : State) (passed later : List Passing) (end : End)
+pub runs_after : (program : Program) (limits : Limits) (thread n n' : ℕ) (s t last : State) (passed later : List Passing) (end : End)
     → Reaches program limits thread n s passed t → RunsTo program limits thread n' t later end last
     → (m : ℕ) × RunsTo program limits thread m s (passed ++ later) end last
-runs_behind program limits thread zero n' s t last passed later end (none, same) run = (
+runs_after program limits thread zero n' s t last passed later end (none, same) run = (
   n',
   subst (λ (ps : List Passing). RunsTo program limits thread n' s (ps ++ later) end last) (sym none)
       (subst (λ (x : State). RunsTo program limits thread n' x later end last) same run),
 )
-runs_behind program limits thread (suc n) n' s t last passed later end (first, rest, mid, step, reached, joined) run =
-    let behind = runs_behind program limits thread n n' mid t last rest later end reached run in (
-      suc behind.0,
-      (first, rest ++ later, mid, step, behind.1, ap (λ (ps : List Passing). ps ++ later) joined ∙ append_assoc first rest later),
+runs_after program limits thread (suc n) n' s t last passed later end (first, rest, mid, step, reached, joined) run =
+    let following = runs_after program limits thread n n' mid t last rest later end reached run in (
+      suc following.0,
+      (first, rest ++ later, mid, step, following.1, ap (λ (ps : List Passing). ps ++ later) joined ∙ append_assoc first rest later),
     )
 
 -- a way after a way
-pub reaches_behind : (program : Program) (limits : Limits) (thread n n' : ℕ) (s t u : State) (passed later : List Passing)
+pub reaches_after : (program : Program) (limits : Limits) (thread n n' : ℕ) (s t u : State) (passed later : List Passing)
     → Reaches program limits thread n s passed t → Reaches program limits thread n' t later u
     → (m : ℕ) × Reaches program limits thread m s (passed ++ later) u
-reaches_behind program limits thread zero n' s t u passed later (none, same) way = (
+reaches_after program limits thread zero n' s t u passed later (none, same) way = (
   n',
   subst (λ (ps : List Passing). Reaches program limits thread n' s (ps ++ later) u) (sym none)
       (subst (λ (x : State). Reaches program limits thread n' x later u) same way),
 )
-reaches_behind program limits thread (suc n) n' s t u passed later (first, rest, mid, step, reached, joined) way =
-    let behind = reaches_behind program limits thread n n' mid t u rest later reached way in (
-      suc behind.0,
-      (first, rest ++ later, mid, step, behind.1, ap (λ (ps : List Passing). ps ++ later) joined ∙ append_assoc first rest later),
+reaches_after program limits thread (suc n) n' s t u passed later (first, rest, mid, step, reached, joined) way =
+    let following = reaches_after program limits thread n n' mid t u rest later reached way in (
+      suc following.0,
+      (first, rest ++ later, mid, step, following.1, ap (λ (ps : List Passing). ps ++ later) joined ∙ append_assoc first rest later),
     )
 
 -- ---- the passing that a run comes to is its next one
@@ -78,26 +78,26 @@ pub record GoesOnBy (all passed : List Passing) (next : Passing) : Type 0 where
   pub is : all ≡ passed ++ next ∷ later
 
 next_by : (program : Program) → OneUnit program → (limits : Limits) (thread n n' : ℕ) (s t last : State) (passed all : List Passing)
-    (next : Passing) (behind : Next) (end : End)
-    → Reaches program limits thread n s passed t → PlainStep program limits thread t (next ∷ []) behind
+    (next : Passing) (following : Next) (end : End)
+    → Reaches program limits thread n s passed t → PlainStep program limits thread t (next ∷ []) following
     → RunsTo program limits thread n' s all end last → GoesOnBy all passed next
-next_by program one limits thread zero zero s t last passed all next behind end (none, same) step run =
-    let there = subst (λ (x : State). PlainStep program limits thread x (next ∷ []) behind) same step in
-    let made = (same_step program one limits thread s all (next ∷ []) (Ends end last) behind run there).0 in
+next_by program one limits thread zero zero s t last passed all next following end (none, same) step run =
+    let there = subst (λ (x : State). PlainStep program limits thread x (next ∷ []) following) same step in
+    let made = (same_step program one limits thread s all (next ∷ []) (Ends end last) following run there).0 in
     record { later = []; is = made ∙ sym (ap (λ (ps : List Passing). ps ++ next ∷ []) none) }
-next_by program one limits thread zero (suc n') s t last passed all next behind end (none, same) step (first, later, mid, step', rest, joined) =
-    let there = subst (λ (x : State). PlainStep program limits thread x (next ∷ []) behind) same step in
-    let made = (same_step program one limits thread s first (next ∷ []) (Goes mid) behind step' there).0 in
+next_by program one limits thread zero (suc n') s t last passed all next following end (none, same) step (first, later, mid, step', rest, joined) =
+    let there = subst (λ (x : State). PlainStep program limits thread x (next ∷ []) following) same step in
+    let made = (same_step program one limits thread s first (next ∷ []) (Goes mid) following step' there).0 in
     record {
       later = later;
       is = joined ∙ (ap (λ (ps : List Passing). ps ++ later) made ∙ sym (ap (λ (ps : List Passing). ps ++ next ∷ later) none));
     }
-next_by program one limits thread (suc n) zero s t last passed all next behind end (first, rest, mid, step', reached, joined) step run =
+next_by program one limits thread (suc n) zero s t last passed all next following end (first, rest, mid, step', reached, joined) step run =
     let other = (same_step program one limits thread s all first (Ends end last) (Goes mid) run step').1 in absurd cc
-next_by program one limits thread (suc n) (suc n') s t last passed all next behind end (first, rest, mid, step', reached, joined) step (first', later, mid', step'', run, joined') =
+next_by program one limits thread (suc n) (suc n') s t last passed all next following end (first, rest, mid, step', reached, joined) step (first', later, mid', step'', run, joined') =
     let same = same_step program one limits thread s first first' (Goes mid) (Goes mid') step' step'' in
     let mids : mid' ≡ mid = cc in
-    let on = next_by program one limits thread n n' mid t last rest later next behind end reached step
+    let on = next_by program one limits thread n n' mid t last rest later next following end reached step
     (subst (λ (x : State). RunsTo program limits thread n' x later end last) mids run) in
     record {
       later = on.later;
@@ -110,7 +110,7 @@ pub next_of_run : (program : Program) → OneUnit program → (limits : Limits) 
     (end : End) (last : State)
     → ComesTo program limits thread passed s next → PlainRun program limits thread all end last → GoesOnBy all passed next
 next_of_run program one limits thread passed all s next end last comes (n, run) =
-    next_by program one limits thread comes.steps n (opening program thread) s last passed all next comes.behind end comes.reached comes.passes run
+    next_by program one limits thread comes.steps n (opening program thread) s last passed all next comes.following end comes.reached comes.passes run
 
 -- ---- passings are counted
 
@@ -126,26 +126,26 @@ returns_count : (s : State) (stack : List ℕ) → passings_of (returns s stack)
 returns_count s [] = refl
 returns_count s (address ∷ stack) = refl
 
-popped_count : (s : State) (behind reg : ℕ) (stack : List ℕ) → passings_of (popped s behind reg stack) ≡ s.passings
-popped_count s behind reg [] = refl
-popped_count s behind reg (value ∷ stack) = refl
+popped_count : (s : State) (following reg : ℕ) (stack : List ℕ) → passings_of (popped s following reg stack) ≡ s.passings
+popped_count s following reg [] = refl
+popped_count s following reg (value ∷ stack) = refl
 
-does_count : (s : State) (behind : ℕ) (instr : Instr) → passings_of (does s behind instr) ≡ s.passings
-does_count s behind (Mov dst imm) = refl
-does_count s behind (Add dst src) = refl
-does_count s behind (Sub dst src) = refl
-does_count s behind (Push reg) = by_flag (length s.stack == stack_limit) _ _ s.passings refl refl
-does_count s behind (Pop reg) = popped_count s behind reg s.stack
-does_count s behind (Call rel) = by_flag (length s.stack == stack_limit) _ _ s.passings refl refl
-does_count s behind (Jmp rel) = refl
-does_count s behind (Jnz rel) = refl
-does_count s behind Ret = returns_count s s.stack
-does_count s behind (Out port) = by_flag (length s.output == output_limit) _ _ s.passings refl refl
+does_count : (s : State) (following : ℕ) (instr : Instr) → passings_of (does s following instr) ≡ s.passings
+does_count s following (Mov dst imm) = refl
+does_count s following (Add dst src) = refl
+does_count s following (Sub dst src) = refl
+does_count s following (Push reg) = by_flag (length s.stack == stack_limit) _ _ s.passings refl refl
+does_count s following (Pop reg) = popped_count s following reg s.stack
+does_count s following (Call rel) = by_flag (length s.stack == stack_limit) _ _ s.passings refl refl
+does_count s following (Jmp rel) = refl
+does_count s following (Jnz rel) = refl
+does_count s following Ret = returns_count s s.stack
+does_count s following (Out port) = by_flag (length s.output == output_limit) _ _ s.passings refl refl
 
-behind_count : (limits : Limits) (s : State) (kind : SledKind) → passings_of (behind_passing limits s kind) ≡ s.passings
-behind_count limits s kinds.Entry = refl
-behind_count limits s kinds.Tail = refl
-behind_count limits s kinds.Exit = by_flag (s.instructions == limits.fuel) (Ends ends.Fuel s) (returns s s.stack) s.passings refl (returns_count s s.stack)
+after_count : (limits : Limits) (s : State) (kind : SledKind) → passings_of (after_passing limits s kind) ≡ s.passings
+after_count limits s kinds.Entry = refl
+after_count limits s kinds.Tail = refl
+after_count limits s kinds.Exit = by_flag (s.instructions == limits.fuel) (Ends ends.Fuel s) (returns s s.stack) s.passings refl (returns_count s s.stack)
 
 sled_count : (program : Program) (limits : Limits) (thread k : ℕ) (s : State) (spent : Bool) (made : List Passing) (next : Next)
     → Passes program limits thread s k spent made next → passings_of next ≡ s.passings + length made
@@ -154,7 +154,7 @@ sled_count program limits thread k s true made next (none, is) =
     let same : passings_of next ≡ s.passings = ap passings_of is in omega arith
 sled_count program limits thread k s false made next (sled, found, one, is) =
     let count : length made ≡ 1 = ap length one in
-    let more : passings_of next ≡ s.passings + 1 = ap passings_of is ∙ behind_count limits (record s { passings = s.passings + 1 }) sled.kind in omega arith
+    let more : passings_of next ≡ s.passings + 1 = ap passings_of is ∙ after_count limits (record s { passings = s.passings + 1 }) sled.kind in omega arith
 
 unit_count : (program : Program) (limits : Limits) (thread : ℕ) (s : State) (what : What) (made : List Passing) (next : Next)
     → UnitStep program limits thread s what made next → passings_of next ≡ s.passings + length made

@@ -9,7 +9,7 @@ use Rattle.xray_image.specs.Program.{Program}
 use Rattle.machine_step.specs.declared.limits.Limits.{Limits}
 use Rattle.machine_step.specs.declared.end.End.{End}
 use Rattle.machine_step.specs.declared.end.End.TheVariants as ends
-use Rattle.machine_step.specs.PlainStep.{State, Next, Goes, Ends, Passing, passing_at, behind_passing, UnitStep, PlainStep, RunsTo}
+use Rattle.machine_step.specs.PlainStep.{State, Next, Goes, Ends, Passing, passing_at, after_passing, UnitStep, PlainStep, RunsTo}
 use Rattle.machine_step.proofs.OneUnit.{OneUnit}
 
 -- what a passing of a sled does, or the end before it
@@ -19,7 +19,7 @@ Passes program limits thread s k spent made next =
     ((made ≡ []) × (next ≡ Ends ends.Passings s))
     ((sled : Sled) × (slice_get program.sleds k ≡ Some sled)
     × (made ≡ passing_at limits thread s k sled ∷ [])
-    × (next ≡ behind_passing limits (record s { passings = s.passings + 1 }) sled.kind))
+    × (next ≡ after_passing limits (record s { passings = s.passings + 1 }) sled.kind))
 
 same_passing : (program : Program) (limits : Limits) (thread : ℕ) (s : State) (k : ℕ) (spent : Bool)
     (made made' : List Passing) (next next' : Next)
@@ -29,7 +29,7 @@ same_passing program limits thread s k true made made' next next' (m, n) (m', n'
 same_passing program limits thread s k false made made' next next' (sled, found, m, n) (sled', found', m', n') =
     let same : sled ≡ sled' = cc in (
       m ∙ (ap (λ x. passing_at limits thread s k x ∷ []) same ∙ sym m'),
-      n ∙ (ap (λ (x : Sled). behind_passing limits (record s { passings = s.passings + 1 }) x.kind) same ∙ sym n'),
+      n ∙ (ap (λ (x : Sled). after_passing limits (record s { passings = s.passings + 1 }) x.kind) same ∙ sym n'),
     )
 
 same_unit_step : (program : Program) (limits : Limits) (thread : ℕ) (s : State) (what : What)

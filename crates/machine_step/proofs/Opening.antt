@@ -15,7 +15,7 @@ use Rattle.machine_step.specs.PlainStep.{Passing}
 use Rattle.machine_step.specs.private.Inside.{traced, want_at, IsAtPassing, IsSound, IsStageOf, StandsSo}
 use Rattle.machine_step.specs.Loads.{Load}
 use Rattle.machine_step.specs.private.Stages.{AllowsAt, word_at, first_stage, stage_by}
-use Rattle.machine_step.specs.Traced.{Allows, HasLoaded, IsLoadable, IsWant, StandsAs, Traced, wanted_behind}
+use Rattle.machine_step.specs.Traced.{Allows, HasLoaded, IsLoadable, IsWant, StandsAs, Traced, wanted_after}
 use Rattle.machine_step.proofs.Tracing.{before_of, begins_at, stands_before, stands_past}
 use Rattle.machine_step.proofs.WordsAt.{allowed_at, allows_at}
 
@@ -72,8 +72,8 @@ pub opened_loads : (a : Inside) → IsSound a → (place k : ℕ) (at_stage : St
     → at_stage ≡ first_stage a.hold a.machine.passings → (all : List Passing) (loads : List Load)
     → HasLoaded (traced a) all loads → HasLoaded (traced (standing a (Loading place k at_stage))) all loads
 opened_loads a sound place k at_stage is first all loads has =
-    let wants = subst (λ (s : Stand). IsWant (traced a) all (wanted_behind (traced a) all loads) has.end (want_at a.steps.now a.thread a.machine.passings s)) is has.wants in
-    let next = begins_at a sound place k (gate_at a sound place k is) all has.end has.last (wanted_behind (traced a) all loads) has.run wants.1 in
+    let wants = subst (λ (s : Stand). IsWant (traced a) all (wanted_after (traced a) all loads) has.end (want_at a.steps.now a.thread a.machine.passings s)) is has.wants in
+    let next = begins_at a sound place k (gate_at a sound place k is) all has.end has.last (wanted_after (traced a) all loads) has.run wants.1 in
     record {
       end = has.end;
       last = has.last;

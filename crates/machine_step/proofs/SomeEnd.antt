@@ -28,20 +28,20 @@ use Rattle.machine_step.proofs.Stepping.{AreInOrder}
 
 -- ---- each place has its step
 
-instruction_step : (units : List Unit) (behind : ℕ) (instr : Instr) → (step : Step) × IsStepOfInstruction units behind instr step
-instruction_step units behind (Mov dst imm) = (steps.Mov dst imm, refl)
-instruction_step units behind (Add dst src) = (steps.Add dst src, refl)
-instruction_step units behind (Sub dst src) = (steps.Sub dst src, refl)
-instruction_step units behind (Push reg) = (steps.Push reg, refl)
-instruction_step units behind (Pop reg) = (steps.Pop reg, refl)
-instruction_step units behind (Call rel) =
-    let target = has_place units (branched behind rel) in (steps.Call target.0 behind, (target.0, target.1, refl))
-instruction_step units behind (Jmp rel) =
-    let target = has_place units (branched behind rel) in (steps.Jmp target.0, (target.0, target.1, refl))
-instruction_step units behind (Jnz rel) =
-    let target = has_place units (branched behind rel) in (steps.Jnz target.0, (target.0, target.1, refl))
-instruction_step units behind Ret = (steps.Ret, refl)
-instruction_step units behind (Out port) = (steps.Out, refl)
+instruction_step : (units : List Unit) (following : ℕ) (instr : Instr) → (step : Step) × IsStepOfInstruction units following instr step
+instruction_step units following (Mov dst imm) = (steps.Mov dst imm, refl)
+instruction_step units following (Add dst src) = (steps.Add dst src, refl)
+instruction_step units following (Sub dst src) = (steps.Sub dst src, refl)
+instruction_step units following (Push reg) = (steps.Push reg, refl)
+instruction_step units following (Pop reg) = (steps.Pop reg, refl)
+instruction_step units following (Call rel) =
+    let target = has_place units (branched following rel) in (steps.Call target.0 following, (target.0, target.1, refl))
+instruction_step units following (Jmp rel) =
+    let target = has_place units (branched following rel) in (steps.Jmp target.0, (target.0, target.1, refl))
+instruction_step units following (Jnz rel) =
+    let target = has_place units (branched following rel) in (steps.Jnz target.0, (target.0, target.1, refl))
+instruction_step units following Ret = (steps.Ret, refl)
+instruction_step units following (Out port) = (steps.Out, refl)
 
 what_step : (program : Program) (address : ℕ) (what : What)
     → ((k : ℕ) → what ≡ whats.Sled k → (sled : Sled) × (slice_get program.sleds k ≡ Some sled))
@@ -118,11 +118,11 @@ returning_within : (limits : Limits) (m : Machine) (stack : List ℕ) → IsWith
 returning_within limits m [] within fuel = counted_within limits m (returning m []).left within fuel refl refl
 returning_within limits m (back ∷ stack) within fuel = counted_within limits m (returning m (back ∷ stack)).left within fuel refl refl
 
-passing_within : (limits : Limits) (m : Machine) (behind : Machine → Taken) → IsWithin limits m
-    → ((after : Machine) → IsWithin limits after → IsWithin limits (behind after).left)
-    → IsWithin limits (passing limits m behind).left
-passing_within limits m behind within on =
-    within_if limits (m.passings == limits.passings) (ending ends.Passings m) (behind (record m { passings = m.passings + 1 })) (λ _. within)
+passing_within : (limits : Limits) (m : Machine) (following : Machine → Taken) → IsWithin limits m
+    → ((after : Machine) → IsWithin limits after → IsWithin limits (following after).left)
+    → IsWithin limits (passing limits m following).left
+passing_within limits m following within on =
+    within_if limits (m.passings == limits.passings) (ending ends.Passings m) (following (record m { passings = m.passings + 1 })) (λ _. within)
     (λ e. let some = eqb-false m.passings limits.passings e in
     on (record m { passings = m.passings + 1 }) (record { fuel = within.fuel; passings = omega (arith, within.passings) }))
 

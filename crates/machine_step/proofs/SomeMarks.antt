@@ -17,7 +17,7 @@ use Rattle.machine_step.specs.declared.want.Want.TheVariants as wants
 use Rattle.machine_step.specs.Follows.{Follows, MarksFollow, none as no_loads, later as up_to, loaded as one_more}
 use Rattle.machine_step.specs.Loads.{Load, Marked, Reading, Wants, from_start, is_held_at, marks_from, marks_of, next_from, next_load}
 use Rattle.machine_step.specs.PlainStep.{Passing, PlainRun, RunsTo, State}
-use Rattle.machine_step.specs.private.Stages.{behind_load, word_at}
+use Rattle.machine_step.specs.private.Stages.{after_load, word_at}
 use Rattle.machine_step.specs.Traced.{sleds_of, steps_left}
 use Rattle.machine_step.proofs.EachPassing.{steps_each}
 use Rattle.machine_step.proofs.LoadFacts.{left_at, next_left, some_left, steps_left_at}
@@ -50,18 +50,18 @@ pub all_marked : (program : Program) (thread : ℕ) (hold : Option ℕ) (number 
     → next_from program thread hold number sleds loads ≡ None → length (marks_from program thread hold number sleds loads) ≡ length sleds
 all_marked program thread hold number [] loads none = refl
 all_marked program thread hold number (k ∷ sleds) loads none =
-    by_reading (λ behind. all_marked program thread hold (number + 1) sleds behind)
+    by_reading (λ following. all_marked program thread hold (number + 1) sleds following)
     (from_start program thread (is_held_at hold number) k loads) refl
   where
-    by_reading : ((behind : List Load) → next_from program thread hold (number + 1) sleds behind ≡ None
-        → length (marks_from program thread hold (number + 1) sleds behind) ≡ length sleds)
+    by_reading : ((following : List Load) → next_from program thread hold (number + 1) sleds following ≡ None
+        → length (marks_from program thread hold (number + 1) sleds following) ≡ length sleds)
         → (reading : Reading) → from_start program thread (is_held_at hold number) k loads ≡ reading
         → length (marks_from program thread hold number (k ∷ sleds) loads) ≡ length (k ∷ sleds)
     by_reading later (Wants word) is =
         let wanted = next_step program thread hold number k sleds loads (Wants word) is in absurd cc
-    by_reading later (Marked mark behind) is =
-        ap length (marks_step program thread hold number k sleds loads (Marked mark behind) is)
-        ∙ ap suc (later behind (sym (next_step program thread hold number k sleds loads (Marked mark behind) is) ∙ none))
+    by_reading later (Marked mark following) is =
+        ap length (marks_step program thread hold number k sleds loads (Marked mark following) is)
+        ∙ ap suc (later following (sym (next_step program thread hold number k sleds loads (Marked mark following) is) ∙ none))
 
 -- ---- loads as late as they may be
 
@@ -139,12 +139,12 @@ module _ (program : Program) (code : ℕ → ℕ → ℕ) (start total : ℕ) (b
       → Reached passing loads → (one : Longer passing loads word)
       → ((more : List Load) (other : ℕ) → steps_left program (wants.Load other) ≤ most
       → next_load program thread hold (sleds_of passed) more ≡ Some other → Reached passing more → (all : List Load) × Reached (passing + 1) all)
-      → (next : Next) → behind_load one.here.at one.load.value ≡ next → (all : List Load) × Reached (passing + 1) all
-  by_next lets some most passing loads word near reached one goes_on (nexts.Ends mark) behind =
+      → (next : Next) → after_load one.here.at one.load.value ≡ next → (all : List Load) × Reached (passing + 1) all
+  by_next lets some most passing loads word near reached one goes_on (nexts.Ends mark) following =
       let Marks : List Load → List Mark = marks_of program thread hold (sleds_of passed) in
       let all = loads ++ one.load ∷ [] in
       let adds = subst (Adds program thread hold 0 one.here.sled one.here.rest (Marks loads) (Marks all) (next_load program thread hold (sleds_of passed) all))
-      behind (one.here.adds one.load) in (
+      following (one.here.adds one.load) in (
         all,
         record {
           marks = ap length adds.0 ∙ (length-append (Marks loads) (mark ∷ []) ∙ ap (λ n. n + 1) reached.marks);
@@ -152,14 +152,14 @@ module _ (program : Program) (code : ℕ → ℕ → ℕ) (start total : ℕ) (b
           free = one.all_free;
         },
       )
-  by_next lets some most passing loads word near reached one goes_on (nexts.Loads stage) behind =
+  by_next lets some most passing loads word near reached one goes_on (nexts.Loads stage) following =
       let Marks : List Load → List Mark = marks_of program thread hold (sleds_of passed) in
       let all = loads ++ one.load ∷ [] in
       let adds = subst (Adds program thread hold 0 one.here.sled one.here.rest (Marks loads) (Marks all) (next_load program thread hold (sleds_of passed) all))
-      behind (one.here.adds one.load) in
+      following (one.here.adds one.load) in
       let not_held : (one.here.at ≡ stages.Release) × (one.load.value ≡ 0) → ⊥ = λ both.
       one.free (one.word_is ∙ (one.here.word_is ∙ ap (word_at program thread one.here.sled) both.0)) both.1 in
-      let less = next_left program thread one.here.sled one.here.at stage one.load.value one.within some behind not_held in
+      let less = next_left program thread one.here.sled one.here.at stage one.load.value one.within some following not_held in
       let old = left_is some passing loads word one in
       let new = steps_left_at program thread one.here.sled stage one.within some in
       goes_on all (word_at program thread one.here.sled stage) (omega (arith, less, old, new, near)) adds.1
@@ -178,7 +178,7 @@ module _ (program : Program) (code : ℕ → ℕ → ℕ) (start total : ℕ) (b
       let one = longer lets some sleds passing loads word wanted reached in
       by_next lets some most passing loads word near reached one
       (λ more other nearer wants_other so_far. passes lets some sleds most passing more other nearer wants_other so_far)
-      (behind_load one.here.at one.load.value) refl
+      (after_load one.here.at one.load.value) refl
 
   -- all passings that are left
   comes_to_end : Lets → 0 < thread → All (IsSled program) passed → (left passing : ℕ) → passing + left ≡ length (sleds_of passed)

@@ -21,7 +21,7 @@ use Rattle.machine_step.specs.declared.step.Step.TheVariants as steps
 use Rattle.machine_step.specs.declared.step.Way.{Way}
 use Rattle.machine_step.specs.declared.step.Way.TheVariants.{To, Back, Ends as Stops}
 use Rattle.machine_step.specs.declared.machine.Machine.{Machine}
-use Rattle.machine_step.specs.PlainStep.{State, Next, Goes, Ends, Passing, PlainStep, UnitStep, does, pushed, popped, returns, fuelled, branched, passing_at, behind_passing, stack_limit, output_limit}
+use Rattle.machine_step.specs.PlainStep.{State, Next, Goes, Ends, Passing, PlainStep, UnitStep, does, pushed, popped, returns, fuelled, branched, passing_at, after_passing, stack_limit, output_limit}
 use Rattle.machine_step.specs.private.Machine.{state_at, IsWithin, Taken, ending, staying, pushing, popping, returning, putting, leaving, stepping}
 use Rattle.machine_step.specs.private.Steps.{IsPlaceOf, IsStepOfInstruction, IsStepOf, IsStepAt, step_of_sled, sled_at}
 use Rattle.machine_step.proofs.OneEnd.{Passes}
@@ -32,10 +32,10 @@ abbrev pub left_of : Limits → Machine → ℕ
 left_of limits m = (limits.fuel - m.instructions) + (limits.passings - m.passings)
 
 -- a sled of this kind, after its passing
-abbrev behind_sled : Limits → ℕ → Machine → SledKind → Taken
-behind_sled limits place m kinds.Entry = staying (place + 1) m
-behind_sled limits place m kinds.Tail = staying (place + 1) m
-behind_sled limits place m kinds.Exit = leaving limits m
+abbrev after_sled : Limits → ℕ → Machine → SledKind → Taken
+after_sled limits place m kinds.Entry = staying (place + 1) m
+after_sled limits place m kinds.Tail = staying (place + 1) m
+after_sled limits place m kinds.Exit = leaving limits m
 
 -- one instruction or passing fewer is left, or the place is the next one
 abbrev pub Nearer : Limits → ℕ → Machine → ℕ → Machine → Type 0
@@ -76,12 +76,12 @@ place_by : (units : List Unit) (b : Bool) (x y i j : ℕ) → IsPlaceOf units x 
 place_by units true x y i j p q = p
 place_by units false x y i j p q = q
 
-pop_leads : (units : List Unit) (limits : Limits) (place behind address reg : ℕ) (m : Machine) (stack : List ℕ)
-    → IsPlaceOf units behind (place + 1) → IsWithin limits m → m.instructions ≢ limits.fuel
-    → Leads units limits place m (popping (place + 1) reg m stack) (popped (state_at address m) behind reg stack)
-pop_leads units limits place behind address reg m [] next within fuel = (address, refl)
-pop_leads units limits place behind address reg m (value ∷ stack) next within fuel =
-    (behind, next, refl, inl (spends limits m within fuel))
+pop_leads : (units : List Unit) (limits : Limits) (place following address reg : ℕ) (m : Machine) (stack : List ℕ)
+    → IsPlaceOf units following (place + 1) → IsWithin limits m → m.instructions ≢ limits.fuel
+    → Leads units limits place m (popping (place + 1) reg m stack) (popped (state_at address m) following reg stack)
+pop_leads units limits place following address reg m [] next within fuel = (address, refl)
+pop_leads units limits place following address reg m (value ∷ stack) next within fuel =
+    (following, next, refl, inl (spends limits m within fuel))
 
 return_leads : (units : List Unit) (limits : Limits) (place address : ℕ) (m : Machine) (stack : List ℕ)
     → IsWithin limits m → m.instructions ≢ limits.fuel
@@ -118,44 +118,44 @@ by_step units limits place m step other next is leads =
     subst (λ (t : Step). Leads units limits place m (stepping limits place m t) next) (sym is) leads
 
 -- the step of an instruction
-instruction_leads : (units : List Unit) (limits : Limits) (place behind address : ℕ) (m : Machine) (instr : Instr) (step : Step)
-    → IsPlaceOf units behind (place + 1) → IsWithin limits m → IsStepOfInstruction units behind instr step
-    → Leads units limits place m (stepping limits place m step) (fuelled limits (state_at address m) (does (state_at address m) behind instr))
-instruction_leads units limits place behind address m (Mov dst imm) step next within is =
+instruction_leads : (units : List Unit) (limits : Limits) (place following address : ℕ) (m : Machine) (instr : Instr) (step : Step)
+    → IsPlaceOf units following (place + 1) → IsWithin limits m → IsStepOfInstruction units following instr step
+    → Leads units limits place m (stepping limits place m step) (fuelled limits (state_at address m) (does (state_at address m) following instr))
+instruction_leads units limits place following address m (Mov dst imm) step next within is =
     by_step units limits place m step (steps.Mov dst imm) _ is
-    (fuel_leads units limits place address m _ _ (λ fuel. (behind, next, refl, inl (spends limits m within fuel))))
-instruction_leads units limits place behind address m (Add dst src) step next within is =
+    (fuel_leads units limits place address m _ _ (λ fuel. (following, next, refl, inl (spends limits m within fuel))))
+instruction_leads units limits place following address m (Add dst src) step next within is =
     by_step units limits place m step (steps.Add dst src) _ is
-    (fuel_leads units limits place address m _ _ (λ fuel. (behind, next, refl, inl (spends limits m within fuel))))
-instruction_leads units limits place behind address m (Sub dst src) step next within is =
+    (fuel_leads units limits place address m _ _ (λ fuel. (following, next, refl, inl (spends limits m within fuel))))
+instruction_leads units limits place following address m (Sub dst src) step next within is =
     by_step units limits place m step (steps.Sub dst src) _ is
-    (fuel_leads units limits place address m _ _ (λ fuel. (behind, next, refl, inl (spends limits m within fuel))))
-instruction_leads units limits place behind address m (Push reg) step next within is =
+    (fuel_leads units limits place address m _ _ (λ fuel. (following, next, refl, inl (spends limits m within fuel))))
+instruction_leads units limits place following address m (Push reg) step next within is =
     by_step units limits place m step (steps.Push reg) _ is
-    (fuel_leads units limits place address m _ _ (push_leads units limits place (place + 1) behind address (slice_index m.registers reg) m next within))
-instruction_leads units limits place behind address m (Pop reg) step next within is =
+    (fuel_leads units limits place address m _ _ (push_leads units limits place (place + 1) following address (slice_index m.registers reg) m next within))
+instruction_leads units limits place following address m (Pop reg) step next within is =
     by_step units limits place m step (steps.Pop reg) _ is
-    (fuel_leads units limits place address m _ _ (pop_leads units limits place behind address reg m m.stack next within))
-instruction_leads units limits place behind address m (Call rel) step next within (target, there, is) =
-    by_step units limits place m step (steps.Call target behind) _ is
-    (fuel_leads units limits place address m _ _ (push_leads units limits place target (branched behind rel) address behind m there within))
-instruction_leads units limits place behind address m (Jmp rel) step next within (target, there, is) =
+    (fuel_leads units limits place address m _ _ (pop_leads units limits place following address reg m m.stack next within))
+instruction_leads units limits place following address m (Call rel) step next within (target, there, is) =
+    by_step units limits place m step (steps.Call target following) _ is
+    (fuel_leads units limits place address m _ _ (push_leads units limits place target (branched following rel) address following m there within))
+instruction_leads units limits place following address m (Jmp rel) step next within (target, there, is) =
     by_step units limits place m step (steps.Jmp target) _ is
-    (fuel_leads units limits place address m _ _ (λ fuel. (branched behind rel, there, refl, inl (spends limits m within fuel))))
-instruction_leads units limits place behind address m (Jnz rel) step next within (target, there, is) =
+    (fuel_leads units limits place address m _ _ (λ fuel. (branched following rel, there, refl, inl (spends limits m within fuel))))
+instruction_leads units limits place following address m (Jnz rel) step next within (target, there, is) =
     by_step units limits place m step (steps.Jnz target) _ is
     (fuel_leads units limits place address m _ _ (λ fuel. (
-      if m.zero_flag then behind else branched behind rel,
-      place_by units m.zero_flag behind (branched behind rel) (place + 1) target next there,
+      if m.zero_flag then following else branched following rel,
+      place_by units m.zero_flag following (branched following rel) (place + 1) target next there,
       refl,
       inl (spends limits m within fuel),
     )))
-instruction_leads units limits place behind address m Ret step next within is =
+instruction_leads units limits place following address m Ret step next within is =
     by_step units limits place m step steps.Ret _ is
     (fuel_leads units limits place address m _ _ (return_leads units limits place address m m.stack within))
-instruction_leads units limits place behind address m (Out port) step next within is =
+instruction_leads units limits place following address m (Out port) step next within is =
     by_step units limits place m step steps.Out _ is
-    (fuel_leads units limits place address m _ _ (out_leads units limits place (place + 1) behind address port m next within))
+    (fuel_leads units limits place address m _ _ (out_leads units limits place (place + 1) following address port m next within))
 
 -- nearer than something nearer
 leads_on : (units : List Unit) (limits : Limits) (place : ℕ) (before m : Machine) (way : Way) (after : Machine) (next : Next)
@@ -170,12 +170,12 @@ leads_on units limits place before m (Back address) after next fewer (goes, less
 leads_on units limits place before m (Stops end) after next fewer (address, stops) = (address, stops)
 
 -- a sled after its passing
-behind_leads : (units : List Unit) (limits : Limits) (place address : ℕ) (before m : Machine) (kind : SledKind)
+after_leads : (units : List Unit) (limits : Limits) (place address : ℕ) (before m : Machine) (kind : SledKind)
     → IsPlaceOf units (address + 11) (place + 1) → IsWithin limits m → left_of limits m < left_of limits before
-    → Leads units limits place before (behind_sled limits place m kind) (behind_passing limits (state_at address m) kind)
-behind_leads units limits place address before m kinds.Entry next within fewer = (address + 11, next, refl, inl fewer)
-behind_leads units limits place address before m kinds.Tail next within fewer = (address + 11, next, refl, inl fewer)
-behind_leads units limits place address before m kinds.Exit next within fewer =
+    → Leads units limits place before (after_sled limits place m kind) (after_passing limits (state_at address m) kind)
+after_leads units limits place address before m kinds.Entry next within fewer = (address + 11, next, refl, inl fewer)
+after_leads units limits place address before m kinds.Tail next within fewer = (address + 11, next, refl, inl fewer)
+after_leads units limits place address before m kinds.Exit next within fewer =
     leads_on units limits place before m _ _ _ fewer
     (fuel_leads units limits place address m _ _ (return_leads units limits place address m m.stack within))
 
@@ -192,18 +192,18 @@ abbrev pub MadeAt : Program → Limits → ℕ → State → Option ℕ → List
 MadeAt program limits thread s None made = made ≡ []
 MadeAt program limits thread s (Some k) made = MadeBy program limits thread s k (s.passings == limits.passings) made
 
-pub instruction_at_none : (units : List Unit) (behind : ℕ) (instr : Instr) (step : Step) → IsStepOfInstruction units behind instr step
+pub instruction_at_none : (units : List Unit) (following : ℕ) (instr : Instr) (step : Step) → IsStepOfInstruction units following instr step
     → sled_at step ≡ None
-instruction_at_none units behind (Mov dst imm) step is = ap sled_at is
-instruction_at_none units behind (Add dst src) step is = ap sled_at is
-instruction_at_none units behind (Sub dst src) step is = ap sled_at is
-instruction_at_none units behind (Push reg) step is = ap sled_at is
-instruction_at_none units behind (Pop reg) step is = ap sled_at is
-instruction_at_none units behind (Call rel) step (target, there, is) = ap sled_at is
-instruction_at_none units behind (Jmp rel) step (target, there, is) = ap sled_at is
-instruction_at_none units behind (Jnz rel) step (target, there, is) = ap sled_at is
-instruction_at_none units behind Ret step is = ap sled_at is
-instruction_at_none units behind (Out port) step is = ap sled_at is
+instruction_at_none units following (Mov dst imm) step is = ap sled_at is
+instruction_at_none units following (Add dst src) step is = ap sled_at is
+instruction_at_none units following (Sub dst src) step is = ap sled_at is
+instruction_at_none units following (Push reg) step is = ap sled_at is
+instruction_at_none units following (Pop reg) step is = ap sled_at is
+instruction_at_none units following (Call rel) step (target, there, is) = ap sled_at is
+instruction_at_none units following (Jmp rel) step (target, there, is) = ap sled_at is
+instruction_at_none units following (Jnz rel) step (target, there, is) = ap sled_at is
+instruction_at_none units following Ret step is = ap sled_at is
+instruction_at_none units following (Out port) step is = ap sled_at is
 
 pub sled_at_some : (k : ℕ) (kind : SledKind) → sled_at (step_of_sled k kind) ≡ Some k
 sled_at_some k kinds.Entry = refl
@@ -226,7 +226,7 @@ sled_leads : (program : Program) (limits : Limits) (place address k : ℕ) (m : 
     → slice_get program.sleds k ≡ Some sled → IsPlaceOf program.units (address + 11) (place + 1) → IsWithin limits m
     → (m.passings == limits.passings) ≡ spent
     → PassesTo program limits place address k m spent
-    (if spent then ending ends.Passings m else behind_sled limits place (record m { passings = m.passings + 1 }) sled.kind)
+    (if spent then ending ends.Passings m else after_sled limits place (record m { passings = m.passings + 1 }) sled.kind)
 sled_leads program limits place address k m sled true found next within is = record {
   next = Ends ends.Passings (state_at address m);
   passes = λ thread. ([], (refl, refl), refl);
@@ -237,14 +237,14 @@ sled_leads program limits place address k m sled false found next within is =
     let after : Machine = record m { passings = m.passings + 1 } in
     let still : IsWithin limits after = record { fuel = within.fuel; passings = omega arith } in
     record {
-      next = behind_passing limits (state_at address after) sled.kind;
+      next = after_passing limits (state_at address after) sled.kind;
       passes = λ thread. (passing_at limits thread (state_at address m) k sled ∷ [], (sled, found, refl, refl), (sled, found, refl));
-      leads = behind_leads program.units limits place address m after sled.kind next still (passes limits m within some);
+      leads = after_leads program.units limits place address m after sled.kind next still (passes limits m within some);
     }
 
 -- both forms of a sled's step are one
 stepping_sled : (limits : Limits) (place k : ℕ) (m : Machine) (kind : SledKind)
-    → (if m.passings == limits.passings then ending ends.Passings m else behind_sled limits place (record m { passings = m.passings + 1 }) kind)
+    → (if m.passings == limits.passings then ending ends.Passings m else after_sled limits place (record m { passings = m.passings + 1 }) kind)
     ≡ stepping limits place m (step_of_sled k kind)
 stepping_sled limits place k m kinds.Entry = refl
 stepping_sled limits place k m kinds.Tail = refl
@@ -298,7 +298,7 @@ pub record StepsTo (program : Program) (limits : Limits) (place address : ℕ) (
 
 -- the place after a unit is that of the address after it
 pub record AreInOrder (program : Program) : Type 0 where
-  pub behind : (place : ℕ) (u : Unit) → slice_get program.units place ≡ Some u
+  pub following : (place : ℕ) (u : Unit) → slice_get program.units place ≡ Some u
       → IsPlaceOf program.units (u.address + width_of u.what) (place + 1)
 
 step_at_unit : (program : Program) → AreInOrder program → (limits : Limits) (place : ℕ) (m : Machine) (u : Unit) (step : Step)
@@ -307,7 +307,7 @@ step_at_unit : (program : Program) → AreInOrder program → (limits : Limits) 
 step_at_unit program ordered limits place m u step found is within =
     let of : IsStepOf program u.address u.what step =
     subst (λ (o : Option Unit). MatchOption o (step ≡ steps.Nowhere) (λ u. IsStepOf program u.address u.what step)) found is in
-    let steps = unit_steps program limits place u.address m u.what step (ordered.behind place u found) within of in
+    let steps = unit_steps program limits place u.address m u.what step (ordered.following place u found) within of in
     record {
       next = steps.next;
       plain = λ thread. ((steps.plain thread).0, inr (u, found_contains program.units place u found, refl, (steps.plain thread).1), (steps.plain thread).2);

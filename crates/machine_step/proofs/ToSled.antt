@@ -14,7 +14,7 @@ use Rattle.machine_step.specs.Course.{Reaches}
 use Rattle.machine_step.specs.private.Machine.{state_at, IsWithin, stepping}
 use Rattle.machine_step.specs.private.Standing.{due_sled}
 use Rattle.machine_step.specs.private.Steps.{IsPlaceOf, IsStepAt, sled_at}
-use Rattle.machine_step.proofs.OnCourse.{reaches_more, runs_behind}
+use Rattle.machine_step.proofs.OnCourse.{reaches_more, runs_after}
 use Rattle.machine_step.proofs.Places.{place_within}
 use Rattle.machine_step.proofs.Runs.{measure, measure_falls}
 use Rattle.machine_step.proofs.Stepping.{LeadsBy, AreInOrder, MadeAt, MadeBy, step_at_place}
@@ -134,7 +134,7 @@ way_ends program ordered limits start first place m step way is within quietly e
     let none = quiet program limits thread (state_at here.0 m) (sled_at step) plain.0 quietly plain.2 in
     let reached = here.2 thread in (
       leads.0,
-      runs_behind program limits thread reached.0 zero (state_at address first) (state_at here.0 m) (state_at leads.0 after) [] [] end reached.1
+      runs_after program limits thread reached.0 zero (state_at address first) (state_at here.0 m) (state_at leads.0 after) [] [] end reached.1
           (subst (λ (ps : List Passing). PlainStep program limits thread (state_at here.0 m) ps (Ends end (state_at leads.0 after))) none
           (subst (λ (n : Next). PlainStep program limits thread (state_at here.0 m) plain.0 n) leads.1 plain.1)),
     )

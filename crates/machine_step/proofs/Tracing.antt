@@ -38,7 +38,7 @@ before_of a sound place k at =
     let here = at_passing a.steps.now (are_in_order sound.setup.bytes a.steps.now sound.setup.accepted) a.limits a.thread at.address place k a.machine
     at.at.step sound.within at.at.placed at.at.is_step at.at.due in
     let made = (same_step a.steps.now (accepted_units sound.setup.bytes a.steps.now sound.setup.accepted) a.limits a.thread (state_at at.address a.machine)
-    (at.next ∷ []) (passing_at a.limits a.thread (state_at at.address a.machine) k here.sled ∷ []) at.comes.behind here.next
+    (at.next ∷ []) (passing_at a.limits a.thread (state_at at.address a.machine) k here.sled ∷ []) at.comes.following here.next
     at.comes.passes here.passes).0 in
     let other = eqb-false a.machine.passings a.limits.passings (if_some_left (a.machine.passings == a.limits.passings) _ k at.at.due) in
     let within = sound.within in
@@ -81,9 +81,9 @@ stands_past a sound end past = record {
 
 -- ---- the passings of its run
 
-pub found_behind : {X : Type 0} (xs : List X) (x : X) (ys : List X) → slice_get (xs ++ x ∷ ys) (length xs) ≡ Some x
-found_behind [] x ys = refl
-found_behind (first ∷ xs) x ys = found_behind xs x ys
+pub found_after : {X : Type 0} (xs : List X) (x : X) (ys : List X) → slice_get (xs ++ x ∷ ys) (length xs) ≡ Some x
+found_after [] x ys = refl
+found_after (first ∷ xs) x ys = found_after xs x ys
 
 -- lists that are split after prefixes of equal length
 pub same_split : {X : Type 0} (xs ys : List X) (x y : X) (xs' ys' : List X) → length xs ≡ length ys → xs ++ x ∷ xs' ≡ ys ++ y ∷ ys'
@@ -132,7 +132,7 @@ begins_at a sound place k at all end last next run begins =
     let before = before_of a sound place k at in
     let long : length a.marks.items ≡ length at.passed = sound.made ∙ sym at.count in
     let found : slice_get all (length a.marks.items) ≡ Some at.next =
-    ap (slice_get all) long ∙ (ap (λ (ps : List Passing). slice_get ps (length at.passed)) on.is ∙ found_behind at.passed at.next on.later) in
+    ap (slice_get all) long ∙ (ap (λ (ps : List Passing). slice_get ps (length at.passed)) on.is ∙ found_after at.passed at.next on.later) in
     let same : begins.passing ≡ at.next = one begins.passing at.next (sym begins.found ∙ found) in
     let sled : begins.passing.sled ≡ k = ap (λ (p : Passing). p.sled) (same ∙ before.next_is) in
     begins.first ∙ (ap (λ s. Some (first_word (traced a) s)) sled ∙ ap Some (first_word_is a sound k))

@@ -19,7 +19,7 @@ use Rattle.handler_word.specs.declared.mark.Mark.TheVariants.{Skipped, NoHandler
 use Rattle.machine_step.specs.Loads.{Load, Reading, Wants, Marked, from_state, from_handler, from_offset, from_opcode, from_id, from_head, from_release, from_start, is_held_at, next_from, next_load}
 use Rattle.machine_step.specs.Whole.{AreWhole, IsWhole, Loaded, loads_by_passing}
 use Rattle.machine_step.specs.Follows.{Follows}
-use Rattle.machine_step.proofs.AlongCode.{Fits, follows_fits, behind, by_test, loads_allowed, next_is}
+use Rattle.machine_step.proofs.AlongCode.{Fits, follows_fits, following, by_test, loads_allowed, next_is}
 
 -- a load of a part of a sled gave an allowed value
 abbrev IsPartAllowed : Program → Load → Type 0
@@ -96,28 +96,28 @@ OfSled program k P own = (sled : Sled) → slice_get program.sleds k ≡ Some sl
 abbrev Found : Program → ℕ → Part → Sled → List Load → Type 0
 Found program k part sled own = Loaded own k part (patched program.trampolines sled part)
 
-record BehindId (program : Program) (k : ℕ) (sled : Sled) (own : List Load) : Type 0 where
+record AfterId (program : Program) (k : ℕ) (sled : Sled) (own : List Load) : Type 0 where
   opcode : Found program k Opcode sled own
   offset : Found program k Offset sled own
 
-record BehindHead (program : Program) (k : ℕ) (sled : Sled) (own : List Load) : Type 0 where
+record AfterHead (program : Program) (k : ℕ) (sled : Sled) (own : List Load) : Type 0 where
   id : Found program k Id sled own
-  behind_id : BehindId program k sled own
+  after_id : AfterId program k sled own
 
 module _ (program : Program) (next : List Load → Option ℕ) where
   cut_state : (loads more : List Load) (mark : Mark) → from_state program loads ≡ Marked mark more
-      → Fit program (λ ls. behind (from_state program ls) next) loads → Cut program next (λ own. Unit {0}) loads more
+      → Fit program (λ ls. following (from_state program ls) next) loads → Cut program next (λ own. Unit {0}) loads more
   cut_state [] more mark same fit = cc
   cut_state (load ∷ loads) more mark same (first, allowed, rest) =
       last_load program next (λ own. Unit {0}) load loads more _ mark same rest tt
 
   cut_handler : (loads more : List Load) (mark : Mark) → from_handler program loads ≡ Marked mark more
-      → Fit program (λ ls. behind (from_handler program ls) next) loads → Cut program next (λ own. Unit {0}) loads more
+      → Fit program (λ ls. following (from_handler program ls) next) loads → Cut program next (λ own. Unit {0}) loads more
   cut_handler [] more mark same fit = cc
   cut_handler (load ∷ loads) more mark same (first, allowed, rest) =
       by_test (load.value == 0)
       (λ b. (if b then Marked NoHandler loads else from_state program loads) ≡ Marked mark more
-      → Fit program (λ ls. behind (if b then Marked NoHandler ls else from_state program ls) next) loads
+      → Fit program (λ ls. following (if b then Marked NoHandler ls else from_state program ls) next) loads
       → Cut program next (λ own. Unit {0}) (load ∷ loads) more)
       (λ e same fit. last_load program next (λ own. Unit {0}) load loads more NoHandler mark same fit tt)
       (λ e same fit. load_before program next (λ own. Unit {0}) (λ own. Unit {0}) load loads more (λ own found. tt) (cut_state loads more mark same fit))
@@ -125,7 +125,7 @@ module _ (program : Program) (next : List Load → Option ℕ) where
 
   module _ (k : ℕ) where
     cut_offset : (loads more : List Load) (mark : Mark) → from_offset program k loads ≡ Marked mark more
-        → Fit program (λ ls. behind (from_offset program k ls) next) loads → Cut program next (OfSled program k (Found program k Offset)) loads more
+        → Fit program (λ ls. following (from_offset program k ls) next) loads → Cut program next (OfSled program k (Found program k Offset)) loads more
     cut_offset [] more mark same fit = cc
     cut_offset (load ∷ loads) more mark same (first, allowed, rest) =
         load_before program next (λ own. Unit {0}) (OfSled program k (Found program k Offset)) load loads more
@@ -135,10 +135,10 @@ module _ (program : Program) (next : List Load → Option ℕ) where
         (cut_handler loads more mark same rest)
 
     cut_opcode : (loads more : List Load) (mark : Mark) → from_opcode program k loads ≡ Marked mark more
-        → Fit program (λ ls. behind (from_opcode program k ls) next) loads → Cut program next (OfSled program k (BehindId program k)) loads more
+        → Fit program (λ ls. following (from_opcode program k ls) next) loads → Cut program next (OfSled program k (AfterId program k)) loads more
     cut_opcode [] more mark same fit = cc
     cut_opcode (load ∷ loads) more mark same (first, allowed, rest) =
-        load_before program next (OfSled program k (Found program k Offset)) (OfSled program k (BehindId program k)) load loads more
+        load_before program next (OfSled program k (Found program k Offset)) (OfSled program k (AfterId program k)) load loads more
         (λ own found sled at.
         let word : load.word ≡ word_of k Opcode = sym (same_Some (word_of k Opcode) load.word first) in
         record {
@@ -148,16 +148,16 @@ module _ (program : Program) (next : List Load → Option ℕ) where
         (cut_offset loads more mark same rest)
 
     cut_id : (loads more : List Load) (mark : Mark) → from_id program k loads ≡ Marked mark more
-        → Fit program (λ ls. behind (from_id program k ls) next) loads → Cut program next (OfSled program k (BehindHead program k)) loads more
+        → Fit program (λ ls. following (from_id program k ls) next) loads → Cut program next (OfSled program k (AfterHead program k)) loads more
     cut_id [] more mark same fit = cc
     cut_id (load ∷ loads) more mark same (first, allowed, rest) =
-        load_before program next (OfSled program k (BehindId program k)) (OfSled program k (BehindHead program k)) load loads more
+        load_before program next (OfSled program k (AfterId program k)) (OfSled program k (AfterHead program k)) load loads more
         (λ own found sled at.
         let word : load.word ≡ word_of k Id = sym (same_Some (word_of k Id) load.word first) in
         let later = found sled at in
         record {
           id = first_loaded own load k Id (patched program.trampolines sled Id) word (allowed k sled Id at word);
-          behind_id = record {
+          after_id = record {
             opcode = one_more own load k Opcode (patched program.trampolines sled Opcode) later.opcode;
             offset = one_more own load k Offset (patched program.trampolines sled Offset) later.offset;
           };
@@ -171,23 +171,23 @@ module _ (program : Program) (next : List Load → Option ℕ) where
     unpatched_head_loaded load sled word other (inr unpatched) = inl (load.value, unpatched, first_loaded [] load k Head load.value word refl)
 
     cut_head : (loads more : List Load) (mark : Mark) → from_head program k loads ≡ Marked mark more
-        → Fit program (λ ls. behind (from_head program k ls) next) loads → Cut program next (OfSled program k (IsWhole program k)) loads more
+        → Fit program (λ ls. following (from_head program k ls) next) loads → Cut program next (OfSled program k (IsWhole program k)) loads more
     cut_head [] more mark same fit = cc
     cut_head (load ∷ loads) more mark same (first, allowed, rest) =
         let word : load.word ≡ word_of k Head = sym (same_Some (word_of k Head) load.word first) in
         by_test (load.value == patched_head)
         (λ b. (if b then from_id program k loads else Marked Skipped loads) ≡ Marked mark more
-        → Fit program (λ ls. behind (if b then from_id program k ls else Marked Skipped ls) next) loads
+        → Fit program (λ ls. following (if b then from_id program k ls else Marked Skipped ls) next) loads
         → Cut program next (OfSled program k (IsWhole program k)) (load ∷ loads) more)
         (λ e same fit.
-        load_before program next (OfSled program k (BehindHead program k)) (OfSled program k (IsWhole program k)) load loads more
+        load_before program next (OfSled program k (AfterHead program k)) (OfSled program k (IsWhole program k)) load loads more
         (λ own found sled at.
         let later = found sled at in
         inr (record {
           head = first_loaded own load k Head patched_head word (eqb-true load.value patched_head e);
           id = one_more own load k Id (patched program.trampolines sled Id) later.id;
-          opcode = one_more own load k Opcode (patched program.trampolines sled Opcode) later.behind_id.opcode;
-          offset = one_more own load k Offset (patched program.trampolines sled Offset) later.behind_id.offset;
+          opcode = one_more own load k Opcode (patched program.trampolines sled Opcode) later.after_id.opcode;
+          offset = one_more own load k Offset (patched program.trampolines sled Offset) later.after_id.offset;
         }))
         (cut_id loads more mark same fit))
         (λ e same fit.
@@ -205,36 +205,36 @@ module _ (program : Program) (next : List Load → Option ℕ) where
     })
 
     cut_release : (thread : ℕ) (loads more : List Load) (mark : Mark) → from_release program thread k loads ≡ Marked mark more
-        → Fit program (λ ls. behind (from_release program thread k ls) next) loads → Cut program next (OfSled program k (IsWhole program k)) loads more
+        → Fit program (λ ls. following (from_release program thread k ls) next) loads → Cut program next (OfSled program k (IsWhole program k)) loads more
     cut_release thread [] more mark same fit = cc
     cut_release thread (load ∷ loads) more mark same (first, allowed, rest) =
         let Q : List Load → Type 0 = OfSled program k (IsWhole program k) in
         let keeps : (own : List Load) → Q own → Q (load ∷ own) = λ own found sled at. whole_before load sled own (found sled at) in
         by_test (load.value == 0)
         (λ b. (if b then from_release program thread k loads else from_head program k loads) ≡ Marked mark more
-        → Fit program (λ ls. behind (if b then from_release program thread k ls else from_head program k ls) next) loads
+        → Fit program (λ ls. following (if b then from_release program thread k ls else from_head program k ls) next) loads
         → Cut program next Q (load ∷ loads) more)
         (λ e same fit. load_before program next Q Q load loads more keeps (cut_release thread loads more mark same fit))
         (λ e same fit. load_before program next Q Q load loads more keeps (cut_head loads more mark same fit))
         same rest
 
     cut_start : (thread : ℕ) (held : Bool) (loads more : List Load) (mark : Mark) → from_start program thread held k loads ≡ Marked mark more
-        → Fit program (λ ls. behind (from_start program thread held k ls) next) loads → Cut program next (OfSled program k (IsWhole program k)) loads more
+        → Fit program (λ ls. following (from_start program thread held k ls) next) loads → Cut program next (OfSled program k (IsWhole program k)) loads more
     cut_start thread true = cut_release thread
     cut_start thread false = cut_head
 
 -- ---- all passings
 
-none_behind : (program : Program) (thread : ℕ) (hold : Option ℕ) (number k : ℕ) (sleds : List ℕ) (loads : List Load) (word : ℕ)
+none_after : (program : Program) (thread : ℕ) (hold : Option ℕ) (number k : ℕ) (sleds : List ℕ) (loads : List Load) (word : ℕ)
     → from_start program thread (is_held_at hold number) k loads ≡ Wants word
     → loads_by_passing program thread hold number (k ∷ sleds) loads ≡ []
-none_behind program thread hold number k sleds loads word e = rw e refl
+none_after program thread hold number k sleds loads word e = rw e refl
 
-one_behind : (program : Program) (thread : ℕ) (hold : Option ℕ) (number k : ℕ) (sleds : List ℕ) (loads : List Load) (mark : Mark) (more : List Load)
+one_after : (program : Program) (thread : ℕ) (hold : Option ℕ) (number k : ℕ) (sleds : List ℕ) (loads : List Load) (mark : Mark) (more : List Load)
     → from_start program thread (is_held_at hold number) k loads ≡ Marked mark more
     → loads_by_passing program thread hold number (k ∷ sleds) loads
     ≡ take (length loads - length more) loads ∷ loads_by_passing program thread hold (number + 1) sleds more
-one_behind program thread hold number k sleds loads mark more e = rw e refl
+one_after program thread hold number k sleds loads mark more e = rw e refl
 
 -- the prefix of two lists, one after the other
 front_of : (loads own more : List Load) → loads ≡ own ++ more → take (length loads - length more) loads ≡ own
@@ -266,17 +266,17 @@ whole_reading : (program : Program) (thread : ℕ) (hold : Option ℕ) (number j
     → (r : Reading) → from_start program thread (is_held_at hold number) j loads ≡ r → (m : ℕ) → slice_get (j ∷ sleds) m ≡ Some k
     → slice_get (loads_by_passing program thread hold number (j ∷ sleds) loads) m ≡ Some own → IsWhole program k sled own
 whole_reading program thread hold number j sleds loads fit k sled own at_k later (Wants word) e m at_m own_m =
-    let none = sym (ap (λ cuts. slice_get cuts m) (none_behind program thread hold number j sleds loads word e)) ∙ own_m in cc
+    let none = sym (ap (λ cuts. slice_get cuts m) (none_after program thread hold number j sleds loads word e)) ∙ own_m in cc
 whole_reading program thread hold number j sleds loads fit k sled own at_k later (Marked mark more) e m at_m own_m =
     let next : List Load → Option ℕ = next_from program thread hold (number + 1) sleds in
     let held : Bool = is_held_at hold number in
-    let same : (ls : List Load) → next_from program thread hold number (j ∷ sleds) ls ≡ behind (from_start program thread held j ls) next =
+    let same : (ls : List Load) → next_from program thread hold number (j ∷ sleds) ls ≡ following (from_start program thread held j ls) next =
     λ ls. next_is program thread hold number j sleds ls (from_start program thread held j ls) refl in
-    let staged : Fit program (λ ls. behind (from_start program thread held j ls) next) loads =
-    fit_same program (next_from program thread hold number (j ∷ sleds)) (λ ls. behind (from_start program thread held j ls) next) loads same fit in
+    let staged : Fit program (λ ls. following (from_start program thread held j ls) next) loads =
+    fit_same program (next_from program thread hold number (j ∷ sleds)) (λ ls. following (from_start program thread held j ls) next) loads same fit in
     whole_at program next j sleds loads more (loads_by_passing program thread hold (number + 1) sleds more)
     (cut_start program next j thread held loads more mark e staged) k sled own at_k (later more) m at_m
-    (sym (ap (λ cuts. slice_get cuts m) (one_behind program thread hold number j sleds loads mark more e)) ∙ own_m)
+    (sym (ap (λ cuts. slice_get cuts m) (one_after program thread hold number j sleds loads mark more e)) ∙ own_m)
 
 whole_from : (program : Program) (thread : ℕ) (hold : Option ℕ) (number : ℕ) (sleds : List ℕ) (loads : List Load)
     → Fit program (next_from program thread hold number sleds) loads

@@ -17,5 +17,5 @@ Reaches program limits thread (suc n) s passed reached =
 pub record ComesTo (program : Program) (limits : Limits) (thread : ℕ) (passed : List Passing) (s : State) (next : Passing) : Type 0 where
   pub steps : ℕ
   pub reached : Reaches program limits thread steps (opening program thread) passed s
-  pub behind : Next
-  pub passes : PlainStep program limits thread s (next ∷ []) behind
+  pub following : Next
+  pub passes : PlainStep program limits thread s (next ∷ []) following

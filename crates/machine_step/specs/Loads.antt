@@ -15,7 +15,7 @@ pub record Load : Type 0 where
 -- how far loads bring a passing: to the word that it loads next, or to its mark, with the loads that come after
 pub data Reading : Type 0 where
   Wants : (word : ℕ) → Reading
-  Marked : (mark : Mark) → (behind : List Load) → Reading
+  Marked : (mark : Mark) → (following : List Load) → Reading
 
 -- the state word: at 2 the log records
 abbrev pub from_state : Program → List Load → Reading
@@ -71,7 +71,7 @@ marks_from program thread hold number (sled ∷ sleds) loads =
   where
     marked : Reading → (List Load → List Mark) → List Mark
     marked (Wants word) later = []
-    marked (Marked mark behind) later = mark ∷ later behind
+    marked (Marked mark following) later = mark ∷ later following
 
 -- the word that such a thread loads next, or none if all its passings have marks
 abbrev pub next_from : Program → ℕ → Option ℕ → ℕ → List ℕ → List Load → Option ℕ
@@ -81,7 +81,7 @@ next_from program thread hold number (sled ∷ sleds) loads =
   where
     wanted : Reading → (List Load → Option ℕ) → Option ℕ
     wanted (Wants word) later = Some word
-    wanted (Marked mark behind) later = later behind
+    wanted (Marked mark following) later = later following
 
 -- the marks, and the next load, of a thread, from its first passing on
 abbrev pub marks_of : Program → ℕ → Option ℕ → List ℕ → List Load → List Mark

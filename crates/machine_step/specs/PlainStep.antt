@@ -64,8 +64,8 @@ register s n = slice_index s.registers n
 
 -- what an addition or a subtraction leaves, and goes on at an address: the value mod 2^64, and whether it is 0
 abbrev pub computed : State → ℕ → ℕ → ℕ → State
-computed s behind dst value =
-    record (counted s behind) { registers = slice_set s.registers dst (value % 2 ^ 64); zero_flag = value % 2 ^ 64 == 0 }
+computed s following dst value =
+    record (counted s following) { registers = slice_set s.registers dst (value % 2 ^ 64); zero_flag = value % 2 ^ 64 == 0 }
 
 -- a value is pushed, if there is room
 abbrev pub pushed : State → ℕ → ℕ → Next
@@ -75,38 +75,38 @@ pushed s address value =
 
 -- the value on top of the stack goes into a register, if there is one
 abbrev pub popped : State → ℕ → ℕ → List ℕ → Next
-popped s behind reg [] = Ends ends.StackEmpty s
-popped s behind reg (value ∷ stack) =
-    Goes (record (counted s behind) { registers = slice_set s.registers reg value; stack = stack })
+popped s following reg [] = Ends ends.StackEmpty s
+popped s following reg (value ∷ stack) =
+    Goes (record (counted s following) { registers = slice_set s.registers reg value; stack = stack })
 
 -- where a branch goes: the address after it plus the distance that it names, mod 2^64
 abbrev pub branched : ℕ → ℤ → ℕ
-branched behind distance = (behind + cast_unsigned w64 distance) % 2 ^ 64
+branched following distance = (following + cast_unsigned w64 distance) % 2 ^ 64
 
--- what an instruction does; `behind` is the address after it, from which a branch counts
+-- what an instruction does; `following` is the address after it, from which a branch counts
 abbrev pub does : State → ℕ → Instr → Next
-does s behind (Mov dst imm) = Goes (record (counted s behind) { registers = slice_set s.registers dst imm })
-does s behind (Add dst src) = Goes (computed s behind dst (register s dst + register s src))
-does s behind (Sub dst src) = Goes (computed s behind dst (register s dst + (2 ^ 64 - register s src)))
-does s behind (Push reg) = pushed s behind (register s reg)
-does s behind (Pop reg) = popped s behind reg s.stack
-does s behind (Call rel) = pushed s (branched behind rel) behind
-does s behind (Jmp rel) = Goes (counted s (branched behind rel))
-does s behind (Jnz rel) = Goes (counted s (if s.zero_flag then behind else branched behind rel))
-does s behind Ret = returns s s.stack
-does s behind (Out port) =
+does s following (Mov dst imm) = Goes (record (counted s following) { registers = slice_set s.registers dst imm })
+does s following (Add dst src) = Goes (computed s following dst (register s dst + register s src))
+does s following (Sub dst src) = Goes (computed s following dst (register s dst + (2 ^ 64 - register s src)))
+does s following (Push reg) = pushed s following (register s reg)
+does s following (Pop reg) = popped s following reg s.stack
+does s following (Call rel) = pushed s (branched following rel) following
+does s following (Jmp rel) = Goes (counted s (branched following rel))
+does s following (Jnz rel) = Goes (counted s (if s.zero_flag then following else branched following rel))
+does s following Ret = returns s s.stack
+does s following (Out port) =
     if length s.output == output_limit then Ends ends.OutputFull s
-    else Goes (record (counted s behind) { output = s.output ++ register s 0 % 256 ∷ [] })
+    else Goes (record (counted s following) { output = s.output ++ register s 0 % 256 ∷ [] })
 
 -- an instruction wants fuel
 abbrev pub fuelled : Limits → State → Next → Next
 fuelled limits s next = if s.instructions == limits.fuel then Ends ends.Fuel s else next
 
 -- after its passing, an entry or tail sled does nothing, and an exit sled is a return
-abbrev pub behind_passing : Limits → State → SledKind → Next
-behind_passing limits s kinds.Entry = Goes (record s { address = s.address + 11 })
-behind_passing limits s kinds.Tail = Goes (record s { address = s.address + 11 })
-behind_passing limits s kinds.Exit = fuelled limits s (returns s s.stack)
+abbrev pub after_passing : Limits → State → SledKind → Next
+after_passing limits s kinds.Entry = Goes (record s { address = s.address + 11 })
+after_passing limits s kinds.Tail = Goes (record s { address = s.address + 11 })
+after_passing limits s kinds.Exit = fuelled limits s (returns s s.stack)
 
 -- a passing of a sled, with the stamp of its event
 pub record Passing : Type 0 where
@@ -134,7 +134,7 @@ UnitStep program limits thread s (whats.Sled k) made next =
     ((made ≡ []) × (next ≡ Ends ends.Passings s))
     ((sled : Sled) × (slice_get program.sleds k ≡ Some sled)
     × (made ≡ passing_at limits thread s k sled ∷ [])
-    × (next ≡ behind_passing limits (record s { passings = s.passings + 1 }) sled.kind))
+    × (next ≡ after_passing limits (record s { passings = s.passings + 1 }) sled.kind))
 UnitStep program limits thread s whats.Pad made next =
     (made ≡ []) × (next ≡ Goes (record s { address = s.address + 1 }))
 

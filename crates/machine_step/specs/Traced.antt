@@ -119,8 +119,8 @@ abbrev pub sleds_of : List Passing → List ℕ
 sleds_of passed = map (λ p. p.sled) passed
 
 -- the word that a thread loads after some loads
-abbrev pub wanted_behind : Traced → List Passing → List Load → Option ℕ
-wanted_behind t passed loads = next_load t.program t.thread t.hold (sleds_of passed) loads
+abbrev pub wanted_after : Traced → List Passing → List Load → Option ℕ
+wanted_after t passed loads = next_load t.program t.thread t.hold (sleds_of passed) loads
 
 -- the first word of the next passing, at this sled
 abbrev pub first_word : Traced → ℕ → ℕ
@@ -149,7 +149,7 @@ pub record HasLoaded (t : Traced) (passed : List Passing) (loads : List Load) : 
   pub wanted : AreWanted t.program t.thread t.hold (sleds_of passed) loads
   pub allowed : All (λ load. IsAllowed t.program t.thread load.word load.value) loads
   pub marks : t.marks ≡ marks_of t.program t.thread t.hold (sleds_of passed) loads
-  pub wants : IsWant t passed (wanted_behind t passed loads) end t.want
+  pub wants : IsWant t passed (wanted_after t passed loads) end t.want
 
 -- a value may be given to a thread: it wants a word, and the value is allowed there
 abbrev pub Allows : Traced → Want → ℕ → Type 0

@@ -38,7 +38,7 @@ loads_by_passing program thread hold number (sled ∷ sleds) loads =
   where
     cut : Reading → (List Load → List (List Load)) → List (List Load)
     cut (Wants word) later = []
-    cut (Marked mark behind) later = take (length loads - length behind) loads ∷ later behind
+    cut (Marked mark following) later = take (length loads - length following) loads ∷ later following
 
 -- each passing with a mark decodes its sled whole
 abbrev pub AreWhole : Program → ℕ → Option ℕ → List ℕ → List Load → Type 0

@@ -3,8 +3,7 @@
 ghost use Rattle.std.specs.Prelude.{◌≡◌, ◌<◌, ◌≤◌, ◌↔◌, ◌++◌, ℕ, List, [], length, slice_index, Some, Option, IsTrue, IsSome, IfOk};
 ghost use Rattle.sled_words.specs.Words.{release_word, state_word};
 ghost use Rattle.machine_step.specs.declared.end.End.{End};
-ghost use Rattle.machine_step.specs.PlainStep.{Passing, PlainRun, State};
-ghost use Rattle.machine_step.specs.Loads.{Load};
+ghost use Rattle.machine_step.specs.{PlainStep.{Passing, PlainRun, State}, Loads.{Load}};
 ghost use Rattle.machine_step.specs.Events.{events_in, recorded};
 
 use crate::allowed::allows;
@@ -12,7 +11,7 @@ use crate::end::End;
 use crate::limits::Limits;
 use crate::machine::Machine;
 use crate::registers::REGISTERS;
-use crate::stage::{Next, behind_load, first_stage, word_at};
+use crate::stage::{Next, after_load, first_stage, word_at};
 use crate::stamp::event_at;
 use crate::stand::{Stand, pass_sled, run_to_sled};
 use crate::steps::Steps;
@@ -170,7 +169,7 @@ impl<'a> Cpu<'a> {
         let Stand::Loading { place, sled, stage } = self.stand else {
             return None;
         };
-        match behind_load(stage, value) {
+        match after_load(stage, value) {
             Next::Loads(stage) => {
                 self.stand = Stand::Loading { place, sled, stage };
                 None

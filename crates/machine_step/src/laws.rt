@@ -2,16 +2,13 @@
 //! nothing.
 ghost use Rattle.std.specs.Prelude.{◌≡◌, ◌<◌, ℕ, List, Option, Some, All, length};
 ghost use Rattle.xray_image.specs.Program.{Program, IsAccepted};
-ghost use Rattle.sled_words.specs.Allowed.{IsAllowed};
-ghost use Rattle.sled_words.specs.ChangingCode.{KeepsSleds, LetsEnd};
+ghost use Rattle.sled_words.specs.{Allowed.{IsAllowed}, ChangingCode.{KeepsSleds, LetsEnd}};
 ghost use Rattle.handler_word.specs.declared.mark.Mark.{Mark};
 ghost use Rattle.machine_step.specs.declared.limits.Limits.{Limits};
 ghost use Rattle.machine_step.specs.declared.end.End.{End};
-ghost use Rattle.machine_step.specs.PlainStep.{State, Passing, PlainRun};
-ghost use Rattle.machine_step.specs.Course.{ComesTo};
+ghost use Rattle.machine_step.specs.{PlainStep.{State, Passing, PlainRun}, Course.{ComesTo}};
 ghost use Rattle.machine_step.specs.Follows.{Follows, MarksFollow};
-ghost use Rattle.machine_step.specs.Loads.{AreWanted, Load, next_load};
-ghost use Rattle.machine_step.specs.Ended.{EndsAsPlain};
+ghost use Rattle.machine_step.specs.{Loads.{AreWanted, Load, next_load}, Ended.{EndsAsPlain}};
 ghost use Rattle.machine_step.specs.Traced.{HasLoaded, IsDone, StandsAs, Traced, sleds_of};
 ghost use Rattle.machine_step.specs.Whole.{AreWhole};
 

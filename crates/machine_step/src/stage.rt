@@ -1,8 +1,7 @@
 //! One passing of a sled, load by load.
 ghost use Rattle.std.specs.Prelude.{◌≡◌, ◌≤◌, ◌<◌, ◌+◌, length};
-ghost use Rattle.machine_step.specs.private.Stages.{behind_load, first_stage, word_at};
-ghost use Rattle.xray_image.specs.Limits.{most_sleds};
-ghost use Rattle.xray_image.specs.Program.{Program};
+ghost use Rattle.machine_step.specs.private.Stages.{after_load, first_stage, word_at};
+ghost use Rattle.xray_image.specs.{Limits.{most_sleds}, Program.{Program}};
 
 use handler_word::Mark;
 use sled_words::{PATCHED_HEAD, Part, word_of};
@@ -73,8 +72,8 @@ pub(crate) fn word_at(stage: Stage, sled: u32, sleds: u32, thread: u32) -> u32
 
 /// What the load of a value leads to.
 #[inline]
-pub(crate) fn behind_load(stage: Stage, value: u64) -> Next
-    ensures { result ≡ behind_load stage value }
+pub(crate) fn after_load(stage: Stage, value: u64) -> Next
+    ensures { result ≡ after_load stage value }
 {
     match stage {
         Stage::Release if value == UNSET => Next::Loads(Stage::Release),

@@ -2,8 +2,7 @@
 
 ghost use Rattle.std.specs.Prelude.{};
 ghost use Rattle.machine_step.specs.Texts.{marks_line, plain_text, state_text};
-ghost use Rattle.machine_step.specs.Traced.{IsDone, state_at};
-ghost use Rattle.machine_step.specs.EndedText.{thread_text};
+ghost use Rattle.machine_step.specs.{Traced.{IsDone, state_at}, EndedText.{thread_text}};
 ghost use Rattle.xray_io.specs.Text.{AddsText};
 
 use crate::cpu::Cpu;

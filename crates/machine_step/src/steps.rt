@@ -108,17 +108,17 @@ fn place_of(image: &Image, address: u64) -> u32
     }
 }
 
-/// The place that a branch leads to. Its distance counts from the address `behind`.
-fn target_of(image: &Image, behind: u64, distance: i32) -> u32
-    ensures { IsPlaceOf image.now.units (branched behind distance) result }
+/// The place that a branch leads to. Its distance counts from the address `following`.
+fn target_of(image: &Image, following: u64, distance: i32) -> u32
+    ensures { IsPlaceOf image.now.units (branched following distance) result }
 {
-    place_of(image, behind.wrapping_add_signed(i64::from(distance)))
+    place_of(image, following.wrapping_add_signed(i64::from(distance)))
 }
 
-/// The step of an instruction. `behind` is the address after it.
-fn step_of_instruction(image: &Image, behind: u64, instr: Instr) -> Step
+/// The step of an instruction. `following` is the address after it.
+fn step_of_instruction(image: &Image, following: u64, instr: Instr) -> Step
     requires { IsNamed instr }
-    ensures { IsStepOfInstruction image.now.units behind instr result }
+    ensures { IsStepOfInstruction image.now.units following instr result }
 {
     match instr {
         Instr::Mov { dst, imm } => Step::Mov { dst, imm },
@@ -127,14 +127,14 @@ fn step_of_instruction(image: &Image, behind: u64, instr: Instr) -> Step
         Instr::Push { reg } => Step::Push { reg },
         Instr::Pop { reg } => Step::Pop { reg },
         Instr::Call { rel } => Step::Call {
-            target: target_of(image, behind, rel),
-            back: behind,
+            target: target_of(image, following, rel),
+            back: following,
         },
         Instr::Jmp { rel } => Step::Jmp {
-            target: target_of(image, behind, rel),
+            target: target_of(image, following, rel),
         },
         Instr::Jnz { rel } => Step::Jnz {
-            target: target_of(image, behind, rel),
+            target: target_of(image, following, rel),
         },
         Instr::Ret => Step::Ret,
         Instr::Out { .. } => Step::Out,

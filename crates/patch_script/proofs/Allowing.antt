@@ -31,7 +31,7 @@ allowed_by : (program : Program) (thread word value : ℕ) → IsCodeValue progr
     → ((k : ℕ) (sled : Sled) (part : Part) → slice_get program.sleds k ≡ Some sled → word ≡ word_of k part → part ≢ Head
     → value ≡ patched program.trampolines sled part)
     → IsAllowed program thread word value
-allowed_by program thread word value is behind_head = record {
+allowed_by program thread word value is after_head = record {
   part = by_part;
   handler = is.handler;
   state = is.state;
@@ -41,9 +41,9 @@ allowed_by program thread word value is behind_head = record {
     by_part : (k : ℕ) (sled : Sled) (part : Part) → slice_get program.sleds k ≡ Some sled → word ≡ word_of k part
         → IsAllowedPart program.trampolines sled part value
     by_part k sled Head at same = head_allowed sled.kind value (is.part k sled Head at same)
-    by_part k sled Id at same = behind_head k sled Id at same (λ e. cc)
-    by_part k sled Opcode at same = behind_head k sled Opcode at same (λ e. cc)
-    by_part k sled Offset at same = behind_head k sled Offset at same (λ e. cc)
+    by_part k sled Id at same = after_head k sled Id at same (λ e. cc)
+    by_part k sled Opcode at same = after_head k sled Opcode at same (λ e. cc)
+    by_part k sled Offset at same = after_head k sled Offset at same (λ e. cc)
 
 allowed_head : (program : Program) (script : List Command) (thread place k : ℕ)
     → IsAllowed program thread (word_of k Head) (code_at program script place (word_of k Head))
@@ -51,21 +51,21 @@ allowed_head program script thread place k =
     allowed_by program thread (word_of k Head) _ (code_values program script place (word_of k Head))
     (λ j sled part at same other. absurd (other (sym (same_part k j Head part same))))
 
-allowed_behind_head : (program : Program) (script : List Command) (thread p q k : ℕ) (part : Part) → p ≤ q → HasPatchedHead program script p k
+allowed_after_head : (program : Program) (script : List Command) (thread p q k : ℕ) (part : Part) → p ≤ q → HasPatchedHead program script p k
     → part ≢ Head → IsAllowed program thread (word_of k part) (code_at program script q (word_of k part))
-allowed_behind_head program script thread p q k part le head other =
+allowed_after_head program script thread p q k part le head other =
     allowed_by program thread (word_of k part) _ (code_values program script q (word_of k part))
-    (λ j sled a at same behind.
+    (λ j sled a at same following.
     let patched_j : HasPatchedHead program script p j =
     subst (HasPatchedHead program script p) (same_sled k j part a same) head in
-    ap (code_at program script q) same ∙ part_patched program script p q j sled a at behind le patched_j)
+    ap (code_at program script q) same ∙ part_patched program script p q j sled a at following le patched_j)
 
 allowed_part : (program : Program) (script : List Command) (thread p q k : ℕ) (part : Part) → p ≤ q → HasPatchedHead program script p k
     → IsAllowed program thread (word_of k part) (code_at program script q (word_of k part))
 allowed_part program script thread p q k Head le head = allowed_head program script thread q k
-allowed_part program script thread p q k Id le head = allowed_behind_head program script thread p q k Id le head (λ e. cc)
-allowed_part program script thread p q k Opcode le head = allowed_behind_head program script thread p q k Opcode le head (λ e. cc)
-allowed_part program script thread p q k Offset le head = allowed_behind_head program script thread p q k Offset le head (λ e. cc)
+allowed_part program script thread p q k Id le head = allowed_after_head program script thread p q k Id le head (λ e. cc)
+allowed_part program script thread p q k Opcode le head = allowed_after_head program script thread p q k Opcode le head (λ e. cc)
+allowed_part program script thread p q k Offset le head = allowed_after_head program script thread p q k Offset le head (λ e. cc)
 
 allowed_others : (program : Program) (script : List Command) (thread place word : ℕ) → handler_word program ≤ word
     → IsAllowed program thread word (code_at program script place word)

@@ -10,12 +10,12 @@ use Rattle.patch_script.specs.declared.command.Command.{Command}
 use Rattle.patch_script.specs.declared.command.Command.TheVariants as commands
 use Rattle.patch_script.specs.declared.micro.Micro.{Micro}
 use Rattle.patch_script.specs.declared.micro.Micro.TheVariants.{Store, Await, End}
-use Rattle.patch_script.specs.Micros.{Numbered, all_sleds, sleds_of, unpatch_sled, steps_of, micros_behind, micros, micro_at, start_of, is_go}
+use Rattle.patch_script.specs.Micros.{Numbered, all_sleds, sleds_of, unpatch_sled, steps_of, micros_after, micros, micro_at, start_of, is_go}
 use Rattle.patch_script.specs.Plans.{Plan, IsOrderly, IsStore}
 use Rattle.patch_script.specs.private.Placing.{patched_by}
 use Rattle.patch_script.specs.Refusals.{commands_of, has_go, is_misplaced}
 use Rattle.patch_script.proofs.Lists.{list_any-last, slice_get-append_left}
-use Rattle.patch_script.proofs.Steps.{stays, front-cons, whole_front, micros_behind-append}
+use Rattle.patch_script.proofs.Steps.{stays, front-cons, whole_front, micros_after-append}
 use Rattle.patch_script.proofs.Within.{neither, patched_none, unpatched_none, script_none, found_none, is_bad_sled}
 
 abbrev pub awaits : Command → Bool
@@ -29,9 +29,9 @@ is_no_store End = true
 
 -- ---- no command there awaits
 
-stands_behind : (before : List Command) (command : Command) → has_go before ≡ false → is_misplaced before command ≡ false → awaits command ≡ false
-stands_behind before (commands.Await thread count) none fits = absurd (let some : not (has_go before) ≡ true = ap not none in cc)
-stands_behind before command none fits = refl
+stands_after : (before : List Command) (command : Command) → has_go before ≡ false → is_misplaced before command ≡ false → awaits command ≡ false
+stands_after before (commands.Await thread count) none fits = absurd (let some : not (has_go before) ≡ true = ap not none in cc)
+stands_after before command none fits = refl
 
 pub no_await : (before rest : List Command) → has_go before ≡ false → ((i : ℕ) (c : Command) → slice_get rest i ≡ Some c → is_misplaced (before ++ take i rest) c ≡ false)
     → list_any awaits (take_while stays rest) ≡ false
@@ -39,7 +39,7 @@ no_await before [] none fits = refl
 no_await before (x ∷ xs) none fits = elim (cases_Bool (is_go x)) [
   | inl so ↦ ap (list_any awaits) (front-cons x xs ∙ ap (λ b. cond (not b) (x ∷ take_while stays xs) []) so)
   | inr isnt ↦
-      let here : awaits x ≡ false = stands_behind before x none (ap (λ b. is_misplaced b x) (sym (append-nil before)) ∙ fits 0 x refl) in
+      let here : awaits x ≡ false = stands_after before x none (ap (λ b. is_misplaced b x) (sym (append-nil before)) ∙ fits 0 x refl) in
       let more : has_go (before ++ x ∷ []) ≡ false = list_any-last is_go before x ∙ neither (has_go before) (is_go x) none isnt in
       let rest = no_await (before ++ x ∷ []) xs more (λ i c at. ap (λ b. is_misplaced b c) (append_assoc before (x ∷ []) (take i xs)) ∙ fits (suc i) c at) in
       ap (list_any awaits) (front-cons x xs ∙ ap (λ b. cond (not b) (x ∷ take_while stays xs) []) isnt)
@@ -78,11 +78,11 @@ stores_before_go plan all place lt =
     let none : list_any awaits front ≡ false = no_await [] script refl (λ i c at. placed i c at) in
     let stores : list_any is_no_store (micros program front) ≡ false = script_none is_no_store program awaits (store_steps program) [] front none in
     let whole = whole_front script in
-    let split : micros program script ≡ micros program front ++ micros_behind program (patched_by program front) whole.0 =
-    ap (micros program) whole.1 ∙ micros_behind-append program [] front whole.0 in
+    let split : micros program script ≡ micros program front ++ micros_after program (patched_by program front) whole.0 =
+    ap (micros program) whole.1 ∙ micros_after-append program [] front whole.0 in
     let there : slice_get (micros program script) place ≡ Some (get_or (micros program front) place End) =
     ap (λ steps. slice_get steps place) split
-    ∙ slice_get-append_left (micros program front) (micros_behind program (patched_by program front) whole.0) place lt
+    ∙ slice_get-append_left (micros program front) (micros_after program (patched_by program front) whole.0) place lt
     ∙ slice_get-get_or (micros program front) place End lt in
     subst IsStore (sym (ap (λ o. unwrap_or o End) there))
     (is_store (get_or (micros program front) place End) (found_none is_no_store program (micros program front) stores place lt))

@@ -22,7 +22,7 @@ use Rattle.patch_script.specs.declared.micro.Micro.{Micro}
 use Rattle.patch_script.specs.declared.micro.Micro.TheVariants.{Store, Await, End}
 use Rattle.patch_script.specs.Bounds.{awaits_passing, bound_of}
 use Rattle.patch_script.specs.CodeAt.{code_at}
-use Rattle.patch_script.specs.Micros.{Numbered, all_sleds, sleds_of, hold_by, hold_of, is_go, unpatch_sled, steps_of, micros_behind, micros, micro_at, start_of, total_of}
+use Rattle.patch_script.specs.Micros.{Numbered, all_sleds, sleds_of, hold_by, hold_of, is_go, unpatch_sled, steps_of, micros_after, micros, micro_at, start_of, total_of}
 use Rattle.patch_script.specs.private.Placing.{patched_by}
 use Rattle.patch_script.specs.Plans.{Plan, IsOrderly, plan_of}
 use Rattle.patch_script.specs.Refusals.{Lines, commands_of, has_go, holds_for_good, is_released, releases, IsAdmitted}
@@ -31,8 +31,8 @@ use Rattle.patch_script.proofs.Before.{awaits, no_await}
 use Rattle.patch_script.proofs.Holding.{held_found, option_or-none, option_or_assoc}
 use Rattle.patch_script.proofs.Lists.{list_any-last, slice_get-append_right, split_at}
 use Rattle.patch_script.proofs.Orderly.{orderly, said_for}
-use Rattle.patch_script.proofs.Steps.{stays, whole_front, micros_behind-append}
-use Rattle.patch_script.proofs.WordValues.{behind, code_at_next}
+use Rattle.patch_script.proofs.Steps.{stays, whole_front, micros_after-append}
+use Rattle.patch_script.proofs.WordValues.{following, code_at_next}
 use Rattle.patch_script.proofs.Within.{neither, or_parts, patched_none, unpatched_none, script_none, found_none, is_bad_sled, all_near, some_near}
 
 and_false : (a b : Bool) → b ≡ false → (a && b) ≡ false
@@ -111,23 +111,23 @@ module _ (program : Program) (threads : ℕ) (script : List Command) where
       not_false true h = refl
       not_false false h = absurd cc
 
-  early : AllFollow → (thread passing : ℕ) → hold_of thread script ≡ Some passing → (before rest behind : List Command)
-      → script ≡ before ++ (rest ++ behind) → is_released thread (before ++ rest) ≡ false → list_any (awaits_too thread passing) rest ≡ false
-  early follow thread passing held before [] behind is free = refl
-  early follow thread passing held before (command ∷ rest) behind is free =
+  early : AllFollow → (thread passing : ℕ) → hold_of thread script ≡ Some passing → (before rest following : List Command)
+      → script ≡ before ++ (rest ++ following) → is_released thread (before ++ rest) ≡ false → list_any (awaits_too thread passing) rest ≡ false
+  early follow thread passing held before [] following is free = refl
+  early follow thread passing held before (command ∷ rest) following is free =
       neither (awaits_too thread passing command) (list_any (awaits_too thread passing) rest)
       (here command is (or_first (is_released thread before) (is_released thread (command ∷ rest))
       (sym (list_any-append (releases thread) before (command ∷ rest)) ∙ free)))
-      (early follow thread passing held (before ++ command ∷ []) rest behind (one_further before command (rest ++ behind) is)
+      (early follow thread passing held (before ++ command ∷ []) rest following (one_further before command (rest ++ following) is)
       (ap (is_released thread) (append_assoc before (command ∷ []) rest) ∙ free))
     where
-      here : (command : Command) → script ≡ before ++ command ∷ (rest ++ behind) → is_released thread before ≡ false
+      here : (command : Command) → script ≡ before ++ command ∷ (rest ++ following) → is_released thread before ≡ false
           → awaits_too thread passing command ≡ false
       here (commands.Await awaited count) is free = elim (cases_Bool (awaited == thread)) [
         | inl so ↦
-            let at : script ≡ before ++ commands.Await thread count ∷ (rest ++ behind) =
-            is ∙ ap (λ t. before ++ commands.Await t count ∷ (rest ++ behind)) (eqb-true awaited thread so) in
-            and_false (awaited == thread) (nat_lt passing count) (awaited_early follow thread passing count before (rest ++ behind) at held free)
+            let at : script ≡ before ++ commands.Await thread count ∷ (rest ++ following) =
+            is ∙ ap (λ t. before ++ commands.Await t count ∷ (rest ++ following)) (eqb-true awaited thread so) in
+            and_false (awaited == thread) (nat_lt passing count) (awaited_early follow thread passing count before (rest ++ following) at held free)
         | inr isnt ↦ false_and (awaited == thread) (nat_lt passing count) isnt
       ]
       here command is free = refl
@@ -136,15 +136,15 @@ module _ (program : Program) (threads : ℕ) (script : List Command) where
 
 record Releases (thread : ℕ) (script : List Command) : Type 0 where
   before : List Command
-  behind : List Command
-  is : script ≡ before ++ commands.Release thread ∷ behind
+  following : List Command
+  is : script ≡ before ++ commands.Release thread ∷ following
   first : is_released thread before ≡ false
 
 later_release : (thread : ℕ) (command : Command) (rest : List Command) → releases thread command ≡ false → Releases thread rest
     → Releases thread (command ∷ rest)
 later_release thread command rest isnt later = record {
   before = command ∷ later.before;
-  behind = later.behind;
+  following = later.following;
   is = ap (λ cs. command ∷ cs) later.is;
   first = neither (releases thread command) (is_released thread later.before) isnt later.first;
 }
@@ -158,7 +158,7 @@ first_release thread (command ∷ rest) so = by_command command (first_release t
     by_command (commands.Release released) later so = elim (cases_Bool (released == thread)) [
       | inl same ↦ record {
         before = [];
-        behind = rest;
+        following = rest;
         is = ap (λ t. commands.Release t ∷ rest) (eqb-true released thread same);
         first = refl;
       }
@@ -197,11 +197,11 @@ calm_micros program thread passing script none =
     script_none (awaits_passing thread passing) program (awaits_too thread passing) (calm_steps program thread passing) [] script none
 
 -- the first step that passes a test comes after those that don't
-first_behind : (p : Micro → Bool) (xs ys : List Micro) → list_any p xs ≡ false → length xs ≤ position_or_len p (xs ++ ys)
-first_behind p [] ys none = omega arith
-first_behind p (x ∷ xs) ys none =
+first_after : (p : Micro → Bool) (xs ys : List Micro) → list_any p xs ≡ false → length xs ≤ position_or_len p (xs ++ ys)
+first_after p [] ys none = omega arith
+first_after p (x ∷ xs) ys none =
     let parts = or_parts (p x) (list_any p xs) none in
-    let rest = first_behind p xs ys parts.1 in
+    let rest = first_after p xs ys parts.1 in
     subst (λ b. suc (length xs) ≤ cond (not b) (1 + position_or_len p (xs ++ ys)) 0) (sym parts.0) (omega (arith, rest))
 
 -- ---- the bounds
@@ -224,10 +224,10 @@ bound_begins program threads script follow thread passing =
     let none : list_any awaits front ≡ false =
     no_await [] script refl (λ i c at. (follow (take i script) c (drop (suc i) script) (split_at script i c at)).place) in
     let whole = whole_front script in
-    let split : micros program script ≡ micros program front ++ micros_behind program (patched_by program front) whole.0 =
-    ap (micros program) whole.1 ∙ micros_behind-append program [] front whole.0 in
+    let split : micros program script ≡ micros program front ++ micros_after program (patched_by program front) whole.0 =
+    ap (micros program) whole.1 ∙ micros_after-append program [] front whole.0 in
     subst (λ steps. start_of program script ≤ position_or_len (awaits_passing thread passing) steps) (sym split)
-    (first_behind (awaits_passing thread passing) (micros program front) (micros_behind program (patched_by program front) whole.0)
+    (first_after (awaits_passing thread passing) (micros program front) (micros_after program (patched_by program front) whole.0)
     (calm_micros program thread passing front (unawaited front thread passing none)))
 
 -- they never fall
@@ -314,7 +314,7 @@ module _ (program : Program) (thread : ℕ) (some : 0 < thread) where
       none_false (c ∷ cs) = none_false cs
 
   -- once it is 1, it stays 1
-  stays_one : (step : Micro) (value : ℕ) → unsets own_word step ≡ false → value ≡ 1 → behind own_word step value ≡ 1
+  stays_one : (step : Micro) (value : ℕ) → unsets own_word step ≡ false → value ≡ 1 → following own_word step value ≡ 1
   stays_one (Store w stored) value set one = elim (cases_Bool (w == own_word)) [
     | inl so ↦
         let is : stored ≡ 1 = eqb-true stored 1 (not_not (stored == 1) (sym (ap (λ b. b && not (stored == 1)) so) ∙ set)) in
@@ -345,13 +345,13 @@ module _ (program : Program) (thread : ℕ) (some : 0 < thread) where
       (step_sets script (place + more)) (one_from script place more one))
 
   -- it is 1 at all places after its release
-  one_behind : (script before rest : List Command) → script ≡ before ++ commands.Release thread ∷ rest → (place : ℕ)
+  one_after : (script before rest : List Command) → script ≡ before ++ commands.Release thread ∷ rest → (place : ℕ)
       → total_of program before < place → code_at program script place own_word ≡ 1
-  one_behind script before rest is place past =
+  one_after script before rest is place past =
       let first = total_of program before in
-      let more = micros_behind program (patched_by program before) (commands.Release thread ∷ rest) in
+      let more = micros_after program (patched_by program before) (commands.Release thread ∷ rest) in
       let split : micros program script ≡ micros program before ++ more =
-      ap (micros program) is ∙ micros_behind-append program [] before (commands.Release thread ∷ rest) in
+      ap (micros program) is ∙ micros_after-append program [] before (commands.Release thread ∷ rest) in
       let same : first ≡ first + 0 = omega arith in
       let there : micro_at program script first ≡ Store own_word 1 =
       ap (λ steps. unwrap_or (slice_get steps first) End) split
@@ -359,7 +359,7 @@ module _ (program : Program) (thread : ℕ) (some : 0 < thread) where
       ∙ ap (λ o. unwrap_or o End) (slice_get-append_right (micros program before) more 0)) in
       let stored : code_at program script (first + 1) own_word ≡ 1 =
       code_at_next program script first own_word
-      ∙ (ap (λ step. behind own_word step (code_at program script first own_word)) there
+      ∙ (ap (λ step. following own_word step (code_at program script first own_word)) there
       ∙ ap (λ b. unwrap_or (cond b (Some 1) None) (code_at program script first own_word)) (eq-eqb own_word own_word refl)) in
       let on : place ≡ first + 1 + (place - (first + 1)) = omega (arith, past) in
       ap (λ p. code_at program script p own_word) on ∙ one_from script (first + 1) (place - (first + 1)) stored
@@ -374,14 +374,14 @@ released_first program threads script follow thread passing held free =
     let p = awaits_passing thread passing in
     let before = micros program free.before in
     let release : Micro = Store (release_word program thread) 1 in
-    let more = micros_behind program (patched_by program free.before ++ []) free.behind in
+    let more = micros_after program (patched_by program free.before ++ []) free.following in
     let split : micros program script ≡ before ++ release ∷ more =
-    ap (micros program) free.is ∙ micros_behind-append program [] free.before (commands.Release thread ∷ free.behind) in
+    ap (micros program) free.is ∙ micros_after-append program [] free.before (commands.Release thread ∷ free.following) in
     let none : list_any p before ≡ false =
     calm_micros program thread passing free.before
-    (early program threads script follow thread passing held [] free.before (commands.Release thread ∷ free.behind) free.is free.first) in
+    (early program threads script follow thread passing held [] free.before (commands.Release thread ∷ free.following) free.is free.first) in
     let longer : list_any p (before ++ release ∷ []) ≡ false = list_any-last p before release ∙ neither (list_any p before) false none refl in
-    let first = first_behind p (before ++ release ∷ []) more longer in
+    let first = first_after p (before ++ release ∷ []) more longer in
     let whole : micros program script ≡ (before ++ release ∷ []) ++ more = split ∙ sym (append_assoc before (release ∷ []) more) in
     let bound : bound_of program script thread passing ≡ position_or_len p ((before ++ release ∷ []) ++ more) = ap (position_or_len p) whole in
     omega (arith, first, bound, length-append before (release ∷ []))
@@ -409,7 +409,7 @@ lets_end_in plan all thread some =
       ends = bound_within program script thread;
       releases = λ passing held.
           let free = first_release thread script (is_let_go script thread passing all.released held) in
-          one_behind program thread some script free.before free.behind free.is (bound_of program script thread passing)
+          one_after program thread some script free.before free.following free.is (bound_of program script thread passing)
           (released_first program plan.threads script follow thread passing held free);
     }
   where

@@ -68,10 +68,10 @@ front_passes p (x ∷ xs) (suc n) le pass fail =
 pub filter_range : {X : Type 0} (p : X → Bool) (xs : List X) (start n : ℕ) → start + n ≤ length xs → ((k : ℕ) (d : X) → k < start → p (get_or xs k d) ≡ false)
     → ((k : ℕ) (d : X) → start ≤ k → k < start + n → p (get_or xs k d) ≡ true) → ((k : ℕ) (d : X) → start + n ≤ k → k < length xs → p (get_or xs k d) ≡ false)
     → filter p xs ≡ take n (drop start xs)
-filter_range p xs zero n le before inside behind =
-    front_passes p xs n (omega arith) (λ k d lt. inside k d (omega arith) (omega arith)) (λ k d above lt. behind k d (omega arith) lt)
-filter_range p [] (suc start) n le before inside behind = absurd (omega arith)
-filter_range p (x ∷ xs) (suc start) n le before inside behind =
+filter_range p xs zero n le before inside following =
+    front_passes p xs n (omega arith) (λ k d lt. inside k d (omega arith) (omega arith)) (λ k d above lt. following k d (omega arith) lt)
+filter_range p [] (suc start) n le before inside following = absurd (omega arith)
+filter_range p (x ∷ xs) (suc start) n le before inside following =
     ap (λ b. cond b (x ∷ filter p xs) (filter p xs)) (before 0 x (omega arith))
     ∙ filter_range p xs start n (omega arith) (λ k d lt. before (suc k) d (omega arith)) (λ k d from to. inside (suc k) d (omega arith) (omega arith))
-    (λ k d above lt. behind (suc k) d (omega arith) (omega arith))
+    (λ k d above lt. following (suc k) d (omega arith) (omega arith))

@@ -10,7 +10,7 @@ use Rattle.patch_script.specs.declared.command.Command.{Command}
 use Rattle.patch_script.specs.declared.command.Command.TheVariants as commands
 use Rattle.patch_script.specs.declared.micro.Micro.{Micro}
 use Rattle.patch_script.specs.declared.micro.Micro.TheVariants.{Store, Await, End}
-use Rattle.patch_script.specs.Micros.{Numbered, all_sleds, sleds_of, patches, numbers, patch_sled, unpatch_sled, steps_of, micros_behind, micros, micro_at, total_of}
+use Rattle.patch_script.specs.Micros.{Numbered, all_sleds, sleds_of, patches, numbers, patch_sled, unpatch_sled, steps_of, micros_after, micros, micro_at, total_of}
 
 is_end : Micro → Bool
 is_end (Store word value) = false
@@ -36,11 +36,11 @@ module _ where
   no_step_end program earlier (commands.UnpatchFunction id) = no_unpatch_end earlier (sleds_of program id)
   no_step_end program earlier command = refl
 
-  no_end : (program : Program) (earlier : List ℕ) (script : List Command) → list_any is_end (micros_behind program earlier script) ≡ false
+  no_end : (program : Program) (earlier : List ℕ) (script : List Command) → list_any is_end (micros_after program earlier script) ≡ false
   no_end program earlier [] = refl
   no_end program earlier (c ∷ cs) =
-      list_any-append is_end (steps_of program earlier c) (micros_behind program (earlier ++ numbers (patches program c)) cs)
-      ∙ ap (λ b. b || list_any is_end (micros_behind program (earlier ++ numbers (patches program c)) cs)) (no_step_end program earlier c)
+      list_any-append is_end (steps_of program earlier c) (micros_after program (earlier ++ numbers (patches program c)) cs)
+      ∙ ap (λ b. b || list_any is_end (micros_after program (earlier ++ numbers (patches program c)) cs)) (no_step_end program earlier c)
       ∙ no_end program (earlier ++ numbers (patches program c)) cs
 
   some_step : (program : Program) (script : List Command) (place : ℕ) → place < total_of program script → micro_at program script place ≡ End → ⊥

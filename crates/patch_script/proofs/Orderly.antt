@@ -96,16 +96,16 @@ module _ (program : Program) (threads : ℕ) where
             (subst (λ (l : ℕ × Command). IsAdmitted program threads (commands_of before) l.1) is last)
       ]
 
-  read_admitted : (before : Lines) (behind : List (ℕ × List ℕ)) (all : Lines) → AllAdmitted before → length before ≤ 1024
-      → read_lines program threads before behind ≡ Ok all → AllAdmitted all × (length all ≤ 1024)
+  read_admitted : (before : Lines) (following : List (ℕ × List ℕ)) (all : Lines) → AllAdmitted before → length before ≤ 1024
+      → read_lines program threads before following ≡ Ok all → AllAdmitted all × (length all ≤ 1024)
   read_admitted before [] all admitted few e =
       let same = same_Ok before all e in (subst AllAdmitted same admitted, subst (λ (ls : Lines). length ls ≤ 1024) same few)
-  read_admitted before (line ∷ behind) all admitted few e =
-      let parts = bind_ok (with_line program threads before line) (λ ls. read_lines program threads ls behind) all e in
+  read_admitted before (line ∷ following) all admitted few e =
+      let parts = bind_ok (with_line program threads before line) (λ ls. read_lines program threads ls following) all e in
       elim (line_ok before line parts.0 parts.1) [
-        | inl same ↦ read_admitted parts.0 behind all (subst AllAdmitted same admitted) (subst (λ (ls : Lines). length ls ≤ 1024) same few) parts.2
+        | inl same ↦ read_admitted parts.0 following all (subst AllAdmitted same admitted) (subst (λ (ls : Lines). length ls ≤ 1024) same few) parts.2
         | inr adds ↦
-            read_admitted parts.0 behind all
+            read_admitted parts.0 following all
             (subst AllAdmitted adds.1.lines (admitted_more before line.0 adds.0 admitted adds.1.admitted))
             (omega (arith, ap length adds.1.lines, length-append before ((line.0, adds.0) ∷ []), adds.1.room))
             parts.2

@@ -11,7 +11,7 @@ use Rattle.patch_script.specs.declared.command.Command.{Command}
 use Rattle.patch_script.specs.declared.command.Command.TheVariants as commands
 use Rattle.patch_script.specs.declared.micro.Micro.{Micro}
 use Rattle.patch_script.specs.declared.micro.Micro.TheVariants.{Store, Await}
-use Rattle.patch_script.specs.Micros.{Numbered, all_sleds, sleds_of, patch_sled, unpatch_sled, head_left, steps_of, patches, numbers, micros_behind, micros}
+use Rattle.patch_script.specs.Micros.{Numbered, all_sleds, sleds_of, patch_sled, unpatch_sled, head_left, steps_of, patches, numbers, micros_after, micros}
 
 -- the numbered sled is one of the program's
 abbrev pub IsListed : Program → Numbered → Type 0
@@ -94,12 +94,12 @@ command_before program earlier commands.Go rest later = later
 command_before program earlier (commands.Release thread) rest later = lone (Store (release_word program thread) 1) rest (releasing thread) later
 command_before program earlier (commands.Await thread count) rest later = lone (Await thread count) rest (awaiting thread count) later
 
-patches_behind : (program : Program) (earlier : List ℕ) (script : List Command) → ArePatches program (micros_behind program earlier script)
-patches_behind program earlier [] = ended
-patches_behind program earlier (command ∷ rest) =
+patches_after : (program : Program) (earlier : List ℕ) (script : List Command) → ArePatches program (micros_after program earlier script)
+patches_after program earlier [] = ended
+patches_after program earlier (command ∷ rest) =
     let earlier' : List ℕ = earlier ++ numbers (patches program command) in
-    command_before program earlier command (micros_behind program earlier' rest) (patches_behind program earlier' rest)
+    command_before program earlier command (micros_after program earlier' rest) (patches_after program earlier' rest)
 
 -- the micro steps of a script
 pub script_patches : (program : Program) (script : List Command) → ArePatches program (micros program script)
-script_patches program script = patches_behind program [] script
+script_patches program script = patches_after program [] script

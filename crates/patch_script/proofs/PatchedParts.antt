@@ -20,7 +20,7 @@ use Rattle.patch_script.specs.Micros.{head_left, patch_sled, micros}
 use Rattle.patch_script.specs.CodeAt.{stored_in, initial_value, code_at}
 use Rattle.patch_script.specs.Values.{IsHead, IsPartValue, IsCodeValue}
 use Rattle.patch_script.specs.Patched.{HasPatchedHead, HasPatchedParts}
-use Rattle.patch_script.proofs.WordValues.{behind, behind_has, held, code_at_held, held_later, held_has}
+use Rattle.patch_script.proofs.WordValues.{following, after_has, held, code_at_held, held_later, held_has}
 use Rattle.patch_script.proofs.WordNumbers.{same_sled, same_part, below_others, part_at_first, zero_at_first, by_word}
 use Rattle.patch_script.proofs.PatchOrder.{IsLone, unpatching, handling, logging, releasing, awaiting, ArePatches, ended, lone, patch, script_patches}
 
@@ -104,12 +104,12 @@ stored_in_part program k sled part at _ (patching j s other at_j) =
 -- ---- a patched head
 
 -- after a head, what is stored is what patching stores
-stored_behind_head : (program : Program) (k : ℕ) (sled : Sled) (part : Part) → slice_get program.sleds k ≡ Some sled → part ≢ Head
+stored_after_head : (program : Program) (k : ℕ) (sled : Sled) (part : Part) → slice_get program.sleds k ≡ Some sled → part ≢ Head
     → (step : Micro) → IsStep program step → IfSome (stored_in (word_of k part) step) (λ v. v ≡ patched program.trampolines sled part)
-stored_behind_head program k sled Head at other step is = absurd (other refl)
-stored_behind_head program k sled Id at other step is = stored_in_part program k sled Id at step is
-stored_behind_head program k sled Opcode at other step is = stored_in_part program k sled Opcode at step is
-stored_behind_head program k sled Offset at other step is = stored_in_part program k sled Offset at step is
+stored_after_head program k sled Head at other step is = absurd (other refl)
+stored_after_head program k sled Id at other step is = stored_in_part program k sled Id at step is
+stored_after_head program k sled Opcode at other step is = stored_in_part program k sled Opcode at step is
+stored_after_head program k sled Offset at other step is = stored_in_part program k sled Offset at step is
 
 -- no unpatched head is the patched one
 left_is_unpatched : (kind : SledKind) (was_patched : Bool) → head_left kind was_patched ≢ patched_head
@@ -131,14 +131,14 @@ lone_head program k sled at _ (releasing thread) =
     by_word (λ v. v ≢ patched_head) (release_word program thread) (word_of k Head) 1 (λ same. omega arith)
 lone_head program k sled at _ (awaiting thread count) = tt
 
-id_behind : Id ≢ Head
-id_behind same = cc
+id_after : Id ≢ Head
+id_after same = cc
 
-opcode_behind : Opcode ≢ Head
-opcode_behind same = cc
+opcode_after : Opcode ≢ Head
+opcode_after same = cc
 
-offset_behind : Offset ≢ Head
-offset_behind same = cc
+offset_after : Offset ≢ Head
+offset_after same = cc
 
 -- if a part is patched after a patched head, it still is after a step on its own
 lone_keeps : (o : Option ℕ) (h v u goal : ℕ) → IfSome o (λ x. x ≢ patched_head) → (v ≡ goal → u ≡ goal)
@@ -200,13 +200,13 @@ patch_keeps program j k s sled part h v at_j at before now =
 store_keeps : (program : Program) (j k : ℕ) (s sled : Sled) (a part : Part) (v : ℕ)
     → slice_get program.sleds j ≡ Some s → slice_get program.sleds k ≡ Some sled → part ≢ Head
     → v ≡ patched program.trampolines sled part
-    → behind (word_of k part) (Store (word_of j a) (patched program.trampolines s a)) v ≡ patched program.trampolines sled part
+    → following (word_of k part) (Store (word_of j a) (patched program.trampolines s a)) v ≡ patched program.trampolines sled part
 store_keeps program j k s sled a part v at_j at other before =
     let step : Micro = Store (word_of j a) (patched program.trampolines s a) in
-    behind_has (λ x. x ≡ patched program.trampolines sled part) (stored_in (word_of k part) step) v
-    (stored_behind_head program k sled part at other step (patching j s a at_j)) before
+    after_has (λ x. x ≡ patched program.trampolines sled part) (stored_in (word_of k part) step) v
+    (stored_after_head program k sled part at other step (patching j s a at_j)) before
 
-head_stays : (j k : ℕ) (a : Part) (value h : ℕ) → a ≢ Head → behind (word_of k Head) (Store (word_of j a) value) h ≡ h
+head_stays : (j k : ℕ) (a : Part) (value h : ℕ) → a ≢ Head → following (word_of k Head) (Store (word_of j a) value) h ≡ h
 head_stays j k a value h other = stored_elsewhere (word_of j a) (word_of k Head) value h (λ same. other (same_part j k a Head same))
 
 -- at each place, a part is patched if the head is
@@ -219,26 +219,26 @@ patched_together program k sled part at other ended (suc p) h v before now = bef
 patched_together program k sled part at other (lone step rest is later) zero h v before now = before now
 patched_together program k sled part at other (lone step rest is later) (suc p) h v before now =
     let goal : ℕ = patched program.trampolines sled part in
-    let keeps : v ≡ goal → behind (word_of k part) step v ≡ goal = λ e.
-    behind_has (λ x. x ≡ goal) (stored_in (word_of k part) step) v (stored_behind_head program k sled part at other step (alone step is)) e in
-    patched_together program k sled part at other later p (behind (word_of k Head) step h) (behind (word_of k part) step v)
-    (lone_keeps (stored_in (word_of k Head) step) h v (behind (word_of k part) step v) goal (lone_head program k sled at step is) keeps before) now
+    let keeps : v ≡ goal → following (word_of k part) step v ≡ goal = λ e.
+    after_has (λ x. x ≡ goal) (stored_in (word_of k part) step) v (stored_after_head program k sled part at other step (alone step is)) e in
+    patched_together program k sled part at other later p (following (word_of k Head) step h) (following (word_of k part) step v)
+    (lone_keeps (stored_in (word_of k Head) step) h v (following (word_of k part) step v) goal (lone_head program k sled at step is) keeps before) now
 patched_together program k sled part at other (patch j s rest at_j later) zero h v before now = before now
 patched_together program k sled part at other (patch j s rest at_j later) (suc zero) h v before now =
     let value : Part → ℕ = patched program.trampolines s in
-    let id : h ≡ patched_head = sym (head_stays j k Id (value Id) h id_behind) ∙ now in
+    let id : h ≡ patched_head = sym (head_stays j k Id (value Id) h id_after) ∙ now in
     store_keeps program j k s sled Id part v at_j at other (before id)
 patched_together program k sled part at other (patch j s rest at_j later) (suc (suc zero)) h v before now =
     let value : Part → ℕ = patched program.trampolines s in
-    let opcode = head_stays j k Opcode (value Opcode) _ opcode_behind in
-    let id = head_stays j k Id (value Id) h id_behind in
+    let opcode = head_stays j k Opcode (value Opcode) _ opcode_after in
+    let id = head_stays j k Id (value Id) h id_after in
     store_keeps program j k s sled Opcode part _ at_j at other
     (store_keeps program j k s sled Id part v at_j at other (before (sym (opcode ∙ id) ∙ now)))
 patched_together program k sled part at other (patch j s rest at_j later) (suc (suc (suc zero))) h v before now =
     let value : Part → ℕ = patched program.trampolines s in
-    let offset = head_stays j k Offset (value Offset) _ offset_behind in
-    let opcode = head_stays j k Opcode (value Opcode) _ opcode_behind in
-    let id = head_stays j k Id (value Id) h id_behind in
+    let offset = head_stays j k Offset (value Offset) _ offset_after in
+    let opcode = head_stays j k Opcode (value Opcode) _ opcode_after in
+    let id = head_stays j k Id (value Id) h id_after in
     store_keeps program j k s sled Offset part _ at_j at other
     (store_keeps program j k s sled Opcode part _ at_j at other
     (store_keeps program j k s sled Id part v at_j at other (before (sym (offset ∙ opcode ∙ id) ∙ now))))
@@ -270,7 +270,7 @@ part_patched program script p q k sled part at other le head =
     (sym (code_at_held program script p (word_of k Head)) ∙ head) in
     let each : All (λ step. IfSome (stored_in word step) (λ v. v ≡ goal)) steps =
     All-weaker (IsStep program) (λ step. IfSome (stored_in word step) (λ v. v ≡ goal))
-    (stored_behind_head program k sled part at other) steps (each_step program patches) in
+    (stored_after_head program k sled part at other) steps (each_step program patches) in
     let stays : held word (drop p (take q steps)) (held word (take p steps) (first word)) ≡ goal =
     held_has (λ v. v ≡ goal) word (drop p (take q steps)) (held word (take p steps) (first word))
     (All-drop (λ step. IfSome (stored_in word step) (λ v. v ≡ goal)) p (take q steps)
@@ -280,9 +280,9 @@ part_patched program script p q k sled part at other le head =
 pub parts_patched : (program : Program) (script : List Command) (p q k : ℕ) (sled : Sled) → slice_get program.sleds k ≡ Some sled
     → p ≤ q → HasPatchedHead program script p k → HasPatchedParts program script q k sled
 parts_patched program script p q k sled at le head = record {
-  id = part_patched program script p q k sled Id at id_behind le head;
-  opcode = part_patched program script p q k sled Opcode at opcode_behind le head;
-  offset = part_patched program script p q k sled Offset at offset_behind le head;
+  id = part_patched program script p q k sled Id at id_after le head;
+  opcode = part_patched program script p q k sled Opcode at opcode_after le head;
+  offset = part_patched program script p q k sled Offset at offset_after le head;
 }
 
 -- ---- the values of words
@@ -327,18 +327,18 @@ part_has_value program script place k sled part at =
 -- ---- the words after those of the sleds
 
 -- what is stored in a word after those of the sleds, by the steps that store there
-stored_behind_sleds : (program : Program) (word : ℕ) (P : ℕ → Type 0) → handler_word program ≤ word
+stored_after_sleds : (program : Program) (word : ℕ) (P : ℕ → Type 0) → handler_word program ≤ word
     → ((value : ℕ) → value ≤ 1 → handler_word program ≡ word → P value)
     → ((value : ℕ) → value ≤ 4 → state_word program ≡ word → P value)
     → ((thread : ℕ) → release_word program thread ≡ word → P 1)
     → (step : Micro) → IsStep program step → IfSome (stored_in word step) P
-stored_behind_sleds program word P past handler state release _ (alone _ (unpatching j s was_patched at)) =
+stored_after_sleds program word P past handler state release _ (alone _ (unpatching j s was_patched at)) =
     by_word P (word_of j Head) word (head_left s.kind was_patched) (λ same. absurd (apart program j s Head word at past (sym same)))
-stored_behind_sleds program word P past handler state release _ (alone _ (handling value le)) = by_word P (handler_word program) word value (handler value le)
-stored_behind_sleds program word P past handler state release _ (alone _ (logging value le)) = by_word P (state_word program) word value (state value le)
-stored_behind_sleds program word P past handler state release _ (alone _ (releasing thread)) = by_word P (release_word program thread) word 1 (release thread)
-stored_behind_sleds program word P past handler state release _ (alone _ (awaiting thread count)) = tt
-stored_behind_sleds program word P past handler state release _ (patching j s part at) =
+stored_after_sleds program word P past handler state release _ (alone _ (handling value le)) = by_word P (handler_word program) word value (handler value le)
+stored_after_sleds program word P past handler state release _ (alone _ (logging value le)) = by_word P (state_word program) word value (state value le)
+stored_after_sleds program word P past handler state release _ (alone _ (releasing thread)) = by_word P (release_word program thread) word 1 (release thread)
+stored_after_sleds program word P past handler state release _ (alone _ (awaiting thread count)) = tt
+stored_after_sleds program word P past handler state release _ (patching j s part at) =
     by_word P (word_of j part) word (patched program.trampolines s part) (λ same. absurd (apart program j s part word at past (sym same)))
 
 -- such a word is at most this much, if no step stores more in it
@@ -350,7 +350,7 @@ at_most : (program : Program) (script : List Command) (place word limit : ℕ) �
 at_most program script place word limit past handler state release =
     let first = zero_at_first program word (omega arith) in
     at_each_place program script place word (λ v. v ≤ limit)
-    (stored_behind_sleds program word (λ v. v ≤ limit) past handler state release) (omega arith)
+    (stored_after_sleds program word (λ v. v ≤ limit) past handler state release) (omega arith)
 
 pub code_values : (program : Program) (script : List Command) (place word : ℕ) → IsCodeValue program word (code_at program script place word)
 code_values program script place word = record {

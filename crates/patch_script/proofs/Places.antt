@@ -119,19 +119,19 @@ module _ (placed : PlacedCommands) (are : ArePlaced placed) where
           let items = placed.commands.items in
           let all = commands_of (lines_in placed) in
           let one = get_or items number d in
-          let behind = next_begins number one (slice_get-get_or items number d (omega arith)) in
+          let following = next_begins number one (slice_get-get_or items number d (omega arith)) in
           let suc_number : suc number ≡ point = omega arith in
           elim (cases_lt point (length items)) [
             | inl lt ↦ omega (
               arith,
-              behind,
+              following,
               ap (λ n. total_of placed.image.value (take n all)) suc_number,
               (are.each point (get_or items point d) (slice_get-get_or items point d lt)).before,
               leb-false _ place (parts.1 point d (omega arith) lt),
             )
             | inr le ↦ omega (
               arith,
-              behind,
+              following,
               ap (λ n. total_of placed.image.value (take n all)) suc_number,
               ap (total_of placed.image.value) (take_all point all (omega (arith, as_many))),
               are.total,

@@ -92,7 +92,7 @@ id_range sleds id start end start_in end_in low high = record {
   within = end_in;
   before = λ k d lt. ltb-true _ id (low.0 k d (omega arith) lt);
   inside = λ k d from to. (let above = ltb-false _ id (low.1 k d from (omega arith)) in let below = leb-true _ id (high.0 k d (omega arith) to) in omega arith);
-  behind = λ k d from lt. leb-false _ id (high.1 k d from lt);
+  following = λ k d from lt. leb-false _ id (high.1 k d from lt);
 }
   where
     at_end : (xs : List SledValues) → end < length xs → SledValues
@@ -111,7 +111,7 @@ function_range program values id range are has =
     filter_range (λ s. s.1.id == id) (all_sleds program) range.start (range.end - range.start) (omega (arith, has.ordered, has.within, count, length-enumerate_from 0 program.sleds))
     (λ k d lt. ne_eqb _ id (λ same. let less = has.before k (values_of program.trampolines d.1) lt in omega (arith, same, less, id_at k d (omega (arith, has.ordered, has.within, count)))))
     (λ k d from to. eq-eqb _ id (id_at k d (omega (arith, has.ordered, has.within, count)) ∙ has.inside k (values_of program.trampolines d.1) from (omega (arith, has.ordered))))
-    (λ k d from lt. ne_eqb _ id (λ same. let more = has.behind k (values_of program.trampolines d.1) (omega (arith, has.ordered)) (omega (arith, count, length-enumerate_from 0 program.sleds)) in
+    (λ k d from lt. ne_eqb _ id (λ same. let more = has.following k (values_of program.trampolines d.1) (omega (arith, has.ordered)) (omega (arith, count, length-enumerate_from 0 program.sleds)) in
     omega (arith, same, more, id_at k d (omega (arith, length-enumerate_from 0 program.sleds)))))
   where
     count : length values ≡ length program.sleds

@@ -70,8 +70,8 @@ each_refused = refl
 one_too_many : with_line one_function 1 (replicate 1024 (1, commands.Patch)) (1025, codes "what") ≡ Err (faults.Limit 1025)
 one_too_many = refl
 
-blank_behind : with_line one_function 1 (replicate 1024 (1, commands.Patch)) (1025, codes " # blank") ≡ Ok (replicate 1024 (1, commands.Patch))
-blank_behind = refl
+blank_after : with_line one_function 1 (replicate 1024 (1, commands.Patch)) (1025, codes " # blank") ≡ Ok (replicate 1024 (1, commands.Patch))
+blank_after = refl
 
 -- a thread that is held before its passing 3 makes 3 passings, and no more
 waits_for_itself : verdict_of (codes "hold 1 3" ∷ codes "go" ∷ codes "await 1 5" ∷ codes "release 1" ∷ []) ≡ Err (faults.SelfWait 3)
@@ -109,8 +109,8 @@ starts_at_11 = refl
 ends_at_13 : total_of one_function (traced ++ commands.Unpatch ∷ []) ≡ 13
 ends_at_13 = refl
 
-nothing_behind : micro_at one_function traced 11 ≡ End
-nothing_behind = refl
+nothing_after : micro_at one_function traced 11 ≡ End
+nothing_after = refl
 
 -- an exit sled that was never patched keeps its head
 never_patched : micros one_function (commands.Go ∷ commands.Unpatch ∷ []) ≡ Store 0 0x09EB ∷ Store 4 0x2EC3 ∷ []

@@ -10,22 +10,22 @@ use Rattle.xray_image.specs.Program.{Program}
 use Rattle.patch_script.specs.declared.command.Command.{Command}
 use Rattle.patch_script.specs.declared.command.Command.TheVariants as commands
 use Rattle.patch_script.specs.declared.micro.Micro.{Micro}
-use Rattle.patch_script.specs.Micros.{Numbered, all_sleds, sleds_of, patches, numbers, patch_sled, unpatch_sled, steps_of, micros_behind, micros, total_of, start_of, is_go}
+use Rattle.patch_script.specs.Micros.{Numbered, all_sleds, sleds_of, patches, numbers, patch_sled, unpatch_sled, steps_of, micros_after, micros, total_of, start_of, is_go}
 use Rattle.patch_script.specs.Plans.{is_waiting, waiting_line}
 use Rattle.patch_script.specs.private.Placing.{patched_by, step_count}
 use Rattle.patch_script.specs.Refusals.{Lines, has_go}
 use Rattle.patch_script.specs.private.Sleds.{sleds_named}
 use Rattle.patch_script.proofs.Lists.{four_each, split_at, slice_get-append_left, slice_get-append_right}
 
-pub micros_behind-append : (program : Program) (earlier : List ℕ) (xs ys : List Command)
-    → micros_behind program earlier (xs ++ ys) ≡ micros_behind program earlier xs ++ micros_behind program (earlier ++ patched_by program xs) ys
-micros_behind-append program earlier [] ys = ap (λ e. micros_behind program e ys) (sym (append-nil earlier))
-micros_behind-append program earlier (x ∷ xs) ys =
+pub micros_after-append : (program : Program) (earlier : List ℕ) (xs ys : List Command)
+    → micros_after program earlier (xs ++ ys) ≡ micros_after program earlier xs ++ micros_after program (earlier ++ patched_by program xs) ys
+micros_after-append program earlier [] ys = ap (λ e. micros_after program e ys) (sym (append-nil earlier))
+micros_after-append program earlier (x ∷ xs) ys =
     let here = steps_of program earlier x in
     let more = earlier ++ numbers (patches program x) in
-    ap (λ steps. here ++ steps) (micros_behind-append program more xs ys)
-    ∙ sym (append_assoc here (micros_behind program more xs) (micros_behind program (more ++ patched_by program xs) ys))
-    ∙ ap (λ e. (here ++ micros_behind program more xs) ++ micros_behind program e ys) (append_assoc earlier (numbers (patches program x)) (patched_by program xs))
+    ap (λ steps. here ++ steps) (micros_after-append program more xs ys)
+    ∙ sym (append_assoc here (micros_after program more xs) (micros_after program (more ++ patched_by program xs) ys))
+    ∙ ap (λ e. (here ++ micros_after program more xs) ++ micros_after program e ys) (append_assoc earlier (numbers (patches program x)) (patched_by program xs))
 
 fours : (program : Program) (s : Numbered) → length (patch_sled program s) ≡ 4
 fours program s = refl
@@ -42,14 +42,14 @@ length-steps program earlier command = refl
 pub total_more : (program : Program) (script : List Command) (command : Command)
     → total_of program (script ++ command ∷ []) ≡ total_of program script + step_count command (length (sleds_named program command))
 total_more program script command =
-    ap length (micros_behind-append program [] script (command ∷ []))
+    ap length (micros_after-append program [] script (command ∷ []))
     ∙ length-append (micros program script) (steps_of program (patched_by program script) command ++ [])
     ∙ ap (λ steps. total_of program script + length steps) (append-nil (steps_of program (patched_by program script) command))
     ∙ ap (λ n. total_of program script + n) (length-steps program (patched_by program script) command)
 
 pub total_grows : (program : Program) (xs ys : List Command) → total_of program xs ≤ total_of program (xs ++ ys)
 total_grows program xs ys =
-    omega (arith, ap length (micros_behind-append program [] xs ys), length-append (micros program xs) (micros_behind program (patched_by program xs) ys))
+    omega (arith, ap length (micros_after-append program [] xs ys), length-append (micros program xs) (micros_after program (patched_by program xs) ys))
 
 take_front : (xs : List Command) (i j : ℕ) → i ≤ j → (m : List Command) × (take j xs ≡ take i xs ++ m)
 take_front xs zero j le = (take j xs, refl)
@@ -72,12 +72,12 @@ pub step_at : (program : Program) (script : List Command) (i : ℕ) (command : C
 step_at program script i command n micro at step =
     let front = take i script in
     let here = steps_of program (patched_by program front) command in
-    let behind = micros_behind program (patched_by program front ++ numbers (patches program command)) (drop (suc i) script) in
-    let whole : micros program script ≡ micros program front ++ (here ++ behind) =
-    ap (micros program) (split_at script i command at) ∙ micros_behind-append program [] front (command ∷ drop (suc i) script) in
+    let following = micros_after program (patched_by program front ++ numbers (patches program command)) (drop (suc i) script) in
+    let whole : micros program script ≡ micros program front ++ (here ++ following) =
+    ap (micros program) (split_at script i command at) ∙ micros_after-append program [] front (command ∷ drop (suc i) script) in
     ap (λ steps. slice_get steps (total_of program front + n)) whole
-    ∙ slice_get-append_right (micros program front) (here ++ behind) n
-    ∙ slice_get-append_left here behind n (slice_get_within here n micro step)
+    ∙ slice_get-append_right (micros program front) (here ++ following) n
+    ∙ slice_get-append_left here following n (slice_get_within here n micro step)
     ∙ step
 
 -- ---- before go

@@ -13,7 +13,7 @@ use Rattle.patch_script.specs.declared.command.Command.{Command}
 use Rattle.patch_script.specs.declared.command.Command.TheVariants as commands
 use Rattle.patch_script.specs.declared.micro.Micro.{Micro}
 use Rattle.patch_script.specs.declared.micro.Micro.TheVariants.{Store, Await, End}
-use Rattle.patch_script.specs.Micros.{Numbered, all_sleds, sleds_of, patches, numbers, patch_sled, unpatch_sled, steps_of, micros_behind, micros, micro_at, total_of}
+use Rattle.patch_script.specs.Micros.{Numbered, all_sleds, sleds_of, patches, numbers, patch_sled, unpatch_sled, steps_of, micros_after, micros, micro_at, total_of}
 use Rattle.patch_script.specs.Plans.{Plan, IsOrderly, IsWithin}
 use Rattle.patch_script.specs.Refusals.{commands_of, is_beyond, names_no_thread}
 
@@ -55,13 +55,13 @@ module _ (bad : Micro → Bool) (program : Program) where
 
   -- if no step of a command is bad, no step of the script is
   pub script_none : (fault : Command → Bool) → ((earlier : List ℕ) (command : Command) → fault command ≡ false → list_any bad (steps_of program earlier command) ≡ false)
-      → (earlier : List ℕ) (script : List Command) → list_any fault script ≡ false → list_any bad (micros_behind program earlier script) ≡ false
+      → (earlier : List ℕ) (script : List Command) → list_any fault script ≡ false → list_any bad (micros_after program earlier script) ≡ false
   script_none fault each earlier [] none = refl
   script_none fault each earlier (c ∷ cs) none =
       let parts = or_parts (fault c) (list_any fault cs) none in
       let more = earlier ++ numbers (patches program c) in
-      list_any-append bad (steps_of program earlier c) (micros_behind program more cs)
-      ∙ neither (list_any bad (steps_of program earlier c)) (list_any bad (micros_behind program more cs)) (each earlier c parts.0) (script_none fault each more cs parts.1)
+      list_any-append bad (steps_of program earlier c) (micros_after program more cs)
+      ∙ neither (list_any bad (steps_of program earlier c)) (list_any bad (micros_after program more cs)) (each earlier c parts.0) (script_none fault each more cs parts.1)
 
   -- and so neither is one that is found by its place
   pub found_none : (steps : List Micro) → list_any bad steps ≡ false → (place : ℕ) → place < length steps → bad (get_or steps place End) ≡ false
@@ -107,8 +107,8 @@ module _ (program : Program) (threads : ℕ) where
   pub some_near : (id : ℕ) → list_any (λ s. nat_le (length program.sleds) s.0) (sleds_of program id) ≡ false
   some_near id = filter_none (λ s. nat_le (length program.sleds) s.0) (λ s. s.1.id == id) (all_sleds program) all_near
 
-  behind_sleds : (word : ℕ) → word < code_word_count program threads → (nat_le (code_word_count program threads) word || false) ≡ false
-  behind_sleds word lt = neither (nat_le (code_word_count program threads) word) false (lt-leb (code_word_count program threads) word lt) refl
+  after_sleds : (word : ℕ) → word < code_word_count program threads → (nat_le (code_word_count program threads) word || false) ≡ false
+  after_sleds word lt = neither (nat_le (code_word_count program threads) word) false (lt-leb (code_word_count program threads) word lt) refl
 
   not_beyond : (thread : ℕ) → is_beyond threads thread ≡ false → (0 < thread) × (thread ≤ threads)
   not_beyond thread h =
@@ -122,14 +122,14 @@ module _ (program : Program) (threads : ℕ) where
   steps_near earlier commands.Unpatch fits = unpatched_none is_astray program earlier (all_sleds program) (heads_near earlier (all_sleds program) all_near)
   steps_near earlier (commands.PatchFunction id) fits = patched_none is_astray program (sleds_of program id) (stores_near (sleds_of program id) (some_near id))
   steps_near earlier (commands.UnpatchFunction id) fits = unpatched_none is_astray program earlier (sleds_of program id) (heads_near earlier (sleds_of program id) (some_near id))
-  steps_near earlier commands.SetHandler fits = behind_sleds (4 * length program.sleds) (omega arith)
-  steps_near earlier commands.RemoveHandler fits = behind_sleds (4 * length program.sleds) (omega arith)
-  steps_near earlier commands.Init fits = neither _ _ (lt-leb (code_word_count program threads) (4 * length program.sleds + 1) (omega arith)) (behind_sleds (4 * length program.sleds + 1) (omega arith))
-  steps_near earlier commands.Finalize fits = neither _ _ (lt-leb (code_word_count program threads) (4 * length program.sleds + 1) (omega arith)) (behind_sleds (4 * length program.sleds + 1) (omega arith))
+  steps_near earlier commands.SetHandler fits = after_sleds (4 * length program.sleds) (omega arith)
+  steps_near earlier commands.RemoveHandler fits = after_sleds (4 * length program.sleds) (omega arith)
+  steps_near earlier commands.Init fits = neither _ _ (lt-leb (code_word_count program threads) (4 * length program.sleds + 1) (omega arith)) (after_sleds (4 * length program.sleds + 1) (omega arith))
+  steps_near earlier commands.Finalize fits = neither _ _ (lt-leb (code_word_count program threads) (4 * length program.sleds + 1) (omega arith)) (after_sleds (4 * length program.sleds + 1) (omega arith))
   steps_near earlier (commands.Hold thread passing) fits = refl
   steps_near earlier commands.Go fits = refl
   steps_near earlier (commands.Release thread) fits =
-      let bounds = not_beyond thread fits in behind_sleds (4 * length program.sleds + 1 + thread) (omega (arith, bounds.0, bounds.1))
+      let bounds = not_beyond thread fits in after_sleds (4 * length program.sleds + 1 + thread) (omega (arith, bounds.0, bounds.1))
   steps_near earlier (commands.Await thread count) fits = neither (is_beyond threads thread) false fits refl
 
 -- what a script's micro steps name exists

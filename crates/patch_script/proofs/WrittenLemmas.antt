@@ -138,39 +138,39 @@ module _ (program : Program) (threads : ℕ) where
 
     -- ---- all lines
 
-    abbrev written_behind : ℕ → List Command → List (ℕ × List ℕ)
-    written_behind n script = enumerate_from n (map written_line (map command_words script))
+    abbrev written_after : ℕ → List Command → List (ℕ × List ℕ)
+    written_after n script = enumerate_from n (map written_line (map command_words script))
 
     -- each command may follow those before it
     abbrev EachMayFollow : List Command → Type 0
-    EachMayFollow script = (front : List Command) (command : Command) (behind : List Command) → script ≡ front ++ command ∷ behind
+    EachMayFollow script = (front : List Command) (command : Command) (following : List Command) → script ≡ front ++ command ∷ following
         → IsAdmitted program threads front command × HasWords command × (length front < 1024)
 
-    lines_read : (script front behind : List Command) → EachMayFollow script → script ≡ front ++ behind
-        → read_lines program threads (enumerate_from 1 front) (written_behind (1 + length front) behind) ≡ Ok (enumerate_from 1 script)
+    lines_read : (script front following : List Command) → EachMayFollow script → script ≡ front ++ following
+        → read_lines program threads (enumerate_from 1 front) (written_after (1 + length front) following) ≡ Ok (enumerate_from 1 script)
     lines_read script front [] each is = ap (λ cs. Ok (enumerate_from 1 cs)) (sym (is ∙ append-nil front))
-    lines_read script front (command ∷ behind) each is =
-        let here = each front command behind is in
+    lines_read script front (command ∷ following) each is =
+        let here = each front command following is in
         let before = enumerate_from 1 front in
         let admitted : IsAdmitted program threads (commands_of before) command =
         subst (λ (cs : List Command). IsAdmitted program threads cs command) (sym (numbered_commands 1 front)) here.0 in
         let one = line_read before (1 + length front) command here.1 (omega (arith, here.2, length-enumerate_from 1 front)) admitted in
-        let left = written_behind (1 + length front + 1) behind in
+        let left = written_after (1 + length front + 1) following in
         ap (λ r. r >>= λ ls. read_lines program threads ls left) one
         ∙ ap (λ ls. read_lines program threads ls left) (numbered_more 1 front command)
-        ∙ ap (λ n. read_lines program threads (enumerate_from 1 (front ++ command ∷ [])) (written_behind n behind))
+        ∙ ap (λ n. read_lines program threads (enumerate_from 1 (front ++ command ∷ [])) (written_after n following))
         (let e : 1 + length front + 1 ≡ 1 + length (front ++ command ∷ []) = omega (arith, length-append front (command ∷ [])) in e)
-        ∙ lines_read script (front ++ command ∷ []) behind each (is ∙ sym (append_assoc front (command ∷ []) behind))
+        ∙ lines_read script (front ++ command ∷ []) following each (is ∙ sym (append_assoc front (command ∷ []) following))
 
     may_follow : (script : List Command) → All HasWords script → IsOrderly (written_plan program threads script) → EachMayFollow script
-    may_follow script words orderly front command behind is =
+    may_follow script words orderly front command following is =
         let at : slice_get script (length front) ≡ Some command =
         ap (λ (cs : List Command). slice_get cs (length front)) is
-        ∙ ap (slice_get (front ++ command ∷ behind)) (let e : length front ≡ length front + 0 = omega arith in e)
-        ∙ slice_get-append_right front (command ∷ behind) 0 in
+        ∙ ap (slice_get (front ++ command ∷ following)) (let e : length front ≡ length front + 0 = omega arith in e)
+        ∙ slice_get-append_right front (command ∷ following) 0 in
         let taken : take (length front) (commands_of (enumerate_from 1 script)) ≡ front =
-        ap (take (length front)) (numbered_commands 1 script ∙ is) ∙ take-append_seam front (command ∷ behind) in
-        let count : length script ≡ length front + suc (length behind) = ap length is ∙ length-append front (command ∷ behind) in
+        ap (take (length front)) (numbered_commands 1 script ∙ is) ∙ take-append_seam front (command ∷ following) in
+        let count : length script ≡ length front + suc (length following) = ap length is ∙ length-append front (command ∷ following) in
         let fits : HasWords command = at_seam front words is in (
           subst (λ (cs : List Command). IsAdmitted program threads cs command) taken
               (orderly.admitted (length front) (1 + length front, command) (slice_get-numbered 1 (length front) script command at)),
@@ -178,10 +178,10 @@ module _ (program : Program) (threads : ℕ) where
           omega (arith, count, orderly.few, length-enumerate_from 1 script),
         )
       where
-        at_seam : (front : List Command) → All HasWords script → script ≡ front ++ command ∷ behind → HasWords command
+        at_seam : (front : List Command) → All HasWords script → script ≡ front ++ command ∷ following → HasWords command
         at_seam front words is = seam front (subst (All HasWords) is words)
           where
-            seam : (front : List Command) → All HasWords (front ++ command ∷ behind) → HasWords command
+            seam : (front : List Command) → All HasWords (front ++ command ∷ following) → HasWords command
             seam [] h = h 0 command (omega arith)
             seam (first ∷ front) h = seam front (λ k d lt. h (suc k) d (omega (arith, lt)))
 

@@ -42,9 +42,9 @@ says words.Hold (thread ∷ passing ∷ []) = on_two commands.Hold thread passin
 says words.Go [] = Some commands.Go
 says words.Release (thread ∷ []) = on_one commands.Release thread
 says words.Await (thread ∷ count ∷ []) = on_two commands.Await thread count
-says keyword behind = None
+says keyword following = None
 
 -- the command that the words of a line are
 abbrev pub command_of : List (List ℕ) → Option Command
 command_of [] = None
-command_of (word ∷ behind) = option_and_then (λ keyword. says keyword behind) (keyword_of word)
+command_of (word ∷ following) = option_and_then (λ keyword. says keyword following) (keyword_of word)

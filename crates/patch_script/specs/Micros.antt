@@ -76,14 +76,14 @@ abbrev pub numbers : List Numbered → List ℕ
 numbers sleds = map (λ s. s.0) sleds
 
 -- the micro steps of commands, command after command
-abbrev pub micros_behind : Program → List ℕ → List Command → List Micro
-micros_behind program earlier [] = []
-micros_behind program earlier (command ∷ rest) =
-    steps_of program earlier command ++ micros_behind program (earlier ++ numbers (patches program command)) rest
+abbrev pub micros_after : Program → List ℕ → List Command → List Micro
+micros_after program earlier [] = []
+micros_after program earlier (command ∷ rest) =
+    steps_of program earlier command ++ micros_after program (earlier ++ numbers (patches program command)) rest
 
 -- the micro steps of a script
 abbrev pub micros : Program → List Command → List Micro
-micros program script = micros_behind program [] script
+micros program script = micros_after program [] script
 
 abbrev pub is_go : Command → Bool
 is_go commands.Go = true

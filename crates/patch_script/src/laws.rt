@@ -3,17 +3,13 @@
 ghost use Rattle.std.specs.Prelude.{◌≡◌, ◌<◌, ◌≤◌, ◌+◌, ℕ, List, Ok, Some, slice_get, unwrap_or};
 ghost use Rattle.xray_image.specs.declared.sled.Sled.{Sled};
 ghost use Rattle.xray_image.specs.Program.{Program};
-ghost use Rattle.sled_words.specs.ChangingCode.{KeepsSleds, LetsEnd};
-ghost use Rattle.sled_words.specs.Parts.{initial_words};
+ghost use Rattle.sled_words.specs.{ChangingCode.{KeepsSleds, LetsEnd}, Parts.{initial_words}};
 ghost use Rattle.patch_script.specs.declared.command.Command.{Command};
-ghost use Rattle.patch_script.specs.Bounds.{bound_of};
-ghost use Rattle.patch_script.specs.CodeAt.{code_at, stored_in};
+ghost use Rattle.patch_script.specs.{Bounds.{bound_of}, CodeAt.{code_at, stored_in}};
 ghost use Rattle.patch_script.specs.Micros.{hold_of, micro_at, start_of, total_of};
 ghost use Rattle.patch_script.specs.Patched.{HasPatchedHead, HasPatchedParts};
-ghost use Rattle.patch_script.specs.Plans.{Plan, plan_of};
-ghost use Rattle.patch_script.specs.Refusals.{commands_of};
-ghost use Rattle.patch_script.specs.StoredWords.{AreCodeAt, stored};
-ghost use Rattle.patch_script.specs.Values.{IsCodeValue};
+ghost use Rattle.patch_script.specs.{Plans.{Plan, plan_of}, Refusals.{commands_of}};
+ghost use Rattle.patch_script.specs.{StoredWords.{AreCodeAt, stored}, Values.{IsCodeValue}};
 
 use crate::micro::Micro;
 

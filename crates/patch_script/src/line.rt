@@ -2,8 +2,7 @@
 
 ghost use Rattle.std.specs.Prelude.{◌≡◌, ◌==◌, ◌∷◌, [], not, length};
 ghost use Rattle.text_lines.specs.Words.{words_of};
-ghost use Rattle.patch_script.specs.Language.{says, command_of};
-ghost use Rattle.patch_script.specs.Refusals.{command_in};
+ghost use Rattle.patch_script.specs.{Language.{says, command_of}, Refusals.{command_in}};
 
 use crate::command::Command;
 use crate::keyword::{Keyword, keyword_of};

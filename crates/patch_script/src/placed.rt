@@ -3,8 +3,7 @@
 ghost use Rattle.std.specs.Prelude.{◌≡◌, ◌<◌, ◌≤◌, ◌+◌, ◌-◌, ◌^◌, ◌↔◌, ℕ, false, List, [], ◌∷◌, ◌++◌, length, slice_get, Some, None, IsTrue, IfOk, OnOk, if◌then◌else◌};
 ghost use Rattle.xray_image.specs.declared.sled.Sled.{Sled};
 ghost use Rattle.patch_script.specs.Micros.{micro_at, steps_of, patch_sled, unpatch_sled};
-ghost use Rattle.patch_script.specs.Plans.{is_waiting};
-ghost use Rattle.patch_script.specs.Refusals.{commands_of, has_go};
+ghost use Rattle.patch_script.specs.{Plans.{is_waiting}, Refusals.{commands_of, has_go}};
 ghost use Rattle.patch_script.specs.private.Sleds.{HasSleds};
 
 use crate::command::Command;
@@ -141,14 +140,14 @@ impl PlacedCommands {
         })?;
         self.first_patches.add(command, number);
         self.total += command.step_count(sleds.len());
-        self.start = self.start_behind(going);
+        self.start = self.start_after(going);
         self.waits = self.waits.or(command.waiting_line(line));
         Ok(())
     }
 
     /// How many micro steps come before `go`. If `go` came earlier, the number stays. Otherwise it
     /// is that of all micro steps so far.
-    fn start_behind(&self, going: bool) -> u64
+    fn start_after(&self, going: bool) -> u64
         ensures { result ≡ (if going then self.now.start else self.now.total) }
     {
         if going { self.start } else { self.total }

@@ -3,8 +3,7 @@
 ghost use Rattle.std.specs.Prelude.{◌≡◌, ◌<◌, ◌≤◌, ◌⊎◌, ◌++◌, ◌∷◌, [], ◌+◌, List, ℕ, length, Ok, Err, IfOk, OnOk};
 ghost use Rattle.std.specs.Str.Lines.{lines};
 ghost use Rattle.text_lines.specs.Lines.{numbered_lines};
-ghost use Rattle.xray_image.specs.Program.{Program};
-ghost use Rattle.xray_image.specs.Ids.{id_count};
+ghost use Rattle.xray_image.specs.{Program.{Program}, Ids.{id_count}};
 ghost use Rattle.patch_script.specs.Limits.{most_commands};
 ghost use Rattle.patch_script.specs.Refusals.{is_beyond, names_no_function, names_no_thread, with_line, read_lines};
 ghost use Rattle.patch_script.specs.Plans.{plan_of};

@@ -1,7 +1,6 @@
 //! What the commands so far have done.
 
-ghost use Rattle.std.specs.Prelude.{◌≡◌, ◌<◌, ◌≤◌, ℕ, List, [], false};
-ghost use Rattle.std.specs.List.{list_any};
+ghost use Rattle.std.specs.{Prelude.{◌≡◌, ◌<◌, ◌≤◌, ℕ, List, [], false}, List.{list_any}};
 ghost use Rattle.patch_script.specs.declared.command.Command.{Command as Said};
 ghost use Rattle.patch_script.specs.Refusals.{is_misplaced, breaks_hold, breaks_log, waits_for_itself, holds_for_good, names_no_thread};
 

@@ -145,8 +145,8 @@ module _ (plan : Plan) where
       (refl, k.1) (λ j other here. absurd (other (here ∙ sym k.1)))
 
   -- the first of the threads that were met is the new one
-  met_behind : (p : PatchView) (v : WorkView) (t : ℕ) → t ≢ v.thread → IsMet (meeting p v).met t → IsMet p.met t
-  met_behind p v t ne m = elim (at_front p.met (record { thread = v.thread; seen = v.seen }) m.one m.index m.at) [
+  met_after : (p : PatchView) (v : WorkView) (t : ℕ) → t ≢ v.thread → IsMet (meeting p v).met t → IsMet p.met t
+  met_after p v t ne m = elim (at_front p.met (record { thread = v.thread; seen = v.seen }) m.one m.index m.at) [
     | inl h ↦ let a = ap (λ (z : Met). z.thread) h.1 in let b = m.is in absurd (ne (sym b ∙ sym a))
     | inr h ↦ record { index = h.0; one = m.one; at = h.2; is = m.is }
   ]
@@ -183,6 +183,6 @@ module _ (plan : Plan) where
         place = omega arith;
         given = omega arith;
         grows = λ u. omega arith;
-        own = λ u a b c. (refl, refl, met_behind p v u (λ e. c (ap r.owner e ∙ w.own)));
+        own = λ u a b c. (refl, refl, met_after p v u (λ e. c (ap r.owner e ∙ w.own)));
       })
       (refl, k.1) (λ j other here. absurd (other (here ∙ sym k.1)))

@@ -35,18 +35,18 @@ zeros zero j = refl
 zeros (suc n) zero = refl
 zeros (suc n) (suc j) = zeros n j
 
-zeros_behind_zeros : (n m j : ℕ) → get_or {A = ℕ} (replicate n 0 ++ replicate m 0) j 0 ≡ 0
-zeros_behind_zeros zero m j = zeros m j
-zeros_behind_zeros (suc n) m zero = refl
-zeros_behind_zeros (suc n) m (suc j) = zeros_behind_zeros n m j
+zeros_after_zeros : (n m j : ℕ) → get_or {A = ℕ} (replicate n 0 ++ replicate m 0) j 0 ≡ 0
+zeros_after_zeros zero m j = zeros m j
+zeros_after_zeros (suc n) m zero = refl
+zeros_after_zeros (suc n) m (suc j) = zeros_after_zeros n m j
 
 -- after the sleds' words there are zeros
-behind_sleds : (program : Program) (threads more i : ℕ) → 4 * length program.sleds ≤ i → get_or (initial_words program threads ++ replicate more 0) i 0 ≡ 0
-behind_sleds program threads more i behind =
+after_sleds : (program : Program) (threads more i : ℕ) → 4 * length program.sleds ≤ i → get_or (initial_words program threads ++ replicate more 0) i 0 ≡ 0
+after_sleds program threads more i following =
     let all : List ℕ = all_sled_words program in
     ap (λ (l : List ℕ). get_or l i 0) (append_assoc all (replicate (2 + 2 * threads) 0) (replicate more 0))
-    ∙ (get_or-append_right all (replicate (2 + 2 * threads) 0 ++ replicate more 0) (4 * length program.sleds) i 0 (four_a_sled program.sleds) behind
-    ∙ zeros_behind_zeros (2 + 2 * threads) more (i - 4 * length program.sleds))
+    ∙ (get_or-append_right all (replicate (2 + 2 * threads) 0 ++ replicate more 0) (4 * length program.sleds) i 0 (four_a_sled program.sleds) following
+    ∙ zeros_after_zeros (2 + 2 * threads) more (i - 4 * length program.sleds))
 
 module _ (plan : Plan) (words : List ℕ) (is : words ≡ initial_words plan.program plan.threads ++ replicate (8 + 7 * plan.threads) 0) where
   pub opening_count : length words ≡ slot_count plan
@@ -71,7 +71,7 @@ module _ (plan : Plan) (words : List ℕ) (is : words ≡ initial_words plan.pro
   unfolding code_words
   opening_progress thread =
       ap (λ (l : List ℕ). get_or l (progress_slot plan thread) 0) is
-      ∙ behind_sleds plan.program plan.threads (8 + 7 * plan.threads) (progress_slot plan thread) (omega arith)
+      ∙ after_sleds plan.program plan.threads (8 + 7 * plan.threads) (progress_slot plan thread) (omega arith)
 
 pub starts : (plan : Plan) (words : List ℕ) → words ≡ initial_words plan.program plan.threads ++ replicate (8 + 7 * plan.threads) 0
     → ((word : ℕ) → word < length (initial_words plan.program plan.threads) → slice_index (initial_words plan.program plan.threads) word ≡ code_in plan 0 word)

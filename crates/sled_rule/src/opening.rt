@@ -1,10 +1,8 @@
 //! How a table begins.
 
 ghost use Rattle.std.specs.Prelude.{◌≡◌, ◌≤◌, ◌+◌, ◌*◌, ◌++◌, replicate, IfOk};
-ghost use Rattle.sled_words.specs.Parts.{initial_words as words_before};
-ghost use Rattle.sled_words.specs.Words.{code_word_count};
-ghost use Rattle.sled_rule.specs.Seats.{patch_view, script_of, IsPatcherOf};
-ghost use Rattle.sled_rule.specs.Views.{first_patch};
+ghost use Rattle.sled_words.specs.{Parts.{initial_words as words_before}, Words.{code_word_count}};
+ghost use Rattle.sled_rule.specs.{Seats.{patch_view, script_of, IsPatcherOf}, Views.{first_patch}};
 
 use crate::seats::PatchSeat;
 use crate::table::{CodeTable, LINE};

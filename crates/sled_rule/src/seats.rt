@@ -3,8 +3,7 @@
 
 ghost use Rattle.std.specs.Prelude.{◌≡◌, ◌<◌, ◌≤◌, []};
 ghost use Rattle.sled_rule.specs.declared.views.View.TheVariants.{Patch, Work, Note, Tally};
-ghost use Rattle.sled_rule.specs.Following.{IsFollowing, rises_prop};
-ghost use Rattle.sled_rule.specs.Plans.{total_in};
+ghost use Rattle.sled_rule.specs.{Following.{IsFollowing, rises_prop}, Plans.{total_in}};
 ghost use Rattle.sled_rule.specs.Steps.{patch_of, work_of, note_of, tally_of};
 
 use crate::views::View;

@@ -16,10 +16,10 @@ flat_map_more f xs i x before piece after h b p a =
     a ∙ ap (λ ys. ys ++ piece) b ∙ ap (λ ys. flat_map f (take i xs) ++ ys) p ∙ sym whole
 
 -- zeros after the last item's part
-pub zeros_behind : {X : Type 0} (f : X → List ℕ) (xs : List X) (i n len : ℕ) (before after : List ℕ)
+pub zeros_after : {X : Type 0} (f : X → List ℕ) (xs : List X) (i n len : ℕ) (before after : List ℕ)
     → length xs ≤ i → len ≡ length before → before ≡ flat_map f (take i xs)
     → after ≡ take (len + n) before ++ replicate (len + n - len) 0 → after ≡ flat_map f xs ++ replicate n 0
-zeros_behind f xs i n len before after last l b a =
+zeros_after f xs i n len before after last l b a =
     let whole : take (len + n) before ≡ before = take_all (len + n) before (omega arith) in
     let items = take_all i xs last in
     let count : len + n - len ≡ n = omega arith in

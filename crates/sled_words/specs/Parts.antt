@@ -36,7 +36,7 @@ patched_opcode Tail = 0xE8
 -- the displacement of a call or a jump: the distance of its target from the address after it, as 32 bits in two's
 -- complement
 abbrev pub displacement : ℕ → ℕ → ℕ
-displacement behind target = unsigned_abs (int_rem_euclid (pos target -ℤ pos behind) (pos (2 ^ 32)))
+displacement following target = unsigned_abs (int_rem_euclid (pos target -ℤ pos following) (pos (2 ^ 32)))
 
 -- the distance from a sled's end to its trampoline
 abbrev pub trampoline_distance : Trampolines → Sled → ℕ

@@ -35,27 +35,27 @@ module _ (said : Lines) where
   abbrev Follow : Lines → ℕ → List Statement → Type 0
   Follow before number [] = ends_early before ≡ false
   Follow before number (s ∷ rest) =
-      (MayFollow before s × ((behind : Lines) → is_unresolved said s behind ≡ false)) × Follow (before ++ (number, s) ∷ []) (number + 1) rest
+      (MayFollow before s × ((following : Lines) → is_unresolved said s following ≡ false)) × Follow (before ++ (number, s) ∷ []) (number + 1) rest
 
   same_line : (l : ℕ × Statement) (ls : Lines) (m : ℕ × Statement) (ms : Lines) → l ∷ ls ≡ m ∷ ms → (l ≡ m) × (ls ≡ ms)
   same_line l ls m ms e = (cc, cc)
 
-  no_line : (l : ℕ × Statement) (before behind : Lines) → [] ≡ before ++ l ∷ behind → ⊥
-  no_line l [] behind e = cc
-  no_line l (b ∷ before) behind e = cc
+  no_line : (l : ℕ × Statement) (before following : Lines) → [] ≡ before ++ l ∷ following → ⊥
+  no_line l [] following e = cc
+  no_line l (b ∷ before) following e = cc
 
-  place : (done : Lines) (number : ℕ) (rest : List Statement) → Follow done number rest → (before : Lines) (line : ℕ × Statement) (behind : Lines)
-      → enumerate_from number rest ≡ before ++ line ∷ behind → MayFollow (done ++ before) line.1 × ((left : Lines) → is_unresolved said line.1 left ≡ false)
-  place done number [] follow before line behind is = absurd (no_line line before behind is)
-  place done number (s ∷ rest) follow [] line behind is =
-      let same = (same_line (number, s) (enumerate_from (number + 1) rest) line behind is).0 in
+  place : (done : Lines) (number : ℕ) (rest : List Statement) → Follow done number rest → (before : Lines) (line : ℕ × Statement) (following : Lines)
+      → enumerate_from number rest ≡ before ++ line ∷ following → MayFollow (done ++ before) line.1 × ((left : Lines) → is_unresolved said line.1 left ≡ false)
+  place done number [] follow before line following is = absurd (no_line line before following is)
+  place done number (s ∷ rest) follow [] line following is =
+      let same = (same_line (number, s) (enumerate_from (number + 1) rest) line following is).0 in
       let P : ℕ × Statement → Type 0 = λ l. MayFollow (done ++ []) l.1 × ((left : Lines) → is_unresolved said l.1 left ≡ false) in
       subst P same (subst (λ (ls : Lines). MayFollow ls s) (sym (append-nil done)) follow.0.0, follow.0.1)
-  place done number (s ∷ rest) follow (b ∷ before) line behind is =
-      let same = same_line (number, s) (enumerate_from (number + 1) rest) b (before ++ line ∷ behind) is in
+  place done number (s ∷ rest) follow (b ∷ before) line following is =
+      let same = same_line (number, s) (enumerate_from (number + 1) rest) b (before ++ line ∷ following) is in
       let P : Lines → Type 0 = λ ls. MayFollow ls line.1 × ((left : Lines) → is_unresolved said line.1 left ≡ false) in
       subst P (append_assoc done ((number, s) ∷ []) before ∙ ap (λ (l : ℕ × Statement). done ++ l ∷ before) same.0)
-      (place (done ++ (number, s) ∷ []) (number + 1) rest follow.1 before line behind same.1)
+      (place (done ++ (number, s) ∷ []) (number + 1) rest follow.1 before line following same.1)
 
   at_end : (done : Lines) (number : ℕ) (rest : List Statement) → Follow done number rest → ends_early (done ++ enumerate_from number rest) ≡ false
   at_end done number [] follow = ap ends_early (append-nil done) ∙ follow
@@ -65,8 +65,8 @@ module _ (said : Lines) where
 
   orderly : (all : List Statement) → said ≡ enumerate_from 1 all → Follow [] 1 all → IsOrderly said
   orderly all is follow = record {
-    follows = λ before line behind e. (place [] 1 all follow before line behind (sym is ∙ e)).0;
-    resolved = λ before line behind e. (place [] 1 all follow before line behind (sym is ∙ e)).1 behind;
+    follows = λ before line following e. (place [] 1 all follow before line following (sym is ∙ e)).0;
+    resolved = λ before line following e. (place [] 1 all follow before line following (sym is ∙ e)).1 following;
     ends = ap ends_early is ∙ at_end [] 1 all follow;
   }
 
@@ -95,7 +95,7 @@ module _ (said : Lines) where
   does_follow i before op h registers range = record { place = ap not h.begun; registers = registers; range = range; name = refl }
 
   does : (i : ℕ) (before : Lines) (number : ℕ) (op : Operation) (rest : List Statement) → Inside i before → operation_reserves op ≡ false → operation_exceeds op ≡ false
-      → ((behind : Lines) → is_unresolved said (Does op) behind ≡ false)
+      → ((following : Lines) → is_unresolved said (Does op) following ≡ false)
       → ((longer : Lines) → Inside i longer → Follow longer (number + 1) rest) → Follow before number (Does op ∷ rest)
   does i before number op rest h registers range resolved more =
       ((does_follow i before op h registers range, resolved), more (before ++ (number, Does op) ∷ []) (inside_more i before number op h))
@@ -132,14 +132,14 @@ module _ (said : Lines) where
       → ((longer : Lines) (n : ℕ) → Inside i longer → Follow longer n rest) → Follow before number (call_statements callee ++ rest)
   calls_follow defined i before number None rest fits h more = more before number h
   calls_follow defined i before number (Some j) rest fits h more =
-      does i before number (call_of (function_name j)) rest h refl refl (λ behind. ap not (defined j fits)) (λ longer inside. more longer (number + 1) inside)
+      does i before number (call_of (function_name j)) rest h refl refl (λ following. ap not (defined j fits)) (λ longer inside. more longer (number + 1) inside)
 
   round_follows : (defined : AllDefined) (i : ℕ) (before : Lines) (number : ℕ) (r : Round) (rest : List Statement) → IsGood r → Inside i before
       → ((longer : Lines) (n : ℕ) → Inside i longer → Follow longer n rest) → Follow before number (round_statements r ++ rest)
   round_follows defined i before number r rest good h more =
       does i before number (Plain (Mov 0 r.value)) (Does (Plain (Out 1)) ∷ call_statements r.callee ++ rest) h refl
-      (le-ltb 4294967295 r.value (omega (arith, good.0))) (λ behind. refl)
-      (λ longer inside. does i longer (number + 1) (Plain (Out 1)) (call_statements r.callee ++ rest) inside refl refl (λ behind. refl)
+      (le-ltb 4294967295 r.value (omega (arith, good.0))) (λ following. refl)
+      (λ longer inside. does i longer (number + 1) (Plain (Out 1)) (call_statements r.callee ++ rest) inside refl refl (λ following. refl)
       (λ longest within. calls_follow defined i longest (number + 1 + 1) r.callee rest good.1 within more))
 
   rounds_follow : (defined : AllDefined) (i : ℕ) (before : Lines) (number : ℕ) (rs : List Round) (rest : List Statement) → AllByRecursion IsGood rs → Inside i before
@@ -156,10 +156,10 @@ module _ (said : Lines) where
       let rs = rounds i (round_count x) (next x) in
       let first = begins i before number most h in
       let longer = before ++ (number, always_of (function_name i)) ∷ [] in (
-        (first.0, λ behind. refl),
+        (first.0, λ following. refl),
         subst (λ (ss : List Statement). Follow longer (number + 1) ss) (sym (append_assoc (flat_map round_statements rs) (Does Return ∷ []) rest))
             (rounds_follow defined i longer (number + 1) rs (Does Return ∷ rest) (rounds_good i (round_count x) (next x)) first.1
-            (λ last n inside. ((does_follow i last Return inside refl refl, λ behind. refl), more (last ++ (n, Does Return) ∷ []) (n + 1) (returned i last n inside)))),
+            (λ last n inside. ((does_follow i last Return inside refl refl, λ following. refl), more (last ++ (n, Does Return) ∷ []) (n + 1) (returned i last n inside)))),
       )
 
   ended_well : (before : Lines) → Outside 64 before → ends_early before ≡ false
@@ -185,16 +185,16 @@ unfolding functions_statements
 functions_define i zero x j le lt = absurd (omega (arith, le, lt))
 functions_define i (suc count) x j le lt =
     elim (cases_eq i j) [
-      | inl e ↦ or_left (defines (function_name j) (always_of (function_name i))) (list_any (defines (function_name j)) (behind ++ more))
+      | inl e ↦ or_left (defines (function_name j) (always_of (function_name i))) (list_any (defines (function_name j)) (following ++ more))
           (subst (λ n. ((bytes_eq (function_name i) (function_name n) || false) ≡ true)) e (or_left (bytes_eq (function_name i) (function_name i)) false (same_name i)))
-      | inr apart ↦ or_right (defines (function_name j) (always_of (function_name i))) (list_any (defines (function_name j)) (behind ++ more))
-          (list_any-append (defines (function_name j)) behind more
-          ∙ or_right (list_any (defines (function_name j)) behind) (list_any (defines (function_name j)) more)
+      | inr apart ↦ or_right (defines (function_name j) (always_of (function_name i))) (list_any (defines (function_name j)) (following ++ more))
+          (list_any-append (defines (function_name j)) following more
+          ∙ or_right (list_any (defines (function_name j)) following) (list_any (defines (function_name j)) more)
           (functions_define (i + 1) count (after_function i x) j (omega (arith, le, apart)) (omega (arith, lt))))
     ]
   where
-    behind : List Statement
-    behind = flat_map round_statements (rounds i (round_count x) (next x)) ++ Does Return ∷ []
+    following : List Statement
+    following = flat_map round_statements (rounds i (round_count x) (next x)) ++ Does Return ∷ []
 
     more : List Statement
     more = functions_statements (i + 1) count (after_function i x)
@@ -208,7 +208,7 @@ text_orderly x =
     let base : Lines = (1, Base 4096) ∷ [] in
     let outside : Outside said 0 base = record { bare = refl; begun = λ lt. absurd (omega (arith, lt)); fresh = λ j le most. refl } in
     orderly said (statements x) refl
-    ((record { place = refl; registers = refl; range = refl; name = refl }, λ behind. refl), functions_follow said (all_defined x) 0 64 x base 2 refl outside)
+    ((record { place = refl; registers = refl; range = refl; name = refl }, λ following. refl), functions_follow said (all_defined x) 0 64 x base 2 refl outside)
 
 -- ---- how many lines and functions there are
 

@@ -8,14 +8,14 @@ pub(crate) fn add_number(
     text: &mut Vec<u8>,
     before: &[u8],
     number: u64,
-    behind: &[u8],
+    following: &[u8],
 ) -> Result<(), NoMemory>
-    ensures { OnOk result (text.new.items ≡ text.old.items ++ (before.now ++ decimal number ++ behind.now)) }
+    ensures { OnOk result (text.new.items ≡ text.old.items ++ (before.now ++ decimal number ++ following.now)) }
 {
     let mut digits = itoa::Buffer::new();
     text.extend_from_slice(before)?;
     text.extend_from_slice(digits.format(number).as_bytes())?;
-    text.extend_from_slice(behind)?;
+    text.extend_from_slice(following)?;
     Ok(())
 }
 

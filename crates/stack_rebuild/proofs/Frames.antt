@@ -28,19 +28,19 @@ use Rattle.stack_rebuild.proofs.Spending.{adds, made, path_of-cons, spent_at_end
 pub turned : {X : Type 0} (xs : List X) (x : X) → reverse (xs ++ x ∷ []) ≡ x ∷ reverse xs
 turned xs x = reverse-append xs (x ∷ [])
 
-spent_by : (behind fs : List Frame) (n duration : ℕ) (frame new : Frame) → fs ≡ reverse behind → n ≡ length fs → 0 < n → frame ≡ get_or fs (n - 1) frame
-    → new ≡ spending duration frame → reverse (set fs (n - 1) new) ≡ with_spent duration behind
+spent_by : (following fs : List Frame) (n duration : ℕ) (frame new : Frame) → fs ≡ reverse following → n ≡ length fs → 0 < n → frame ≡ get_or fs (n - 1) frame
+    → new ≡ spending duration frame → reverse (set fs (n - 1) new) ≡ with_spent duration following
 spent_by [] fs n duration frame new is count some here spent = absurd (omega (arith, ap {B = ℕ} length is))
-spent_by (f ∷ behind) fs n duration frame new is count some here spent =
-    let back : fs ≡ reverse behind ++ f ∷ [] = is ∙ reverse-append (f ∷ []) behind in
-    let size : n - 1 ≡ length (reverse behind) = omega (arith, ap {B = ℕ} length back, length-append (reverse behind) (f ∷ [])) in
+spent_by (f ∷ following) fs n duration frame new is count some here spent =
+    let back : fs ≡ reverse following ++ f ∷ [] = is ∙ reverse-append (f ∷ []) following in
+    let size : n - 1 ≡ length (reverse following) = omega (arith, ap {B = ℕ} length back, length-append (reverse following) (f ∷ [])) in
     let last : frame ≡ f =
-    here ∙ (ap (λ (k : ℕ). get_or fs k frame) size ∙ (ap (λ (l : List Frame). get_or l (length (reverse behind)) frame) back ∙ get_or-append_seam (reverse behind) f [] frame)) in
-    let changed : set fs (n - 1) new ≡ reverse behind ++ new ∷ [] =
-    ap (λ (k : ℕ). set fs k new) size ∙ (ap (λ (l : List Frame). set l (length (reverse behind)) new) back ∙ set-append_seam (reverse behind) f [] new) in
+    here ∙ (ap (λ (k : ℕ). get_or fs k frame) size ∙ (ap (λ (l : List Frame). get_or l (length (reverse following)) frame) back ∙ get_or-append_seam (reverse following) f [] frame)) in
+    let changed : set fs (n - 1) new ≡ reverse following ++ new ∷ [] =
+    ap (λ (k : ℕ). set fs k new) size ∙ (ap (λ (l : List Frame). set l (length (reverse following)) new) back ∙ set-append_seam (reverse following) f [] new) in
     ap reverse changed
-    ∙ (turned (reverse behind) new
-    ∙ (ap (λ (l : List Frame). new ∷ l) (reverse-reverse behind) ∙ ap (λ (g : Frame). g ∷ behind) (spent ∙ ap (spending duration) last)))
+    ∙ (turned (reverse following) new
+    ∙ (ap (λ (l : List Frame). new ∷ l) (reverse-reverse following) ∙ ap (λ (g : Frame). g ∷ following) (spent ∙ ap (spending duration) last)))
 
 pub spent_last : (fs : List Frame) (n duration : ℕ) (frame new : Frame) → n ≡ length fs → 0 < n → frame ≡ get_or fs (n - 1) frame → new ≡ spending duration frame
     → reverse (set fs (n - 1) new) ≡ with_spent duration (reverse fs)
@@ -69,9 +69,9 @@ below_end n depth duration old cut new all is spent =
 pub top_below : (n : ℕ) (fs : List Frame) → 0 < n → Below n fs → top_of (reverse fs) < n
 top_below n fs some all = by_top (reverse fs) (All-permutation (λ (frame : Frame). frame.path < n) fs (reverse fs) (IsPermutation-reverse fs) all)
   where
-    by_top : (behind : List Frame) → Below n behind → top_of behind < n
+    by_top : (following : List Frame) → Below n following → top_of following < n
     by_top [] below = some
-    by_top (f ∷ behind) below = All-head (λ (frame : Frame). frame.path < n) f behind below
+    by_top (f ∷ following) below = All-head (λ (frame : Frame). frame.path < n) f following below
 
 -- ---- frames of calls
 
@@ -99,8 +99,8 @@ from_long func (call ∷ calls) ended outer is = by_func (nat_eq call.func func)
   where
     by_func : (b : Bool) → cond b (call ∷ calls) (from_innermost func calls) ≡ ended ∷ outer
         → (from_innermost func calls ≡ ended ∷ outer → length outer < length calls) → length outer < length (call ∷ calls)
-    by_func true same behind = omega (arith, ap {B = ℕ} length same)
-    by_func false same behind = omega (arith, behind same)
+    by_func true same following = omega (arith, ap {B = ℕ} length same)
+    by_func false same following = omega (arith, following same)
 
 -- what is at a depth, and what is outside it
 pub record IsCut (paths : List (List ℕ)) (events : List Event) (fs : List Frame) (depth : ℕ) (ended : Call) (outer : List Call) (d : Frame) : Type 0 where
@@ -108,26 +108,26 @@ pub record IsCut (paths : List (List ℕ)) (events : List Event) (fs : List Fram
   pub frame : IsFrame paths events (get_or fs depth d) ended outer
   pub rest : AreFrames paths events (reverse (take depth fs)) outer
 
-cut_by : (paths : List (List ℕ)) (events : List Event) (func : ℕ) (behind : List Frame) (calls : List Call) (ended : Call) (outer : List Call) (d : Frame)
-    → AreFrames paths events behind calls → from_innermost func calls ≡ ended ∷ outer → IsCut paths events (reverse behind) (length outer) ended outer d
+cut_by : (paths : List (List ℕ)) (events : List Event) (func : ℕ) (following : List Frame) (calls : List Call) (ended : Call) (outer : List Call) (d : Frame)
+    → AreFrames paths events following calls → from_innermost func calls ≡ ended ∷ outer → IsCut paths events (reverse following) (length outer) ended outer d
 cut_by paths events func [] [] ended outer d all is = absurd (omega (arith, ap {B = ℕ} length is))
 cut_by paths events func [] (call ∷ calls) ended outer d all is = absurd all
-cut_by paths events func (f ∷ behind) [] ended outer d all is = absurd all
-cut_by paths events func (f ∷ behind) (call ∷ calls) ended outer d all is =
-    by_func (nat_eq call.func func) is (cut_by paths events func behind calls ended outer d all.1) (from_long func calls ended outer)
+cut_by paths events func (f ∷ following) [] ended outer d all is = absurd all
+cut_by paths events func (f ∷ following) (call ∷ calls) ended outer d all is =
+    by_func (nat_eq call.func func) is (cut_by paths events func following calls ended outer d all.1) (from_long func calls ended outer)
   where
-    back : reverse (f ∷ behind) ≡ reverse behind ++ f ∷ []
-    back = reverse-append (f ∷ []) behind
+    back : reverse (f ∷ following) ≡ reverse following ++ f ∷ []
+    back = reverse-append (f ∷ []) following
 
-    size : length (reverse behind) ≡ length calls
-    size = length-reverse behind ∙ frames_long paths events behind calls all.1
+    size : length (reverse following) ≡ length calls
+    size = length-reverse following ∙ frames_long paths events following calls all.1
 
-    here : IsCut paths events (reverse behind ++ f ∷ []) (length (reverse behind)) call calls d
+    here : IsCut paths events (reverse following ++ f ∷ []) (length (reverse following)) call calls d
     here = record {
-      within = omega (arith, length-append (reverse behind) (f ∷ []));
-      frame = subst (λ (g : Frame). IsFrame paths events g call calls) (sym (get_or-append_seam (reverse behind) f [] d)) all.0;
+      within = omega (arith, length-append (reverse following) (f ∷ []));
+      frame = subst (λ (g : Frame). IsFrame paths events g call calls) (sym (get_or-append_seam (reverse following) f [] d)) all.0;
       rest = subst (λ (l : List Frame). AreFrames paths events l calls)
-          (sym (ap reverse (take-append_seam (reverse behind) (f ∷ [])) ∙ reverse-reverse behind)) all.1;
+          (sym (ap reverse (take-append_seam (reverse following) (f ∷ [])) ∙ reverse-reverse following)) all.1;
     }
 
     first_of : Call → List Call → Call
@@ -139,23 +139,23 @@ cut_by paths events func (f ∷ behind) (call ∷ calls) ended outer d all is =
     rest_of (e ∷ cs) = cs
 
     by_func : (b : Bool) → cond b (call ∷ calls) (from_innermost func calls) ≡ ended ∷ outer
-        → (from_innermost func calls ≡ ended ∷ outer → IsCut paths events (reverse behind) (length outer) ended outer d)
-        → (from_innermost func calls ≡ ended ∷ outer → length outer < length calls) → IsCut paths events (reverse (f ∷ behind)) (length outer) ended outer d
+        → (from_innermost func calls ≡ ended ∷ outer → IsCut paths events (reverse following) (length outer) ended outer d)
+        → (from_innermost func calls ≡ ended ∷ outer → length outer < length calls) → IsCut paths events (reverse (f ∷ following)) (length outer) ended outer d
     by_func true same later low =
         let first : call ≡ ended = ap (first_of call) same in
         let others : calls ≡ outer = ap rest_of same in
         subst (λ (l : List Frame). IsCut paths events l (length outer) ended outer d) (sym back)
-        (subst (λ (cs : List Call). IsCut paths events (reverse behind ++ f ∷ []) (length cs) ended cs d) others
-        (subst (λ (c : Call). IsCut paths events (reverse behind ++ f ∷ []) (length calls) c calls d) first
-        (subst (λ (n : ℕ). IsCut paths events (reverse behind ++ f ∷ []) n call calls d) size here)))
+        (subst (λ (cs : List Call). IsCut paths events (reverse following ++ f ∷ []) (length cs) ended cs d) others
+        (subst (λ (c : Call). IsCut paths events (reverse following ++ f ∷ []) (length calls) c calls d) first
+        (subst (λ (n : ℕ). IsCut paths events (reverse following ++ f ∷ []) n call calls d) size here)))
     by_func false same later low =
         let own = later same in
-        let small : length outer < length (reverse behind) = own.within in
+        let small : length outer < length (reverse following) = own.within in
         subst (λ (l : List Frame). IsCut paths events l (length outer) ended outer d) (sym back) (record {
-          within = omega (arith, small, length-append (reverse behind) (f ∷ []));
-          frame = subst (λ (g : Frame). IsFrame paths events g ended outer) (sym (get_or-append (reverse behind) (f ∷ []) d (length outer) small)) own.frame;
+          within = omega (arith, small, length-append (reverse following) (f ∷ []));
+          frame = subst (λ (g : Frame). IsFrame paths events g ended outer) (sym (get_or-append (reverse following) (f ∷ []) d (length outer) small)) own.frame;
           rest = subst (λ (l : List Frame). AreFrames paths events (reverse l) outer)
-              (sym (take-append-le (length outer) (reverse behind) (f ∷ []) (let e : length outer ≤ length (reverse behind) = omega (arith, small) in e))) own.rest;
+              (sym (take-append-le (length outer) (reverse following) (f ∷ []) (let e : length outer ≤ length (reverse following) = omega (arith, small) in e))) own.rest;
         })
 
 pub frames_cut : (paths : List (List ℕ)) (events : List Event) (func : ℕ) (fs : List Frame) (calls : List Call) (ended : Call) (outer : List Call) (d : Frame)

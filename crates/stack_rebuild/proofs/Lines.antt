@@ -13,11 +13,11 @@ lines_of line of [] = refl
 lines_of line of (x ∷ xs) = ap (λ (text : List ℕ). line (of x) ++ text) (lines_of line of xs)
 
 -- a list without its first item, as slices give it
-behind_first : {X : Type 0} (x : X) (xs : List X) → take (length (x ∷ xs) - 1) (drop 1 (x ∷ xs)) ≡ xs
-behind_first x xs = take_all (length (x ∷ xs) - 1) xs (omega arith)
+after_first : {X : Type 0} (x : X) (xs : List X) → take (length (x ∷ xs) - 1) (drop 1 (x ∷ xs)) ≡ xs
+after_first x xs = take_all (length (x ∷ xs) - 1) xs (omega arith)
 
 -- the text of a path, from its first function and the others
 pub path_from : (program : Option Program) (path : List ℕ) → 1 ≤ length path
     → name_text program (get_or path 0 0) ++ flat_map (λ f. codes ";" ++ name_text program f) (take (length path - 1) (drop 1 path)) ≡ path_text program path
 path_from program [] some = absurd (omega (arith, some))
-path_from program (func ∷ inner) some = ap (λ (fs : List ℕ). name_text program func ++ flat_map (λ f. codes ";" ++ name_text program f) fs) (behind_first func inner)
+path_from program (func ∷ inner) some = ap (λ (fs : List ℕ). name_text program func ++ flat_map (λ f. codes ";" ++ name_text program f) fs) (after_first func inner)

@@ -94,8 +94,8 @@ kept_from P outwards func [] all = all
 kept_from P outwards func (call ∷ outer) all = by_func (nat_eq call.func func) (kept_from P outwards func outer (outwards call outer all))
   where
     by_func : (b : Bool) → P (from_innermost func outer) → P (cond b (call ∷ outer) (from_innermost func outer))
-    by_func true behind = all
-    by_func false behind = behind
+    by_func true following = all
+    by_func false following = following
 
 pub nested_from : (events : List Event) (func : ℕ) (calls : List Call) → Nested events calls → Nested events (from_innermost func calls)
 nested_from events = kept_from (Nested events) (λ call outer nested. nested.3)
@@ -114,8 +114,8 @@ its_func func (call ∷ calls) ended outer is = by_func (nat_eq call.func func) 
 
     by_func : (b : Bool) → nat_eq call.func func ≡ b → cond b (call ∷ calls) (from_innermost func calls) ≡ ended ∷ outer
         → (from_innermost func calls ≡ ended ∷ outer → ended.func ≡ func) → ended.func ≡ func
-    by_func true same is behind = sym (ap first_func is) ∙ eqb-true call.func func same
-    by_func false same is behind = behind is
+    by_func true same is following = sym (ap first_func is) ∙ eqb-true call.func func same
+    by_func false same is following = following is
 
 -- the calls that an event ends are nested, and those that were open
 pub nested_ended : (events : List Event) (k : Kind) (func : ℕ) (calls : List Call) → Nested events calls → Nested events (ended_by k func calls)

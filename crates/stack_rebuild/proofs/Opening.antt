@@ -16,8 +16,8 @@ none_from func (call ∷ outer) none = by_first (nat_eq call.func func) refl (no
   where
     by_first : (b : Bool) → nat_eq call.func func ≡ b → (count_by (is_of func) outer ≡ 0 → from_innermost func outer ≡ [])
         → cond b (call ∷ outer) (from_innermost func outer) ≡ []
-    by_first true is behind = absurd (omega (arith, sum_by-cons (one_of func) call outer, ap {B = ℕ} (λ b. cond b 1 0) is))
-    by_first false is behind = behind (omega (arith, sum_by-cons (one_of func) call outer))
+    by_first true is following = absurd (omega (arith, sum_by-cons (one_of func) call outer, ap {B = ℕ} (λ b. cond b 1 0) is))
+    by_first false is following = following (omega (arith, sum_by-cons (one_of func) call outer))
 
 -- if no call is of the function, none is its innermost one
 pub from_innermost-none : (func : ℕ) (calls : List Call) → count_by (is_of func) calls ≡ 0 → from_innermost func (reverse calls) ≡ []

@@ -178,8 +178,8 @@ row_order = ranks_by nat_list_cmp_total (λ (row : StackRow). row.path.items)
 abbrev paths_in_rows : List StackRow → List (List ℕ)
 paths_in_rows rows = map (λ (row : StackRow). row.path.items) rows
 
-sorted_behind : (x : StackRow) (xs : List StackRow) → IsSortedBy row_before (x ∷ xs) → IsSortedBy row_before xs
-sorted_behind x xs up k d low within =
+sorted_after : (x : StackRow) (xs : List StackRow) → IsSortedBy row_before (x ∷ xs) → IsSortedBy row_before xs
+sorted_after x xs up k d low within =
     let P : ℕ → Type 0 = λ n. row_before (get_or (x ∷ xs) n d) (get_or xs k d) ≡ false in
     let next : suc k + 1 ≡ suc (k + 1) = omega arith in
     subst P next (up (suc k) d (omega arith) (omega arith))
@@ -188,7 +188,7 @@ not_after : (x : StackRow) (xs : List StackRow) → IsSortedBy row_before (x ∷
 not_after x [] up z is = absurd is
 not_after x (y ∷ ys) up z (inl is) = subst (λ (w : StackRow). row_before w x ≡ false) (sym is) (up 0 x (omega arith) (omega arith))
 not_after x (y ∷ ys) up z (inr is) =
-    row_order.chain z y x (not_after y ys (sorted_behind x (y ∷ ys) up) z is) (up 0 x (omega arith) (omega arith))
+    row_order.chain z y x (not_after y ys (sorted_after x (y ∷ ys) up) z is) (up 0 x (omega arith) (omega arith))
 
 all_apart : (path : List ℕ) (others : List (List ℕ)) → AllByRecursion (λ (p : List ℕ). eq_by_cmp path_cmp path p ≡ false) others → (z : List ℕ) → IsIn z others
     → eq_by_cmp path_cmp path z ≡ false
@@ -213,7 +213,7 @@ strict_rows (row ∷ rows) up distinct = (
       less_from row.path.items z
       (subst (λ (p : List ℕ). is_lt (path_cmp p row.path.items) ≡ false) there.2 (not_after row rows up there.0 there.1))
       (all_apart row.path.items (paths_in_rows rows) (IsDistinct-head (eq_by_cmp path_cmp) row.path.items (paths_in_rows rows) distinct) z is),
-  strict_rows rows (sorted_behind row rows up) (IsDistinct-tail (eq_by_cmp path_cmp) row.path.items (paths_in_rows rows) distinct),
+  strict_rows rows (sorted_after row rows up) (IsDistinct-tail (eq_by_cmp path_cmp) row.path.items (paths_in_rows rows) distinct),
 )
 
 -- ---- the stacks

@@ -37,10 +37,10 @@ events_of-more thread (first ∷ blocks) block = by_threads (nat_eq first.thread
         → cond b (first.events ++ events_of thread (blocks ++ block ∷ [])) (events_of thread (blocks ++ block ∷ []))
         ≡ cond d (cond b (first.events ++ events_of thread blocks) (events_of thread blocks) ++ block.events)
         (cond b (first.events ++ events_of thread blocks) (events_of thread blocks))
-    by_threads true true behind = ap (λ (es : List Event). first.events ++ es) behind ∙ sym (append_assoc first.events (events_of thread blocks) block.events)
-    by_threads true false behind = ap (λ (es : List Event). first.events ++ es) behind
-    by_threads false true behind = behind
-    by_threads false false behind = behind
+    by_threads true true following = ap (λ (es : List Event). first.events ++ es) following ∙ sym (append_assoc first.events (events_of thread blocks) block.events)
+    by_threads true false following = ap (λ (es : List Event). first.events ++ es) following
+    by_threads false true following = following
+    by_threads false false following = following
 
 any-more : (thread : ℕ) (blocks : List Block) (block : Block)
     → list_any (λ (b : Block). nat_eq b.thread thread) (blocks ++ block ∷ [])
@@ -51,10 +51,10 @@ any-more thread (first ∷ blocks) block =
   where
     by_threads : (b d rest : Bool) → list_any (λ (c : Block). nat_eq c.thread thread) (blocks ++ block ∷ []) ≡ (d || rest)
         → (b || list_any (λ (c : Block). nat_eq c.thread thread) (blocks ++ block ∷ [])) ≡ (d || (b || rest))
-    by_threads true true rest behind = refl
-    by_threads true false rest behind = refl
-    by_threads false true rest behind = behind
-    by_threads false false rest behind = behind
+    by_threads true true rest following = refl
+    by_threads true false rest following = refl
+    by_threads false true rest following = following
+    by_threads false false rest following = following
 
 pub places_more : (blocks : List Block) (k : ℕ) (d : Block) (places places' : Places) → k < length blocks → ArePlaces blocks (take k blocks) places
     → ((other : ℕ) → places_in places' other ≡ cond (nat_eq (get_or blocks k d).thread other) (places_in places other ++ k ∷ []) (places_in places other))

@@ -1,10 +1,8 @@
 //! Laws of the pairs of a thread's events. Each law is the contract of a function that does nothing.
 
-ghost use Rattle.std.specs.Prelude.{◌≢◌, ◌<◌, List, All};
-ghost use Rattle.std.specs.List.{AllPairs};
+ghost use Rattle.std.specs.{Prelude.{◌≢◌, ◌<◌, List, All}, List.{AllPairs}};
 ghost use Rattle.fdr_record.specs.declared.event.Event.{Event};
-ghost use Rattle.stack_rebuild.specs.Calls.{pairs_of};
-ghost use Rattle.stack_rebuild.specs.PairLaws.{IsWholeCall};
+ghost use Rattle.stack_rebuild.specs.{Calls.{pairs_of}, PairLaws.{IsWholeCall}};
 
 /// Each exit is in at most one pair, and so is each entry. Pairs stand in the order of their exits.
 pub fn each_exit_ends_one_call()

@@ -1,8 +1,7 @@
 //! The pairs of a thread's events, and the events of one thread.
 
 ghost use Rattle.std.specs.Prelude.{◌≡◌, IfOk};
-ghost use Rattle.stack_rebuild.specs.Calls.{pairs_of};
-ghost use Rattle.stack_rebuild.specs.Histories.{events_of};
+ghost use Rattle.stack_rebuild.specs.{Calls.{pairs_of}, Histories.{events_of}};
 
 use crate::call::Pair;
 use crate::calls::ThreadCalls;

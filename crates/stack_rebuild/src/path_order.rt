@@ -1,7 +1,6 @@
 //! The numbers of paths, in the order of the paths.
 
-ghost use Rattle.std.specs.Prelude.{◌≡◌, length, IfOk, IsPermutation};
-ghost use Rattle.std.specs.List.{range_with_len};
+ghost use Rattle.std.specs.{Prelude.{◌≡◌, length, IfOk, IsPermutation}, List.{range_with_len}};
 
 use crate::node::{Node, child_of, sibling_of};
 use std::alloc::Global;

@@ -1,11 +1,9 @@
 //! The text of a stack report.
 
-ghost use Rattle.std.specs.Prelude.{◌≡◌, ◌++◌, ⊤, codes, map};
-ghost use Rattle.std.specs.List.{flat_map};
+ghost use Rattle.std.specs.{Prelude.{◌≡◌, ◌++◌, ⊤, codes, map}, List.{flat_map}};
 ghost use Rattle.std.specs.Option.{option_map};
 ghost use Rattle.function_names.specs.Name.{name_text};
-ghost use Rattle.xray_io.specs.Piece.{piece_text, right_aligned};
-ghost use Rattle.xray_io.specs.Text.{AddsText};
+ghost use Rattle.xray_io.specs.{Piece.{piece_text, right_aligned}, Text.{AddsText}};
 ghost use Rattle.stack_rebuild.specs.Stacks.{told};
 ghost use Rattle.stack_rebuild.specs.StackText.{columns_text, head_text, path_text, row_text, stack_text, weight_text};
 

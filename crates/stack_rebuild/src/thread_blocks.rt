@@ -1,8 +1,7 @@
 //! The places of each thread's blocks.
 
 ghost use Rattle.std.specs.Prelude.{◌≡◌, ◌++◌, ◌==◌, ◌||◌, ℕ, [], ◌∷◌, is_some, if◌then◌else◌, map, IfOk, OnOk};
-ghost use Rattle.std.specs.BTreeMap.{IsOrdered, get};
-ghost use Rattle.std.specs.Ordering.{nat_cmp};
+ghost use Rattle.std.specs.{BTreeMap.{IsOrdered, get}, Ordering.{nat_cmp}};
 ghost use Rattle.stack_rebuild.specs.private.ByThread.{ArePlaces, AreThreads, places_in, thread_of};
 
 use fdr_file::Block;

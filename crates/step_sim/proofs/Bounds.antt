@@ -178,8 +178,8 @@ one_begun program script threads limits n ts us t count begun one e =
         elim (cases_lt i (length ts)) [
           | inl before ↦
               begun i u (slice_get-get_or ts i u before ∙ ap Some (sym (get_or_append_left ts (t ∷ []) u i before) ∙ is))
-          | inr behind ↦
-              let last : i ≡ n = omega (arith, below, length-append ts (t ∷ []), count, behind) in
+          | inr following ↦
+              let last : i ≡ n = omega (arith, below, length-append ts (t ∷ []), count, following) in
               let same : t ≡ u = sym (get_or_push ts t u i (omega (arith, count, last))) ∙ is in
               subst (λ (x : Traced). HasBegun program script threads limits (i + 1) x) same
               (subst (λ (k : ℕ). HasBegun program script threads limits (k + 1) t) (sym last) one)

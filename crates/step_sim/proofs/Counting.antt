@@ -36,11 +36,11 @@ summed_runs f F (run ∷ runs) first (suc n) count is =
       arith,
       sum_by-cons f run runs,
       is zero run refl ∙ ap F here,
-      summed_runs f F runs (first + 1) n (omega (arith, count)) (λ j other found. is (suc j) other found ∙ ap F (behind j)),
+      summed_runs f F runs (first + 1) n (omega (arith, count)) (λ j other found. is (suc j) other found ∙ ap F (following j)),
     )
   where
-    behind : (j : ℕ) → first + suc j ≡ first + 1 + j
-    behind j = omega arith
+    following : (j : ℕ) → first + suc j ≡ first + 1 + j
+    following j = omega arith
 
 -- ---- one thread has one more
 
@@ -54,14 +54,14 @@ with_one_own owner F t e = rw (eqb_is owner t e) refl
 with_one_other : (owner : ℕ) (F : ℕ → ℕ) (t : ℕ) → owner ≢ t → with_one owner F t ≡ F t
 with_one_other owner F t e = rw (eqb_not owner t e) refl
 
-summed_behind : (owner : ℕ) (F : ℕ → ℕ) (first n : ℕ) → owner < first → summed (with_one owner F) first n ≡ summed F first n
-summed_behind owner F first n low =
+summed_after : (owner : ℕ) (F : ℕ → ℕ) (first n : ℕ) → owner < first → summed (with_one owner F) first n ≡ summed F first n
+summed_after owner F first n low =
     summed_same (with_one owner F) F first n (λ t above below. with_one_other owner F t (λ e. omega (arith, e, above, low)))
 
 summed_one : (owner : ℕ) (F : ℕ → ℕ) (first n : ℕ) → first ≤ owner → owner < first + n → summed (with_one owner F) first n ≡ suc (summed F first n)
 summed_one owner F first zero low high = absurd (omega (arith, low, high))
 summed_one owner F first (suc n) low high = elim (cases_eq owner first) [
-  | inl same ↦ omega (arith, with_one_own owner F first same, summed_behind owner F (first + 1) n (omega (arith, same)))
+  | inl same ↦ omega (arith, with_one_own owner F first same, summed_after owner F (first + 1) n (omega (arith, same)))
   | inr apart ↦
       omega (arith, with_one_other owner F first apart, summed_one owner F (first + 1) n (later owner first low apart) (omega (arith, high)))
 ]

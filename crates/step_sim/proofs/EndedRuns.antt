@@ -153,10 +153,10 @@ runs_map {Y = Y} f F (run ∷ runs) first (suc n) count is =
     let here : first + zero ≡ first = omega arith in
     ap (λ (y : Y). y ∷ map f runs) (is zero run refl ∙ ap F here)
     ∙ ap (λ (ys : List Y). F first ∷ ys)
-    (runs_map f F runs (first + 1) n (omega (arith, count)) (λ j other found. is (suc j) other found ∙ ap F (behind j)))
+    (runs_map f F runs (first + 1) n (omega (arith, count)) (λ j other found. is (suc j) other found ∙ ap F (following j)))
   where
-    behind : (j : ℕ) → first + suc j ≡ first + 1 + j
-    behind j = omega arith
+    following : (j : ℕ) → first + suc j ≡ first + 1 + j
+    following j = omega arith
 
 -- what is made of each item of a list with its number
 pub enumerated_map : {X Y : Type 0} (f : ℕ × X → Y) (F : ℕ → Y) (xs : List X) (first n : ℕ) → length xs ≡ n
@@ -170,10 +170,10 @@ enumerated_map {X = X} {Y = Y} f F (x ∷ xs) first (suc n) count is =
     (ap (λ (k : ℕ). f (k, x)) (sym here) ∙ is zero x refl ∙ ap F here)
     ∙ ap (λ (ys : List Y). F first ∷ ys)
     (enumerated_map f F xs (first + 1) n (omega (arith, count))
-    (λ j y found. ap (λ (k : ℕ). f (k, y)) (sym (behind j)) ∙ is (suc j) y found ∙ ap F (behind j)))
+    (λ j y found. ap (λ (k : ℕ). f (k, y)) (sym (following j)) ∙ is (suc j) y found ∙ ap F (following j)))
   where
-    behind : (j : ℕ) → first + suc j ≡ first + 1 + j
-    behind j = omega arith
+    following : (j : ℕ) → first + suc j ≡ first + 1 + j
+    following j = omega arith
 
 -- the buffers that are made of each run with its number
 pub enumerated_buffers : (F : ℕ → List Filled) (f : ℕ × ThreadRun → List Filled) (runs : List ThreadRun) (first n : ℕ) → length runs ≡ n
@@ -188,10 +188,10 @@ enumerated_buffers F f (run ∷ runs) first (suc n) count is =
     (ap F (sym here) ∙ is zero run refl ∙ ap (λ (k : ℕ). f (k, run)) here)
     ∙ ap (λ (bs : List Filled). f (first, run) ++ bs)
     (enumerated_buffers F f runs (first + 1) n (omega (arith, count))
-    (λ j other found. ap F (sym (behind j)) ∙ is (suc j) other found ∙ ap (λ (k : ℕ). f (k, other)) (behind j)))
+    (λ j other found. ap F (sym (following j)) ∙ is (suc j) other found ∙ ap (λ (k : ℕ). f (k, other)) (following j)))
   where
-    behind : (j : ℕ) → first + suc j ≡ first + 1 + j
-    behind j = omega arith
+    following : (j : ℕ) → first + suc j ≡ first + 1 + j
+    following j = omega arith
 
 -- the item of a thread is that at its place
 pub of_thread_at : {X : Type 0} (lists : List (List X)) (j : ℕ) (xs : List X) → slice_get lists j ≡ Some xs → of_thread lists (1 + j) ≡ xs

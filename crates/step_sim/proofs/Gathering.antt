@@ -13,7 +13,7 @@ use Rattle.fdr_record.specs.declared.event.Event.{Event}
 use Rattle.fdr_buffer.specs.Filled.{Filled, empty_buffer}
 use Rattle.step_sim.specs.declared.pool.Pool.{Pool}
 use Rattle.step_sim.specs.Pool.{Fresh, Item, Segment, Stock, segments_among, serials_of}
-use Rattle.traced_run.specs.Kept.{Stamp, buffer_of, buffers_behind}
+use Rattle.traced_run.specs.Kept.{Stamp, buffer_of, buffers_after}
 use Rattle.step_sim.specs.Recorded.{numbers_from}
 use Rattle.step_sim.specs.private.Counts.{is_of}
 use Rattle.step_sim.specs.private.Holding.{Histories, IsHand, PoolHolds, below, held, opened, segments_in, unbegun}
@@ -49,13 +49,13 @@ pub take_step : (thread i : ℕ) (kept more rest : List Filled) (x : Filled) →
     → more ++ filter (is_of thread) (drop i (remove rest i)) ≡ kept ++ filter (is_of thread) (drop i rest)
 take_step thread i kept more rest x within is begun own e =
     let front : length (take i rest) ≡ i = length-take-le i rest (omega (arith, within)) in
-    let behind : drop i (remove rest i) ≡ drop (suc i) rest =
+    let following : drop i (remove rest i) ≡ drop (suc i) rest =
     ap (λ (n : ℕ). drop n (remove rest i)) (sym front) ∙ drop-append_seam (take i rest) (drop (suc i) rest) in
     let here : drop i rest ≡ x ∷ drop (suc i) rest =
     drop-cons rest i x within ∙ ap (λ (y : Filled). y ∷ drop (suc i) rest) (sym is) in
     let its : (x.begun && (x.thread == thread)) ≡ true = rw (begun, eqb_is x.thread thread own) refl in
     ap (λ (ys : List Filled). ys ++ filter (is_of thread) (drop i (remove rest i))) e
-    ∙ ap (λ (ys : List Filled). (kept ++ x ∷ []) ++ filter (is_of thread) ys) behind
+    ∙ ap (λ (ys : List Filled). (kept ++ x ∷ []) ++ filter (is_of thread) ys) following
     ∙ append_assoc kept (x ∷ []) (filter (is_of thread) (drop (suc i) rest))
     ∙ ap (λ (ys : List Filled). kept ++ ys) (sym (passed (is_of thread) x (drop (suc i) rest) its))
     ∙ ap (λ (ys : List Filled). kept ++ filter (is_of thread) ys) (sym here)
@@ -93,10 +93,10 @@ items_are {X = X} (x ∷ xs) F first (suc n) count is =
     let here : first + zero ≡ first = omega arith in
     ap (λ (y : X). y ∷ xs) (is zero x refl ∙ ap F here)
     ∙ ap (λ (ys : List X). F first ∷ ys)
-    (items_are xs F (first + 1) n (omega (arith, count)) (λ j y found. is (suc j) y found ∙ ap F (behind j)))
+    (items_are xs F (first + 1) n (omega (arith, count)) (λ j y found. is (suc j) y found ∙ ap F (following j)))
   where
-    behind : (j : ℕ) → first + suc j ≡ first + 1 + j
-    behind j = omega arith
+    following : (j : ℕ) → first + suc j ≡ first + 1 + j
+    following j = omega arith
 
 -- ---- the queue's buffers of one thread
 
@@ -142,16 +142,16 @@ filter_takes : (p : Filled → Bool) (x : Filled) (xs : List Filled) → p x ≡
 filter_takes p x xs e = rw e refl
 
 -- the hands of later threads don't belong to this one
-hands_behind : (hands : List Filled) (k thread : ℕ) → thread ≤ k
+hands_after : (hands : List Filled) (k thread : ℕ) → thread ≤ k
     → ((i : ℕ) (hand : Filled) → slice_get hands i ≡ Some hand → IsOwn (k + i + 1) hand) → filter (is_of thread) hands ≡ []
-hands_behind [] k thread low own = refl
-hands_behind (hand ∷ hands) k thread low own =
+hands_after [] k thread low own = refl
+hands_after (hand ∷ hands) k thread low own =
     filter_skips (is_of thread) hand hands
     (not_of (k + zero + 1) thread hand (own zero hand refl) (λ e. omega (arith, e, low)))
-    ∙ hands_behind hands (k + 1) thread (omega (arith, low)) (λ i h found. subst (λ (n : ℕ). IsOwn n h) (behind i) (own (suc i) h found))
+    ∙ hands_after hands (k + 1) thread (omega (arith, low)) (λ i h found. subst (λ (n : ℕ). IsOwn n h) (following i) (own (suc i) h found))
   where
-    behind : (i : ℕ) → k + suc i + 1 ≡ k + 1 + i + 1
-    behind i = omega arith
+    following : (i : ℕ) → k + suc i + 1 ≡ k + 1 + i + 1
+    following i = omega arith
 
 hands_of : (hands : List Filled) (k thread : ℕ) (hand : Filled) → k < thread → slice_get hands (thread - 1 - k) ≡ Some hand
     → ((i : ℕ) (h : Filled) → slice_get hands i ≡ Some h → IsOwn (k + i + 1) h)
@@ -162,8 +162,8 @@ hands_of (first ∷ hands) k thread hand low found own = elim (cases_eq thread (
       let place : thread - 1 - k ≡ 0 = omega (arith, here) in
       let is : ◌≡◌ {A = Option Filled} (Some first) (Some hand) = ap (slice_get (first ∷ hands)) (sym place) ∙ found in
       let same : first ≡ hand = cc in
-      let rest : filter (is_of thread) hands ≡ [] = hands_behind hands (k + 1) thread (omega (arith, here))
-      (λ i h is. subst (λ (n : ℕ). IsOwn n h) (behind k i) (own (suc i) h is)) in
+      let rest : filter (is_of thread) hands ≡ [] = hands_after hands (k + 1) thread (omega (arith, here))
+      (λ i h is. subst (λ (n : ℕ). IsOwn n h) (following k i) (own (suc i) h is)) in
       let mine : IsOwn thread first = subst (λ (n : ℕ). IsOwn n first) (at_first k thread here) (own zero first refl) in
       by_own thread first hands mine rest ∙ ap (λ (b : Filled). if b.begun then b ∷ [] else []) same
   | inr later ↦
@@ -172,11 +172,11 @@ hands_of (first ∷ hands) k thread hand low found own = elim (cases_eq thread (
       filter_skips (is_of thread) first hands
       (not_of (k + zero + 1) thread first (own zero first refl) (λ e. later (omega (arith, e))))
       ∙ hands_of hands (k + 1) thread hand (omega (arith, low, later)) is
-      (λ i h is. subst (λ (n : ℕ). IsOwn n h) (behind k i) (own (suc i) h is))
+      (λ i h is. subst (λ (n : ℕ). IsOwn n h) (following k i) (own (suc i) h is))
 ]
   where
-    behind : (k i : ℕ) → k + suc i + 1 ≡ k + 1 + i + 1
-    behind k i = omega arith
+    following : (k i : ℕ) → k + suc i + 1 ≡ k + 1 + i + 1
+    following k i = omega arith
 
     at_first : (k thread : ℕ) → thread ≡ k + 1 → k + zero + 1 ≡ thread
     at_first k thread e = omega (arith, e)
@@ -229,7 +229,7 @@ few_lost stamp threads events stock pool thread holds =
 gathered_of : (stamp : Stamp) (threads : ℕ) (events : Histories) (stock : Stock) (pool : Pool) (thread : ℕ) (hand : Filled)
     → 0 < thread → PoolHolds stamp threads events stock pool → slice_get pool.hands.items (thread - 1) ≡ Some hand
     → filter (is_of thread) pool.queue ++ filter (is_of thread) pool.hands.items
-    ≡ buffers_behind stamp (segments_among thread stock.taken) thread (segments_in stamp events thread)
+    ≡ buffers_after stamp (segments_among thread stock.taken) thread (segments_in stamp events thread)
 gathered_of stamp threads events stock pool thread hand some holds found =
     ap (λ (bs : List Filled). bs ++ filter (is_of thread) pool.hands.items) queue
     ∙ ap (λ (bs : List Filled). map buffer (drop lost (below (length segs - 1))) ++ bs) hands
@@ -260,7 +260,7 @@ gathered_of stamp threads events stock pool thread hand some holds found =
         (λ i h is. subst (λ (n : ℕ). IsOwn n h) (number i) (own_hand stamp (i + 1) (segments_in stamp events (i + 1)) h (holds.hand i h is)))
 
     by_hand : IsHand stamp thread segs hand
-        → map buffer (drop lost (below (length segs - 1))) ++ (if hand.begun then hand ∷ [] else []) ≡ buffers_behind stamp lost thread segs
+        → map buffer (drop lost (below (length segs - 1))) ++ (if hand.begun then hand ∷ [] else []) ≡ buffers_after stamp lost thread segs
     by_hand (unbegun none e) =
         let zero_left : length segs - 1 ≡ 0 = omega (arith, ap length none) in
         let no_numbers : drop lost (below 0) ≡ [] = drop_all lost [] (omega arith) in
@@ -300,7 +300,7 @@ gathered_of stamp threads events stock pool thread hand some holds found =
 -- the buffers of all threads, gathered thread by thread
 pub all_gathered : (stamp : Stamp) (threads : ℕ) (events : Histories) (stock : Stock) (pool : Pool) → PoolHolds stamp threads events stock pool
     → flat_map (λ t. filter (is_of t) pool.queue ++ filter (is_of t) pool.hands.items) (numbers_from 1 threads)
-    ≡ flat_map (λ t. buffers_behind stamp (segments_among t stock.taken) t (segments_in stamp events t)) (numbers_from 1 threads)
+    ≡ flat_map (λ t. buffers_after stamp (segments_among t stock.taken) t (segments_in stamp events t)) (numbers_from 1 threads)
 all_gathered stamp threads events stock pool holds =
     flat_same _ _ 1 threads (λ t low high.
     let none : Filled = empty_buffer 0 in

@@ -22,7 +22,7 @@ use Rattle.traced_run.specs.Runs.{ThreadRun}
 use Rattle.step_sim.specs.declared.turns.Turns.{Turns}
 use Rattle.step_sim.specs.declared.turns.Turns.TheVariants.{Thread, Patcher}
 use Rattle.step_sim.specs.private.Holding.{below}
-use Rattle.step_sim.specs.Pool.{Fresh, Pooled, Pooling, Segment, Stock, first_pooled, pooled_step, pooled_turn, queued, segments_among, serials_of, stock_behind}
+use Rattle.step_sim.specs.Pool.{Fresh, Pooled, Pooling, Segment, Stock, first_pooled, pooled_step, pooled_turn, queued, segments_among, serials_of, stock_after}
 use Rattle.step_sim.specs.private.Turns.{AllPooledRunOut, pooled_line, pooled_lines}
 use Rattle.step_sim.specs.Recorded.{numbers_from, pooling_of, segments_at}
 use Rattle.step_sim.specs.Plays.{turns}
@@ -70,7 +70,7 @@ goes_test : (before : ℕ) → 0 < before → (nat_lt 0 before && (before + 1 ==
 goes_test before some = grind (arith, nat_tests)
 
 stock_goes : (thread before after : ℕ) (stock : Stock) → 0 < before → after ≡ before + 1
-    → stock_behind thread before after stock ≡ queued (Segment thread (before - 1)) stock
+    → stock_after thread before after stock ≡ queued (Segment thread (before - 1)) stock
 stock_goes thread before after stock some e = rw (e, goes_test before some) refl
 
 queued_serials : (t thread serial : ℕ) (stock : Stock)
@@ -86,7 +86,7 @@ in_stock t stock = serials_of t (stock.taken ++ stock.queue)
 
 -- a turn of another thread leaves them as they are
 other_serials : (t thread before after : ℕ) (stock : Stock) → (t ≡ thread → ⊥)
-    → in_stock t (stock_behind thread before after stock) ≡ in_stock t stock
+    → in_stock t (stock_after thread before after stock) ≡ in_stock t stock
 other_serials t thread before after stock apart = by_test (nat_lt 0 before && (after == before + 1))
   where
     by_test : (b : Bool) → in_stock t (if b then queued (Segment thread (before - 1)) stock else stock) ≡ in_stock t stock
@@ -97,7 +97,7 @@ other_serials t thread before after stock apart = by_test (nat_lt 0 before && (a
 
 -- a turn of the thread itself adds the segment that was open
 own_serials : (thread before after : ℕ) (stock : Stock) → IsSameOrNext before after → in_stock thread stock ≡ below (before - 1)
-    → in_stock thread (stock_behind thread before after stock) ≡ below (after - 1)
+    → in_stock thread (stock_after thread before after stock) ≡ below (after - 1)
 own_serials thread before after stock (inl same) is =
     ap (in_stock thread) (stock_stays thread before after stock (inr same)) ∙ is ∙ ap (λ n. below (n - 1)) (sym same)
 own_serials thread zero after stock (inr next) is =
@@ -117,7 +117,7 @@ turn_ordered : (cast : Cast) (passed : List (List Passing)) (size spare thread :
     → AreInOrder (pooling_of cast passed size spare) (pooled_turn cast (pooling_of cast passed size spare) thread x)
 turn_ordered cast passed size spare thread x some is t some_t = elim (cases_eq t thread) [
   | inl same ↦
-      subst (λ (k : ℕ). in_stock k (stock_behind thread (segs thread x.moment) (segs thread after) x.stock) ≡ below (segs k after - 1)) (sym same)
+      subst (λ (k : ℕ). in_stock k (stock_after thread (segs thread x.moment) (segs thread after) x.stock) ≡ below (segs k after - 1)) (sym same)
       (own_serials thread (segs thread x.moment) (segs thread after) x.stock (turn_segments cast passed size thread x.moment) (is thread some))
   | inr apart ↦
       other_serials t thread (segs thread x.moment) (segs thread after) x.stock apart ∙ is t some_t

@@ -29,9 +29,9 @@ use Rattle.step_sim.proofs.TurnLemmas.{turn_own}
 -- and the second to a mark; or both to the same mark.
 abbrev OneMore : Load → Reading → Reading → Type 0
 OneMore load (Wants word) (Wants next) = Unit {0}
-OneMore load (Wants word) (Marked mark behind) = behind ≡ []
-OneMore load (Marked mark behind) (Wants next) = ⊥
-OneMore load (Marked mark behind) (Marked other more) = (other ≡ mark) × (more ≡ behind ++ load ∷ [])
+OneMore load (Wants word) (Marked mark following) = following ≡ []
+OneMore load (Marked mark following) (Wants next) = ⊥
+OneMore load (Marked mark following) (Marked other more) = (other ≡ mark) × (more ≡ following ++ load ∷ [])
 
 state_more : (program : Program) (loads : List Load) (load : Load) → OneMore load (from_state program loads) (from_state program (loads ++ load ∷ []))
 state_more program [] load = refl
@@ -141,14 +141,14 @@ more_marks program thread hold number (sled ∷ sleds) loads load =
         → from_start program thread (is_held_at hold number) sled (loads ++ load ∷ []) ≡ new → OneMore load old new
         → MoreMarks program thread hold number (sled ∷ sleds) loads load
     by_reading again (Wants word) (Wants next) e e' is = record { more = []; is = rw (e, e') refl; few = omega arith }
-    by_reading again (Wants word) (Marked mark behind) e e' is = record {
+    by_reading again (Wants word) (Marked mark following) e e' is = record {
       more = mark ∷ [];
       is = rw (e, e') (ap (λ (ls : List Load). mark ∷ later ls) is ∙ ap (λ (ms : List Mark). mark ∷ ms) (no_marks program thread hold (number + 1) sleds));
       few = omega arith;
     }
-    by_reading again (Marked mark behind) (Wants next) e e' is = absurd is
-    by_reading again (Marked mark behind) (Marked other more) e e' (same, is) =
-        let rest = again behind in
+    by_reading again (Marked mark following) (Wants next) e e' is = absurd is
+    by_reading again (Marked mark following) (Marked other more) e e' (same, is) =
+        let rest = again following in
         record {
           more = rest.more;
           is = rw (e, e') (ap (λ (m : Mark). m ∷ later more) same ∙ ap (λ (ls : List Load). mark ∷ later ls) is

@@ -23,7 +23,7 @@ use Rattle.step_sim.proofs.Plays.{turns_add, turns_still}
 use Rattle.step_sim.proofs.PooledReplay.{ended_still}
 use Rattle.step_sim.proofs.ReplayAlong.{turn_without}
 use Rattle.step_sim.proofs.TurnLemmas.{turn_other}
-use Rattle.step_sim.specs.Pool.{Pooled, Stock, stock_behind}
+use Rattle.step_sim.specs.Pool.{Pooled, Stock, stock_after}
 use Rattle.step_sim.specs.private.Turns.{PooledRunsOut}
 use Rattle.traced_run.specs.Kept.{Stamp}
 use Rattle.step_sim.specs.Recorded.{events_at, segments_at}
@@ -173,11 +173,11 @@ load_recorded r pooled p old mid new pool pool' event thread at same keeps same'
     let here : thread ≡ old.thread = number ∙ same.thread in
     let passed = of_thread r.passed old.thread in
     let run = its_run r pooled p old mid pool at same in
-    let behind : histories r turned old.thread ≡ recorded passed new.marks =
+    let following : histories r turned old.thread ≡ recorded passed new.marks =
     subst (λ (k : ℕ). histories r turned k ≡ recorded (of_thread r.passed k) new.marks) whole.thread
     (events_of_marks r turned p new new stands (same_again new) (λ ps ls is. is)) in
     let more : histories r turned old.thread ≡ histories r pooled.moment old.thread ++ events_in event =
-    behind ∙ gives passed run.0 run.1 run.2
+    following ∙ gives passed run.0 run.1 run.2
     ∙ ap (λ (es : List Event). es ++ events_in event) (sym (events_of_marks r pooled.moment p old mid at.stands same keeps)) in
     let own = subst (λ (k : ℕ). NotesAny pool pool' k event) here notes in
     let noted = own r.stamp r.threads (histories r pooled.moment) (histories r turned) pooled.stock at.holds more
@@ -185,10 +185,10 @@ load_recorded r pooled p old mid new pool pool' event thread at same keeps same'
     let counts : (m : Moment) → length (segments_in r.stamp (histories r m) old.thread)
     ≡ length (segments_at r.cast r.passed r.stamp.size old.thread m) =
     λ m. ap (λ (es : List Event). length (segments r.stamp.size es)) (history_is r m old.thread at.stands.thread.first) in
-    let stock : stock_behind old.thread (length (segments_in r.stamp (histories r pooled.moment) old.thread))
+    let stock : stock_after old.thread (length (segments_in r.stamp (histories r pooled.moment) old.thread))
     (length (segments_in r.stamp (histories r turned) old.thread)) pooled.stock ≡ (turn_in r old.thread pooled).stock =
-    ap (λ (n : ℕ). stock_behind old.thread n (length (segments_in r.stamp (histories r turned) old.thread)) pooled.stock) (counts pooled.moment)
-    ∙ ap (λ (n : ℕ). stock_behind old.thread (length (segments_at r.cast r.passed r.stamp.size old.thread pooled.moment)) n pooled.stock) (counts turned) in
+    ap (λ (n : ℕ). stock_after old.thread n (length (segments_in r.stamp (histories r turned) old.thread)) pooled.stock) (counts pooled.moment)
+    ∙ ap (λ (n : ℕ). stock_after old.thread (length (segments_at r.cast r.passed r.stamp.size old.thread pooled.moment)) n pooled.stock) (counts turned) in
     record {
       stands = stands;
       limits_are = whole.limits ∙ at.limits_are;

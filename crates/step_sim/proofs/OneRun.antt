@@ -38,8 +38,8 @@ first_plain program limits k run runs plain =
 rest_plain : (program : Program) (limits : Limits) (k : ℕ) (run : ThreadRun) (runs : List ThreadRun) → ArePlain program limits k (run ∷ runs)
     → ArePlain program limits (k + 1) runs
 rest_plain program limits k run runs plain i other found =
-    let behind : k + suc i ≡ k + 1 + i = omega arith in
-    subst (λ (n : ℕ). PlainRun program limits n other.passed other.end other.last) behind (plain (suc i) other found)
+    let following : k + suc i ≡ k + 1 + i = omega arith in
+    subst (λ (n : ℕ). PlainRun program limits n other.passed other.end other.last) following (plain (suc i) other found)
 
 passed_same : OneEnd → (bytes : List ℕ) (program : Program) (limits : Limits) (k : ℕ) (runs others : List ThreadRun) → IsAccepted bytes program
     → length runs ≡ length others → ArePlain program limits k runs → ArePlain program limits k others → passed_of runs ≡ passed_of others

@@ -9,7 +9,7 @@ use Rattle.machine_step.specs.declared.want.Want.{Want}
 use Rattle.machine_step.specs.declared.want.Want.TheVariants.{Load as Loads}
 use Rattle.machine_step.specs.Loads.{Load, next_load}
 use Rattle.machine_step.specs.PlainStep.{Passing}
-use Rattle.machine_step.specs.Traced.{HasLoaded, IsSameThread, IsWant, Traced, load_of, sleds_of, wanted_behind}
+use Rattle.machine_step.specs.Traced.{HasLoaded, IsSameThread, IsWant, Traced, load_of, sleds_of, wanted_after}
 use Rattle.machine_step.proofs.WantedWords.{wanted_within}
 use Rattle.step_sim.specs.declared.patcher.Patcher.{Patcher}
 use Rattle.step_sim.specs.Along.{IsAlong}
@@ -78,7 +78,7 @@ next_alike program program' thread thread' hold hold' sleds sleds' loads a b c d
 
 -- what it wants in the replay is what it wants after its loads
 wanted_is : (cast : Cast) (m : Moment) (old mid : Traced) (at : IsThreadAt cast m old) → IsSameThread old mid
-    → wanted_by cast old.thread m ≡ wanted_behind mid at.passed (of_thread m.loads old.thread)
+    → wanted_by cast old.thread m ≡ wanted_after mid at.passed (of_thread m.loads old.thread)
 wanted_is cast m old mid at same =
     next_alike cast.program mid.program old.thread mid.thread (hold_of old.thread cast.script) mid.hold
     (of_thread cast.passings old.thread) (sleds_of at.passed) (of_thread m.loads old.thread)
@@ -92,8 +92,8 @@ pub word_wanted : (cast : Cast) (m : Moment) (p : Patcher) (old mid : Traced) (w
     → KeepsLoads old mid → mid.want ≡ Loads word → wanted_by cast old.thread m ≡ Some word
 word_wanted cast m p old mid word at same keeps wants =
     let loaded = keeps at.thread.passed _ at.thread.loaded in
-    let next : wanted_behind mid at.thread.passed (of_thread m.loads old.thread) ≡ Some word =
-    subst (IsWant mid at.thread.passed (wanted_behind mid at.thread.passed (of_thread m.loads old.thread)) loaded.end) wants loaded.wants in
+    let next : wanted_after mid at.thread.passed (of_thread m.loads old.thread) ≡ Some word =
+    subst (IsWant mid at.thread.passed (wanted_after mid at.thread.passed (of_thread m.loads old.thread)) loaded.end) wants loaded.wants in
     wanted_is cast m old mid at.thread same ∙ next
 
 pub none_wanted : (cast : Cast) (m : Moment) (p : Patcher) (old mid : Traced) → StandAt cast m p old → IsSameThread old mid
@@ -102,8 +102,8 @@ none_wanted cast m p old mid at same keeps rests =
     let end = rests.end in
     let wants = rests.wants in
     let loaded = keeps at.thread.passed _ at.thread.loaded in
-    let next : (wanted_behind mid at.thread.passed (of_thread m.loads old.thread) ≡ None) × (end ≡ loaded.end) =
-    subst (IsWant mid at.thread.passed (wanted_behind mid at.thread.passed (of_thread m.loads old.thread)) loaded.end) wants loaded.wants in
+    let next : (wanted_after mid at.thread.passed (of_thread m.loads old.thread) ≡ None) × (end ≡ loaded.end) =
+    subst (IsWant mid at.thread.passed (wanted_after mid at.thread.passed (of_thread m.loads old.thread)) loaded.end) wants loaded.wants in
     wanted_is cast m old mid at.thread same ∙ next.0
 
 -- the word exists
@@ -111,8 +111,8 @@ pub word_there : (p : Patcher) (old mid : Traced) (word : ℕ) → Play p old �
     → mid.want ≡ Loads word → word < vec_len p.words
 word_there p old mid word (cast, m, at) same keeps wants =
     let loaded = keeps at.thread.passed _ at.thread.loaded in
-    let next : wanted_behind mid at.thread.passed (of_thread m.loads old.thread) ≡ Some word =
-    subst (IsWant mid at.thread.passed (wanted_behind mid at.thread.passed (of_thread m.loads old.thread)) loaded.end) wants loaded.wants in
+    let next : wanted_after mid at.thread.passed (of_thread m.loads old.thread) ≡ Some word =
+    subst (IsWant mid at.thread.passed (wanted_after mid at.thread.passed (of_thread m.loads old.thread)) loaded.end) wants loaded.wants in
     let known : mid.thread ≤ mid.threads = omega (arith, same.thread, same.threads, at.thread.last) in
     let within = wanted_within mid.program mid.limits mid.thread mid.hold at.thread.passed _ loaded.end loaded.last loaded.run mid.threads word known next in
     let same_program : mid.program ≡ cast.program = same.program ∙ at.thread.program_is in

@@ -132,27 +132,27 @@ play_shown {Y = Y} show rules shown shows threads first schedule last out =
     (runs_shown show rules shown shows threads 1 (lines_played rules first schedule) last out)
 
 -- a thread that runs out by what is shown does so
-run_behind : {X Y : Type 0} (show : X → Y) (rules : Rules X) (shown : Rules Y) → Shows show rules shown → (thread : ℕ) (before : X) (y after : Y)
+run_after : {X Y : Type 0} (show : X → Y) (rules : Rules X) (shown : Rules Y) → Shows show rules shown → (thread : ℕ) (before : X) (y after : Y)
     → show before ≡ y → ThreadRunsOut shown thread y after → (last : X) × ThreadRunsOut rules thread before last × (show last ≡ after)
-run_behind {X = X} {Y = Y} show rules shown shows thread before y after here (n, made, ends) =
+run_after {X = X} {Y = Y} show rules shown shows thread before y after here (n, made, ends) =
     let last : X = turns n (rules.thread thread) before in
     let there : show last ≡ after =
     turns_shown show (rules.thread thread) (shown.thread thread) (shows.thread thread) n before
     ∙ ap (turns n (shown.thread thread)) here ∙ sym made in
     (last, (n, refl, shows.wanted thread last ∙ subst (λ (z : Y). shown.wanted thread z ≡ None) (sym there) ends), there)
 
-runs_behind : {X Y : Type 0} (show : X → Y) (rules : Rules X) (shown : Rules Y) → Shows show rules shown → (n thread : ℕ) (before : X) (y after : Y)
+runs_after : {X Y : Type 0} (show : X → Y) (rules : Rules X) (shown : Rules Y) → Shows show rules shown → (n thread : ℕ) (before : X) (y after : Y)
     → show before ≡ y → ThreadsRunOut shown n thread y after → (last : X) × ThreadsRunOut rules n thread before last × (show last ≡ after)
-runs_behind show rules shown shows zero thread before y after here e = (before, refl, here ∙ sym e)
-runs_behind show rules shown shows (suc n) thread before y after here (mid, run, rest) =
-    let one = run_behind show rules shown shows thread before y mid here run in
-    let all = runs_behind show rules shown shows n (thread + 1) one.0 mid after one.2 rest in
+runs_after show rules shown shows zero thread before y after here e = (before, refl, here ∙ sym e)
+runs_after show rules shown shows (suc n) thread before y after here (mid, run, rest) =
+    let one = run_after show rules shown shows thread before y mid here run in
+    let all = runs_after show rules shown shows n (thread + 1) one.0 mid after one.2 rest in
     (all.0, (one.0, one.1, all.1), all.2)
 
 -- each play of what is shown is one of states
-pub play_behind : {X Y : Type 0} (show : X → Y) (rules : Rules X) (shown : Rules Y) → Shows show rules shown → (threads : ℕ) (first : X)
+pub play_after : {X Y : Type 0} (show : X → Y) (rules : Rules X) (shown : Rules Y) → Shows show rules shown → (threads : ℕ) (first : X)
     (schedule : List Turns) (end : Y) → Plays shown threads (show first) schedule end
     → (last : X) × Plays rules threads first schedule last × (show last ≡ end)
-play_behind show rules shown shows threads first schedule end out =
-    runs_behind show rules shown shows threads 1 (lines_played rules first schedule) (lines_played shown (show first) schedule) end
+play_after show rules shown shows threads first schedule end out =
+    runs_after show rules shown shows threads 1 (lines_played rules first schedule) (lines_played shown (show first) schedule) end
     (lines_shown show rules shown shows schedule first) out

@@ -13,9 +13,9 @@ use Rattle.fdr_buffer.specs.declared.buffer.TheConstants.{LEAST_SIZE}
 use Rattle.fdr_buffer.specs.Filled.{Filled, empty_buffer}
 use Rattle.fdr_buffer.specs.Segments.{has_room, segments}
 use Rattle.step_sim.specs.declared.pool.Pool.{Pool}
-use Rattle.step_sim.specs.Pool.{Fresh, Item, Segment, Stock, first_stock, queued, segments_among, serials_of, stock_behind}
+use Rattle.step_sim.specs.Pool.{Fresh, Item, Segment, Stock, first_stock, queued, segments_among, serials_of, stock_after}
 use Rattle.traced_run.specs.Kept.{Stamp, buffer_of}
-use Rattle.step_sim.specs.private.Counts.{CanLose, lost_behind}
+use Rattle.step_sim.specs.private.Counts.{CanLose, lost_after}
 use Rattle.step_sim.specs.private.Holding.{CanNote, Histories, IsClosed, IsFull, IsHand, NotesEvent, PoolHolds, below, held, opened, segments_in, unbegun}
 use Rattle.step_sim.proofs.AllThreads.{set_cases}
 
@@ -128,7 +128,7 @@ pub record Stays (stamp : Stamp) (events later : Histories) (thread : ℕ) : Typ
 no_more : (n : ℕ) → (nat_lt 0 n && (n == n + 1)) ≡ false
 no_more n = grind (arith, nat_tests)
 
-pub stock_stays : (thread before after : ℕ) (stock : Stock) → (before ≡ 0) ⊎ (after ≡ before) → stock_behind thread before after stock ≡ stock
+pub stock_stays : (thread before after : ℕ) (stock : Stock) → (before ≡ 0) ⊎ (after ≡ before) → stock_after thread before after stock ≡ stock
 stock_stays thread before after stock (inl none) = rw none refl
 stock_stays thread before after stock (inr same) = rw (same, no_more before) refl
 
@@ -166,7 +166,7 @@ pub stay_holds : (stamp : Stamp) (threads : ℕ) (events later : Histories) (sto
     → new.hands.items ≡ slice_set old.hands.items (thread - 1) hand → new.queue ≡ old.queue → new.sealed.items ≡ old.sealed.items
     → new.first.items ≡ old.first.items → new.wall ≡ old.wall → new.pid ≡ old.pid
     → PoolHolds stamp threads later
-    (stock_behind thread (length (segments_in stamp events thread)) (length (segments_in stamp later thread)) stock) new
+    (stock_after thread (length (segments_in stamp events thread)) (length (segments_in stamp later thread)) stock) new
 stay_holds stamp threads events later stock thread old new hand some holds stays one hands queue sealed first wall pid =
     let still = stock_stays thread (length (segments_in stamp events thread)) (length (segments_in stamp later thread)) stock stays.first_or_same in
     let closed = all_closed_more stamp events later thread threads stock.queue stays.on holds.closed in
@@ -326,11 +326,11 @@ front_within stamp events threads thread serial (item ∷ queue) some few closed
     (is.0, is.1)
 
 -- the numbers of a thread's segments after an item was put into the queue
-serials_behind : (stamp : Stamp) (threads : ℕ) (events : Histories) (stock : Stock) (pool : Pool) (k : ℕ) (item : Item)
+serials_after : (stamp : Stamp) (threads : ℕ) (events : Histories) (stock : Stock) (pool : Pool) (k : ℕ) (item : Item)
     → PoolHolds stamp threads events stock pool
     → serials_of k ((stock.taken ++ take 1 (stock.queue ++ item ∷ [])) ++ drop 1 (stock.queue ++ item ∷ []))
     ≡ below (length (segments_in stamp events k) - 1) ++ serials_of k (item ∷ [])
-serials_behind stamp threads events stock pool k item holds =
+serials_after stamp threads events stock pool k item holds =
     ap (serials_of k) (same_items stock.taken stock.queue item)
     ∙ serials_of-append k (stock.taken ++ stock.queue) (item ∷ [])
     ∙ ap (λ (ns : List ℕ). ns ++ serials_of k (item ∷ [])) (holds.order k)
@@ -344,7 +344,7 @@ fewer_lost stamp threads events stock pool thread serial owner number holds e =
     let rest : List Item = drop 1 (stock.queue ++ item ∷ []) in
     let front : take 1 (stock.queue ++ item ∷ []) ≡ Segment owner number ∷ [] =
     (front_of stock.queue item).is ∙ ap (λ (x : Item). x ∷ []) e in
-    let all = serials_behind stamp threads events stock pool owner item holds in
+    let all = serials_after stamp threads events stock pool owner item holds in
     let split : serials_of owner ((stock.taken ++ Segment owner number ∷ []) ++ rest)
     ≡ (serials_of owner stock.taken ++ number ∷ []) ++ serials_of owner rest =
     serials_of-append owner (stock.taken ++ Segment owner number ∷ []) rest
@@ -419,7 +419,7 @@ can_lose stamp threads events stock pool thread n hand taken sealed some few hol
 lost_is : (stamp : Stamp) (threads : ℕ) (events : Histories) (stock : Stock) (pool : Pool) (front : Item) (i k : ℕ)
     → PoolHolds stamp threads events stock pool
     → ((owner number : ℕ) → front ≡ Segment owner number → (0 < owner) × (owner ≤ threads))
-    → slice_get (lost_behind (held stamp events front) pool.first.items) i ≡ Some k
+    → slice_get (lost_after (held stamp events front) pool.first.items) i ≡ Some k
     → k ≡ segments_among (i + 1) (stock.taken ++ front ∷ [])
 lost_is stamp threads events stock pool Fresh i k holds within found =
     holds.first i k found
@@ -453,7 +453,7 @@ turns_on : (n : ℕ) → 0 < n → (nat_lt 0 n && (n + 1 == n + 1)) ≡ true
 turns_on n some = grind (arith, nat_tests)
 
 stock_turns : (thread before after : ℕ) (stock : Stock) → 0 < before → after ≡ before + 1
-    → stock_behind thread before after stock ≡ queued (Segment thread (before - 1)) stock
+    → stock_after thread before after stock ≡ queued (Segment thread (before - 1)) stock
 stock_turns thread before after stock some more = rw (more, turns_on before some) refl
 
 -- what a turn does to the segments of a thread
@@ -492,7 +492,7 @@ order_turned : (stamp : Stamp) (threads : ℕ) (events later : Histories) (stock
     → serials_of k ((stock.taken ++ take 1 (stock.queue ++ sealing thread whole ∷ [])) ++ drop 1 (stock.queue ++ sealing thread whole ∷ []))
     ≡ below (length (segments_in stamp later k) - 1)
 order_turned stamp threads events later stock pool thread k whole last next holds cuts =
-    serials_behind stamp threads events stock pool k (sealing thread whole) holds ∙ elim (cases_eq k thread) [
+    serials_after stamp threads events stock pool k (sealing thread whole) holds ∙ elim (cases_eq k thread) [
       | inl same ↦
           let counts = cuts_length stamp events later thread whole last next cuts in
           let count : length (segments_in stamp events k) - 1 ≡ length whole =
@@ -529,10 +529,10 @@ pub turn_holds : (stamp : Stamp) (threads : ℕ) (events later : Histories) (sto
     → n ≡ length (segments_in stamp events thread) → taken ∷ [] ≡ take 1 (old.queue ++ hand ∷ [])
     → next_hand ≡ buffer_of (record { size = taken.size; wall = old.wall; pid = old.pid }) thread (n, next)
     → new.hands.items ≡ slice_set old.hands.items (thread - 1) next_hand → new.queue ≡ drop 1 (old.queue ++ hand ∷ [])
-    → new.sealed.items ≡ slice_set old.sealed.items (thread - 1) n → new.first.items ≡ lost_behind taken old.first.items
+    → new.sealed.items ≡ slice_set old.sealed.items (thread - 1) n → new.first.items ≡ lost_after taken old.first.items
     → new.wall ≡ old.wall → new.pid ≡ old.pid
     → PoolHolds stamp threads later
-    (stock_behind thread (length (segments_in stamp events thread)) (length (segments_in stamp later thread)) stock) new
+    (stock_after thread (length (segments_in stamp events thread)) (length (segments_in stamp later thread)) stock) new
 turn_holds stamp threads events later stock thread n old new hand taken next_hand next was some few holds cuts count front next_is hands queue sealed first wall pid =
     subst (λ (s : Stock). PoolHolds stamp threads later s new) (sym turned) there
   where
@@ -545,7 +545,7 @@ turn_holds stamp threads events later stock thread n old new hand taken next_han
     counts : (length (segments_in stamp events thread) ≡ length was.whole + 1) × (length (segments_in stamp later thread) ≡ length was.whole + 2)
     counts = cuts_length stamp events later thread was.whole was.last next cuts
 
-    turned : stock_behind thread (length (segments_in stamp events thread)) (length (segments_in stamp later thread)) stock ≡ queued item stock
+    turned : stock_after thread (length (segments_in stamp events thread)) (length (segments_in stamp later thread)) stock ≡ queued item stock
     turned =
         let place : length (segments_in stamp events thread) - 1 ≡ length was.whole = omega (arith, counts.0) in
         stock_turns thread (length (segments_in stamp events thread)) (length (segments_in stamp later thread)) stock
@@ -583,7 +583,7 @@ turn_holds stamp threads events later stock thread n old new hand taken next_han
       first = λ i k found.
           lost_is stamp threads events stock old (front_of stock.queue item).front i k holds
           (front_within stamp events threads thread (length was.whole) stock.queue some few holds.closed)
-          (ap (λ (ns : List ℕ). slice_get ns i) (ap (λ (b : Filled). lost_behind b old.first.items) (sym taken_is) ∙ sym first) ∙ found)
+          (ap (λ (ns : List ℕ). slice_get ns i) (ap (λ (b : Filled). lost_after b old.first.items) (sym taken_is) ∙ sym first) ∙ found)
           ∙ ap (λ (xs : List Item). segments_among (i + 1) (stock.taken ++ xs)) (sym (front_of stock.queue item).is);
       queue = queue ∙ ap (drop 1) (queue_held stamp threads events stock old thread hand was holds)
           ∙ drop-map (held stamp events) 1 (stock.queue ++ item ∷ [])
@@ -593,7 +593,7 @@ turn_holds stamp threads events later stock thread n old new hand taken next_han
       order = λ k. order_turned stamp threads events later stock old thread k was.whole was.last next holds cuts;
     }
       where
-        length_lost : (b : Filled) (ns : List ℕ) → length (lost_behind b ns) ≡ length ns
+        length_lost : (b : Filled) (ns : List ℕ) → length (lost_after b ns) ≡ length ns
         length_lost b ns = by_begun b.begun
           where
             by_begun : (begun : Bool)
@@ -710,7 +710,7 @@ pub turn_notes : (old new : Pool) (thread n : ℕ) (event : Event) (hand taken n
       events = event ∷ [];
     }
     → new.hands.items ≡ slice_set old.hands.items (thread - 1) next_hand → new.queue ≡ drop 1 (old.queue ++ hand ∷ [])
-    → new.sealed.items ≡ slice_set old.sealed.items (thread - 1) (n + 1) → new.first.items ≡ lost_behind taken old.first.items
+    → new.sealed.items ≡ slice_set old.sealed.items (thread - 1) (n + 1) → new.first.items ≡ lost_after taken old.first.items
     → new.wall ≡ old.wall → new.pid ≡ old.pid → NotesEvent old new thread event
 turn_notes old new thread n event hand taken next_hand (stamp', threads', events', stock', holds', some, few', room) full all each cut count is front next_is hands queue sealed first wall pid
     stamp threads events later stock holds more others =
@@ -756,7 +756,7 @@ first_notes old new thread event hand next_hand (stamp', threads', events', stoc
   where
     by_hand : IsHand stamp thread (segments_in stamp events thread) hand
         → PoolHolds stamp threads later
-        (stock_behind thread (length (segments_in stamp events thread)) (length (segments_in stamp later thread)) stock) new
+        (stock_after thread (length (segments_in stamp events thread)) (length (segments_in stamp later thread)) stock) new
     by_hand (opened whole last segs e) =
         let same : false ≡ true = sym no_hand ∙ ap (λ (b : Filled). b.begun) e in absurd cc
     by_hand (unbegun none e) =

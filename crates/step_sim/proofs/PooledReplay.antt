@@ -8,7 +8,7 @@ use Rattle.step_sim.specs.Plays.{Plays, turns}
 use Rattle.step_sim.specs.Replay.{Cast, Replay, first_moment, marks_at, moment_rules, thread_turn, wanted_by}
 use Rattle.step_sim.specs.private.Turns.{line_turns, pooled_line}
 use Rattle.step_sim.specs.Pool.{Pooled, PooledReplay, Pooling, first_pooled, pooled_rules, pooled_turn}
-use Rattle.step_sim.proofs.Plays.{Shows, line_shown, one_end, play_behind, play_shown, turns_shown}
+use Rattle.step_sim.proofs.Plays.{Shows, line_shown, one_end, play_after, play_shown, turns_shown}
 use Rattle.step_sim.proofs.ReplayAlong.{turn_without}
 
 -- ---- moments
@@ -39,7 +39,7 @@ is_replay cast pooling schedule last out = (last.moment, last_moment cast poolin
 pub has_buffers : (cast : Cast) (pooling : Pooling) (schedule : List Turns) (marks : List (List Mark)) → Replay cast schedule marks
     → (last : Pooled) × PooledReplay cast pooling schedule last × (marks ≡ marks_at cast last.moment)
 has_buffers cast pooling schedule marks (end, out, is) =
-    let all = play_behind (λ (p : Pooled). p.moment) (pooled_rules cast pooling) (moment_rules cast) (shows_moments cast pooling)
+    let all = play_after (λ (p : Pooled). p.moment) (pooled_rules cast pooling) (moment_rules cast) (shows_moments cast pooling)
     (length cast.passings) (first_pooled cast pooling) schedule end out in
     (all.0, all.1, is ∙ ap (marks_at cast) (sym all.2))
 

@@ -21,7 +21,7 @@ use Rattle.step_sim.specs.declared.turns.Turns.TheVariants.{Thread, Patcher as P
 use Rattle.step_sim.specs.Plays.{turns}
 use Rattle.step_sim.specs.Replay.{Cast, first_moment, of_thread, thread_turn}
 use Rattle.step_sim.specs.Replayed.{cast_of}
-use Rattle.step_sim.specs.Pool.{Fresh, Item, Pooled, Pooling, Segment, Stock, first_pooled, first_stock, pooled_step, pooled_turn, queued, stock_behind}
+use Rattle.step_sim.specs.Pool.{Fresh, Item, Pooled, Pooling, Segment, Stock, first_pooled, first_stock, pooled_step, pooled_turn, queued, stock_after}
 use Rattle.step_sim.specs.private.Turns.{AllPooledRunOut, pooled_line}
 use Rattle.traced_run.specs.Kept.{stamp_of}
 use Rattle.step_sim.specs.private.Standing.{AllHaveBegun, IsPatcherAt}
@@ -37,8 +37,8 @@ queued_length : (item : Item) (stock : Stock) → length (queued item stock).que
 queued_length item stock =
     omega (arith, length-drop 1 (stock.queue ++ item ∷ []), length-append stock.queue (item ∷ []))
 
-behind_length : (thread before after : ℕ) (stock : Stock) → length (stock_behind thread before after stock).queue ≡ length stock.queue
-behind_length thread before after stock = by_test (nat_lt 0 before && (after == before + 1))
+after_length : (thread before after : ℕ) (stock : Stock) → length (stock_after thread before after stock).queue ≡ length stock.queue
+after_length thread before after stock = by_test (nat_lt 0 before && (after == before + 1))
   where
     by_test : (b : Bool) → length (if b then queued (Segment thread (before - 1)) stock else stock).queue ≡ length stock.queue
     by_test true = queued_length (Segment thread (before - 1)) stock
@@ -52,7 +52,7 @@ turns_keep (suc n) turn keeps pooled = turns_keep n turn keeps (turn pooled) ∙
 turn_keeps : (cast : Cast) (pooling : Pooling) (thread n : ℕ) (pooled : Pooled)
     → length (turns n (pooled_turn cast pooling thread) pooled).stock.queue ≡ length pooled.stock.queue
 turn_keeps cast pooling thread n pooled =
-    turns_keep n (pooled_turn cast pooling thread) (λ x. behind_length thread (pooling.segment_count thread x.moment)
+    turns_keep n (pooled_turn cast pooling thread) (λ x. after_length thread (pooling.segment_count thread x.moment)
     (pooling.segment_count thread (thread_turn cast thread x.moment)) x.stock) pooled
 
 line_keeps : (cast : Cast) (pooling : Pooling) (pooled : Pooled) (line : Turns)

@@ -9,7 +9,7 @@ use Rattle.std.proofs.lemmas.Option.{unwrap_or-slice_get}
 use Rattle.xray_image.specs.Program.{Program}
 use Rattle.patch_script.specs.declared.command.Command.{Command}
 use Rattle.patch_script.specs.declared.micro.Micro.{Micro}
-use Rattle.patch_script.specs.Micros.{hold_of, micros_behind, numbers, patches, start_of, steps_of, total_of}
+use Rattle.patch_script.specs.Micros.{hold_of, micros_after, numbers, patches, start_of, steps_of, total_of}
 use Rattle.patch_script.specs.CodeAt.{code_at}
 use Rattle.machine_step.specs.Loads.{Load}
 use Rattle.machine_step.specs.Follows.{Follows, none, later, loaded}
@@ -92,14 +92,14 @@ patcher_along cast m within along thread some =
 
 -- the first commands have at most as many micro steps as all commands
 pub front_steps : (program : Program) (earlier : List ℕ) (n : ℕ) (script : List Command)
-    → length (micros_behind program earlier (take n script)) ≤ length (micros_behind program earlier script)
+    → length (micros_after program earlier (take n script)) ≤ length (micros_after program earlier script)
 front_steps program earlier zero script = omega arith
 front_steps program earlier (suc n) [] = omega arith
 front_steps program earlier (suc n) (command ∷ rest) =
-    let behind : List ℕ = earlier ++ numbers (patches program command) in
+    let following : List ℕ = earlier ++ numbers (patches program command) in
     let steps : List Micro = steps_of program earlier command in
-    let front = front_steps program behind n rest in
-    omega (arith, length-append steps (micros_behind program behind (take n rest)), length-append steps (micros_behind program behind rest))
+    let front = front_steps program following n rest in
+    omega (arith, length-append steps (micros_after program following (take n rest)), length-append steps (micros_after program following rest))
 
 pub no_loads : (lists : List (List ℕ)) (i : ℕ) → ◌≡◌ {A = List Load} (get_or (map (λ _. []) lists) i []) []
 no_loads [] i = refl

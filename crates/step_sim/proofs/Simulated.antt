@@ -14,7 +14,7 @@ use Rattle.machine_step.specs.declared.setup.Setup.{Setup}
 use Rattle.machine_step.specs.Loads.{marks_of}
 use Rattle.machine_step.specs.PlainStep.{Passing, PlainRun}
 use Rattle.machine_step.specs.Traced.{Traced, sleds_of}
-use Rattle.traced_run.specs.Kept.{buffers_behind, kept_buffers, segment_count, segments_of, thread_buffers}
+use Rattle.traced_run.specs.Kept.{buffers_after, kept_buffers, segment_count, segments_of, thread_buffers}
 use Rattle.traced_run.specs.Left.{HasRun}
 use Rattle.traced_run.specs.Runs.{ThreadRun, events_of}
 use Rattle.traced_run.proofs.RecordedEvents.{recorded_short}
@@ -191,10 +191,10 @@ is_simulated program script schedule lines setup passed count p ts pool sealed s
     buffers_are : buffers ≡ kept_buffers setup runs
     buffers_are =
         left.buffers_are ∙ all_gathered r.stamp r.threads its last.stock pool end.at.holds
-        ∙ enumerated_buffers (λ t. buffers_behind r.stamp (segments_among t last.stock.taken) t (segments_in r.stamp its t)) (thread_buffers setup)
+        ∙ enumerated_buffers (λ t. buffers_after r.stamp (segments_among t last.stock.taken) t (segments_in r.stamp its t)) (thread_buffers setup)
         runs 1 setup.threads all.count (λ j run found.
-        ap (λ (n : ℕ). buffers_behind r.stamp n (1 + j) (segments_in r.stamp its (1 + j))) (sym (all.each j run found).lost)
-        ∙ ap (buffers_behind r.stamp run.lost (1 + j)) (sym (segments_same r last ts (1 + j) run (omega arith) (all.each j run found))))
+        ap (λ (n : ℕ). buffers_after r.stamp n (1 + j) (segments_in r.stamp its (1 + j))) (sym (all.each j run found).lost)
+        ∙ ap (buffers_after r.stamp run.lost (1 + j)) (sym (segments_same r last ts (1 + j) run (omega arith) (all.each j run found))))
 
     replay_is : IsReplayOf program script schedule setup runs
     replay_is = record {

@@ -27,13 +27,13 @@ use Rattle.step_sim.proofs.TurnLemmas.{turn_length, turn_own, turns_hold, turns_
 -- made fewer, and one that is marked keeps its mark.
 abbrev Goes : ℕ → Reading → Reading → ℕ → Load → Type 0
 Goes most (Wants word) after made load = made < most
-Goes most (Marked mark behind) after made load = after ≡ Marked mark (behind ++ load ∷ [])
+Goes most (Marked mark following) after made load = after ≡ Marked mark (following ++ load ∷ [])
 
 -- the same with one load before it
 goes_on : (most : ℕ) (reading after : Reading) (made : ℕ) (load : Load) → Goes most reading after made load
     → Goes (suc most) reading after (suc made) load
 goes_on most (Wants word) after made load few = omega arith
-goes_on most (Marked mark behind) after made load same = same
+goes_on most (Marked mark following) after made load same = same
 
 -- a test is true or false
 by_test : (b : Bool) (M : Bool → Type 0) → M true → M false → M b
@@ -95,7 +95,7 @@ head_goes program sled (first ∷ loads) load =
 -- only the later ones have loads left.
 abbrev left_of : Reading → ℕ → ℕ → (List Load → ℕ) → ℕ
 left_of (Wants word) made whole later = (6 - made) + whole
-left_of (Marked mark behind) made whole later = later behind
+left_of (Marked mark following) made whole later = later following
 
 -- the most loads that are left to a thread that passes these sleds and isn't held
 abbrev left : Program → List ℕ → List Load → ℕ
@@ -107,15 +107,15 @@ left_few : (program : Program) (sleds : List ℕ) (loads : List Load) → left p
 left_few program [] loads = omega arith
 left_few program (sled ∷ sleds) loads = by_reading (left_few program sleds) (from_head program sled loads)
   where
-    by_reading : ((behind : List Load) → left program sleds behind ≤ 6 * length sleds) → (r : Reading)
+    by_reading : ((following : List Load) → left program sleds following ≤ 6 * length sleds) → (r : Reading)
         → left_of r (length loads) (6 * length sleds) (left program sleds) ≤ 6 * suc (length sleds)
     by_reading few (Wants word) = omega arith
-    by_reading few (Marked mark behind) = omega (arith, few behind)
+    by_reading few (Marked mark following) = omega (arith, few following)
 
 -- the word that is wanted after loads that bring a passing this far
 abbrev wanted_of : Reading → (List Load → Option ℕ) → Option ℕ
 wanted_of (Wants word) later = Some word
-wanted_of (Marked mark behind) later = later behind
+wanted_of (Marked mark following) later = later following
 
 -- the next load of a thread, by how far its loads bring the first of its passings
 next_is : (program : Program) (thread number sled : ℕ) (sleds : List ℕ) (loads : List Load) (r : Reading) → from_head program sled loads ≡ r
@@ -127,22 +127,22 @@ next_is program thread number sled sleds loads (Marked mark more) e = rw e refl
 fewer_left : (program : Program) (sleds : List ℕ) (made : ℕ) (r : Reading) → made < 6
     → left_of r (made + 1) (6 * length sleds) (left program sleds) < (6 - made) + 6 * length sleds
 fewer_left program sleds made (Wants word) few = omega arith
-fewer_left program sleds made (Marked mark behind) few = omega (arith, left_few program sleds behind)
+fewer_left program sleds made (Marked mark following) few = omega (arith, left_few program sleds following)
 
 -- each load leaves fewer
 left_falls : (program : Program) (thread number : ℕ) (sleds : List ℕ) (loads : List Load) (load : Load) (word : ℕ)
     → next_from program thread None number sleds loads ≡ Some word → left program sleds (loads ++ load ∷ []) < left program sleds loads
 left_falls program thread number [] loads load word wants = cc
 left_falls program thread number (sled ∷ sleds) loads load word wants =
-    by_reading (λ behind. left_falls program thread (number + 1) sleds behind load word)
+    by_reading (λ following. left_falls program thread (number + 1) sleds following load word)
     (from_head program sled loads) (from_head program sled (loads ++ load ∷ [])) (head_goes program sled loads load)
     (sym (next_is program thread number sled sleds loads (from_head program sled loads) refl) ∙ wants)
   where
     one_more : length (loads ++ load ∷ []) ≡ length loads + 1
     one_more = length-append loads (load ∷ [])
 
-    by_reading : ((behind : List Load) → next_from program thread None (number + 1) sleds behind ≡ Some word
-        → left program sleds (behind ++ load ∷ []) < left program sleds behind)
+    by_reading : ((following : List Load) → next_from program thread None (number + 1) sleds following ≡ Some word
+        → left program sleds (following ++ load ∷ []) < left program sleds following)
         → (r after : Reading) → Goes 6 r after (length loads) load
         → wanted_of r (next_from program thread None (number + 1) sleds) ≡ Some word
         → left_of after (length (loads ++ load ∷ [])) (6 * length sleds) (left program sleds)
@@ -150,9 +150,9 @@ left_falls program thread number (sled ∷ sleds) loads load word wants =
     by_reading falls (Wants wanted) after few e =
         subst (λ (made : ℕ). left_of after made (6 * length sleds) (left program sleds) < (6 - length loads) + 6 * length sleds)
         (sym one_more) (fewer_left program sleds (length loads) after few)
-    by_reading falls (Marked mark behind) after same e =
-        subst (λ (r : Reading). left_of r (length (loads ++ load ∷ [])) (6 * length sleds) (left program sleds) < left program sleds behind)
-        (sym same) (falls behind e)
+    by_reading falls (Marked mark following) after same e =
+        subst (λ (r : Reading). left_of r (length (loads ++ load ∷ [])) (6 * length sleds) (left program sleds) < left program sleds following)
+        (sym same) (falls following e)
 
 -- ---- a thread runs out
 
@@ -180,17 +180,17 @@ by_word None M at_none at_some = at_none refl
 by_word (Some word) M at_none at_some = at_some word refl
 
 -- a thread that isn't held ends after finitely many turns
-ends_behind : (cast : Cast) (thread : ℕ) → hold_of thread cast.script ≡ None → (most : ℕ) (m : Moment) → thread - 1 < length m.loads
+ends_after : (cast : Cast) (thread : ℕ) → hold_of thread cast.script ≡ None → (most : ℕ) (m : Moment) → thread - 1 < length m.loads
     → left_at cast thread m ≤ most → Ends (moment_rules cast) thread m
-ends_behind cast thread free zero m within few =
+ends_after cast thread free zero m within few =
     by_word (wanted_by cast thread m) (Ends (moment_rules cast) thread m) (λ e. (0, e))
     (λ word e. let falls = turn_falls cast thread m word free within e in absurd (omega arith))
-ends_behind cast thread free (suc most) m within few =
+ends_after cast thread free (suc most) m within few =
     by_word (wanted_by cast thread m) (Ends (moment_rules cast) thread m) (λ e. (0, e))
     (λ word e.
     let falls = turn_falls cast thread m word free within e in
     let there : thread - 1 < length (thread_turn cast thread m).loads = omega (arith, turn_length cast thread m) in
-    one_before cast thread m (ends_behind cast thread free most (thread_turn cast thread m) there (omega arith)))
+    one_before cast thread m (ends_after cast thread free most (thread_turn cast thread m) there (omega arith)))
 
 -- ---- all threads run out
 
@@ -217,7 +217,7 @@ some_marks cast schedule free =
     let begun : length (first_moment cast).loads ≡ length cast.passings = length-map cast.passings (λ _. []) in
     let room : length (scheduled cast schedule).loads ≡ length (first_moment cast).loads = lines_length cast schedule (first_moment cast) in
     let out = all_run_out (moment_rules cast) (length cast.passings) (λ m. length m.loads ≡ length cast.passings)
-    (λ thread m some few long. ends_behind cast thread (free thread) (left_at cast thread m) m (omega (arith, some, few, long)) (omega arith))
+    (λ thread m some few long. ends_after cast thread (free thread) (left_at cast thread m) m (omega (arith, some, few, long)) (omega arith))
     (λ thread n m long. turns_length cast thread n m ∙ long)
     (length cast.passings) 1 (scheduled cast schedule) (omega arith) (omega arith) (room ∙ begun) in
     (marks_at cast out.0, (out.0, out.1, refl))

@@ -16,7 +16,7 @@ use Rattle.traced_run.specs.Losses.{AreLost, recycled_of}
 use Rattle.traced_run.specs.Runs.{ThreadRun}
 use Rattle.step_sim.specs.declared.turns.Turns.{Turns}
 use Rattle.step_sim.specs.declared.turns.Turns.TheVariants.{Thread, Patcher}
-use Rattle.step_sim.specs.Pool.{Fresh, Item, Pooled, Pooling, Segment, Stock, first_stock, pooled_step, pooled_turn, queued, segments_among, serials_of, stock_behind}
+use Rattle.step_sim.specs.Pool.{Fresh, Item, Pooled, Pooling, Segment, Stock, first_stock, pooled_step, pooled_turn, queued, segments_among, serials_of, stock_after}
 use Rattle.step_sim.specs.private.Turns.{AllPooledRunOut, pooled_line}
 use Rattle.step_sim.specs.private.Holding.{below, segments_in}
 use Rattle.step_sim.specs.private.Recording.{Recording, histories}
@@ -67,9 +67,9 @@ queued_is threads spare thread serial stock low high is =
       );
     }
 
-behind_is : (threads spare thread before after : ℕ) (stock : Stock) → 1 ≤ thread → thread ≤ threads → StockIs threads spare stock
-    → StockIs threads spare (stock_behind thread before after stock)
-behind_is threads spare thread before after stock low high is = by_test (nat_lt 0 before && (after == before + 1))
+after_is : (threads spare thread before after : ℕ) (stock : Stock) → 1 ≤ thread → thread ≤ threads → StockIs threads spare stock
+    → StockIs threads spare (stock_after thread before after stock)
+after_is threads spare thread before after stock low high is = by_test (nat_lt 0 before && (after == before + 1))
   where
     by_test : (b : Bool) → StockIs threads spare (if b then queued (Segment thread (before - 1)) stock else stock)
     by_test true = queued_is threads spare thread (before - 1) stock low high is
@@ -86,7 +86,7 @@ thread_is : (cast : Cast) (pooling : Pooling) (threads spare thread n : ℕ) (x 
     → StockIs threads spare (turns n (pooled_turn cast pooling thread) x).stock
 thread_is cast pooling threads spare thread n x low high is =
     turns_are threads spare n (pooled_turn cast pooling thread)
-    (λ y. behind_is threads spare thread (pooling.segment_count thread y.moment) (pooling.segment_count thread (thread_turn cast thread y.moment)) y.stock low high)
+    (λ y. after_is threads spare thread (pooling.segment_count thread y.moment) (pooling.segment_count thread (thread_turn cast thread y.moment)) y.stock low high)
     x is
 
 line_is : (cast : Cast) (pooling : Pooling) (threads spare : ℕ) (line : Turns) (x : Pooled) → AreTurnsOf threads line → StockIs threads spare x.stock

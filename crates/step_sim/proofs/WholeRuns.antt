@@ -34,15 +34,15 @@ next_wants : (program : Program) (thread : ℕ) (hold : Option ℕ) (number sled
     → from_start program thread (is_held_at hold number) sled loads ≡ Wants word → next_from program thread hold number (sled ∷ sleds) loads ≡ Some word
 next_wants program thread hold number sled sleds loads word e = rw e refl
 
-next_marked : (program : Program) (thread : ℕ) (hold : Option ℕ) (number sled : ℕ) (sleds : List ℕ) (loads behind : List Load) (mark : Mark)
-    → from_start program thread (is_held_at hold number) sled loads ≡ Marked mark behind
-    → next_from program thread hold number (sled ∷ sleds) loads ≡ next_from program thread hold (number + 1) sleds behind
-next_marked program thread hold number sled sleds loads behind mark e = rw e refl
+next_marked : (program : Program) (thread : ℕ) (hold : Option ℕ) (number sled : ℕ) (sleds : List ℕ) (loads following : List Load) (mark : Mark)
+    → from_start program thread (is_held_at hold number) sled loads ≡ Marked mark following
+    → next_from program thread hold number (sled ∷ sleds) loads ≡ next_from program thread hold (number + 1) sleds following
+next_marked program thread hold number sled sleds loads following mark e = rw e refl
 
-marks_marked : (program : Program) (thread : ℕ) (hold : Option ℕ) (number sled : ℕ) (sleds : List ℕ) (loads behind : List Load) (mark : Mark)
-    → from_start program thread (is_held_at hold number) sled loads ≡ Marked mark behind
-    → marks_from program thread hold number (sled ∷ sleds) loads ≡ mark ∷ marks_from program thread hold (number + 1) sleds behind
-marks_marked program thread hold number sled sleds loads behind mark e = rw e refl
+marks_marked : (program : Program) (thread : ℕ) (hold : Option ℕ) (number sled : ℕ) (sleds : List ℕ) (loads following : List Load) (mark : Mark)
+    → from_start program thread (is_held_at hold number) sled loads ≡ Marked mark following
+    → marks_from program thread hold number (sled ∷ sleds) loads ≡ mark ∷ marks_from program thread hold (number + 1) sleds following
+marks_marked program thread hold number sled sleds loads following mark e = rw e refl
 
 -- each of its passings has a mark
 each_marked : (program : Program) (thread : ℕ) (hold : Option ℕ) (number : ℕ) (sleds : List ℕ) (loads : List Load)
@@ -51,16 +51,16 @@ each_marked program thread hold number [] loads none = refl
 each_marked program thread hold number (sled ∷ sleds) loads none =
     by_reading (each_marked program thread hold (number + 1) sleds) (from_start program thread (is_held_at hold number) sled loads) refl
   where
-    by_reading : ((behind : List Load) → next_from program thread hold (number + 1) sleds behind ≡ None
-        → length (marks_from program thread hold (number + 1) sleds behind) ≡ length sleds)
+    by_reading : ((following : List Load) → next_from program thread hold (number + 1) sleds following ≡ None
+        → length (marks_from program thread hold (number + 1) sleds following) ≡ length sleds)
         → (r : Reading) → from_start program thread (is_held_at hold number) sled loads ≡ r
         → length (marks_from program thread hold number (sled ∷ sleds) loads) ≡ suc (length sleds)
     by_reading others (Wants word) e =
         let one : ◌≡◌ {A = Option ℕ} (Some word) None = sym (next_wants program thread hold number sled sleds loads word e) ∙ none in absurd cc
-    by_reading others (Marked mark behind) e =
-        ap length (marks_marked program thread hold number sled sleds loads behind mark e)
-        ∙ ap suc (others behind
-        (sym (next_marked program thread hold number sled sleds loads behind mark e) ∙ none))
+    by_reading others (Marked mark following) e =
+        ap length (marks_marked program thread hold number sled sleds loads following mark e)
+        ∙ ap suc (others following
+        (sym (next_marked program thread hold number sled sleds loads following mark e) ∙ none))
 
 -- ---- all threads at the end
 

@@ -28,8 +28,8 @@ queued item stock = record { queue = drop 1 (stock.queue ++ item ∷ []); taken 
 
 -- The stock after a turn of a thread. If the events of the thread have one more segment than before, and had at least
 -- one, the segment that was open goes to the queue.
-abbrev pub stock_behind : ℕ → ℕ → ℕ → Stock → Stock
-stock_behind thread before after stock =
+abbrev pub stock_after : ℕ → ℕ → ℕ → Stock → Stock
+stock_after thread before after stock =
     if nat_lt 0 before && (after == before + 1) then queued (Segment thread (before - 1)) stock else stock
 
 -- where a replay with buffers is
@@ -46,7 +46,7 @@ first_pooled cast pooling = record { moment = first_moment cast; stock = first_s
 
 -- a thread's turn is its turn at the moment, together with what it does to the queue
 abbrev pub pooled_turn : Cast → Pooling → ℕ → Pooled → Pooled
-pooled_turn cast pooling thread pooled = record { moment = after; stock = stock_behind thread (segments_at pooled.moment) (segments_at after) pooled.stock }
+pooled_turn cast pooling thread pooled = record { moment = after; stock = stock_after thread (segments_at pooled.moment) (segments_at after) pooled.stock }
   where
     after : Moment
     after = thread_turn cast thread pooled.moment

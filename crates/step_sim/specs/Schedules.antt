@@ -32,8 +32,8 @@ steps_of words = Unknown
 -- what words say: `t T K`, or `p K`
 abbrev pub said_by : List (List ℕ) → Said
 said_by [] = Nothing
-said_by (who ∷ behind) =
-    if is_word who (codes "t") then loads_of behind else if is_word who (codes "p") then steps_of behind else Unknown
+said_by (who ∷ following) =
+    if is_word who (codes "t") then loads_of following else if is_word who (codes "p") then steps_of following else Unknown
 
 -- the turns of a line, if it gives any
 abbrev pub turns_said : Said → List Turns

@@ -4,15 +4,12 @@ ghost use Rattle.std.specs.Prelude.{◌≡◌, ◌<◌, ◌+◌, ℕ, List, Some
 ghost use Rattle.xray_image.specs.Program.{Program};
 ghost use Rattle.sled_words.specs.Allowed.{IsAllowed};
 ghost use Rattle.patch_script.specs.declared.command.Command.{Command};
-ghost use Rattle.patch_script.specs.CodeAt.{code_at};
-ghost use Rattle.patch_script.specs.Micros.{hold_of};
+ghost use Rattle.patch_script.specs.{CodeAt.{code_at}, Micros.{hold_of}};
 ghost use Rattle.machine_step.specs.declared.setup.Setup.{Setup};
-ghost use Rattle.traced_run.specs.Decoded.{DecodesWhole};
-ghost use Rattle.traced_run.specs.Runs.{ThreadRun};
+ghost use Rattle.traced_run.specs.{Decoded.{DecodesWhole}, Runs.{ThreadRun}};
 ghost use Rattle.step_sim.specs.declared.turns.Turns.{Turns as Line};
 ghost use Rattle.step_sim.specs.Along.{IsAlong, NamesThread, TearsNoSled};
-ghost use Rattle.step_sim.specs.Schedules.{schedule_of};
-ghost use Rattle.step_sim.specs.Plays.{Plays};
+ghost use Rattle.step_sim.specs.{Schedules.{schedule_of}, Plays.{Plays}};
 ghost use Rattle.step_sim.specs.Replay.{Cast, Moment, first_moment, moment_rules, of_thread, patcher_turn, thread_turn, wanted_by};
 ghost use Rattle.step_sim.specs.Replayed.{IsReplayOf};
 

@@ -2,13 +2,11 @@
 ghost use Rattle.std.specs.Prelude.{◌≡◌, ℕ, All, List, None, Ok};
 ghost use Rattle.xray_image.specs.Program.{IsAccepted, Program};
 ghost use Rattle.patch_script.specs.declared.command.Command.{Command};
-ghost use Rattle.patch_script.specs.Micros.{hold_of};
-ghost use Rattle.patch_script.specs.Plans.{waiting_line};
+ghost use Rattle.patch_script.specs.{Micros.{hold_of}, Plans.{waiting_line}};
 ghost use Rattle.patch_script.specs.Refusals.{Lines, commands_of};
 ghost use Rattle.handler_word.specs.declared.mark.Mark.{Mark};
 ghost use Rattle.machine_step.specs.declared.setup.Setup.{Setup};
-ghost use Rattle.traced_run.specs.Losses.{AreLost};
-ghost use Rattle.traced_run.specs.Runs.{ThreadRun};
+ghost use Rattle.traced_run.specs.{Losses.{AreLost}, Runs.{ThreadRun}};
 ghost use Rattle.step_sim.specs.declared.turns.Turns.{Turns as Line};
 ghost use Rattle.step_sim.specs.Pool.{Pooled, PooledReplay, Pooling};
 ghost use Rattle.step_sim.specs.Replay.{Cast, Replay, marks_at};

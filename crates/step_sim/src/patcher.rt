@@ -4,8 +4,7 @@ ghost use Rattle.std.specs.Prelude.{◌≡◌, ◌≤◌, ◌<◌, ◌+◌, ℕ,
 ghost use Rattle.std.specs.Bool.{OnFalse};
 ghost use Rattle.xray_image.specs.Program.{Program};
 ghost use Rattle.patch_script.specs.declared.command.Command.{Command};
-ghost use Rattle.patch_script.specs.Micros.{start_of, total_of};
-ghost use Rattle.patch_script.specs.Refusals.{commands_of};
+ghost use Rattle.patch_script.specs.{Micros.{start_of, total_of}, Refusals.{commands_of}};
 ghost use Rattle.patch_script.specs.StoredWords.{stored};
 
 use patch_script::{Micro, Script, stores_give_the_code};

@@ -4,7 +4,7 @@ ghost use Rattle.std.specs.Prelude.{◌≡◌, ◌≢◌, ◌<◌, ◌≤◌, �
 ghost use Rattle.std.specs.List.{flat_map};
 ghost use Rattle.fdr_buffer.specs.Filled.{Filled, empty_buffer};
 ghost use Rattle.step_sim.specs.Recorded.{numbers_from};
-ghost use Rattle.step_sim.specs.private.Counts.{CanLose, is_of, lost_behind, segments_held};
+ghost use Rattle.step_sim.specs.private.Counts.{CanLose, is_of, lost_after, segments_held};
 
 use crate::ring::Ring;
 use fdr_buffer::{Buffer, LARGEST_SIZE, LEAST_SIZE, a_segment_grows, segments_hold_all};
@@ -222,7 +222,7 @@ fn take_of(rest: &mut Vec<Buffer>, thread: u32, kept: &mut Vec<Buffer>)
 /// queue say whose it was.
 fn count_lost(first: &mut Vec<u32>, sealed: &[u32], taken: &Buffer)
     requires { taken.now.begun ≡ true → CanLose first.old.items sealed.now taken.now.thread }
-    ensures { first.new.items ≡ lost_behind taken.now first.old.items }
+    ensures { first.new.items ≡ lost_after taken.now first.old.items }
 {
     if taken.begun() {
         let owner = taken.thread() as usize - 1;

@@ -1,11 +1,9 @@
 //! A replay before its first turn. All its memory is asked for here.
 
 ghost use Rattle.std.specs.Prelude.{◌≡◌, ◌≤◌, ◌↔◌, ℕ, All, Err, Some, IfOk, length};
-ghost use Rattle.patch_script.specs.Plans.{waiting_line};
-ghost use Rattle.patch_script.specs.Refusals.{commands_of};
+ghost use Rattle.patch_script.specs.{Plans.{waiting_line}, Refusals.{commands_of}};
 ghost use Rattle.step_sim.specs.declared.sim_fault.SimFault.TheVariants.{Waits};
-ghost use Rattle.step_sim.specs.Replayed.{IsSimulated};
-ghost use Rattle.step_sim.specs.Schedules.{AreTurnsOf};
+ghost use Rattle.step_sim.specs.{Replayed.{IsSimulated}, Schedules.{AreTurnsOf}};
 ghost use Rattle.step_sim.specs.private.Standing.{AllHaveBegun};
 
 use crate::patcher::Patcher;

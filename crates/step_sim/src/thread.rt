@@ -4,13 +4,10 @@ ghost use Rattle.std.specs.Prelude.{◌≡◌, ◌<◌, ◌≤◌, List, IfNone,
 ghost use Rattle.std.specs.Bool.{OnFalse, OnTrue};
 ghost use Rattle.patch_script.specs.Refusals.{commands_of};
 ghost use Rattle.machine_step.specs.declared.want.Want.{Want};
-ghost use Rattle.machine_step.specs.Loads.{Load};
-ghost use Rattle.machine_step.specs.PlainStep.{Passing};
+ghost use Rattle.machine_step.specs.{Loads.{Load}, PlainStep.{Passing}};
 ghost use Rattle.machine_step.specs.Traced.{HasLoaded, IsGate, IsSameThread, loads_left};
-ghost use Rattle.step_sim.specs.Plays.{turns};
-ghost use Rattle.step_sim.specs.Replay.{Cast, Moment, thread_turn};
-ghost use Rattle.step_sim.specs.private.Turns.{RunsOut};
-ghost use Rattle.step_sim.specs.private.Standing.{HasBegun, Rests, StandAt};
+ghost use Rattle.step_sim.specs.{Plays.{turns}, Replay.{Cast, Moment, thread_turn}};
+ghost use Rattle.step_sim.specs.private.{Turns.{RunsOut}, Standing.{HasBegun, Rests, StandAt}};
 ghost use Rattle.step_sim.specs.Pool.{Pooled};
 ghost use Rattle.step_sim.specs.private.Turns.{PooledRunsOut};
 ghost use Rattle.step_sim.specs.private.Recording.{RecordAt, Recording, Records, pooling_in, turn_in};

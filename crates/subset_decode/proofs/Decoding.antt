@@ -17,7 +17,7 @@ pub record StandsAt (bytes : List ℕ) (at : ℕ) (i : Instr) (next : ℕ) : Typ
   pub named : IsNamed i
   pub begins : Begins (spelling i) (drop at bytes)
   pub next_is : next ≡ at + length (spelling i)
-  pub behind : at < next
+  pub following : at < next
   pub within : next ≤ length bytes
 
 -- what the decoder gives for the bytes from the place on
@@ -56,7 +56,7 @@ stands bytes at i rest within fits e =
         named = f.0;
         begins = (rest, f.1);
         next_is = omega (arith, parts, length-drop at bytes);
-        behind = omega (arith, parts, length-drop at bytes, spelling_not_empty i);
+        following = omega (arith, parts, length-drop at bytes, spelling_not_empty i);
         within = omega arith;
       },
     )

@@ -58,12 +58,12 @@ four_bytes a b c d p q r s (suc (suc zero)) = r
 four_bytes a b c d p q r s (suc (suc (suc zero))) = s
 four_bytes a b c d p q r s (suc (suc (suc (suc i)))) = omega arith
 
-field_of_part : (bytes behind : List ℕ) (b : ℕ) → length (bytes ++ b ∷ behind) ≡ 4 → IsBytes (bytes ++ b ∷ behind) → IsPart bytes
-field_of_part bytes behind b wide h = record {
-  number = little_number 4 (bytes ++ b ∷ behind);
-  fits = number_fits (bytes ++ b ∷ behind) h;
+field_of_part : (bytes following : List ℕ) (b : ℕ) → length (bytes ++ b ∷ following) ≡ 4 → IsBytes (bytes ++ b ∷ following) → IsPart bytes
+field_of_part bytes following b wide h = record {
+  number = little_number 4 (bytes ++ b ∷ following);
+  fits = number_fits (bytes ++ b ∷ following) h;
   next = b;
-  begins = (behind, number_back (bytes ++ b ∷ behind) wide h ∙ sym (append_assoc bytes (b ∷ []) behind));
+  begins = (following, number_back (bytes ++ b ∷ following) wide h ∙ sym (append_assoc bytes (b ∷ []) following));
 }
 
 pub cut_field : (bytes : List ℕ) → length bytes < 4 → IsBytes bytes → IsPart bytes

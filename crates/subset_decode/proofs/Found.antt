@@ -55,12 +55,12 @@ bank_below bank front low b = omega arith
 bank_below bank front high b = omega arith
 
 -- a prefix of an encoding that lacks some of its bytes is cut off
-cut_behind : (front : List ℕ) (i : Instr) (next : ℕ) (rest : List ℕ) → IsNamed i → spelling i ≡ front ++ next ∷ rest → IsCut front
-cut_behind front i next rest h e = (i, h, next, (rest, e ∙ sym (append_assoc front (next ∷ []) rest)))
+cut_after : (front : List ℕ) (i : Instr) (next : ℕ) (rest : List ℕ) → IsNamed i → spelling i ≡ front ++ next ∷ rest → IsCut front
+cut_after front i next rest h e = (i, h, next, (rest, e ∙ sym (append_assoc front (next ∷ []) rest)))
 
 bank_cut : (bank : ℕ) (front : List ℕ) → Bank bank front → IsCut front
-bank_cut bank front low = cut_behind [] Ret 0xC3 [] tt refl
-bank_cut bank front high = cut_behind (0x41 ∷ []) (Push 8) 0x50 [] (search rules) refl
+bank_cut bank front low = cut_after [] Ret 0xC3 [] tt refl
+bank_cut bank front high = cut_after (0x41 ∷ []) (Push 8) 0x50 [] (search rules) refl
 
 register_is : (n : ℕ) → n < 16 → is_reserved n ≡ false → IsRegister n
 register_is n lt e =
@@ -229,7 +229,7 @@ ReadsOperands d s p opcode make = (t : List ℕ) → instr_at (p ∷ opcode ∷ 
 operands_holds : (opcode : ℕ) (make : ℕ → ℕ → Instr) → IsTwo opcode make → (d s p : ℕ) → Prefix d s p → ReadsOperands d s p opcode make → (rest : List ℕ) → IsBytes rest → Holds (p ∷ opcode ∷ rest) (two_at make d s rest)
 operands_holds opcode make is d s p at reads [] bytes =
     let banks = prefix_banks d s p at in
-    cut_behind (p ∷ opcode ∷ []) (make d s) 0xC0 [] (is.named d s banks.0 banks.1) (is.spelled d s ∙ least_modrm d s p at opcode)
+    cut_after (p ∷ opcode ∷ []) (make d s) 0xC0 [] (is.named d s banks.0 banks.1) (is.spelled d s ∙ least_modrm d s p at opcode)
 operands_holds opcode make is d s p at reads (q ∷ rest) bytes =
     let banks = prefix_banks d s p at in
     let dst = d + q % 8 in
@@ -237,7 +237,7 @@ operands_holds opcode make is d s p at reads (q ∷ rest) bytes =
     let below = operands_below d s p at q in
     elim (cases_Bool (ltb q 0xC0)) [
       | inl memory ↦
-          let cut = cut_behind (p ∷ opcode ∷ []) (make d s) 0xC0 [] (is.named d s banks.0 banks.1) (is.spelled d s ∙ least_modrm d s p at opcode) in
+          let cut = cut_after (p ∷ opcode ∷ []) (make d s) 0xC0 [] (is.named d s banks.0 banks.1) (is.spelled d s ∙ least_modrm d s p at opcode) in
           rw memory (stops (p ∷ opcode ∷ []) q rest cut (λ t. reads (q ∷ t) ∙ rw memory refl))
       | inr form ↦
           let spelled : spelling (make dst src) ≡ p ∷ opcode ∷ q ∷ [] = is.spelled dst src ∙ modrm_is d s p at opcode q (ltb-false q 0xC0 form) (bytes 0) in
@@ -255,7 +255,7 @@ arithmetic_holds : (d s p : ℕ) → Prefix d s p → (rest : List ℕ) → IsBy
 unfolding arithmetic_at
 arithmetic_holds d s p at [] bytes =
     let banks = prefix_banks d s p at in
-    cut_behind (p ∷ []) (Add d s) 0x01 (0xC0 ∷ []) banks (least_modrm d s p at 0x01)
+    cut_after (p ∷ []) (Add d s) 0x01 (0xC0 ∷ []) banks (least_modrm d s p at 0x01)
 arithmetic_holds d s p at (b ∷ rest) bytes =
     let banks = prefix_banks d s p at in
     let tail = IsBytes-rest b rest bytes in
@@ -266,7 +266,7 @@ arithmetic_holds d s p at (b ∷ rest) bytes =
         | inl sub ↦
             rw (not_add.0, sub.0) (subst (λ (k : ℕ). Holds (p ∷ k ∷ rest) (two_at Sub d s rest)) (sym sub.1) (operands_holds 0x29 Sub is_sub d s p at (λ t. prefix_reads d s p at (0x29 ∷ t)) rest tail))
         | inr not_sub ↦
-            let cut = cut_behind (p ∷ []) (Add d s) 0x01 (0xC0 ∷ []) banks (least_modrm d s p at 0x01) in
+            let cut = cut_after (p ∷ []) (Add d s) 0x01 (0xC0 ∷ []) banks (least_modrm d s p at 0x01) in
             rw (not_add.0, not_sub.0) (stops (p ∷ []) b rest cut (λ t. prefix_reads d s p at (b ∷ t) ∙ rw (not_add.0, not_sub.0) refl))
       ]
     ]
@@ -289,16 +289,16 @@ jump_holds front make all spelled rest bytes =
 
 escaped_holds : (rest : List ℕ) → IsBytes rest → Holds (0x0F ∷ rest) (escaped_at rest)
 unfolding instr_at escaped_at
-escaped_holds [] bytes = cut_behind (0x0F ∷ []) (Jnz (pos 0)) 0x85 (distance (pos 0)) (search rules) refl
+escaped_holds [] bytes = cut_after (0x0F ∷ []) (Jnz (pos 0)) 0x85 (distance (pos 0)) (search rules) refl
 escaped_holds (b ∷ rest) bytes =
     elim (eqb_tells b 0x85) [
       | inl jnz ↦
           rw jnz.0 (subst (λ (k : ℕ). Holds (0x0F ∷ k ∷ rest) (jump_then Jnz (distance_at rest))) (sym jnz.1) (jump_holds (0x0F ∷ 0x85 ∷ []) Jnz (λ rel h. h) (λ rel. refl) rest (IsBytes-rest b rest bytes)))
-      | inr other ↦ rw other.0 (stops (0x0F ∷ []) b rest (cut_behind (0x0F ∷ []) (Jnz (pos 0)) 0x85 (distance (pos 0)) (search rules) refl) (λ t. rw other.0 refl))
+      | inr other ↦ rw other.0 (stops (0x0F ∷ []) b rest (cut_after (0x0F ∷ []) (Jnz (pos 0)) 0x85 (distance (pos 0)) (search rules) refl) (λ t. rw other.0 refl))
     ]
 
 port_holds : (rest : List ℕ) → IsBytes rest → Holds (0xE6 ∷ rest) (byte_at rest >>= λ port. Ok (Out port.0, port.1))
-port_holds [] bytes = cut_behind (0xE6 ∷ []) (Out 0) 0 [] (lit< tt) refl
+port_holds [] bytes = cut_after (0xE6 ∷ []) (Out 0) 0 [] (lit< tt) refl
 port_holds (port ∷ rest) bytes = (bytes 0, refl)
 
 -- a first byte, and what is read after it

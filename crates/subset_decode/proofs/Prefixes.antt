@@ -31,20 +31,20 @@ nested_at (x ∷ a) (y ∷ b) c d e =
 pub nested : (a b bytes : List ℕ) → Begins a bytes → Begins b bytes → Begins a b ⊎ Begins b a
 nested a b bytes p q = nested_at a b p.0 q.0 (sym p.1 ∙ q.1)
 
-behind_at : (front : List ℕ) (b : ℕ) (q c d : List ℕ) → (front ++ b ∷ []) ++ c ≡ q ++ d → Begins q front ⊎ Begins (front ++ b ∷ []) q
-behind_at front b [] c d e = inl (front, refl)
-behind_at [] b (y ∷ q) c d e = let head : b ≡ y = cc in inr (q, cc)
-behind_at (x ∷ front) b (y ∷ q) c d e =
+after_at : (front : List ℕ) (b : ℕ) (q c d : List ℕ) → (front ++ b ∷ []) ++ c ≡ q ++ d → Begins q front ⊎ Begins (front ++ b ∷ []) q
+after_at front b [] c d e = inl (front, refl)
+after_at [] b (y ∷ q) c d e = let head : b ≡ y = cc in inr (q, cc)
+after_at (x ∷ front) b (y ∷ q) c d e =
     let head : x ≡ y = cc in
     let tail : (front ++ b ∷ []) ++ c ≡ q ++ d = cc in
-    elim (behind_at front b q c d tail) [
+    elim (after_at front b q c d tail) [
       | inl p ↦ inl (cons_front y x q front (sym head) p)
       | inr p ↦ inr (cons_front x y (front ++ b ∷ []) q head p)
     ]
 
 -- a prefix ends before the byte b, or goes on with it
-pub behind : (front : List ℕ) (b : ℕ) (q bytes : List ℕ) → Begins (front ++ b ∷ []) bytes → Begins q bytes → Begins q front ⊎ Begins (front ++ b ∷ []) q
-behind front b q bytes p r = behind_at front b q p.0 r.0 (sym p.1 ∙ r.1)
+pub following : (front : List ℕ) (b : ℕ) (q bytes : List ℕ) → Begins (front ++ b ∷ []) bytes → Begins q bytes → Begins q front ⊎ Begins (front ++ b ∷ []) q
+following front b q bytes p r = after_at front b q p.0 r.0 (sym p.1 ∙ r.1)
 
 ends_at : (f : List ℕ) (b : ℕ) (g : List ℕ) (d : ℕ) (x y : List ℕ) → (f ++ b ∷ []) ++ x ≡ (g ++ d ∷ []) ++ y → Begins (f ++ b ∷ []) g ⊎ (Begins (g ++ d ∷ []) f ⊎ (b ≡ d))
 ends_at [] b [] d x y e = inr (inr cc)

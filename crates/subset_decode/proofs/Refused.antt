@@ -5,7 +5,7 @@ use Rattle.subset_decode.specs.declared.fault.DecodeFault.{DecodeFault}
 use Rattle.subset_decode.specs.declared.fault.DecodeFault.TheVariants.{Short, Unknown, Register}
 use Rattle.subset_decode.specs.Encoding.{spelling, IsNamed, IsEncodable, reserved_register, Begins}
 use Rattle.subset_decode.specs.Refusals.{IsCut, StopsAt, NamesReserved, Refuses, Answers}
-use Rattle.subset_decode.proofs.Prefixes.{Begins-trans, Begins-front, Begins-all, nested, behind, ends, longer}
+use Rattle.subset_decode.proofs.Prefixes.{Begins-trans, Begins-front, Begins-all, nested, following, ends, longer}
 use Rattle.subset_decode.proofs.Decided.{named, same_instr, not_reserved}
 
 -- an instruction with a reserved register isn't of the subset
@@ -20,7 +20,7 @@ not_cut i bytes h p cut =
 
 not_stopped : (i : Instr) (b : ℕ) (bytes : List ℕ) → IsNamed i → Begins (spelling i) bytes → StopsAt b bytes → ⊥
 not_stopped i b bytes h p stop =
-    elim (behind stop.0 b (spelling i) bytes stop.1 p) [
+    elim (following stop.0 b (spelling i) bytes stop.1 p) [
       | inl q ↦ not_cut i stop.0 h q stop.2
       | inr q ↦ stop.3 i (named i h).0 q
     ]
@@ -51,7 +51,7 @@ no_further front b other none p cut =
 
 stopped_not_reserved : (b n : ℕ) (bytes : List ℕ) → StopsAt b bytes → NamesReserved n bytes → ⊥
 stopped_not_reserved b n bytes stop r =
-    elim (behind stop.0 b r.0 bytes stop.1 r.1) [
+    elim (following stop.0 b r.0 bytes stop.1 r.1) [
       | inl q ↦ cut_not_reserved n stop.0 stop.2 (r.0, q, r.2, r.3)
       | inr q ↦ stop.3 r.2.0 r.2.1 (Begins-trans (stop.0 ++ b ∷ []) r.0 (spelling r.2.0) q r.2.2)
     ]

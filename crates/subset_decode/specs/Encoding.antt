@@ -71,4 +71,4 @@ reserved_register i = find is_reserved (registers i)
 
 -- the bytes begin with this prefix
 abbrev pub Begins : List ℕ → List ℕ → Type 0
-Begins front bytes = (behind : List ℕ) × (bytes ≡ front ++ behind)
+Begins front bytes = (following : List ℕ) × (bytes ≡ front ++ following)

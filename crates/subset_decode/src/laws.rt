@@ -3,8 +3,7 @@
 ghost use Rattle.std.specs.Prelude.{◌≡◌, ◌<◌, ◌++◌, List, ℕ, All, Result, Ok};
 ghost use Rattle.subset_decode.specs.declared.instr.Instr.{Instr};
 ghost use Rattle.subset_decode.specs.declared.fault.DecodeFault.{DecodeFault};
-ghost use Rattle.subset_decode.specs.Encoding.{spelling, IsNamed, Begins};
-ghost use Rattle.subset_decode.specs.Refusals.{Answers};
+ghost use Rattle.subset_decode.specs.{Encoding.{spelling, IsNamed, Begins}, Refusals.{Answers}};
 
 /// Bytes begin with at most one instruction.
 pub fn one_instruction()
@@ -19,8 +18,8 @@ pub fn no_encoding_begins_another()
 
 /// Bytes that begin with an encoding read as its instruction and as no other, whatever follows.
 pub fn an_encoding_reads_back()
-    ensures { (i : Instr) (behind : List ℕ) → IsNamed i
-        → (a : Result Instr DecodeFault) → Answers (spelling i ++ behind) a → a ≡ Ok i }
+    ensures { (i : Instr) (following : List ℕ) → IsNamed i
+        → (a : Result Instr DecodeFault) → Answers (spelling i ++ following) a → a ≡ Ok i }
 {}
 
 /// Exactly one answer holds of any bytes: the instruction that they begin with, or one fault.

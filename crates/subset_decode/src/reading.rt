@@ -3,8 +3,7 @@
 ghost use Rattle.std.specs.Prelude.{◌≡◌, ◌≤◌, ◌<◌, ◌+◌, length, drop, IfOk, IfErr, Ok, Err};
 ghost use Rattle.subset_decode.specs.declared.instr.Instr.{Instr};
 ghost use Rattle.subset_decode.specs.declared.fault.DecodeFault.{DecodeFault};
-ghost use Rattle.subset_decode.specs.Encoding.{spelling, IsNamed, Begins};
-ghost use Rattle.subset_decode.specs.Refusals.{Refuses};
+ghost use Rattle.subset_decode.specs.{Encoding.{spelling, IsNamed, Begins}, Refusals.{Refuses}};
 ghost use Rattle.subset_decode.specs.Reading.{byte_at, field_at, distance_at, register_of, low_register_at, operands_of, arithmetic_at, escaped_at, instr_at, first_instr, Gives};
 
 use crate::fault::DecodeFault;

@@ -1,7 +1,6 @@
 //! Threads that fetch the words of a table.
 
-ghost use Rattle.std.specs.Prelude.{◌≡◌, ◌+◌, ◌<◌, ◌≤◌, All, IfOk};
-ghost use Rattle.std.specs.Thread.{IsSync};
+ghost use Rattle.std.specs.{Prelude.{◌≡◌, ◌+◌, ◌<◌, ◌≤◌, All, IfOk}, Thread.{IsSync}};
 ghost use Rattle.sled_rule.specs.Plans.{start_in};
 ghost use Rattle.sled_rule.specs.Seats.{patch_view, script_of, work_view, IsPatcherOf, IsWorkerOf};
 ghost use Rattle.table_bench.specs.private.Fetchers.{IsFresh};

@@ -27,10 +27,10 @@ line_in_front : (text : List ℕ) (end : ℕ) → Some end ≡ position ends_lin
 line_in_front text end h =
     let at = Some-position ends_line text end h in
     let within : position_or_len ends_line text < length text = omega (arith, at.0, at.1) in
-    let behind = drop (position_or_len ends_line text + 1) text in
-    let some : 0 < length (slice_split ends_line behind) = omega (arith, length-slice_split ends_line behind) in
+    let following = drop (position_or_len ends_line text + 1) text in
+    let some : 0 < length (slice_split ends_line following) = omega (arith, length-slice_split ends_line following) in
     let first : lines text ≡ strip_carriage_return (take (position_or_len ends_line text) text) ∷ lines (drop (position_or_len ends_line text + 1) text) =
-    ap lines_of_parts (slice_split_first ends_line text 0 within) ∙ lines_of_more (take (position_or_len ends_line text) text) (slice_split ends_line behind) some in
+    ap lines_of_parts (slice_split_first ends_line text 0 within) ∙ lines_of_more (take (position_or_len ends_line text) text) (slice_split ends_line following) some in
     let P : ℕ → Type 0 = λ i. lines text ≡ strip_carriage_return (take i text) ∷ lines (drop (i + 1) text) in
     subst P at.0 first
 

@@ -48,8 +48,8 @@ words_none bytes h =
     words-drop_blanks bytes ∙ ap words_between_blanks (drop_all (position_or_len is_in_word bytes) bytes (omega (arith, no)))
 
 -- the blank after a word
-words-behind : (bytes : List ℕ) (n : ℕ) → position_or_len is_blank bytes ≡ n → n < length bytes → words_between_blanks (drop n bytes) ≡ words_between_blanks (drop (n + 1) bytes)
-words-behind bytes n at within =
+words-following : (bytes : List ℕ) (n : ℕ) → position_or_len is_blank bytes ≡ n → n < length bytes → words_between_blanks (drop n bytes) ≡ words_between_blanks (drop (n + 1) bytes)
+words-following bytes n at within =
     let here : is_blank (get_or bytes n 0) ≡ true = subst (λ i. is_blank (get_or bytes i 0) ≡ true) at (passes_at_first is_blank bytes 0 (omega (arith, at))) in
     ap words_between_blanks (drop-cons bytes n 0 within)
     ∙ words-blank (get_or bytes n 0) (drop (suc n) bytes) here
@@ -64,7 +64,7 @@ words-word bytes n at some =
     subst (λ i. slice_split is_blank bytes ≡ take i bytes ∷ slice_split is_blank (drop (i + 1) bytes)) at (slice_split_first is_blank bytes 0 (omega (arith, at, lt))) in
     ap (filter has_bytes) first
     ∙ words_of_part (take n bytes) (slice_split is_blank (drop (n + 1) bytes)) long
-    ∙ ap (λ ws. take n bytes ∷ ws) (sym (words-behind bytes n at lt)) in
+    ∙ ap (λ ws. take n bytes ∷ ws) (sym (words-following bytes n at lt)) in
     let whole : length bytes ≤ n → words_between_blanks bytes ≡ take n bytes ∷ words_between_blanks (drop n bytes) = λ ge.
     let none : All (λ x. is_blank x ≡ false) bytes =
     All-from_get_or (λ x. is_blank x ≡ false) bytes 0 (λ k l. fails_before_first is_blank bytes k 0 (omega (arith, at, ge, l))) in

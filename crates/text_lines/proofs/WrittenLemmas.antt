@@ -93,9 +93,9 @@ line_bytes (word ∷ []) h =
 line_bytes (word ∷ next ∷ words) h =
     let parts = and_parts (is_written_word word) (are_written_words (next ∷ words)) h in
     let bytes = and_parts (leb 1 (length word)) (list_all is_word_byte word) parts.0 in
-    let behind = join_with_byte 32 (next ∷ words) in
-    list_all-append is_line_byte word (32 ∷ behind)
-    ∙ and_from (list_all is_line_byte word) (list_all is_line_byte (32 ∷ behind)) (all_weaker is_word_byte is_line_byte word_byte-line word bytes.1) (line_bytes (next ∷ words) parts.1)
+    let following = join_with_byte 32 (next ∷ words) in
+    list_all-append is_line_byte word (32 ∷ following)
+    ∙ and_from (list_all is_line_byte word) (list_all is_line_byte (32 ∷ following)) (all_weaker is_word_byte is_line_byte word_byte-line word bytes.1) (line_bytes (next ∷ words) parts.1)
 
 no_comment : (line : List ℕ) → list_all is_line_byte line ≡ true → before_comment line ≡ line
 no_comment line h =

@@ -6,7 +6,7 @@ use Rattle.std.proofs.lemmas.List.{length-map}
 use Rattle.fdr_record.specs.declared.event.Event.{Event}
 use Rattle.fdr_buffer.specs.Segments.{has_room, segments}
 use Rattle.fdr_buffer.proofs.Cutting.{hold_all, hold_some, is_cut}
-use Rattle.traced_run.specs.Kept.{Stamp, buffer_of, buffers_behind}
+use Rattle.traced_run.specs.Kept.{Stamp, buffer_of, buffers_after}
 
 enumerated_more : {X : Type 0} (n : ℕ) (xs : List X) (x : X) → enumerate_from n (xs ++ x ∷ []) ≡ enumerate_from n xs ++ (n + length xs, x) ∷ []
 enumerated_more n [] x =
@@ -24,14 +24,14 @@ length_enumerated n (x ∷ xs) = ap suc (length_enumerated (n + 1) xs)
 
 -- one more segment
 pub buffers_more : (stamp : Stamp) (thread : ℕ) (segs : List (List Event)) (events : List Event)
-    → buffers_behind stamp 0 thread (segs ++ events ∷ []) ≡ buffers_behind stamp 0 thread segs ++ buffer_of stamp thread (length segs, events) ∷ []
+    → buffers_after stamp 0 thread (segs ++ events ∷ []) ≡ buffers_after stamp 0 thread segs ++ buffer_of stamp thread (length segs, events) ∷ []
 buffers_more stamp thread segs events =
     let here : 0 + length segs ≡ length segs = omega arith in
     ap (map (buffer_of stamp thread)) (enumerated_more 0 segs events)
     ∙ map-append (buffer_of stamp thread) (enumerate_from 0 segs) ((0 + length segs, events) ∷ [])
-    ∙ ap (λ (k : ℕ). buffers_behind stamp 0 thread segs ++ buffer_of stamp thread (k, events) ∷ []) here
+    ∙ ap (λ (k : ℕ). buffers_after stamp 0 thread segs ++ buffer_of stamp thread (k, events) ∷ []) here
 
-pub buffers_length : (stamp : Stamp) (thread : ℕ) (segs : List (List Event)) → length (buffers_behind stamp 0 thread segs) ≡ length segs
+pub buffers_length : (stamp : Stamp) (thread : ℕ) (segs : List (List Event)) → length (buffers_after stamp 0 thread segs) ≡ length segs
 buffers_length stamp thread segs = length-map (enumerate_from 0 segs) (buffer_of stamp thread) ∙ length_enumerated 0 segs
 
 -- ---- segments

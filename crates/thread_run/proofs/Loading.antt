@@ -26,7 +26,7 @@ use Rattle.machine_step.specs.Loads.{Load, marks_of, next_load}
 use Rattle.machine_step.specs.declared.end.End.{End}
 use Rattle.machine_step.specs.declared.limits.Limits.{Limits}
 use Rattle.machine_step.specs.PlainStep.{Passing, PlainRun, State}
-use Rattle.machine_step.specs.Traced.{HasLoaded, IsFresh, IsKept, IsSameThread, IsThreadOf, IsWant, Traced, load_of, sleds_of, wanted_behind}
+use Rattle.machine_step.specs.Traced.{HasLoaded, IsFresh, IsKept, IsSameThread, IsThreadOf, IsWant, Traced, load_of, sleds_of, wanted_after}
 use Rattle.machine_step.proofs.AlongCode.{next_allowed}
 use Rattle.machine_step.proofs.WantedWords.{release_wanted}
 use Rattle.sled_rule.specs.declared.seats.WorkSeat.{WorkSeat}
@@ -100,7 +100,7 @@ marks_alike program program' thread hold hold' sleds loads a b =
 pub next_is : (t : Traced) (passed : List Passing) (loads : List Load) (word : ℕ) → HasLoaded t passed loads → t.want ≡ Loads word
     → next_load t.program t.thread t.hold (sleds_of passed) loads ≡ Some word
 next_is t passed loads word has wants =
-    subst (IsWant t passed (wanted_behind t passed loads) has.end) wants has.wants
+    subst (IsWant t passed (wanted_after t passed loads) has.end) wants has.wants
 
 module _ (plan : Plan) where
   abbrev Script : List Command

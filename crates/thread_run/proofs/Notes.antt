@@ -6,7 +6,7 @@ use Rattle.fdr_buffer.specs.Filled.{Filled}
 use Rattle.fdr_buffer.specs.Segments.{has_room}
 use Rattle.fdr_buffer.proofs.Cutting.{joins}
 use Rattle.buffer_queue.specs.Passes.{IsOf, PassIs, PoolIs, sealing}
-use Rattle.traced_run.specs.Kept.{Stamp, buffer_of, buffers_behind, stamp_of}
+use Rattle.traced_run.specs.Kept.{Stamp, buffer_of, buffers_after, stamp_of}
 use Rattle.thread_run.specs.declared.exchange.Preamble.{Preamble}
 use Rattle.thread_run.specs.Recordings.{HasSameOwner, Recording, StandsFor, segments_begun, segments_in}
 use Rattle.thread_run.specs.private.Segments.{CutsAnew, IsNextOf, IsPreambleOf, StandsForMore, sealed_with}
@@ -108,9 +108,9 @@ turned_stands r events event (StandsFor.begun whole last segs sealed hand) anew 
     let stamp : Stamp = stamp_of r.pass.setup in
     let thread : ℕ = r.pass.thread in
     let is : r.hand.begun ≡ true = ap (λ (b : Filled). b.begun) hand in
-    let all : r.pass.sealed ++ r.hand ∷ [] ≡ buffers_behind stamp 0 thread (whole ++ last ∷ []) =
+    let all : r.pass.sealed ++ r.hand ∷ [] ≡ buffers_after stamp 0 thread (whole ++ last ∷ []) =
     ap (λ (bs : List Filled). bs ++ r.hand ∷ []) sealed
-    ∙ ap (λ (b : Filled). buffers_behind stamp 0 thread whole ++ b ∷ []) hand
+    ∙ ap (λ (b : Filled). buffers_after stamp 0 thread whole ++ b ∷ []) hand
     ∙ sym (buffers_more stamp thread whole last) in
     subst (λ (p : PassIs). StandsFor (turned r p event) (events ++ event ∷ [])) (sym (sealed_if r.pass r.hand is))
     (StandsFor.begun (whole ++ last ∷ []) (event ∷ [])

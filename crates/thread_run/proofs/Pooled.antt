@@ -9,7 +9,7 @@ use Rattle.fdr_record.specs.declared.event.Event.{Event}
 use Rattle.fdr_buffer.specs.Filled.{Filled, empty_buffer}
 use Rattle.buffer_queue.specs.Left.{IsLeft, of_thread, row_at}
 use Rattle.machine_step.specs.declared.setup.Setup.{Setup}
-use Rattle.traced_run.specs.Kept.{Stamp, buffer_of, buffers_behind, stamp_of}
+use Rattle.traced_run.specs.Kept.{Stamp, buffer_of, buffers_after, stamp_of}
 use Rattle.thread_run.specs.Recordings.{Recording, StandsFor, segments_in}
 use Rattle.thread_run.proofs.Cuts.{buffers_length, buffers_more}
 
@@ -24,14 +24,14 @@ dropped [] ys = refl
 dropped (x ∷ xs) ys = dropped xs ys
 
 -- without the first segments
-pub behind_all : (stamp : Stamp) (first thread : ℕ) (segs : List (List Event))
-    → buffers_behind stamp first thread segs ≡ drop first (buffers_behind stamp 0 thread segs)
-behind_all stamp first thread segs = sym (drop-map (buffer_of stamp thread) first (enumerate_from 0 segs))
+pub after_all : (stamp : Stamp) (first thread : ℕ) (segs : List (List Event))
+    → buffers_after stamp first thread segs ≡ drop first (buffers_after stamp 0 thread segs)
+after_all stamp first thread segs = sym (drop-map (buffer_of stamp thread) first (enumerate_from 0 segs))
 
 -- Of the buffers that a thread has sealed, the first ones are gone. With the segment in hand, the others are those of its
 -- last segments.
 pub record KeepsLast (r : Recording) (segs : List (List Event)) (gone last : List Filled) : Type 0 where
-  pub kept : last ++ in_hand_of r ≡ buffers_behind (stamp_of r.pass.setup) (length gone) r.pass.thread segs
+  pub kept : last ++ in_hand_of r ≡ buffers_after (stamp_of r.pass.setup) (length gone) r.pass.thread segs
   pub count : length gone + length (last ++ in_hand_of r) ≡ length segs
   pub sealed : length segs - 1 ≡ length r.pass.sealed
   pub below : 0 < length segs → length gone < length segs
@@ -58,9 +58,9 @@ keeps_last r events (StandsFor.begun whole opened segs sealed hand) gone last cu
     let thread : ℕ = r.pass.thread in
     let is : r.hand.begun ≡ true = ap (λ (b : Filled). b.begun) hand in
     let one : in_hand_of r ≡ r.hand ∷ [] = rw is refl in
-    let all : buffers_behind stamp 0 thread (segments_in r events) ≡ gone ++ (last ++ in_hand_of r) =
-    ap (buffers_behind stamp 0 thread) segs ∙ buffers_more stamp thread whole opened
-    ∙ ap (λ (b : Filled). buffers_behind stamp 0 thread whole ++ b ∷ []) (sym hand)
+    let all : buffers_after stamp 0 thread (segments_in r events) ≡ gone ++ (last ++ in_hand_of r) =
+    ap (buffers_after stamp 0 thread) segs ∙ buffers_more stamp thread whole opened
+    ∙ ap (λ (b : Filled). buffers_after stamp 0 thread whole ++ b ∷ []) (sym hand)
     ∙ ap (λ (bs : List Filled). bs ++ r.hand ∷ []) (sym sealed ∙ cut)
     ∙ append_assoc gone last (r.hand ∷ [])
     ∙ ap (λ (bs : List Filled). gone ++ (last ++ bs)) (sym one) in
@@ -68,7 +68,7 @@ keeps_last r events (StandsFor.begun whole opened segs sealed hand) gone last cu
     let sealed_count : length r.pass.sealed ≡ length whole = ap length sealed ∙ buffers_length stamp thread whole in
     let parts : length r.pass.sealed ≡ length gone + length last = ap length cut ∙ length-append gone last in
     record {
-      kept = sym (behind_all stamp (length gone) thread (segments_in r events) ∙ ap (drop (length gone)) all ∙ dropped gone (last ++ in_hand_of r));
+      kept = sym (after_all stamp (length gone) thread (segments_in r events) ∙ ap (drop (length gone)) all ∙ dropped gone (last ++ in_hand_of r));
       count =
           sym (length-append gone (last ++ in_hand_of r)) ∙ ap length (sym all) ∙ buffers_length stamp thread (segments_in r events);
       sealed = omega (arith, count, sealed_count);

@@ -22,7 +22,7 @@ use Rattle.machine_step.specs.Events.{recorded}
 use Rattle.machine_step.specs.PlainStep.{PlainRun}
 use Rattle.machine_step.specs.Traced.{Traced, sleds_of}
 use Rattle.sled_rule.specs.Seats.{script_of}
-use Rattle.traced_run.specs.Kept.{buffers_behind, segment_count, stamp_of, thread_buffers}
+use Rattle.traced_run.specs.Kept.{buffers_after, segment_count, stamp_of, thread_buffers}
 use Rattle.traced_run.specs.Left.{HasRun}
 use Rattle.traced_run.specs.Losses.{AreLost, recycled_of}
 use Rattle.traced_run.specs.Runs.{ThreadRun}
@@ -81,7 +81,7 @@ run_of_worker plan pool used buffers number worker is ended pooled =
     let count : segments_begun r ≡ length (segments setup.size events) = begun_are r events at.recorded_are ∙ ap length segs_are in
     let all_count : length (of_thread number buffers) ≡ length (of_thread number used ++ in_hand_of r) = ap length pooled.all in
     let segs_count : length (segments_in r events) ≡ length (segments setup.size events) = ap length segs_are in
-    let Kept : Setup → ℕ → List (List Event) → List Filled = λ s thread segs. buffers_behind (stamp_of s) (length pooled.gone) thread segs in (
+    let Kept : Setup → ℕ → List (List Event) → List Filled = λ s thread segs. buffers_after (stamp_of s) (length pooled.gone) thread segs in (
       run,
       record {
         plain =

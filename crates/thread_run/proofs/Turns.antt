@@ -104,23 +104,23 @@ no_nearer old new word same was is added less =
     omega (arith, less, left)
 
 -- the count of a seat after a load, before the passing that it ended is counted
-behind_after : (old new : List Mark) (count : ℕ) (want : Want) → MarksAdded old new want → count ≡ length old → IsBehind count new want
-behind_after old new count (Gate passing) (mark, e) is = omega (arith, is, ap length e, length-append old (mark ∷ []))
-behind_after old new count (Loads word) e is = is ∙ ap length (sym e)
-behind_after old new count (Done end) (mark, e) is = omega (arith, is, ap length e, length-append old (mark ∷ []))
+following_after : (old new : List Mark) (count : ℕ) (want : Want) → MarksAdded old new want → count ≡ length old → IsBehind count new want
+following_after old new count (Gate passing) (mark, e) is = omega (arith, is, ap length e, length-append old (mark ∷ []))
+following_after old new count (Loads word) e is = is ∙ ap length (sym e)
+following_after old new count (Done end) (mark, e) is = omega (arith, is, ap length e, length-append old (mark ∷ []))
 
-pub behind_taken : {R : Type 0} (word : ℕ) (old new : Worker R) → HasTaken word old new → CountIsBehind new
-behind_taken word old new taken = behind_after (cpu_of old).marks (cpu_of new).marks (work_view (seat_of new)).count (cpu_of new).want taken.marks taken.count
+pub after_taken : {R : Type 0} (word : ℕ) (old new : Worker R) → HasTaken word old new → CountIsBehind new
+after_taken word old new taken = following_after (cpu_of old).marks (cpu_of new).marks (work_view (seat_of new)).count (cpu_of new).want taken.marks taken.count
 
 -- a thread in its passing, and one whose passing has ended
 pub counts_all : (count : ℕ) (marks : List Mark) (found want : Want) (word : ℕ) → found ≡ want → found ≡ Loads word → IsBehind count marks want
     → count ≡ length marks
-counts_all count marks found want word is load behind = subst (IsBehind count marks) (sym is ∙ load) behind
+counts_all count marks found want word is load following = subst (IsBehind count marks) (sym is ∙ load) following
 
 pub leaves_one_out : (count : ℕ) (marks : List Mark) (found want : Want) → found ≡ want
     → ((passing : ℕ) × (found ≡ Gate passing)) ⊎ ((end : End) × (found ≡ Done end)) → IsBehind count marks want → count + 1 ≡ length marks
-leaves_one_out count marks found want is (inl (passing, gate)) behind = subst (IsBehind count marks) (sym is ∙ gate) behind
-leaves_one_out count marks found want is (inr (end, done)) behind = subst (IsBehind count marks) (sym is ∙ done) behind
+leaves_one_out count marks found want is (inl (passing, gate)) following = subst (IsBehind count marks) (sym is ∙ gate) following
+leaves_one_out count marks found want is (inr (end, done)) following = subst (IsBehind count marks) (sym is ∙ done) following
 
 -- a thread that was let into its passing
 pub opened_same : (old new : Traced) → new ≡ record old { want = new.want } → IsSameThread old new

@@ -5,7 +5,7 @@ use Rattle.fdr_record.specs.declared.event.Event.{Event}
 use Rattle.fdr_buffer.specs.Filled.{Filled, empty_buffer}
 use Rattle.fdr_buffer.specs.Segments.{segments}
 use Rattle.buffer_queue.specs.Passes.{PassIs}
-use Rattle.traced_run.specs.Kept.{buffer_of, buffers_behind, stamp_of}
+use Rattle.traced_run.specs.Kept.{buffer_of, buffers_after, stamp_of}
 
 -- what a thread has of a pool: its pass, with the buffers that it has sealed, and the buffer in its hand
 pub record Recording : Type 0 where
@@ -26,7 +26,7 @@ segments_begun r = length r.pass.sealed + (if r.hand.begun then 1 else 0)
 pub data StandsFor (r : Recording) (events : List Event) : Type 0 where
   unbegun : segments_in r events ≡ [] → r.pass.sealed ≡ [] → r.hand ≡ empty_buffer r.pass.setup.size → StandsFor r events
   begun : (whole : List (List Event)) → (last : List Event) → segments_in r events ≡ whole ++ last ∷ []
-      → r.pass.sealed ≡ buffers_behind (stamp_of r.pass.setup) 0 r.pass.thread whole
+      → r.pass.sealed ≡ buffers_after (stamp_of r.pass.setup) 0 r.pass.thread whole
       → r.hand ≡ buffer_of (stamp_of r.pass.setup) r.pass.thread (length whole, last) → StandsFor r events
 
 -- it is of the same thread and the same pool

@@ -1,8 +1,7 @@
 //! What workers know of scripts and threads, as laws.
 
 ghost use Rattle.std.specs.Prelude.{◌≤◌};
-ghost use Rattle.patch_script.specs.Micros.{start_of, total_of};
-ghost use Rattle.patch_script.specs.Refusals.{commands_of};
+ghost use Rattle.patch_script.specs.{Micros.{start_of, total_of}, Refusals.{commands_of}};
 ghost use Rattle.machine_step.specs.Traced.{StandsAs};
 
 use machine_step::Cpu;

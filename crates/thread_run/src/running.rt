@@ -1,12 +1,9 @@
 //! All threads of a run, and the patcher.
 
-ghost use Rattle.std.specs.Prelude.{All};
-ghost use Rattle.std.specs.Thread.{IsSend, IsSync};
-ghost use Rattle.sled_rule.specs.Plans.{total_in};
-ghost use Rattle.sled_rule.specs.Seats.{patch_view, script_of, IsPatcherOf};
+ghost use Rattle.std.specs.{Prelude.{All}, Thread.{IsSend, IsSync}};
+ghost use Rattle.sled_rule.specs.{Plans.{total_in}, Seats.{patch_view, script_of, IsPatcherOf}};
 ghost use Rattle.sled_patch.specs.Runs.{HasRun};
-ghost use Rattle.thread_run.specs.Each.{HaveChanged};
-ghost use Rattle.thread_run.specs.Workers.{HaveRun, IsGoing};
+ghost use Rattle.thread_run.specs.{Each.{HaveChanged}, Workers.{HaveRun, IsGoing}};
 
 use crate::work::Work;
 use crate::worker::Worker;

@@ -1,12 +1,10 @@
 //! A whole run: all memory first, then the threads and the script.
 
 ghost use Rattle.std.specs.Prelude.{◌≡◌, ◌≤◌, ◌+◌, ◌-◌, ◌==◌, ◌++◌, [], List, IfOk, count_by, length, vec_capacity, vec_len};
-ghost use Rattle.buffer_queue.specs.Left.{IsLeft};
-ghost use Rattle.buffer_queue.specs.Passes.{sealed_of, AreNew, AreOf};
+ghost use Rattle.buffer_queue.specs.{Left.{IsLeft}, Passes.{sealed_of, AreNew, AreOf}};
 ghost use Rattle.fdr_buffer.specs.Filled.{Filled};
 ghost use Rattle.patch_script.specs.Refusals.{commands_of};
-ghost use Rattle.sled_rule.specs.Plans.{start_in};
-ghost use Rattle.sled_rule.specs.Seats.{patch_view, script_of, IsPatcherOf};
+ghost use Rattle.sled_rule.specs.{Plans.{start_in}, Seats.{patch_view, script_of, IsPatcherOf}};
 ghost use Rattle.sled_rule.specs.Views.{first_patch};
 ghost use Rattle.thread_run.specs.Recordings.{StandsFor};
 ghost use Rattle.thread_run.specs.private.Rooms.{HaveRunPooled, IsGathered, IsRoom};

@@ -3,8 +3,7 @@
 ghost use Rattle.std.specs.Prelude.{◌≡◌, ◌<◌, ◌↔◌, ◌+◌, ◌-◌, ◌^◌, ℕ, [], List, Some, length, true, false, IfSome, IsSome, IsTrue};
 ghost use Rattle.fdr_record.specs.declared.event.Event.{Event};
 ghost use Rattle.sled_rule.specs.Seats.{patch_view, work_view, script_of, IsPatcherOf, IsWorkerOf};
-ghost use Rattle.sled_rule.specs.Plans.{start_in};
-ghost use Rattle.sled_rule.specs.Views.{giving};
+ghost use Rattle.sled_rule.specs.{Plans.{start_in}, Views.{giving}};
 ghost use Rattle.machine_step.specs.declared.want.Want.{Want};
 ghost use Rattle.machine_step.specs.Traced.{IsDone, IsLoadable, loads_left};
 
@@ -151,7 +150,7 @@ impl<'s, 't, R: Recorder> Worker<'s, 't, R> {
     /// Notes the event of a load, and goes on.
     fn note(&mut self, event: Event) -> Want
         requires lacks { Lacks R.stands (Some event) self.old }
-        requires behind { CountIsBehind self.old }
+        requires following { CountIsBehind self.old }
         requires id { event.func < 2 ^ 28 }
         requires room { (events : List Event)
             × R.stands (recorder_of self.old) events × (length events < 2 ^ 32 - 1) }
@@ -169,7 +168,7 @@ impl<'s, 't, R: Recorder> Worker<'s, 't, R> {
     /// Counts the passing if the last load ended it. Answers what the thread wants next.
     fn go_on(&mut self) -> Want
         requires at { IsAtWork R.stands self.old }
-        requires behind { CountIsBehind self.old }
+        requires following { CountIsBehind self.old }
         ensures same { IsSameWorker R.follows self.old self.new }
         ensures going { IsGoing R.stands self.new }
         ensures cpu { cpu_of self.new ≡ cpu_of self.old }

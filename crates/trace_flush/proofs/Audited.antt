@@ -24,14 +24,14 @@ all_accounts setup k [] (t ∷ cpus) same has = absurd (omega (arith, same))
 all_accounts setup k (run ∷ runs) [] same has = absurd (omega (arith, same))
 all_accounts setup k (run ∷ runs) (t ∷ cpus) same has =
     let here : k + zero ≡ k = omega arith in
-    let behind_it = accounts (lines_of cpus (map (segment_count setup.size) runs) (map (λ r. r.lost) runs)) cpus in
-    ap (λ (a : Account). a ∷ behind_it) (one_account setup k run t (subst (λ (n : ℕ). HasRun n run t) here (has zero run t refl refl)))
+    let after_it = accounts (lines_of cpus (map (segment_count setup.size) runs) (map (λ r. r.lost) runs)) cpus in
+    ap (λ (a : Account). a ∷ after_it) (one_account setup k run t (subst (λ (n : ℕ). HasRun n run t) here (has zero run t refl refl)))
     ∙ ap (λ (rest : List Account). account_of setup (k, run) ∷ rest)
     (all_accounts setup (k + 1) runs cpus (omega (arith, same))
-    (λ i r u found there. subst (λ (n : ℕ). HasRun n r u) (behind i) (has (suc i) r u found there)))
+    (λ i r u found there. subst (λ (n : ℕ). HasRun n r u) (following i) (has (suc i) r u found there)))
   where
-    behind : (i : ℕ) → k + suc i ≡ k + 1 + i
-    behind i = omega arith
+    following : (i : ℕ) → k + suc i ≡ k + 1 + i
+    following i = omega arith
 
 pub run_is_audited : (setup : Setup) (runs : List ThreadRun) (cpus : List Traced) (segments first : List ℕ) (buffers : List Filled)
     → Leaves setup runs cpus segments first buffers → accounts (lines_of cpus segments first) cpus ≡ accounts_of setup runs

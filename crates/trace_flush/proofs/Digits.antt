@@ -24,12 +24,12 @@ split_at low (x ∷ xs) (y ∷ ys) c d r s above above' small small' same =
 glyph_above : (d : ℕ) → d < 10 → 47 < digit_glyph false d
 glyph_above d small = grind (arith, nat_tests)
 
-digits_above : (k n : ℕ) (behind : List ℕ) → IsAbove 47 behind → IsAbove 47 (digits_onto k 10 false n behind)
-digits_above zero n behind above = above
-digits_above (suc k) n behind above = by_rest (nat_eq (n / 10) 0) (digits_above k (n / 10) (digit_glyph false (n % 10) ∷ behind) (glyph_above (n % 10) (omega arith), above))
+digits_above : (k n : ℕ) (following : List ℕ) → IsAbove 47 following → IsAbove 47 (digits_onto k 10 false n following)
+digits_above zero n following above = above
+digits_above (suc k) n following above = by_rest (nat_eq (n / 10) 0) (digits_above k (n / 10) (digit_glyph false (n % 10) ∷ following) (glyph_above (n % 10) (omega arith), above))
   where
-    by_rest : (none : Bool) → IsAbove 47 (digits_onto k 10 false (n / 10) (digit_glyph false (n % 10) ∷ behind))
-        → IsAbove 47 (cond none (digit_glyph false (n % 10) ∷ behind) (digits_onto k 10 false (n / 10) (digit_glyph false (n % 10) ∷ behind)))
+    by_rest : (none : Bool) → IsAbove 47 (digits_onto k 10 false (n / 10) (digit_glyph false (n % 10) ∷ following))
+        → IsAbove 47 (cond none (digit_glyph false (n % 10) ∷ following) (digits_onto k 10 false (n / 10) (digit_glyph false (n % 10) ∷ following)))
     by_rest true more = (glyph_above (n % 10) (omega arith), above)
     by_rest false more = more
 
@@ -43,6 +43,6 @@ pub number_split : (m n c d : ℕ) (r s : List ℕ) → c ≤ 47 → d ≤ 47 �
 number_split m n c d r s small small' same = split_at 47 (decimal m) (decimal n) c d r s (decimal_above m) (decimal_above n) small small' same
 
 -- what follows the same bytes
-pub behind : (front r s : List ℕ) → front ++ r ≡ front ++ s → r ≡ s
-behind [] r s same = same
-behind (x ∷ front) r s same = behind front r s cc
+pub following : (front r s : List ℕ) → front ++ r ≡ front ++ s → r ≡ s
+following [] r s same = same
+following (x ∷ front) r s same = following front r s cc

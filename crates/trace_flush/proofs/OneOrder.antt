@@ -74,8 +74,8 @@ sum_some f [] some = absurd (omega arith)
 sum_some {X} f (x ∷ xs) some = by_first (f x) refl (sum_some f xs)
   where
     by_first : (n : ℕ) → f x ≡ n → (0 < sum_by f xs → (y : X) × IsIn y xs × (0 < f y)) → (y : X) × IsIn y (x ∷ xs) × (0 < f y)
-    by_first zero is behind = let rest = behind (omega (arith, sum_by-cons f x xs)) in (rest.0, inr rest.1, rest.2)
-    by_first (suc n) is behind = (x, inl refl, omega arith)
+    by_first zero is following = let rest = following (omega (arith, sum_by-cons f x xs)) in (rest.0, inr rest.1, rest.2)
+    by_first (suc n) is following = (x, inl refl, omega arith)
 
 sum_none : {X : Type 0} (f : X → ℕ) (xs : List X) → ((x : X) → IsIn x xs → f x ≡ 0) → sum_by f xs ≡ 0
 sum_none f [] none = refl
@@ -119,8 +119,8 @@ same_first x xs y ys strict weak bag = by_place (bag.among y (inl refl))
   where
     by_place : IsIn y (x ∷ xs) → y ≡ x
     by_place (inl is) = is
-    by_place (inr behind) =
-        let before : IsBefore x y = strict.0 y behind in
+    by_place (inr following) =
+        let before : IsBefore x y = strict.0 y following in
         let total = bag.totals (shares x) in
         let some : 0 < sum_by (shares x) ys =
         omega (arith, total, sum_by-cons (shares x) x xs, sum_by-cons (shares x) y ys, shares_itself x, before_shares x y before) in
@@ -135,9 +135,9 @@ same_rest x xs ys strict bag = record {
 }
   where
     by_place : (z : Filled) → IsIn z ys → IsIn z (x ∷ xs) → IsIn z xs
-    by_place z is (inr behind) = behind
+    by_place z is (inr following) = following
     by_place z is (inl same) =
-        let none = sum_none (shares x) xs (λ w behind. before_shares x w (strict.0 w behind)) in
+        let none = sum_none (shares x) xs (λ w following. before_shares x w (strict.0 w following)) in
         absurd (omega (
           arith,
           bag.totals (shares x),

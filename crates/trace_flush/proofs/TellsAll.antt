@@ -16,7 +16,7 @@ use Rattle.machine_step.specs.Texts.{end_text, marks_line, line_feed}
 use Rattle.trace_flush.specs.declared.line.AuditLine.{AuditLine}
 use Rattle.trace_flush.specs.Audit.{Account, audit_text, buffers_text, limits_text, stamps_text, setup_lines, thread_line, thread_lines, recycled_line}
 use Rattle.trace_flush.specs.Telling.{HasNumbers, HasSetupNumbers, setup_numbers}
-use Rattle.trace_flush.proofs.Digits.{IsAbove, split_at, number_split, behind}
+use Rattle.trace_flush.proofs.Digits.{IsAbove, split_at, number_split, following}
 use Rattle.trace_flush.proofs.TellsMarks.{marks_tell}
 
 -- ---- ends
@@ -113,13 +113,13 @@ one_line line line' threads ends_same segments firsts =
 thread_tells : (line line' : AuditLine) (marks marks' : List Mark) (r s : List ℕ) → HasNumbers (line, marks) → HasNumbers (line', marks')
     → lines_before (line, marks) r ≡ lines_before (line', marks') s → (◌≡◌ {A = Account} (line, marks) (line', marks')) × (r ≡ s)
 thread_tells line line' marks marks' r s small small' same =
-    let one = number_tells line.thread line'.thread 32 32 _ _ small.number small'.number (omega arith) (omega arith) (behind (codes "thread ") _ _ same) in
+    let one = number_tells line.thread line'.thread 32 32 _ _ small.number small'.number (omega arith) (omega arith) (following (codes "thread ") _ _ same) in
     let two = end_split line.end line'.end _ _ one.1 in
-    let three = number_tells (length marks) (length marks') 32 32 _ _ small.passings small'.passings (omega arith) (omega arith) (behind (codes "passings ") _ _ two.1) in
-    let four = number_split (recorded_count marks) (recorded_count marks') 32 32 _ _ (omega arith) (omega arith) (behind (codes "recorded ") _ _ three.1) in
-    let five = number_tells line.segments line'.segments 32 32 _ _ small.segments small'.segments (omega arith) (omega arith) (behind (codes " segments ") _ _ four.1) in
-    let six = number_tells line.first line'.first 10 10 _ _ small.first small'.first (omega arith) (omega arith) (behind (codes "first ") _ _ five.1) in
-    let seven = marks_tell marks marks' r s small.passings small'.passings (behind (codes "marks ") _ _ six.1) in
+    let three = number_tells (length marks) (length marks') 32 32 _ _ small.passings small'.passings (omega arith) (omega arith) (following (codes "passings ") _ _ two.1) in
+    let four = number_split (recorded_count marks) (recorded_count marks') 32 32 _ _ (omega arith) (omega arith) (following (codes "recorded ") _ _ three.1) in
+    let five = number_tells line.segments line'.segments 32 32 _ _ small.segments small'.segments (omega arith) (omega arith) (following (codes " segments ") _ _ four.1) in
+    let six = number_tells line.first line'.first 10 10 _ _ small.first small'.first (omega arith) (omega arith) (following (codes "first ") _ _ five.1) in
+    let seven = marks_tell marks marks' r s small.passings small'.passings (following (codes "marks ") _ _ six.1) in
     let lines_same = one_line line line' one.0 two.0 five.0 six.0 in
     (◌∙◌ {b = (line', marks)} (ap (λ (l : AuditLine). (l, marks)) lines_same) (ap (λ (ms : List Mark). (line', ms)) seven.0), seven.1)
 
@@ -196,11 +196,11 @@ record IsToldAlike (setup setup' : Setup) : Type 0 where
 -- the same bytes, and then a number
 field : (front : List ℕ) (m n c d : ℕ) (r s : List ℕ) → c ≤ 47 → d ≤ 47 → front ++ (decimal m ++ c ∷ r) ≡ front ++ (decimal n ++ d ∷ s)
     → (decimal m ≡ decimal n) × (c ∷ r ≡ d ∷ s)
-field front m n c d r s low low' same = number_split m n c d r s low low' (behind front _ _ same)
+field front m n c d r s low low' same = number_split m n c d r s low low' (following front _ _ same)
 
 setup_tells : (setup setup' : Setup) (r s : List ℕ) → setup_before setup r ≡ setup_before setup' s → IsToldAlike setup setup' × (r ≡ s)
 setup_tells setup setup' r s same =
-    let one = field (codes "threads=") setup.threads setup'.threads 32 32 _ _ (omega arith) (omega arith) (behind (codes "xray-audit 1" ++ 10 ∷ []) _ _ same) in
+    let one = field (codes "threads=") setup.threads setup'.threads 32 32 _ _ (omega arith) (omega arith) (following (codes "xray-audit 1" ++ 10 ∷ []) _ _ same) in
     let two = field (codes " buffer-size=") setup.size setup'.size 32 32 _ _ (omega arith) (omega arith) one.1 in
     let three = field (codes " buffer-max=") setup.max setup'.max 32 32 _ _ (omega arith) (omega arith) two.1 in
     let four = field (codes " fuel=") setup.limits.fuel setup'.limits.fuel 32 32 _ _ (omega arith) (omega arith) three.1 in
@@ -228,7 +228,7 @@ setup_tells setup setup' r s same =
         micros = twelve.0;
         frequency = last.0;
       },
-      behind (10 ∷ []) r s last.1,
+      following (10 ∷ []) r s last.1,
     )
 
 -- records of the same fields are the same

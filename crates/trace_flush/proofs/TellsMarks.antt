@@ -123,8 +123,8 @@ joined_tells most (next ∷ runs) (next' ∷ others) (mark, count) (mark', count
     let split = number_split count count' 32 32 (text ++ 10 ∷ r) (text' ++ 10 ∷ s) (omega arith) (omega arith) cc in
     let counts : count ≡ count' = decimal_injective count count' (omega (arith, up.0)) (omega (arith, up'.0)) split.0 in
     let marks : mark ≡ mark' = printed_alike mark mark' cc in
-    let behind : text ++ 10 ∷ r ≡ text' ++ 10 ∷ s = let rest = split.1 in cc in
-    let later = joined_tells most runs others next next' r s small up.1 up'.1 behind in
+    let following : text ++ 10 ∷ r ≡ text' ++ 10 ∷ s = let rest = split.1 in cc in
+    let later = joined_tells most runs others next next' r s small up.1 up'.1 following in
     let runs_same = later.0 in
     (cc, later.1)
 

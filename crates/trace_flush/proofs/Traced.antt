@@ -29,14 +29,14 @@ told_all setup thread k [] = refl
 told_all setup thread k (events ∷ segs) =
     ap (λ (bs : List Block). block_of setup thread events ∷ bs) (told_all setup thread (k + 1) segs)
 
-told_behind : (setup : Setup) (thread first k : ℕ) (segs : List (List Event))
+told_after : (setup : Setup) (thread first k : ℕ) (segs : List (List Event))
     → map block_told (map (buffer_of (stamp_of setup) thread) (drop first (enumerate_from k segs))) ≡ map (block_of setup thread) (drop first segs)
-told_behind setup thread zero k segs = told_all setup thread k segs
-told_behind setup thread (suc first) k [] = refl
-told_behind setup thread (suc first) k (events ∷ segs) = told_behind setup thread first (k + 1) segs
+told_after setup thread zero k segs = told_all setup thread k segs
+told_after setup thread (suc first) k [] = refl
+told_after setup thread (suc first) k (events ∷ segs) = told_after setup thread first (k + 1) segs
 
 thread_told : (setup : Setup) (thread : ℕ) (run : ThreadRun) → map block_told (thread_buffers setup (thread, run)) ≡ thread_blocks setup (thread, run)
-thread_told setup thread run = told_behind setup thread run.lost 0 (segments_of setup.size run)
+thread_told setup thread run = told_after setup thread run.lost 0 (segments_of setup.size run)
 
 all_told : (setup : Setup) (k : ℕ) (runs : List ThreadRun)
     → map block_told (flat_map (thread_buffers setup) (enumerate_from k runs)) ≡ flat_map (thread_blocks setup) (enumerate_from k runs)

@@ -2,8 +2,7 @@
 
 ghost use Rattle.std.specs.Prelude.{◌≡◌, ◌++◌, ◌<◌, ◌*◌, ◌^◌, length, All, sum_by};
 ghost use Rattle.std.specs.List.{flat_map};
-ghost use Rattle.machine_step.specs.Texts.{marks_line};
-ghost use Rattle.machine_step.specs.Traced.{IsDone};
+ghost use Rattle.machine_step.specs.{Texts.{marks_line}, Traced.{IsDone}};
 ghost use Rattle.trace_flush.specs.Audit.{accounts, audit_text, buffers_text, limits_text, recycled_line, setup_lines, stamps_text};
 ghost use Rattle.trace_flush.specs.private.Parts.{first_text, rest_of, said_of, segments_text, start_text};
 ghost use Rattle.xray_io.specs.Text.{AddsText};

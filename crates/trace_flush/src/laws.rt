@@ -5,12 +5,9 @@ ghost use Rattle.xray_image.specs.Program.{IsAccepted, Program};
 ghost use Rattle.fdr_buffer.specs.Filled.{Filled};
 ghost use Rattle.machine_step.specs.declared.setup.Setup.{Setup};
 ghost use Rattle.machine_step.specs.Traced.{Traced};
-ghost use Rattle.traced_run.specs.Fits.{SetupFits};
-ghost use Rattle.traced_run.specs.Left.{Leaves};
-ghost use Rattle.traced_run.specs.Runs.{IsRun, ThreadRun};
+ghost use Rattle.traced_run.specs.{Fits.{SetupFits}, Left.{Leaves}, Runs.{IsRun, ThreadRun}};
 ghost use Rattle.trace_flush.specs.Audit.{Account, accounts, audit_text};
-ghost use Rattle.trace_flush.specs.Flush.{trace_bytes, IsTraceOf};
-ghost use Rattle.trace_flush.specs.Lines.{accounts_of, lines_of};
+ghost use Rattle.trace_flush.specs.{Flush.{trace_bytes, IsTraceOf}, Lines.{accounts_of, lines_of}};
 ghost use Rattle.trace_flush.specs.Telling.{HasNumbers, HasSetupNumbers};
 
 use fdr_file::a_file_reads_back;

@@ -3,8 +3,7 @@
 ghost use Rattle.std.specs.Prelude.{◌≡◌, All, List, IsPermutation, IsTrue, AllPairs, filter};
 ghost use Rattle.fdr_buffer.specs.Filled.{Filled, has_event};
 ghost use Rattle.machine_step.specs.declared.setup.Setup.{Setup};
-ghost use Rattle.traced_run.specs.Kept.{kept_buffers};
-ghost use Rattle.traced_run.specs.Runs.{ThreadRun};
+ghost use Rattle.traced_run.specs.{Kept.{kept_buffers}, Runs.{ThreadRun}};
 ghost use Rattle.trace_flush.specs.Arranged.{IsBefore};
 
 use fdr_buffer::Buffer;

@@ -1,8 +1,7 @@
 //! The text of a summary.
 
 ghost use Rattle.std.specs.Prelude.{◌≡◌, length};
-ghost use Rattle.trace_flush.specs.Audit.{accounts};
-ghost use Rattle.trace_flush.specs.Summary.{summary_text};
+ghost use Rattle.trace_flush.specs.{Audit.{accounts}, Summary.{summary_text}};
 ghost use Rattle.xray_io.specs.Text.{AddsText};
 
 use crate::audit::{Detail, add_recycled, add_threads};

@@ -43,12 +43,12 @@ buffer_of stamp thread (serial, events) = record {
 }
 
 -- the buffers of a thread's segments, without those of its first ones
-abbrev pub buffers_behind : Stamp → ℕ → ℕ → List (List Event) → List Filled
-buffers_behind stamp first thread segs = map (buffer_of stamp thread) (drop first (enumerate_from 0 segs))
+abbrev pub buffers_after : Stamp → ℕ → ℕ → List (List Event) → List Filled
+buffers_after stamp first thread segs = map (buffer_of stamp thread) (drop first (enumerate_from 0 segs))
 
 -- the buffers of the segments of a thread that are left
 abbrev pub thread_buffers : Setup → ℕ × ThreadRun → List Filled
-thread_buffers setup (thread, run) = buffers_behind (stamp_of setup) run.lost thread (segments_of setup.size run)
+thread_buffers setup (thread, run) = buffers_after (stamp_of setup) run.lost thread (segments_of setup.size run)
 
 -- The buffers of a run, thread by thread. Those of a thread are in the order of its segments.
 abbrev pub kept_buffers : Setup → List ThreadRun → List Filled

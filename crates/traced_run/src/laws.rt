@@ -3,8 +3,7 @@
 ghost use Rattle.std.specs.Prelude.{◌≡◌, ◌≤◌, ◌<◌, ◌^◌, ◌++◌, List, ℕ, All, Some, filter, length, slice_get, take};
 ghost use Rattle.std.specs.List.{flat_map};
 ghost use Rattle.xray_image.specs.Program.{IsAccepted, Program};
-ghost use Rattle.fdr_buffer.specs.Filled.{has_event};
-ghost use Rattle.fdr_buffer.specs.Fits.{BufferFits};
+ghost use Rattle.fdr_buffer.specs.{Filled.{has_event}, Fits.{BufferFits}};
 ghost use Rattle.machine_step.specs.declared.end.End.{End};
 ghost use Rattle.machine_step.specs.declared.limits.Limits.{Limits};
 ghost use Rattle.machine_step.specs.declared.setup.Setup.{Setup};

@@ -99,8 +99,8 @@ const HANDLED: [(&str, &str, &str, &str); 6] = [
 
 #[test]
 fn marks_tell_of_the_handler_and_the_log(rt: HostRuntime) -> Result<(), Fail> {
-    for (before, behind, schedule, marks) in &HANDLED {
-        let script = format!(in rt.alloc(); "patch\n{before}\ngo\n{behind}\n")?;
+    for (before, following, schedule, marks) in &HANDLED {
+        let script = format!(in rt.alloc(); "patch\n{before}\ngo\n{following}\n")?;
         assert_marks(&rt, &script, schedule, marks)?;
     }
     Ok(())

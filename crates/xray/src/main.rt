@@ -13,7 +13,7 @@ use xray_program::xray;
 /// Words that aren't UTF-8 say no command. If memory for the words is refused, the report is that
 /// of `xray` for want of memory.
 fn main(rt: HostRuntime) -> ExitCode {
-    let words = match words_behind_name(&rt) {
+    let words = match words_after_name(&rt) {
         Ok(words) => words,
         Err(error) if error.kind() == io::ErrorKind::OutOfMemory => return out_of_memory(&rt),
         Err(_) => Vec::new(rt.alloc()),
@@ -31,7 +31,7 @@ fn main(rt: HostRuntime) -> ExitCode {
     ExitCode::from(status)
 }
 
-fn words_behind_name(rt: &HostRuntime) -> io::Result<Vec<String>> {
+fn words_after_name(rt: &HostRuntime) -> io::Result<Vec<String>> {
     let words = env::args(rt)?.skip(1).collect(rt.alloc())?;
     Ok(words)
 }

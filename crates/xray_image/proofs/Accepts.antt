@@ -84,7 +84,7 @@ module _ (bytes : List ℕ) (program : Program) (a : IsAccepted bytes program) w
   rows_of_parts : ReadsParts bytes (Ok program)
   rows_of_parts =
       from_some (parts_of bytes) _ _ (Ok program) a.parts a.reaches
-      (inr (a.nothing_behind, inr (a.pieces, units_stand (base_address bytes) a.parts.code a.pieces a.units a.even_sleds, rows_of_program)))
+      (inr (a.nothing_after, inr (a.pieces, units_stand (base_address bytes) a.parts.code a.pieces a.units a.even_sleds, rows_of_program)))
     where
       from_some : {X : Type 0} (o : Option X) (decides : Verdict → Type 0) (there : X → Verdict → Type 0) (v : Verdict) (x : X) → o ≡ Some x → there x v → NeedsPart o decides there v
       from_some {X = X} o decides there v x e q = subst (λ (r : Option X). NeedsPart r decides there v) (sym e) q
@@ -205,7 +205,7 @@ accepted_from bytes program r =
       };
       parts = parts.0;
       reaches = parts.1;
-      nothing_behind = rest.0;
+      nothing_after = rest.0;
       pieces = units.0;
       units = are.0;
       even_sleds = are.1;

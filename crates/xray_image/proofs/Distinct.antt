@@ -59,9 +59,9 @@ one_new seen [] x not_seen others =
     let none : among x seen ≡ false = list_any_none (λ y. y == x) seen (All-weaker (λ y. y ≡ x → ⊥) (λ y. (y == x) ≡ false) (λ y. ne_eqb y x) seen not_seen) in
     ap (λ (b : Bool). cond b [] (x ∷ [])) none
 one_new seen (y ∷ ys) x not_seen others =
-    let behind = All-tail (λ y. y ≡ x → ⊥) y ys others in
-    same_end (among y seen) _ _ _ _ (x ∷ []) (one_new seen ys x not_seen behind)
-    (ap (λ t. y ∷ t) (one_new (y ∷ seen) ys x (All-cons (λ y. y ≡ x → ⊥) y seen (All-head (λ y. y ≡ x → ⊥) y ys others) not_seen) behind))
+    let following = All-tail (λ y. y ≡ x → ⊥) y ys others in
+    same_end (among y seen) _ _ _ _ (x ∷ []) (one_new seen ys x not_seen following)
+    (ap (λ t. y ∷ t) (one_new (y ∷ seen) ys x (All-cons (λ y. y ≡ x → ⊥) y seen (All-head (λ y. y ≡ x → ⊥) y ys others) not_seen) following))
 
 or_false : (a : Bool) → (a || false) ≡ true → a ≡ true
 or_false true e = refl

@@ -31,7 +31,7 @@ module _ (bytes : List ℕ) (long : 64 ≤ length bytes) where
   parts_when : code_length bytes ≤ length (drop 64 bytes) → parts_of bytes ≡ with_functions bytes (several function_at (function_count bytes) (drop (code_length bytes) (drop 64 bytes)))
   parts_when fits =
       ap (λ (b : Bool). cond b None (with_functions bytes (several function_at (function_count bytes) (drop (64 + code_length bytes) bytes)))) (le-ltb (length bytes) (64 + code_length bytes) (omega (arith, length-drop 64 bytes)))
-      ∙ ap (λ (behind : List ℕ). with_functions bytes (several function_at (function_count bytes) behind)) (sym (drop-drop (code_length bytes) 64 bytes))
+      ∙ ap (λ (following : List ℕ). with_functions bytes (several function_at (function_count bytes) following)) (sym (drop-drop (code_length bytes) 64 bytes))
 
   no_code : length (drop 64 bytes) < code_length bytes → parts_of bytes ≡ None
   no_code short =
@@ -41,16 +41,16 @@ module _ (bytes : List ℕ) (long : 64 ≤ length bytes) where
   short_row e = subst (λ (o : Option Parts). Rows bytes o (Err faults.Short)) (sym e) refl
 
   -- The same, by the rest of the file after the header and after the code, and by the counts.
-  module _ (behind rest : List ℕ) (n f m : ℕ) (behind_is : behind ≡ drop 64 bytes) (n_is : n ≡ code_length bytes) (f_is : f ≡ function_count bytes) (m_is : m ≡ entry_count bytes) where
-    pub short_code : length behind < n → ReadsParts bytes (Err faults.Short)
-    short_code short = short_row (no_code (omega (arith, ap length behind_is, n_is)))
+  module _ (following rest : List ℕ) (n f m : ℕ) (after_is : following ≡ drop 64 bytes) (n_is : n ≡ code_length bytes) (f_is : f ≡ function_count bytes) (m_is : m ≡ entry_count bytes) where
+    pub short_code : length following < n → ReadsParts bytes (Err faults.Short)
+    short_code short = short_row (no_code (omega (arith, ap length after_is, n_is)))
 
-    module _ (rest_is : rest ≡ drop n behind) (fits : n ≤ length behind) where
+    module _ (rest_is : rest ≡ drop n following) (fits : n ≤ length following) where
       functions_are : (o : Option (List Function × List ℕ)) → several function_at f rest ≡ o → parts_of bytes ≡ with_functions bytes o
       functions_are o e =
           let there : several function_at (function_count bytes) (drop (code_length bytes) (drop 64 bytes)) ≡ several function_at f rest =
-          sym (ap (λ (k : ℕ). several function_at k rest) f_is ∙ ap (several function_at (function_count bytes)) (rest_is ∙ ap (λ (k : ℕ). drop k behind) n_is ∙ ap (drop (code_length bytes)) behind_is)) in
-          parts_when (omega (arith, ap length behind_is, n_is)) ∙ ap (with_functions bytes) (there ∙ e)
+          sym (ap (λ (k : ℕ). several function_at k rest) f_is ∙ ap (several function_at (function_count bytes)) (rest_is ∙ ap (λ (k : ℕ). drop k following) n_is ∙ ap (drop (code_length bytes)) after_is)) in
+          parts_when (omega (arith, ap length after_is, n_is)) ∙ ap (with_functions bytes) (there ∙ e)
 
       pub short_functions : several function_at f rest ≡ None → ReadsParts bytes (Err faults.Short)
       short_functions e = short_row (functions_are None e)
@@ -76,11 +76,11 @@ module _ (bytes : List ℕ) (long : 64 ≤ length bytes) where
           unfolding code_with
           trailing more = subst (λ (o : Option Parts). Rows bytes o (Err faults.Trailing)) (sym parts_are) (inl (more, refl))
 
-          pub whole : (code : List ℕ) → code ≡ take n behind → rest'' ≡ [] → parts_of bytes ≡ Some (record { code = code; functions = functions; entries = entries; rest = [] })
+          pub whole : (code : List ℕ) → code ≡ take n following → rest'' ≡ [] → parts_of bytes ≡ Some (record { code = code; functions = functions; entries = entries; rest = [] })
           unfolding code_with
           whole code code_is none =
               let made : List ℕ → Option Parts = λ c. Some (record { code = c; functions = functions; entries = entries; rest = [] }) in
-              let same : take (code_length bytes) (drop 64 bytes) ≡ code = sym (code_is ∙ ap (λ (k : ℕ). take k behind) n_is ∙ ap (take (code_length bytes)) behind_is) in
+              let same : take (code_length bytes) (drop 64 bytes) ≡ code = sym (code_is ∙ ap (λ (k : ℕ). take k following) n_is ∙ ap (take (code_length bytes)) after_is) in
               parts_are ∙ ap (λ (left : List ℕ). Some (code_with left)) none
               ∙ ap made same
 

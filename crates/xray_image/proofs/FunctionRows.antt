@@ -21,8 +21,8 @@ use Rattle.std.proofs.lemmas.List.Elements.{All-nil, All-cons, All-head, All-tai
 use Rattle.xray_image.specs.declared.parts.FunctionEntry.{FunctionEntry}
 use Rattle.xray_image.specs.declared.unit.Unit.{Unit}
 use Rattle.xray_image.specs.Container.{Function}
-use Rattle.xray_image.specs.private.Judging.{IsAbove, StandsBehind, is_among}
-use Rattle.xray_image.specs.Program.{BeginsBehind, IsFunction, addresses}
+use Rattle.xray_image.specs.private.Judging.{IsAbove, StandsAfter, is_among}
+use Rattle.xray_image.specs.Program.{BeginsAfter, IsFunction, addresses}
 use Rattle.xray_image.specs.Table.{FunctionIsFit}
 use Rattle.xray_image.specs.private.Views.{function_of}
 use Rattle.xray_image.proofs.Scans.{item_at}
@@ -108,11 +108,11 @@ taken (g ∷ gs) name e all = by_first (bytes_eq name g.name) refl (λ rest. tak
 
 -- ---- the rows
 
-above_begins : (base start : ℕ) (o : Option Function) → IsAbove base (option_map (λ f. f.start) o) start → BeginsBehind base o start
+above_begins : (base start : ℕ) (o : Option Function) → IsAbove base (option_map (λ f. f.start) o) start → BeginsAfter base o start
 above_begins base start None h = h
 above_begins base start (Some f) h = h
 
-begins_above : (base start : ℕ) (o : Option Function) → BeginsBehind base o start → IsAbove base (option_map (λ f. f.start) o) start
+begins_above : (base start : ℕ) (o : Option Function) → BeginsAfter base o start → IsAbove base (option_map (λ f. f.start) o) start
 begins_above base start None h = h
 begins_above base start (Some f) h = h
 
@@ -129,7 +129,7 @@ module _ (base : ℕ) (functions : List FunctionEntry) (i : ℕ) (within : i < l
   there = item_at function_of functions i (get_or functions i zero_function) within (get_or_default functions i zero_function (get_or functions i zero_function) within)
 
   module _ (units : List Unit) where
-    pub fit : StandsBehind base (addresses units) last (function_of (get_or functions i zero_function)) → is_among names (get_or functions i zero_function).name.now ≡ false
+    pub fit : StandsAfter base (addresses units) last (function_of (get_or functions i zero_function)) → is_among names (get_or functions i zero_function).name.now ≡ false
         → FunctionIsFit base units (map function_of functions) i
     fit stands none g e =
         subst (IsFunction base units (take i (map function_of functions))) (same_Some _ _ (sym there ∙ e)) (record {
@@ -140,7 +140,7 @@ module _ (base : ℕ) (functions : List FunctionEntry) (i : ℕ) (within : i < l
           own_name = own (take i (map function_of functions)) (get_or functions i zero_function).name.now (sym (past.names_are (get_or functions i zero_function).name.now) ∙ none);
         })
 
-    pub unfit : (StandsBehind base (addresses units) last (function_of (get_or functions i zero_function)) → ⊥) → FunctionIsFit base units (map function_of functions) i → ⊥
+    pub unfit : (StandsAfter base (addresses units) last (function_of (get_or functions i zero_function)) → ⊥) → FunctionIsFit base units (map function_of functions) i → ⊥
     unfit fails is =
         let h = is (function_of (get_or functions i zero_function)) there in
         fails (record {

@@ -55,7 +55,7 @@ module _ (all firsts steps : List ℕ) (base i : ℕ) (below : i < length all) (
           first.counted,
           far,
           ap (λ n. get_or all n 0) there,
-          first.behind f (omega (arith, first.counted, below)) (omega arith),
+          first.following f (omega (arith, first.counted, below)) (omega arith),
           (in_block place).1,
           (within i below).0,
         ),
@@ -80,12 +80,12 @@ module _ (all firsts steps : List ℕ) (base i : ℕ) (below : i < length all) (
       | inl old ↦
           let same = begun.kept b old in
           let was = so_far.first_of b old in
-          record { counted = omega (arith, same, was.counted); behind = λ j j_in le. was.behind j j_in (omega (arith, same, le)) }
+          record { counted = omega (arith, same, was.counted); following = λ j j_in le. was.following j j_in (omega (arith, same, le)) }
       | inr new ↦
           let now = begun.begun b new lt in
           record {
             counted = omega (arith, now.1);
-            behind = λ j j_in le.
+            following = λ j j_in le.
                 let there : get_or all i 0 + (j - i) ≤ get_or all (i + (j - i)) 0 = gap all up i (j - i) (omega (arith, now.1, le, j_in)) in
                 let same : i + (j - i) ≡ j = omega (arith, now.1, le) in
                 omega (arith, there, ap (λ n. get_or all n 0) same, now.0, (in_block place).0, (within i below).0);

@@ -17,7 +17,7 @@ use Rattle.xray_image.specs.declared.unit.What.{What}
 use Rattle.xray_image.specs.declared.unit.What.TheVariants.{Plain, Sled, Pad}
 use Rattle.xray_image.specs.Units.{SledPlace}
 use Rattle.xray_image.specs.Container.{Function, MapEntry}
-use Rattle.xray_image.specs.Program.{BeginsBehind, BranchReaches, IsEntryOf, IsFunction, KindFits, LiesIn, Reaches, Trampolines, addresses, branch_target, is_name_byte}
+use Rattle.xray_image.specs.Program.{BeginsAfter, BranchReaches, IsEntryOf, IsFunction, KindFits, LiesIn, Reaches, Trampolines, addresses, branch_target, is_name_byte}
 
 -- it holds, or it doesn't
 abbrev pub Known : Type 0 → Type 0
@@ -111,7 +111,7 @@ known_front (x ∷ xs) (y ∷ ys) = by_parts (cases_eq y x) (known_front xs ys)
 -- ---- the conditions of the table
 
 -- a function begins after the one before it, or not
-known_begins : (base start : ℕ) (o : Option Function) → Known (BeginsBehind base o start)
+known_begins : (base start : ℕ) (o : Option Function) → Known (BeginsAfter base o start)
 known_begins base start None = cases_eq start base
 known_begins base start (Some before) = known_below before.start start
 
@@ -122,7 +122,7 @@ known_function base units before f =
     (known_all (λ b. is_name_byte b ≡ true) (λ b. known_true (is_name_byte b)) f.name)
     (known_all (λ g. g.name ≢ f.name) (λ g. known_not (g.name ≡ f.name) (known_list g.name f.name)) before)
   where
-    whole : Known (Contains (addresses units) f.start) → Known (BeginsBehind base (last_or None before) f.start) → Known (f.name ≢ [])
+    whole : Known (Contains (addresses units) f.start) → Known (BeginsAfter base (last_or None before) f.start) → Known (f.name ≢ [])
         → Known (All (λ b. is_name_byte b ≡ true) f.name) → Known (All (λ (g : Function). g.name ≢ f.name) before) → Known (IsFunction base units before f)
     whole (inl a) (inl b) (inl c) (inl d) (inl e) = inl (record { at_unit = a; in_order = b; has_name = c; name_bytes = d; own_name = e })
     whole (inl a) (inl b) (inl c) (inl d) (inr fails) = inr (λ r. fails r.own_name)

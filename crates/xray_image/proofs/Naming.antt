@@ -14,7 +14,7 @@ use Rattle.std.proofs.lemmas.Option.{slice_get-map, slice_get-get_or, slice_get_
 use Rattle.xray_image.specs.declared.unit.Unit.{Unit}
 use Rattle.xray_image.specs.declared.image.Function.{Function as Named}
 use Rattle.xray_image.specs.Container.{Function}
-use Rattle.xray_image.specs.Program.{Program, IsAccepted, AreFunctions, BeginsBehind}
+use Rattle.xray_image.specs.Program.{Program, IsAccepted, AreFunctions, BeginsAfter}
 use Rattle.xray_image.specs.Ids.{sledded_functions, id_count, name_at, name_of}
 use Rattle.xray_image.specs.private.Numbering.{AreNumbersOf}
 use Rattle.xray_image.specs.private.ImageView.{named_function}
@@ -37,7 +37,7 @@ functions_ascend base units (f ∷ fs) are k lt =
     let next : k + 1 ≡ suc k = omega arith in
     let in_order = (are (suc k) (get_or functions (suc k) f) (slice_get-get_or functions (suc k) f (omega (arith, count)))).in_order in
     let less : (get_or functions k f).start < (get_or functions (suc k) f).start =
-    subst (λ (o : Option Function). BeginsBehind base o (get_or functions (suc k) f).start) (last_taken None functions k f (omega (arith, count))) in_order in
+    subst (λ (o : Option Function). BeginsAfter base o (get_or functions (suc k) f).start) (last_taken None functions k f (omega (arith, count))) in_order in
     omega (
       arith,
       less,

@@ -40,12 +40,12 @@ field_shown field long h =
     let spelled : to_le_bytes w32 (little_number 4 field) ≡ front = le_bytes_4 front (little_number 4 field) (omega (arith, length-take 4 field)) fits (number_front field long ∙ number_is front fits) in
     sym (take-append-drop 4 field) ∙ ap (λ (x : List ℕ). x ++ drop 4 field) (sym spelled)
 
-IsBytes-behind : (bytes field : List ℕ) → IsBytes bytes → bytes ≡ 0x66 ∷ 0x0F ∷ 0x1F ∷ 0x84 ∷ 0x00 ∷ field → IsBytes field
-IsBytes-behind bytes field h e i = let k = subst IsBytes e h (5 + i) in grind arith
+IsBytes-following : (bytes field : List ℕ) → IsBytes bytes → bytes ≡ 0x66 ∷ 0x0F ∷ 0x1F ∷ 0x84 ∷ 0x00 ∷ field → IsBytes field
+IsBytes-following bytes field h e i = let k = subst IsBytes e h (5 + i) in grind arith
 
 pub nop_found : (bytes field : List ℕ) (shift : ℕ) → IsBytes bytes → bytes ≡ 0x66 ∷ 0x0F ∷ 0x1F ∷ 0x84 ∷ 0x00 ∷ field → 4 ≤ length field → shift ≡ little_number 4 field → (shift < 2 ^ 32) × Begins (nop_bytes shift) bytes
 nop_found bytes field shift h e long is =
-    let fits = IsBytes-behind bytes field h e in
+    let fits = IsBytes-following bytes field h e in
     let shown = field_shown field long fits in
     let whole : bytes ≡ nop_bytes (little_number 4 field) ++ drop 4 field = e ∙ ap (λ (x : List ℕ). 0x66 ∷ 0x0F ∷ 0x1F ∷ 0x84 ∷ 0x00 ∷ x) shown in
     subst (λ (n : ℕ). (n < 2 ^ 32) × Begins (nop_bytes n) bytes) (sym is) (number_below field fits, (drop 4 field, whole))

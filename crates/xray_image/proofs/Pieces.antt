@@ -71,10 +71,10 @@ other_byte i b s t o differs e =
 
 -- a piece that is an instruction, and what follows it, don't begin as a return sled
 abbrev pub IsNoReturnSled : Piece → List ℕ → Type 0
-IsNoReturnSled (Instruction i) behind = (rest : List ℕ) → spelling i ++ behind ≡ 0xC3 ∷ 0x2E ∷ rest → ⊥
-IsNoReturnSled (JumpSled shift) behind = ⊤
-IsNoReturnSled (ReturnSled shift) behind = ⊤
-IsNoReturnSled Align behind = ⊤
+IsNoReturnSled (Instruction i) following = (rest : List ℕ) → spelling i ++ following ≡ 0xC3 ∷ 0x2E ∷ rest → ⊥
+IsNoReturnSled (JumpSled shift) following = ⊤
+IsNoReturnSled (ReturnSled shift) following = ⊤
+IsNoReturnSled Align following = ⊤
 
 -- no pieces begin with the second byte of a return sled
 no_second : (ps : List Piece) (rest : List ℕ) → AllByRecursion IsPiece ps → flat_map piece_bytes ps ≡ 0x2E ∷ rest → ⊥
@@ -168,8 +168,8 @@ same_pieces one (p ∷ ps) (q ∷ qs) fits fits' e =
     let rest = flat_map piece_bytes ps in
     let rest' = flat_map piece_bytes qs in
     let same : p ≡ q = same_piece one p q rest rest' fits.0 fits'.0 (no_return_sled_at p ps fits.0 fits.1) (no_return_sled_at q qs fits'.0 fits'.1) e in
-    let behind : rest ≡ rest' = append_cancel_left (piece_bytes p) rest rest' (e ∙ ap (λ (x : Piece). piece_bytes x ++ rest') (sym same)) in
-    ap (λ (x : Piece). x ∷ ps) same ∙ ap (λ (x : List Piece). q ∷ x) (same_pieces one ps qs fits.1 fits'.1 behind)
+    let following : rest ≡ rest' = append_cancel_left (piece_bytes p) rest rest' (e ∙ ap (λ (x : Piece). piece_bytes x ++ rest') (sym same)) in
+    ap (λ (x : Piece). x ∷ ps) same ∙ ap (λ (x : List Piece). q ∷ x) (same_pieces one ps qs fits.1 fits'.1 following)
 
 -- no code has two lists of units
 pub one_list : OneInstruction → (code : List ℕ) (ps qs : List Piece) → IsUnits code ps → IsUnits code qs → ps ≡ qs
@@ -178,9 +178,9 @@ one_list one code ps qs p q = same_pieces one ps qs p.pieces_fit q.pieces_fit (s
 -- ---- the first piece
 
 -- the piece that the bytes begin with is the first of the pieces
-pub first_is : OneInstruction → (p first : Piece) (others : List Piece) (bytes behind : List ℕ) → IsPiece p → bytes ≡ piece_bytes p ++ behind → IsNoReturnSled p behind → IsUnits bytes (first ∷ others) → p ≡ first
-first_is one p first others bytes behind fits e alone u =
-    same_piece one p first behind (flat_map piece_bytes others) fits u.pieces_fit.0 alone (no_return_sled_at first others u.pieces_fit.0 u.pieces_fit.1) (sym e ∙ u.whole)
+pub first_is : OneInstruction → (p first : Piece) (others : List Piece) (bytes following : List ℕ) → IsPiece p → bytes ≡ piece_bytes p ++ following → IsNoReturnSled p following → IsUnits bytes (first ∷ others) → p ≡ first
+first_is one p first others bytes following fits e alone u =
+    same_piece one p first following (flat_map piece_bytes others) fits u.pieces_fit.0 alone (no_return_sled_at first others u.pieces_fit.0 u.pieces_fit.1) (sym e ∙ u.whole)
 
 -- bytes that begin with a sled's jump, with no nop after it, begin with no unit
 pub no_jump_sled : (first : Piece) (others : List Piece) (bytes nop : List ℕ) → bytes ≡ 0xEB ∷ 0x09 ∷ nop → ((shift : ℕ) → Begins (nop_bytes shift) nop → ⊥) → IsUnits bytes (first ∷ others) → ⊥

@@ -27,18 +27,18 @@ width_is n (JumpSled shift) = refl
 width_is n (ReturnSled shift) = refl
 width_is n Align = refl
 
-behind : (a n : ℕ) (ps : List Piece) (i : ℕ) (u v : Unit) → slice_get (units_from a n ps) i ≡ Some u → slice_get (units_from a n ps) (suc i) ≡ Some v → v.address ≡ u.address + width_of u.what
-behind a n [] i u v e f = absurd (none-some u e)
-behind a n (p ∷ []) zero u v e f = absurd (none-some v f)
-behind a n (p ∷ q ∷ ps) zero u v e f =
+following : (a n : ℕ) (ps : List Piece) (i : ℕ) (u v : Unit) → slice_get (units_from a n ps) i ≡ Some u → slice_get (units_from a n ps) (suc i) ≡ Some v → v.address ≡ u.address + width_of u.what
+following a n [] i u v e f = absurd (none-some u e)
+following a n (p ∷ []) zero u v e f = absurd (none-some v f)
+following a n (p ∷ q ∷ ps) zero u v e f =
     let mine : u.address ≡ a = sym (ap (λ (x : Unit). x.address) (same_Some _ _ e)) in
     let what : u.what ≡ what_of n p = sym (ap (λ (x : Unit). x.what) (same_Some _ _ e)) in
     let next : v.address ≡ a + length (piece_bytes p) = sym (ap (λ (x : Unit). x.address) (same_Some _ _ f)) in
     next ∙ ap (λ (w : ℕ). a + w) (sym (width_is n p)) ∙ ap (λ (w : What). a + width_of w) (sym what) ∙ ap (λ (x : ℕ). x + width_of u.what) (sym mine)
-behind a n (p ∷ ps) (suc i) u v e f = behind (a + length (piece_bytes p)) (n + sleds_in p) ps i u v e f
+following a n (p ∷ ps) (suc i) u v e f = following (a + length (piece_bytes p)) (n + sleds_in p) ps i u v e f
 
 pub contiguous : (base : ℕ) (ps : List Piece) → AreContiguous base (units_from base 0 ps)
-contiguous base ps = record { first = begin base ps; next = λ i u v e f. behind base 0 ps i u v e (rw (← add-one) f) }
+contiguous base ps = record { first = begin base ps; next = λ i u v e f. following base 0 ps i u v e (rw (← add-one) f) }
   where
     begin : (a : ℕ) (qs : List Piece) → IfSome (slice_get (units_from a 0 qs) 0) (λ u. u.address ≡ a)
     begin a [] = tt

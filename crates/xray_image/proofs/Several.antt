@@ -14,20 +14,20 @@ module _ {X : Type 0} (item : List ℕ → Option (X × List ℕ)) where
   join xs x None = refl
   join xs x (Some y) = ap (λ (l : List X). Some (l, y.1)) (sym (append_assoc xs (x ∷ []) y.0))
 
-  behind : ℕ → Option (X × List ℕ) → Option (List X × List ℕ)
-  behind n o = option_and_then (λ first. option_map (λ others. (first.0 ∷ others.0, others.1)) (several item n first.1)) o
+  following : ℕ → Option (X × List ℕ) → Option (List X × List ℕ)
+  following n o = option_and_then (λ first. option_map (λ others. (first.0 ∷ others.0, others.1)) (several item n first.1)) o
 
-  several_suc : (n : ℕ) (bytes : List ℕ) → several item (suc n) bytes ≡ behind n (item bytes)
-  unfolding behind
+  several_suc : (n : ℕ) (bytes : List ℕ) → several item (suc n) bytes ≡ following n (item bytes)
+  unfolding following
   several_suc n bytes = refl
 
   more : (xs : List X) (n : ℕ) (bytes rest : List ℕ) (x : X) → Some (x, rest) ≡ item bytes → with_front xs (several item (suc n) bytes) ≡ with_front (xs ++ x ∷ []) (several item n rest)
-  unfolding behind
-  more xs n bytes rest x e = ap (with_front xs) (several_suc n bytes ∙ ap (behind n) (sym e)) ∙ join xs x (several item n rest)
+  unfolding following
+  more xs n bytes rest x e = ap (with_front xs) (several_suc n bytes ∙ ap (following n) (sym e)) ∙ join xs x (several item n rest)
 
   none : (xs : List X) (n : ℕ) (bytes : List ℕ) → None ≡ item bytes → with_front xs (several item (suc n) bytes) ≡ None
-  unfolding behind
-  none xs n bytes e = ap (with_front xs) (several_suc n bytes ∙ ap (behind n) (sym e))
+  unfolding following
+  none xs n bytes e = ap (with_front xs) (several_suc n bytes ∙ ap (following n) (sym e))
 
   left_is : (count number : ℕ) → number < count → count - number ≡ suc (count - (number + 1))
   left_is count number lt = omega arith

@@ -43,13 +43,13 @@ units_from-append address sleds (p ∷ xs) ys =
 -- ---- units that stand
 
 -- one more unit after those that stand
-stand_push : (address : ℕ) (bytes : List ℕ) (front : List Piece) (end : ℕ) (left : List ℕ) (piece : Piece) (behind : List ℕ)
-    → StandUpTo address bytes front end left → StandsAt end left piece behind → StandUpTo address bytes (front ++ piece ∷ []) (end + length (piece_bytes piece)) behind
-stand_push address bytes [] end left piece behind s at =
-    let here : StandsAt address bytes piece behind = subst (λ (a : ℕ). StandsAt a bytes piece behind) s.0 (subst (λ (l : List ℕ). StandsAt end l piece behind) s.1 at) in
-    (behind, here, (ap (λ (a : ℕ). a + length (piece_bytes piece)) s.0, refl))
-stand_push address bytes (p ∷ ps) end left piece behind s at =
-    (s.0, s.1, stand_push (address + length (piece_bytes p)) s.0 ps end left piece behind s.2 at)
+stand_push : (address : ℕ) (bytes : List ℕ) (front : List Piece) (end : ℕ) (left : List ℕ) (piece : Piece) (following : List ℕ)
+    → StandUpTo address bytes front end left → StandsAt end left piece following → StandUpTo address bytes (front ++ piece ∷ []) (end + length (piece_bytes piece)) following
+stand_push address bytes [] end left piece following s at =
+    let here : StandsAt address bytes piece following = subst (λ (a : ℕ). StandsAt a bytes piece following) s.0 (subst (λ (l : List ℕ). StandsAt end l piece following) s.1 at) in
+    (following, here, (ap (λ (a : ℕ). a + length (piece_bytes piece)) s.0, refl))
+stand_push address bytes (p ∷ ps) end left piece following s at =
+    (s.0, s.1, stand_push (address + length (piece_bytes p)) s.0 ps end left piece following s.2 at)
 
 -- they end where their bytes do
 stand_end : (address : ℕ) (bytes : List ℕ) (front : List Piece) (end : ℕ) (left : List ℕ) → StandUpTo address bytes front end left → end ≡ address + length (flat_map piece_bytes front)
@@ -65,8 +65,8 @@ stand_shown address bytes (p ∷ ps) end left s =
 
 -- ---- the loop
 
-fits_behind : (code : List ℕ) (at n : ℕ) (front : List ℕ) → at < length code → n ≡ length front → drop at code ≡ front ++ drop (at + n) code → at + n ≤ length code
-fits_behind code at n front left wide e =
+fits_after : (code : List ℕ) (at n : ℕ) (front : List ℕ) → at < length code → n ≡ length front → drop at code ≡ front ++ drop (at + n) code → at + n ≤ length code
+fits_after code at n front left wide e =
     let h = ap length e in
     omega (arith, length-append front (drop (at + n) code), length-drop at code, length-drop (at + n) code)
 
@@ -83,7 +83,7 @@ one_more base code at units units' places places' piece n so_far left stands wid
     let next : (base + at) + length (piece_bytes piece) ≡ base + (at + n) = omega arith in
     record {
       front = front ++ piece ∷ [];
-      within = fits_behind code at n (piece_bytes piece) left wide stands.spelled;
+      within = fits_after code at n (piece_bytes piece) left wide stands.spelled;
       stand = subst (λ (a : ℕ). StandUpTo base code (front ++ piece ∷ []) a (drop (at + n) code)) next
           (stand_push base code front (base + at) (drop at code) piece (drop (at + n) code) so_far.stand stands);
       units_are = units_more ∙ ap (λ (us : List Unit). us ++ units_from (base + at) (length places) (piece ∷ [])) so_far.units_are
@@ -133,8 +133,8 @@ next_read base code at units units' places places' piece n rest so_far left e st
     one_more base code at units units' places places' piece n so_far left (subst (StandsAt (base + at) (drop at code) piece) (drop-drop n at code) here) wide units_more places_more
 
 pub stops_here : (base : ℕ) (code : List ℕ) (at : ℕ) (units : List Unit) (places : List SledPlace) (e : NoUnit) (rest : List ℕ) (fault : ImageFault) → IsReadTo base code at units places → at < length code
-    → rest ≡ drop at code → ((piece : Piece) (behind : List ℕ) → StandsAt (base + at) rest piece behind → ⊥) → IsNoUnit rest e → fault ≡ fault_at at e → StopsAt base code fault
+    → rest ≡ drop at code → ((piece : Piece) (following : List ℕ) → StandsAt (base + at) rest piece following → ⊥) → IsNoUnit rest e → fault ≡ fault_at at e → StopsAt base code fault
 stops_here base code at units places e rest fault so_far left same none why is =
     subst (StopsAt base code) (sym is)
-    (stops base code at units places e so_far left (subst (λ (r : List ℕ). (piece : Piece) (behind : List ℕ) → StandsAt (base + at) r piece behind → ⊥) same none)
+    (stops base code at units places e so_far left (subst (λ (r : List ℕ). (piece : Piece) (following : List ℕ) → StandsAt (base + at) r piece following → ⊥) same none)
     (subst (λ (r : List ℕ). IsNoUnit r e) same why))

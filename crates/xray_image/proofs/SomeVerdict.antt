@@ -44,13 +44,13 @@ all_bytes bytes all i =
     ]
 
 -- the rest after a prefix of bytes is bytes
-behind_front : (front behind : List ℕ) → AreBytes (front ++ behind) → AreBytes behind
-behind_front [] behind all = all
-behind_front (x ∷ xs) behind all = behind_front xs behind (All-tail (λ b. b < 256) x (xs ++ behind) all)
+after_front : (front following : List ℕ) → AreBytes (front ++ following) → AreBytes following
+after_front [] following all = all
+after_front (x ∷ xs) following all = after_front xs following (All-tail (λ b. b < 256) x (xs ++ following) all)
 
 -- the same for bytes that are a prefix and a rest
-bytes_behind : (bytes front behind : List ℕ) → bytes ≡ front ++ behind → AreBytes bytes → AreBytes behind
-bytes_behind bytes front behind e all = behind_front front behind (subst AreBytes e all)
+bytes_after : (bytes front following : List ℕ) → bytes ≡ front ++ following → AreBytes bytes → AreBytes following
+bytes_after bytes front following e all = after_front front following (subst AreBytes e all)
 
 -- ---- one place
 
@@ -98,18 +98,18 @@ some_sled bytes all = by_front (known_front (0xEB ∷ 0x09 ∷ []) bytes) (known
     neither no_jumps no_returns Align sled b = sled
 
     by_front : Known (Begins (0xEB ∷ 0x09 ∷ []) bytes) → Known (Begins (0xC3 ∷ 0x2E ∷ []) bytes) → SledOf bytes
-    by_front (inl b) other = jump b.0 b.1 (some_nop b.0 (bytes_behind bytes (0xEB ∷ 0x09 ∷ []) b.0 b.1 all))
-    by_front (inr fails) (inl b) = returns b.0 b.1 (some_nop b.0 (bytes_behind bytes (0xC3 ∷ 0x2E ∷ []) b.0 b.1 all))
+    by_front (inl b) other = jump b.0 b.1 (some_nop b.0 (bytes_after bytes (0xEB ∷ 0x09 ∷ []) b.0 b.1 all))
+    by_front (inr fails) (inl b) = returns b.0 b.1 (some_nop b.0 (bytes_after bytes (0xC3 ∷ 0x2E ∷ []) b.0 b.1 all))
     by_front (inr fails) (inr fails') = inr (neither fails fails')
 
 -- the bytes begin with no unit, and why
 record NoneStands (address : ℕ) (bytes : List ℕ) : Type 0 where
-  none : (piece : Piece) (behind : List ℕ) → StandsAt address bytes piece behind → ⊥
+  none : (piece : Piece) (following : List ℕ) → StandsAt address bytes piece following → ⊥
   why : (place : ℕ) → (fault : ImageFault) × UnitFault place bytes fault
 
 -- the bytes begin with a unit, or they don't
 abbrev UnitOf : ℕ → List ℕ → Type 0
-UnitOf address bytes = ((piece : Piece) × ((behind : List ℕ) × StandsAt address bytes piece behind)) ⊎ NoneStands address bytes
+UnitOf address bytes = ((piece : Piece) × ((following : List ℕ) × StandsAt address bytes piece following)) ⊎ NoneStands address bytes
 
 -- the decoder has an answer to any bytes
 abbrev SomeAnswer : Type 0
@@ -144,11 +144,11 @@ plain_unit one address bytes plain other (Err f) refused =
     no_fault : (i : Instr) → ◌≡◌ {A = Result Instr DecodeFault} (Ok i) (Err f) → ⊥
     no_fault i e = cc
 
-    none : (piece : Piece) (behind : List ℕ) → StandsAt address bytes piece behind → ⊥
-    none (Instruction i) behind s = no_fault i (one bytes (Ok i) (Err f) (s.fits, (behind, s.spelled)) refused)
-    none (JumpSled shift) behind s = plain (inl ((0x09 ∷ nop_bytes shift) ++ behind, s.spelled))
-    none (ReturnSled shift) behind s = plain (inr (nop_bytes shift ++ behind, s.spelled))
-    none Align behind s = other (ap (λ (ns : List ℕ). get_or ns 0 0) s.spelled)
+    none : (piece : Piece) (following : List ℕ) → StandsAt address bytes piece following → ⊥
+    none (Instruction i) following s = no_fault i (one bytes (Ok i) (Err f) (s.fits, (following, s.spelled)) refused)
+    none (JumpSled shift) following s = plain (inl ((0x09 ∷ nop_bytes shift) ++ following, s.spelled))
+    none (ReturnSled shift) following s = plain (inr (nop_bytes shift ++ following, s.spelled))
+    none Align following s = other (ap (λ (ns : List ℕ). get_or ns 0 0) s.spelled)
 
 -- bytes begin with a unit, or they don't
 some_unit : SomeAnswer → OneAnswer → (address first : ℕ) (rest : List ℕ) → AreBytes (first ∷ rest) → UnitOf address (first ∷ rest)
@@ -184,28 +184,28 @@ no_bytes : (address : ℕ) → Front address []
 no_bytes address = record { pieces = []; end = address; left = []; stand = (refl, refl); ends = inl refl }
 
 -- one unit before others
-one_before : (address : ℕ) (bytes : List ℕ) (piece : Piece) (behind : List ℕ) → StandsAt address bytes piece behind
-    → Front (address + length (piece_bytes piece)) behind → Front address bytes
-one_before address bytes piece behind stands rest =
-    record { pieces = piece ∷ rest.pieces; end = rest.end; left = rest.left; stand = (behind, stands, rest.stand); ends = rest.ends }
+one_before : (address : ℕ) (bytes : List ℕ) (piece : Piece) (following : List ℕ) → StandsAt address bytes piece following
+    → Front (address + length (piece_bytes piece)) following → Front address bytes
+one_before address bytes piece following stands rest =
+    record { pieces = piece ∷ rest.pieces; end = rest.end; left = rest.left; stand = (following, stands, rest.stand); ends = rest.ends }
 
 -- Units stand up to the end, or up to where none follows. Each has a byte, so there are at most as many units as bytes.
 some_front : SomeAnswer → OneAnswer → (most address : ℕ) (bytes : List ℕ) → length bytes ≤ most → AreBytes bytes → Front address bytes
 some_front some one most address [] short all = no_bytes address
 some_front some one zero address (x ∷ xs) short all = absurd (omega arith)
 some_front some one (suc most) address (x ∷ xs) short all =
-    by_unit (λ next behind few here. some_front some one most next behind few here) (some_unit some one address x xs all)
+    by_unit (λ next following few here. some_front some one most next following few here) (some_unit some one address x xs all)
   where
-    fewer : (piece : Piece) (behind : List ℕ) → StandsAt address (x ∷ xs) piece behind → length behind ≤ most
-    fewer piece behind s =
+    fewer : (piece : Piece) (following : List ℕ) → StandsAt address (x ∷ xs) piece following → length following ≤ most
+    fewer piece following s =
         let h = ap length s.spelled in
-        omega (arith, length-append (piece_bytes piece) behind, piece_has_byte piece)
+        omega (arith, length-append (piece_bytes piece) following, piece_has_byte piece)
 
-    by_unit : ((next : ℕ) (behind : List ℕ) → length behind ≤ most → AreBytes behind → Front next behind) → UnitOf address (x ∷ xs)
+    by_unit : ((next : ℕ) (following : List ℕ) → length following ≤ most → AreBytes following → Front next following) → UnitOf address (x ∷ xs)
         → Front address (x ∷ xs)
-    by_unit go (inl (piece, (behind, s))) =
-        one_before address (x ∷ xs) piece behind s
-        (go (address + length (piece_bytes piece)) behind (fewer piece behind s) (bytes_behind (x ∷ xs) (piece_bytes piece) behind s.spelled all))
+    by_unit go (inl (piece, (following, s))) =
+        one_before address (x ∷ xs) piece following s
+        (go (address + length (piece_bytes piece)) following (fewer piece following s) (bytes_after (x ∷ xs) (piece_bytes piece) following s.spelled all))
     by_unit go (inr none) =
         record { pieces = []; end = address; left = x ∷ xs; stand = (refl, refl); ends = inr (record { some_left = λ e. cc; stands = none }) }
 
@@ -338,7 +338,7 @@ some_parts : SomeAnswer → OneAnswer → (bytes : List ℕ) → AreBytes bytes 
 some_parts some one bytes all =
     some_part (parts_of bytes) faults.Short _
     (λ parts e. some_needs (parts.rest ≡ []) faults.Trailing _ (known_list parts.rest [])
-    (λ nothing_behind. some_needs_units some one (base_address bytes) parts.code (code_bytes bytes parts e all) _
+    (λ nothing_after. some_needs_units some one (base_address bytes) parts.code (code_bytes bytes parts e all) _
     (λ pieces. some_program parts.entries (places_from (base_address bytes) pieces) (program_of bytes parts pieces))))
 
 -- each file reads as something

@@ -14,11 +14,11 @@ use Rattle.xray_image.proofs.Pieces.{OneInstruction, IsNoReturnSled, same_piece,
 -- ---- one place
 
 -- an instruction that stands somewhere isn't a return before 2E
-no_return_sled : (address : ℕ) (bytes : List ℕ) (p : Piece) (behind : List ℕ) → StandsAt address bytes p behind → IsNoReturnSled p behind
-no_return_sled address bytes (Instruction i) behind s = λ rest e. s.place (inr (rest, s.spelled ∙ e))
-no_return_sled address bytes (JumpSled shift) behind s = tt
-no_return_sled address bytes (ReturnSled shift) behind s = tt
-no_return_sled address bytes Align behind s = tt
+no_return_sled : (address : ℕ) (bytes : List ℕ) (p : Piece) (following : List ℕ) → StandsAt address bytes p following → IsNoReturnSled p following
+no_return_sled address bytes (Instruction i) following s = λ rest e. s.place (inr (rest, s.spelled ∙ e))
+no_return_sled address bytes (JumpSled shift) following s = tt
+no_return_sled address bytes (ReturnSled shift) following s = tt
+no_return_sled address bytes Align following s = tt
 
 -- the bytes determine the unit at a place and the bytes after it
 pub stands_once : OneInstruction → (address : ℕ) (bytes : List ℕ) (p q : Piece) (s t : List ℕ) → StandsAt address bytes p s → StandsAt address bytes q t → (p ≡ q) × (s ≡ t)
@@ -32,14 +32,14 @@ stands_once one address bytes p q s t x y =
 
 -- the bytes begin with no unit
 pub record IsStuck (address : ℕ) (bytes : List ℕ) : Type 0 where
-  pub none : (piece : Piece) (behind : List ℕ) → StandsAt address bytes piece behind → ⊥
+  pub none : (piece : Piece) (following : List ℕ) → StandsAt address bytes piece following → ⊥
 
 -- no bytes begin with no unit
 pub stuck_at_end : (address : ℕ) → IsStuck address []
 stuck_at_end address = record {
-  none = λ piece behind s.
+  none = λ piece following s.
       let h = ap length s.spelled in
-      omega (arith, length-append (piece_bytes piece) behind, piece_has_byte piece);
+      omega (arith, length-append (piece_bytes piece) following, piece_has_byte piece);
 }
 
 -- units up to where none follows
@@ -66,11 +66,11 @@ one_front one address bytes (p ∷ ps) [] end end' left left' f g =
 one_front one address bytes (p ∷ ps) (q ∷ qs) end end' left left' f g =
     let same = stands_once one address bytes p q f.stand.0 g.stand.0 f.stand.1 g.stand.1 in
     let next = address + length (piece_bytes p) in
-    let behind = f.stand.0 in
-    let others : StandUpTo next behind qs end' left' =
+    let following = f.stand.0 in
+    let others : StandUpTo next following qs end' left' =
     subst (λ (b : List ℕ). StandUpTo next b qs end' left') (sym same.1)
     (subst (λ (x : Piece). StandUpTo (address + length (piece_bytes x)) g.stand.0 qs end' left') (sym same.0) g.stand.2) in
-    let rest = one_front one next behind ps qs end end' left left' (record { stand = f.stand.2; stuck = f.stuck }) (record { stand = others; stuck = g.stuck }) in
+    let rest = one_front one next following ps qs end end' left left' (record { stand = f.stand.2; stuck = f.stuck }) (record { stand = others; stuck = g.stuck }) in
     record {
       pieces = ap (λ (x : Piece). x ∷ ps) same.0 ∙ ap (λ (x : List Piece). q ∷ x) rest.pieces;
       ends = rest.ends;
@@ -79,12 +79,12 @@ one_front one address bytes (p ∷ ps) (q ∷ qs) end end' left left' f g =
 
 -- ---- the whole code
 
-even_with : (address : ℕ) (bytes : List ℕ) (p : Piece) (behind : List ℕ) (ps : List Piece) → StandsAt address bytes p behind
+even_with : (address : ℕ) (bytes : List ℕ) (p : Piece) (following : List ℕ) (ps : List Piece) → StandsAt address bytes p following
     → All IsEven (places_from (address + length (piece_bytes p)) ps) → All IsEven (places_from address (p ∷ ps))
-even_with address bytes (Instruction i) behind ps s even = even
-even_with address bytes (JumpSled shift) behind ps s even = All-cons IsEven (record { address = address; shift = shift; returns = false }) (places_from (address + 11) ps) s.place even
-even_with address bytes (ReturnSled shift) behind ps s even = All-cons IsEven (record { address = address; shift = shift; returns = true }) (places_from (address + 11) ps) s.place even
-even_with address bytes Align behind ps s even = even
+even_with address bytes (Instruction i) following ps s even = even
+even_with address bytes (JumpSled shift) following ps s even = All-cons IsEven (record { address = address; shift = shift; returns = false }) (places_from (address + 11) ps) s.place even
+even_with address bytes (ReturnSled shift) following ps s even = All-cons IsEven (record { address = address; shift = shift; returns = true }) (places_from (address + 11) ps) s.place even
+even_with address bytes Align following ps s even = even
 
 -- units that stand up to the end are the units of the code, and their sleds have even addresses
 pub stand_are : (address : ℕ) (bytes : List ℕ) (pieces : List Piece) (end : ℕ) → StandUpTo address bytes pieces end [] → IsUnits bytes pieces × All IsEven (places_from address pieces)
@@ -96,11 +96,11 @@ stand_are address bytes (p ∷ ps) end s =
       even_with address bytes p s.0 ps here rest.1,
     )
 
-even_behind : (address : ℕ) (p : Piece) (ps : List Piece) → All IsEven (places_from address (p ∷ ps)) → All IsEven (places_from (address + length (piece_bytes p)) ps)
-even_behind address (Instruction i) ps even = even
-even_behind address (JumpSled shift) ps even = All-tail IsEven (record { address = address; shift = shift; returns = false }) (places_from (address + 11) ps) even
-even_behind address (ReturnSled shift) ps even = All-tail IsEven (record { address = address; shift = shift; returns = true }) (places_from (address + 11) ps) even
-even_behind address Align ps even = even
+even_after : (address : ℕ) (p : Piece) (ps : List Piece) → All IsEven (places_from address (p ∷ ps)) → All IsEven (places_from (address + length (piece_bytes p)) ps)
+even_after address (Instruction i) ps even = even
+even_after address (JumpSled shift) ps even = All-tail IsEven (record { address = address; shift = shift; returns = false }) (places_from (address + 11) ps) even
+even_after address (ReturnSled shift) ps even = All-tail IsEven (record { address = address; shift = shift; returns = true }) (places_from (address + 11) ps) even
+even_after address Align ps even = even
 
 -- an instruction before units doesn't begin as a sled
 begins_no_sled : (i : Instr) (ps : List Piece) (bytes : List ℕ) → IsNamed i → AllByRecursion IsPiece ps → bytes ≡ spelling i ++ flat_map piece_bytes ps → BeginsAsSled bytes → ⊥
@@ -118,13 +118,13 @@ may_stand address bytes Align ps e fit fits even = tt
 pub units_stand : (address : ℕ) (bytes : List ℕ) (pieces : List Piece) → IsUnits bytes pieces → All IsEven (places_from address pieces) → StandUpTo address bytes pieces (address + length bytes) []
 units_stand address bytes [] u even = (let h = ap length u.whole in omega arith, sym u.whole)
 units_stand address bytes (p ∷ ps) u even =
-    let behind = flat_map piece_bytes ps in
+    let following = flat_map piece_bytes ps in
     let next = address + length (piece_bytes p) in
-    let rest : StandUpTo next behind ps (next + length behind) [] = units_stand next behind ps (record { whole = refl; pieces_fit = u.pieces_fit.1 }) (even_behind address p ps even) in
-    let end : next + length behind ≡ address + length bytes = omega (arith, ap length u.whole, length-append (piece_bytes p) behind) in (
-      behind,
+    let rest : StandUpTo next following ps (next + length following) [] = units_stand next following ps (record { whole = refl; pieces_fit = u.pieces_fit.1 }) (even_after address p ps even) in
+    let end : next + length following ≡ address + length bytes = omega (arith, ap length u.whole, length-append (piece_bytes p) following) in (
+      following,
       record { spelled = u.whole; fits = u.pieces_fit.0; place = may_stand address bytes p ps u.whole u.pieces_fit.0 u.pieces_fit.1 even },
-      subst (λ (e : ℕ). StandUpTo next behind ps e []) end rest,
+      subst (λ (e : ℕ). StandUpTo next following ps e []) end rest,
     )
 
 -- the units stand up to the code's end exactly when they are the code and their sleds have even addresses

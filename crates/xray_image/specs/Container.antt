@@ -75,10 +75,10 @@ pub record Parts : Type 0 where
 abbrev pub parts_of : List ℕ → Option Parts
 parts_of bytes =
     let code = take (code_length bytes) (drop 64 bytes) in
-    let behind = drop (64 + code_length bytes) bytes in
+    let following = drop (64 + code_length bytes) bytes in
     if nat_lt (length bytes) (64 + code_length bytes) then None
     else option_and_then
     (λ functions. option_map
     (λ entries. record { code = code; functions = functions.0; entries = entries.0; rest = entries.1 })
     (several map_entry_at (entry_count bytes) functions.1))
-    (several function_at (function_count bytes) behind)
+    (several function_at (function_count bytes) following)

@@ -51,14 +51,14 @@ is_name_byte b =
     || (b == 95) || (b == 46) || (b == 36)
 
 -- the first function begins at the base, and each other one above the one before it
-abbrev pub BeginsBehind : ℕ → Option Function → ℕ → Type 0
-BeginsBehind base None start = start ≡ base
-BeginsBehind base (Some before) start = before.start < start
+abbrev pub BeginsAfter : ℕ → Option Function → ℕ → Type 0
+BeginsAfter base None start = start ≡ base
+BeginsAfter base (Some before) start = before.start < start
 
 -- a function that may come after these: at a unit, in ascending order, with a name of its own
 pub record IsFunction (base : ℕ) (units : List Unit) (before : List Function) (f : Function) : Type 0 where
   pub at_unit : Contains (addresses units) f.start
-  pub in_order : BeginsBehind base (last_or None before) f.start
+  pub in_order : BeginsAfter base (last_or None before) f.start
   pub has_name : f.name ≢ []
   pub name_bytes : All (λ b. is_name_byte b ≡ true) f.name
   pub own_name : All (λ g. g.name ≢ f.name) before
@@ -126,16 +126,16 @@ sled_of entries (place, entry) = record {
 
 -- where a branch goes, as a whole number: the address after it, plus the distance that it names
 abbrev pub branch_target : ℕ → Instr → Option ℤ
-branch_target behind (Mov dst imm) = None
-branch_target behind (Add dst src) = None
-branch_target behind (Sub dst src) = None
-branch_target behind (Push reg) = None
-branch_target behind (Pop reg) = None
-branch_target behind (Call rel) = Some (pos behind +ℤ rel)
-branch_target behind (Jmp rel) = Some (pos behind +ℤ rel)
-branch_target behind (Jnz rel) = Some (pos behind +ℤ rel)
-branch_target behind Ret = None
-branch_target behind (Out port) = None
+branch_target following (Mov dst imm) = None
+branch_target following (Add dst src) = None
+branch_target following (Sub dst src) = None
+branch_target following (Push reg) = None
+branch_target following (Pop reg) = None
+branch_target following (Call rel) = Some (pos following +ℤ rel)
+branch_target following (Jmp rel) = Some (pos following +ℤ rel)
+branch_target following (Jnz rel) = Some (pos following +ℤ rel)
+branch_target following Ret = None
+branch_target following (Out port) = None
 
 -- if a unit branches, it goes to a unit
 abbrev pub BranchReaches : List Unit → Unit → Type 0
@@ -167,7 +167,7 @@ pub record IsAccepted (bytes : List ℕ) (program : Program) : Type 0 where
   pub header : HasHeader bytes
   pub parts : Parts
   pub reaches : parts_of bytes ≡ Some parts
-  pub nothing_behind : parts.rest ≡ []
+  pub nothing_after : parts.rest ≡ []
   pub pieces : List Piece
   pub units : IsUnits parts.code pieces
   pub even_sleds : All (λ place. place.address % 2 ≡ 0) (places_from (base_address bytes) pieces)

@@ -30,9 +30,9 @@ MayStand address bytes (JumpSled shift) = address % 2 ≡ 0
 MayStand address bytes (ReturnSled shift) = address % 2 ≡ 0
 MayStand address bytes Align = ⊤
 
--- at this address, the bytes begin with this unit, and `behind` is the rest
-pub record StandsAt (address : ℕ) (bytes : List ℕ) (piece : Piece) (behind : List ℕ) : Type 0 where
-  pub spelled : bytes ≡ piece_bytes piece ++ behind
+-- at this address, the bytes begin with this unit, and `following` is the rest
+pub record StandsAt (address : ℕ) (bytes : List ℕ) (piece : Piece) (following : List ℕ) : Type 0 where
+  pub spelled : bytes ≡ piece_bytes piece ++ following
   pub fits : IsPiece piece
   pub place : MayStand address bytes piece
 
@@ -40,8 +40,8 @@ pub record StandsAt (address : ℕ) (bytes : List ℕ) (piece : Piece) (behind :
 abbrev pub StandUpTo : ℕ → List ℕ → List Piece → ℕ → List ℕ → Type 0
 StandUpTo address bytes [] end left = (end ≡ address) × (left ≡ bytes)
 StandUpTo address bytes (piece ∷ pieces) end left =
-    (behind : List ℕ) × StandsAt address bytes piece behind
-    × StandUpTo (address + length (piece_bytes piece)) behind pieces end left
+    (following : List ℕ) × StandsAt address bytes piece following
+    × StandUpTo (address + length (piece_bytes piece)) following pieces end left
 
 -- why the bytes at a place of the code begin with no unit: a sled is begun and isn't one, or the decoder's fault
 abbrev pub UnitFault : ℕ → List ℕ → ImageFault → Type 0
@@ -56,7 +56,7 @@ pub record StopsAt (base : ℕ) (code : List ℕ) (fault : ImageFault) : Type 0 
   pub left : List ℕ
   pub stand : StandUpTo base code front address left
   pub some_left : left ≢ []
-  pub none_goes_on : (piece : Piece) (behind : List ℕ) → StandsAt address left piece behind → ⊥
+  pub none_goes_on : (piece : Piece) (following : List ℕ) → StandsAt address left piece following → ⊥
   pub why : UnitFault (address - base) left fault
 
 -- The units have to be the whole code. The first place where no unit stands decides.

@@ -1,7 +1,6 @@
 //! The text of a sled map.
 
-ghost use Rattle.std.specs.Prelude.{◌≡◌, [], ⊤};
-ghost use Rattle.std.specs.Option.{unwrap_or};
+ghost use Rattle.std.specs.{Prelude.{◌≡◌, [], ⊤}, Option.{unwrap_or}};
 ghost use Rattle.xray_io.specs.Text.{AddsText};
 ghost use Rattle.xray_image.specs.Extract.{extract_text, sled_line, kind_text, truth_text};
 ghost use Rattle.xray_image.specs.Ids.{name_of};

@@ -4,7 +4,7 @@ ghost use Rattle.std.specs.Prelude.{◌≡◌, ◌<◌, ◌^◌, ◌↔◌, ◌�
 ghost use Rattle.std.specs.Str.{bytes_eq};
 ghost use Rattle.xray_image.specs.declared.unit.Unit.{Unit};
 ghost use Rattle.xray_image.specs.private.Index.{IsIndexOf};
-ghost use Rattle.xray_image.specs.private.Judging.{IsAbove, IsName, StandsBehind, is_among};
+ghost use Rattle.xray_image.specs.private.Judging.{IsAbove, IsName, StandsAfter, is_among};
 ghost use Rattle.xray_image.specs.Program.{addresses};
 ghost use Rattle.xray_image.specs.private.Reading.{IsFirstFault};
 ghost use Rattle.xray_image.specs.Table.{FunctionIsFit};
@@ -45,7 +45,7 @@ fn is_unit(index: &UnitIndex, address: u64) -> bool
 /// Whether a function may come after one that begins at `last`. Earlier names aren't looked at.
 fn may_stand(base: u64, index: &UnitIndex, last: Option<u64>, function: &FunctionEntry<'_>) -> bool
     ensures { (all : List ℕ) → IsIndexOf all index.now
-        → IsTrue result ↔ StandsBehind base all last (function_of function.now) }
+        → IsTrue result ↔ StandsAfter base all last (function_of function.now) }
 {
     is_above(base, last, function.start) && is_unit(index, function.start) && is_name(function.name)
 }

@@ -47,8 +47,7 @@ pub(crate) struct Header {
 }
 
 impl Header {
-    ghost use Rattle.xray_image.specs.Header.{HasHeader};
-    ghost use Rattle.xray_image.specs.Table.{ReadsAs};
+    ghost use Rattle.xray_image.specs.{Header.{HasHeader}, Table.{ReadsAs}};
     ghost use Rattle.xray_image.specs.private.Views.{IsHeaderOf};
 
     /// The header of a file, or the first fault of its fields, in the order of the checks.

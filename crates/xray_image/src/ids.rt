@@ -3,8 +3,7 @@
 ghost use Rattle.std.specs.Prelude.{◌≡◌, ◌<◌, ◌≤◌, ◌^◌, ◌+◌, ◌-◌, ℕ, List, [], ◌∷◌, ◌++◌, map, length, All, Contains, Some, slice_get, IfOk, OnOk};
 ghost use Rattle.std.specs.List.Sorted.{IsStrictlyIncreasing, IsNonDecreasing};
 ghost use Rattle.xray_image.specs.Program.{distinct, id_of};
-ghost use Rattle.xray_image.specs.private.Numbering.{AreNumbersOf};
-ghost use Rattle.xray_image.specs.private.Views.{entry_of};
+ghost use Rattle.xray_image.specs.private.{Numbering.{AreNumbersOf}, Views.{entry_of}};
 
 use crate::parts::{FunctionEntry, MapLine};
 use std::alloc::{AllocError, Global};

@@ -64,8 +64,7 @@ impl Model for Image {
 impl Image {
     ghost use Rattle.xray_image.specs.Limits.{most_sleds};
     ghost use Rattle.xray_image.specs.Program.{Program, IsAccepted, addresses, trampoline_of};
-    ghost use Rattle.xray_image.specs.Layout.{AreContiguous, SledsStand};
-    ghost use Rattle.xray_image.specs.Ids.{id_count, name_of};
+    ghost use Rattle.xray_image.specs.{Layout.{AreContiguous, SledsStand}, Ids.{id_count, name_of}};
 
     /// The address of the code's first byte.
     pub fn base(&self) -> u64

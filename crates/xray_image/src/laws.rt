@@ -1,8 +1,7 @@
 //! Laws of the definitions. Each law is the contract of a function that does nothing.
 
 ghost use Rattle.std.specs.Prelude.{◌≡◌, ◌<◌, ◌↔◌, List, ℕ, All, Ok};
-ghost use Rattle.xray_image.specs.Units.{Piece, IsUnits};
-ghost use Rattle.xray_image.specs.Program.{Program, IsAccepted};
+ghost use Rattle.xray_image.specs.{Units.{Piece, IsUnits}, Program.{Program, IsAccepted}};
 ghost use Rattle.xray_image.specs.Table.{Verdict, ReadsAs};
 
 use subset_decode::{one_answer, one_instruction};

@@ -2,8 +2,7 @@
 
 ghost use Rattle.std.specs.Prelude.{◌≡◌, ◌≤◌, ◌⊎◌, ℕ, List, length, map, Option, Some, None, Err, IfOk, IfErr};
 ghost use Rattle.std.specs.Option.{option_map};
-ghost use Rattle.xray_image.specs.Container.{several, parts_of};
-ghost use Rattle.xray_image.specs.Table.{ReadsParts};
+ghost use Rattle.xray_image.specs.{Container.{several, parts_of}, Table.{ReadsParts}};
 ghost use Rattle.xray_image.specs.private.Views.{parts_of_view, IsHeaderOf};
 
 use crate::fault::ImageFault;
@@ -137,11 +136,11 @@ fn read_entries<'a, E: Counted<'a>>(
     let mut entries = Vec::new(alloc);
     let mut rest = bytes;
     for _number in 0..count {
-        let Some((entry, behind)) = E::read(rest) else {
+        let Some((entry, following)) = E::read(rest) else {
             return Err(ImageFault::Short);
         };
         entries.push(entry)?;
-        rest = behind;
+        rest = following;
     }
     Ok((entries, rest))
 }
@@ -160,12 +159,12 @@ impl<'a> FileParts<'a> {
         ensures refused { IfErr result (λ fault. (fault ≡ ImageFault.NoMemory)
             ⊎ ReadsParts bytes.now (Err fault)) }
     {
-        let (_, behind) = bytes.split_at(HEADER_LENGTH);
+        let (_, following) = bytes.split_at(HEADER_LENGTH);
         let code_length = header.code_length as usize;
-        if behind.len() < code_length {
+        if following.len() < code_length {
             return Err(ImageFault::Short);
         }
-        let (code, rest) = behind.split_at(code_length);
+        let (code, rest) = following.split_at(code_length);
         let (functions, rest) = read_entries::<FunctionEntry>(alloc, header.functions, rest)?;
         let (entries, rest) = read_entries::<MapLine>(alloc, header.entries, rest)?;
         if !rest.is_empty() {

@@ -14,8 +14,7 @@ pub enum SledKind {
 }
 
 impl SledKind {
-    ghost use Rattle.xray_image.specs.Kinds.{kind_number};
-    ghost use Rattle.xray_image.specs.Program.{kind_of};
+    ghost use Rattle.xray_image.specs.{Kinds.{kind_number}, Program.{kind_of}};
 
     /// The number of the kind in an entry of the sled map: that of compiler-rt's `XRayEntryType`.
     pub fn number(self) -> u8

@@ -1,8 +1,7 @@
 //! Checks of the sled map's entries against the sleds of the code.
 
 ghost use Rattle.std.specs.Prelude.{◌≡◌, ◌<◌, ◌≤◌, ◌^◌, ◌↔◌, ◌-ℤ◌, ◌+◌, ℕ, pos, length, map, IsTrue, OnOk, IfOk, IfErr, FitsSigned};
-ghost use Rattle.std.specs.List.{zip};
-ghost use Rattle.std.specs.Int.{w32};
+ghost use Rattle.std.specs.{List.{zip}, Int.{w32}};
 ghost use Rattle.xray_image.specs.private.Judging.{Ascend};
 ghost use Rattle.xray_image.specs.Program.{KindFits, LiesIn, IsEntryOf, Reaches, kind_of, id_of, sled_of};
 ghost use Rattle.xray_image.specs.private.Reading.{IsFirstFault};

@@ -5,8 +5,7 @@ ghost use Rattle.subset_decode.specs.Encoding.{Begins};
 ghost use Rattle.xray_image.specs.Units.{Piece, piece_bytes, nop_bytes, what_of, sleds_in, IsPiece};
 ghost use Rattle.xray_image.specs.private.SledPieces.{IsSled};
 ghost use Rattle.xray_image.specs.Table.{BeginsAsSled, StandsAt};
-ghost use Rattle.xray_image.specs.private.UnitTable.{what_at};
-ghost use Rattle.xray_image.specs.private.Views.{piece_of, IsNoUnit};
+ghost use Rattle.xray_image.specs.private.{UnitTable.{what_at}, Views.{piece_of, IsNoUnit}};
 
 use crate::fields::u32_at;
 use crate::format::{ALIGNMENT, JUMP_HEAD, NOP, RETURN_HEAD, SLED_LENGTH};
@@ -54,7 +53,7 @@ pub(crate) enum NoUnit {
 }
 
 /// The bytes after a prefix, if the bytes begin with it.
-fn behind<'a>(bytes: &'a [u8], front: &[u8]) -> Option<&'a [u8]>
+fn following<'a>(bytes: &'a [u8], front: &[u8]) -> Option<&'a [u8]>
     ensures { MatchOption result ((rest : List ℕ) → bytes.now ≡ front.now ++ rest → ⊥)
         (λ rest. bytes.now ≡ front.now ++ rest.now) }
 {
@@ -66,7 +65,7 @@ fn nop_shift(bytes: &[u8]) -> Option<u32>
     ensures found { IfSome result (λ shift. (shift < 2 ^ 32) × Begins (nop_bytes shift) bytes.now) }
     ensures only { (shift : ℕ) → Begins (nop_bytes shift) bytes.now → IsSome result }
 {
-    let field = behind(bytes, &NOP)?;
+    let field = following(bytes, &NOP)?;
     if field.len() < SHIFT_LENGTH {
         return None;
     }
@@ -77,7 +76,7 @@ fn nop_shift(bytes: &[u8]) -> Option<u32>
 fn begins_as_sled(bytes: &[u8]) -> bool
     ensures { IsTrue result ↔ BeginsAsSled bytes.now }
 {
-    behind(bytes, &JUMP).is_some() || behind(bytes, &RETURN_HEAD).is_some()
+    following(bytes, &JUMP).is_some() || following(bytes, &RETURN_HEAD).is_some()
 }
 
 /// The sled that the bytes begin with, if they do.
@@ -86,11 +85,11 @@ fn whole_sled(bytes: &[u8]) -> Option<RawUnit>
         × Begins (piece_bytes (piece_of raw)) bytes.now) }
     ensures only { (piece : Piece) → IsSled piece → Begins (piece_bytes piece) bytes.now → IsSome result }
 {
-    if let Some(nop) = behind(bytes, &JUMP_HEAD) {
+    if let Some(nop) = following(bytes, &JUMP_HEAD) {
         let shift = nop_shift(nop)?;
         return Some(RawUnit::JumpSled(shift));
     }
-    let nop = behind(bytes, &RETURN_HEAD)?;
+    let nop = following(bytes, &RETURN_HEAD)?;
     let shift = nop_shift(nop)?;
     Some(RawUnit::ReturnSled(shift))
 }

@@ -7,11 +7,11 @@ use Rattle.xray_io.specs.Writes.{Answer, Sends, sends_on}
 use Rattle.xray_io.specs.declared.text.Text.{Text}
 
 -- room was made, and then bytes were added
-pub adds_behind : {S : Type 0} {written : S → Option (List ℕ)} {faults : S → ℕ} {along : S → S → List Write → Type 0} → Composes along
+pub adds_after : {S : Type 0} {written : S → Option (List ℕ)} {faults : S → ℕ} {along : S → S → List Write → Type 0} → Composes along
     → (first second third : Text S) (bytes : List ℕ) (answer : Answer) → Sends written faults along (sink_of first) (sink_of second) (waiting first) (waiting second) (Ok tt)
     → (length (waiting first) + length bytes ≤ most_waiting → Waits first second [] (Ok tt)) → loan_of second ≡ loan_of first
     → AddsText written faults along second third bytes answer → AddsText written faults along first third bytes answer
-adds_behind both first second third bytes answer sent fits loan adds = record {
+adds_after both first second third bytes answer sent fits loan adds = record {
   sends = sends_on both bytes sent adds.sends;
   gathers = λ within.
       let room = fits within in

@@ -2,8 +2,7 @@
 ghost use Rattle.std.specs.Prelude.{◌≡◌, ◌≢◌, ◌⊎◌, ℕ, ◌+◌, ◌-◌, ◌≤◌, ◌<◌, ◌↔◌, [], ◌∷◌, ◌++◌, List, Option, Some, None, length, take, drop, min, IfOk, IfSome, OnOk, OnErr, IsErr, IsErrOf, IsNone, IsTrue, Contains};
 ghost use Rattle.xray_io.specs.Calls.{Read, Create, Append};
 ghost use Rattle.xray_io.specs.Desk.{Absent, Holds, empty_entry, longer_entry};
-ghost use Rattle.xray_io.specs.Faults.{Rose, raised};
-ghost use Rattle.xray_io.specs.Sink.{Adds};
+ghost use Rattle.xray_io.specs.{Faults.{Rose, raised}, Sink.{Adds}};
 
 use crate::{Desk, Failed, NoMemory, ReadFail, Sink};
 use std::alloc::Global;

@@ -1,7 +1,6 @@
 //! Outputs.
 ghost use Rattle.std.specs.Prelude.{◌≡◌, ℕ, ◌≤◌, [], ◌∷◌, List, length, take, Option, IfOk, OnOk, OnErr};
-ghost use Rattle.xray_io.specs.Calls.{Write, Wrote, HoldsOfNone, Composes};
-ghost use Rattle.xray_io.specs.Faults.{Rose};
+ghost use Rattle.xray_io.specs.{Calls.{Write, Wrote, HoldsOfNone, Composes}, Faults.{Rose}};
 ghost use Rattle.xray_io.specs.Sink.{Adds};
 
 use crate::Failed;

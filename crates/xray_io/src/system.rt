@@ -1,8 +1,7 @@
 //! The edge to the system: files by name, and the standard streams. They don't report their bytes.
 ghost use Rattle.std.specs.Prelude.{◌≡◌, ◌+◌, ◌-◌, ◌^◌, ◌≤◌, ◌<◌, [], length, take, min, string_bytes, None, IfOk, IfSome, OnOk, OnErr};
 ghost use Rattle.std.specs.Io.KnownBytes.{Appends};
-ghost use Rattle.xray_io.specs.Desk.{Untold};
-ghost use Rattle.xray_io.specs.Faults.{raised};
+ghost use Rattle.xray_io.specs.{Desk.{Untold}, Faults.{raised}};
 
 use crate::{Desk, Failed, ReadFail, Sink};
 use std::fs::OpenOptions;

@@ -1,10 +1,7 @@
 //! A whole input, and a whole output.
 ghost use Rattle.std.specs.Prelude.{◌≡◌, ◌≢◌, ◌⊎◌, ℕ, ◌+◌, ◌≤◌, ◌<◌, [], List, length, IfOk, OnOk, OnErr, IsErrOf};
-ghost use Rattle.xray_io.specs.Calls.{Went};
-ghost use Rattle.xray_io.specs.Desk.{Absent, Holds};
-ghost use Rattle.xray_io.specs.Faults.{Rose};
-ghost use Rattle.xray_io.specs.Reads.{IsReading};
-ghost use Rattle.xray_io.specs.Writes.{WritesText};
+ghost use Rattle.xray_io.specs.{Calls.{Went}, Desk.{Absent, Holds}, Faults.{Rose}};
+ghost use Rattle.xray_io.specs.{Reads.{IsReading}, Writes.{WritesText}};
 ghost use Rattle.xray_io.specs.private.Pieces.{IsFront, IsPiece};
 
 use crate::{Desk, ReadError, Sink, WriteFault};

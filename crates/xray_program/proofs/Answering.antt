@@ -12,7 +12,7 @@ use Rattle.xray_program.specs.Outputs.{FailsWriting}
 use Rattle.command_words.specs.Words.{Command}
 use Rattle.xray_program.specs.private.CallLaws.{CallLaws}
 use Rattle.xray_program.specs.private.Stops.{answer_of, stop_status, told_of}
-use Rattle.xray_program.specs.private.Works.{Ends, KeepsOthers, SaidFits, StandsBehind, Writes}
+use Rattle.xray_program.specs.private.Works.{Ends, KeepsOthers, SaidFits, StandsAfter, Writes}
 use Rattle.xray_program.specs.declared.stop.Stop.{Stop}
 use Rattle.xray_program.specs.declared.stop.Stop.TheVariants as stops
 use Rattle.xray_io.specs.World.{DeskView, World}
@@ -78,7 +78,7 @@ leaves_all said before after outcome outputs text meant is writes =
 
 -- how the parts of the contract follow, one for each ending
 by_ending : CallLaws → (Way : List Call → Type 0) (said : Option Command) (before after : World) (ending : Ending)
-    → (status_at ending ≡ 0 → SaidFits said) → StandsBehind said before.desk after.desk before.out after.out ending → KeepsOthers (outputs_named said) before.desk after.desk
+    → (status_at ending ≡ 0 → SaidFits said) → StandsAfter said before.desk after.desk before.out after.out ending → KeepsOthers (outputs_named said) before.desk after.desk
     → Went Way (InOrder said before.desk after.desk ending) → Says before.err after.err (line_at ending) → Answered said before after Way (status_at ending)
 by_ending laws Way said before after (With BadLine) fits (is, nothing) kept order told = record {
   ending = With BadLine;

@@ -17,7 +17,7 @@ use Rattle.xray_program.specs.private.Stops.{IsUnsaid, answer_of, stop_line, sto
 use Rattle.xray_program.specs.private.Takes.{IsStopAtInput, StopsTakings}
 use Rattle.xray_program.specs.Taking.{AcceptsFirst, DeskReads, Sound, AllAccepted}
 use Rattle.command_words.specs.Words.{Command, outputs_of}
-use Rattle.xray_program.specs.private.Works.{AreMakings, Delivers, Ends, Finishes, KeepsOthers, StandsBehind, StopsOutputs, Writes}
+use Rattle.xray_program.specs.private.Works.{AreMakings, Delivers, Ends, Finishes, KeepsOthers, StandsAfter, StopsOutputs, Writes}
 use Rattle.xray_io.specs.World.{DeskView, SinkView}
 use Rattle.xray_program.proofs.Ordering.{went_as}
 use Rattle.xray_program.specs.declared.stop.Stop.{Stop}
@@ -30,18 +30,18 @@ pub output_stops : (outputs : List (List ℕ × List ℕ)) (text : List ℕ) (tr
     (Way : List Call → Type 0) (result : Result (Unit {0}) Stop) (stop : Stop) → IsErrAnd result (λ s. s ≡ stop) → StopsOutputs outputs desk desk_now stop
     → Went Way (AreMakings outputs desk desk_now (Err stop)) → Delivers outputs text trouble desk desk_now out out Way result
 output_stops outputs text trouble desk desk_now out Way (Ok done) stop is stands made = absurd is
-output_stops outputs text trouble desk desk_now out Way (Err s) stop is stands made = rw is (behind stop stands made)
+output_stops outputs text trouble desk desk_now out Way (Err s) stop is stands made = rw is (following stop stands made)
   where
-    behind : (stop : Stop) → StopsOutputs outputs desk desk_now stop → Went Way (AreMakings outputs desk desk_now (Err stop))
+    following : (stop : Stop) → StopsOutputs outputs desk desk_now stop → Went Way (AreMakings outputs desk desk_now (Err stop))
         → Delivers outputs text trouble desk desk_now out out Way (Err stop)
-    behind stops.BadLine stands made = stands
-    behind (stops.Unread n) stands made = stands
-    behind (stops.TooLong n) stands made = stands
-    behind (stops.Refused n kind words) stands made = stands
-    behind (stops.Fell words) stands made = absurd stands
-    behind (stops.Unwritten n) stands made =
+    following stops.BadLine stands made = stands
+    following (stops.Unread n) stands made = stands
+    following (stops.TooLong n) stands made = stands
+    following (stops.Refused n kind words) stands made = stands
+    following (stops.Fell words) stands made = absurd stands
+    following (stops.Unwritten n) stands made =
         (inl (stands, refl), went_as Way (FailsAtOutput outputs desk desk_now n.now) (IsUnmade outputs desk desk_now n.now) made (λ calls p. inl p))
-    behind stops.NoMemory stands made = stands
+    following stops.NoMemory stands made = stands
 
 -- what was delivered was written, whether all is well or not
 ended_writes : (outputs : List (List ℕ × List ℕ)) (text : List ℕ) (trouble : Option (List ℕ)) → written_by (ended_by outputs text trouble) ≡ Some (outputs, text)
@@ -132,36 +132,36 @@ pub ends_at_input : (command : Command) (desk desk_now : DeskView) (out : SinkVi
     → IsErrAnd result (λ s. s ≡ stop) → IsStopAtInput (λ reads. Comes reads desk.held command) desk desk_now stop → desk_now.held ≡ desk.held
     → Went Way (StopsTakings (λ reads. Comes reads desk.held command) (inputs_of command) stop) → Ends (Some command) desk desk_now out out Way (answer_of result) (told_of result)
 ends_at_input command desk desk_now out Way (Ok done) stop is stands same went = absurd is
-ends_at_input command desk desk_now out Way (Err s) stop is stands same went = rw is (behind stop stands went)
+ends_at_input command desk desk_now out Way (Err s) stop is stands same went = rw is (following stop stands went)
   where
     kept : KeepsOthers (outputs_of command) desk desk_now
     kept name not = ap (λ (h : List ℕ → Entry). h name) same
 
     -- with this ending, whose status and line are those of the stop
     ended : (ending : Ending) (stop : Stop) → status_at ending ≡ stop_status stop → line_at ending ≡ stop_line stop
-        → StandsBehind (Some command) desk desk_now out out ending → Went Way (InOrder (Some command) desk desk_now ending)
+        → StandsAfter (Some command) desk desk_now out out ending → Went Way (InOrder (Some command) desk desk_now ending)
         → Ends (Some command) desk desk_now out out Way (stop_status stop) (stop_line stop)
     ended ending stop status told stands order =
         record { ending = ending; status = status; told = told; stands = stands; names = kept; order = order }
 
-    behind : (stop : Stop) → IsStopAtInput (λ reads. Comes reads desk.held command) desk desk_now stop
+    following : (stop : Stop) → IsStopAtInput (λ reads. Comes reads desk.held command) desk desk_now stop
         → Went Way (StopsTakings (λ reads. Comes reads desk.held command) (inputs_of command) stop) → Ends (Some command) desk desk_now out out Way (stop_status stop) (stop_line stop)
-    behind stops.BadLine stands went = absurd stands
-    behind (stops.Unread n) stands went =
+    following stops.BadLine stands went = absurd stands
+    following (stops.Unread n) stands went =
         ended (With (Unread n.now)) (stops.Unread n) refl refl (stands, (same, refl))
         (went_as Way _ (InOrder (Some command) desk desk_now (With (Unread n.now))) went (λ calls p.
         let P : List ℕ → Type 0 = λ m. StopsAt (λ reads. Comes reads desk.held command) (inputs_of command) m (λ limit. ReadsUpToFault m (limit + 1)) calls in subst P (sym p.1) p.2))
-    behind (stops.TooLong n) stands went =
+    following (stops.TooLong n) stands went =
         ended (With (TooLong n.now)) (stops.TooLong n) refl refl (stands, (same, refl))
         (went_as Way _ (InOrder (Some command) desk desk_now (With (TooLong n.now))) went (λ calls p.
         let P : List ℕ → Type 0 = λ m. StopsAt (λ reads. Comes reads desk.held command) (inputs_of command) m (λ limit. Reads m (limit + 1) 0 (limit + 1)) calls in subst P (sym p.1) p.2))
-    behind (stops.Refused n kind words) stands went =
+    following (stops.Refused n kind words) stands went =
         ended (With (Refused n.now kind.now (words_text words))) (stops.Refused n kind words) refl refl (stands, (same, refl))
         (went_as Way _ (InOrder (Some command) desk desk_now (With (Refused n.now kind.now (words_text words)))) went (λ calls p.
         let P : List ℕ → Type 0 = λ m. StopsAt (λ reads. Comes reads desk.held command) (inputs_of command) m (λ limit. ReadsWhole m limit) calls in inl (subst P (sym p.1) p.2)))
-    behind (stops.Fell words) stands went = absurd stands
-    behind (stops.Unwritten n) stands went = absurd stands
-    behind stops.NoMemory stands went =
+    following (stops.Fell words) stands went = absurd stands
+    following (stops.Unwritten n) stands went = absurd stands
+    following stops.NoMemory stands went =
         ended NoMemory stops.NoMemory refl refl (same, refl)
         (went_as Way _ (InOrder (Some command) desk desk_now NoMemory) went (λ calls p. inr (inl (p.0, p.2))))
 

@@ -10,7 +10,7 @@ use Rattle.command_words.specs.declared.run_options.Bounds.{Bounds}
 use Rattle.xray_program.specs.private.Ends.{AreEnds, HasRegisters, end_text}
 use Rattle.xray_program.specs.Plain.{IsPlainText, PlainPrints}
 use Rattle.xray_program.specs.Setups.{plain_limits}
-use Rattle.xray_program.proofs.TextLists.{item_behind, joined_texts}
+use Rattle.xray_program.proofs.TextLists.{item_after, joined_texts}
 
 -- what is printed of an end is what is printed of the last state of its run
 pub same_text : (program : Program) (bounds : Bounds) (thread : ℕ) (e : PlainEnd)
@@ -65,7 +65,7 @@ prints_all program bounds ends are = record {
   texts = map end_text ends;
   count = length-map ends end_text ∙ are.count;
   each = λ k t at.
-      let item = item_behind end_text ends k t at in
+      let item = item_after end_text ends k t at in
       subst (IsPlainText program (plain_limits bounds) (k + 1)) item.value
       (same_text program bounds (k + 1) item.item (are.each k item.item item.found));
   joined = joined_texts end_text ends;

@@ -14,8 +14,8 @@ pub record HasItem {X Y : Type 0} (f : X → Y) (xs : List X) (k : ℕ) (y : Y) 
   pub found : slice_get xs k ≡ Some item
   pub value : f item ≡ y
 
-pub item_behind : {X Y : Type 0} (f : X → Y) (xs : List X) (k : ℕ) (y : Y) → slice_get (map f xs) k ≡ Some y → HasItem f xs k y
-item_behind {X} {Y} f xs k y at = found_at (slice_get xs k) refl (sym (slice_get-map f xs k) ∙ at)
+pub item_after : {X Y : Type 0} (f : X → Y) (xs : List X) (k : ℕ) (y : Y) → slice_get (map f xs) k ≡ Some y → HasItem f xs k y
+item_after {X} {Y} f xs k y at = found_at (slice_get xs k) refl (sym (slice_get-map f xs k) ∙ at)
   where
     found_at : (found : Option X) → slice_get xs k ≡ found → option_map f found ≡ Some y → HasItem f xs k y
     found_at None is gives = absurd cc

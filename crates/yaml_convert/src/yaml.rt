@@ -1,8 +1,6 @@
 //! The YAML text of a trace.
 
-ghost use Rattle.std.specs.Prelude.{◌≡◌, ◌++◌, ⊤};
-ghost use Rattle.std.specs.List.{flat_map};
-ghost use Rattle.std.specs.Option.{option_map};
+ghost use Rattle.std.specs.{Prelude.{◌≡◌, ◌++◌, ⊤}, List.{flat_map}, Option.{option_map}};
 ghost use Rattle.xray_io.specs.Text.{AddsText};
 ghost use Rattle.yaml_convert.specs.Yaml.{block_lines, event_end, event_line, event_start, has_events, header_text, kind_text, records_start, truth_text, yaml_text};
 

@@ -29,7 +29,7 @@ traced_after traced statement = (owner_of unless_never 0 (record { traced = trac
 -- the same after several lines
 abbrev pub traced_by : Bool → Lines → Bool
 traced_by traced [] = traced
-traced_by traced (line ∷ behind) = traced_by (traced_after traced line.1) behind
+traced_by traced (line ∷ following) = traced_by (traced_after traced line.1) following
 
 -- the last function has no instruction line yet
 abbrev pub lacks_lines : Standing → Bool
@@ -78,7 +78,7 @@ lines_in entries = map line_in entries
 -- the line that defines a name, counted from 0
 abbrev pub defined_at : List ℕ → Lines → Option ℕ
 defined_at name [] = None
-defined_at name (line ∷ behind) = if defines name line.1 then Some 0 else option_map suc (defined_at name behind)
+defined_at name (line ∷ following) = if defines name line.1 then Some 0 else option_map suc (defined_at name following)
 
 -- the names are those that the lines define
 abbrev pub IsNames : Lines → NameTable → Type 0

@@ -23,4 +23,4 @@ Fits (Does operation) = OperationFits operation
 -- all statements fit
 abbrev pub AllFit : Lines → Type 0
 AllFit [] = ⊤
-AllFit (line ∷ behind) = Fits line.1 × AllFit behind
+AllFit (line ∷ following) = Fits line.1 × AllFit following

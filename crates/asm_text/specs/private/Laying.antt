@@ -27,7 +27,7 @@ earlier None next = next
 -- for each line, the place of the next instruction line or function, from this line on
 abbrev pub next_places : List Placed → List (Option ℕ)
 next_places [] = []
-next_places (p ∷ behind) = next_place (p ∷ behind) ∷ next_places behind
+next_places (p ∷ following) = next_place (p ∷ following) ∷ next_places following
 
 -- the lines without their places
 abbrev pub lines_of : List Placed → Lines
@@ -41,7 +41,7 @@ pub record ArePlaces (all : List Placed) (table : NameTable) (next : List (Optio
 
 -- the bytes of parts; branches count from the place after them
 abbrev pub parts_bytes : List Placed → ℕ → List Part → List ℕ
-parts_bytes all behind parts = flat_map piece_bytes (map (piece_of all behind) parts)
+parts_bytes all following parts = flat_map piece_bytes (map (piece_of all following) parts)
 
 -- each line begins within the code
 abbrev pub AreWithin : List Placed → Type 0

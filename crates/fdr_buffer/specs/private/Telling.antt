@@ -11,16 +11,16 @@ abbrev pub kind_told : ℕ → Kind
 kind_told action = if action == 0 then Entry else if action == 1 then Exit else TailExit
 
 -- the events of bytes after a CPU and a counter; some bytes are skipped first
-unfoldable pub events_behind : ℕ → ℕ → ℕ → List ℕ → List Event
-events_behind skipped cpu tsc [] = []
-events_behind (suc skipped) cpu tsc (byte ∷ bytes) = events_behind skipped cpu tsc bytes
-events_behind zero cpu tsc (first ∷ rest) =
+unfoldable pub events_after : ℕ → ℕ → ℕ → List ℕ → List Event
+events_after skipped cpu tsc [] = []
+events_after (suc skipped) cpu tsc (byte ∷ bytes) = events_after skipped cpu tsc bytes
+events_after zero cpu tsc (first ∷ rest) =
     if first % 2 == 0 then
     record { cpu = cpu; func = little_number 4 (first ∷ rest) / 16; kind = kind_told (first / 2 % 8); tsc = tsc + little_number 4 (drop 3 rest) }
-    ∷ events_behind 7 cpu (tsc + little_number 4 (drop 3 rest)) rest
-    else if first == first_of new_cpu_id then events_behind 15 (little_number 2 rest) (little_number 8 (drop 2 rest)) rest
-    else events_behind 15 cpu (little_number 8 rest) rest
+    ∷ events_after 7 cpu (tsc + little_number 4 (drop 3 rest)) rest
+    else if first == first_of new_cpu_id then events_after 15 (little_number 2 rest) (little_number 8 (drop 2 rest)) rest
+    else events_after 15 cpu (little_number 8 rest) rest
 
 -- the events of a segment
 unfoldable pub events_in : List ℕ → List Event
-events_in bytes = events_behind 0 0 0 bytes
+events_in bytes = events_after 0 0 0 bytes

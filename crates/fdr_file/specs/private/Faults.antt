@@ -32,8 +32,8 @@ record_faults before at r =
 -- what is wrong at the places after some records
 abbrev pub standing_faults : List Rec → List Standing → List TraceFault
 standing_faults before [] = []
-standing_faults before ((at, Ok r) ∷ behind) = record_faults before at r ++ standing_faults (r ∷ before) behind
-standing_faults before ((at, Err fault) ∷ behind) = fault_at at fault ∷ []
+standing_faults before ((at, Ok r) ∷ following) = record_faults before at r ++ standing_faults (r ∷ before) following
+standing_faults before ((at, Err fault) ∷ following) = fault_at at fault ∷ []
 
 -- what is wrong with the block that begins at a place
 abbrev pub extents_faults : ℕ × List ℕ → Result Rec RecFault → List TraceFault

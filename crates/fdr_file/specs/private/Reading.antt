@@ -54,8 +54,8 @@ record_on (at, bytes) = read_first (at, bytes) (record_in bytes)
 
 -- what the first record names; it has to name something of that kind
 abbrev pub named_or : {A : Type 0} → ℕ → Option A → Left → Result (A × Left) TraceFault
-named_or at (Some x) behind = Ok (x, behind)
-named_or at None behind = Err (faults.Order at)
+named_or at (Some x) following = Ok (x, following)
+named_or at None following = Err (faults.Order at)
 
 abbrev pub named_on : {A : Type 0} → (Rec → Option A) → Left → Result (A × Left) TraceFault
 named_on named left = do
@@ -85,11 +85,11 @@ step_on at r base = Err (faults.Order at)
 -- the events of what comes after a CPU and counter
 unfoldable pub events_on : Option Base → List Standing → Result (List Event) TraceFault
 events_on base [] = Ok []
-events_on base ((at, Ok r) ∷ behind) = do
+events_on base ((at, Ok r) ∷ following) = do
   step ← step_on at r base
-  events ← events_on (Some step.0) behind
+  events ← events_on (Some step.0) following
   Ok (option_to_list step.1 ++ events)
-events_on base ((at, Err fault) ∷ behind) = Err (fault_at at fault)
+events_on base ((at, Err fault) ∷ following) = Err (fault_at at fault)
 
 -- these events, and those that are read after them
 abbrev pub with_front : List Event → Result (List Event) TraceFault → Result (List Event) TraceFault

@@ -79,8 +79,8 @@ leaving limits m = if m.instructions == limits.fuel then ending ends.Fuel m else
 
 -- a passing, if one is left, and what follows it
 abbrev pub passing : Limits → Machine → (Machine → Taken) → Taken
-passing limits m behind =
-    if m.passings == limits.passings then ending ends.Passings m else behind (record m { passings = m.passings + 1 })
+passing limits m following =
+    if m.passings == limits.passings then ending ends.Passings m else following (record m { passings = m.passings + 1 })
 
 -- the step at a place, once it has the fuel that it wants
 abbrev pub acting : Limits → ℕ → Machine → Step → Taken

@@ -32,14 +32,14 @@ abbrev pub first_stage : Option ℕ → ℕ → Stage
 first_stage hold passing = stage_by (is_held_at hold passing)
 
 -- what the load of a value leads to
-abbrev pub behind_load : Stage → ℕ → Next
-behind_load stages.Release value = if value == 0 then Loads stages.Release else Loads stages.Head
-behind_load stages.Head value = if value == patched_head then Loads stages.Id else Ends marks.Skipped
-behind_load stages.Id value = Loads stages.Opcode
-behind_load stages.Opcode value = Loads stages.Offset
-behind_load stages.Offset value = Loads stages.Handler
-behind_load stages.Handler value = if value == 0 then Ends marks.NoHandler else Loads stages.State
-behind_load stages.State value = Ends (if value == 2 then marks.Recorded else marks.NotLogging)
+abbrev pub after_load : Stage → ℕ → Next
+after_load stages.Release value = if value == 0 then Loads stages.Release else Loads stages.Head
+after_load stages.Head value = if value == patched_head then Loads stages.Id else Ends marks.Skipped
+after_load stages.Id value = Loads stages.Opcode
+after_load stages.Opcode value = Loads stages.Offset
+after_load stages.Offset value = Loads stages.Handler
+after_load stages.Handler value = if value == 0 then Ends marks.NoHandler else Loads stages.State
+after_load stages.State value = Ends (if value == 2 then marks.Recorded else marks.NotLogging)
 
 -- what may be loaded at a stage of a passing of a sled
 abbrev pub AllowsAt : Trampolines → Sled → Stage → ℕ → Type 0

@@ -20,21 +20,21 @@ IsPlaceOf units address place =
     (slice_get (addresses units) place ≡ Some address)
     ⊎ ((place ≡ length units) × (Contains (addresses units) address → ⊥))
 
--- the step of an instruction; `behind` is the address after it
+-- the step of an instruction; `following` is the address after it
 abbrev pub IsStepOfInstruction : List Unit → ℕ → Instr → Step → Type 0
-IsStepOfInstruction units behind (Mov dst imm) step = step ≡ steps.Mov dst imm
-IsStepOfInstruction units behind (Add dst src) step = step ≡ steps.Add dst src
-IsStepOfInstruction units behind (Sub dst src) step = step ≡ steps.Sub dst src
-IsStepOfInstruction units behind (Push reg) step = step ≡ steps.Push reg
-IsStepOfInstruction units behind (Pop reg) step = step ≡ steps.Pop reg
-IsStepOfInstruction units behind (Call rel) step =
-    (target : ℕ) × IsPlaceOf units (branched behind rel) target × (step ≡ steps.Call target behind)
-IsStepOfInstruction units behind (Jmp rel) step =
-    (target : ℕ) × IsPlaceOf units (branched behind rel) target × (step ≡ steps.Jmp target)
-IsStepOfInstruction units behind (Jnz rel) step =
-    (target : ℕ) × IsPlaceOf units (branched behind rel) target × (step ≡ steps.Jnz target)
-IsStepOfInstruction units behind Ret step = step ≡ steps.Ret
-IsStepOfInstruction units behind (Out port) step = step ≡ steps.Out
+IsStepOfInstruction units following (Mov dst imm) step = step ≡ steps.Mov dst imm
+IsStepOfInstruction units following (Add dst src) step = step ≡ steps.Add dst src
+IsStepOfInstruction units following (Sub dst src) step = step ≡ steps.Sub dst src
+IsStepOfInstruction units following (Push reg) step = step ≡ steps.Push reg
+IsStepOfInstruction units following (Pop reg) step = step ≡ steps.Pop reg
+IsStepOfInstruction units following (Call rel) step =
+    (target : ℕ) × IsPlaceOf units (branched following rel) target × (step ≡ steps.Call target following)
+IsStepOfInstruction units following (Jmp rel) step =
+    (target : ℕ) × IsPlaceOf units (branched following rel) target × (step ≡ steps.Jmp target)
+IsStepOfInstruction units following (Jnz rel) step =
+    (target : ℕ) × IsPlaceOf units (branched following rel) target × (step ≡ steps.Jnz target)
+IsStepOfInstruction units following Ret step = step ≡ steps.Ret
+IsStepOfInstruction units following (Out port) step = step ≡ steps.Out
 
 -- the step of a sled, by its number and its kind
 abbrev pub step_of_sled : ℕ → SledKind → Step

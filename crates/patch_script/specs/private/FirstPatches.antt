@@ -23,7 +23,7 @@ first_in table (suc n) = option_and_then (λ first. first) (slice_get table n)
 -- the number, counted from 0, of the first command that passes a test
 abbrev pub first_number : (Command → Bool) → List Command → Option ℕ
 first_number test [] = None
-first_number test (command ∷ behind) = if test command then Some 0 else option_map suc (first_number test behind)
+first_number test (command ∷ following) = if test command then Some 0 else option_map suc (first_number test following)
 
 -- the tables hold the numbers of the first commands that patch all sleds, and of those that patch a function
 pub record AreFirst (ids : ℕ) (script : List Command) (first : FirstPatches) : Type 0 where

@@ -36,7 +36,7 @@ pub record HasId (sleds : List SledValues) (id : ℕ) (range : SledRange) : Type
   pub within : range.end ≤ length sleds
   pub before : (k : ℕ) (d : SledValues) → k < range.start → (slice_index_or sleds k d).id < id
   pub inside : (k : ℕ) (d : SledValues) → range.start ≤ k → k < range.end → (slice_index_or sleds k d).id ≡ id
-  pub behind : (k : ℕ) (d : SledValues) → range.end ≤ k → k < length sleds → id < (slice_index_or sleds k d).id
+  pub following : (k : ℕ) (d : SledValues) → range.end ≤ k → k < length sleds → id < (slice_index_or sleds k d).id
 
 -- the sleds that a command patches or unpatches
 abbrev pub sleds_named : Program → Command → List Numbered

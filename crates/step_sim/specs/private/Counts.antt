@@ -4,8 +4,8 @@ use Rattle.fdr_buffer.specs.Filled.{Filled}
 
 -- the counts of lost segments after a buffer was taken away: that of its thread is one more, if the buffer held a
 -- segment
-abbrev pub lost_behind : Filled → List ℕ → List ℕ
-lost_behind buffer first =
+abbrev pub lost_after : Filled → List ℕ → List ℕ
+lost_after buffer first =
     if buffer.begun then slice_set first (buffer.thread - 1) (slice_index first (buffer.thread - 1) + 1) else first
 
 -- whether a buffer holds a segment of this thread

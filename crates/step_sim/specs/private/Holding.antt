@@ -5,7 +5,7 @@ use Rattle.fdr_buffer.specs.declared.buffer.TheConstants.{LEAST_SIZE}
 use Rattle.fdr_buffer.specs.Filled.{Filled, empty_buffer}
 use Rattle.fdr_buffer.specs.Segments.{has_room, segments}
 use Rattle.step_sim.specs.declared.pool.Pool.{Pool}
-use Rattle.step_sim.specs.Pool.{Fresh, Item, Segment, Stock, segments_among, serials_of, stock_behind}
+use Rattle.step_sim.specs.Pool.{Fresh, Item, Segment, Stock, segments_among, serials_of, stock_after}
 use Rattle.traced_run.specs.Kept.{Stamp, buffer_of}
 
 -- the events of each thread, by its number
@@ -60,7 +60,7 @@ NotesEvent old new thread event =
     (stamp : Stamp) (threads : ℕ) (events later : Histories) (stock : Stock) → PoolHolds stamp threads events stock old
     → later thread ≡ events thread ++ event ∷ [] → ((other : ℕ) → other ≢ thread → later other ≡ events other)
     → PoolHolds stamp threads later
-    (stock_behind thread (length (segments_in stamp events thread)) (length (segments_in stamp later thread)) stock) new
+    (stock_after thread (length (segments_in stamp events thread)) (length (segments_in stamp later thread)) stock) new
 
 -- the hand of a thread is begun, and has no room for an event
 abbrev pub IsFull : Pool → ℕ → Event → Type 0

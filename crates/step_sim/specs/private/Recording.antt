@@ -10,7 +10,7 @@ use Rattle.step_sim.specs.declared.patcher.Patcher.{Patcher}
 use Rattle.step_sim.specs.declared.pool.Pool.{Pool}
 use Rattle.step_sim.specs.declared.turns.Turns.{Turns}
 use Rattle.step_sim.specs.Replay.{Cast, Moment, of_thread}
-use Rattle.step_sim.specs.Pool.{Pooled, Pooling, Stock, pooled_turn, stock_behind}
+use Rattle.step_sim.specs.Pool.{Pooled, Pooling, Stock, pooled_turn, stock_after}
 use Rattle.step_sim.specs.private.Turns.{pooled_line}
 use Rattle.traced_run.specs.Kept.{Stamp}
 use Rattle.step_sim.specs.Recorded.{events_at, pooling_of}
@@ -66,7 +66,7 @@ NotesAny old new thread event =
     (stamp : Stamp) (threads : ℕ) (events later : Histories) (stock : Stock) → PoolHolds stamp threads events stock old
     → later thread ≡ events thread ++ events_in event → ((other : ℕ) → other ≢ thread → later other ≡ events other)
     → PoolHolds stamp threads later
-    (stock_behind thread (length (segments_in stamp events thread)) (length (segments_in stamp later thread)) stock) new
+    (stock_after thread (length (segments_in stamp events thread)) (length (segments_in stamp later thread)) stock) new
 
 -- all threads, in order, the patcher and the pool are where a replay is
 pub record AllRecordAt (r : Recording) (pooled : Pooled) (p : Patcher) (ts : List Traced) (pool : Pool) : Type 0 where

@@ -35,7 +35,7 @@ pub record HasBegun (old new : List ℕ) (block number : ℕ) : Type 0 where
 -- the first of a block is one of the first i addresses or the next one; no address from it on lies before the block
 pub record IsFirstOf (all firsts : List ℕ) (base i b : ℕ) : Type 0 where
   pub counted : slice_index firsts b ≤ i
-  pub behind : (j : ℕ) → j < length all → slice_index firsts b ≤ j → base + 128 * b ≤ slice_index all j
+  pub following : (j : ℕ) → j < length all → slice_index firsts b ≤ j → base + 128 * b ≤ slice_index all j
 
 -- the index has the first i addresses
 pub record HasFirst (all firsts steps : List ℕ) (base i : ℕ) : Type 0 where

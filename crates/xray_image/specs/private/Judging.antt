@@ -19,7 +19,7 @@ IsAbove base None start = start ≡ base
 IsAbove base (Some last) start = last < start
 
 -- a function may come after one that begins at `last`, in a code whose units begin at these addresses
-pub record StandsBehind (base : ℕ) (addresses : List ℕ) (last : Option ℕ) (f : Function) : Type 0 where
+pub record StandsAfter (base : ℕ) (addresses : List ℕ) (last : Option ℕ) (f : Function) : Type 0 where
   pub above : IsAbove base last f.start
   pub at_unit : Contains addresses f.start
   pub named : IsName f.name

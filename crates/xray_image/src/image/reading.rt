@@ -3,8 +3,7 @@
 ghost use Rattle.std.specs.Prelude.{◌≡◌, ◌<◌, ◌^◌, ◌⊎◌, ℕ, List, length, map, true, All, Ok, Err, OnOk, IfOk, IfErr};
 ghost use Rattle.std.specs.List.Sorted.{IsNonDecreasingBy};
 ghost use Rattle.xray_image.specs.private.ImageView.{named_function};
-ghost use Rattle.xray_image.specs.private.Index.{AreWithin, IsIndexOf};
-ghost use Rattle.xray_image.specs.private.Judging.{IsJudged};
+ghost use Rattle.xray_image.specs.private.{Index.{AreWithin, IsIndexOf}, Judging.{IsJudged}};
 ghost use Rattle.xray_image.specs.Program.{Program, IsAccepted, addresses, is_name_byte};
 ghost use Rattle.xray_image.specs.Table.{Verdict, ReadsAs, ReadsProgram};
 ghost use Rattle.xray_image.specs.private.UnitTable.{units_in, IsSoundTable};

@@ -107,12 +107,12 @@ IsWritten None desk desk_now out out_now = WritesNothing desk desk_now out out_n
 IsWritten (Some (outputs, text)) desk desk_now out out_now = Writes outputs text desk desk_now out out_now
 
 -- what an ending of a call comes of
-abbrev pub StandsBehind : Option Command → (desk desk_now : DeskView) → (out out_now : SinkView) → Ending → Type 0
-StandsBehind said desk desk_now out out_now (With outcome) =
+abbrev pub StandsAfter : Option Command → (desk desk_now : DeskView) → (out out_now : SinkView) → Ending → Type 0
+StandsAfter said desk desk_now out out_now (With outcome) =
     IsCaused said desk desk_now outcome × IsWritten (written_by outcome) desk desk_now out out_now
-StandsBehind said desk desk_now out out_now (Unwritten name outputs) =
+StandsAfter said desk desk_now out out_now (Unwritten name outputs) =
     FailsToLeave (Means said desk.held) desk desk_now out out_now name (λ left. left ≡ outputs)
-StandsBehind said desk desk_now out out_now NoMemory = WritesNothing desk desk_now out out_now
+StandsAfter said desk desk_now out out_now NoMemory = WritesNothing desk desk_now out out_now
 
 -- the numbers of a command that runs traced threads fit the records of a trace
 abbrev pub FitsTraces : Command → Type 0
@@ -149,6 +149,6 @@ pub record Ends (said : Option Command) (desk desk_now : DeskView) (out out_now 
   pub ending : Ending
   pub status : status_at ending ≡ answer
   pub told : line_at ending ≡ line
-  pub stands : StandsBehind said desk desk_now out out_now ending
+  pub stands : StandsAfter said desk desk_now out out_now ending
   pub names : KeepsOthers (outputs_named said) desk desk_now
   pub order : Went Way (InOrder said desk desk_now ending)

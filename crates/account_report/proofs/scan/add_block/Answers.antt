@@ -1,7 +1,7 @@
 use Rattle.std.proofs.Common.{◌∙◌, List, subst}
 use Rattle.fdr_record.specs.declared.event.Event.{Event}
 use Rattle.account_report.specs.private.Tallies.{AreTallies, Reached, going_on}
-use Rattle.account_report.proofs.Standing.{stands_behind}
+use Rattle.account_report.proofs.Standing.{stands_after}
 use Rattle.account_report.proofs.scan.add_block.Goals as goal
 
 pub returns-clause-stands : goal.returns-clause-stands
@@ -12,7 +12,7 @@ returns-clause-stands c = λ history stand tallied.
     let reached : Reached thread (going_on thread c.args.block.now.events history) c.add_events.new.calls c.add_events.new.tallies =
     subst (λ (events : List Event). Reached thread (going_on thread events history) c.add_events.new.calls c.add_events.new.tallies)
     c.as_slice.ensures (c.in_ok-add_events.ensures thread history before) in
-    stands_behind thread c.args.block.now.events history c.args.threads.now c.take_out-calls.new.threads c.insert.new.self c.add_events.new.calls
+    stands_after thread c.args.block.now.events history c.args.threads.now c.take_out-calls.new.threads c.insert.new.self c.add_events.new.calls
     stand c.take_out-calls.ensures.others c.in_ok-insert.ensures.updates.0 reached.stands
 
 pub returns-clause-tallied : goal.returns-clause-tallied

@@ -8,13 +8,13 @@ use Rattle.asm_text.proofs.EndingLemmas.{label_unresolved, missing_name, other_w
 use Rattle.asm_text.proofs.ending.is_unresolved.Goals as goal
 
 pub returns-in-Label : goal.returns-in-Label
-returns-in-Label c = λ behind names next.
+returns-in-Label c = λ following names next.
     let none : own_place (line_placed c.args.line.now) ≡ None = rw c.in-Label.is refl in
-    let answer = other_way c.is_none.result (is_some c.args.target) c.is_none.ensures ∙ ap (λ o. not (is_some o)) next ∙ label_unresolved (line_placed c.args.line.now) behind none in
+    let answer = other_way c.is_none.result (is_some c.args.target) c.is_none.ensures ∙ ap (λ o. not (is_some o)) next ∙ label_unresolved (line_placed c.args.line.now) following none in
     rw c.in-Label.is answer
 
 pub returns-in-Some : goal.returns-in-Some
-returns-in-Some c = λ behind names next.
+returns-in-Some c = λ following names next.
     let lines = lines_of (placed_in c.args.laid.now) in
     let name : Some c.in-Some.name.now ≡ name_in (operation_checked c.in-Does.operation) = search rules in
     let found : c.is_none-in-Some.result ≡ not (is_defined c.in-Some.name.now lines) =

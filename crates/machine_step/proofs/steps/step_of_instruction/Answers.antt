@@ -7,8 +7,8 @@ use Rattle.machine_step.specs.private.Steps.{IsPlaceOf}
 use Rattle.machine_step.proofs.steps.step_of_instruction.Goals as goal
 
 -- a place that was found for the same distance
-there : (units : List Unit) (behind target : ℕ) {found rel : ℤ} → found ≡ rel → IsPlaceOf units (branched behind found) target → IsPlaceOf units (branched behind rel) target
-there units behind target same is = subst (λ (z : ℤ). IsPlaceOf units (branched behind z) target) same is
+there : (units : List Unit) (following target : ℕ) {found rel : ℤ} → found ≡ rel → IsPlaceOf units (branched following found) target → IsPlaceOf units (branched following rel) target
+there units following target same is = subst (λ (z : ℤ). IsPlaceOf units (branched following z) target) same is
 
 pub returns-in-Call : goal.returns-in-Call
 returns-in-Call c = rw c.in-Call.is (c.target_of.result, there _ _ _ (to_z-of_z w32 c.in-Call.rel (rw c.in-Call.is at c.requires)) c.target_of.ensures, refl)

@@ -4,4 +4,4 @@ use Rattle.subset_decode.proofs.Refused.{same_answer}
 use Rattle.subset_decode.proofs.laws.an_encoding_reads_back.Goals as goal
 
 pub returns : goal.returns
-returns c i behind h a holds = same_answer a (Ok i) (spelling i ++ behind) holds (h, (behind, refl))
+returns c i following h a holds = same_answer a (Ok i) (spelling i ++ following) holds (h, (following, refl))

@@ -13,7 +13,7 @@ returns-in-Ok-clause-found c =
 pub returns-in-Ok-clause-next : goal.returns-in-Ok-clause-next
 returns-in-Ok-clause-next c =
     let s = (stands c.args.bytes.now c.args.at c.in-Ok.instr c.in-Ok.rest.now c.requires c.type_inv.bytes c.in-Ok.ensures).1 in
-    (s.behind, s.within)
+    (s.following, s.within)
 
 pub returns-in-Ok-clause-only : goal.returns-in-Ok-clause-only
 returns-in-Ok-clause-only c =

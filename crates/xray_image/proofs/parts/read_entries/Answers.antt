@@ -16,7 +16,7 @@ returns-in_default-clause-refused g c =
 
 pub loop-number-preserved : goal.loop-number-preserved
 loop-number-preserved g c =
-    one_more_item g.E.Counted.read_at c.args.bytes.now c.loop-number.rest.now c.in-Some.behind.now c.args.count c.loop-number._number
+    one_more_item g.E.Counted.read_at c.args.bytes.now c.loop-number.rest.now c.in-Some.following.now c.args.count c.loop-number._number
     (map g.E.Counted.said c.loop-number.entries.items) (map g.E.Counted.said c.push.new.self.items) (g.E.Counted.said c.in-Some.entry)
     c.loop-number.invariant c.loop-number-test.true c.in-Some.ensures
     (ap (map g.E.Counted.said) c.in_ok-push.ensures.items ∙ map-append g.E.Counted.said c.loop-number.entries.items (c.in-Some.entry ∷ []))

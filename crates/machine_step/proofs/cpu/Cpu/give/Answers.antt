@@ -12,8 +12,8 @@ use Rattle.machine_step.specs.private.Inside.{traced, want_at, IsAtPassing}
 use Rattle.machine_step.specs.Loads.{Load}
 use Rattle.machine_step.specs.PlainStep.{Passing, PlainRun, State}
 use Rattle.machine_step.specs.Traced.{Allows, HasLoaded, IsKept, MarksAdded, Traced, load_of, loads_left}
-use Rattle.machine_step.proofs.GiveClauses.{between_of, clause_ends, clause_events, clause_goes_on, ending_of, held_at, stage_behind}
-use Rattle.machine_step.proofs.Giving.{Ending, IsBetween, passed_on, sound_behind}
+use Rattle.machine_step.proofs.GiveClauses.{between_of, clause_ends, clause_events, clause_goes_on, ending_of, held_at, stage_after}
+use Rattle.machine_step.proofs.Giving.{Ending, IsBetween, passed_on, sound_after}
 use Rattle.machine_step.proofs.LoadFacts.{kept_not, kept_same, marks_added, nearer_end, nearer_on, some_at_end, some_goes_on}
 use Rattle.machine_step.proofs.Opening.{loading_at, sled_within, sound_loading, standing}
 use Rattle.machine_step.proofs.Tracing.{before_of}
@@ -24,7 +24,7 @@ invariant_of-self c =
     let a = c.self.inside in
     let at = loading_at a c.self.invariant c.in-Loading.place c.in-Loading.sled c.in-Loading.stage c.in-Loading.is in
     sound_loading a c.self.invariant c.in-Loading.place c.in-Loading.sled c.in-Loads.stage at
-    (stage_behind a.hold a.machine.passings c.in-Loading.stage c.in-Loads.stage c.args.value (sym c.in-Loads.ensures)
+    (stage_after a.hold a.machine.passings c.in-Loading.stage c.in-Loads.stage c.args.value (sym c.in-Loads.ensures)
     (held_at a c.self.invariant c.in-Loading.place c.in-Loading.sled c.in-Loading.stage c.in-Loading.is))
 
 pub event_at-event-requires-clause-sled : goal.event_at-event-requires-clause-sled
@@ -68,7 +68,7 @@ found c = subst (λ (program : Program). slice_get program.sleds c.in-Loading.sl
 
 pub invariant_of-self-in-Ends : goal.invariant_of-self-in-Ends
 invariant_of-self-in-Ends c =
-    sound_behind c.self.inside c.self.invariant c.in-Loading.place c.in-Loading.sled (here c) c.pass_sled-self-inside.new.machine c.add.new.self
+    sound_after c.self.inside c.self.invariant c.in-Loading.place c.in-Loading.sled (here c) c.pass_sled-self-inside.new.machine c.add.new.self
     c.pass_sled-self-inside.result c.in-Ends.mark (ending c)
 
 pub returns-in-Loads-clause-loads : goal.returns-in-Loads-clause-loads

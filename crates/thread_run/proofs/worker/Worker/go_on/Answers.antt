@@ -9,7 +9,7 @@ pub tell-requires-clause-one : goal.tell-requires-clause-one
 tell-requires-clause-one g c =
     let worker = c.args.self.now in
     leaves_one_out (work_view (seat_of worker)).count worker.cpu.marks c.want-next.result worker.cpu.want c.want-next.ensures.want c.in-Gate.is
-    c.requires.behind
+    c.requires.following
 
 pub returns-in-Load-clause-same : goal.returns-in-Load-clause-same
 returns-in-Load-clause-same g c = worker_again g.R.Recorder.follows g.met.R.Recorder.follows_itself c.args.self.now
@@ -20,7 +20,7 @@ returns-in-Load-clause-going g c =
     record {
       at = c.requires.at;
       count = counts_all (work_view (seat_of worker)).count worker.cpu.marks c.want-next.result worker.cpu.want _ c.want-next.ensures.want c.in-Load.is
-          c.requires.behind;
+          c.requires.following;
     }
 
 pub returns-in-Gate-clause-want : goal.returns-in-Gate-clause-want

@@ -3,7 +3,7 @@ use Rattle.std.proofs.lemmas.Bool.{false≢true}
 use Rattle.machine_step.specs.declared.want.Want.TheVariants.{Load as Loads}
 use Rattle.machine_step.specs.Traced.{Traced, loads_left}
 use Rattle.thread_run.specs.Workers.{cpu_of}
-use Rattle.thread_run.proofs.Turns.{behind_taken, goes_on, held_again, made_none, made_one, made_then, moved_on, worker_again, worker_then}
+use Rattle.thread_run.proofs.Turns.{after_taken, goes_on, held_again, made_none, made_one, made_then, moved_on, worker_again, worker_then}
 use Rattle.thread_run.proofs.worker.Worker.run.Goals as goal
 
 pub loads-init : goal.loads-init
@@ -25,16 +25,16 @@ loads-preserved-in-Gate g c =
     goes_on g.R.Recorder.stands g.R.Recorder.follows g.met.R.Recorder.follows_along c.args.self.now mid new _ _ c.loads.invariant said.same
     (made_none mid new said.loads) said.going said.want said.there
 
-pub note-want-requires-clause-behind : goal.note-want-requires-clause-behind
-note-want-requires-clause-behind g c = behind_taken c.in-Load.word c.loads.self c.take.new.self c.in-Some.ensures.taken
+pub note-want-requires-clause-following : goal.note-want-requires-clause-following
+note-want-requires-clause-following g c = after_taken c.in-Load.word c.loads.self c.take.new.self c.in-Some.ensures.taken
 
 pub go_on-want-requires-clause-at : goal.go_on-want-requires-clause-at
 go_on-want-requires-clause-at g c =
     let mid = c.take.new.self in
     c.in-None.ensures.lacks.once mid.recorder (λ events stands. subst (g.R.Recorder.stands mid.recorder) (sym (append-nil events)) stands)
 
-pub go_on-want-requires-clause-behind : goal.go_on-want-requires-clause-behind
-go_on-want-requires-clause-behind g c = behind_taken c.in-Load.word c.loads.self c.take.new.self c.in-None.ensures.taken
+pub go_on-want-requires-clause-following : goal.go_on-want-requires-clause-following
+go_on-want-requires-clause-following g c = after_taken c.in-Load.word c.loads.self c.take.new.self c.in-None.ensures.taken
 
 pub returns-in-Done-clause-same : goal.returns-in-Done-clause-same
 returns-in-Done-clause-same g c =

@@ -13,7 +13,7 @@ returns-in_err-functions-clause-refused c =
     let p = err_from_is_err_and c.from_residual.result c.from_residual.ensures.1 in
     rw (p.1, p.2) (refused_by c.args.bytes.now _ c.in_err-functions.ensures.refused
     (short_functions c.args.bytes.now c.requires.long c.split_at.result.1.now c.split_at-2.result.1.now h.code_length h.functions h.entries
-    c.split_at.ensures.back is.code_length is.functions is.entries c.split_at-2.ensures.back c.if-behind-code_length.false))
+    c.split_at.ensures.back is.code_length is.functions is.entries c.split_at-2.ensures.back c.if-following-code_length.false))
 
 pub returns-in_err-entries-clause-refused : goal.returns-in_err-entries-clause-refused
 returns-in_err-entries-clause-refused c =
@@ -22,7 +22,7 @@ returns-in_err-entries-clause-refused c =
     let p = err_from_is_err_and c.from_residual-in_err-entries.result c.from_residual-in_err-entries.ensures.1 in
     rw (p.1, p.2) (refused_by c.args.bytes.now _ c.in_err-entries.ensures.refused
     (short_entries c.args.bytes.now c.requires.long c.split_at.result.1.now c.split_at-2.result.1.now h.code_length h.functions h.entries
-    c.split_at.ensures.back is.code_length is.functions is.entries c.split_at-2.ensures.back c.if-behind-code_length.false
+    c.split_at.ensures.back is.code_length is.functions is.entries c.split_at-2.ensures.back c.if-following-code_length.false
     (map function_of c.in_ok-functions.functions.items) c.in_ok-functions.rest.now c.in_ok-functions.ensures.found))
 
 pub returns-then-not-is_empty-clause-refused : goal.returns-then-not-is_empty-clause-refused
@@ -30,7 +30,7 @@ returns-then-not-is_empty-clause-refused c =
     let h = c.args.header.now in
     let is = c.requires.header in
     inr (trailing c.args.bytes.now c.requires.long c.split_at.result.1.now c.split_at-2.result.1.now h.code_length h.functions h.entries
-    c.split_at.ensures.back is.code_length is.functions is.entries c.split_at-2.ensures.back c.if-behind-code_length.false
+    c.split_at.ensures.back is.code_length is.functions is.entries c.split_at-2.ensures.back c.if-following-code_length.false
     (map function_of c.in_ok-functions.functions.items) c.in_ok-functions.rest.now c.in_ok-functions.ensures.found
     (map entry_of c.in_ok-entries.entries.items) c.in_ok-entries.rest.now c.in_ok-entries.ensures.found
     (λ none. false≢true (sym c.if-not-is_empty.true ∙ c.is_empty.ensures ∙ eq-eqb _ 0 (ap length none))))
@@ -40,7 +40,7 @@ returns-clause-found c =
     let h = c.args.header.now in
     let is = c.requires.header in
     whole c.args.bytes.now c.requires.long c.split_at.result.1.now c.split_at-2.result.1.now h.code_length h.functions h.entries
-    c.split_at.ensures.back is.code_length is.functions is.entries c.split_at-2.ensures.back c.if-behind-code_length.false
+    c.split_at.ensures.back is.code_length is.functions is.entries c.split_at-2.ensures.back c.if-following-code_length.false
     (map function_of c.in_ok-functions.functions.items) c.in_ok-functions.rest.now c.in_ok-functions.ensures.found
     (map entry_of c.in_ok-entries.entries.items) c.in_ok-entries.rest.now c.in_ok-entries.ensures.found
     c.split_at-2.result.0.now c.split_at-2.ensures.front

@@ -10,5 +10,5 @@ returns c =
     let bytes = c.args.bytes.now in
     let n = slice_index bytes 8 in
     let long : ltb (length bytes) (9 + n) ≡ false = le-ltb _ _ (grind (arith, common_steps)) in
-    let behind : drop (9 + n) bytes ≡ drop n (drop 9 bytes) = sym (drop-drop n 9 bytes) in
-    rw (long, behind) (grind (arith, common_steps))
+    let following : drop (9 + n) bytes ≡ drop n (drop 9 bytes) = sym (drop-drop n 9 bytes) in
+    rw (long, following) (grind (arith, common_steps))
