@@ -165,9 +165,9 @@ fn an_input_above_its_limit_is_too_long(rt: HostRuntime) -> Result<(), Fail> {
 }
 
 #[test]
-fn a_write_that_fails_between_threads_is_a_write_fault(rt: HostRuntime) -> Result<(), Fail> {
+fn short_texts_of_threads_are_one_write_which_may_fail(rt: HostRuntime) -> Result<(), Fail> {
     let mut desk = image_desk(rt.alloc(), &IMAGE)?;
-    let run = run_failing(&rt, "plain i --threads=3", &mut desk, &[1], &[])?;
-    assert_left(&rt, &run, 4, STATE, "xray: output: write fault\n");
+    let run = run_failing(&rt, "plain i --threads=3", &mut desk, &[0], &[])?;
+    assert_left(&rt, &run, 4, "", "xray: output: write fault\n");
     Ok(())
 }
