@@ -1,5 +1,5 @@
 -- A command and its row in the table.
-use Rattle.std.proofs.Common.{◌≡◌, ◌∙◌, ◌&&◌, ℕ, Bool, true, false, List, [], ◌∷◌, Option, Some, None, refl, sym, ap}
+use Rattle.std.proofs.Common.{◌≡◌, ◌∙◌, ◌&&◌, ℕ, Bool, true, false, List, [], ◌∷◌, Option, Some, None, refl, sym, ap, arith}
 use Rattle.std.specs.Prelude.{if◌then◌else◌, option_and_then, option_map}
 use Rattle.std.specs.Str.{bytes_eq}
 use Rattle.xray_io.specs.declared.faults.Wall.{Wall}
@@ -132,18 +132,7 @@ soak_of line command says = go line.files refl
 
 -- the outputs of each
 pub outputs_of_row : OutputsAreOfTheRow
-outputs_of_row (Sim image script schedule trace audit options) = refl
-outputs_of_row (Run image script trace audit options) = refl
-outputs_of_row (Plain image bounds) = refl
-outputs_of_row (Extract image) = refl
-outputs_of_row (Asm text image threshold) = refl
-outputs_of_row (Account trace None options) = refl
-outputs_of_row (Account trace (Some image) options) = refl
-outputs_of_row (Stack trace None format) = refl
-outputs_of_row (Stack trace (Some image) format) = refl
-outputs_of_row (Convert trace None) = refl
-outputs_of_row (Convert trace (Some image)) = refl
-outputs_of_row (Soak number) = refl
+outputs_of_row = grind arith
 
 -- ---- all words
 

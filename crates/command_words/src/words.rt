@@ -1,7 +1,7 @@
 //! The command that a command line says.
 ghost use Rattle.std.specs.Prelude.{◌≡◌, IfOk, IfSome, option_map, true};
 ghost use Rattle.command_words.specs.{Items.{texts}, Lines.{outputs_differ}, Ranges.{HasRanges}};
-ghost use Rattle.command_words.specs.{Views.{command_view}, Words.{reading}};
+ghost use Rattle.command_words.specs.{Tables.{run_row, sim_row}, Views.{command_view}, Words.{reading, run_in, sim_in}};
 ghost use Rattle.command_words.specs.private.CodeViews.{line_view, row_view};
 ghost use Rattle.command_words.specs.private.Verbs.{command_by, report_said, row_by, verb_of};
 
@@ -223,27 +223,8 @@ fn command_in<'a>(verb: Verb, wall: Wall, line: &Line<'a>) -> Option<Command<'a>
             [image] => Some(Command::Extract { image }),
             _ => None,
         },
-        Verb::Sim => match files {
-            [image, script, schedule, trace, audit] => Some(Command::Sim {
-                image,
-                script,
-                schedule,
-                trace,
-                audit,
-                options: run_options_in(wall, line)?,
-            }),
-            _ => None,
-        },
-        Verb::Run => match files {
-            [image, script, trace, audit] => Some(Command::Run {
-                image,
-                script,
-                trace,
-                audit,
-                options: run_options_in(wall, line)?,
-            }),
-            _ => None,
-        },
+        Verb::Sim => sim_in(wall, line),
+        Verb::Run => run_in(wall, line),
         Verb::Asm => match files {
             [text, image] => Some(Command::Asm {
                 text,
@@ -260,6 +241,43 @@ fn command_in<'a>(verb: Verb, wall: Wall, line: &Line<'a>) -> Option<Command<'a>
             }
             _ => None,
         },
+    }
+}
+
+/// The replay that a line asks for. `None` if it lacks a file, or if a value isn't allowed.
+fn sim_in<'a>(wall: Wall, line: &Line<'a>) -> Option<Command<'a>>
+    requires { outputs_differ sim_row.files (line_view line.now).files ≡ true }
+    ensures reads { option_map command_view result ≡ sim_in wall (line_view line.now) }
+    ensures ranges { IfSome (option_map command_view result) HasRanges }
+{
+    match line.files.as_slice() {
+        [image, script, schedule, trace, audit] => Some(Command::Sim {
+            image,
+            script,
+            schedule,
+            trace,
+            audit,
+            options: run_options_in(wall, line)?,
+        }),
+        _ => None,
+    }
+}
+
+/// The run that a line asks for. `None` if it lacks a file, or if a value isn't allowed.
+fn run_in<'a>(wall: Wall, line: &Line<'a>) -> Option<Command<'a>>
+    requires { outputs_differ run_row.files (line_view line.now).files ≡ true }
+    ensures reads { option_map command_view result ≡ run_in wall (line_view line.now) }
+    ensures ranges { IfSome (option_map command_view result) HasRanges }
+{
+    match line.files.as_slice() {
+        [image, script, trace, audit] => Some(Command::Run {
+            image,
+            script,
+            trace,
+            audit,
+            options: run_options_in(wall, line)?,
+        }),
+        _ => None,
     }
 }
 

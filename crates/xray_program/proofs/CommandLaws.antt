@@ -1,6 +1,6 @@
 -- What words mean: only one thing if they are decided, a refusal and nothing else, and something in any case. Each
 -- command has a line.
-use Rattle.std.proofs.Common.{◌≡◌, ◌∙◌, ℕ, List, map, Option, Some, None, true, refl, sym}
+use Rattle.std.proofs.Common.{◌≡◌, ◌∙◌, ℕ, List, map, Option, Some, None, true, arith, refl, sym}
 use Rattle.command_words.specs.Files.{inputs_in, names_of, row_of}
 use Rattle.xray_io.specs.Desk.{Entry}
 use Rattle.xray_program.specs.Commands.{Comes, IsDecided, Means, TellsAll, is_decided}
@@ -99,15 +99,4 @@ some_means laws (Some command) held told holds = command_some laws held told hol
 
 -- the inputs are those of the row
 pub inputs_of_row : (command : Command) → map (λ input. input.0) (inputs_of command) ≡ inputs_in (row_of command).files (names_of command)
-inputs_of_row (Sim i s c t a options) = refl
-inputs_of_row (Run i s t a options) = refl
-inputs_of_row (Plain i bounds) = refl
-inputs_of_row (Extract i) = refl
-inputs_of_row (Asm t i threshold) = refl
-inputs_of_row (Account t None options) = refl
-inputs_of_row (Account t (Some i) options) = refl
-inputs_of_row (Stack t None format) = refl
-inputs_of_row (Stack t (Some i) format) = refl
-inputs_of_row (Convert t None) = refl
-inputs_of_row (Convert t (Some i)) = refl
-inputs_of_row (Soak number) = refl
+inputs_of_row = grind arith

@@ -1,21 +1,27 @@
 -- The headline of `sim` and of `run`, from what they mean.
-use Rattle.std.specs.Prelude.{All}
+use Rattle.std.specs.Prelude.{All, Ok, slice_get}
 use Rattle.std.proofs.lemmas.List.{length-map}
 use Rattle.std.proofs.lemmas.List.Elements.{All-head, All-tail}
 use Rattle.std.proofs.Common.{◌≡◌, ◌+◌, ℕ, List, [], ◌∷◌, Option, Some, None, option_map, inl, inr, refl, subst, ◌∙◌, codes}
 use Rattle.xray_io.specs.Desk.{Entry, Holds, made_to_hold}
 use Rattle.xray_io.specs.Sink.{Adds}
+use Rattle.machine_step.specs.Buffers.{spare_of}
+use Rattle.machine_step.specs.Loads.{Load}
 use Rattle.machine_step.specs.declared.setup.Setup.{Setup}
 use Rattle.machine_step.specs.PlainStep.{Passing}
-use Rattle.patch_script.specs.Plans.{waiting_line}
+use Rattle.patch_script.specs.Micros.{hold_of}
+use Rattle.patch_script.specs.Plans.{Plan, plan_of, waiting_line}
 use Rattle.patch_script.specs.Refusals.{commands_of}
 use Rattle.step_sim.specs.FaultWords.{waits_words}
 use Rattle.step_sim.specs.Replay.{of_thread}
 use Rattle.trace_flush.specs.Audit.{audit_text}
 use Rattle.trace_flush.specs.Flush.{trace_bytes}
 use Rattle.trace_flush.specs.Lines.{accounts_of}
+use Rattle.traced_run.specs.Decoded.{DecodesWhole}
 use Rattle.traced_run.specs.Fits.{SetupFits}
+use Rattle.traced_run.specs.Losses.{AreLost}
 use Rattle.traced_run.specs.Runs.{ThreadRun}
+use Rattle.xray_image.specs.Program.{Program, IsAccepted}
 use Rattle.xray_program.specs.Answers.{IsRunBeside, IsSimulated}
 use Rattle.xray_program.specs.Commands.{Means}
 use Rattle.xray_program.specs.Inputs.{image_form, script_form, schedule_form}
@@ -73,6 +79,38 @@ files_hold trace audit setup runs outputs old new are whole =
     let other : List ℕ × List ℕ = (audit, audit_text setup (accounts_of setup runs)) in
     (All-head Made one (other ∷ []) both, All-head Made other [] (All-tail Made one (other ∷ []) both))
 
+-- lawful runs whose trace, audit and state texts were written are traced
+is_traced : CallLaws → (Lawful : Program → Plan → List ThreadRun → (ℕ → List Load) → Type 0) (Were : List ThreadRun → Type 0) (before after : World)
+    (t a image script : List ℕ) (setup : Setup) → SetupFits setup → (outputs : List (List ℕ × List ℕ)) (text : List ℕ) (program : Program) (plan : Plan)
+    → IsAccepted image program → plan_of program setup.threads script ≡ Ok plan → (traces : Traces Were program setup t a outputs text)
+    → AreWhole outputs before.desk.held after.desk.held → Adds before.out.written after.out.written text
+    → (loads : ℕ → List Load) → Lawful program plan traces.runs loads
+    → ((i : ℕ) (run : ThreadRun) → slice_get traces.runs i ≡ Some run
+    → DecodesWhole program (i + 1) (hold_of (i + 1) (commands_of plan.lines)) run (loads (i + 1)))
+    → AreLost setup.size (spare_of setup) traces.runs → IsTraced Lawful image script t a setup before after
+is_traced laws Lawful Were before after t a image script setup fits outputs text program plan accepted reads traces whole adds loads lawful decoded losses =
+    let hold = files_hold t a setup traces.runs outputs before.desk.held after.desk.held traces.outputs_are whole in
+    let Added : List ℕ → Type 0 = λ more. Adds before.out.written after.out.written more in
+    record {
+      program = program;
+      accepted = accepted;
+      plan = plan;
+      script_reads = reads;
+      runs = traces.runs;
+      run = traces.run;
+      loads = loads;
+      lawful = lawful;
+      whole = decoded;
+      losses = losses;
+      file = trace_bytes setup traces.runs;
+      traced = laws.traced image program setup traces.runs accepted fits traces.run;
+      trace_holds = hold.0;
+      audit_holds = hold.1;
+      out = subst Added traces.text_is adds;
+    }
+
+-- ---- `sim`
+
 simulated_by : CallLaws → (before after : World) (i s c t a image script schedule : List ℕ) (setup : Setup) → SetupFits setup
     → (outputs : List (List ℕ × List ℕ)) (text : List ℕ) → before.desk.held i ≡ Holds image → before.desk.held s ≡ Holds script
     → before.desk.held c ≡ Holds schedule → SimComes Sound before.desk.held i s c t a setup (Done outputs text)
@@ -89,33 +127,19 @@ simulated_by laws before after i s c t a image script schedule setup fits output
     let still = unrefused (waiting_line second.value.lines) s (codes "script")
     (Leaves (Traces (Replayed first.value second.value third.value setup) first.value setup t a)) outputs text third.next in
     let traces = left_alike (Traces (Replayed first.value second.value third.value setup) first.value setup t a) outputs text still.1 in
-    let losses = laws.loses first.value (commands_of second.value.lines) schedule third.value setup traces.runs third.reads traces.lawful in
-    let hold = files_hold t a setup traces.runs outputs held after.desk.held traces.outputs_are whole in
-    let Added : List ℕ → Type 0 = λ more. Adds before.out.written after.out.written more in
-    record {
-      program = first.value;
-      accepted = first.reads;
-      plan = second.value;
-      script_reads = second.reads;
-      runs = traces.runs;
-      run = traces.run;
-      loads = λ number. of_thread traces.lawful.last.moment.loads number;
-      lawful = record {
-        turns = third.value;
-        schedule_reads = third.reads;
-        nobody_waits = still.0;
-        replayed = traces.lawful;
-        loads_are = λ number. refl;
-        oldest = laws.oldest first.value (commands_of second.value.lines) schedule third.value setup traces.runs third.reads traces.lawful;
-      };
-      whole = laws.tears first.value (commands_of second.value.lines) schedule third.value setup traces.runs third.reads traces.lawful;
-      losses = losses;
-      file = trace_bytes setup traces.runs;
-      traced = laws.traced image first.value setup traces.runs first.reads fits traces.run;
-      trace_holds = hold.0;
-      audit_holds = hold.1;
-      out = subst Added traces.text_is adds;
-    }
+    is_traced laws (FollowsSchedule schedule setup) (Replayed first.value second.value third.value setup) before after t a image script setup fits
+    outputs text first.value second.value first.reads second.reads traces whole adds
+    (λ number. of_thread traces.lawful.last.moment.loads number)
+    (record {
+      turns = third.value;
+      schedule_reads = third.reads;
+      nobody_waits = still.0;
+      replayed = traces.lawful;
+      loads_are = λ number. refl;
+      oldest = laws.oldest first.value (commands_of second.value.lines) schedule third.value setup traces.runs third.reads traces.lawful;
+    })
+    (laws.tears first.value (commands_of second.value.lines) schedule third.value setup traces.runs third.reads traces.lawful)
+    (laws.loses first.value (commands_of second.value.lines) schedule third.value setup traces.runs third.reads traces.lawful)
 
 pub simulated : CallLaws → (said : Option Command) (before after : World) → SaidFits said → (outputs : List (List ℕ × List ℕ)) (text : List ℕ)
     → Means said before.desk.held (Done outputs text) → AreWhole outputs before.desk.held after.desk.held
@@ -141,33 +165,19 @@ beside_by laws before after i s t a image script setup fits outputs text image_h
     let traces = left_alike (Traces (FollowsPlan setup first.value second.value) first.value setup t a) outputs text second.next in
     let commands = commands_of second.value.lines in
     let made = leave_all first.value commands traces.runs traces.lawful.follow in
-    let hold = files_hold t a setup traces.runs outputs held after.desk.held traces.outputs_are whole in
-    let Added : List ℕ → Type 0 = λ more. Adds before.out.written after.out.written more in
-    record {
-      program = first.value;
-      accepted = first.reads;
-      plan = second.value;
-      script_reads = second.reads;
-      runs = traces.runs;
-      run = traces.run;
-      loads = made.loads;
-      lawful = record {
-        lawful = traces.lawful;
-        follow = λ i run found. (made.are i run found).follow;
-        released = λ i run found. (made.are i run found).released;
-      };
-      whole = λ i run found. record {
-        each = (made.are i run found).each ∙ length-map run.passed (λ (p : Passing). p.sled);
-        marks = (made.are i run found).leave;
-        whole = laws.follows first.value _ _ _ (i + 1) _ _ _ _ (laws.keeps first.value commands (i + 1)) (made.are i run found).follow;
-      };
-      losses = traces.lawful.losses;
-      file = trace_bytes setup traces.runs;
-      traced = laws.traced image first.value setup traces.runs first.reads fits traces.run;
-      trace_holds = hold.0;
-      audit_holds = hold.1;
-      out = subst Added traces.text_is adds;
-    }
+    is_traced laws (LoadsFollowPlan setup) (FollowsPlan setup first.value second.value) before after t a image script setup fits
+    outputs text first.value second.value first.reads second.reads traces whole adds made.loads
+    (record {
+      lawful = traces.lawful;
+      follow = λ i run found. (made.are i run found).follow;
+      released = λ i run found. (made.are i run found).released;
+    })
+    (λ i run found. record {
+      each = (made.are i run found).each ∙ length-map run.passed (λ (p : Passing). p.sled);
+      marks = (made.are i run found).leave;
+      whole = laws.follows first.value _ _ _ (i + 1) _ _ _ _ (laws.keeps first.value commands (i + 1)) (made.are i run found).follow;
+    })
+    traces.lawful.losses
 
 pub beside : CallLaws → (said : Option Command) (before after : World) → SaidFits said → (outputs : List (List ℕ × List ℕ)) (text : List ℕ)
     → Means said before.desk.held (Done outputs text) → AreWhole outputs before.desk.held after.desk.held

@@ -9,7 +9,7 @@ use Rattle.xray_program.specs.private.Takes.{AreTakings, IsNamed, IsTaken, IsTak
 use Rattle.xray_program.specs.Outcomes.{Outcome}
 use Rattle.xray_program.specs.Taking.{AcceptsFirst, DeskReads, Form, Take}
 use Rattle.xray_program.specs.declared.stop.Stop.{Stop}
-use Rattle.xray_program.proofs.Turns.{Leads, accepts}
+use Rattle.xray_program.proofs.Turns.{accepts, leads}
 use Rattle.xray_program.specs.declared.stop.Stop.TheVariants as stops
 
 -- something else is said of the same calls
@@ -36,6 +36,11 @@ pub read_on : {S : Type 0} (along : S → S → List Call → Type 0) → Compos
 read_on along both first second third inputs name limit went then =
     went_on along both first second third _ _ (ReadsAll (inputs ++ (name, limit) ∷ [])) went then (reads_more inputs name limit)
 
+-- the first was read whole
+pub read_first : {S : Type 0} (along : S → S → List Call → Type 0) → Composes along → HoldsOfNone along → (first second : S)
+    (name : List ℕ) (limit : ℕ) → Went (along first second) (ReadsWhole name limit) → Went (along first second) (ReadsAll ((name, limit) ∷ []))
+read_first along both none first second name limit went = read_on along both first first second [] name limit (no_reads along none first) went
+
 -- all were, and each was accepted
 pub all_taken : {Accepted : Type 0} {Way Read : List Call → Type 0} → Accepted → Went Way Read → Went Way (λ calls. Accepted × Read calls)
 all_taken accepted went = record { calls = went.calls; way = went.way; are = (accepted, went.are) }
@@ -60,13 +65,19 @@ named form name before after (stops.Fell words) taken = tt
 named form name before after (stops.Unwritten n) taken = tt
 named form name before after stops.NoMemory taken = tt
 
-pub one_taking : {X : Type 0} (form : Form X) (name : List ℕ) (before after : DeskView) (Way : List Call → Type 0) (result : Result X Stop)
-    (comes : DeskReads → Outcome → Type 0) (next : DeskReads → X → Outcome → Type 0) → Leads comes (λ reads. Take form 0 reads before.held name (next reads))
-    → IsTaken form name before after result
-    → Went Way (IsTaking name form.limit result) → Went Way (AreTakings comes ((name, form.limit) ∷ []) result)
-one_taking form name before after Way (Ok value) comes next leads taken went =
-    record { calls = went.calls; way = went.way; are = (accepts form 0 comes before.held name next value leads taken, (went.calls, [], sym (append-nil went.calls), went.are, refl)) }
-one_taking form name before after Way (Err stop) comes next leads taken went = record {
+pub only_taking : {X : Type 0} (form : Form X) (name : List ℕ) (next : X → Outcome → Type 0) (before after : DeskView) (Way : List Call → Type 0)
+    (result : Result X Stop) → IsTaken form name before after result → Went Way (IsTaking name form.limit result)
+    → Went Way (AreTakings (λ reads. Take form 0 reads before.held name next) ((name, form.limit) ∷ []) result)
+only_taking form name next before after Way (Ok value) taken went = record {
+  calls = went.calls;
+  way = went.way;
+  are = (
+    accepts form 0 (λ reads. Take form 0 reads before.held name next) before.held name (λ reads. next) value
+        (leads (λ reads. Take form 0 reads before.held name next)) taken,
+    (went.calls, [], sym (append-nil went.calls), went.are, refl),
+  );
+}
+only_taking form name next before after Way (Err stop) taken went = record {
   calls = went.calls;
   way = went.way;
   are = (
@@ -86,3 +97,12 @@ stop_handed along both first second third form before after inputs earlier later
 stop_handed along both first second third form before after inputs earlier later name (Err s) stop comes accepted is turn taken went then =
     subst (λ (t : Stop). Went (along first third) (StopsTakings comes inputs t)) (sym is)
     (stop_on along both first second third inputs earlier later name form.limit stop comes turn (named form name before after stop taken) accepted went then)
+
+-- the stop of the first input
+pub first_handed : {S X Y : Type 0} (along : S → S → List Call → Type 0) → Composes along → HoldsOfNone along → (first second : S) (form : Form X)
+    (before after : DeskView) (inputs later : List (List ℕ × ℕ)) (name : List ℕ) (result : Result Y Stop) (stop : Stop)
+    (comes : DeskReads → Outcome → Type 0) → IsErrAnd result (λ s. s ≡ stop) → inputs ≡ (name, form.limit) ∷ later
+    → IsTaken form name before after (Err stop) → Went (along first second) (StopsTaking name form.limit stop)
+    → Went (along first second) (AreTakings comes inputs result)
+first_handed along both none first second form before after inputs later name result stop comes is turn taken went =
+    stop_handed along both first first second form before after inputs [] later name result stop comes tt is turn taken (no_reads along none first) went

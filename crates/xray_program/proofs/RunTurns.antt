@@ -1,29 +1,30 @@
 -- `run`: the turns of its two inputs.
 use Rattle.std.proofs.Common.{ℕ, List}
-use Rattle.machine_step.specs.declared.setup.Setup.{Setup}
 use Rattle.patch_script.specs.Plans.{Plan}
 use Rattle.xray_image.specs.Program.{Program}
 use Rattle.xray_io.specs.Desk.{Entry}
 use Rattle.xray_program.specs.Inputs.{image_form, script_form}
 use Rattle.xray_program.specs.Outcomes.{Outcome}
 use Rattle.xray_program.specs.Run.{RunComes, RunsBeside}
-use Rattle.xray_program.specs.private.Takes.{Gives}
+use Rattle.xray_program.specs.Setups.{setup_of}
 use Rattle.xray_program.specs.Taking.{DeskReads, Take}
+use Rattle.xray_program.specs.declared.run_inputs.Run.{Run}
+use Rattle.xray_program.specs.private.Takes.{Gives}
 use Rattle.xray_program.proofs.Turns.{Leads, leads, leads_on}
 
--- what comes of the command; of its script; and of its plan
-abbrev pub Comes : (List ℕ → Entry) → (i s t a : List ℕ) → Setup → DeskReads → Outcome → Type 0
-Comes held i s t a setup reads = RunComes reads held i s t a setup
+-- what comes of the command, and of its script
+abbrev pub Comes : (List ℕ → Entry) → Run → DeskReads → Outcome → Type 0
+Comes held run reads = RunComes reads held run.image.now run.script.now run.files.trace.now run.files.audit.now (setup_of run.options)
 
-abbrev pub AfterImage : (List ℕ → Entry) → (s t a : List ℕ) → Setup → DeskReads → Program → Outcome → Type 0
-AfterImage held s t a setup reads program =
-    Take (script_form program setup.threads) 1 reads held s (λ plan. RunsBeside t a setup program plan)
+abbrev pub AfterScript : Run → Program → DeskReads → Plan → Outcome → Type 0
+AfterScript run program reads plan = RunsBeside run.files.trace.now run.files.audit.now (setup_of run.options) program plan
 
-abbrev pub AfterScript : (t a : List ℕ) → Setup → Program → DeskReads → Plan → Outcome → Type 0
-AfterScript t a setup program reads plan = RunsBeside t a setup program plan
+abbrev pub AfterImage : (List ℕ → Entry) → Run → DeskReads → Program → Outcome → Type 0
+AfterImage held run reads program =
+    Take (script_form program run.options.bounds.threads) 1 reads held run.script.now (AfterScript run program reads)
 
 -- how far the image leads
-pub to_script : (held : List ℕ → Entry) (i s t a : List ℕ) (setup : Setup) (program : Program) → Gives image_form (held i) program
-    → Leads (Comes held i s t a setup) (λ reads. Take (script_form program setup.threads) 1 reads held s (AfterScript t a setup program reads))
-to_script held i s t a setup program image =
-    leads_on image_form 0 (Comes held i s t a setup) held i (AfterImage held s t a setup) program (leads (Comes held i s t a setup)) image
+pub to_script : (held : List ℕ → Entry) (run : Run) (program : Program) → Gives image_form (held run.image.now) program
+    → Leads (Comes held run) (λ reads. AfterImage held run reads program)
+to_script held run program image =
+    leads_on image_form 0 (Comes held run) held run.image.now (AfterImage held run) program (leads (Comes held run)) image

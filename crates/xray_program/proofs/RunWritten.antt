@@ -1,16 +1,19 @@
 -- What is written of what a run leaves.
-use Rattle.std.proofs.Common.{◌≡◌, ◌<◌, ◌+◌, ◌++◌, ◌∙◌, ℕ, zero, suc, List, [], ◌∷◌, drop, length, map, Some, refl, sym, ap, arith, subst}
-use Rattle.std.specs.Prelude.{IsTrue}
+use Rattle.std.proofs.Common.{◌≡◌, ◌<◌, ◌+◌, ◌++◌, ◌∙◌, ℕ, zero, suc, List, [], ◌∷◌, drop, filter, length, map, Some, refl, sym, ap, arith, subst}
+use Rattle.std.specs.Prelude.{IsPermutation, IsTrue}
 use Rattle.std.specs.List.{All, AllByRecursion, enumerate_from, flat_map, slice_get}
 use Rattle.std.proofs.lemmas.List.{length-map}
 use Rattle.std.proofs.lemmas.List.Concat.{flat_map-cons}
 use Rattle.std.proofs.lemmas.List.Elements.{All-cons, All-from_recursion, All-nil}
 use Rattle.std.proofs.lemmas.Option.{slice_get_within}
 use Rattle.fdr_record.specs.declared.event.Event.{Event}
-use Rattle.fdr_buffer.specs.Filled.{Filled}
+use Rattle.fdr_buffer.specs.Filled.{Filled, has_event}
 use Rattle.machine_step.specs.declared.setup.Setup.{Setup}
 use Rattle.machine_step.specs.Texts.{state_text}
 use Rattle.machine_step.specs.Traced.{IsDone, Traced}
+use Rattle.patch_script.specs.declared.command.Command.{Command}
+use Rattle.thread_run.specs.Runs.{HaveRunBeside}
+use Rattle.xray_image.specs.Program.{Program}
 use Rattle.fdr_file.specs.Files.{file_bytes}
 use Rattle.trace_flush.specs.Audit.{Account, accounts, audit_text}
 use Rattle.trace_flush.specs.Flush.{header_of, trace_bytes}
@@ -158,3 +161,17 @@ leaves_same setup runs ts us segments ns first ms buffers kept same_threads same
     (subst (λ (l : List ℕ). Leaves setup runs us ns l buffers) (sym same_first)
     (subst (λ (l : List ℕ). Leaves setup runs us l first buffers) (sym same_segments)
     (subst (λ (l : List Traced). Leaves setup runs l segments first buffers) (sym same_threads) leaves)))
+
+-- What a run beside a script left, in other hands, with its buffers in the order of a trace.
+pub left_in_order : (program other : Program) (script : List Command) (setup : Setup) (ts us : List Traced) (segments ns first ms : List ℕ)
+    (buffers kept : List Filled) → program ≡ other → HaveRunBeside program script setup ts segments first buffers → us ≡ ts → ns ≡ segments
+    → ms ≡ first
+    → ((with_it : Setup) (runs : List ThreadRun) → IsPermutation (filter has_event buffers) (kept_buffers with_it runs) → kept ≡ kept_buffers with_it runs)
+    → (left : HaveRunBeside other script setup ts segments first buffers) × Leaves setup left.runs us ns ms kept
+left_in_order program other script setup ts us segments ns first ms buffers kept same_program ran same_threads same_segments same_first in_order =
+    let left : HaveRunBeside other script setup ts segments first buffers =
+    subst (λ (p : Program). HaveRunBeside p script setup ts segments first buffers) same_program ran in (
+      left,
+      leaves_same setup left.runs ts us segments ns first ms (kept_buffers setup left.runs) kept same_threads same_segments same_first
+          (in_order setup left.runs left.buffers_are) left.leaves,
+    )

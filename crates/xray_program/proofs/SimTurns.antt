@@ -16,39 +16,47 @@ use Rattle.xray_program.specs.Order.{IsNoCall}
 use Rattle.xray_program.specs.Outcomes.{Outcome, Refused}
 use Rattle.xray_program.specs.Sim.{Replays, SimComes}
 use Rattle.xray_program.specs.private.Takes.{Gives, IsFaultStop}
-use Rattle.xray_program.specs.Taking.{DeskReads, Form, RefuseIf, Take}
+use Rattle.xray_program.specs.Setups.{setup_of}
+use Rattle.xray_program.specs.Taking.{DeskReads, Form, RefuseIf, Sound, Take}
 use Rattle.xray_program.specs.private.Works.{Finishes}
+use Rattle.xray_program.specs.declared.sim.Sim.{Sim}
+use Rattle.xray_program.specs.declared.sim_inputs.SimInputs.{SimInputs}
 use Rattle.xray_program.specs.declared.stop.Stop.{Stop}
 use Rattle.xray_program.specs.declared.stop.Stop.TheVariants as stops
 use Rattle.xray_program.proofs.Turns.{Leads, leads, leads_on}
 
--- what comes of the command; of its script and its schedule; and of its schedule
-abbrev pub Comes : (List ℕ → Entry) → (i s c t a : List ℕ) → Setup → DeskReads → Outcome → Type 0
-Comes held i s c t a setup reads = SimComes reads held i s c t a setup
+-- what comes of the command; of its script and its schedule; of its schedule; and of its inputs
+abbrev pub Comes : (List ℕ → Entry) → Sim → DeskReads → Outcome → Type 0
+Comes held sim reads =
+    SimComes reads held sim.image.now sim.script.now sim.schedule.now sim.files.trace.now sim.files.audit.now (setup_of sim.options)
 
-abbrev pub AfterImage : (List ℕ → Entry) → (s c t a : List ℕ) → Setup → DeskReads → Program → Outcome → Type 0
-AfterImage held s c t a setup reads program =
-    Take (script_form program setup.threads) 1 reads held s (λ plan.
-    Take (schedule_form setup.threads) 2 reads held c (λ turns. Replays s t a setup program plan turns))
+abbrev pub AfterSchedule : Sim → Program → Plan → DeskReads → List Turns → Outcome → Type 0
+AfterSchedule sim program plan reads turns =
+    Replays sim.script.now sim.files.trace.now sim.files.audit.now (setup_of sim.options) program plan turns
 
-abbrev pub AfterScript : (List ℕ → Entry) → (s c t a : List ℕ) → Setup → Program → DeskReads → Plan → Outcome → Type 0
-AfterScript held s c t a setup program reads plan = Take (schedule_form setup.threads) 2 reads held c (λ turns. Replays s t a setup program plan turns)
+abbrev pub AfterScript : (List ℕ → Entry) → Sim → Program → DeskReads → Plan → Outcome → Type 0
+AfterScript held sim program reads plan =
+    Take (schedule_form sim.options.bounds.threads) 2 reads held sim.schedule.now (AfterSchedule sim program plan reads)
 
-abbrev pub AfterSchedule : (s t a : List ℕ) → Setup → Program → Plan → DeskReads → List Turns → Outcome → Type 0
-AfterSchedule s t a setup program plan reads turns = Replays s t a setup program plan turns
+abbrev pub AfterImage : (List ℕ → Entry) → Sim → DeskReads → Program → Outcome → Type 0
+AfterImage held sim reads program =
+    Take (script_form program sim.options.bounds.threads) 1 reads held sim.script.now (AfterScript held sim program reads)
+
+abbrev pub comes_of : Sim → SimInputs → Outcome → Type 0
+comes_of sim inputs = AfterSchedule sim inputs.image inputs.script Sound inputs.schedule
 
 -- how far the inputs lead
-pub to_script : (held : List ℕ → Entry) (i s c t a : List ℕ) (setup : Setup) (program : Program) → Gives image_form (held i) program
-    → Leads (Comes held i s c t a setup) (λ reads. Take (script_form program setup.threads) 1 reads held s (AfterScript held s c t a setup program reads))
-to_script held i s c t a setup program image =
-    leads_on image_form 0 (Comes held i s c t a setup) held i (AfterImage held s c t a setup) program (leads (Comes held i s c t a setup)) image
+pub to_script : (held : List ℕ → Entry) (sim : Sim) (program : Program) → Gives image_form (held sim.image.now) program
+    → Leads (Comes held sim) (λ reads. AfterImage held sim reads program)
+to_script held sim program image =
+    leads_on image_form 0 (Comes held sim) held sim.image.now (AfterImage held sim) program (leads (Comes held sim)) image
 
-pub to_schedule : (held : List ℕ → Entry) (i s c t a : List ℕ) (setup : Setup) (program : Program) (plan : Plan) → Gives image_form (held i) program
-    → Gives (script_form program setup.threads) (held s) plan
-    → Leads (Comes held i s c t a setup) (λ reads. Take (schedule_form setup.threads) 2 reads held c (AfterSchedule s t a setup program plan reads))
-to_schedule held i s c t a setup program plan image script =
-    leads_on (script_form program setup.threads) 1 (Comes held i s c t a setup) held s (AfterScript held s c t a setup program) plan
-    (to_script held i s c t a setup program image) script
+pub to_schedule : (held : List ℕ → Entry) (sim : Sim) (program : Program) (plan : Plan) → Gives image_form (held sim.image.now) program
+    → Gives (script_form program sim.options.bounds.threads) (held sim.script.now) plan
+    → Leads (Comes held sim) (λ reads. AfterScript held sim program reads plan)
+to_schedule held sim program plan image script =
+    leads_on (script_form program sim.options.bounds.threads) 1 (Comes held sim) held sim.script.now (AfterScript held sim program) plan
+    (to_script held sim program image) script
 
 -- a value that a desk gave that holds what another held
 pub given_before : {X : Type 0} (form : Form X) (held mid : List ℕ → Entry) (name : List ℕ) (value : X) → mid ≡ held

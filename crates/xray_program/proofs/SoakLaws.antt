@@ -104,17 +104,7 @@ soak_alone is one number =
 -- ---- something in any case
 
 soak_fits : SetupFits soak_setup
-soak_fits = record {
-  threads = omega arith;
-  least = omega arith;
-  most = omega arith;
-  some_cpus = omega arith;
-  cpus = omega arith;
-  pid = omega arith;
-  secs = omega arith;
-  micros = omega arith;
-  frequency = omega arith;
-}
+soak_fits = grind arith
 
 some_summary : StillRun → DrawnLaws → (number : ℕ) → (text : List ℕ) × IsSummary number text
 some_summary some laws number =

@@ -108,6 +108,19 @@ pub schedule_answer : InputLaws → (number : ℕ) (text : List ℕ) → text �
 schedule_answer laws number text same_text answer reads =
     either_way schedule_faults.NoMemory answer (schedule_of 4 text) (soak_turns number) reads (ap (schedule_of 4) same_text ∙ laws.schedule number)
 
+-- so what is handed on is the script and the schedule of the number
+pub plan_is : InputLaws → (number : ℕ) (image : Program) (text : List ℕ) → image ≡ soak_program number → text ≡ soak_script number
+    → (answer : Result Plan ScriptFault) → (answer ≡ Err script_faults.NoMemory) ⊎ (answer ≡ plan_of image 4 text)
+    → (plan : Plan) → answer ≡ Ok plan → plan ≡ soak_plan number
+plan_is laws number image text same_image same_text answer reads plan is =
+    value_is script_faults.NoMemory answer (soak_plan number) plan (script_answer laws number image text same_image same_text answer reads) is
+
+pub turns_are : InputLaws → (number : ℕ) (text : List ℕ) → text ≡ soak_schedule number
+    → (answer : Result (List Turns) ScheduleFault) → (answer ≡ Err schedule_faults.NoMemory) ⊎ (answer ≡ schedule_of 4 text)
+    → (turns : List Turns) → answer ≡ Ok turns → turns ≡ soak_turns number
+turns_are laws number text same_text answer reads turns is =
+    value_is schedule_faults.NoMemory answer (soak_turns number) turns (schedule_answer laws number text same_text answer reads) is
+
 -- ---- the replay
 
 -- the replay of a script in which nobody waits isn't refused

@@ -1,6 +1,6 @@
 -- Inputs in their turn, and what comes of a command by these.
 use Rattle.std.specs.Prelude.{IsErrAnd}
-use Rattle.std.proofs.Common.{◌≡◌, ◌≢◌, ◌⊎◌, ◌<◌, ◌≤◌, ◌+◌, ◌∙◌, ℕ, suc, List, length, replicate, Option, Some, None, Result, Ok, Err, inl, inr, refl, sym, ap, arith, subst}
+use Rattle.std.proofs.Common.{◌≡◌, ◌≢◌, ◌⊎◌, ◌<◌, ◌≤◌, ◌+◌, ◌∙◌, ℕ, suc, List, length, replicate, Option, Some, None, Result, Ok, Err, inl, inr, refl, sym, ap, arith, le_refl, subst}
 use Rattle.std.proofs.lemmas.List.{length-replicate}
 use Rattle.fault_words.specs.Words.{words_text}
 use Rattle.xray_io.specs.Desk.{Entry, Untold, Absent, Holds}
@@ -132,17 +132,31 @@ pub handed_on : {X : Type 0} (comes : DeskReads → Outcome → Type 0) (yields 
 handed_on comes yields before after (Ok inputs) stop is stands = absurd is
 handed_on comes yields before after (Err s) stop is stands = rw is stands
 
--- the last input decides
-pub last_taken : {X : Type 0} (form : Form X) (place : ℕ) (comes : DeskReads → Outcome → Type 0) (yields : X → Outcome → Type 0) (before mid after : DeskView)
-    (name : List ℕ) (next : DeskReads → X → Outcome → Type 0) (result : Result X Stop)
-    → Leads comes (λ reads. Take form place reads before.held name (next reads)) → mid.held ≡ before.held → before.read_faults ≤ mid.read_faults
-    → ((reads : DeskReads) (value : X) (outcome : Outcome) → yields value outcome → next reads value outcome)
-    → IsTaken form name mid after result → AreTaken comes yields before after result
-last_taken form place comes yields before mid after name next (Ok value) leads same up goes taken = λ reads outcome is.
-    let given = subst (λ (h : List ℕ → Entry). Gives form (h name) value) same taken in
-    leads_on form place comes before.held name next value leads given reads outcome (goes reads value outcome is)
-last_taken form place comes yields before mid after name next (Err stop) leads same up goes taken =
-    stops_at form place comes before mid after name next stop leads same up taken
+-- so an input after these that was a stop, and the first one
+pub later_stop : {X Y : Type 0} (form : Form X) (place : ℕ) (comes : DeskReads → Outcome → Type 0) (yields : Y → Outcome → Type 0)
+    (before mid after : DeskView) (name : List ℕ) (next : DeskReads → X → Outcome → Type 0) (result : Result Y Stop) (stop : Stop)
+    → IsErrAnd result (λ s. s ≡ stop) → Leads comes (λ reads. Take form place reads before.held name (next reads))
+    → mid.held ≡ before.held → before.read_faults ≤ mid.read_faults → IsTaken form name mid after (Err stop)
+    → AreTaken comes yields before after result
+later_stop form place comes yields before mid after name next result stop is leads same up taken =
+    handed_on comes yields before after result stop is (stops_at form place comes before mid after name next stop leads same up taken)
+
+pub first_stop : {X Y : Type 0} (form : Form X) (comes : DeskReads → Outcome → Type 0) (yields : Y → Outcome → Type 0) (before after : DeskView)
+    (name : List ℕ) (next : DeskReads → X → Outcome → Type 0) (result : Result Y Stop) (stop : Stop) → IsErrAnd result (λ s. s ≡ stop)
+    → Leads comes (λ reads. Take form 0 reads before.held name (next reads)) → IsTaken form name before after (Err stop)
+    → AreTaken comes yields before after result
+first_stop form comes yields before after name next result stop is leads taken =
+    later_stop form 0 comes yields before before after name next result stop is leads refl (le_refl _) taken
+
+-- the only input decides
+pub only_taken : {X : Type 0} (form : Form X) (name : List ℕ) (next : X → Outcome → Type 0) (before after : DeskView) (result : Result X Stop)
+    → IsTaken form name before after result → AreTaken (λ reads. Take form 0 reads before.held name next) next before after result
+only_taken form name next before after (Ok value) taken =
+    leads_on form 0 (λ reads. Take form 0 reads before.held name next) before.held name (λ reads. next) value
+    (leads (λ reads. Take form 0 reads before.held name next)) taken
+only_taken form name next before after (Err stop) taken =
+    stops_at form 0 (λ reads. Take form 0 reads before.held name next) before before after name (λ reads. next) stop
+    (leads (λ reads. Take form 0 reads before.held name next)) refl (le_refl _) taken
 
 -- ---- an input that the words may leave out
 

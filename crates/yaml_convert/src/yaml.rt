@@ -1,8 +1,8 @@
 //! The YAML text of a trace.
 
 ghost use Rattle.std.specs.{Prelude.{◌≡◌, ◌++◌, ⊤}, List.{flat_map}, Option.{option_map}};
-ghost use Rattle.xray_io.specs.Text.{AddsText};
-ghost use Rattle.yaml_convert.specs.Yaml.{block_lines, event_end, event_line, event_start, has_events, header_text, kind_text, records_start, truth_text, yaml_text};
+ghost use Rattle.xray_io.specs.{Piece.{piece_text}, Text.{AddsText}};
+ghost use Rattle.yaml_convert.specs.Yaml.{block_lines, event_end, event_line, has_events, header_text, kind_text, records_start, truth_text, yaml_text};
 
 use fdr_file::{Block, Header, Trace};
 use fdr_record::{Event, Kind};
@@ -31,7 +31,7 @@ impl Printed for YamlText<'_> {
 
     fn add_to<S: Sink>(&self, to: &mut Text<S>) -> Result<(), WriteFault> {
         add_header(to, &self.trace.header)?;
-        add_records(to, self.trace.blocks.as_slice(), self.image)?;
+        add_records(to, self)?;
         to.bytes(b"...\n")
     }
 }
@@ -45,9 +45,9 @@ fn add_header<S: Sink>(text: &mut Text<S>, header: &Header) -> Result<(), WriteF
         Piece::Bytes(b"---\nheader:\n  version: "),
         Piece::Number(u128::from(header.version)),
         Piece::Bytes(b"\n  type: 1\n  constant-tsc: "),
-        Piece::Bytes(truth_bytes(header.constant)),
+        truth(header.constant),
         Piece::Bytes(b"\n  nonstop-tsc: "),
-        Piece::Bytes(truth_bytes(header.nonstop)),
+        truth(header.nonstop),
         Piece::Bytes(b"\n  cycle-frequency: "),
         Piece::Number(u128::from(header.frequency)),
         Piece::Bytes(b"\n"),
@@ -55,17 +55,14 @@ fn add_header<S: Sink>(text: &mut Text<S>, header: &Header) -> Result<(), WriteF
 }
 
 /// Adds the records.
-fn add_records<S: Sink>(
-    text: &mut Text<S>,
-    blocks: &[Block],
-    image: Option<&Image>,
-) -> Result<(), WriteFault>
-    ensures { AddsText S.written S.faults S.along text.old text.new
-        (records_start blocks.now
-        ++ flat_map (block_lines (option_map (λ image. image.now) image.entry)) blocks.now) result }
+fn add_records<S: Sink>(text: &mut Text<S>, yaml: &YamlText) -> Result<(), WriteFault>
+    ensures { let blocks = yaml.now.trace.now.blocks in
+        AddsText S.written S.faults S.along text.old text.new (records_start blocks
+        ++ flat_map (block_lines (option_map (λ image. image.now) yaml.now.image)) blocks) result }
 {
+    let blocks = yaml.trace.blocks.as_slice();
     text.bytes(records_line(blocks))?;
-    add_blocks(text, blocks, image)
+    add_blocks(text, blocks, yaml.image)
 }
 
 /// The text that the records begin with.
@@ -141,24 +138,16 @@ fn add_event<S: Sink>(
     ensures { AddsText S.written S.faults S.along text.old text.new
         (event_line (option_map (λ image. image.now) image.entry) block.now event.now) result }
 {
-    add_start(text, event)?;
-    add_name(text, image, event.func)?;
-    add_end(text, block, event)
-}
-
-/// Adds the text before the name of an event's function.
-fn add_start<S: Sink>(text: &mut Text<S>, event: &Event) -> Result<(), WriteFault>
-    ensures { AddsText S.written S.faults S.along text.old text.new
-        (event_start event.now) result }
-{
     text.pieces(&[
         Piece::Bytes(b"  - { type: 0, func-id: "),
         Piece::Number(u128::from(event.func)),
         Piece::Bytes(b", function: '"),
-    ])
+    ])?;
+    add_name(text, image, event.func)?;
+    add_end(text, block, event)
 }
 
-/// Adds the text after it.
+/// Adds the text after the name of its function.
 fn add_end<S: Sink>(text: &mut Text<S>, block: &Block, event: &Event) -> Result<(), WriteFault>
     ensures { AddsText S.written S.faults S.along text.old text.new
         (event_end block.now event.now) result }
@@ -171,7 +160,7 @@ fn add_end<S: Sink>(text: &mut Text<S>, block: &Block, event: &Event) -> Result<
         Piece::Bytes(b", process: "),
         Piece::Number(u128::from(block.pid)),
         Piece::Bytes(b", kind: "),
-        Piece::Bytes(kind_bytes(event.kind)),
+        kind_word(event.kind),
         Piece::Bytes(b", tsc: "),
         Piece::Number(u128::from(event.tsc)),
         Piece::Bytes(b" }\n"),
@@ -179,19 +168,22 @@ fn add_end<S: Sink>(text: &mut Text<S>, block: &Block, event: &Event) -> Result<
 }
 
 /// The word for a kind of events.
-fn kind_bytes(kind: Kind) -> &'static [u8]
-    ensures { result.now ≡ kind_text kind }
+fn kind_word(kind: Kind) -> Piece<'static>
+    ensures { piece_text result ≡ kind_text kind }
 {
     match kind {
-        Kind::Entry => b"function-enter",
-        Kind::Exit => b"function-exit",
-        Kind::TailExit => b"function-tail-exit",
+        Kind::Entry => Piece::Bytes(b"function-enter"),
+        Kind::Exit => Piece::Bytes(b"function-exit"),
+        Kind::TailExit => Piece::Bytes(b"function-tail-exit"),
     }
 }
 
 /// The word for a yes or no.
-fn truth_bytes(holds: bool) -> &'static [u8]
-    ensures { result.now ≡ truth_text holds }
+fn truth(holds: bool) -> Piece<'static>
+    ensures { piece_text result ≡ truth_text holds }
 {
-    if holds { b"true" } else { b"false" }
+    match holds {
+        true => Piece::Bytes(b"true"),
+        false => Piece::Bytes(b"false"),
+    }
 }

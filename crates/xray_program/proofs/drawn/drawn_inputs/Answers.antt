@@ -15,7 +15,7 @@ use Rattle.step_sim.specs.declared.turns.Turns.{Turns}
 use Rattle.xray_image.specs.Program.{Program}
 use Rattle.xray_program.specs.Soak.{AreInputs}
 use Rattle.xray_program.proofs.SoakLaws.{inputs_read, soak_plan, soak_program}
-use Rattle.xray_program.proofs.SoakReads.{schedule_answer, script_answer, unrefused_by, value_is}
+use Rattle.xray_program.proofs.SoakReads.{plan_is, schedule_answer, script_answer, turns_are, unrefused_by}
 use Rattle.xray_program.proofs.drawn.drawn_inputs.Goals as goal
 
 pub image_of-requires-clause-said : goal.image_of-requires-clause-said
@@ -50,12 +50,10 @@ returns-clause-inputs c =
     let laws = c.each_input_is_read.ensures.laws in
     let number = c.args.number in
     let image = c.in_ok-image.ensures (soak_said number) (ap said_by (c.deref.ensures.value ∙ c.in_ok-text.ensures.text) ∙ laws.said number) in
-    let script = script_answer laws number c.in_ok-image.image c.deref-2.result.now image (c.deref-2.ensures.value ∙ c.in_ok-text.ensures.script)
-    c.read_script.result c.read_script.ensures.reads in
-    let schedule = schedule_answer laws number c.deref-3.result.now (c.deref-3.ensures.value ∙ c.in_ok-text.ensures.schedule)
-    c.read_schedule.result c.read_schedule.ensures.reads in
-    let plan = value_is script_faults.NoMemory c.read_script.result (soak_plan number) c.in_ok-script.script script c.in_ok-script.ensures in
-    let turns = value_is schedule_faults.NoMemory c.read_schedule.result (soak_turns number) c.in_ok-schedule.schedule schedule c.in_ok-schedule.ensures in
+    let plan = plan_is laws number c.in_ok-image.image c.deref-2.result.now image (c.deref-2.ensures.value ∙ c.in_ok-text.ensures.script)
+    c.read_script.result c.read_script.ensures.reads c.in_ok-script.script c.in_ok-script.ensures in
+    let turns = turns_are laws number c.deref-3.result.now (c.deref-3.ensures.value ∙ c.in_ok-text.ensures.schedule)
+    c.read_schedule.result c.read_schedule.ensures.reads c.in_ok-schedule.schedule c.in_ok-schedule.ensures in
     subst (λ (p : Program). AreInputs number p c.in_ok-script.script c.in_ok-schedule.schedule) (sym image)
     (subst (λ (p : Plan). AreInputs number (soak_program number) p c.in_ok-schedule.schedule) (sym plan)
     (subst (λ (t : List Turns). AreInputs number (soak_program number) (soak_plan number) t) (sym turns) (inputs_read laws number)))
@@ -63,12 +61,11 @@ returns-clause-inputs c =
 pub returns-clause-fit : goal.returns-clause-fit
 returns-clause-fit c =
     let laws = c.each_input_is_read.ensures.laws in
-    let number = c.args.number in
-    let image = c.in_ok-image.ensures (soak_said number) (ap said_by (c.deref.ensures.value ∙ c.in_ok-text.ensures.text) ∙ laws.said number) in
-    let script = script_answer laws number c.in_ok-image.image c.deref-2.result.now image (c.deref-2.ensures.value ∙ c.in_ok-text.ensures.script)
-    c.read_script.result c.read_script.ensures.reads in
-    let plan = value_is script_faults.NoMemory c.read_script.result (soak_plan number) c.in_ok-script.script script c.in_ok-script.ensures in
+    let text = ap said_by (c.deref.ensures.value ∙ c.in_ok-text.ensures.text) ∙ laws.said c.args.number in
+    let image = c.in_ok-image.ensures (soak_said c.args.number) text in
     let P : Result (List Turns) ScheduleFault → Type 0 = λ read. IfOk read (All (AreTurnsOf 4)) in
+    let plan = plan_is laws c.args.number c.in_ok-image.image c.deref-2.result.now image (c.deref-2.ensures.value ∙ c.in_ok-text.ensures.script)
+    c.read_script.result c.read_script.ensures.reads c.in_ok-script.script c.in_ok-script.ensures in
     record {
       program_is = ap (λ (p : Plan). p.program) plan ∙ sym image;
       threads_are = ap (λ (p : Plan). p.threads) plan;

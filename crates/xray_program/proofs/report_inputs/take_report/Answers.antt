@@ -1,10 +1,10 @@
-use Rattle.std.proofs.Common.{[], option_map, refl}
+use Rattle.std.proofs.Common.{option_map, refl}
 use Rattle.xray_io.specs.World.{desk_view}
 use Rattle.command_words.specs.Limits.{trace_limit}
 use Rattle.xray_program.specs.Inputs.{trace_form}
 use Rattle.xray_program.specs.Reports.{image_input, report_inputs}
 use Rattle.xray_program.specs.private.ReportTakes.{StopsReport}
-use Rattle.xray_program.proofs.Ordering.{no_reads, read_on, stop_handed}
+use Rattle.xray_program.proofs.Ordering.{first_handed, read_first}
 use Rattle.xray_program.proofs.Reports.{both_read, image_stopped, stop_of_image, stop_of_trace}
 use Rattle.xray_program.proofs.report_inputs.take_report.Goals as goal
 
@@ -34,10 +34,10 @@ pub returns-in_err-trace-clause-calls : goal.returns-in_err-trace-clause-calls
 returns-in_err-trace-clause-calls g c =
     let seen = desk_view g.D.Desk.held g.D.Desk.read_faults g.D.Desk.write_faults in
     let image = option_map (λ n. n.now) c.args.image in
-    stop_handed g.D.Desk.along g.met.D.Desk.along_both c.args.desk.now c.args.desk.now c.take.new.desk trace_form (seen c.args.desk.now) (seen c.take.new.desk)
-    (report_inputs c.args.trace.now image) [] (image_input image) c.args.trace.now c.from_residual.result _
-    (λ reads. StopsReport reads (g.D.Desk.held c.args.desk.now) c.args.trace.now image) tt
-    c.from_residual.ensures.1 refl c.in_err-trace.ensures.taken (no_reads g.D.Desk.along g.met.D.Desk.along_none c.args.desk.now) c.in_err-trace.ensures.calls
+    first_handed g.D.Desk.along g.met.D.Desk.along_both g.met.D.Desk.along_none c.args.desk.now c.take.new.desk trace_form (seen c.args.desk.now)
+    (seen c.take.new.desk) (report_inputs c.args.trace.now image) (image_input image) c.args.trace.now c.from_residual.result _
+    (λ reads. StopsReport reads (g.D.Desk.held c.args.desk.now) c.args.trace.now image)
+    c.from_residual.ensures.1 refl c.in_err-trace.ensures.taken c.in_err-trace.ensures.calls
 
 pub returns-in_err-image-clause-calls : goal.returns-in_err-image-clause-calls
 returns-in_err-image-clause-calls g c =
@@ -45,8 +45,7 @@ returns-in_err-image-clause-calls g c =
     let along = g.D.Desk.along in
     let both = g.met.D.Desk.along_both in
     let image = option_map (λ n. n.now) c.args.image in
-    let one = read_on along both c.args.desk.now c.args.desk.now c.take.new.desk [] c.args.trace.now trace_limit
-    (no_reads along g.met.D.Desk.along_none c.args.desk.now) c.in_ok-trace.ensures.calls in
+    let one = read_first along both g.met.D.Desk.along_none c.args.desk.now c.take.new.desk c.args.trace.now trace_limit c.in_ok-trace.ensures.calls in
     image_stopped along both c.args.desk.now c.take.new.desk c.take_maybe.new.desk (seen c.take.new.desk) (seen c.take_maybe.new.desk)
     (g.D.Desk.held c.args.desk.now) c.args.trace.now image c.in_ok-trace.trace c.in_ok-trace.ensures.taken c.from_residual-in_err-image.result _ c.from_residual-in_err-image.ensures.1 c.in_err-image.ensures.taken one c.in_err-image.ensures.calls
 
@@ -56,7 +55,6 @@ returns-clause-calls g c =
     let along = g.D.Desk.along in
     let both = g.met.D.Desk.along_both in
     let image = option_map (λ n. n.now) c.args.image in
-    let one = read_on along both c.args.desk.now c.args.desk.now c.take.new.desk [] c.args.trace.now trace_limit
-    (no_reads along g.met.D.Desk.along_none c.args.desk.now) c.in_ok-trace.ensures.calls in
+    let one = read_first along both g.met.D.Desk.along_none c.args.desk.now c.take.new.desk c.args.trace.now trace_limit c.in_ok-trace.ensures.calls in
     both_read along both c.args.desk.now c.take.new.desk c.take_maybe.new.desk (seen c.take.new.desk) (seen c.take_maybe.new.desk) (g.D.Desk.held c.args.desk.now)
     c.args.trace.now image c.in_ok-trace.trace c.in_ok-image.image c.take.ensures.held c.in_ok-trace.ensures.taken c.in_ok-image.ensures.taken one c.in_ok-image.ensures.calls

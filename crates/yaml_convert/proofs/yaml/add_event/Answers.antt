@@ -3,19 +3,25 @@ use Rattle.std.specs.Option.{option_map}
 use Rattle.xray_io.specs.Text.{adds_more, adds_stop, adds_within, adds_failed}
 use Rattle.function_names.specs.Name.{name_text}
 use Rattle.yaml_convert.specs.Yaml.{event_end, event_start}
+use Rattle.yaml_convert.proofs.YamlLines.{start_pieces}
 use Rattle.yaml_convert.proofs.yaml.add_event.Goals as goal
 
-pub returns-in_err-add_start : goal.returns-in_err-add_start
-returns-in_err-add_start g c =
+pub returns-in_err-pieces : goal.returns-in_err-pieces
+returns-in_err-pieces g c =
     let start = event_start c.args.event.now in
     let name = name_text (option_map (λ image. image.now) c.args.image) c.args.event.now.func in
     let end = event_end c.args.block.now c.args.event.now in
-    adds_failed (rw (sym (append_assoc start name end)) at (adds_stop (name ++ end) c.in_err-add_start.ensures)) c.from_residual.result c.from_residual.ensures.1
+    let same = start_pieces c.args.event.now _ c.from.ensures in
+    adds_failed (rw (sym (append_assoc start name end)) at (adds_stop (name ++ end) (rw same at c.in_err-pieces.ensures.adds)))
+    c.from_residual.result c.from_residual.ensures.1
 
 pub returns-in_err-add_name : goal.returns-in_err-add_name
 returns-in_err-add_name g c =
-    adds_failed (adds_within g.met.S.Sink.along_both (event_end c.args.block.now c.args.event.now) c.in_ok-add_start.ensures c.in_err-add_name.ensures refl)
-    c.from_residual-in_err-add_name.result c.from_residual-in_err-add_name.ensures.1
+    let same = start_pieces c.args.event.now _ c.from.ensures in
+    adds_failed (adds_within g.met.S.Sink.along_both (event_end c.args.block.now c.args.event.now) (rw same at c.in_ok-pieces.ensures.adds)
+    c.in_err-add_name.ensures refl) c.from_residual-in_err-add_name.result c.from_residual-in_err-add_name.ensures.1
 
 pub returns : goal.returns
-returns g c = adds_more g.met.S.Sink.along_both (adds_more g.met.S.Sink.along_both c.in_ok-add_start.ensures c.in_ok-add_name.ensures) c.add_end.ensures
+returns g c =
+    let same = start_pieces c.args.event.now _ c.from.ensures in
+    adds_more g.met.S.Sink.along_both (adds_more g.met.S.Sink.along_both (rw same at c.in_ok-pieces.ensures.adds) c.in_ok-add_name.ensures) c.add_end.ensures

@@ -1,25 +1,21 @@
-use Rattle.std.proofs.Common.{le_refl, refl}
 use Rattle.xray_io.specs.World.{desk_view}
 use Rattle.xray_program.specs.Inputs.{image_form}
-use Rattle.xray_program.specs.Plain.{PlainComes, PlainPrints}
+use Rattle.xray_program.specs.Plain.{PlainPrints}
 use Rattle.xray_program.specs.Taking.{Prints}
-use Rattle.xray_program.proofs.Ordering.{one_taking}
-use Rattle.xray_program.proofs.Turns.{last_taken, leads}
+use Rattle.xray_program.proofs.Ordering.{only_taking}
+use Rattle.xray_program.proofs.Turns.{only_taken}
 use Rattle.xray_program.proofs.plain.PlainWork.take.Goals as goal
 
 pub returns-clause-taken : goal.returns-clause-taken
 returns-clause-taken g c =
     let seen = desk_view g.D.Desk.held g.D.Desk.read_faults g.D.Desk.write_faults in
-    let held = g.D.Desk.held c.args.desk.now in
     let s = c.args.self.now in
-    last_taken image_form 0 (λ reads. PlainComes reads held s.image.now s.bounds) (λ program. Prints (PlainPrints program s.bounds)) (seen c.args.desk.now) (seen c.args.desk.now) (seen c.take.new.desk) s.image.now
-    (λ reads program. Prints (PlainPrints program s.bounds)) c.take.result (leads (λ reads. PlainComes reads held s.image.now s.bounds)) refl (le_refl _) (λ reads value outcome is. is) c.take.ensures.taken
+    only_taken image_form s.image.now (λ program. Prints (PlainPrints program s.bounds)) (seen c.args.desk.now) (seen c.take.new.desk)
+    c.take.result c.take.ensures.taken
 
 pub returns-clause-calls : goal.returns-clause-calls
 returns-clause-calls g c =
     let seen = desk_view g.D.Desk.held g.D.Desk.read_faults g.D.Desk.write_faults in
-    let held = g.D.Desk.held c.args.desk.now in
     let s = c.args.self.now in
-    one_taking image_form s.image.now (seen c.args.desk.now) (seen c.take.new.desk) (g.D.Desk.along c.args.desk.now c.take.new.desk) c.take.result
-    (λ reads. PlainComes reads held s.image.now s.bounds) (λ reads program. Prints (PlainPrints program s.bounds))
-    (leads (λ reads. PlainComes reads held s.image.now s.bounds)) c.take.ensures.taken c.take.ensures.calls
+    only_taking image_form s.image.now (λ program. Prints (PlainPrints program s.bounds)) (seen c.args.desk.now) (seen c.take.new.desk)
+    (g.D.Desk.along c.args.desk.now c.take.new.desk) c.take.result c.take.ensures.taken c.take.ensures.calls

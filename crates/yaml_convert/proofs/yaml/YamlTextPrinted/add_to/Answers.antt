@@ -1,9 +1,9 @@
-use Rattle.std.proofs.Common.{◌++◌, ◌∙◌, List, ℕ, ap, subst}
+use Rattle.std.proofs.Common.{◌++◌, List, ℕ, subst}
 use Rattle.std.specs.Prelude.{codes}
 use Rattle.std.specs.List.{flat_map}
 use Rattle.std.specs.Option.{option_map}
 use Rattle.xray_io.specs.Text.{AddsText, adds_more, adds_stop, adds_within, adds_failed}
-use Rattle.yaml_convert.specs.Yaml.{block_lines, header_text, records_start}
+use Rattle.yaml_convert.specs.Yaml.{block_lines, records_start}
 use Rattle.yaml_convert.proofs.YamlLines.{whole_yaml, whole_yaml_left}
 use Rattle.yaml_convert.proofs.yaml.YamlTextPrinted.add_to.Goals as goal
 
@@ -22,8 +22,7 @@ returns-in_err-add_records g c = record {
       let program = option_map (λ image. image.now) c.args.self.now.image in
       let trace = c.args.self.now.trace.now in
       adds_failed (adds_within g.met.S.Sink.along_both (codes "...\n") c.in_ok-add_header.ensures c.in_err-add_records.ensures
-      (ap (λ (blocks : List _). (header_text trace.header ++ (records_start blocks ++ flat_map (block_lines program) blocks)) ++ codes "...\n") c.as_slice.ensures
-      ∙ whole_yaml_left program trace))
+      (whole_yaml_left program trace))
       c.from_residual-in_err-add_records.result c.from_residual-in_err-add_records.ensures.1;
 }
 
@@ -33,7 +32,6 @@ returns g c = record {
       let program = option_map (λ image. image.now) c.args.self.now.image in
       let trace = c.args.self.now.trace.now in
       subst (λ (t : List ℕ). AddsText g.S.Sink.written g.S.Sink.faults g.S.Sink.along c.args.to.now c.bytes.new.self t c.bytes.result)
-      (ap (λ (blocks : List _). (header_text trace.header ++ (records_start blocks ++ flat_map (block_lines program) blocks)) ++ codes "...\n") c.as_slice.ensures
-      ∙ whole_yaml_left program trace)
+      (whole_yaml_left program trace)
       (adds_more g.met.S.Sink.along_both (adds_more g.met.S.Sink.along_both c.in_ok-add_header.ensures c.in_ok-add_records.ensures) c.bytes.ensures.adds);
 }
