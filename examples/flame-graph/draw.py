@@ -3,8 +3,8 @@
 
 usage: xray stack TRACE IMAGE --format flame | examples/flame-graph/draw.py > GRAPH.svg
 
-A line of the input is a path, a space and the path's own time. A box of the graph is a path. It is as wide as its calls took
-time, and it stands on the box of its caller. The part with no box above it is its own time. Boxes are in the order of their
+A line of the input is a path, a space and the path's own time. A box of the graph is a path. Its width is the time
+that its calls took, and it stands on the box of its caller. The part with no box above it is its own time. Boxes are in the order of their
 names. Point at a box to see its function, its time and its share of the whole.
 """
 import dataclasses
