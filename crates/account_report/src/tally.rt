@@ -14,7 +14,7 @@ use std::marker::Model;
 use xray_io::NoMemory;
 
 /// The durations of a function's pairs, and how many entries and exits it had.
-#[derive(Debug, Drop)]
+#[derive(Drop)]
 pub(crate) struct Tally {
     durations: Vec<u64>,
     entries: u64,

@@ -7,7 +7,7 @@ use crate::statement::Choice;
 use text_lines::keyword_in;
 
 /// A word that begins a line and is no label.
-#[derive(Clone, Copy, Debug, PartialEq, Eq)]
+#[derive(Clone, Copy, PartialEq, Eq)]
 pub(crate) enum Keyword {
     Base,
     Entry,

@@ -54,7 +54,7 @@ impl RegisterWord {
 }
 
 /// A register that instructions can name.
-#[derive(Clone, Copy, Debug, PartialEq, Eq)]
+#[derive(Clone, Copy, PartialEq, Eq)]
 pub(crate) enum Register {
     Rax,
     Rcx,

@@ -6,7 +6,7 @@ use crate::registers::{Register, RegisterWord};
 use subset_decode::Instr;
 
 /// When a function is instrumented.
-#[derive(Clone, Copy, Debug, PartialEq, Eq)]
+#[derive(Clone, Copy, PartialEq, Eq)]
 pub(crate) enum Choice {
     /// Depending on its number of instruction lines.
     ByLength,
@@ -17,7 +17,7 @@ pub(crate) enum Choice {
 }
 
 /// The branches that go to a name.
-#[derive(Clone, Copy, Debug, PartialEq, Eq)]
+#[derive(Clone, Copy, PartialEq, Eq)]
 pub(crate) enum Branch {
     Call,
     Jmp,

@@ -10,7 +10,7 @@ use crate::line::Line;
 use crate::tables::{ACCOUNT_FORMAT, SORT, SORT_ORDER, STACK_FORMAT, TOP};
 
 /// The files of a report.
-#[derive(Clone, Copy, Debug)]
+#[derive(Clone, Copy)]
 pub(crate) struct ReportFiles<'a> {
     /// The trace.
     pub(crate) trace: &'a str,

@@ -3,7 +3,7 @@ ghost use Rattle.std.specs.Prelude.{◌≡◌};
 ghost use Rattle.command_words.specs.Rows.{is_written, may_be_absent};
 
 /// What the value of an option may be.
-#[derive(Clone, Copy, Debug)]
+#[derive(Clone, Copy)]
 pub(crate) enum Values {
     /// A number in decimal.
     Number {
@@ -17,7 +17,7 @@ pub(crate) enum Values {
 }
 
 /// An option, which takes one value.
-#[derive(Clone, Copy, Debug)]
+#[derive(Clone, Copy)]
 pub(crate) struct OptionRow {
     /// Its name, without the two dashes.
     pub(crate) name: &'static str,
@@ -28,7 +28,7 @@ pub(crate) struct OptionRow {
 }
 
 /// What a command does with a file.
-#[derive(Clone, Copy, Debug)]
+#[derive(Clone, Copy)]
 pub(crate) enum Role {
     /// It reads the file.
     Input,
@@ -63,7 +63,7 @@ impl Role {
 }
 
 /// A file of a command.
-#[derive(Clone, Copy, Debug)]
+#[derive(Clone, Copy)]
 pub(crate) struct FileRow {
     /// The name of its place in the command line.
     pub(crate) label: &'static str,
@@ -72,7 +72,7 @@ pub(crate) struct FileRow {
 }
 
 /// A command.
-#[derive(Clone, Copy, Debug)]
+#[derive(Clone, Copy)]
 pub(crate) struct CommandRow {
     /// Its word.
     pub(crate) word: &'static str,

@@ -129,7 +129,7 @@ pub fn read_words<'a>(
 }
 
 /// What a command does, as its first word says.
-#[derive(Clone, Copy, Debug)]
+#[derive(Clone, Copy)]
 enum Verb {
     /// `plain IMAGE`.
     Plain,
@@ -148,7 +148,7 @@ enum Verb {
 }
 
 /// A report on a trace.
-#[derive(Clone, Copy, Debug)]
+#[derive(Clone, Copy)]
 enum Report {
     /// `account TRACE [IMAGE]`.
     Account,

@@ -7,7 +7,7 @@ ghost use Rattle.fdr_buffer.specs.private.Leads.{lead_records};
 use fdr_record::{Event, FUNCTION_BYTES, METADATA_BYTES};
 
 /// How an event's records say its CPU and counter.
-#[derive(Clone, Copy, Debug, PartialEq, Eq)]
+#[derive(Clone, Copy, PartialEq, Eq)]
 pub(crate) enum Lead {
     /// A record with its CPU and counter comes first.
     Cpu,

@@ -7,7 +7,7 @@ use crate::command::Command;
 use std::alloc::{AllocError, Global};
 
 /// The numbers, counted from 0, of the first commands that patch sleds.
-#[derive(Debug, Drop)]
+#[derive(Drop)]
 pub(crate) struct FirstPatches {
     /// The number of the first `patch`.
     all: Option<u32>,

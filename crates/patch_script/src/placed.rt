@@ -19,7 +19,7 @@ use xray_image::Image;
 const PATCH_ORDER: [Part; 4] = [Part::Id, Part::Opcode, Part::Offset, Part::Head];
 
 /// A command with its place.
-#[derive(Clone, Copy, Debug)]
+#[derive(Clone, Copy)]
 pub(crate) struct Placed {
     /// The number of its line, from 1.
     pub(crate) line: u32,

@@ -19,7 +19,7 @@ const RETURN_HEAD: u64 = 0x2EC3;
 const RETURN_OVER_PATCH: u64 = 0xBAC3;
 
 /// What the patcher has to know of a sled.
-#[derive(Clone, Copy, Debug)]
+#[derive(Clone, Copy)]
 pub(crate) struct SledValues {
     /// The id of its function, from 1.
     pub(crate) id: u32,
@@ -91,7 +91,7 @@ pub(crate) fn sled_values(alloc: Global, image: &Image) -> Result<Vec<SledValues
 }
 
 /// A run of sleds in the map: those with numbers from `start` on, up to but not including `end`.
-#[derive(Clone, Copy, Debug)]
+#[derive(Clone, Copy)]
 pub(crate) struct SledRange {
     pub(crate) start: u32,
     pub(crate) end: u32,

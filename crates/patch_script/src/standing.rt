@@ -10,7 +10,7 @@ use crate::command::Command;
 const THREADS: usize = 16;
 
 /// Whether a thread waits before a passing.
-#[derive(Clone, Copy, Debug, PartialEq, Eq)]
+#[derive(Clone, Copy, PartialEq, Eq)]
 pub(crate) enum Hold {
     /// No command holds the thread.
     Free,
@@ -21,7 +21,7 @@ pub(crate) enum Hold {
 }
 
 /// The holds of all threads.
-#[derive(Clone, Copy, Debug)]
+#[derive(Clone, Copy)]
 pub(crate) struct Holds {
     threads: [Hold; THREADS],
 }
@@ -95,7 +95,7 @@ impl Holds {
 }
 
 /// The state of the log.
-#[derive(Clone, Copy, Debug, PartialEq, Eq)]
+#[derive(Clone, Copy, PartialEq, Eq)]
 pub(crate) enum Log {
     Uninitialized,
     Initialized,
@@ -103,7 +103,7 @@ pub(crate) enum Log {
 }
 
 /// What the commands so far have done.
-#[derive(Clone, Copy, Debug)]
+#[derive(Clone, Copy)]
 pub(crate) struct Standing {
     /// Whether the threads have started.
     pub(crate) going: bool,

@@ -9,7 +9,7 @@ use xray_io::NoMemory;
 
 /// A step from one path to a longer one: the number of the path, and the function that it goes on
 /// with.
-#[derive(Clone, Copy, Debug, PartialEq, Eq, Hash)]
+#[derive(Clone, Copy, PartialEq, Eq, Hash)]
 pub(crate) struct Step {
     /// The number of the path without its last function.
     pub(crate) parent: usize,
@@ -21,7 +21,7 @@ pub(crate) struct Step {
 ///
 /// The links and the depth only save time. Each number that a link gives is compared with the step
 /// that is looked for.
-#[derive(Clone, Copy, Debug)]
+#[derive(Clone, Copy)]
 pub(crate) struct Node {
     /// The number of the path without its last function.
     parent: usize,

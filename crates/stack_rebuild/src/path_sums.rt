@@ -21,7 +21,7 @@ const MOST_LOOKS: usize = 4;
 /// are a list of paths and a list of tallies, both by the numbers.
 ///
 /// They form a tree. A path is its last function, and the number of the path before that.
-#[derive(Debug, Drop)]
+#[derive(Drop)]
 pub(crate) struct PathSums {
     /// The paths, by their numbers.
     nodes: Vec<Node>,

@@ -7,7 +7,7 @@ use xray_io::NoMemory;
 
 /// How many pairs a path has, and two sums: of their durations, and of their durations without
 /// those of direct children.
-#[derive(Clone, Copy, Debug)]
+#[derive(Clone, Copy)]
 pub(crate) struct Tally {
     pub(crate) count: u64,
     pub(crate) sum: u128,

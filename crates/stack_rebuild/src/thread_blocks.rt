@@ -10,7 +10,7 @@ use std::collections::BTreeMap;
 use xray_io::NoMemory;
 
 /// A thread, and the places of its blocks in the order of the file.
-#[derive(Debug, Drop)]
+#[derive(Drop)]
 pub(crate) struct ThreadBlocks {
     pub(crate) thread: u32,
     pub(crate) places: Vec<usize>,

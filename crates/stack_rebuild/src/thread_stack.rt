@@ -15,7 +15,7 @@ use std::alloc::Global;
 use xray_io::NoMemory;
 
 /// What is kept of an open call.
-#[derive(Clone, Copy, Debug)]
+#[derive(Clone, Copy)]
 pub(crate) struct Frame {
     /// The number of its path.
     path: usize,
@@ -37,7 +37,7 @@ impl Frame {
 }
 
 /// A thread after its events so far, and a frame for each open call, outermost first.
-#[derive(Debug, Drop)]
+#[derive(Drop)]
 pub(crate) struct ThreadStack {
     pub(crate) calls: ThreadCalls,
     pub(crate) frames: Vec<Frame>,

@@ -100,7 +100,7 @@ fn add_stamps<S: Sink>(text: &mut Text<S>, setup: &Setup) -> Result<(), WriteFau
 }
 
 /// How much is said of each thread.
-#[derive(Clone, Copy, Debug)]
+#[derive(Clone, Copy)]
 pub(crate) enum Detail {
     /// The two lines of the audit.
     Audit,

@@ -15,7 +15,7 @@ const PROGRAM: Piece = Piece::Bytes(b"xray: ");
 const LINE_FEED: Piece = Piece::Bytes(b"\n");
 
 /// What ends a call before all is done. It names the input or output that is to blame.
-#[derive(Clone, Copy, Debug)]
+#[derive(Clone, Copy)]
 pub(crate) enum Stop<'a> {
     /// The words say no command.
     BadLine,
