@@ -6,3 +6,4 @@ pub mod TellsAll
 pub mod Audited
 pub mod KeptOrder
 pub mod Traced
+pub mod ShortTraces

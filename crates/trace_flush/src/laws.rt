@@ -1,17 +1,20 @@
 //! Laws of what is written of a run. Each law is the contract of a function that does nothing.
 
-ghost use Rattle.std.specs.Prelude.{◌≡◌, List, ℕ, All};
+ghost use Rattle.std.specs.Prelude.{◌≡◌, ◌≤◌, ◌+◌, ◌*◌, List, ℕ, All, length};
 ghost use Rattle.xray_image.specs.Program.{IsAccepted, Program};
 ghost use Rattle.fdr_buffer.specs.Filled.{Filled};
+ghost use Rattle.machine_step.specs.Buffers.{spare_of};
 ghost use Rattle.machine_step.specs.declared.setup.Setup.{Setup};
 ghost use Rattle.machine_step.specs.Traced.{Traced};
-ghost use Rattle.traced_run.specs.{Fits.{SetupFits}, Left.{Leaves}, Runs.{IsRun, ThreadRun}};
+ghost use Rattle.traced_run.specs.{Fits.{SetupFits}, Left.{Leaves}, Losses.{AreLost}, Runs.{IsRun, ThreadRun}};
 ghost use Rattle.trace_flush.specs.Audit.{Account, accounts, audit_text};
 ghost use Rattle.trace_flush.specs.{Flush.{trace_bytes, IsTraceOf}, Lines.{accounts_of, lines_of}};
 ghost use Rattle.trace_flush.specs.Telling.{HasNumbers, HasSetupNumbers};
 
 use fdr_file::a_file_reads_back;
-use traced_run::{a_run_fits_its_buffers, a_run_without_losses_is_whole};
+use traced_run::{
+    a_run_fits_its_buffers, a_run_leaves_few_buffers, a_run_without_losses_is_whole,
+};
 
 /// The text of an audit determines its run. If two audits have the same text, their runs had the
 /// same setup and the same threads. Each thread has the same end, the same marks, and as many
@@ -35,6 +38,18 @@ pub fn a_run_is_traced()
     a_file_reads_back();
     a_run_fits_its_buffers();
     a_run_without_losses_is_whole();
+}
+
+/// The trace of a run is no longer than its buffers allow: the header's 32 bytes, and for each
+/// buffer its size and the 16 bytes of its extents.
+pub fn a_trace_is_short()
+    ensures { (bytes : List ℕ) (program : Program) (setup : Setup) (runs : List ThreadRun)
+        → IsAccepted bytes program → SetupFits setup → setup.threads ≤ setup.max
+        → IsRun program setup runs → AreLost setup.size (spare_of setup) runs
+        → length (trace_bytes setup runs) ≤ setup.max * (setup.size + 16) + 32 }
+{
+    a_run_fits_its_buffers();
+    a_run_leaves_few_buffers();
 }
 
 /// The audit of what a run leaves says for each thread its number, its end, its segments, how many

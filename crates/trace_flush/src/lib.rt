@@ -12,7 +12,7 @@ mod summary;
 
 pub use audit::Audit;
 pub use header::trace_header;
-pub use laws::{a_run_is_audited, a_run_is_traced, audit_tells_its_run};
+pub use laws::{a_run_is_audited, a_run_is_traced, a_trace_is_short, audit_tells_its_run};
 pub use line::{AuditLine, add_audit_lines};
 pub use order::arrange;
 pub use summary::add_summary;

@@ -5,3 +5,8 @@ pub mod FitPassings
 pub mod RecordedEvents
 pub mod FitBuffers
 pub mod SomeLosses
+pub mod ButR10
+pub mod SledBytes
+pub mod AcceptedCode
+pub mod Executing
+pub mod FewBuffers

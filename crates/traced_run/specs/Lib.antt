@@ -1,5 +1,6 @@
 pub mod Runs
 pub mod Decoded
+pub mod Executed
 pub mod Kept
 pub mod Losses
 pub mod Left

@@ -1,13 +1,17 @@
 //! Laws of runs. Each law is the contract of a function that does nothing.
 
-ghost use Rattle.std.specs.Prelude.{◌≡◌, ◌≤◌, ◌<◌, ◌^◌, ◌++◌, List, ℕ, All, Some, filter, length, slice_get, take};
+ghost use Rattle.std.specs.Prelude.{◌≡◌, ◌≤◌, ◌<◌, ◌^◌, ◌++◌, List, ℕ, All, Option, Some, filter, length, slice_get, take};
 ghost use Rattle.std.specs.List.{flat_map};
 ghost use Rattle.xray_image.specs.Program.{IsAccepted, Program};
 ghost use Rattle.fdr_buffer.specs.{Filled.{has_event}, Fits.{BufferFits}};
+ghost use Rattle.machine_step.specs.Buffers.{spare_of};
 ghost use Rattle.machine_step.specs.declared.end.End.{End};
 ghost use Rattle.machine_step.specs.declared.limits.Limits.{Limits};
 ghost use Rattle.machine_step.specs.declared.setup.Setup.{Setup};
 ghost use Rattle.machine_step.specs.PlainStep.{Passing, PlainRun, State};
+ghost use Rattle.machine_step.specs.Loads.{Load};
+ghost use Rattle.traced_run.specs.Decoded.{DecodesWhole};
+ghost use Rattle.traced_run.specs.Executed.{Executes};
 ghost use Rattle.traced_run.specs.Fits.{PassingFits, SetupFits};
 ghost use Rattle.traced_run.specs.Kept.{kept_buffers, kept_of, segments_of, thread_buffers};
 ghost use Rattle.traced_run.specs.Losses.{AreLost, recycled_of, without_losses};
@@ -86,9 +90,27 @@ pub fn a_run_fits_its_buffers()
     a_body_has_room();
 }
 
+/// A run leaves at most as many buffers as its setup has, and each has the setup's size.
+pub fn a_run_leaves_few_buffers()
+    ensures few { (setup : Setup) (runs : List ThreadRun) → length runs ≡ setup.threads
+        → setup.threads ≤ setup.max → AreLost setup.size (spare_of setup) runs
+        → length (kept_buffers setup runs) ≤ setup.max }
+    ensures sizes { (setup : Setup) (runs : List ThreadRun)
+        → All (λ buffer. buffer.size ≡ setup.size) (kept_buffers setup runs) }
+{}
+
 /// However many spare buffers the threads of a run share, there are losses that are those of a
 /// queue with these buffers.
 pub fn some_losses_are_of_a_queue()
     ensures { (size spare : ℕ) (runs : List ThreadRun)
         → (others : List ThreadRun) × (without_losses others ≡ without_losses runs) × AreLost size spare others }
+{}
+
+/// A thread that executes the code with the bytes of its sleds as it loaded them comes to the end
+/// of its plain run, if it decodes no torn sled. Only r10 may differ.
+pub fn a_whole_run_executes_to_its_end()
+    ensures { (bytes : List ℕ) (program : Program) (limits : Limits) (number : ℕ) (hold : Option ℕ)
+        (run : ThreadRun) (loads : List Load) → IsAccepted bytes program
+        → PlainRun program limits number run.passed run.end run.last
+        → DecodesWhole program number hold run loads → Executes program limits number hold run loads }
 {}

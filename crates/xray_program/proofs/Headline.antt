@@ -2,7 +2,7 @@
 use Rattle.std.specs.Prelude.{All, Ok, slice_get}
 use Rattle.std.proofs.lemmas.List.{length-map}
 use Rattle.std.proofs.lemmas.List.Elements.{All-head, All-tail}
-use Rattle.std.proofs.Common.{◌≡◌, ◌+◌, ℕ, List, [], ◌∷◌, Option, Some, None, option_map, inl, inr, refl, subst, ◌∙◌, codes}
+use Rattle.std.proofs.Common.{◌≡◌, ◌+◌, ℕ, List, [], ◌∷◌, Option, Some, None, option_map, inl, inr, refl, subst, ◌∙◌, arith, codes}
 use Rattle.xray_io.specs.Desk.{Entry, Holds, made_to_hold}
 use Rattle.xray_io.specs.Sink.{Adds}
 use Rattle.machine_step.specs.Buffers.{spare_of}
@@ -18,7 +18,6 @@ use Rattle.trace_flush.specs.Audit.{audit_text}
 use Rattle.trace_flush.specs.Flush.{trace_bytes}
 use Rattle.trace_flush.specs.Lines.{accounts_of}
 use Rattle.traced_run.specs.Decoded.{DecodesWhole}
-use Rattle.traced_run.specs.Fits.{SetupFits}
 use Rattle.traced_run.specs.Losses.{AreLost}
 use Rattle.traced_run.specs.Runs.{ThreadRun}
 use Rattle.xray_image.specs.Program.{Program, IsAccepted}
@@ -34,7 +33,7 @@ use Rattle.xray_program.specs.Taking.{Form, Leaves, RefuseIf, Sound, Take}
 use Rattle.xray_program.specs.Traced.{IsTraced, Traces, written_of}
 use Rattle.command_words.specs.Words.{Command}
 use Rattle.xray_program.specs.private.CallLaws.{CallLaws}
-use Rattle.xray_program.specs.private.Works.{SaidFits}
+use Rattle.xray_program.specs.private.Works.{FitsReports, SaidFits}
 use Rattle.xray_io.specs.World.{World}
 use Rattle.xray_program.proofs.RunLoads.{leave_all}
 
@@ -81,7 +80,7 @@ files_hold trace audit setup runs outputs old new are whole =
 
 -- lawful runs whose trace, audit and state texts were written are traced
 is_traced : CallLaws → (Lawful : Program → Plan → List ThreadRun → (ℕ → List Load) → Type 0) (Were : List ThreadRun → Type 0) (before after : World)
-    (t a image script : List ℕ) (setup : Setup) → SetupFits setup → (outputs : List (List ℕ × List ℕ)) (text : List ℕ) (program : Program) (plan : Plan)
+    (t a image script : List ℕ) (setup : Setup) → FitsReports setup → (outputs : List (List ℕ × List ℕ)) (text : List ℕ) (program : Program) (plan : Plan)
     → IsAccepted image program → plan_of program setup.threads script ≡ Ok plan → (traces : Traces Were program setup t a outputs text)
     → AreWhole outputs before.desk.held after.desk.held → Adds before.out.written after.out.written text
     → (loads : ℕ → List Load) → Lawful program plan traces.runs loads
@@ -91,6 +90,7 @@ is_traced : CallLaws → (Lawful : Program → Plan → List ThreadRun → (ℕ 
 is_traced laws Lawful Were before after t a image script setup fits outputs text program plan accepted reads traces whole adds loads lawful decoded losses =
     let hold = files_hold t a setup traces.runs outputs before.desk.held after.desk.held traces.outputs_are whole in
     let Added : List ℕ → Type 0 = λ more. Adds before.out.written after.out.written more in
+    let traced = laws.traced image program setup traces.runs accepted fits.records traces.run in
     record {
       program = program;
       accepted = accepted;
@@ -101,9 +101,14 @@ is_traced laws Lawful Were before after t a image script setup fits outputs text
       loads = loads;
       lawful = lawful;
       whole = decoded;
+      executes = λ i run found. laws.executes image program setup.limits (i + 1) (hold_of (i + 1) (commands_of plan.lines)) run (loads (i + 1))
+          accepted (traces.run.plain i run found) (decoded i run found);
       losses = losses;
       file = trace_bytes setup traces.runs;
-      traced = laws.traced image program setup traces.runs accepted fits traces.run;
+      traced = traced;
+      short =
+          let few = laws.short image program setup traces.runs accepted fits.records fits.enough traces.run losses in omega (arith, few, fits.room);
+      reads_back = laws.read (trace_bytes setup traces.runs) traced.trace traced.reads;
       trace_holds = hold.0;
       audit_holds = hold.1;
       out = subst Added traces.text_is adds;
@@ -111,7 +116,7 @@ is_traced laws Lawful Were before after t a image script setup fits outputs text
 
 -- ---- `sim`
 
-simulated_by : CallLaws → (before after : World) (i s c t a image script schedule : List ℕ) (setup : Setup) → SetupFits setup
+simulated_by : CallLaws → (before after : World) (i s c t a image script schedule : List ℕ) (setup : Setup) → FitsReports setup
     → (outputs : List (List ℕ × List ℕ)) (text : List ℕ) → before.desk.held i ≡ Holds image → before.desk.held s ≡ Holds script
     → before.desk.held c ≡ Holds schedule → SimComes Sound before.desk.held i s c t a setup (Done outputs text)
     → AreWhole outputs before.desk.held after.desk.held → Adds before.out.written after.out.written text
@@ -150,7 +155,7 @@ simulated laws said before after fits outputs text meant whole adds i s c t a im
 
 -- ---- `run`
 
-beside_by : CallLaws → (before after : World) (i s t a image script : List ℕ) (setup : Setup) → SetupFits setup
+beside_by : CallLaws → (before after : World) (i s t a image script : List ℕ) (setup : Setup) → FitsReports setup
     → (outputs : List (List ℕ × List ℕ)) (text : List ℕ) → before.desk.held i ≡ Holds image → before.desk.held s ≡ Holds script
     → RunComes Sound before.desk.held i s t a setup (Done outputs text)
     → AreWhole outputs before.desk.held after.desk.held → Adds before.out.written after.out.written text

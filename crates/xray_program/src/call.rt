@@ -22,13 +22,15 @@ use crate::stop::Stop;
 use crate::traced::TraceFiles;
 use crate::work::perform;
 use command_words::{Command, read_words};
+use fdr_file::a_trace_is_read;
 use machine_step::what_follows_is_allowed;
 use patch_script::each_script_keeps_sleds;
 use std::alloc::Global;
 use std::sync::Wait;
 use std::thread::Threads;
 use step_sim::{a_replay_loses_few, lost_segments_are_the_oldest, no_replay_tears_a_sled};
-use trace_flush::a_run_is_traced;
+use trace_flush::{a_run_is_traced, a_trace_is_short};
+use traced_run::a_whole_run_executes_to_its_end;
 use xray_io::{Desk, Gate, Sink, Wall};
 
 /// Does what `words` say, with the files of `desk`. `words` don't hold the program's own name.
@@ -90,8 +92,9 @@ pub fn xray<T: Threads + Wait + Sync, D: Desk, O: Sink, E: Sink, G: Gate + Sync>
     answer(ended, err)
 }
 
-/// A law: no thread of a replay decodes a torn sled, and none that runs beside a script. How many
-/// segments a replay loses, and which. The trace of a run reads back.
+/// A law: no thread of a replay decodes a torn sled, and none that runs beside a script. So each
+/// executes its code to the end of its plain run. How many segments a replay loses, and which. The
+/// trace of a run reads back.
 fn what_runs_leave()
     ensures { CallLaws }
 {
@@ -100,7 +103,10 @@ fn what_runs_leave()
     what_follows_is_allowed();
     a_replay_loses_few();
     lost_segments_are_the_oldest();
+    a_whole_run_executes_to_its_end();
     a_run_is_traced();
+    a_trace_is_short();
+    a_trace_is_read();
 }
 
 /// The status of a call that ended so. If something stopped it, a line on `err` says what.

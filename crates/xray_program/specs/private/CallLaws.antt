@@ -1,5 +1,8 @@
 -- What the crates below say of runs, and the contract of a call rests on.
-use Rattle.std.specs.Prelude.{◌≡◌, ◌+◌, ℕ, List, Option, Some, Ok, slice_get}
+use Rattle.std.specs.Prelude.{◌≡◌, ◌≤◌, ◌+◌, ◌*◌, ℕ, List, Option, Some, Ok, length, slice_get}
+use Rattle.fdr_file.specs.declared.trace.Trace.{Trace}
+use Rattle.fdr_file.specs.Grammar.{IsTrace}
+use Rattle.fdr_file.specs.Traces.{trace_of}
 use Rattle.xray_image.specs.Program.{IsAccepted, Program}
 use Rattle.sled_words.specs.ChangingCode.{KeepsSleds}
 use Rattle.patch_script.specs.CodeAt.{code_at}
@@ -10,7 +13,10 @@ use Rattle.machine_step.specs.Buffers.{spare_of}
 use Rattle.machine_step.specs.Follows.{Follows}
 use Rattle.machine_step.specs.Loads.{Load}
 use Rattle.machine_step.specs.Whole.{AreWhole as PassingsAreWhole}
+use Rattle.machine_step.specs.declared.limits.Limits.{Limits}
+use Rattle.machine_step.specs.PlainStep.{PlainRun}
 use Rattle.traced_run.specs.Decoded.{DecodesWhole}
+use Rattle.traced_run.specs.Executed.{Executes}
 use Rattle.traced_run.specs.Fits.{SetupFits}
 use Rattle.traced_run.specs.Losses.{AreLost}
 use Rattle.traced_run.specs.Runs.{IsRun, ThreadRun}
@@ -48,6 +54,22 @@ abbrev pub TracesRuns : Type 0
 TracesRuns = (bytes : List ℕ) (program : Program) (setup : Setup) (runs : List ThreadRun) → IsAccepted bytes program → SetupFits setup
     → IsRun program setup runs → IsTraceOf setup runs (trace_bytes setup runs)
 
+-- a thread that executes the code with the bytes that it loaded comes to the end of its plain run, if it tears no sled
+abbrev pub ExecutesRuns : Type 0
+ExecutesRuns = (bytes : List ℕ) (program : Program) (limits : Limits) (number : ℕ) (hold : Option ℕ) (run : ThreadRun) (loads : List Load)
+    → IsAccepted bytes program → PlainRun program limits number run.passed run.end run.last → DecodesWhole program number hold run loads
+    → Executes program limits number hold run loads
+
+-- the trace of a run is no longer than its buffers allow
+abbrev pub TracesAreShort : Type 0
+TracesAreShort = (bytes : List ℕ) (program : Program) (setup : Setup) (runs : List ThreadRun) → IsAccepted bytes program → SetupFits setup
+    → setup.threads ≤ setup.max → IsRun program setup runs → AreLost setup.size (spare_of setup) runs
+    → length (trace_bytes setup runs) ≤ setup.max * (setup.size + 16) + 32
+
+-- what is a trace by the grammar reads as it
+abbrev pub TracesRead : Type 0
+TracesRead = (bytes : List ℕ) (trace : Trace) → IsTrace bytes trace → trace_of bytes ≡ Ok trace
+
 -- as many segments are lost as the queue has no buffers for
 abbrev pub LosesAsQueued : Type 0
 LosesAsQueued = (program : Program) (script : List PatchCommand) (text : List ℕ) (schedule : List Turns) (setup : Setup) (runs : List ThreadRun)
@@ -60,4 +82,7 @@ pub record CallLaws : Type 0 where
   pub oldest : LosesOldest
   pub keeps : ScriptsKeep
   pub follows : FollowsWhole
+  pub executes : ExecutesRuns
   pub traced : TracesRuns
+  pub short : TracesAreShort
+  pub read : TracesRead

@@ -1,5 +1,5 @@
 -- How the work of a command ends, once its inputs were taken, and how a whole call ends, before the line on err.
-use Rattle.std.specs.Prelude.{◌≡◌, ◌⊎◌, ℕ, List, Contains, Option, Some, None, Result, Ok, Err, map}
+use Rattle.std.specs.Prelude.{◌≡◌, ◌≤◌, ◌+◌, ◌*◌, ◌⊎◌, ℕ, List, Contains, Option, Some, None, Result, Ok, Err, map}
 use Rattle.xray_io.specs.Calls.{Call, Went}
 use Rattle.xray_io.specs.Desk.{Absent}
 use Rattle.xray_io.specs.Faults.{Rose}
@@ -10,6 +10,8 @@ use Rattle.xray_program.specs.Order.{FailsAtOutput, InOrder, IsNoCall, IsUnmade,
 use Rattle.xray_program.specs.Outcomes.{Outcome, BadLine, Unread, Refused, Done, Fell, Ending, With, Unwritten, NoMemory, status_at, line_at, written_by}
 use Rattle.xray_program.specs.Outputs.{AreWhole, FailsAt, FailsWriting, WritesNothing}
 use Rattle.command_words.specs.Words.{Command, Sim, Run, Plain, Extract, Asm, Account, Stack, Convert, Soak}
+use Rattle.command_words.specs.Limits.{trace_limit}
+use Rattle.machine_step.specs.declared.setup.Setup.{Setup}
 use Rattle.traced_run.specs.Fits.{SetupFits}
 use Rattle.xray_program.specs.Setups.{setup_of}
 use Rattle.xray_io.specs.World.{DeskView, SinkView}
@@ -114,10 +116,16 @@ StandsAfter said desk desk_now out out_now (Unwritten name outputs) =
     FailsToLeave (Means said desk.held) desk desk_now out out_now name (λ left. left ≡ outputs)
 StandsAfter said desk desk_now out out_now NoMemory = WritesNothing desk desk_now out out_now
 
--- the numbers of a command that runs traced threads fit the records of a trace
+-- the numbers of a setup fit the records of a trace, and its buffers fit a trace that the reports take
+pub record FitsReports (setup : Setup) : Type 0 where
+  pub records : SetupFits setup
+  pub enough : setup.threads ≤ setup.max
+  pub room : setup.max * (setup.size + 16) + 32 ≤ trace_limit
+
+-- so do those of a command that runs traced threads
 abbrev pub FitsTraces : Command → Type 0
-FitsTraces (Sim image script schedule trace audit options) = SetupFits (setup_of options)
-FitsTraces (Run image script trace audit options) = SetupFits (setup_of options)
+FitsTraces (Sim image script schedule trace audit options) = FitsReports (setup_of options)
+FitsTraces (Run image script trace audit options) = FitsReports (setup_of options)
 FitsTraces (Plain image bounds) = Unit {0}
 FitsTraces (Extract image) = Unit {0}
 FitsTraces (Asm text image threshold) = Unit {0}

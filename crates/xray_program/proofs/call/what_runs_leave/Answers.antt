@@ -7,5 +7,8 @@ returns c = record {
   oldest = c.lost_segments_are_the_oldest.ensures.read;
   keeps = c.each_script_keeps_sleds.ensures;
   follows = c.what_follows_is_allowed.ensures.whole;
+  executes = c.a_whole_run_executes_to_its_end.ensures;
   traced = c.a_run_is_traced.ensures;
+  short = c.a_trace_is_short.ensures;
+  read = c.a_trace_is_read.ensures.read;
 }
