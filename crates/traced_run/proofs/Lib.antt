@@ -10,3 +10,4 @@ pub mod SledBytes
 pub mod AcceptedCode
 pub mod Executing
 pub mod FewBuffers
+mod ExecutedRows

@@ -5,7 +5,7 @@ use std::process::ExitCode;
 use std::time::{SystemTime, UNIX_EPOCH};
 use std::{env, io};
 use xray_io::{ErrSink, FileDesk, OpenGate, OutSink, Wall, write_all};
-use xray_program::xray;
+use xray_program::{may_wait, xray, xray_still};
 
 /// Does what the words of the command line say, over files and the standard streams, and ends with
 /// the status.
@@ -18,17 +18,20 @@ fn main(rt: HostRuntime) -> ExitCode {
         Err(error) if error.kind() == io::ErrorKind::OutOfMemory => return out_of_memory(&rt),
         Err(_) => Vec::new(rt.alloc()),
     };
-    let status = xray(
-        &rt,
-        rt.alloc(),
-        &words,
-        wall_time(&rt),
-        &mut FileDesk::new(&rt),
-        &mut OutSink::new(&rt),
-        &mut ErrSink::new(rt.stderr()),
-        &OpenGate,
-    );
-    ExitCode::from(status)
+    ExitCode::from(status_of(&rt, &words))
+}
+
+/// Does what the words say. Only a command that may wait is given leave to wait.
+fn status_of(rt: &HostRuntime, words: &[String]) -> u8 {
+    let (alloc, wall) = (rt.alloc(), wall_time(rt));
+    let mut desk = FileDesk::new(rt);
+    let mut out = OutSink::new(rt);
+    let mut err = ErrSink::new(rt.stderr());
+    if may_wait(words) {
+        xray(rt, alloc, words, wall, &mut desk, &mut out, &mut err, &OpenGate)
+    } else {
+        xray_still(alloc, words, wall, &mut desk, &mut out, &mut err)
+    }
 }
 
 fn words_after_name(rt: &HostRuntime) -> io::Result<Vec<String>> {

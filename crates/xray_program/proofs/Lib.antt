@@ -28,3 +28,4 @@ pub mod SoakTexts
 pub mod StackLaws
 pub mod TextLists
 pub mod Turns
+pub mod Waiting

@@ -1,5 +1,5 @@
 //! The top call.
-ghost use Rattle.std.specs.Prelude.{◌≡◌, IfErr, IfOk, OnOk, Some};
+ghost use Rattle.std.specs.Prelude.{◌≡◌, IfErr, IfOk, IsFalse, OnOk, Some};
 ghost use Rattle.command_words.specs.{Items.{texts}, Ranges.{HasRanges}, Views.{command_view}};
 ghost use Rattle.command_words.specs.Words.{reading};
 ghost use Rattle.xray_io.specs.World.{desk_view, sink_view};
@@ -21,7 +21,7 @@ use crate::stack::Stack;
 use crate::stop::Stop;
 use crate::traced::TraceFiles;
 use crate::work::perform;
-use command_words::{Command, read_words};
+use command_words::{Command, commands_follow_their_rows, read_words};
 use fdr_file::a_trace_is_read;
 use machine_step::what_follows_is_allowed;
 use patch_script::each_script_keeps_sleds;
@@ -67,8 +67,8 @@ pub fn xray_still<D: Desk, O: Sink, E: Sink>(
 
 /// Does what `words` say, with the files of `desk`. `words` don't hold the program's own name.
 /// Answers the program's status, as `xray_still` does. `run` starts its threads through `rt`, and
-/// they and the patcher pass `gate`. No clause says that the call of `run` returns. All other
-/// commands are those of `xray_still`.
+/// they and the patcher pass `gate`. No clause says that they pass it, or that the call of `run`
+/// returns. All other commands are those of `xray_still`.
 pub fn xray<T: Threads + Wait + Sync, D: Desk, O: Sink, E: Sink, G: Gate + Sync>(
     rt: &T,
     alloc: Global,
@@ -90,6 +90,18 @@ pub fn xray<T: Threads + Wait + Sync, D: Desk, O: Sink, E: Sink, G: Gate + Sync>
     what_runs_leave();
     let ended = perform_any_words(rt, alloc, words, wall, desk, out, gate);
     answer(ended, err)
+}
+
+/// Whether the call of `words` may wait: the command is `run`, or no command. If not, it may be made
+/// by `xray_still`, whatever the wall time is.
+pub fn may_wait(words: &[String]) -> bool
+    ensures { IsFalse result → (wall : Wall) → IsStill (reading wall (texts words.now)) }
+{
+    commands_follow_their_rows();
+    match words.split_first() {
+        Some((word, _)) => word.as_str() == "run",
+        None => false,
+    }
 }
 
 /// A law: no thread of a replay decodes a torn sled, and none that runs beside a script. So each
