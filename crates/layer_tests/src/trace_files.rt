@@ -258,10 +258,10 @@ fn a_file_cut_inside_its_header_or_a_block_is_short(rt: HostRuntime) -> Result<(
     Ok(())
 }
 
-/// A file as LLVM's runtime lays it out. It has flags of which only two have a meaning, a
-/// frequency, reserved bytes and blocks of two threads. The bytes after the fields of its metadata
-/// records were never cleared. One buffer was begun and has no event.
-const OF_LLVM: [&[u8]; 9] = [
+/// A file of version 3, laid out as LLVM's runtime does it. It has flags of which only two have a
+/// meaning, a frequency, reserved bytes and blocks of two threads. The bytes after the fields of its
+/// metadata records were never cleared. One buffer was begun and has no event.
+const AS_LLVM: [&[u8]; 9] = [
     b"\x03\0\x01\0\x02\0\0\x80\0\x5E\xD0\xB2\0\0\0\0\0\0\x01\0\0\0\0\0ABCDEFGH",
     b"\x0F\x30\0\0\0\0\0\0\0ABCDEFG",
     PREAMBLE,
@@ -274,7 +274,7 @@ const OF_LLVM: [&[u8]; 9] = [
 ];
 
 #[test]
-fn a_file_of_llvms_runtime_is_read(rt: HostRuntime) -> Result<(), Fail> {
+fn a_version_3_file_in_the_runtimes_layout_is_read(rt: HostRuntime) -> Result<(), Fail> {
     let header = Header {
         version: 3,
         constant: false,
@@ -291,7 +291,7 @@ fn a_file_of_llvms_runtime_is_read(rt: HostRuntime) -> Result<(), Fail> {
         event(3, 6, Kind::Entry, 22),
         event(3, 6, Kind::Exit, 22),
     ];
-    let bytes = file(rt.alloc(), &OF_LLVM)?;
+    let bytes = file(rt.alloc(), &AS_LLVM)?;
     let begun = (12_345, wall, 1_000);
     check_file(&rt, rt.alloc(), &bytes, &header, 2, begun, &events)
 }
