@@ -10,7 +10,7 @@ use std::{fs, io};
 use test_helpers::Trickle;
 use xray_io::{
     Desk, Each, ErrSink, FileDesk, MemDesk, MemSink, OutSink, Piece, ReadError, ReadFail, Text,
-    WriteFault, read_whole, write_all, write_text,
+    WriteFault, read_whole, write_all, write_output, write_text,
 };
 
 /// Prints to a file in place of the standard output.
@@ -148,13 +148,14 @@ const CALLS: [(&str, Call, Option<usize>); 9] = [
     ("e", Call::Append(b""), Some(0)),
 ];
 
-/// What names hold after these calls.
-const HELD: [(&str, &[u8]); 5] = [
+/// What names hold after these calls, and `f` after an output to it.
+const HELD: [(&str, &[u8]); 6] = [
     ("a", b"one two"),
     ("b", b"kept"),
     ("c", b"begun"),
     ("d", b""),
     ("e", b""),
+    ("f", b"whole"),
 ];
 
 #[test]
@@ -166,6 +167,7 @@ fn a_desk_in_memory_is_written_at_the_end_of_a_name(rt: HostRuntime) -> Result<(
     for (name, call, wanted) in &CALLS {
         check_same_at(&rt, &make(&mut desk, name, call), wanted, name);
     }
+    write_output(&mut desk, "f", b"whole")?;
     for (name, bytes) in &HELD {
         check_same_at(&rt, &desk.get(name), &Some(*bytes), name);
     }
