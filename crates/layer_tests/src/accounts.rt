@@ -1,9 +1,11 @@
-//! Calls of `account_report`: rows that were worked by hand, orders with ties, and texts.
+//! Calls of `account_report`, with rows that were worked by hand and their text, and of
+//! `stack_rebuild`, with the pairs of a thread.
 
 use crate::checks::{check_same, check_same_list, check_same_text};
 use crate::event_traces::{NESTED, Said, printed, trace_of};
 use account_report::*;
 use fdr_record::Kind;
+use stack_rebuild::{Pair, pairs, thread_events};
 use std::alloc::Global;
 use std::process::Abort;
 use std::test::Fail;
@@ -110,83 +112,59 @@ fn percentiles_are_items_of_the_ascending_durations(rt: HostRuntime) -> Result<(
     Ok(())
 }
 
-/// A row with a number in one of its columns.
-fn row_with(key: SortKey, func: u32, number: u64) -> AccountRow {
-    let mut row = AccountRow {
-        func,
-        count: 1,
-        min: 1,
-        med: 1,
-        p90: 1,
-        p99: 1,
-        max: 1,
-        sum: 1,
-        entries: 0,
-        exits: 0,
-    };
-    match key {
-        SortKey::FuncId => {}
-        SortKey::Count => row.count = number,
-        SortKey::Min => row.min = number,
-        SortKey::Med => row.med = number,
-        SortKey::P90 => row.p90 = number,
-        SortKey::P99 => row.p99 = number,
-        SortKey::Max => row.max = number,
-        SortKey::Sum => row.sum = u128::from(number),
-    }
-    row
-}
-
-/// The functions of the rows that are kept, in an order.
-fn ordered(
-    alloc: Global,
-    key: SortKey,
-    descending: bool,
-    top: Option<u32>,
-) -> Result<Vec<u32>, Fail> {
-    let mut rows = Vec::new(alloc);
-    for (func, number) in [(1, 5), (2, 3), (3, 5), (4, 2)] {
-        rows.push(row_with(key, func, number))?;
-    }
-    order_rows(&mut rows, key, descending, top);
-    let mut functions = Vec::new(alloc);
-    for row in &rows {
-        functions.push(row.func)?;
-    }
-    Ok(functions)
-}
+/// The pairs of [`NESTED`], in the order of their exits.
+const NESTED_PAIRS: [Pair; 2] = [
+    Pair {
+        func: 1,
+        entry: 2,
+        exit: 3,
+        duration: 10,
+    },
+    Pair {
+        func: 1,
+        entry: 1,
+        exit: 4,
+        duration: 35,
+    },
+];
 
 #[test]
-fn rows_of_one_number_are_in_order_of_their_functions_both_ways(
-    rt: HostRuntime,
-) -> Result<(), Fail> {
-    for key in [
-        SortKey::Count,
-        SortKey::Min,
-        SortKey::Med,
-        SortKey::P90,
-        SortKey::P99,
-        SortKey::Max,
-        SortKey::Sum,
-    ] {
-        let rising = ordered(rt.alloc(), key, false, None)?;
-        check_same_list(&rt, rising.as_slice(), [4, 2, 1, 3].as_slice());
-        let falling = ordered(rt.alloc(), key, true, Some(3))?;
-        check_same_list(&rt, falling.as_slice(), [1, 3, 2].as_slice());
-    }
-    for (descending, top, functions) in [
-        (false, None, &[1, 2, 3, 4][..]),
-        (true, Some(5), &[4, 3, 2, 1]),
-        (true, Some(1), &[4]),
-        (false, Some(0), &[]),
-    ] {
-        let kept = ordered(rt.alloc(), SortKey::FuncId, descending, top)?;
-        check_same_list(&rt, kept.as_slice(), functions);
-    }
+fn the_pairs_of_a_thread_are_those_of_its_events(rt: HostRuntime) -> Result<(), Fail> {
+    let alloc = rt.alloc();
+    let events = thread_events(alloc, &trace_of(alloc, &NESTED)?, 1)?;
+    check_same_list(&rt, &pairs(alloc, &events)?, &NESTED_PAIRS);
     Ok(())
 }
 
-/// The text of two rows, one with numbers that are wider than their columns.
+/// A row of a function with one call of one cycle.
+const ROW: AccountRow = AccountRow {
+    func: 3,
+    count: 1,
+    min: 1,
+    med: 1,
+    p90: 1,
+    p99: 1,
+    max: 1,
+    sum: 1,
+    entries: 0,
+    exits: 0,
+};
+
+/// Two rows, one with numbers that are wider than their columns.
+const WIDE_ROWS: [AccountRow; 2] = [
+    AccountRow {
+        max: 12_345_678_901,
+        sum: 12_345_678_901,
+        ..ROW
+    },
+    AccountRow {
+        func: 4,
+        count: 0,
+        ..ROW
+    },
+];
+
+/// The text of these rows.
 const WIDE: &str = "Functions with latencies: 1\n    \
     funcid      count        min        med        90p        99p        \
     max        sum    entries      exits function\n         \
@@ -196,14 +174,7 @@ const WIDE: &str = "Functions with latencies: 1\n    \
 
 #[test]
 fn columns_are_aligned_and_a_longer_number_is_printed_whole(rt: HostRuntime) -> Result<(), Fail> {
-    let rows = [
-        AccountRow {
-            max: 12_345_678_901,
-            ..row_with(SortKey::Sum, 3, 12_345_678_901)
-        },
-        row_with(SortKey::Count, 4, 0),
-    ];
-    let text = text_of(rt.alloc(), &rows, AccountFormat::Text)?;
+    let text = text_of(rt.alloc(), &WIDE_ROWS, AccountFormat::Text)?;
     check_same_text(&rt, text.as_str(), WIDE);
     Ok(())
 }

@@ -1,12 +1,11 @@
-//! Calls of `asm_text`: code worked by hand, the refusals, and the limits. `whole_runs` has the bytes
-//! of five images.
+//! Calls of `asm_text`: code worked by hand, and the limits. `whole_runs` has the bytes of five
+//! images, and the refusals.
 
 use crate::checks::{check_same, check_same_list};
 use asm_text::*;
 use std::alloc::{AllocError, Global};
 use std::test::Fail;
 use text_lines::count_lines;
-use xray_image::read_image;
 
 /// The verdict on a text of fewer than 2,000,000 lines.
 fn verdict(alloc: Global, text: &[u8], threshold: u32) -> Result<Vec<u8>, AsmFault> {
@@ -46,61 +45,6 @@ fn threshold_decides_where_the_function_does_not(rt: HostRuntime) -> Result<(), 
     check_same(&rt, &without.len(), &75);
     check_same_list(&rt, code(&without), [0xC3].as_slice());
     Ok(())
-}
-
-#[test]
-fn assembled_file_is_read_back(rt: HostRuntime) -> Result<(), Fail> {
-    // The exit sled of f, main, and its tail sled each come after an alignment byte.
-    let text = b"entry main\nfn f always\nret\nfn main always\ntailjmp f\n";
-    let file = verdict(rt.alloc(), text, 1)?;
-    let image = read_image(rt.alloc(), &file)?;
-    check_same(&rt, &image.base(), &4096);
-    check_same(&rt, &image.entry(), &4120);
-    check_same(&rt, &image.function_count(), &2);
-    check_same(&rt, &image.sled_count(), &4);
-    check_same(&rt, &image.name_of(1), &Some("f"));
-    check_same(&rt, &image.name_of(2), &Some("main"));
-    check_same(&rt, &image.name_of(3), &None);
-    Ok(())
-}
-
-/// Texts, and why they are refused.
-const REFUSALS: [(&[u8], AsmFault); 28] = [
-    (b"", AsmFault::Syntax(1)),
-    (b"mov eax, 1", AsmFault::Syntax(1)),
-    (b"fn a", AsmFault::Syntax(2)),
-    (b"fn a\n", AsmFault::Syntax(2)),
-    (b"fn a\nfn b\nret", AsmFault::Syntax(2)),
-    (b"fn a\nret\nbase 16", AsmFault::Syntax(3)),
-    (b"base 16\nbase 16\nfn a\nret", AsmFault::Syntax(2)),
-    (b"entry a\nentry a\nfn a\nret", AsmFault::Syntax(2)),
-    (b"x:\nfn a\nret", AsmFault::Syntax(1)),
-    (b"fn a\nmov eax,1\nret", AsmFault::Syntax(2)),
-    (b"fn a\nout 0X1\nret", AsmFault::Syntax(2)),
-    (b"fn a\nout 18446744073709551616", AsmFault::Syntax(2)),
-    (b"fn 1a\nret", AsmFault::Syntax(1)),
-    (b"fn a\nb: ret", AsmFault::Syntax(2)),
-    (b"fn a\nret\r", AsmFault::Syntax(2)),
-    (b"mov r10d, 1", AsmFault::Syntax(1)),
-    (b"fn a\nmov r10d, 99999999999\nret", AsmFault::Register(2)),
-    (b"fn a\nadd rax, esp\nret", AsmFault::Register(2)),
-    (b"base 0x1001\nfn a\nret", AsmFault::Range(1)),
-    (b"base 0x7FFF00000010\nfn a\nret", AsmFault::Range(1)),
-    (b"fn a\nout 256\nret", AsmFault::Range(2)),
-    (b"fn a\nmov eax, 0x100000000\nret", AsmFault::Range(2)),
-    (b"fn a\nret\nfn a\nret", AsmFault::Repeat(3)),
-    (b"fn a\nret\na:\nret", AsmFault::Repeat(3)),
-    (b"fn a\njmp b\nret", AsmFault::Label(2)),
-    (b"fn a\ntailjmp b\nret", AsmFault::Label(2)),
-    (b"entry b\nfn a\nb:\nret", AsmFault::Label(1)),
-    (b"fn a\njmp b\nret\nb:", AsmFault::Label(4)),
-];
-
-#[test]
-fn each_refusal_names_its_line(rt: HostRuntime) {
-    for (text, expected) in &REFUSALS {
-        check_same(&rt, &verdict(rt.alloc(), text, 1).err(), &Some(*expected));
-    }
 }
 
 #[test]

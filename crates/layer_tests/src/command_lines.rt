@@ -3,7 +3,6 @@
 use crate::checks::{check_same, check_same_text};
 use command_words::*;
 use std::alloc::{AllocError, Global};
-use std::process::Abort;
 use std::test::Fail;
 use xray_io::Wall;
 

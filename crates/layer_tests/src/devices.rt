@@ -1,6 +1,5 @@
 //! Calls of `xray_io`, for what no clause says: that they succeed, the digits that are printed, and
 //! the edge to the system.
-ghost use Rattle.std.specs.Prelude.{◌^◌, None};
 
 use crate::checks::{check_same, check_same_at, check_same_list};
 use std::alloc::Global;
@@ -10,31 +9,9 @@ use std::test::Fail;
 use std::{fs, io};
 use test_helpers::Trickle;
 use xray_io::{
-    Desk, DeskFile, Each, ErrSink, Failed, FileDesk, Gate, MemDesk, MemSink, OpenGate, OutSink,
-    Piece, ReadError, ReadFail, Sink, Text, WriteFault, read_whole, write_all, write_text,
+    Desk, Each, ErrSink, FileDesk, MemDesk, MemSink, OutSink, Piece, ReadError, ReadFail, Text,
+    WriteFault, read_whole, write_all, write_output, write_text,
 };
-
-/// A sink that takes at most three bytes a write.
-#[derive(Drop)]
-struct Sips {
-    sink: MemSink,
-}
-
-impl Sink for Sips {
-    ghost written = { λ _. None };
-
-    ghost faults = { λ _. 2 ^ 64 };
-
-    ghost along = { λ _ _ _. Unit {0} };
-
-    fn write(&mut self, bytes: &[u8]) -> Result<usize, Failed> {
-        self.sink.write(&bytes[..bytes.len().min(3)])
-    }
-
-    ghost along_none = { λ _. tt };
-
-    ghost along_both = { λ _ _ _ _ _ _ _. tt };
-}
 
 /// Prints to a file in place of the standard output.
 #[derive(Drop)]
@@ -114,69 +91,26 @@ fn read_five(alloc: Global, limit: u64) -> Result<(Result<usize, ReadError>, Tri
     Ok((read, trickle))
 }
 
-#[test]
-fn short_reads_go_on_and_ask_for_no_byte_twice(rt: HostRuntime) -> Result<(), Fail> {
-    for (limit, wanted) in [(4, Err(ReadError::TooLong)), (5, Ok(5)), (6, Ok(5))] {
-        let (read, trickle) = read_five(rt.alloc(), limit)?;
-        check_same_at(&rt, &read, &wanted, &limit);
-        assert!(rt; trickle.is_in_order());
-        // At the limit one byte more was asked for, and none after that.
-        check_same_at(&rt, &trickle.next(), &5, &limit);
-    }
-    Ok(())
-}
-
-/// One byte past the limit shows that there are too many. A read asks for 65,536 bytes at most, and
-/// five of them end after the fifth byte.
-#[test]
-fn no_read_asks_past_the_first_byte_that_is_too_many(rt: HostRuntime) -> Result<(), Fail> {
-    for (limit, greatest) in [(0, 1), (4, 5), (5, 6), (65_537, 65_538), (70_000, 65_541)] {
-        let (read, trickle) = read_five(rt.alloc(), limit)?;
-        check_same_at(&rt, &read.is_ok(), &(limit >= 5), &limit);
-        check_same_at(&rt, &trickle.greatest(), &greatest, &limit);
-    }
-    Ok(())
-}
-
-/// Names, the places from which they are read, and what each read gives. The calls 1 and 3 fail.
-const READS: [(&str, u64, Result<usize, ReadFail>); 5] = [
-    ("a", 2, Ok(3)),
-    ("a", 0, Err(ReadFail::Failed)),
-    ("c", 0, Err(ReadFail::Missing)),
-    ("c", 0, Err(ReadFail::Failed)),
-    ("b", 3, Ok(0)),
+/// Limits, and what comes of such a reading: the answer, the place after the last byte that was
+/// given, and the greatest place up to which a read asked. One byte past the limit shows that there
+/// are too many. A read asks for 65,536 bytes at most, and five of them end after the fifth byte.
+const FIVE: [(u64, Result<usize, ReadError>, u64, u64); 6] = [
+    (0, Err(ReadError::TooLong), 1, 1),
+    (4, Err(ReadError::TooLong), 5, 5),
+    (5, Ok(5), 5, 6),
+    (6, Ok(5), 5, 7),
+    (65_537, Ok(5), 5, 65_538),
+    (70_000, Ok(5), 5, 65_541),
 ];
 
 #[test]
-fn a_desk_in_memory_fails_at_the_chosen_calls(rt: HostRuntime) -> Result<(), Fail> {
-    let alloc = rt.alloc();
-    let mut desk = MemDesk::new(alloc, vec![in alloc; 1, 3]?);
-    let mut buf = [0; 8];
-    desk.put("a", b"one")?;
-    desk.put("b", b"two")?;
-    desk.put("a", b"three")?;
-    for (name, from, wanted) in &READS {
-        check_same_at(&rt, &desk.read(name, *from, &mut buf), wanted, name);
-    }
-    check_same_list(&rt, &buf[..3], b"ree");
-    check_same(&rt, &desk.get("b"), &Some(b"two".as_slice()));
-    check_same(&rt, &desk.get("c"), &None);
-    check_same(&rt, &desk.refused(), &0);
-    Ok(())
-}
-
-#[test]
-fn a_read_of_a_whole_input_fails_if_one_of_its_calls_does(rt: HostRuntime) -> Result<(), Fail> {
-    let alloc = rt.alloc();
-    for (failing, wanted) in [
-        (0, Err(ReadError::ReadFault)),
-        (1, Err(ReadError::ReadFault)),
-        (2, Ok(3)),
-    ] {
-        let mut desk = MemDesk::new(alloc, vec![in alloc; failing]?);
-        desk.put("a", b"one")?;
-        let read = whole_length(alloc, &mut desk, "a", 9);
-        check_same_at(&rt, &read, &wanted, &failing);
+fn short_reads_go_on_and_ask_for_no_byte_twice_or_in_vain(rt: HostRuntime) -> Result<(), Fail> {
+    for (limit, wanted, next, greatest) in &FIVE {
+        let (read, trickle) = read_five(rt.alloc(), *limit)?;
+        check_same_at(&rt, &read, wanted, limit);
+        assert!(rt; trickle.is_in_order());
+        check_same_at(&rt, &trickle.next(), next, limit);
+        check_same_at(&rt, &trickle.greatest(), greatest, limit);
     }
     Ok(())
 }
@@ -214,13 +148,14 @@ const CALLS: [(&str, Call, Option<usize>); 9] = [
     ("e", Call::Append(b""), Some(0)),
 ];
 
-/// What names hold after these calls.
-const HELD: [(&str, &[u8]); 5] = [
+/// What names hold after these calls, and `f` after an output to it.
+const HELD: [(&str, &[u8]); 6] = [
     ("a", b"one two"),
     ("b", b"kept"),
     ("c", b"begun"),
     ("d", b""),
     ("e", b""),
+    ("f", b"whole"),
 ];
 
 #[test]
@@ -232,55 +167,11 @@ fn a_desk_in_memory_is_written_at_the_end_of_a_name(rt: HostRuntime) -> Result<(
     for (name, call, wanted) in &CALLS {
         check_same_at(&rt, &make(&mut desk, name, call), wanted, name);
     }
+    write_output(&mut desk, "f", b"whole")?;
     for (name, bytes) in &HELD {
         check_same_at(&rt, &desk.get(name), &Some(*bytes), name);
     }
     check_same(&rt, &desk.refused(), &0);
-    Ok(())
-}
-
-#[test]
-fn a_name_of_a_desk_takes_a_text_as_a_sink(rt: HostRuntime) -> Result<(), Fail> {
-    let alloc = rt.alloc();
-    let mut desk = MemDesk::new(alloc, vec![in alloc; 4]?);
-    desk.put("b", b"kept")?;
-    desk.create("a")?;
-    let mut file = DeskFile::new(&mut desk, "a");
-    write_all(&mut file, b"first")?;
-    let pieces = [Piece::Bytes(b" n="), Piece::Number(7)];
-    write_text(&Each(&pieces), &mut file)?;
-    write_all(&mut file, b", more")?;
-    check_same(&rt, &write_all(&mut file, b", lost"), &Err(WriteFault));
-    check_same(&rt, &desk.get("a"), &Some(b"first n=7, more".as_slice()));
-    check_same(&rt, &desk.get("b"), &Some(b"kept".as_slice()));
-    Ok(())
-}
-
-/// The third byte isn't written, and the next one is.
-#[test]
-fn a_desk_that_takes_one_byte_a_call_is_written_until_one_fails(
-    rt: HostRuntime,
-) -> Result<(), Fail> {
-    let mut desk = Trickle::new(MemDesk::new(rt.alloc(), vec![in rt.alloc(); 2]?));
-    let first = write_all(&mut DeskFile::new(&mut desk, "a"), b"abc");
-    check_same(&rt, &first, &Err(WriteFault));
-    let second = write_all(&mut DeskFile::new(&mut desk, "b"), b"abc");
-    check_same(&rt, &second, &Ok(()));
-    check_same(&rt, &desk.get("a"), &Some(b"ab".as_slice()));
-    check_same(&rt, &desk.get("b"), &Some(b"abc".as_slice()));
-    Ok(())
-}
-
-#[test]
-fn writes_go_on_after_a_part_and_stop_at_a_fault(rt: HostRuntime) -> Result<(), Fail> {
-    let alloc = rt.alloc();
-    let mut sips = Sips {
-        sink: MemSink::new(alloc, vec![in alloc; 5]?),
-    };
-    check_same(&rt, &write_all(&mut sips, b"eight by"), &Ok(()));
-    check_same(&rt, &write_all(&mut sips, b"tes more"), &Err(WriteFault));
-    check_same_list(&rt, sips.sink.bytes(), b"eight bytes mo".as_slice());
-    check_same(&rt, &sips.sink.refused(), &0);
     Ok(())
 }
 
@@ -351,6 +242,7 @@ fn a_long_text_is_whole_or_a_prefix_of_it(rt: HostRuntime) -> Result<(), Fail> {
     let mut broken = MemSink::new(alloc, vec![in alloc; 1]?);
     check_same(&rt, &write_parts(&mut broken), &Err(WriteFault));
     check_same(&rt, &Some(broken.bytes()), &all.get(..4096));
+    check_same(&rt, &broken.refused(), &0);
     Ok(())
 }
 
@@ -425,21 +317,6 @@ fn files_are_written_by_name(rt: HostRuntime) -> Result<(), Fail> {
     Ok(())
 }
 
-/// Names that can't be written, and calls that fail.
-const FAILING_CALLS: [(&str, Call); 3] = [
-    ("/tmp", Call::Create),
-    ("/tmp", Call::Append(b"lost")),
-    ("/dev/full", Call::Append(b"lost")),
-];
-
-#[test]
-fn what_cannot_be_written_is_a_failure(rt: HostRuntime) {
-    let mut desk = FileDesk::new(&rt);
-    for (name, call) in &FAILING_CALLS {
-        check_same(&rt, &make(&mut desk, name, call), &None);
-    }
-}
-
 /// Writes bytes on out, which goes to a file.
 fn write_out_to(rt: &HostRuntime, path: &str, bytes: &[u8]) -> Result<(), WriteFault> {
     write_all(&mut OutSink::new(&PrintsTo { rt, path }), bytes)
@@ -462,16 +339,21 @@ fn the_streams_take_bytes(rt: HostRuntime) -> Result<(), Fail> {
     Ok(())
 }
 
+/// Names that can't be written, and calls that fail.
+const FAILING_CALLS: [(&str, Call); 3] = [
+    ("/tmp", Call::Create),
+    ("/tmp", Call::Append(b"lost")),
+    ("/dev/full", Call::Append(b"lost")),
+];
+
 #[test]
-fn the_streams_report_failures(rt: HostRuntime) {
+fn what_cannot_be_written_is_a_failure(rt: HostRuntime) {
+    let mut desk = FileDesk::new(&rt);
+    for (name, call) in &FAILING_CALLS {
+        check_same(&rt, &make(&mut desk, name, call), &None);
+    }
     let out = write_out_to(&rt, "/dev/full", b"lost");
     check_same(&rt, &out, &Err(WriteFault));
     let err = write_err_to(&rt, "/dev/full", b"lost");
     check_same(&rt, &err, &Err(WriteFault));
-}
-
-#[test]
-fn an_open_gate_waits_for_nothing() {
-    OpenGate.before(1, 0);
-    OpenGate.before_store(0);
 }

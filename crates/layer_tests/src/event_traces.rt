@@ -1,5 +1,4 @@
-//! Traces of events that a test lists, for [`accounts`](crate::accounts) and
-//! [`stacks`](crate::stacks).
+//! Traces of events that a test lists, for [`accounts`](crate::accounts).
 
 ghost use Rattle.std.specs.Prelude.{◌≡◌, length, IfOk};
 

@@ -1,10 +1,8 @@
 //! Calls of `xray_image`: what an image file says, and why others are refused.
 
-mod ids;
-
 use crate::checks::{check_same, check_same_at};
 use crate::image_files::{add_entry, add_function, header_and_code, image_file};
-use example_images::{CALLS, OUTPUTS_AN_A};
+use example_images::OUTPUTS_AN_A;
 use std::alloc::{AllocError, Global};
 use std::process::Abort;
 use std::test::Fail;
@@ -52,6 +50,11 @@ fn an_image_has_the_function_and_the_sleds_of_its_map(rt: HostRuntime) -> Result
     let image = read_image(rt.alloc(), &OUTPUTS_AN_A)?;
     check_same(&rt, &image.entry(), &0x1000);
     check_same(&rt, &image.function_count(), &1);
+    check_same(&rt, &image.id_count(), &1);
+    check_same(&rt, &image.name_of(0), &None);
+    check_same(&rt, &image.name_of(1), &Some("main"));
+    check_same(&rt, &image.name_of(2), &None);
+    check_same(&rt, &Some(image.code()), &OUTPUTS_AN_A.get(64..93));
     check_same(&rt, &image.trampoline(SledKind::Entry), &0x20_1000);
     check_same(&rt, &image.trampoline(SledKind::Exit), &0x20_1010);
     check_same(&rt, &image.trampoline(SledKind::Tail), &0x20_1020);
@@ -174,12 +177,8 @@ fn check_damages(rt: &impl Abort, alloc: Global, damages: &[Damage]) -> Result<(
 }
 
 #[test]
-fn a_damaged_image_is_refused_as_the_table_says(rt: HostRuntime) -> Result<(), Fail> {
-    check_damages(&rt, rt.alloc(), &DAMAGES)
-}
-
-#[test]
-fn of_two_faults_the_first_of_the_table_is_reported(rt: HostRuntime) -> Result<(), Fail> {
+fn a_damaged_image_is_refused_by_its_first_fault(rt: HostRuntime) -> Result<(), Fail> {
+    check_damages(&rt, rt.alloc(), &DAMAGES)?;
     check_damages(&rt, rt.alloc(), &TWICE_DAMAGED)
 }
 
@@ -232,70 +231,6 @@ fn code_is_refused_at_its_first_bad_unit_or_branch(rt: HostRuntime) -> Result<()
         let bytes = image_file(rt.alloc(), code, &[(0x1000, "main")], &[])?;
         check_same_at(&rt, &fault_of(rt.alloc(), &bytes), fault, code);
     }
-    Ok(())
-}
-
-/// The place of the code in a file.
-const CODE: usize = 64;
-
-/// The map of [`CALLS`].
-const CALLS_MAP: [(u64, u64, u8); 4] = [
-    (0x1000, 0x1000, 0),
-    (0x1010, 0x1000, 1),
-    (0x101C, 0x101C, 0),
-    (0x1028, 0x101C, 1),
-];
-
-/// The functions of [`CALLS`] and others, and why its code is refused with these, if it is.
-const FUNCTIONS: [(&[(u64, &str)], Option<ImageFault>); 8] = [
-    (&[(0x1000, "main"), (0x101C, "f")], None),
-    (
-        &[(0x1000, "main"), (0x101C, "main")],
-        Some(ImageFault::Names(1)),
-    ),
-    // the name of an earlier function that isn't the one before
-    (
-        &[(0x1000, "f"), (0x1010, "g"), (0x101C, "f")],
-        Some(ImageFault::Names(2)),
-    ),
-    // not at a unit, and not above the one before
-    (
-        &[(0x1000, "main"), (0x101D, "f")],
-        Some(ImageFault::Names(1)),
-    ),
-    (
-        &[(0x1000, "main"), (0x101C, "f"), (0x101C, "g")],
-        Some(ImageFault::Names(2)),
-    ),
-    (
-        &[(0x1000, "main"), (0x101C, "")],
-        Some(ImageFault::Names(1)),
-    ),
-    (
-        &[(0x1000, "a"), (0x101C, "a b")],
-        Some(ImageFault::Names(1)),
-    ),
-    // the sled at 0x1010 lies in `g`
-    (
-        &[(0x1000, "main"), (0x1010, "g"), (0x101C, "f")],
-        Some(ImageFault::Odd(1)),
-    ),
-];
-
-#[test]
-fn functions_have_to_fit_the_units_and_the_map(rt: HostRuntime) -> Result<(), Fail> {
-    let mut image = CALLS;
-    for (functions, fault) in &FUNCTIONS {
-        let bytes = image_file(rt.alloc(), &image[CODE..CODE + 51], functions, &CALLS_MAP)?;
-        check_same_at(&rt, &fault_of(rt.alloc(), &bytes), fault, functions);
-    }
-    // The call goes one byte too far.
-    image[CODE + 12] = 0x0D;
-    check_same(
-        &rt,
-        &fault_of(rt.alloc(), &image),
-        &Some(ImageFault::Target(11)),
-    );
     Ok(())
 }
 

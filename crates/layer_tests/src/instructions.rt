@@ -20,8 +20,19 @@ fn check_encoding(rt: &impl Abort, instr: Instr, code: &[u8]) {
     check_same(rt, &decode(code, 0), &Ok((instr, code.len())));
 }
 
+/// Instructions without registers, and their encodings.
+const WITHOUT_REGISTERS: [(Instr, &[u8]); 7] = [
+    (Instr::Call { rel: 0x1234_5678 }, b"\xE8\x78\x56\x34\x12"),
+    (Instr::Call { rel: -16 }, b"\xE8\xF0\xFF\xFF\xFF"),
+    (Instr::Jmp { rel: i32::MAX }, b"\xE9\xFF\xFF\xFF\x7F"),
+    (Instr::Jnz { rel: 259 }, b"\x0F\x85\x03\x01\0\0"),
+    (Instr::Jnz { rel: -253 }, b"\x0F\x85\x03\xFF\xFF\xFF"),
+    (Instr::Ret, b"\xC3"),
+    (Instr::Out { port: 255 }, b"\xE6\xFF"),
+];
+
 #[test]
-fn encodings_with_registers_are_the_assemblers(rt: HostRuntime) -> Result<(), Fail> {
+fn encodings_are_the_assemblers(rt: HostRuntime) -> Result<(), Fail> {
     let (rax, rcx, rbx, rdi) = (reg(0)?, reg(1)?, reg(3)?, reg(7)?);
     let (r8, r9, r11, r12, r15) = (reg(8)?, reg(9)?, reg(11)?, reg(12)?, reg(15)?);
     check_same(&rt, &r15.number(), &15);
@@ -45,25 +56,10 @@ fn encodings_with_registers_are_the_assemblers(rt: HostRuntime) -> Result<(), Fa
     check_encoding(&rt, Instr::Push { reg: r12 }, b"\x41\x54");
     check_encoding(&rt, Instr::Pop { reg: rdi }, b"\x5F");
     check_encoding(&rt, Instr::Pop { reg: r8 }, b"\x41\x58");
-    Ok(())
-}
-
-/// Instructions without registers, and their encodings.
-const WITHOUT_REGISTERS: [(Instr, &[u8]); 7] = [
-    (Instr::Call { rel: 0x1234_5678 }, b"\xE8\x78\x56\x34\x12"),
-    (Instr::Call { rel: -16 }, b"\xE8\xF0\xFF\xFF\xFF"),
-    (Instr::Jmp { rel: i32::MAX }, b"\xE9\xFF\xFF\xFF\x7F"),
-    (Instr::Jnz { rel: 259 }, b"\x0F\x85\x03\x01\0\0"),
-    (Instr::Jnz { rel: -253 }, b"\x0F\x85\x03\xFF\xFF\xFF"),
-    (Instr::Ret, b"\xC3"),
-    (Instr::Out { port: 255 }, b"\xE6\xFF"),
-];
-
-#[test]
-fn encodings_without_registers_are_the_assemblers(rt: HostRuntime) {
     for (instr, code) in &WITHOUT_REGISTERS {
         check_encoding(&rt, *instr, code);
     }
+    Ok(())
 }
 
 /// Bytes that are too few.
@@ -100,14 +96,6 @@ fn the_shortest_prefix_that_decides_gives_the_fault(rt: HostRuntime) {
         let fault = DecodeFault::Register(*number);
         check_same_at(&rt, &decode(bytes, 0), &Err(fault), bytes);
     }
-}
-
-#[test]
-fn the_place_is_counted_from_the_start_of_the_bytes(rt: HostRuntime) {
-    let code = b"\xE6\x01\xC3\x0F\x84";
-    check_same(&rt, &decode(code, 2), &Ok((Instr::Ret, 3)));
-    check_same(&rt, &decode(code, 3), &Err(DecodeFault::Unknown(132)));
-    check_same(&rt, &decode(code, 5), &Err(DecodeFault::Short));
 }
 
 #[test]

@@ -1,4 +1,4 @@
-//! Tests of the libraries, a module for each crate. The crate has only tests.
+//! Tests of the libraries, a module for each crate that is tested here. The crate has only tests.
 //!
 //! They are outside the crates that they test because a crate is proved once more together with its
 //! own tests. Here each library is proved once.
@@ -8,8 +8,6 @@
 mod accounts;
 #[cfg(test)]
 mod assembler;
-#[cfg(test)]
-mod buffers;
 #[cfg(test)]
 mod checks;
 #[cfg(test)]
@@ -24,8 +22,6 @@ mod drawn_inputs;
 mod draws;
 #[cfg(test)]
 mod event_traces;
-#[cfg(test)]
-mod flushes;
 #[cfg(test)]
 mod image_files;
 #[cfg(test)]
@@ -45,20 +41,12 @@ mod patching;
 #[cfg(test)]
 mod pools;
 #[cfg(test)]
-mod records;
-#[cfg(test)]
 mod replaying;
-#[cfg(test)]
-mod running;
 #[cfg(test)]
 mod scripts;
 #[cfg(test)]
 mod setups;
 #[cfg(test)]
 mod sled_values;
-#[cfg(test)]
-mod sleds;
-#[cfg(test)]
-mod stacks;
 #[cfg(test)]
 mod trace_files;

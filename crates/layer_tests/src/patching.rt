@@ -40,23 +40,15 @@ fn code_after<R: Abort + Wait + AllocGlobal>(
     Ok(code_bytes(rt.alloc(), &image, &last)?)
 }
 
+/// A sled that was patched keeps the bytes after its head. A sled that never was stays as it was.
 #[test]
-fn unpatching_leaves_the_head_of_a_return_and_the_patched_bytes_that_follow(
-    rt: HostRuntime,
-) -> Result<(), Fail> {
+fn unpatching_leaves_the_head_and_the_bytes_that_follow(rt: HostRuntime) -> Result<(), Fail> {
     let code = code_after(&rt, b"patch\nunpatch\ngo\n", 10)?;
     let bytes = [
         0xEB, 0x09, 1, 0, 0, 0, 0xE8, 0xF5, 0xFF, 0x1F, 0, 0xB8, 0x41, 0, 0, 0, 0xE6, 0x01, 0xC3,
         0xBA, 1, 0, 0, 0, 0xE9, 0xF3, 0xFF, 0x1F, 0,
     ];
     check_same_list(&rt, code.as_slice(), bytes.as_slice());
-    Ok(())
-}
-
-#[test]
-fn unpatching_a_sled_that_was_never_patched_leaves_the_code_as_it_was(
-    rt: HostRuntime,
-) -> Result<(), Fail> {
     let code = code_after(&rt, b"go\nunpatch\n", 2)?;
     check_same(&rt, &Some(code.as_slice()), &OUTPUTS_AN_A.get(64..93));
     Ok(())

@@ -1,6 +1,6 @@
 //! Calls of `buffer_queue`: threads that seal segments in one pool.
 
-ghost use Rattle.std.specs.Prelude.{◌≡◌, ◌<◌, ◌≤◌, ◌+◌, ◌^◌, length};
+ghost use Rattle.std.specs.Prelude.{◌≡◌, ◌<◌, ◌+◌, ◌^◌, length};
 ghost use Rattle.buffer_queue.specs.Passes.{IsOf, new_hand};
 
 use buffer_queue::{Pool, PoolPass};
@@ -76,20 +76,6 @@ fn seal_three<R: Wait>(rt: &R, pool: &Pool, pass: PoolPass, thread: u32, hand: B
     pass
 }
 
-/// What is left of `max` buffers after thread 1, alone, has sealed three segments.
-fn run_one<R: Wait>(rt: &R, alloc: Global, max: u32) -> Result<Vec<Buffer>, Fail>
-    requires max { (1 ≤ max) × (max ≤ 8) }
-{
-    let setup = setup_of(1, max);
-    let (pool, mut hands) = Pool::new(rt, alloc, &setup)?;
-    let mut passes = Vec::with_capacity(alloc, 1)?;
-    let mut left = Vec::with_capacity(alloc, max as usize)?;
-    let (pass, hand) = hands.remove(0);
-    passes.push_reserved(seal_three(rt, &pool, pass, 1, hand));
-    pool.drain(rt, passes, &mut left);
-    Ok(left)
-}
-
 /// Seals three segments of each of two threads at the same time.
 fn seal_both<R: Threads + Wait + Sync>(
     rt: &R,
@@ -140,32 +126,6 @@ fn are_last(left: &[Buffer], thread: u32) -> bool {
         next = Some(serial.wrapping_add(1));
     }
     next.is_none() || next == Some(3)
-}
-
-#[test]
-fn a_thread_keeps_the_last_segments(rt: HostRuntime) -> Result<(), Fail> {
-    let left = run_one(&rt, rt.alloc(), 3)?;
-    assert!(rt; left.len() == 2);
-    assert!(rt; left[0].begun() && left[0].thread() == 1 && left[0].serial() == 1);
-    assert!(rt; left[1].begun() && left[1].thread() == 1 && left[1].serial() == 2);
-    assert!(rt; left[1].events() == 1 && left[1].bytes().len() == 72);
-    Ok(())
-}
-
-#[test]
-fn fresh_buffers_come_first(rt: HostRuntime) -> Result<(), Fail> {
-    let left = run_one(&rt, rt.alloc(), 5)?;
-    assert!(rt; left.len() == 4);
-    assert!(rt; !left[0].begun());
-    assert!(rt; left[1].serial() == 0 && left[2].serial() == 1 && left[3].serial() == 2);
-    Ok(())
-}
-
-#[test]
-fn a_pool_without_spare_buffers_leaves_none(rt: HostRuntime) -> Result<(), Fail> {
-    let left = run_one(&rt, rt.alloc(), 1)?;
-    assert!(rt; left.len() == 0);
-    Ok(())
 }
 
 #[test]

@@ -1,81 +1,98 @@
-//! Calls of `step_sim`: schedules of texts, and why other texts aren't schedules. `whole_runs` has
-//! replays.
+//! Calls of `step_sim` that allocate, at their limits and at sizes between them: with enough memory
+//! they answer. `whole_runs` has replays, and what is refused.
 
-use crate::checks::{check_same, check_same_list};
-use std::alloc::{AllocError, Global};
+use crate::draws::draw;
+use crate::setups::{DEFAULT_LIMITS, DEFAULT_SETUP};
+use example_images::OUTPUTS_AN_A;
+use machine_step::{Cpu, End, Limits, Setup, Steps, Want};
+use patch_script::read_script;
+use std::alloc::Global;
+use std::process::Abort;
 use std::test::Fail;
 use step_sim::*;
+use text_lines::count_lines;
+use xray_image::read_image;
 
-mod sizes;
+/// The script that traces everything from before the start.
+const TRACED: &[u8] = b"patch\nset_handler\ninit\ngo";
 
-#[test]
-fn a_schedule_has_the_turns_of_its_lines(rt: HostRuntime) -> Result<(), Fail> {
-    let text = b"# two threads\n\tt 02 7\r\np 4294967295 # all\n\n t 1 1";
-    let schedule = read_schedule(rt.alloc(), text, 2)?;
-    let expected = [
-        Turns::Thread {
-            thread: 2,
-            count: 7,
-        },
-        Turns::Patcher {
-            count: 4_294_967_295,
-        },
-        Turns::Thread {
-            thread: 1,
-            count: 1,
-        },
-    ];
-    check_same_list(&rt, schedule.lines(), expected.as_slice());
-    Ok(())
+/// The most bytes that the buffers of a replay have together.
+const ROOM: u32 = 67_108_864;
+
+/// What a replay of traced threads leaves, with a setup that a command allows and no schedule.
+fn replay_of<'a>(
+    rt: &impl Abort,
+    alloc: Global,
+    steps: &'a Steps<'a>,
+    setup: &Setup,
+) -> Result<SimEnd<'a>, Fail> {
+    assert!(rt; setup.threads >= 1 && setup.threads <= 16);
+    assert!(rt; setup.limits.cpus > 0 && setup.limits.migrate > 0);
+    assert!(rt; setup.size >= 72 && setup.size <= 1_048_576);
+    assert!(rt; setup.threads <= setup.max && setup.max <= 1_024);
+    assert!(rt; count_lines(TRACED) < 100);
+    let script = read_script(alloc, TRACED, steps.image(), setup.threads)?;
+    let schedule = read_schedule(alloc, b"", setup.threads)?;
+    Ok(SimStart::new(alloc, steps, &script, setup)?.play(&schedule))
 }
 
-/// Lines that are no turns, and texts that have them.
-const SYNTAX: [(u32, &[u8]); 9] = [
-    (1, b"p 0"),
-    (1, b"t 1"),
-    (1, b"t 1 1 1"),
-    (1, b"p"),
-    (1, b"go"),
-    (1, b"p 4294967296"),
-    (1, b"t x 0"),
-    (2, b"p 1\np -1\nt 3 1"),
-    (3, b"\n# \xff\np 1 \xff"),
-];
+/// Whether all threads of a replay with this setup return. A thread makes two passings.
+fn all_return(rt: &impl Abort, alloc: Global, setup: &Setup) -> Result<bool, Fail> {
+    let image = read_image(alloc, &OUTPUTS_AN_A)?;
+    let steps = Steps::new(alloc, &image)?;
+    let end = replay_of(rt, alloc, &steps, setup)?;
+    let returned = |cpu: &Cpu| matches!(cpu.want(), Want::Done(End::Returned));
+    Ok(end.cpus.len() == setup.threads as usize && end.cpus.iter().all(returned))
+}
 
-/// Lines that name none of two threads, and texts that have them.
-const THREAD: [(u32, &[u8]); 3] = [(1, b"t 3 1"), (1, b"t 0 1\np 0"), (2, b"p 1\r\nt x 1")];
+/// The most lines of a schedule.
+const MOST_LINES: u32 = 1_048_576;
 
-#[test]
-fn a_text_is_refused_by_its_first_fault(rt: HostRuntime) {
-    for (line, text) in &SYNTAX {
-        let fault = read_schedule(rt.alloc(), text, 2).err();
-        check_same(&rt, &fault, &Some(ScheduleFault::Syntax(*line)));
+/// Whether a text of `lines` lines is read as that many turns.
+fn reads_all_lines(alloc: Global, lines: u32) -> Result<bool, Fail> {
+    let mut text = Vec::new(alloc);
+    for _ in 0..lines {
+        text.extend_from_slice(b"p 1\n")?;
     }
-    for (line, text) in &THREAD {
-        let fault = read_schedule(rt.alloc(), text, 2).err();
-        check_same(&rt, &fault, &Some(ScheduleFault::Thread(*line)));
-    }
+    Ok(read_schedule(alloc, &text, 1)?.lines().len() == lines as usize)
 }
-
-/// A text of `lines` lines, with these bytes in its first line.
-fn lines_of(alloc: Global, first: &[u8], lines: usize) -> Result<Vec<u8>, AllocError> {
-    let mut text = Vec::from_slice(alloc, first)?;
-    text.extend_from_slice(&vec![in alloc; b'\n'; lines]?)?;
-    Ok(text)
-}
-
-/// First lines, numbers of lines, and why such a text is refused, if it is.
-const LENGTHS: [(&[u8], usize, Option<ScheduleFault>); 3] = [
-    (b"p 1", 1_048_576, None),
-    (b"p 0", 1_048_576, Some(ScheduleFault::Syntax(1))),
-    (b"p 0", 1_048_577, Some(ScheduleFault::Limit)),
-];
 
 #[test]
-fn a_text_has_at_most_1048576_lines(rt: HostRuntime) -> Result<(), Fail> {
-    for (first, lines, expected) in &LENGTHS {
-        let text = lines_of(rt.alloc(), first, *lines)?;
-        check_same(&rt, &read_schedule(rt.alloc(), &text, 1).err(), expected);
+fn replays_and_schedules_of_each_size_are_made(rt: HostRuntime) -> Result<(), Fail> {
+    let alloc = rt.alloc();
+    for (threads, size, max) in [
+        (1, 72, 1),
+        (16, 72, 16),
+        (16, 65_519, 1_024),
+        (1, 1_048_576, 63),
+    ] {
+        let setup = Setup {
+            threads,
+            size,
+            max,
+            ..DEFAULT_SETUP
+        };
+        assert!(rt; all_return(&rt, alloc, &setup)?);
+    }
+    assert!(rt; reads_all_lines(alloc, MOST_LINES)?);
+    let mut seed = 1;
+    for _ in 0..8 {
+        let threads = draw(&mut seed, 16) + 1;
+        let size = 72 + draw(&mut seed, 65_536);
+        let max = (16 + draw(&mut seed, 1_009)).min(ROOM / 4 / size);
+        let passings = 2 + draw(&mut seed, 1_048_575);
+        let setup = Setup {
+            threads,
+            size,
+            max,
+            limits: Limits {
+                passings,
+                ..DEFAULT_LIMITS
+            },
+            ..DEFAULT_SETUP
+        };
+        assert!(rt; all_return(&rt, alloc, &setup)?);
+        assert!(rt; reads_all_lines(alloc, draw(&mut seed, 16_384))?);
     }
     Ok(())
 }

@@ -1,4 +1,5 @@
-//! Calls of `patch_script`: scripts for one small image, which are refused and where, and the micro steps of the others.
+//! Calls of `patch_script`: the micro steps of a script for one small image. `whole_runs` has
+//! refusals.
 
 use crate::checks::check_same;
 use example_images::OUTPUTS_AN_A;
@@ -16,57 +17,9 @@ fn script_of(alloc: Global, text: &[u8], image: &Image) -> Result<Script, Script
     read_script(alloc, text, image, 1)
 }
 
-/// Why the text isn't a script.
-fn fault_of(alloc: Global, text: &[u8], image: &Image) -> Option<ScriptFault> {
-    match script_of(alloc, text, image) {
-        Ok(_) => None,
-        Err(fault) => Some(fault),
-    }
-}
-
 /// The micro step of a store.
 fn store(word: u32, value: u64) -> Micro {
     Micro::Store { word, value }
-}
-
-/// Texts, and why they aren't scripts, if they aren't. `whole_runs` has more refusals.
-const FAULTS: [(&[u8], Option<ScriptFault>); 8] = [
-    (b"go\nrelease 2\n", Some(ScriptFault::Thread(2))),
-    (b"hold 1 0\nhold 1 0\ngo\n", Some(ScriptFault::Hold(2))),
-    (b"patch_function 0", Some(ScriptFault::Function(1))),
-    (b"patch\xFF\n", Some(ScriptFault::Syntax(1))),
-    (b"hold 1 3\ngo\nawait 1 3\nrelease 1\n", None),
-    (b"hold 1 3\ngo\nrelease 1\nawait 1 5\n", None),
-    (b"init\ngo\nfinalize\n", None),
-    (b"# traced\n\n patch_function 01\t# main\r\ngo", None),
-];
-
-#[test]
-fn the_first_fault_of_a_script_is_reported(rt: HostRuntime) -> Result<(), Fail> {
-    let image = read_image(rt.alloc(), &OUTPUTS_AN_A)?;
-    for (text, expected) in &FAULTS {
-        check_same(&rt, &fault_of(rt.alloc(), text, &image), expected);
-    }
-    Ok(())
-}
-
-#[test]
-fn a_script_has_at_most_1024_commands(rt: HostRuntime) -> Result<(), Fail> {
-    let image = read_image(rt.alloc(), &OUTPUTS_AN_A)?;
-    let mut text = Vec::new(rt.alloc());
-    for _ in 0..1023 {
-        text.extend_from_slice(b"patch\n")?;
-    }
-    text.extend_from_slice(b"go\n# and no more\n")?;
-    let script = script_of(rt.alloc(), &text, &image)?;
-    check_same(&rt, &script.total(), &8184);
-    text.extend_from_slice(b"what\n")?;
-    check_same(
-        &rt,
-        &fault_of(rt.alloc(), &text, &image),
-        &Some(ScriptFault::Limit(1026)),
-    );
-    Ok(())
 }
 
 #[test]

@@ -1,23 +1,18 @@
 //! Calls of `fdr_file`: files byte by byte, as the format says, and each refusal.
 
-ghost use Rattle.std.specs.Prelude.{◌≡◌, All, IsTrue, IfOk};
-
 use crate::checks::{check_same, check_same_at, check_same_list};
-use fdr_buffer::Buffer;
 use fdr_file::*;
 use fdr_record::{Event, Kind, RecFault};
 use std::alloc::{AllocError, Global};
 use std::process::Abort;
 use std::test::Fail;
-use xray_io::{MemSink, Wall, WriteFault};
+use xray_io::Wall;
 
 /// A header with a constant and nonstop counter, and with buffers of 16,384 bytes.
 const HEADER: &[u8] = b"\x03\0\x01\0\x03\0\0\0\0\0\0\0\0\0\0\0\0\x40\0\0\0\0\0\0\0\0\0\0\0\0\0\0";
 
-/// Extents of 72, 48, 80 and 96 bytes.
+/// Extents of 72, 80 and 96 bytes.
 const EXTENTS_72: &[u8] = b"\x0F\x48\0\0\0\0\0\0\0\0\0\0\0\0\0\0";
-
-const EXTENTS_48: &[u8] = b"\x0F\x30\0\0\0\0\0\0\0\0\0\0\0\0\0\0";
 
 const EXTENTS_80: &[u8] = b"\x0F\x50\0\0\0\0\0\0\0\0\0\0\0\0\0\0";
 
@@ -129,14 +124,6 @@ fn check_one_block(
     check_file(rt, alloc, bytes, &HEADER_FIELDS, 1, (1, EPOCH, 1), events)
 }
 
-#[test]
-fn a_file_is_read_byte_by_byte(rt: HostRuntime) -> Result<(), Fail> {
-    let bytes = one_block(rt.alloc())?;
-    check_same(&rt, &bytes.len(), &128);
-    let events = [event(0, 1, Kind::Entry, 0), event(0, 1, Kind::Exit, 2)];
-    check_one_block(&rt, rt.alloc(), &bytes, &events)
-}
-
 /// CPU 0 at the last counter, and CPU 1 at counter 2.
 const CPU_AT_LAST: &[u8] = b"\x05\0\0\xFF\xFF\xFF\xFF\xFF\xFF\xFF\xFF\0\0\0\0\0";
 
@@ -151,7 +138,11 @@ const WRAP_TO_2_32: &[u8] = b"\x07\0\0\0\0\x01\0\0\0\0\0\0\0\0\0\0";
 const EXIT: &[u8] = b"\x12\0\0\0\0\0\0\0";
 
 /// The parts of a block of two events, and these events.
-const DELTAS: [(&[&[u8]], [Said; 2]); 5] = [
+const DELTAS: [(&[&[u8]], [Said; 2]); 6] = [
+    (
+        &[EXTENTS_80, PREAMBLE, CPU, ENTRY, EXIT_AFTER_2],
+        [(0, 1, Kind::Entry, 0), (0, 1, Kind::Exit, 2)],
+    ),
     (
         &[EXTENTS_96, PREAMBLE, CPU, ENTRY, WRAP_TO_2_32, EXIT],
         [(0, 1, Kind::Entry, 0), (0, 1, Kind::Exit, 1 << 32)],
@@ -258,10 +249,10 @@ fn a_file_cut_inside_its_header_or_a_block_is_short(rt: HostRuntime) -> Result<(
     Ok(())
 }
 
-/// A file as LLVM's runtime lays it out. It has flags of which only two have a meaning, a
-/// frequency, reserved bytes and blocks of two threads. The bytes after the fields of its metadata
-/// records were never cleared. One buffer was begun and has no event.
-const OF_LLVM: [&[u8]; 9] = [
+/// A file of version 3, laid out as LLVM's runtime does it. It has flags of which only two have a
+/// meaning, a frequency, reserved bytes and blocks of two threads. The bytes after the fields of its
+/// metadata records were never cleared. One buffer was begun and has no event.
+const AS_LLVM: [&[u8]; 9] = [
     b"\x03\0\x01\0\x02\0\0\x80\0\x5E\xD0\xB2\0\0\0\0\0\0\x01\0\0\0\0\0ABCDEFGH",
     b"\x0F\x30\0\0\0\0\0\0\0ABCDEFG",
     PREAMBLE,
@@ -274,7 +265,7 @@ const OF_LLVM: [&[u8]; 9] = [
 ];
 
 #[test]
-fn a_file_of_llvms_runtime_is_read(rt: HostRuntime) -> Result<(), Fail> {
+fn a_version_3_file_in_the_runtimes_layout_is_read(rt: HostRuntime) -> Result<(), Fail> {
     let header = Header {
         version: 3,
         constant: false,
@@ -291,117 +282,9 @@ fn a_file_of_llvms_runtime_is_read(rt: HostRuntime) -> Result<(), Fail> {
         event(3, 6, Kind::Entry, 22),
         event(3, 6, Kind::Exit, 22),
     ];
-    let bytes = file(rt.alloc(), &OF_LLVM)?;
+    let bytes = file(rt.alloc(), &AS_LLVM)?;
     let begun = (12_345, wall, 1_000);
     check_file(&rt, rt.alloc(), &bytes, &header, 2, begun, &events)
-}
-
-#[test]
-fn a_buffer_without_an_event_is_a_block_without_one(rt: HostRuntime) -> Result<(), Fail> {
-    let bytes = file(rt.alloc(), &[HEADER, EXTENTS_48, PREAMBLE])?;
-    check_one_block(&rt, rt.alloc(), &bytes, &[])
-}
-
-/// A buffer of thread 1 with these events.
-fn filled(
-    rt: &impl Abort,
-    alloc: Global,
-    wall: Wall,
-    pid: u32,
-    events: &[Event],
-) -> Result<Buffer, Fail>
-    ensures { IfOk result (λ buffer. IsTrue buffer.begun) }
-{
-    let mut buffer = Buffer::new(alloc, 128)?;
-    buffer.begin(1, 0, wall, pid);
-    for event in events {
-        assert!(rt; buffer.begun() && buffer.fits(event) && event.func < 1 << 28);
-        buffer.put(event);
-    }
-    assert!(rt; buffer.begun());
-    Ok(buffer)
-}
-
-/// The file of buffers.
-fn written(alloc: Global, header: &Header, buffers: &[Buffer]) -> Result<MemSink, Fail>
-    requires version { header.now.version ≡ 3 }
-    requires begun { All (λ buffer. IsTrue buffer.begun) buffers.now }
-{
-    let mut sink = MemSink::new(alloc, Vec::new(alloc));
-    write_file(header, buffers, &mut sink)?;
-    Ok(sink)
-}
-
-/// The parts of a file of three buffers. The second one has one event, and the third one has none.
-const PARTS: [&[u8]; 12] = [
-    HEADER,
-    EXTENTS_80,
-    PREAMBLE,
-    CPU,
-    ENTRY,
-    EXIT_AFTER_2,
-    EXTENTS_72,
-    PREAMBLE,
-    CPU_AT_2,
-    EXIT,
-    EXTENTS_48,
-    PREAMBLE,
-];
-
-#[test]
-fn a_file_is_written_byte_by_byte(rt: HostRuntime) -> Result<(), Fail> {
-    let events = [event(0, 1, Kind::Entry, 0), event(0, 1, Kind::Exit, 2)];
-    let first = filled(&rt, rt.alloc(), EPOCH, 1, &events)?;
-    let second = filled(&rt, rt.alloc(), EPOCH, 1, &events[1..])?;
-    let none = filled(&rt, rt.alloc(), EPOCH, 1, &[])?;
-    let sink = written(rt.alloc(), &HEADER_FIELDS, &[first, second, none])?;
-    check_same_list(&rt, sink.bytes(), &file(rt.alloc(), &PARTS)?);
-    Ok(())
-}
-
-#[test]
-fn a_header_is_written_byte_by_byte(rt: HostRuntime) -> Result<(), Fail> {
-    let header = Header {
-        version: 3,
-        constant: false,
-        nonstop: true,
-        frequency: 0x0102_0304_0506_0708,
-        size: 72,
-    };
-    let sink = written(rt.alloc(), &header, &[])?;
-    let wanted =
-        b"\x03\0\x01\0\x02\0\0\0\x08\x07\x06\x05\x04\x03\x02\x01\x48\0\0\0\0\0\0\0\0\0\0\0\0\0\0\0";
-    check_same_list(&rt, sink.bytes(), wanted);
-    Ok(())
-}
-
-#[test]
-fn a_write_that_fails_is_reported(rt: HostRuntime) -> Result<(), Fail> {
-    let mut sink = MemSink::new(rt.alloc(), vec![in rt.alloc(); 0]?);
-    check_same(
-        &rt,
-        &write_file(&HEADER_FIELDS, &[], &mut sink),
-        &Err(WriteFault),
-    );
-    assert!(rt; sink.bytes().is_empty());
-    Ok(())
-}
-
-#[test]
-fn what_is_written_reads_back(rt: HostRuntime) -> Result<(), Fail> {
-    let wall = Wall {
-        secs: u64::MAX,
-        micros: 999_999,
-    };
-    let events = [
-        event(258, 7, Kind::Entry, u64::MAX),
-        event(258, (1 << 28) - 1, Kind::TailExit, 0),
-        event(258, 7, Kind::Exit, u32::MAX as u64),
-    ];
-    let buffer = filled(&rt, rt.alloc(), wall, 0x0102_0304, &events)?;
-    let sink = written(rt.alloc(), &HEADER_FIELDS, &[buffer])?;
-    let (alloc, begun) = (rt.alloc(), (1, wall, 0x0102_0304));
-    check_file(&rt, alloc, sink.bytes(), &HEADER_FIELDS, 1, begun, &events)
 }
 
 #[test]

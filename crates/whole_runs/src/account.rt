@@ -119,66 +119,80 @@ const VERSION_2: &[u8] =
 
 const TYPE_0: &[u8] = b"\x03\0\0\0\x03\0\0\0\0\0\0\0\0\0\0\0\0\x40\0\0\0\0\0\0\0\0\0\0\0\0\0\0";
 
-/// The parts of what is no trace, and the line on err.
-const REFUSALS: [(&[&[u8]], &str); 11] = [
-    (&[CUT_HEADER], "xray: t: trace Short 0\n"),
-    (&[VERSION_2], "xray: t: trace Version 2\n"),
-    (&[TYPE_0], "xray: t: trace Form 0\n"),
+/// The parts of a trace, words, the status, and the line on err.
+type Refusal = (&'static [&'static [u8]], &'static str, u8, &'static str);
+
+/// What is refused if the image is cut. The trace is refused before it, and a bad line before both.
+const REFUSALS: [Refusal; 18] = [
+    (&[CUT_HEADER], "account t i", 2, "xray: t: trace Short 0\n"),
+    (&[VERSION_2], "account t i", 2, "xray: t: trace Version 2\n"),
+    (&[TYPE_0], "account t i", 2, "xray: t: trace Form 0\n"),
     (
         &[HEADER, b"\x0F\x50\0\0\0\0\0\0"],
+        "account t i",
+        2,
         "xray: t: trace Short 32\n",
     ),
-    (&[HEADER, EXTENTS_80, PREAMBLE], "xray: t: trace Short 32\n"),
-    (&[HEADER, PREAMBLE], "xray: t: trace Order 32\n"),
+    (
+        &[HEADER, EXTENTS_80, PREAMBLE],
+        "account t i",
+        2,
+        "xray: t: trace Short 32\n",
+    ),
+    (
+        &[HEADER, PREAMBLE],
+        "account t i",
+        2,
+        "xray: t: trace Order 32\n",
+    ),
     (
         &[HEADER, EXTENTS_80, CPU, CPU, CPU, CPU, CPU],
+        "account t i",
+        2,
         "xray: t: trace Order 48\n",
     ),
     (
         &[HEADER, b"\x0F\x2F\0\0\0\0\0\0\0\0\0\0\0\0\0\0"],
+        "account t i",
+        2,
         "xray: t: trace Extents 32\n",
     ),
     (
         &[HEADER, b"\x06\0\0\0\0\0\0\0", EXIT],
+        "account t i",
+        2,
         "xray: t: trace Bad 32 Action 3\n",
     ),
     (
         &[HEADER, EXTENTS_72, PREAMBLE, b"\x11\0\0\0\0\0\0\0", CPU],
+        "account t i",
+        2,
         "xray: t: trace Bad 96 Kind 8\n",
     ),
     (
         &[HEADER, EXTENTS_72, PREAMBLE, ENTRY, CPU],
+        "account t i",
+        2,
         "xray: t: trace NoBase 96\n",
     ),
+    (&ONE_CALL, "account t i", 2, "xray: i: image Short\n"),
+    (
+        &ONE_CALL,
+        "account i i",
+        2,
+        "xray: i: trace Version 21080\n",
+    ),
+    (&ONE_CALL, "account t m", 3, "xray: m: read fault\n"),
+    (&ONE_CALL, "account m i", 3, "xray: m: read fault\n"),
+    (&ONE_CALL, "account t i t", 1, BAD_LINE),
+    (&ONE_CALL, "account", 1, BAD_LINE),
+    (&ONE_CALL, "account t --sort name", 1, BAD_LINE),
 ];
 
 #[test]
-fn what_is_no_trace_leaves_nothing_on_out(rt: HostRuntime) -> Result<(), Fail> {
-    for (parts, line) in &REFUSALS {
-        let mut desk = trace_desk(rt.alloc(), parts, &IMAGE)?;
-        let run = run_line(&rt, "account t i", &mut desk)?;
-        assert_stopped(&rt, &run, 2, line);
-    }
-    Ok(())
-}
-
-/// Words, the status, and the line on err.
-const ORDER: [(&str, u8, &str); 7] = [
-    ("account t i", 2, "xray: i: image Short\n"),
-    ("account i i", 2, "xray: i: trace Version 21080\n"),
-    ("account t m", 3, "xray: m: read fault\n"),
-    ("account m i", 3, "xray: m: read fault\n"),
-    ("account t i t", 1, BAD_LINE),
-    ("account", 1, BAD_LINE),
-    ("account t --sort name", 1, BAD_LINE),
-];
-
-#[test]
-fn an_image_is_refused_after_the_trace_and_a_bad_line_before_it(
-    rt: HostRuntime,
-) -> Result<(), Fail> {
-    for (words, status, line) in &ORDER {
-        let mut desk = trace_desk(rt.alloc(), &ONE_CALL, &IMAGE[..63])?;
+fn what_is_refused_leaves_nothing_on_out(rt: HostRuntime) -> Result<(), Fail> {
+    for (parts, words, status, line) in &REFUSALS {
+        let mut desk = trace_desk(rt.alloc(), parts, &IMAGE[..63])?;
         let run = run_line(&rt, words, &mut desk)?;
         assert_stopped(&rt, &run, *status, line);
     }

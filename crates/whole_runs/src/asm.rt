@@ -1,8 +1,8 @@
 //! `asm`, and what the other commands do with the images that it writes.
 use crate::checks::check_same_at;
 use crate::runs::{
-    End, IMAGE, MOVED, SCHEDULE, SCRIPT, STARTED, STATE, assert_held, assert_left, assert_length,
-    assert_stopped, run_line, text_of_end,
+    End, IMAGE, MOVED, STARTED, assert_held, assert_left, assert_length, assert_stopped, run_line,
+    text_of_end,
 };
 use std::alloc::Global;
 use std::process::Abort;
@@ -200,18 +200,6 @@ fn five_texts_become_images_that_run_and_have_their_sleds(rt: HostRuntime) -> Re
     Ok(())
 }
 
-#[test]
-fn an_assembled_image_is_replayed(rt: HostRuntime) -> Result<(), Fail> {
-    let mut desk = text_desk(rt.alloc(), &[], STRAIGHT_LINE.as_bytes())?;
-    desk.put("s", SCRIPT.as_bytes())?;
-    desk.put("c", SCHEDULE.as_bytes())?;
-    assert_done(&rt, "asm t i", &mut desk, "")?;
-    assert_held(&rt, desk.get("i"), &IMAGE);
-    assert_held(&rt, desk.get("t"), STRAIGHT_LINE.as_bytes());
-    let replayed = format!(in rt.alloc(); "{STATE}marks n1 .1\n")?;
-    assert_done(&rt, "sim i s c n a", &mut desk, &replayed)
-}
-
 /// Words, and the length of the image of a function with one instruction line.
 const THRESHOLDS: [(&str, usize); 5] = [
     ("asm t i", 161),
@@ -245,14 +233,39 @@ fn assert_refused<R: Abort + Threads + Wait + Sync + AllocGlobal>(
 }
 
 /// Texts, and the lines on err.
-const REFUSALS: [(&str, &str); 7] = [
+const REFUSALS: [(&str, &str); 29] = [
+    ("", "xray: t: text Syntax 1\n"),
     ("mov eax, 1", "xray: t: text Syntax 1\n"),
     ("fn a", "xray: t: text Syntax 2\n"),
+    ("fn a\n", "xray: t: text Syntax 2\n"),
+    ("fn a\nfn b\nret", "xray: t: text Syntax 2\n"),
+    ("fn a\nret\nbase 16", "xray: t: text Syntax 3\n"),
+    ("base 16\nbase 16\nfn a\nret", "xray: t: text Syntax 2\n"),
+    ("entry a\nentry a\nfn a\nret", "xray: t: text Syntax 2\n"),
+    ("x:\nfn a\nret", "xray: t: text Syntax 1\n"),
+    ("fn a\nmov eax,1\nret", "xray: t: text Syntax 2\n"),
+    ("fn a\nout 0X1\nret", "xray: t: text Syntax 2\n"),
+    ("fn a\nout 18446744073709551616", "xray: t: text Syntax 2\n"),
+    ("fn 1a\nret", "xray: t: text Syntax 1\n"),
+    ("fn a\nb: ret", "xray: t: text Syntax 2\n"),
+    ("fn a\nret\r", "xray: t: text Syntax 2\n"),
+    ("mov r10d, 1", "xray: t: text Syntax 1\n"),
     ("fn a\nmov r10d, 1\nret", "xray: t: text Register 2\n"),
+    (
+        "fn a\nmov r10d, 99999999999\nret",
+        "xray: t: text Register 2\n",
+    ),
+    ("fn a\nadd rax, esp\nret", "xray: t: text Register 2\n"),
     ("base 0x1001\nfn a\nret", "xray: t: text Range 1\n"),
+    ("base 0x7FFF00000010\nfn a\nret", "xray: t: text Range 1\n"),
     ("fn a\nout 256\nret", "xray: t: text Range 2\n"),
+    ("fn a\nmov eax, 0x100000000\nret", "xray: t: text Range 2\n"),
     ("fn a\nret\nfn a\nret", "xray: t: text Repeat 3\n"),
+    ("fn a\nret\na:\nret", "xray: t: text Repeat 3\n"),
     ("fn a\njmp b\nret", "xray: t: text Label 2\n"),
+    ("fn a\ntailjmp b\nret", "xray: t: text Label 2\n"),
+    ("entry b\nfn a\nb:\nret", "xray: t: text Label 1\n"),
+    ("fn a\njmp b\nret\nb:", "xray: t: text Label 4\n"),
 ];
 
 #[test]
@@ -307,16 +320,5 @@ fn a_text_may_be_as_long_as_its_limit(rt: HostRuntime) -> Result<(), Fail> {
     let run = run_line(&rt, "asm t i", &mut desk)?;
     assert_stopped(&rt, &run, 6, "xray: t: too long\n");
     assert_held(&rt, desk.get("i"), OLD);
-    Ok(())
-}
-
-#[test]
-fn a_text_that_is_not_held_begins_no_image(rt: HostRuntime) -> Result<(), Fail> {
-    let mut desk = text_desk(rt.alloc(), &[], CALL.as_bytes())?;
-    let run = run_line(&rt, "asm q n", &mut desk)?;
-    assert_stopped(&rt, &run, 3, "xray: q: read fault\n");
-    assert!(rt; desk.get("n").is_none());
-    assert_done(&rt, "asm t n", &mut desk, "")?;
-    assert_length(&rt, desk.get("n"), 266);
     Ok(())
 }

@@ -11,7 +11,7 @@ mod bad_lines;
 #[cfg(test)]
 mod checks;
 #[cfg(test)]
-mod first_run;
+mod faults;
 #[cfg(test)]
 mod gates;
 #[cfg(test)]

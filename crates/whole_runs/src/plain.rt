@@ -1,7 +1,7 @@
 //! `plain` and `extract`, their options, and the refusals of their image.
 use crate::runs::{
-    End, IMAGE, MOVED, SCHEDULE, SCRIPT, STATE, assert_left, assert_no_fault, assert_stopped,
-    desk_of, image_desk, run_failing, run_line, text_of_end,
+    End, IMAGE, MOVED, SCHEDULE, assert_left, assert_stopped, desk_of, image_desk, run_failing,
+    run_line, text_of_end,
 };
 use crate::sim::SIM;
 use example_images::CALLS;
@@ -9,19 +9,6 @@ use std::process::Abort;
 use std::sync::Wait;
 use std::test::Fail;
 use std::thread::Threads;
-
-/// The sled map of the image.
-const SLED_MAP: &str = "---\n\
-    - { id: 1, address: 0x0000000000001000, function: 0x0000000000001000, kind: function-enter, \
-    always-instrument: true, function-name: 'main' }\n\
-    - { id: 1, address: 0x0000000000001012, function: 0x0000000000001000, kind: function-exit, \
-    always-instrument: true, function-name: 'main' }\n\
-    ...\n";
-
-/// What thread 2 leaves. It finds another number in rdi.
-const SECOND: &str = "thread 2 returned instructions 3 passings 2\n\
-    rax=41 rcx=0 rdx=0 rbx=0 rbp=0 rsi=0 rdi=2 r8=0 r9=0 r11=0 r12=0 r13=0 r14=0 r15=0 zf=0\n\
-    output 41\n";
 
 /// A file with the code `41 BA 01 00 00 00 C3`, a `mov` to register 10, in one function without
 /// sleds.
@@ -61,32 +48,6 @@ fn a_plain_run_ends_where_it_returns_or_at_a_limit(rt: HostRuntime) -> Result<()
     for (line, end) in &ENDS {
         assert_prints(&rt, line, &text_of_end(rt.alloc(), end)?)?;
     }
-    Ok(())
-}
-
-#[test]
-fn threads_are_printed_in_the_order_of_their_numbers(rt: HostRuntime) -> Result<(), Fail> {
-    let both = format!(in rt.alloc(); "{STATE}{SECOND}")?;
-    assert_prints(&rt, "plain --threads 2 i", &both)
-}
-
-#[test]
-fn the_sled_map_is_printed_in_the_order_of_the_file(rt: HostRuntime) -> Result<(), Fail> {
-    assert_prints(&rt, "extract i", SLED_MAP)
-}
-
-#[test]
-fn options_stand_anywhere_before_two_dashes(rt: HostRuntime) -> Result<(), Fail> {
-    assert_prints(&rt, "plain --fuel=+0010 i --threads 1", STATE)?;
-    assert_prints(&rt, "plain --fuel=1000000000 -- i", STATE)?;
-    assert_prints(&rt, "extract -- i", SLED_MAP)
-}
-
-#[test]
-fn two_dashes_and_a_schedule_replay(rt: HostRuntime) -> Result<(), Fail> {
-    let mut desk = desk_of(rt.alloc(), &[], &IMAGE, SCRIPT, SCHEDULE)?;
-    let run = run_line(&rt, "sim i -- s c t a", &mut desk)?;
-    assert_no_fault(&rt, &run);
     Ok(())
 }
 
@@ -134,23 +95,6 @@ fn an_image_is_refused_with_the_values_of_its_fault(rt: HostRuntime) -> Result<(
     assert_all_stop(&rt, &past, 2, "xray: i: image Target 11\n")?;
     assert_all_stop(&rt, &far, 2, "xray: i: image Far 0\n")?;
     assert_all_stop(&rt, &IMAGE[..63], 2, "xray: i: image Short\n")
-}
-
-/// A call and two returns are counted as instructions, and the four sleds as passings.
-#[test]
-fn an_image_with_a_call_is_run(rt: HostRuntime) -> Result<(), Fail> {
-    let mut desk = image_desk(rt.alloc(), &CALLS)?;
-    let run = run_line(&rt, "plain i", &mut desk)?;
-    assert_no_fault(&rt, &run);
-    let line = "thread 1 returned instructions 3 passings 4\n";
-    assert!(rt; run.out.as_str().starts_with(line), "{}", run.out);
-    Ok(())
-}
-
-#[test]
-fn an_image_that_is_not_held_is_a_read_fault(rt: HostRuntime) -> Result<(), Fail> {
-    assert_stops(&rt, "plain q", &IMAGE, 3, "xray: q: read fault\n")?;
-    assert_stops(&rt, "extract q", &IMAGE, 3, "xray: q: read fault\n")
 }
 
 #[test]

@@ -1,8 +1,8 @@
 //! `run`: threads beside a script, and what is left of them.
 use crate::asm::{CALL, FIBONACCI};
 use crate::checks::check_same;
-use crate::runs::{assert_length, assert_made, assert_no_fault, assert_stopped, run_line};
-use crate::sim::{SIM, TRACED};
+use crate::runs::{assert_length, assert_made, assert_no_fault, run_line};
+use crate::sim::TRACED;
 use std::process::Abort;
 use std::sync::Wait;
 use std::test::Fail;
@@ -39,33 +39,83 @@ pub fn has_line(text: &str, line: &str) -> bool {
     false
 }
 
-/// Checks that four threads of the recursion leave a trace of this length, and this many lost segments.
-fn assert_recursion<R: Abort + Threads + Wait + Sync + AllocGlobal>(
+/// A text, options, the length of the trace, the last line of the audit, and how the last thread
+/// ends.
+type Left = (
+    &'static str,
+    &'static str,
+    usize,
+    &'static str,
+    &'static str,
+);
+
+/// How the last of four threads of the recursion ends.
+const FOURTH: &str = "thread 4 returned instructions 213132 passings 43782";
+
+const LEFT: [Left; 6] = [
+    // Buffers for all segments, and for some.
+    (FIBONACCI, "--threads 4", 1_408_096, "recycled 0", FOURTH),
+    (
+        FIBONACCI,
+        "--threads 4 --buffer-max 64",
+        1_014_496,
+        "recycled 24",
+        FOURTH,
+    ),
+    // Each thread has four segments, in blocks of 88 bytes. There is one spare buffer, or none.
+    (
+        CALL,
+        "--threads 2 --buffer-size 72 --buffer-max 3",
+        296,
+        "recycled 5",
+        "thread 2 returned instructions 3 passings 4",
+    ),
+    (
+        CALL,
+        "--threads 1 --buffer-size 72 --buffer-max 2",
+        208,
+        "recycled 2",
+        "thread 1 returned instructions 3 passings 4",
+    ),
+    (
+        CALL,
+        "--threads 2 --buffer-size 72 --buffer-max 2",
+        208,
+        "recycled 6",
+        "thread 2 returned instructions 3 passings 4",
+    ),
+    (
+        CALL,
+        "--threads 16 --buffer-size 72 --buffer-max 17",
+        1528,
+        "recycled 47",
+        "thread 16 returned instructions 3 passings 4",
+    ),
+];
+
+/// Checks what threads that record all their passings leave.
+fn assert_leaves<R: Abort + Threads + Wait + Sync + AllocGlobal>(
     rt: &R,
-    options: &str,
-    len: usize,
-    recycled: &str,
+    row: &Left,
 ) -> Result<(), Fail> {
-    let mut desk = desk_with(rt, FIBONACCI, TRACED)?;
+    let (text, options, len, recycled, last) = *row;
+    let mut desk = desk_with(rt, text, TRACED)?;
     let line = format!(in rt.alloc(); "{RUN} {options}")?;
     let run = run_line(rt, &line, &mut desk)?;
     assert_no_fault(rt, &run);
     assert_length(rt, desk.get("t"), len);
     let audit = std::str::from_utf8(desk.get("a").ok_or("no audit")?)?;
     assert!(rt; has_line(audit, recycled), "{audit}");
-    assert!(rt;
-        has_line(
-            run.out.as_str(),
-            "thread 4 returned instructions 213132 passings 43782"
-        )
-    );
+    assert!(rt; has_line(run.out.as_str(), last), "{}", run.out);
     Ok(())
 }
 
 #[test]
-fn four_threads_keep_all_segments_or_the_last_ones(rt: HostRuntime) -> Result<(), Fail> {
-    assert_recursion(&rt, "--threads 4", 1_408_096, "recycled 0")?;
-    assert_recursion(&rt, "--threads 4 --buffer-max 64", 1_014_496, "recycled 24")
+fn threads_keep_all_segments_or_the_last_ones(rt: HostRuntime) -> Result<(), Fail> {
+    for row in &LEFT {
+        assert_leaves(&rt, row)?;
+    }
+    Ok(())
 }
 
 /// The records of a trace with one buffer.
@@ -87,14 +137,5 @@ fn a_held_thread_has_the_same_marks_and_bytes_in_every_run(rt: HostRuntime) -> R
         assert_length(&rt, desk.get("t"), 128);
         check_same(&rt, &records_of(&desk), &Some(HELD_RECORDS));
     }
-    Ok(())
-}
-
-#[test]
-fn a_script_that_waits_is_refused_under_sim_alone(rt: HostRuntime) -> Result<(), Fail> {
-    let mut desk = desk_with(&rt, CALL, HELD)?;
-    desk.put("c", b"")?;
-    let run = run_line(&rt, SIM, &mut desk)?;
-    assert_stopped(&rt, &run, 2, "xray: s: script Waits 3\n");
     Ok(())
 }

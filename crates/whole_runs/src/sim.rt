@@ -57,9 +57,13 @@ fn assert_marks<R: Abort + Threads + Wait + Sync + AllocGlobal>(
 }
 
 /// Scripts, schedules, and the marks of thread 1.
-const MARKS: [(&str, &str, &str); 10] = [
+const MARKS: [(&str, &str, &str); 19] = [
     (TRACED, "", "+2"),
     ("go", "", ".2"),
+    // Both sleds are unpatched after the start.
+    (SCRIPT, SCHEDULE, "n1 .1"),
+    (SCRIPT, "", "n2"),
+    (SCRIPT, "p 2\n", ".2"),
     // The head of the entry sled is loaded. Then both sleds are unpatched, and the rest is
     // loaded.
     (
@@ -75,33 +79,33 @@ const MARKS: [(&str, &str, &str); 10] = [
     ("go\nunpatch", "p 2", ".2"),
     ("patch\nunpatch\ngo", "", ".2"),
     ("patch\nunpatch_function 1\npatch_function 01\ngo", "", "n2"),
+    // There is no handler, or the log isn't initialized.
+    ("patch\ninit\ngo\n", "", "n2"),
+    ("patch\nset_handler\ngo\n", "", "f2"),
+    ("patch\nset_handler\ninit\nfinalize\ngo\n", "", "f2"),
+    // The handler is removed, or the log finalized, between the two sleds.
+    (
+        "patch\nset_handler\ninit\ngo\nremove_handler\n",
+        "t 1 6\np 1",
+        "+1 n1",
+    ),
+    (
+        "patch\nset_handler\ninit\ngo\nfinalize\n",
+        "t 1 6\np 1",
+        "+1 f1",
+    ),
+    // Between the handler's word and the state's, the log is initializing.
+    (
+        "patch\nset_handler\ngo\ninit\n",
+        "t 1 5\np 1\nt 1 1\np 1",
+        "f1 +1",
+    ),
 ];
 
 #[test]
 fn a_schedule_says_between_which_loads_sleds_are_patched(rt: HostRuntime) -> Result<(), Fail> {
     for (script, schedule, marks) in &MARKS {
         assert_marks(&rt, script, schedule, marks)?;
-    }
-    Ok(())
-}
-
-/// Lines before the start and after it, schedules, and the marks of thread 1.
-const HANDLED: [(&str, &str, &str, &str); 6] = [
-    ("init", "", "", "n2"),
-    ("set_handler", "", "", "f2"),
-    ("set_handler\ninit\nfinalize", "", "", "f2"),
-    // The handler is removed, or the log finalized, between the two sleds.
-    ("set_handler\ninit", "remove_handler", "t 1 6\np 1", "+1 n1"),
-    ("set_handler\ninit", "finalize", "t 1 6\np 1", "+1 f1"),
-    // Between the handler's word and the state's, the log is initializing.
-    ("set_handler", "init", "t 1 5\np 1\nt 1 1\np 1", "f1 +1"),
-];
-
-#[test]
-fn marks_tell_of_the_handler_and_the_log(rt: HostRuntime) -> Result<(), Fail> {
-    for (before, following, schedule, marks) in &HANDLED {
-        let script = format!(in rt.alloc(); "patch\n{before}\ngo\n{following}\n")?;
-        assert_marks(&rt, &script, schedule, marks)?;
     }
     Ok(())
 }
@@ -261,24 +265,6 @@ const REFUSALS: [Refusal; 26] = [
     ("go\n\nawait 1 0", "", "s: script Waits 3"),
 ];
 
-#[test]
-fn the_script_is_judged_before_the_schedule_and_waits_after_it(
-    rt: HostRuntime,
-) -> Result<(), Fail> {
-    assert_refused(&rt, SIM, &REFUSALS)
-}
-
-#[test]
-fn longer_scripts_and_schedules_are_refused(rt: HostRuntime) -> Result<(), Fail> {
-    let patches = "patch\n".repeat(rt.alloc(), 1025)?;
-    let turns = "p 0\n".repeat(rt.alloc(), 1_048_577)?;
-    let refusals = [
-        (patches.as_str(), "p 0", "s: script Limit 1025"),
-        ("go", turns.as_str(), "c: schedule Limit"),
-    ];
-    assert_refused(&rt, SIM, &refusals)
-}
-
 /// The words of a replay of three threads.
 const THREE: &str = "sim i s c t a --threads=3";
 
@@ -289,8 +275,12 @@ const REFUSED_TO_THREE: [Refusal; 3] = [
     ("go", "t 4 1", "c: schedule Thread 1"),
 ];
 
+/// The script is judged before the schedule, and whether it waits after that.
 #[test]
-fn scripts_and_schedules_are_read_for_the_number_of_threads(rt: HostRuntime) -> Result<(), Fail> {
+fn scripts_and_schedules_are_refused_for_the_number_of_threads(
+    rt: HostRuntime,
+) -> Result<(), Fail> {
+    assert_refused(&rt, SIM, &REFUSALS)?;
     assert_refused(&rt, THREE, &REFUSED_TO_THREE)?;
     let run = run_image(&rt, THREE, "go", "t 3 1")?;
     assert_no_fault(&rt, &run);
@@ -298,10 +288,17 @@ fn scripts_and_schedules_are_read_for_the_number_of_threads(rt: HostRuntime) -> 
 }
 
 #[test]
-fn a_script_may_have_1024_commands(rt: HostRuntime) -> Result<(), Fail> {
+fn scripts_and_schedules_have_limits(rt: HostRuntime) -> Result<(), Fail> {
     let patches = "patch\n".repeat(rt.alloc(), 1023)?;
     let script = format!(in rt.alloc(); "go\n{patches}")?;
     let state = format!(in rt.alloc(); "{STATE}marks .1 n1\n")?;
     // The last head is that of the exit sled.
-    assert_prints(&rt, SIM, &script, "t 1 1\np 8184", &state)
+    assert_prints(&rt, SIM, &script, "t 1 1\np 8184", &state)?;
+    let longer = "patch\n".repeat(rt.alloc(), 1025)?;
+    let turns = "p 0\n".repeat(rt.alloc(), 1_048_577)?;
+    let refusals = [
+        (longer.as_str(), "p 0", "s: script Limit 1025"),
+        ("go", turns.as_str(), "c: schedule Limit"),
+    ];
+    assert_refused(&rt, SIM, &refusals)
 }

@@ -1,7 +1,7 @@
 //! `stack` and `convert`: their texts, their options, and a trace with calls that go too deep.
 use crate::runs::{IMAGE, assert_stopped, run_line};
 use crate::trace_bytes::{
-    CPU, ENTRY, HEADER, ONE_CALL, PREAMBLE, Printed, RECURSION, assert_printed, trace_desk,
+    CPU, ENTRY, HEADER, NESTED, ONE_CALL, PREAMBLE, Printed, RECURSION, assert_printed, trace_desk,
 };
 use std::test::Fail;
 
@@ -17,12 +17,17 @@ const YAML_OF_ONE_CALL: &str = "---\nheader:\n  version: 3\n  type: 1\n  constan
     - { type: 0, func-id: 1, function: 'main', cpu: 0, thread: 1, process: 1, kind: function-exit, tsc: 2 }\n...\n";
 
 /// The parts of traces, words, and what is printed.
-const PRINTED: [Printed; 5] = [
+const PRINTED: [Printed; 6] = [
     (&ONE_CALL, "stack t i", TEXT_OF_ONE_CALL),
     (
         &RECURSION,
         "stack t --format=flame",
         "#1;#1 25\n#1;#1;#1 10\n",
+    ),
+    (
+        &NESTED,
+        "stack t --format flame",
+        "#1 3\n#1;#2 3\n#1;#2;#3 4\n",
     ),
     (&[HEADER], "stack --format flame t", ""),
     (&ONE_CALL, "convert t i", YAML_OF_ONE_CALL),

@@ -38,6 +38,9 @@ pub const EXTENTS_96: &[u8] = b"\x0F\x60\0\0\0\0\0\0\0\0\0\0\0\0\0\0";
 /// Extents of 104 bytes.
 pub const EXTENTS_104: &[u8] = b"\x0F\x68\0\0\0\0\0\0\0\0\0\0\0\0\0\0";
 
+/// Extents of 112 bytes.
+pub const EXTENTS_112: &[u8] = b"\x0F\x70\0\0\0\0\0\0\0\0\0\0\0\0\0\0";
+
 /// Thread 1, the wall time 0, and process 1.
 pub const PREAMBLE: &[u8] = b"\x01\x01\0\0\0\0\0\0\0\0\0\0\0\0\0\0\
     \x09\0\0\0\0\0\0\0\0\0\0\0\0\0\0\0\
@@ -93,6 +96,21 @@ pub const RECURSION: [&[u8]; 9] = [
     b"\x10\0\0\0\x0A\0\0\0",
     b"\x12\0\0\0\x0A\0\0\0",
     b"\x12\0\0\0\x0F\0\0\0",
+];
+
+/// A file of one block. Function 1 calls function 2, and that calls function 3 and leaves by a tail
+/// jump. The three calls take 10, 7 and 4 cycles.
+pub const NESTED: [&[u8]; 10] = [
+    HEADER,
+    EXTENTS_112,
+    PREAMBLE,
+    CPU,
+    ENTRY,
+    b"\x20\0\0\0\x01\0\0\0",
+    b"\x30\0\0\0\x01\0\0\0",
+    b"\x32\0\0\0\x04\0\0\0",
+    b"\x24\0\0\0\x02\0\0\0",
+    b"\x12\0\0\0\x02\0\0\0",
 ];
 
 /// A file of one block. Function 2 is called for 1 cycle, and function 1 for 5.

@@ -432,16 +432,32 @@ fn a_call_of_the_desk_that_fails_leaves_later_outputs_untouched(
     Ok(())
 }
 
-/// The second append of one byte fails: the trace is a prefix, and the audit isn't begun.
+/// A call of the desk that fails, the line on err, and how many bytes of the trace and of the audit
+/// are there then, if it was begun. Calls are counted from 0 after the reads: 0 creates the trace, 1
+/// to 128 write it, one byte each, 129 creates the audit, and the rest write that.
+const FAILING: [(u64, &str, usize, Option<usize>); 3] = [
+    (2, "xray: t: write fault\n", 1, None),
+    (130, "xray: a: write fault\n", 128, Some(0)),
+    (230, "xray: a: write fault\n", 128, Some(100)),
+];
+
 #[test]
-fn a_trace_that_fails_in_the_middle_is_a_prefix(rt: HostRuntime) -> Result<(), Fail> {
+fn an_output_that_fails_in_the_middle_is_a_prefix(rt: HostRuntime) -> Result<(), Fail> {
     // A read for each byte of the three inputs, and one more that finds the end of each.
     let reads = (IMAGE.len() + 1 + TRACED.len() + 1 + 1) as u64;
-    let desk = desk_of(rt.alloc(), &[reads + 2], &IMAGE, TRACED, "")?;
-    let mut trickle = Trickle::new(desk);
-    let run = run_line(&rt, REPLAY, &mut trickle)?;
-    assert_left(&rt, &run, 4, "", "xray: t: write fault\n");
-    assert_held(&rt, trickle.get("t"), &HEADER[..1]);
-    assert!(rt; trickle.get("a").is_none());
+    let (trace, audit) = (file(rt.alloc(), &ONE_CALL)?, audit_of(rt.alloc(), &CALLED)?);
+    for (call, line, written, audited) in &FAILING {
+        let failing = reads.saturating_add(*call);
+        let desk = desk_of(rt.alloc(), &[failing], &IMAGE, TRACED, "")?;
+        let mut trickle = Trickle::new(desk);
+        let run = run_line(&rt, REPLAY, &mut trickle)?;
+        assert_left(&rt, &run, 4, "", line);
+        check_same_at(&rt, &trickle.get("t"), &trace.get(..*written), line);
+        let begun = match audited {
+            Some(count) => audit.as_bytes().get(..*count),
+            None => None,
+        };
+        check_same_at(&rt, &trickle.get("a"), &begun, line);
+    }
     Ok(())
 }
