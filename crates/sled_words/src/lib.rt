@@ -17,5 +17,5 @@ pub use bytes::code_bytes;
 pub use layout::{PARTS, code_word_count, handler_word, release_word, state_word, word_of};
 pub use part::Part;
 pub use state::{HANDLER_SET, HELD, LogState, NO_HANDLER, RELEASED};
-pub use value::{JUMP_HEAD, PATCHED_HEAD, part_value};
+pub use value::{JUMP_HEAD, PATCHED_HEAD, RETURN_HEAD, part_value};
 pub use words::{MAX_THREADS, initial_words};
