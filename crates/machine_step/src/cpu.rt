@@ -10,7 +10,6 @@ use crate::allowed::allows;
 use crate::end::End;
 use crate::limits::Limits;
 use crate::machine::Machine;
-use crate::registers::REGISTERS;
 use crate::stage::{Next, after_load, first_stage, word_at};
 use crate::stamp::event_at;
 use crate::stand::{Stand, pass_sled, run_to_sled};
@@ -21,6 +20,7 @@ use handler_word::Marks;
 use sled_words::MAX_THREADS;
 use std::alloc::Global;
 use std::marker::Model;
+use subset_decode::REGISTERS;
 use xray_io::NoMemory;
 
 /// A thread whose sleds may be patched between two of its loads.
