@@ -107,10 +107,10 @@ impl<'a> Cpu<'a> {
         match self.stand {
             Stand::Gate { .. } => Want::Gate(self.machine.passings),
             Stand::Loading { sled, stage, .. } => Want::Load(word_at(
-                stage,
-                sled,
-                self.steps.image().sled_count(),
+                self.steps.image(),
                 self.thread,
+                sled,
+                stage,
             )),
             Stand::Ended { end } => Want::Done(end),
         }
