@@ -126,10 +126,11 @@ impl<'a> Cpu<'a> {
         ensures same { self.new ≡ record self.old { want = self.new.want } }
         ensures nearer { loads_left self.new < loads_left self.old }
     {
-        if let Stand::Gate { place, sled } = self.stand {
-            let stage = first_stage(self.hold, self.machine.passings);
-            self.stand = Stand::Loading { place, sled, stage };
-        }
+        let Stand::Gate { place, sled } = self.stand else {
+            unreachable!()
+        };
+        let stage = first_stage(self.hold, self.machine.passings);
+        self.stand = Stand::Loading { place, sled, stage };
     }
 
     /// Whether the word that the thread wants may have this value. A release word and the handler's
@@ -141,7 +142,7 @@ impl<'a> Cpu<'a> {
     {
         match self.stand {
             Stand::Loading { sled, stage, .. } => allows(self.steps.image(), stage, sled, value),
-            _ => false,
+            Stand::Gate { .. } | Stand::Ended { .. } => unreachable!(),
         }
     }
 
@@ -167,7 +168,7 @@ impl<'a> Cpu<'a> {
         ensures nearer { (IsKept self.old value → ⊥) → loads_left self.new < loads_left self.old }
     {
         let Stand::Loading { place, sled, stage } = self.stand else {
-            return None;
+            unreachable!()
         };
         match after_load(stage, value) {
             Next::Loads(stage) => {
