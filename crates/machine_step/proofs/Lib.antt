@@ -9,7 +9,6 @@ pub mod OnCourse
 pub mod ToSled
 pub mod Passing
 pub mod WordsAt
-pub mod FewSleds
 pub mod Tracing
 pub mod Opening
 pub mod Giving

@@ -5,14 +5,11 @@ ghost use Rattle.xray_image.specs.declared.sled.Sled.{Sled};
 ghost use Rattle.machine_step.specs.private.Stages.{AllowsAt};
 
 use crate::stage::Stage;
-use sled_words::{JUMP_HEAD, PATCHED_HEAD, Part, part_value};
+use sled_words::{HANDLER_SET, JUMP_HEAD, LogState, PATCHED_HEAD, Part, RELEASED, part_value};
 use xray_image::{Image, SledKind};
 
 /// The byte C3, `ret`, which begins an unpatched exit sled.
 const RETURN: u64 = 0xC3;
-
-/// The greatest number of a log state.
-const LAST_STATE: u64 = 4;
 
 /// Whether a value may be loaded at this stage of a passing of a sled.
 pub(crate) fn allows(image: &Image, stage: Stage, sled: u32, value: u64) -> bool
@@ -21,12 +18,13 @@ pub(crate) fn allows(image: &Image, stage: Stage, sled: u32, value: u64) -> bool
         → IsTrue result ↔ AllowsAt image.now.trampolines s stage value }
 {
     match stage {
-        Stage::Release | Stage::Handler => value <= 1,
+        Stage::Release => value <= RELEASED,
         Stage::Head => value == PATCHED_HEAD || is_unpatched_head(image.sled(sled).kind, value),
         Stage::Id => value == part_value(image, sled, Part::Id, true),
         Stage::Opcode => value == part_value(image, sled, Part::Opcode, true),
         Stage::Offset => value == part_value(image, sled, Part::Offset, true),
-        Stage::State => value <= LAST_STATE,
+        Stage::Handler => value <= HANDLER_SET,
+        Stage::State => value <= LogState::Finalized as u64,
     }
 }
 

@@ -10,7 +10,6 @@ use crate::allowed::allows;
 use crate::end::End;
 use crate::limits::Limits;
 use crate::machine::Machine;
-use crate::registers::REGISTERS;
 use crate::stage::{Next, after_load, first_stage, word_at};
 use crate::stamp::event_at;
 use crate::stand::{Stand, pass_sled, run_to_sled};
@@ -21,6 +20,7 @@ use handler_word::Marks;
 use sled_words::MAX_THREADS;
 use std::alloc::Global;
 use std::marker::Model;
+use subset_decode::REGISTERS;
 use xray_io::NoMemory;
 
 /// A thread whose sleds may be patched between two of its loads.
@@ -107,10 +107,10 @@ impl<'a> Cpu<'a> {
         match self.stand {
             Stand::Gate { .. } => Want::Gate(self.machine.passings),
             Stand::Loading { sled, stage, .. } => Want::Load(word_at(
-                stage,
-                sled,
-                self.steps.image().sled_count(),
+                self.steps.image(),
                 self.thread,
+                sled,
+                stage,
             )),
             Stand::Ended { end } => Want::Done(end),
         }
@@ -126,10 +126,11 @@ impl<'a> Cpu<'a> {
         ensures same { self.new ≡ record self.old { want = self.new.want } }
         ensures nearer { loads_left self.new < loads_left self.old }
     {
-        if let Stand::Gate { place, sled } = self.stand {
-            let stage = first_stage(self.hold, self.machine.passings);
-            self.stand = Stand::Loading { place, sled, stage };
-        }
+        let Stand::Gate { place, sled } = self.stand else {
+            unreachable!()
+        };
+        let stage = first_stage(self.hold, self.machine.passings);
+        self.stand = Stand::Loading { place, sled, stage };
     }
 
     /// Whether the word that the thread wants may have this value. A release word and the handler's
@@ -141,7 +142,7 @@ impl<'a> Cpu<'a> {
     {
         match self.stand {
             Stand::Loading { sled, stage, .. } => allows(self.steps.image(), stage, sled, value),
-            _ => false,
+            Stand::Gate { .. } | Stand::Ended { .. } => unreachable!(),
         }
     }
 
@@ -167,7 +168,7 @@ impl<'a> Cpu<'a> {
         ensures nearer { (IsKept self.old value → ⊥) → loads_left self.new < loads_left self.old }
     {
         let Stand::Loading { place, sled, stage } = self.stand else {
-            return None;
+            unreachable!()
         };
         match after_load(stage, value) {
             Next::Loads(stage) => {

@@ -8,7 +8,7 @@ ghost use Rattle.xray_io.specs.Text.{AddsText};
 
 use crate::end::End;
 use crate::plain_end::PlainEnd;
-use crate::registers::REGISTERS;
+use subset_decode::REGISTERS;
 use xray_io::{Piece, Printed, Sink, Text, WriteFault};
 
 /// The end of a thread is printed as its plain text: three lines, each with its line feed. It needs

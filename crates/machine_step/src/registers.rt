@@ -3,10 +3,7 @@
 ghost use Rattle.std.specs.Prelude.{◌≡◌, slice_index};
 
 use std::marker::Model;
-use subset_decode::Reg;
-
-/// How many general registers there are.
-pub const REGISTERS: usize = 16;
+use subset_decode::{REGISTERS, Reg};
 
 /// The number of rax, whose low byte is AL.
 const RAX: usize = 0;

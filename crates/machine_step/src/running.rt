@@ -8,10 +8,10 @@ use crate::end::End;
 use crate::limits::Limits;
 use crate::machine::Machine;
 use crate::plain_end::PlainEnd;
-use crate::registers::REGISTERS;
 use crate::step::Way;
 use crate::steps::Steps;
 use std::alloc::Global;
+use subset_decode::REGISTERS;
 use xray_io::NoMemory;
 
 /// Runs a thread from the start of the entry function to its end. Its number is in rdi. Entry and

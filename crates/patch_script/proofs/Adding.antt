@@ -92,7 +92,7 @@ module _ (old : PlacedCommands) (line : ℕ) (command : Command) (range : SledRa
 
   pub placed_more : ArePlaced new
   placed_more = record {
-    image = record { few = are.image.few; in_order = are.image.in_order; sleds = are.image.sleds; handler = are.image.handler };
+    image = record { few = are.image.few; in_order = are.image.in_order; sleds = are.image.sleds; handler = are.image.handler; state = are.image.state };
     each = each;
     total = total_whole ∙ sym (ap (total_of old.image.value) script_more);
     start = start_is ∙ ap (λ b. cond b old.start total) going_is

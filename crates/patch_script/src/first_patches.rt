@@ -19,10 +19,7 @@ pub(crate) struct FirstPatches {
 fn is_before(command: Option<u32>, number: u32) -> bool
     ensures { result ≡ is_before command number }
 {
-    match command {
-        Some(first) => first < number,
-        None => false,
-    }
+    command.is_some_and(|first| first < number)
 }
 
 impl FirstPatches {

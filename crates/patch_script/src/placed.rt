@@ -10,13 +10,18 @@ use crate::command::Command;
 use crate::first_patches::FirstPatches;
 use crate::micro::Micro;
 use crate::sleds::{SledRange, SledValues, sled_values};
-use sled_words::{Part, handler_word, word_of};
+use sled_words::{
+    HANDLER_SET, LogState, NO_HANDLER, PARTS, Part, RELEASED, handler_word, state_word, word_of,
+};
 use std::alloc::{AllocError, Global};
 use std::snapshot::Snapshot;
 use xray_image::Image;
 
+/// How many stores patch a sled: one for each part.
+const PATCH_STORES: u64 = PARTS as u64;
+
 /// The parts of a sled, in the order in which patching stores them.
-const PATCH_ORDER: [Part; 4] = [Part::Id, Part::Opcode, Part::Offset, Part::Head];
+const PATCH_ORDER: [Part; PARTS as usize] = [Part::Id, Part::Opcode, Part::Offset, Part::Head];
 
 /// A command with its place.
 #[derive(Clone, Copy)]
@@ -46,6 +51,8 @@ pub(crate) struct PlacedCommands {
     sleds: Vec<SledValues>,
     /// The number of the handler's word, which is the first after those of the sleds.
     handler_word: u32,
+    /// The number of the state's word. The release words of the threads come after it.
+    state_word: u32,
 }
 
 impl Command {
@@ -57,7 +64,7 @@ impl Command {
         ensures { result ≡ step_count self sleds }
     {
         match self {
-            Command::Patch | Command::PatchFunction { .. } => 4 * u64::from(sleds),
+            Command::Patch | Command::PatchFunction { .. } => PATCH_STORES * u64::from(sleds),
             Command::Unpatch | Command::UnpatchFunction { .. } => u64::from(sleds),
             Command::SetHandler | Command::RemoveHandler => 1,
             Command::Init | Command::Finalize => 2,
@@ -97,6 +104,7 @@ impl PlacedCommands {
             first_patches,
             sleds,
             handler_word: handler_word(image),
+            state_word: state_word(image),
         })
     }
 
@@ -229,8 +237,8 @@ impl PlacedCommands {
     {
         match placed.command {
             Command::Patch | Command::PatchFunction { .. } => self.patch_step(
-                placed.sleds.start + (step / 4) as u32,
-                (step % 4) as usize,
+                placed.sleds.start + (step / PATCH_STORES) as u32,
+                (step % PATCH_STORES) as usize,
             ),
             Command::Unpatch | Command::UnpatchFunction { .. } => self.unpatch_step(
                 number,
@@ -238,26 +246,26 @@ impl PlacedCommands {
             ),
             Command::SetHandler => Micro::Store {
                 word: self.handler_word,
-                value: 1,
+                value: HANDLER_SET,
             },
             Command::RemoveHandler => Micro::Store {
                 word: self.handler_word,
-                value: 0,
+                value: NO_HANDLER,
             },
             Command::Init => Micro::Store {
-                word: self.handler_word + 1,
-                value: step + 1,
+                word: self.state_word,
+                value: LogState::Initializing as u64 + step,
             },
             Command::Finalize => Micro::Store {
-                word: self.handler_word + 1,
-                value: step + 3,
+                word: self.state_word,
+                value: LogState::Finalizing as u64 + step,
             },
             Command::Release { thread } => Micro::Store {
-                word: self.handler_word + 1 + thread,
-                value: 1,
+                word: self.state_word + thread,
+                value: RELEASED,
             },
             Command::Await { thread, count } => Micro::Await { thread, count },
-            Command::Hold { .. } | Command::Go => Micro::End,
+            Command::Hold { .. } | Command::Go => unreachable!(),
         }
     }
 

@@ -7,16 +7,13 @@ ghost use Rattle.xray_image.specs.Limits.{most_sleds};
 ghost use Rattle.patch_script.specs.Micros.{head_left};
 ghost use Rattle.patch_script.specs.private.Sleds.{values_of};
 
-use sled_words::{JUMP_HEAD, PATCHED_HEAD, Part, part_value};
+use sled_words::{JUMP_HEAD, PATCHED_HEAD, Part, RETURN_HEAD, part_value};
 use std::alloc::{AllocError, Global};
 use xray_image::{Image, SledKind};
 
-/// The head that unpatching leaves in an exit sled that was never patched: C3, which is `ret`, and
-/// 2E, the byte after it in the file.
-const RETURN_HEAD: u64 = 0x2EC3;
-
-/// The head that it leaves in an exit sled that was patched: C3 in place of the low byte of 41 BA.
-const RETURN_OVER_PATCH: u64 = 0xBAC3;
+/// The head that unpatching leaves in an exit sled that was patched: C3 BA. compiler-rt writes back
+/// only the first byte, C3, which is `ret`. BA is the second byte of the patched head, 41 BA.
+const RETURN_OVER_PATCH: u64 = PATCHED_HEAD & 0xFF00 | RETURN_HEAD & 0xFF;
 
 /// What the patcher has to know of a sled.
 #[derive(Clone, Copy)]

@@ -5,9 +5,7 @@ ghost use Rattle.patch_script.specs.declared.command.Command.{Command as Said};
 ghost use Rattle.patch_script.specs.Refusals.{is_misplaced, breaks_hold, breaks_log, waits_for_itself, holds_for_good, names_no_thread};
 
 use crate::command::Command;
-
-/// The most threads that a script may name.
-const THREADS: usize = 16;
+use sled_words::MAX_THREADS;
 
 /// Whether a thread waits before a passing.
 #[derive(Clone, Copy, PartialEq, Eq)]
@@ -23,7 +21,7 @@ pub(crate) enum Hold {
 /// The holds of all threads.
 #[derive(Clone, Copy)]
 pub(crate) struct Holds {
-    threads: [Hold; THREADS],
+    threads: [Hold; MAX_THREADS as usize],
 }
 
 impl Holds {
@@ -34,7 +32,7 @@ impl Holds {
         ensures { (thread : ℕ) → hold_in result thread ≡ Hold.Free }
     {
         Holds {
-            threads: [Hold::Free; THREADS],
+            threads: [Hold::Free; MAX_THREADS as usize],
         }
     }
 
@@ -45,10 +43,10 @@ impl Holds {
         let Some(place) = thread.checked_sub(1) else {
             return Hold::Free;
         };
-        match self.threads.get(place as usize) {
-            Some(hold) => *hold,
-            None => Hold::Free,
-        }
+        self.threads
+            .get(place as usize)
+            .copied()
+            .unwrap_or(Hold::Free)
     }
 
     /// Sets the hold of a thread.

@@ -107,11 +107,11 @@ for_the_script plan program threads same all =
     λ i. initial_words (sym same i) (sym all i) ++ replicate (8 + 7 * sym all i) 0
 
 -- how many words there are before the progress words
-pub count_is : (plan : Plan) (program : Program) (threads sleds : ℕ) → plan.program ≡ program → plan.threads ≡ threads → sleds ≡ length program.sleds
-    → 4 * sleds + 2 + threads ≡ code_words plan
+pub count_is : (plan : Plan) (program : Program) (threads count : ℕ) → plan.program ≡ program → plan.threads ≡ threads
+    → count ≡ code_word_count program threads → count ≡ code_words plan
 unfolding code_words
-count_is plan program threads sleds same all is =
-    let count : sleds ≡ length plan.program.sleds = is ∙ ap (λ (p : Program). length p.sleds) (sym same) in omega arith
+count_is plan program threads count same all is =
+    let sleds : length plan.program.sleds ≡ length program.sleds = ap (λ (p : Program). length p.sleds) same in omega arith
 
 -- the words before the script, and zeros up to a count
 pub grown : (program : Program) (threads len count : ℕ) (before after : List ℕ) → len ≡ length before → before ≡ initial_words program threads

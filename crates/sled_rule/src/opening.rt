@@ -8,7 +8,7 @@ use crate::seats::PatchSeat;
 use crate::table::{CodeTable, LINE};
 use atomic_table::Table;
 use patch_script::{Script, stores_give_the_code};
-use sled_words::{MAX_THREADS, initial_words};
+use sled_words::{MAX_THREADS, code_word_count, initial_words};
 use std::alloc::Global;
 use xray_image::Image;
 use xray_io::NoMemory;
@@ -33,7 +33,7 @@ impl CodeTable {
     {
         stores_give_the_code();
         script.micro_steps_are_few();
-        let code_len = 4 * image.sled_count() as usize + 2 + threads as usize;
+        let code_len = code_word_count(image, threads);
         let words = opening_words(alloc, image, threads, code_len)?;
         let (table, seat) = Table::of_words(alloc, &words, &script)?;
         let table = CodeTable {

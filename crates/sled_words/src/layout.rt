@@ -1,15 +1,18 @@
-ghost use Rattle.std.specs.Prelude.{◌≡◌, ◌<◌, ◌^◌, length};
-ghost use Rattle.sled_words.specs.Words.{handler_word, word_of};
+ghost use Rattle.std.specs.Prelude.{◌≡◌, ◌<◌, ◌≤◌, ◌^◌, length};
+ghost use Rattle.sled_words.specs.Words.{code_word_count, handler_word, release_word, state_word, word_of};
 
-use crate::Part;
+use crate::{MAX_THREADS, Part};
 use xray_image::Image;
+
+/// How many words a sled has: one for each part.
+pub const PARTS: u32 = 4;
 
 /// The number of the word of a sled's part. A sled has four words, in the order of its bytes.
 pub fn word_of(sled: u32, part: Part) -> u32
     requires { sled < 2 ^ 30 }
     ensures { result ≡ word_of sled part }
 {
-    4 * sled + part as u32
+    PARTS * sled + part as u32
 }
 
 /// The number of the word that says whether a handler is set, 1 or 0. It is the first word after
@@ -18,5 +21,30 @@ pub fn handler_word(image: &Image) -> u32
     requires { length image.now.sleds < 2 ^ 30 }
     ensures { result ≡ handler_word image.now }
 {
-    4 * image.sled_count()
+    PARTS * image.sled_count()
+}
+
+/// The number of the word that holds the log's state, a `LogState`. It comes after the handler's.
+pub fn state_word(image: &Image) -> u32
+    ensures { result ≡ state_word image.now }
+{
+    PARTS * image.sled_count() + 1
+}
+
+/// The number of the word that lets a held thread go on. Threads count from 1. Their release words
+/// come after the state's, in the order of the threads.
+pub fn release_word(image: &Image, thread: u32) -> u32
+    requires { thread ≤ MAX_THREADS }
+    ensures { result ≡ release_word image.now thread }
+{
+    PARTS * image.sled_count() + 1 + thread
+}
+
+/// How many words come before the progress words: those of the sleds, of the handler and of the
+/// state, and the release words of this many threads. The patcher stores in these words, and
+/// passings load them.
+pub fn code_word_count(image: &Image, threads: u32) -> usize
+    ensures { result ≡ code_word_count image.now threads }
+{
+    (PARTS * image.sled_count() + 2) as usize + threads as usize
 }

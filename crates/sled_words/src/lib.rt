@@ -9,11 +9,13 @@
 mod bytes;
 mod layout;
 mod part;
+mod state;
 mod value;
 mod words;
 
 pub use bytes::code_bytes;
-pub use layout::{handler_word, word_of};
+pub use layout::{PARTS, code_word_count, handler_word, release_word, state_word, word_of};
 pub use part::Part;
-pub use value::{JUMP_HEAD, PATCHED_HEAD, part_value};
+pub use state::{HANDLER_SET, HELD, LogState, NO_HANDLER, RELEASED};
+pub use value::{JUMP_HEAD, PATCHED_HEAD, RETURN_HEAD, part_value};
 pub use words::{MAX_THREADS, initial_words};

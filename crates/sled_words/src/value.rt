@@ -13,7 +13,7 @@ pub const JUMP_HEAD: u64 = format::JUMP_HEAD[0] as u64 | (format::JUMP_HEAD[1] a
 
 /// The head of an exit sled in the file: C3, which is `ret`, and 2E, the first byte of the nop of
 /// ten bytes after it.
-const RETURN_HEAD: u64 = format::RETURN_HEAD[0] as u64 | (format::RETURN_HEAD[1] as u64) << 8;
+pub const RETURN_HEAD: u64 = format::RETURN_HEAD[0] as u64 | (format::RETURN_HEAD[1] as u64) << 8;
 
 /// The head of a patched sled: 41 BA, the first bytes of `mov r10d, imm32` (`MovR10Seq` of
 /// `xray_x86_64.cpp`). The function id after it is the immediate.

@@ -1,8 +1,8 @@
 ghost use Rattle.std.specs.Prelude.{◌≡◌, ◌≤◌, IfOk};
 ghost use Rattle.sled_words.specs.Parts.{initial_words, sled_words};
 
-use crate::Part;
 use crate::value::unpatched_value;
+use crate::{PARTS, Part};
 use std::alloc::Global;
 use xray_image::{Image, Sled};
 use xray_io::NoMemory;
@@ -21,7 +21,7 @@ pub fn initial_words(alloc: Global, image: &Image, threads: u32) -> Result<Vec<u
 {
     let sleds = image.sled_count();
     let others = 2 + 2 * threads as usize;
-    let mut words = Vec::with_capacity(alloc, 4 * sleds as usize + others)?;
+    let mut words = Vec::with_capacity(alloc, (PARTS * sleds) as usize + others)?;
     for k in 0..sleds {
         words.extend_from_slice(&unpatched_words(image.sled(k)))?;
     }
@@ -30,7 +30,7 @@ pub fn initial_words(alloc: Global, image: &Image, threads: u32) -> Result<Vec<u
 }
 
 /// The words of a sled, as the image file has them.
-fn unpatched_words(sled: Sled) -> [u64; 4]
+fn unpatched_words(sled: Sled) -> [u64; PARTS as usize]
     ensures { result ≡ sled_words sled }
 {
     [

@@ -21,6 +21,8 @@ pub(crate) struct Patcher<'a> {
     words: Vec<u64>,
     /// How many micro steps were made.
     place: u64,
+    /// The number of the command that a micro step was last found at.
+    near: u32,
 }
 
 impl<'a> Patcher<'a> {
@@ -47,6 +49,7 @@ impl<'a> Patcher<'a> {
             script,
             words,
             place: 0,
+            near: 0,
         };
         patcher.make_steps(script.start());
         Ok(patcher)
@@ -89,7 +92,8 @@ impl<'a> Patcher<'a> {
         if self.place >= self.script.total() {
             return false;
         }
-        self.apply(self.script.micro(self.place));
+        let step = self.script.micro_near(self.place, &mut self.near);
+        self.apply(step);
         self.place += 1;
         true
     }

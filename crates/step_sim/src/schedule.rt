@@ -7,6 +7,7 @@ ghost use Rattle.step_sim.specs.Schedules.{schedule_of, AreTurnsOf};
 use crate::fault::ScheduleFault;
 use crate::line::read_line;
 use crate::turns::Turns;
+use sled_words::MAX_THREADS;
 use std::alloc::Global;
 use std::marker::Model;
 use text_lines::{Lines, count_lines};
@@ -46,7 +47,7 @@ impl Schedule {
 /// A text that isn't a schedule is refused by its first fault; see `ScheduleFault`. `NoMemory` may
 /// come in place of any answer.
 pub fn read_schedule(alloc: Global, text: &[u8], threads: u32) -> Result<Schedule, ScheduleFault>
-    requires { (1 ≤ threads) × (threads ≤ 16) }
+    requires { (1 ≤ threads) × (threads ≤ MAX_THREADS) }
     ensures reads { (result ≡ Err NoMemory) ⊎ (result ≡ schedule_of threads text.now) }
     // What a replay with this many threads asks of its schedule.
     ensures within { IfOk result (All (AreTurnsOf threads)) }

@@ -5,7 +5,7 @@ use Rattle.std.specs.List.Sorted.{IsNonDecreasingBy}
 use Rattle.xray_image.specs.Program.{Program}
 use Rattle.xray_image.specs.Limits.{most_sleds}
 use Rattle.xray_image.specs.Ids.{id_count}
-use Rattle.sled_words.specs.Words.{handler_word}
+use Rattle.sled_words.specs.Words.{handler_word, state_word}
 use Rattle.patch_script.specs.declared.command.Command.{Command}
 use Rattle.patch_script.specs.declared.command.Command.TheVariants as commands
 use Rattle.patch_script.specs.declared.placed.Placed.{Placed}
@@ -62,6 +62,7 @@ pub record IsOfImage (program : Program) (placed : PlacedCommands) : Type 0 wher
   pub in_order : IsNonDecreasingBy (λ sled. sled.id) program.sleds
   pub sleds : placed.sleds.items ≡ map (values_of program.trampolines) program.sleds
   pub handler : placed.handler_word ≡ handler_word program
+  pub state : placed.state_word ≡ state_word program
 
 -- the commands are in their places
 pub record ArePlaced (placed : PlacedCommands) : Type 0 where

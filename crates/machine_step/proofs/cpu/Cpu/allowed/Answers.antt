@@ -19,8 +19,8 @@ allows-requires c =
     (sled_within c.self.inside c.self.invariant c.in-Loading.place c.in-Loading.sled
     (loading_at c.self.inside c.self.invariant c.in-Loading.place c.in-Loading.sled c.in-Loading.stage c.in-Loading.is))
 
-pub returns-in-Loading : goal.returns-in-Loading
-returns-in-Loading c =
+pub returns : goal.returns
+returns c =
     subst (λ (t : Traced). IsTrue c.allows.result ↔ Allows t t.want c.args.value) c.self.view_is
     (allows_by c.self.inside c.self.invariant c.in-Loading.place c.in-Loading.sled c.in-Loading.stage c.args.value c.in-Loading.is
     c.allows.result (subst (AllowsIn c.in-Loading.sled c.in-Loading.stage c.args.value c.allows.result) c.image.ensures.program c.allows.ensures))

@@ -12,8 +12,8 @@ invariant_of-self c =
     (gate_at a c.self.invariant c.in-Gate.place c.in-Gate.sled c.in-Gate.is)
     (subst (λ (s : Stage). IsStageOf a.hold a.machine.passings s) (sym c.first_stage-stage.ensures) (first_of_hold a.hold a.machine.passings))
 
-pub returns-in-Gate-clause-loads : goal.returns-in-Gate-clause-loads
-returns-in-Gate-clause-loads c =
+pub returns-clause-loads : goal.returns-clause-loads
+returns-clause-loads c =
     λ passed loads has.
     opened_loads c.self.inside c.self.invariant c.in-Gate.place c.in-Gate.sled c.first_stage-stage.result c.in-Gate.is c.first_stage-stage.ensures
     passed loads (subst (λ (t : Traced). HasLoaded t passed loads) (sym c.self.view_is) has)

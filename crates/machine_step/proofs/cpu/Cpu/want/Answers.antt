@@ -1,27 +1,18 @@
-use Rattle.std.proofs.Common.{◌≡◌, ◌∙◌, ap, arith, length, subst, sym}
+use Rattle.std.proofs.Common.{◌≡◌, ◌<◌, ◌∙◌, ap, length, subst, sym}
 use Rattle.xray_image.specs.Program.{Program}
 use Rattle.machine_step.specs.declared.stand.Stand.{Stand}
 use Rattle.machine_step.specs.declared.want.Want.TheVariants.{Load}
 use Rattle.machine_step.specs.private.Inside.{want_at}
+use Rattle.machine_step.specs.private.Stages.{word_at}
 use Rattle.machine_step.specs.Traced.{Traced}
-use Rattle.machine_step.proofs.FewSleds.{few_sleds}
 use Rattle.machine_step.proofs.Opening.{loadable_seen, loading_at, sled_within, stands_seen}
 use Rattle.machine_step.proofs.cpu.Cpu.want.Goals as goal
 
--- the sleds that are counted are those of the program
-count : (c : goal.After-sled_count) → c.sled_count.result ≡ length c.self.inside.steps.now.sleds
-count c = c.sled_count.ensures.count ∙ ap (λ (program : Program). length program.sleds) c.image.ensures.program
-
 pub word_at-requires-clause-exists : goal.word_at-requires-clause-exists
 word_at-requires-clause-exists c =
-    let within = sled_within c.self.inside c.self.invariant c.in-Loading.place c.in-Loading.sled
-    (loading_at c.self.inside c.self.invariant c.in-Loading.place c.in-Loading.sled c.in-Loading.stage c.in-Loading.is) in
-    omega (arith, count c)
-
-pub word_at-requires-clause-few : goal.word_at-requires-clause-few
-word_at-requires-clause-few c =
-    let few = few_sleds c.self.invariant.setup.bytes c.self.inside.steps.now c.self.invariant.setup.accepted in
-    omega (arith, count c)
+    subst (λ (program : Program). c.in-Loading.sled < length program.sleds) (sym c.image.ensures.program)
+    (sled_within c.self.inside c.self.invariant c.in-Loading.place c.in-Loading.sled
+    (loading_at c.self.inside c.self.invariant c.in-Loading.place c.in-Loading.sled c.in-Loading.stage c.in-Loading.is))
 
 pub returns-in-Gate-clause-stands : goal.returns-in-Gate-clause-stands
 returns-in-Gate-clause-stands c = stands_seen c.self.inside _ c.self.view_is c.self.invariant
@@ -31,7 +22,7 @@ returns-in-Loading-clause-want c =
     let a = c.self.inside in
     subst (λ (t : Traced). Load c.word_at.result ≡ t.want) c.self.view_is
     (subst (λ (s : Stand). Load c.word_at.result ≡ want_at a.steps.now a.thread a.machine.passings s) (sym c.in-Loading.is)
-    (ap Load (c.word_at.ensures a.steps.now (sym (c.sled_count.ensures.count ∙ ap (λ (program : Program). length program.sleds) c.image.ensures.program)))))
+    (ap Load (c.word_at.ensures ∙ ap (λ (program : Program). word_at program a.thread c.in-Loading.sled c.in-Loading.stage) c.image.ensures.program)))
 
 pub returns-in-Loading-clause-stands : goal.returns-in-Loading-clause-stands
 returns-in-Loading-clause-stands c = stands_seen c.self.inside _ c.self.view_is c.self.invariant

@@ -13,10 +13,10 @@ unpatch_step-requires-clause-sled c =
     let one = c.args.placed in
     unpatched_within c.args.self.now.image.value one.command one.sleds (c.requires.sound.each c.args.number one c.requires.placed).sleds c.args.step c.requires.within c.in-Unpatch.is
 
-pub overflow_add-result-in-Release-2 : goal.overflow_add-result-in-Release-2
-overflow_add-result-in-Release-2 c =
+pub overflow_add-result-in-Release : goal.overflow_add-result-in-Release
+overflow_add-result-in-Release c =
     let few : c.in-Release.thread ≤ 16 = subst NamesFewThreads c.in-Release.is (c.requires.sound.each c.args.number c.args.placed c.requires.placed).thread in
-    omega (arith, few, c.requires.sound.image.handler, c.requires.sound.image.few)
+    omega (arith, few, c.requires.sound.image.state, c.requires.sound.image.few)
 
 pub returns-in-Patch : goal.returns-in-Patch
 returns-in-Patch c =
