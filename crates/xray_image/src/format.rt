@@ -34,14 +34,15 @@ pub const BASE_LIMIT: u64 = 0x7FFF_0000_0000;
 /// The longest name of a function in bytes. A function entry keeps the length in one byte.
 pub const NAME_LIMIT: usize = 255;
 
-/// The length of a sled in bytes: a head of two, and a nop of nine.
+/// The length of a sled in bytes: a short jump of two and a nop of nine, or a ret and a nop of ten.
 pub const SLED_LENGTH: usize = 11;
 
 /// The head of an entry or tail sled: a short jump over the sled's other nine bytes (`Jmp9Seq` of
 /// `xray_x86_64.cpp`).
 pub const JUMP_HEAD: [u8; 2] = [0xEB, 0x09];
 
-/// The head of an exit sled: a return, and a byte that sets it apart from a plain return.
+/// The head of an exit sled: ret, and 2E, the CS prefix that begins its nop of ten bytes (Intel
+/// SDM, volume 2, section 2.1.1).
 pub const RETURN_HEAD: [u8; 2] = [RET, 0x2E];
 
 /// The nop that fills a sled, up to its displacement of four bytes: `nopw disp32(rax, rax)` (Intel
