@@ -14,11 +14,20 @@ use std::alloc::Global;
 /// The bytes of a function entry before its name: the start address and the name's length.
 const FUNCTION_FRONT: usize = 9;
 
+/// The place of the start address in a function entry.
+const START_AT: usize = 0;
+
 /// The place of the name's length in a function entry.
 const NAME_LENGTH_AT: usize = 8;
 
 /// The length of an entry of the sled map. The bytes after its version are padding.
 const MAP_ENTRY_LENGTH: usize = 32;
+
+/// The place of the sled's address in a map entry.
+const SLED_AT: usize = 0;
+
+/// The place of the function's address in a map entry.
+const FUNCTION_AT: usize = 8;
 
 /// The place of the sled's kind in a map entry.
 const KIND_AT: usize = 16;
@@ -26,8 +35,8 @@ const KIND_AT: usize = 16;
 /// The place in a map entry of the flag that says that its function is always instrumented.
 const ALWAYS_AT: usize = 17;
 
-/// The place of the version in a map entry.
-const VERSION_AT: usize = 18;
+/// The place of the sled's version in a map entry.
+const SLED_VERSION_AT: usize = 18;
 
 /// An entry of a part of the file that has as many entries as the header counts.
 trait Counted<'a>: Drop {
@@ -66,7 +75,7 @@ impl<'a> Counted<'a> for FunctionEntry<'a> {
         if bytes.len() < FUNCTION_FRONT {
             return None;
         }
-        let start = u64_at(bytes, 0);
+        let start = u64_at(bytes, START_AT);
         let name_length = bytes[NAME_LENGTH_AT] as usize;
         let (_, rest) = bytes.split_at(FUNCTION_FRONT);
         if rest.len() < name_length {
@@ -102,11 +111,11 @@ impl<'a> Counted<'a> for MapLine {
             return None;
         }
         let line = MapLine {
-            sled: u64_at(bytes, 0),
-            function: u64_at(bytes, 8),
+            sled: u64_at(bytes, SLED_AT),
+            function: u64_at(bytes, FUNCTION_AT),
             kind: bytes[KIND_AT],
             always: bytes[ALWAYS_AT],
-            version: bytes[VERSION_AT],
+            version: bytes[SLED_VERSION_AT],
         };
         let (_, rest) = bytes.split_at(MAP_ENTRY_LENGTH);
         Some((line, rest))
