@@ -1,6 +1,6 @@
 -- The rows after the units: the checks decide what the program reads as.
 use Rattle.std.proofs.Common.{◌≡◌, ℕ, ◌≤◌, List, length, map, inl, inr, Ok, Err, refl, sym, ap, subst, ◌∙◌, arith}
-use Rattle.std.specs.Prelude.{◌⊎◌}
+use Rattle.std.specs.Prelude.{◌<◌, ◌⊎◌, All}
 use Rattle.std.proofs.lemmas.List.{length-map}
 use Rattle.xray_image.specs.declared.code_units.CodeUnits.{CodeUnits}
 use Rattle.xray_image.specs.declared.code_units.SledSpot.{SledSpot}
@@ -21,6 +21,7 @@ use Rattle.xray_image.specs.Program.{Program, addresses, IsEntryOf, Reaches}
 use Rattle.xray_image.specs.private.Reading.{IsFirstFault}
 use Rattle.xray_image.specs.Table.{FunctionIsFit, HasOneAddress, FitsAt, BranchesRightly, place_of_unit, ReadsProgram}
 use Rattle.xray_image.specs.private.Views.{entry_of, function_of, place_of, places_in, program_read, trampolines_of}
+use Rattle.xray_image.proofs.Lying.{kinds_known}
 use Rattle.xray_image.proofs.Naming.{functions_ascend}
 use Rattle.xray_image.proofs.Scans.{same_items}
 
@@ -79,6 +80,11 @@ module _ (h : Header) (p : FileParts) (u : CodeUnits) where
 
     pub few_lines : Order → length lines ≤ length spots
     few_lines all = omega (arith, as_many u.sleds.items p.entries.items all, ap length same_spots, ap length same_lines)
+
+    pub kinds_all : Order → Entries → All (λ e. e.kind < 3) lines
+    kinds_all order entries =
+        subst (λ (ls : List MapLine). All (λ e. e.kind < 3) ls) (sym same_lines)
+        (kinds_known p.functions.items (places_in u) p.entries.items (in_order u.sleds.items p.entries.items order) entries)
 
     pub order_row : Functions → (fault : ImageFault) → IsFirstFault (HasOneAddress (map place_of spots) (map entry_of lines)) (λ i. faults.MapOrder i) fault → Told fault
     order_row functions fault first =

@@ -1,6 +1,6 @@
 //! Checks of the sled map's entries against the sleds of the code.
 
-ghost use Rattle.std.specs.Prelude.{◌≡◌, ◌<◌, ◌≤◌, ◌^◌, ◌↔◌, ◌-ℤ◌, ◌+◌, ℕ, pos, length, map, IsTrue, OnOk, IfOk, IfErr, FitsSigned};
+ghost use Rattle.std.specs.Prelude.{◌≡◌, ◌<◌, ◌≤◌, ◌^◌, ◌↔◌, ◌-ℤ◌, ◌+◌, ℕ, All, pos, length, map, IsTrue, OnOk, IfOk, IfErr, FitsSigned};
 ghost use Rattle.std.specs.{List.{zip}, Int.{w32}};
 ghost use Rattle.xray_image.specs.private.Judging.{Ascend};
 ghost use Rattle.xray_image.specs.Program.{KindFits, LiesIn, IsEntryOf, Reaches, kind_of, id_of, sled_of};
@@ -98,11 +98,15 @@ pub(crate) fn check_entries(
     Ok(())
 }
 
-/// The kind of a sled by its number in the map, which is known.
-fn kind_of(kind: u8) -> SledKind
-    ensures { result ≡ kind_of kind }
+/// The kind of a sled by its number in the map, which was checked.
+fn kind_of(number: u8) -> SledKind
+    requires { number < 3 }
+    ensures { result ≡ kind_of number }
 {
-    SledKind::from_number(kind).unwrap_or(SledKind::Tail)
+    match SledKind::from_number(number) {
+        Some(kind) => kind,
+        None => unreachable!(),
+    }
 }
 
 /// Whether a sled's call or jump reaches a trampoline. The displacement counts from the sled's end,
@@ -123,6 +127,7 @@ pub(crate) fn check_distances(
 ) -> Result<(), ImageFault>
     requires few { length lines.now < 2 ^ 32 }
     requires spots { length lines.now ≤ length spots.now }
+    requires kinds { All (λ e. e.kind < 3) lines.now }
     ensures near { OnOk result ((i : ℕ) → FitsAt (map place_of spots.now) (map entry_of lines.now)
         (Reaches (trampolines_of trampolines.now)) i) }
     ensures refused { IfErr result (IsFirstFault (FitsAt (map place_of spots.now)
@@ -145,6 +150,7 @@ pub(crate) fn read_sleds(
     ids: &[u32],
 ) -> Result<Vec<Sled>, AllocError>
     requires spots { length lines.now ≤ length spots.now }
+    requires kinds { All (λ e. e.kind < 3) lines.now }
     requires ids { ids.now ≡ map (λ e. id_of (map entry_of lines.now) e.function) lines.now }
     ensures { IfOk result (λ sleds. let entries = map entry_of lines.now in
         sleds.items ≡ map (sled_of entries) (zip (map place_of spots.now) entries)) }
