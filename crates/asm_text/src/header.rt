@@ -36,7 +36,7 @@ pub(crate) struct Header {
 }
 
 /// Adds the first fields of the header.
-fn push_front(out: &mut Vec<u8>, base: u64) -> Result<(), AllocError>
+fn push_header_start(out: &mut Vec<u8>, base: u64) -> Result<(), AllocError>
     ensures { OnOk result (out.new.items ≡ out.old.items
         ++ (codes "XRIM" ++ little_bytes 4 1 ++ little_bytes 8 base)) }
 {
@@ -92,7 +92,7 @@ pub(crate) fn push_header(out: &mut Vec<u8>, header: &Header) -> Result<(), Allo
         ++ header_of header.now.base header.now.code header.now.functions header.now.entries
         header.now.entry) }
 {
-    push_front(out, header.base)?;
+    push_header_start(out, header.base)?;
     push_counts(out, header)?;
     push_all_trampolines(out, header.base)
 }

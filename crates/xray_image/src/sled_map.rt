@@ -12,7 +12,7 @@ use crate::code_units::SledSpot;
 use crate::fault::ImageFault;
 use crate::format::SLED_LENGTH;
 use crate::header::Trampolines;
-use crate::parts::{FunctionEntry, MapLine};
+use crate::parts::{FunctionEntry, RawMapEntry};
 use crate::sled::{Sled, SledKind};
 use std::alloc::{AllocError, Global};
 
@@ -21,7 +21,7 @@ const VERSIONS: u8 = 2;
 
 /// Checks that the map has one entry for each sled, in the order of the sleds. `MapOrder` gives the
 /// first number whose entry and sled don't share one address.
-pub(crate) fn check_order(spots: &[SledSpot], lines: &[MapLine]) -> Result<(), ImageFault>
+pub(crate) fn check_order(spots: &[SledSpot], lines: &[RawMapEntry]) -> Result<(), ImageFault>
     requires spots { length spots.now < 2 ^ 32 }
     requires lines { length lines.now < 2 ^ 32 }
     ensures ordered { OnOk result ((i : ℕ)
@@ -65,7 +65,7 @@ fn may_have_kind(returns: bool, kind: u8) -> bool
 }
 
 /// Whether an entry agrees with the code about a sled.
-fn is_entry_of(functions: &[FunctionEntry<'_>], spot: &SledSpot, line: &MapLine) -> bool
+fn is_entry_of(functions: &[FunctionEntry<'_>], spot: &SledSpot, line: &RawMapEntry) -> bool
     requires { Ascend (map function_of functions.now) }
     ensures { IsTrue result
         ↔ IsEntryOf (map function_of functions.now) (place_of spot.now) (entry_of line.now) }
@@ -80,7 +80,7 @@ fn is_entry_of(functions: &[FunctionEntry<'_>], spot: &SledSpot, line: &MapLine)
 pub(crate) fn check_entries(
     functions: &[FunctionEntry<'_>],
     spots: &[SledSpot],
-    lines: &[MapLine],
+    lines: &[RawMapEntry],
 ) -> Result<(), ImageFault>
     requires few { length lines.now < 2 ^ 32 }
     requires spots { length lines.now ≤ length spots.now }
@@ -123,7 +123,7 @@ fn reaches(sled: u64, trampoline: u64) -> bool
 pub(crate) fn check_distances(
     trampolines: &Trampolines,
     spots: &[SledSpot],
-    lines: &[MapLine],
+    lines: &[RawMapEntry],
 ) -> Result<(), ImageFault>
     requires few { length lines.now < 2 ^ 32 }
     requires spots { length lines.now ≤ length spots.now }
@@ -146,7 +146,7 @@ pub(crate) fn check_distances(
 pub(crate) fn read_sleds(
     alloc: Global,
     spots: &[SledSpot],
-    lines: &[MapLine],
+    lines: &[RawMapEntry],
     ids: &[u32],
 ) -> Result<Vec<Sled>, AllocError>
     requires spots { length lines.now ≤ length spots.now }
