@@ -27,24 +27,13 @@ pub fn assemble(alloc: Global, text: &[u8], threshold: u32) -> Result<Vec<u8>, A
     // the text says.
     ensures accepted { IfOk result (λ file. IsProgramOf text.now threshold file.items) }
 {
-    let pass = match read_text(alloc, text) {
-        Ok(pass) => pass,
-        Err(fault) => return Err(fault),
-    };
+    let pass = read_text(alloc, text)?;
     if pass.totals.end_early() {
         return Err(AsmFault::Syntax(count_lines(text) as u32 + 1));
     }
-    let laid = match LaidText::new(alloc, threshold, pass) {
-        Ok(laid) => laid,
-        Err(_) => return Err(AsmFault::NoMemory),
-    };
-    if let Err(fault) = resolve(&laid.lines, &laid.names, &laid.targets) {
-        return Err(fault);
-    }
-    match write_file(alloc, &laid) {
-        Ok(file) => Ok(file),
-        Err(_) => Err(AsmFault::NoMemory),
-    }
+    let laid = LaidText::new(alloc, threshold, pass)?;
+    resolve(&laid.lines, &laid.names, &laid.targets)?;
+    Ok(write_file(alloc, &laid)?)
 }
 
 /// A refused allocation ends the assembling.

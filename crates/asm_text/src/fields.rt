@@ -1,6 +1,6 @@
 //! Fields of the file, lowest byte first.
 
-ghost use Rattle.std.specs.Prelude.{◌≡◌, ◌++◌, OnOk};
+ghost use Rattle.std.specs.{Prelude.{◌≡◌, ◌++◌, OnOk}, List.{flat_map}};
 ghost use Rattle.byteorder.specs.Endian.{little_bytes};
 
 use byteorder::{ByteOrder, LittleEndian};
@@ -24,11 +24,24 @@ pub(crate) fn push_u64(out: &mut Vec<u8>, n: u64) -> Result<(), AllocError>
     out.extend_from_slice(&bytes)
 }
 
-/// Adds two addresses.
-pub(crate) fn push_addresses(out: &mut Vec<u8>, first: u64, second: u64) -> Result<(), AllocError>
+/// Adds numbers of four bytes each.
+pub(crate) fn push_u32s(out: &mut Vec<u8>, numbers: &[u32]) -> Result<(), AllocError>
     ensures { OnOk result (out.new.items ≡ out.old.items
-        ++ (little_bytes 8 first ++ little_bytes 8 second)) }
+        ++ flat_map (little_bytes 4) numbers.now) }
 {
-    push_u64(out, first)?;
-    push_u64(out, second)
+    for number in numbers {
+        push_u32(out, *number)?;
+    }
+    Ok(())
+}
+
+/// Adds numbers of eight bytes each.
+pub(crate) fn push_u64s(out: &mut Vec<u8>, numbers: &[u64]) -> Result<(), AllocError>
+    ensures { OnOk result (out.new.items ≡ out.old.items
+        ++ flat_map (little_bytes 8) numbers.now) }
+{
+    for number in numbers {
+        push_u64(out, *number)?;
+    }
+    Ok(())
 }

@@ -7,7 +7,7 @@ ghost use Rattle.asm_text.specs.Writing.{function_bytes, entry_bytes};
 ghost use Rattle.asm_text.specs.private.{Views.{statement_said}, Laying.{line_placed, placed_in}};
 ghost use Rattle.asm_text.specs.private.Files.{function_line_bytes, sled_line_bytes, HasShortName, AreShortNames};
 
-use crate::fields::{push_addresses, push_u64};
+use crate::fields::{push_u64, push_u64s};
 use crate::layout::Laid;
 use crate::statement::{Operation, Statement};
 use std::alloc::AllocError;
@@ -89,7 +89,7 @@ fn push_entry(
           version = 0;
         })) }
 {
-    push_addresses(out, sled, function)?;
+    push_u64s(out, &[sled, function])?;
     push_flags(out, kind, always)
 }
 

@@ -123,10 +123,7 @@ impl<'a> FirstPass<'a> {
         if self.totals.misplaces(&spoken) {
             return Err(AsmFault::Syntax(line.number));
         }
-        let statement = match checked(line.number, &spoken) {
-            Ok(statement) => statement,
-            Err(fault) => return Err(fault),
-        };
+        let statement = checked(line.number, &spoken)?;
         let totals = self.totals_with(line.number, &statement)?;
         self.push(line.number, statement, totals)?;
         Ok(())

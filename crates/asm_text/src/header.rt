@@ -1,10 +1,10 @@
 //! The header of the image file.
 
-ghost use Rattle.std.specs.{Prelude.{◌≡◌, ◌≤◌, ◌+◌, ◌++◌, OnOk, codes}, List.{flat_map}};
+ghost use Rattle.std.specs.{Prelude.{◌≡◌, ◌≤◌, ◌++◌, OnOk, codes}, List.{flat_map}};
 ghost use Rattle.byteorder.specs.Endian.{little_bytes};
 ghost use Rattle.asm_text.specs.Writing.{header_of, trampolines_of};
 
-use crate::fields::{push_addresses, push_u32, push_u64};
+use crate::fields::{push_u32, push_u32s, push_u64, push_u64s};
 use std::alloc::AllocError;
 use xray_image::format::{BASE_LIMIT, MAGIC, VERSION};
 
@@ -36,7 +36,7 @@ pub(crate) struct Header {
 }
 
 /// Adds the first fields of the header.
-fn push_front(out: &mut Vec<u8>, base: u64) -> Result<(), AllocError>
+fn push_header_start(out: &mut Vec<u8>, base: u64) -> Result<(), AllocError>
     ensures { OnOk result (out.new.items ≡ out.old.items
         ++ (codes "XRIM" ++ little_bytes 4 1 ++ little_bytes 8 base)) }
 {
@@ -45,44 +45,33 @@ fn push_front(out: &mut Vec<u8>, base: u64) -> Result<(), AllocError>
     push_u64(out, base)
 }
 
-/// Adds two counts.
-fn push_pair(out: &mut Vec<u8>, first: u32, second: u32) -> Result<(), AllocError>
-    ensures { OnOk result (out.new.items ≡ out.old.items
-        ++ (little_bytes 4 first ++ little_bytes 4 second)) }
-{
-    push_u32(out, first)?;
-    push_u32(out, second)
-}
-
-/// Adds two addresses, by their distances from the base.
-fn push_trampolines(out: &mut Vec<u8>, base: u64, first: u64, second: u64) -> Result<(), AllocError>
-    requires base { base ≤ BASE_LIMIT }
-    requires first { first ≤ ARGUMENT_TRAMPOLINE }
-    requires second { second ≤ ARGUMENT_TRAMPOLINE }
-    ensures { OnOk result (out.new.items ≡ out.old.items
-        ++ (little_bytes 8 (base + first) ++ little_bytes 8 (base + second))) }
-{
-    push_addresses(out, base + first, base + second)
-}
-
 /// Adds the counts.
 fn push_counts(out: &mut Vec<u8>, header: &Header) -> Result<(), AllocError>
     ensures { OnOk result (out.new.items ≡ out.old.items
         ++ (little_bytes 4 header.now.code ++ little_bytes 4 header.now.functions
         ++ little_bytes 4 header.now.entries ++ little_bytes 4 header.now.entry)) }
 {
-    push_pair(out, header.code, header.functions)?;
-    push_pair(out, header.entries, header.entry)
+    push_u32s(
+        out,
+        &[header.code, header.functions, header.entries, header.entry],
+    )
 }
 
 /// Adds the trampolines' addresses.
-fn push_all_trampolines(out: &mut Vec<u8>, base: u64) -> Result<(), AllocError>
+fn push_trampolines(out: &mut Vec<u8>, base: u64) -> Result<(), AllocError>
     requires { base ≤ BASE_LIMIT }
     ensures { OnOk result (out.new.items ≡ out.old.items
         ++ flat_map (little_bytes 8) (trampolines_of base)) }
 {
-    push_trampolines(out, base, ENTRY_TRAMPOLINE, EXIT_TRAMPOLINE)?;
-    push_trampolines(out, base, TAIL_TRAMPOLINE, ARGUMENT_TRAMPOLINE)
+    push_u64s(
+        out,
+        &[
+            base + ENTRY_TRAMPOLINE,
+            base + EXIT_TRAMPOLINE,
+            base + TAIL_TRAMPOLINE,
+            base + ARGUMENT_TRAMPOLINE,
+        ],
+    )
 }
 
 /// Adds the header of 64 bytes.
@@ -92,7 +81,7 @@ pub(crate) fn push_header(out: &mut Vec<u8>, header: &Header) -> Result<(), Allo
         ++ header_of header.now.base header.now.code header.now.functions header.now.entries
         header.now.entry) }
 {
-    push_front(out, header.base)?;
+    push_header_start(out, header.base)?;
     push_counts(out, header)?;
-    push_all_trampolines(out, header.base)
+    push_trampolines(out, header.base)
 }

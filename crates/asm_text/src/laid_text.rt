@@ -28,10 +28,7 @@ impl LaidText<'_> {
         ensures value { result ≡ unwrap_or (place_of name.now (all_in self.now)) 0 }
         ensures within { result ≤ CODE_LIMIT }
     {
-        match place_of(&self.names, &self.targets, name) {
-            Some(place) => place,
-            None => 0,
-        }
+        place_of(&self.names, &self.targets, name).unwrap_or(0)
     }
 }
 

@@ -6,14 +6,14 @@ ghost use Rattle.asm_text.specs.Numbers.{number_of};
 use text_lines::parse_digits;
 
 /// What a hexadecimal number begins with.
-const HEXADECIMAL_FRONT: &[u8] = b"0x";
+const HEX_PREFIX: &[u8] = b"0x";
 
 /// The number that a word writes: hexadecimal after `0x`, otherwise decimal. The answer is `None`
 /// if the word writes no number, or one above `u64::MAX`.
 pub(crate) fn number_of(word: &[u8]) -> Option<u64>
     ensures { result ≡ number_of word.now }
 {
-    match word.strip_prefix(HEXADECIMAL_FRONT) {
+    match word.strip_prefix(HEX_PREFIX) {
         Some(digits) => parse_digits(16, digits),
         None => parse_digits(10, word),
     }

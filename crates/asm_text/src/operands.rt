@@ -28,10 +28,8 @@ fn checked_operation<'a>(line: u32, written: &Written<'a>) -> Result<Operation<'
     match *written {
         Written::Mov { dst, imm } => {
             let dst = register(line, dst)?;
-            match u32::try_from(imm) {
-                Ok(imm) => Ok(Operation::Plain(Plain::Mov { dst, imm })),
-                Err(_) => Err(AsmFault::Range(line)),
-            }
+            let imm = u32::try_from(imm).map_err(|_| AsmFault::Range(line))?;
+            Ok(Operation::Plain(Plain::Mov { dst, imm }))
         }
         Written::Add { dst, src } => {
             let dst = register(line, dst)?;
@@ -51,10 +49,10 @@ fn checked_operation<'a>(line: u32, written: &Written<'a>) -> Result<Operation<'
             let reg = register(line, reg)?;
             Ok(Operation::Plain(Plain::Pop { reg }))
         }
-        Written::Out { port } => match u8::try_from(port) {
-            Ok(port) => Ok(Operation::Plain(Plain::Out { port })),
-            Err(_) => Err(AsmFault::Range(line)),
-        },
+        Written::Out { port } => {
+            let port = u8::try_from(port).map_err(|_| AsmFault::Range(line))?;
+            Ok(Operation::Plain(Plain::Out { port }))
+        }
         Written::Go { branch, name } => Ok(Operation::Go { branch, name }),
         Written::TailJump { name } => Ok(Operation::TailJump { name }),
         Written::Return => Ok(Operation::Return),
@@ -79,9 +77,6 @@ pub(crate) fn checked<'a>(line: u32, spoken: &Spoken<'a>) -> Result<Statement<'a
             choice: *choice,
         }),
         Spoken::Label(name) => Ok(Statement::Label(*name)),
-        Spoken::Does(written) => match checked_operation(line, written) {
-            Ok(operation) => Ok(Statement::Does(operation)),
-            Err(fault) => Err(fault),
-        },
+        Spoken::Does(written) => Ok(Statement::Does(checked_operation(line, written)?)),
     }
 }

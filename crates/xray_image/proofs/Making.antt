@@ -7,7 +7,7 @@ use Rattle.std.proofs.lemmas.List.Elements.{All-get_or}
 use Rattle.std.proofs.lemmas.Slice.Zip.{length-zip, get_or-zip}
 use Rattle.xray_image.specs.declared.code_units.SledSpot.{SledSpot}
 use Rattle.xray_image.specs.declared.parts.FunctionEntry.{FunctionEntry}
-use Rattle.xray_image.specs.declared.parts.MapLine.{MapLine}
+use Rattle.xray_image.specs.declared.parts.RawMapEntry.{RawMapEntry}
 use Rattle.xray_image.specs.declared.sled.Sled.{Sled}
 use Rattle.xray_image.specs.declared.sled.SledKind.{SledKind}
 use Rattle.xray_image.specs.Container.{Function}
@@ -27,7 +27,7 @@ name_at functions i within all =
 
 -- ---- sleds
 
-module _ (spots : List SledSpot) (lines : List MapLine) (enough : length lines ≤ length spots) where
+module _ (spots : List SledSpot) (lines : List RawMapEntry) (enough : length lines ≤ length spots) where
   abbrev pub sleds : List Sled
   sleds = map (sled_of (map entry_of lines)) (zip (map place_of spots) (map entry_of lines))
 

@@ -38,7 +38,7 @@ fn target(address: u64, instr: &Instr) -> Option<i128>
 }
 
 /// Whether a unit that branches goes to a unit. Units that don't branch pass.
-fn goes_rightly(index: &UnitIndex, unit: &Unit) -> bool
+fn branch_reaches_unit(index: &UnitIndex, unit: &Unit) -> bool
     ensures { (units : List Unit) → IsIndexOf (addresses units) index.now
         → ((a : ℕ) → Contains (addresses units) a → a < 2 ^ 64)
         → IsTrue result ↔ BranchReaches units unit.now }
@@ -71,7 +71,7 @@ pub(crate) fn check_branches(
 {
     for number in 0..units.len() {
         let unit = units.get(number);
-        if !goes_rightly(index, &unit) {
+        if !branch_reaches_unit(index, &unit) {
             return Err(ImageFault::Target((unit.address - base) as u32));
         }
     }

@@ -12,8 +12,8 @@ use xray_io::{Piece, Printed, Sink, Text, WriteFault};
 /// How many hexadecimal digits an address is printed with.
 const ADDRESS_DIGITS: usize = 16;
 
-/// The sled map of an image, as `llvm-xray extract` prints it: a YAML document with a line for each
-/// sled, in the order of the map.
+/// The sled map of an image as YAML, with the fields of `llvm-xray extract` except the version. The
+/// document has a line for each sled, in the order of the map.
 #[derive(Clone, Copy, Debug)]
 pub struct SledMap<'a>(pub &'a Image);
 

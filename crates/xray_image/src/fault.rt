@@ -26,13 +26,13 @@ pub enum ImageFault {
     #[error("the file is too short")]
     Short,
     /// The file doesn't begin with `XRIM`.
-    #[error("the file is no image")]
+    #[error("the file doesn't begin with XRIM")]
     Magic,
     /// The container's version isn't 1.
     #[error("the version isn't known")]
     Version,
     /// A field of the header is out of range.
-    #[error("beyond a limit: {0:?}")]
+    #[error("the header's field is out of range: {0:?}")]
     Limit(Which),
     /// Bytes follow the last map entry.
     #[error("bytes follow the last entry")]
@@ -49,11 +49,11 @@ pub enum ImageFault {
     /// unit: the first function at the base address, and each other one above the function before
     /// it. Its name has one or more bytes, all of them letters, digits, `_`, `.` or `$`, and no
     /// earlier function has the same name.
-    #[error("function {0} isn't fit")]
+    #[error("function {0} has a bad start or a bad name")]
     Names(u32),
     /// The map entry and the sled of this number, from 0 in ascending address, differ in their
     /// addresses, or only one of them exists.
-    #[error("entry {0} isn't the sled's of its number")]
+    #[error("map entry {0} and sled {0} differ in address, or one is missing")]
     MapOrder(u32),
     /// The map entry of this number, from 0, doesn't fit its sled. It names another function than
     /// the one that the sled lies in, has a kind that doesn't fit the sled's first bytes, or has a

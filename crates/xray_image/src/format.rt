@@ -1,6 +1,6 @@
-//! What the readers and the writers of image files share: the bytes that begin a file, the limits,
-//! and the bytes of sleds. The sleds are those that LLVM's compiler leaves and compiler-rt patches
-//! (`xray_x86_64.cpp`).
+//! What the readers and the writers of image files share: the bytes that begin a file, the places
+//! of the header's fields, the limits, and the bytes of sleds. The sleds are those that LLVM's
+//! compiler leaves and compiler-rt patches (`xray_x86_64.cpp`).
 
 ghost use Rattle.std.specs.Prelude.{◌≡◌};
 ghost use Rattle.xray_image.specs.Program.{is_name_byte};
@@ -15,6 +15,33 @@ pub const VERSION: u32 = 1;
 
 /// The length of the header in bytes. The code follows it.
 pub const HEADER_LENGTH: usize = 64;
+
+/// The place of the version in the header.
+pub const VERSION_AT: usize = 4;
+
+/// The place of the base address in the header.
+pub const BASE_AT: usize = 8;
+
+/// The place in the header of the length of the code.
+pub const CODE_LENGTH_AT: usize = 16;
+
+/// The place in the header of the number of functions.
+pub const FUNCTION_COUNT_AT: usize = 20;
+
+/// The place in the header of the number of the sled map's entries.
+pub const ENTRY_COUNT_AT: usize = 24;
+
+/// The place in the header of the number of the entry function.
+pub const ENTRY_INDEX_AT: usize = 28;
+
+/// The place in the header of the address of the entry sleds' trampoline.
+pub const ENTRY_TRAMPOLINE_AT: usize = 32;
+
+/// The place in the header of the address of the exit sleds' trampoline.
+pub const EXIT_TRAMPOLINE_AT: usize = 40;
+
+/// The place in the header of the address of the tail sleds' trampoline.
+pub const TAIL_TRAMPOLINE_AT: usize = 48;
 
 /// The longest code in bytes.
 pub const CODE_LIMIT: u32 = 1_048_576;
@@ -34,14 +61,15 @@ pub const BASE_LIMIT: u64 = 0x7FFF_0000_0000;
 /// The longest name of a function in bytes. A function entry keeps the length in one byte.
 pub const NAME_LIMIT: usize = 255;
 
-/// The length of a sled in bytes: a head of two, and a nop of nine.
+/// The length of a sled in bytes: a short jump of two and a nop of nine, or a ret and a nop of ten.
 pub const SLED_LENGTH: usize = 11;
 
 /// The head of an entry or tail sled: a short jump over the sled's other nine bytes (`Jmp9Seq` of
 /// `xray_x86_64.cpp`).
 pub const JUMP_HEAD: [u8; 2] = [0xEB, 0x09];
 
-/// The head of an exit sled: a return, and a byte that sets it apart from a plain return.
+/// The head of an exit sled: ret, and 2E, the CS prefix that begins its nop of ten bytes (Intel
+/// SDM, volume 2, section 2.1.1).
 pub const RETURN_HEAD: [u8; 2] = [RET, 0x2E];
 
 /// The nop that fills a sled, up to its displacement of four bytes: `nopw disp32(rax, rax)` (Intel

@@ -5,8 +5,9 @@ ghost use Rattle.std.specs.Prelude.{◌≡◌, ◌≤◌, length, OnOk, IfOk, If
 use crate::fault::{ImageFault, Which};
 use crate::fields::{u32_at, u64_at};
 use crate::format::{
-    BASE_ALIGNMENT, BASE_LIMIT, CODE_LIMIT, FUNCTION_LIMIT, HEADER_LENGTH, MAGIC, SLED_LIMIT,
-    VERSION,
+    BASE_ALIGNMENT, BASE_AT, BASE_LIMIT, CODE_LENGTH_AT, CODE_LIMIT, ENTRY_COUNT_AT,
+    ENTRY_INDEX_AT, ENTRY_TRAMPOLINE_AT, EXIT_TRAMPOLINE_AT, FUNCTION_COUNT_AT, FUNCTION_LIMIT,
+    HEADER_LENGTH, MAGIC, SLED_LIMIT, TAIL_TRAMPOLINE_AT, VERSION, VERSION_AT,
 };
 use crate::sled::SledKind;
 
@@ -90,16 +91,16 @@ impl Header {
         ensures { IsHeaderOf bytes.now result }
     {
         Header {
-            version: u32_at(bytes, 4),
-            base: u64_at(bytes, 8),
-            code_length: u32_at(bytes, 16),
-            functions: u32_at(bytes, 20),
-            entries: u32_at(bytes, 24),
-            entry_index: u32_at(bytes, 28),
+            version: u32_at(bytes, VERSION_AT),
+            base: u64_at(bytes, BASE_AT),
+            code_length: u32_at(bytes, CODE_LENGTH_AT),
+            functions: u32_at(bytes, FUNCTION_COUNT_AT),
+            entries: u32_at(bytes, ENTRY_COUNT_AT),
+            entry_index: u32_at(bytes, ENTRY_INDEX_AT),
             trampolines: Trampolines {
-                entry: u64_at(bytes, 32),
-                exit: u64_at(bytes, 40),
-                tail: u64_at(bytes, 48),
+                entry: u64_at(bytes, ENTRY_TRAMPOLINE_AT),
+                exit: u64_at(bytes, EXIT_TRAMPOLINE_AT),
+                tail: u64_at(bytes, TAIL_TRAMPOLINE_AT),
             },
         }
     }

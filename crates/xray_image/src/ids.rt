@@ -5,7 +5,7 @@ ghost use Rattle.std.specs.List.Sorted.{IsStrictlyIncreasing, IsNonDecreasing};
 ghost use Rattle.xray_image.specs.Program.{distinct, id_of};
 ghost use Rattle.xray_image.specs.private.{Numbering.{AreNumbersOf}, Views.{entry_of}};
 
-use crate::parts::{FunctionEntry, MapLine};
+use crate::parts::{FunctionEntry, RawMapEntry};
 use std::alloc::{AllocError, Global};
 
 /// The number of the function that begins at an address. The functions ascend by address.
@@ -62,7 +62,7 @@ impl FunctionIds {
     pub(crate) fn new(
         alloc: Global,
         functions: &[FunctionEntry<'_>],
-        lines: &[MapLine],
+        lines: &[RawMapEntry],
     ) -> Result<FunctionIds, AllocError>
         requires ascend { IsStrictlyIncreasing (map (λ f. f.start) functions.now) }
         requires known { All (λ e. Contains (map (λ f. f.start) functions.now) e.function) lines.now }

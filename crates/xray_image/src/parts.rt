@@ -12,7 +12,10 @@ use crate::header::Header;
 use std::alloc::Global;
 
 /// The bytes of a function entry before its name: the start address and the name's length.
-const FUNCTION_FRONT: usize = 9;
+const FUNCTION_PREFIX_LENGTH: usize = 9;
+
+/// The place of the start address in a function entry.
+const START_AT: usize = 0;
 
 /// The place of the name's length in a function entry.
 const NAME_LENGTH_AT: usize = 8;
@@ -20,14 +23,20 @@ const NAME_LENGTH_AT: usize = 8;
 /// The length of an entry of the sled map. The bytes after its version are padding.
 const MAP_ENTRY_LENGTH: usize = 32;
 
+/// The place of the sled's address in a map entry.
+const SLED_AT: usize = 0;
+
+/// The place of the function's address in a map entry.
+const FUNCTION_AT: usize = 8;
+
 /// The place of the sled's kind in a map entry.
 const KIND_AT: usize = 16;
 
 /// The place in a map entry of the flag that says that its function is always instrumented.
 const ALWAYS_AT: usize = 17;
 
-/// The place of the version in a map entry.
-const VERSION_AT: usize = 18;
+/// The place of the sled's version in a map entry.
+const SLED_VERSION_AT: usize = 18;
 
 /// An entry of a part of the file that has as many entries as the header counts.
 trait Counted<'a>: Drop {
@@ -63,12 +72,12 @@ impl<'a> Counted<'a> for FunctionEntry<'a> {
     ghost read_at = { function_at };
 
     fn read(bytes: &'a [u8]) -> Option<(FunctionEntry<'a>, &'a [u8])> {
-        if bytes.len() < FUNCTION_FRONT {
+        if bytes.len() < FUNCTION_PREFIX_LENGTH {
             return None;
         }
-        let start = u64_at(bytes, 0);
+        let start = u64_at(bytes, START_AT);
         let name_length = bytes[NAME_LENGTH_AT] as usize;
-        let (_, rest) = bytes.split_at(FUNCTION_FRONT);
+        let (_, rest) = bytes.split_at(FUNCTION_PREFIX_LENGTH);
         if rest.len() < name_length {
             return None;
         }
@@ -79,7 +88,7 @@ impl<'a> Counted<'a> for FunctionEntry<'a> {
 
 /// An entry of the sled map, as the file has it.
 #[derive(Clone, Copy)]
-pub(crate) struct MapLine {
+pub(crate) struct RawMapEntry {
     pub(crate) sled: u64,
     pub(crate) function: u64,
     pub(crate) kind: u8,
@@ -87,7 +96,7 @@ pub(crate) struct MapLine {
     pub(crate) version: u8,
 }
 
-impl<'a> Counted<'a> for MapLine {
+impl<'a> Counted<'a> for RawMapEntry {
     ghost use Rattle.xray_image.specs.Container.{MapEntry, map_entry_at};
     ghost use Rattle.xray_image.specs.private.Views.{entry_of};
 
@@ -97,16 +106,16 @@ impl<'a> Counted<'a> for MapLine {
 
     ghost read_at = { map_entry_at };
 
-    fn read(bytes: &'a [u8]) -> Option<(MapLine, &'a [u8])> {
+    fn read(bytes: &'a [u8]) -> Option<(RawMapEntry, &'a [u8])> {
         if bytes.len() < MAP_ENTRY_LENGTH {
             return None;
         }
-        let line = MapLine {
-            sled: u64_at(bytes, 0),
-            function: u64_at(bytes, 8),
+        let line = RawMapEntry {
+            sled: u64_at(bytes, SLED_AT),
+            function: u64_at(bytes, FUNCTION_AT),
             kind: bytes[KIND_AT],
             always: bytes[ALWAYS_AT],
-            version: bytes[VERSION_AT],
+            version: bytes[SLED_VERSION_AT],
         };
         let (_, rest) = bytes.split_at(MAP_ENTRY_LENGTH);
         Some((line, rest))
@@ -118,7 +127,7 @@ impl<'a> Counted<'a> for MapLine {
 pub(crate) struct FileParts<'a> {
     pub(crate) code: &'a [u8],
     pub(crate) functions: Vec<FunctionEntry<'a>>,
-    pub(crate) entries: Vec<MapLine>,
+    pub(crate) entries: Vec<RawMapEntry>,
 }
 
 /// The entries of a part, as many as the header counts, and the bytes after them. Room is taken
@@ -166,7 +175,7 @@ impl<'a> FileParts<'a> {
         }
         let (code, rest) = following.split_at(code_length);
         let (functions, rest) = read_entries::<FunctionEntry>(alloc, header.functions, rest)?;
-        let (entries, rest) = read_entries::<MapLine>(alloc, header.entries, rest)?;
+        let (entries, rest) = read_entries::<RawMapEntry>(alloc, header.entries, rest)?;
         if !rest.is_empty() {
             return Err(ImageFault::Trailing);
         }

@@ -1,6 +1,6 @@
 //! Checks of the sled map's entries against the sleds of the code.
 
-ghost use Rattle.std.specs.Prelude.{◌≡◌, ◌<◌, ◌≤◌, ◌^◌, ◌↔◌, ◌-ℤ◌, ◌+◌, ℕ, pos, length, map, IsTrue, OnOk, IfOk, IfErr, FitsSigned};
+ghost use Rattle.std.specs.Prelude.{◌≡◌, ◌<◌, ◌≤◌, ◌^◌, ◌↔◌, ◌-ℤ◌, ◌+◌, ℕ, All, pos, length, map, IsTrue, OnOk, IfOk, IfErr, FitsSigned};
 ghost use Rattle.std.specs.{List.{zip}, Int.{w32}};
 ghost use Rattle.xray_image.specs.private.Judging.{Ascend};
 ghost use Rattle.xray_image.specs.Program.{KindFits, LiesIn, IsEntryOf, Reaches, kind_of, id_of, sled_of};
@@ -12,7 +12,7 @@ use crate::code_units::SledSpot;
 use crate::fault::ImageFault;
 use crate::format::SLED_LENGTH;
 use crate::header::Trampolines;
-use crate::parts::{FunctionEntry, MapLine};
+use crate::parts::{FunctionEntry, RawMapEntry};
 use crate::sled::{Sled, SledKind};
 use std::alloc::{AllocError, Global};
 
@@ -21,7 +21,7 @@ const VERSIONS: u8 = 2;
 
 /// Checks that the map has one entry for each sled, in the order of the sleds. `MapOrder` gives the
 /// first number whose entry and sled don't share one address.
-pub(crate) fn check_order(spots: &[SledSpot], lines: &[MapLine]) -> Result<(), ImageFault>
+pub(crate) fn check_order(spots: &[SledSpot], lines: &[RawMapEntry]) -> Result<(), ImageFault>
     requires spots { length spots.now < 2 ^ 32 }
     requires lines { length lines.now < 2 ^ 32 }
     ensures ordered { OnOk result ((i : ℕ)
@@ -65,7 +65,7 @@ fn may_have_kind(returns: bool, kind: u8) -> bool
 }
 
 /// Whether an entry agrees with the code about a sled.
-fn is_entry_of(functions: &[FunctionEntry<'_>], spot: &SledSpot, line: &MapLine) -> bool
+fn is_entry_of(functions: &[FunctionEntry<'_>], spot: &SledSpot, line: &RawMapEntry) -> bool
     requires { Ascend (map function_of functions.now) }
     ensures { IsTrue result
         ↔ IsEntryOf (map function_of functions.now) (place_of spot.now) (entry_of line.now) }
@@ -80,7 +80,7 @@ fn is_entry_of(functions: &[FunctionEntry<'_>], spot: &SledSpot, line: &MapLine)
 pub(crate) fn check_entries(
     functions: &[FunctionEntry<'_>],
     spots: &[SledSpot],
-    lines: &[MapLine],
+    lines: &[RawMapEntry],
 ) -> Result<(), ImageFault>
     requires few { length lines.now < 2 ^ 32 }
     requires spots { length lines.now ≤ length spots.now }
@@ -98,11 +98,15 @@ pub(crate) fn check_entries(
     Ok(())
 }
 
-/// The kind of a sled by its number in the map, which is known.
-fn kind_of(kind: u8) -> SledKind
-    ensures { result ≡ kind_of kind }
+/// The kind of a sled by its number in the map, which was checked.
+fn kind_of(number: u8) -> SledKind
+    requires { number < 3 }
+    ensures { result ≡ kind_of number }
 {
-    SledKind::from_number(kind).unwrap_or(SledKind::Tail)
+    match SledKind::from_number(number) {
+        Some(kind) => kind,
+        None => unreachable!(),
+    }
 }
 
 /// Whether a sled's call or jump reaches a trampoline. The displacement counts from the sled's end,
@@ -119,10 +123,11 @@ fn reaches(sled: u64, trampoline: u64) -> bool
 pub(crate) fn check_distances(
     trampolines: &Trampolines,
     spots: &[SledSpot],
-    lines: &[MapLine],
+    lines: &[RawMapEntry],
 ) -> Result<(), ImageFault>
     requires few { length lines.now < 2 ^ 32 }
     requires spots { length lines.now ≤ length spots.now }
+    requires kinds { All (λ e. e.kind < 3) lines.now }
     ensures near { OnOk result ((i : ℕ) → FitsAt (map place_of spots.now) (map entry_of lines.now)
         (Reaches (trampolines_of trampolines.now)) i) }
     ensures refused { IfErr result (IsFirstFault (FitsAt (map place_of spots.now)
@@ -141,10 +146,11 @@ pub(crate) fn check_distances(
 pub(crate) fn read_sleds(
     alloc: Global,
     spots: &[SledSpot],
-    lines: &[MapLine],
+    lines: &[RawMapEntry],
     ids: &[u32],
 ) -> Result<Vec<Sled>, AllocError>
     requires spots { length lines.now ≤ length spots.now }
+    requires kinds { All (λ e. e.kind < 3) lines.now }
     requires ids { ids.now ≡ map (λ e. id_of (map entry_of lines.now) e.function) lines.now }
     ensures { IfOk result (λ sleds. let entries = map entry_of lines.now in
         sleds.items ≡ map (sled_of entries) (zip (map place_of spots.now) entries)) }

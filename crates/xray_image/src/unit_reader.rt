@@ -72,7 +72,8 @@ fn nop_shift(bytes: &[u8]) -> Option<u32>
     Some(u32_at(field, 0))
 }
 
-/// Whether the bytes begin as a sled does. No instruction of the subset begins so, except a return.
+/// Whether the bytes begin as a sled does. A ret before a byte 2E begins so too, and is taken for a
+/// sled.
 fn begins_as_sled(bytes: &[u8]) -> bool
     ensures { IsTrue result ↔ BeginsAsSled bytes.now }
 {

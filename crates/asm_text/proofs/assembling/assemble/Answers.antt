@@ -1,5 +1,7 @@
 use Rattle.std.proofs.Common.{◌≡◌, false, List, sym, ap, subst, inr, ◌∙◌, rules}
 use Rattle.std.specs.Prelude.{Ok, Err}
+use Rattle.std.proofs.lemmas.Result.{err_from_is_err_and}
+use Rattle.asm_text.specs.declared.fault.AsmFault.{AsmFault}
 use Rattle.asm_text.specs.declared.layout.Laid.{Laid}
 use Rattle.asm_text.specs.Refusals.{ends_early, resolved}
 use Rattle.asm_text.specs.private.FirstPass.{lines_in}
@@ -9,39 +11,42 @@ use Rattle.asm_text.specs.Assembling.{assembled}
 use Rattle.asm_text.proofs.Assembled.{assembled_fault, assembled_file, said_whole}
 use Rattle.asm_text.proofs.ProgramLaw.{holds_program}
 use Rattle.asm_text.proofs.assembling.assemble.Goals as goal
-use Rattle.asm_text.proofs.assembling.assemble.Goals.{In-Err-resolve, In-Ok-write_file}
+use Rattle.asm_text.proofs.assembling.assemble.Goals.{In_err-resolve, In_ok-write_file}
 
 -- an unresolved line
-fault_verdict : (c : In-Err-resolve) → assembled c.args.text.now c.args.threshold ≡ Err c.in-Err-resolve.fault
-fault_verdict c =
-    let said = lines_in c.in-Ok.pass.entries.items in
-    let whole : ends_early said ≡ false = sym (c.end_early.ensures said c.in-Ok.ensures.reads.1.totals) ∙ c.if-end_early.false in
-    let found : resolved (lines_of (all_in c.in-Ok-new.laid)) (lines_of (all_in c.in-Ok-new.laid)) ≡ Err c.in-Err-resolve.fault =
-    subst (λ (lines : List Laid). resolved (lines_of (placed_in lines)) (lines_of (placed_in lines)) ≡ Err c.in-Err-resolve.fault) c.deref.ensures.value c.in-Err-resolve.ensures in
-    assembled_fault c.args.text.now c.args.threshold said (all_in c.in-Ok-new.laid) c.in-Ok-new.ensures.lines c.in-Ok.ensures.reads.0 whole c.in-Err-resolve.fault found
+fault_verdict : (c : In_err-resolve) (fault : AsmFault) → resolved (lines_of (placed_in c.deref.result.now)) (lines_of (placed_in c.deref.result.now)) ≡ Err fault
+    → assembled c.args.text.now c.args.threshold ≡ Err fault
+fault_verdict c fault refused =
+    let said = lines_in c.in_ok-pass.pass.entries.items in
+    let whole : ends_early said ≡ false = sym (c.end_early.ensures said c.in_ok-pass.ensures.reads.1.totals) ∙ c.if-end_early.false in
+    let found : resolved (lines_of (all_in c.in_ok-laid.laid)) (lines_of (all_in c.in_ok-laid.laid)) ≡ Err fault =
+    subst (λ (lines : List Laid). resolved (lines_of (placed_in lines)) (lines_of (placed_in lines)) ≡ Err fault) c.deref.ensures.value refused in
+    assembled_fault c.args.text.now c.args.threshold said (all_in c.in_ok-laid.laid) c.in_ok-laid.ensures.lines c.in_ok-pass.ensures.reads.0 whole fault found
 
 -- the image
-file_verdict : (c : In-Ok-write_file) → assembled c.args.text.now c.args.threshold ≡ Ok c.in-Ok-write_file.file.items
+file_verdict : (c : In_ok-write_file) → assembled c.args.text.now c.args.threshold ≡ Ok c.in_ok-write_file.field-0.items
 file_verdict c =
-    let said = lines_in c.in-Ok.pass.entries.items in
-    let whole : ends_early said ≡ false = sym (c.end_early.ensures said c.in-Ok.ensures.reads.1.totals) ∙ c.if-end_early.false in
-    let found : resolved (lines_of (all_in c.in-Ok-new.laid)) (lines_of (all_in c.in-Ok-new.laid)) ≡ Ok (lines_of (all_in c.in-Ok-new.laid)) = search rules in
-    assembled_file c.args.text.now c.args.threshold said (all_in c.in-Ok-new.laid) c.in-Ok-new.ensures.lines c.in-Ok.ensures.reads.0 whole found
-    ∙ ap (λ bytes. Ok bytes) (sym c.in-Ok-write_file.ensures)
+    let said = lines_in c.in_ok-pass.pass.entries.items in
+    let whole : ends_early said ≡ false = sym (c.end_early.ensures said c.in_ok-pass.ensures.reads.1.totals) ∙ c.if-end_early.false in
+    let found : resolved (lines_of (all_in c.in_ok-laid.laid)) (lines_of (all_in c.in_ok-laid.laid)) ≡ Ok (lines_of (all_in c.in_ok-laid.laid)) = search rules in
+    assembled_file c.args.text.now c.args.threshold said (all_in c.in_ok-laid.laid) c.in_ok-laid.ensures.lines c.in_ok-pass.ensures.reads.0 whole found
+    ∙ ap (λ bytes. Ok bytes) (sym c.in_ok-write_file.ensures)
 
-pub returns-in-Err-resolve-clause-made : goal.returns-in-Err-resolve-clause-made
-returns-in-Err-resolve-clause-made c = inr (sym (fault_verdict (goal.at.returns-in-Err-resolve-clause-made c).In-Err-resolve))
+pub returns-in_err-resolve-clause-made : goal.returns-in_err-resolve-clause-made
+returns-in_err-resolve-clause-made c =
+    let p = err_from_is_err_and c.from_residual-in_err-resolve.result c.from_residual-in_err-resolve.ensures.1 in
+    rw (p.1, p.2) (inr (sym (fault_verdict (goal.at.returns-in_err-resolve-clause-made c).In_err-resolve _ c.in_err-resolve.ensures)))
 
-pub returns-in-Ok-write_file-clause-made : goal.returns-in-Ok-write_file-clause-made
-returns-in-Ok-write_file-clause-made c = inr (sym (file_verdict (goal.at.returns-in-Ok-write_file-clause-made c).In-Ok-write_file))
+pub returns-clause-made : goal.returns-clause-made
+returns-clause-made c = inr (sym (file_verdict (goal.at.returns-clause-made c).In_ok-write_file))
 
 -- the program
-pub returns-in-Ok-write_file-clause-accepted : goal.returns-in-Ok-write_file-clause-accepted
-returns-in-Ok-write_file-clause-accepted c =
-    let said = lines_in c.in-Ok.pass.entries.items in
-    let whole : ends_early said ≡ false = sym (c.end_early.ensures said c.in-Ok.ensures.reads.1.totals) ∙ c.if-end_early.false in
-    let found : resolved (lines_of (all_in c.in-Ok-new.laid)) (lines_of (all_in c.in-Ok-new.laid)) ≡ Ok (lines_of (all_in c.in-Ok-new.laid)) = search rules in
+pub returns-clause-accepted : goal.returns-clause-accepted
+returns-clause-accepted c =
+    let said = lines_in c.in_ok-pass.pass.entries.items in
+    let whole : ends_early said ≡ false = sym (c.end_early.ensures said c.in_ok-pass.ensures.reads.1.totals) ∙ c.if-end_early.false in
+    let found : resolved (lines_of (all_in c.in_ok-laid.laid)) (lines_of (all_in c.in_ok-laid.laid)) ≡ Ok (lines_of (all_in c.in_ok-laid.laid)) = search rules in
     holds_program c.args.text.now c.args.threshold said
-    (said_whole c.args.text.now c.args.threshold said (all_in c.in-Ok-new.laid) c.in-Ok-new.ensures.lines c.in-Ok.ensures.reads.0 whole found)
-    c.in-Ok-write_file.file.items
-    (file_verdict (goal.at.returns-in-Ok-write_file-clause-accepted c).In-Ok-write_file)
+    (said_whole c.args.text.now c.args.threshold said (all_in c.in_ok-laid.laid) c.in_ok-laid.ensures.lines c.in_ok-pass.ensures.reads.0 whole found)
+    c.in_ok-write_file.field-0.items
+    (file_verdict (goal.at.returns-clause-accepted c).In_ok-write_file)

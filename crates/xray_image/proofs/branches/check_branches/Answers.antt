@@ -17,12 +17,12 @@ pub overflow_cast-result : goal.overflow_cast-result
 overflow_cast-result c =
     omega (arith, address_above c.args.base _ (units_in c.args.units.now) c.loop-number.number c.get-unit.result c.requires.within c.get-unit.ensures)
 
-pub returns-then-not-goes_rightly-clause-refused : goal.returns-then-not-goes_rightly-clause-refused
-returns-then-not-goes_rightly-clause-refused c =
+pub returns-then-not-branch_reaches_unit-clause-refused : goal.returns-then-not-branch_reaches_unit-clause-refused
+returns-then-not-branch_reaches_unit-clause-refused c =
     let units = units_in c.args.units.now in
     let i = c.loop-number.number in
     let at = address_read units i c.get-unit.result c.get-unit.ensures in
-    let right = c.if-not-goes_rightly.ensures units c.requires.index (address_within c.args.base units c.requires.within c.requires.base) in
+    let right = c.if-not-branch_reaches_unit.ensures units c.requires.index (address_within c.args.base units c.requires.within c.requires.base) in
     record {
       number = i;
       fails = wrongly c.args.base units i c.get-unit.result (slice_get_within units c.loop-number.number c.get-unit.result c.get-unit.ensures) (sym (get_or_from_slice_get units c.loop-number.number c.get-unit.result c.get-unit.result c.get-unit.ensures)) (λ r. false≢true (right.1 r));
@@ -34,7 +34,7 @@ pub loop-number-preserved : goal.loop-number-preserved
 loop-number-preserved c =
     let units = units_in c.args.units.now in
     let i = c.loop-number.number in
-    let right = c.if-not-goes_rightly.ensures units c.requires.index (address_within c.args.base units c.requires.within c.requires.base) in
+    let right = c.if-not-branch_reaches_unit.ensures units c.requires.index (address_within c.args.base units c.requires.within c.requires.base) in
     below_more (BranchesRightly units) i c.loop-number.invariant (rightly c.args.base units i c.get-unit.result (slice_get_within units c.loop-number.number c.get-unit.result c.get-unit.ensures) (sym (get_or_from_slice_get units c.loop-number.number c.get-unit.result c.get-unit.result c.get-unit.ensures)) (right.0 refl))
 
 pub returns-clause-right : goal.returns-clause-right

@@ -5,7 +5,7 @@ use Rattle.std.proofs.lemmas.Int.{to_z-of_z}
 use Rattle.xray_image.proofs.Branching.{arrives, outside}
 use Rattle.xray_image.proofs.FunctionRows.{found_is}
 use Rattle.xray_image.specs.Program.{addresses}
-use Rattle.xray_image.proofs.branches.goes_rightly.Goals as goal
+use Rattle.xray_image.proofs.branches.branch_reaches_unit.Goals as goal
 
 pub returns-in-Ok : goal.returns-in-Ok
 returns-in-Ok c = λ units index low.
