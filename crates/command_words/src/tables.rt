@@ -55,7 +55,7 @@ pub(crate) const TICK: OptionRow = OptionRow {
     name: "tick",
     values: Values::Number {
         least: 0,
-        most: 18_446_744_073_709_551_615,
+        most: u64::MAX,
     },
     default: Some(1),
 };
@@ -65,7 +65,7 @@ pub(crate) const TSC: OptionRow = OptionRow {
     name: "tsc",
     values: Values::Number {
         least: 0,
-        most: 18_446_744_073_709_551_615,
+        most: u64::MAX,
     },
     default: Some(0),
 };
@@ -75,7 +75,7 @@ pub(crate) const FREQUENCY: OptionRow = OptionRow {
     name: "frequency",
     values: Values::Number {
         least: 0,
-        most: 18_446_744_073_709_551_615,
+        most: u64::MAX,
     },
     default: Some(0),
 };
@@ -85,7 +85,7 @@ pub(crate) const CPUS: OptionRow = OptionRow {
     name: "cpus",
     values: Values::Number {
         least: 1,
-        most: 65_535,
+        most: u16::MAX as u64,
     },
     default: Some(1),
 };
@@ -105,7 +105,7 @@ pub(crate) const PID: OptionRow = OptionRow {
     name: "pid",
     values: Values::Number {
         least: 0,
-        most: 2_147_483_647,
+        most: i32::MAX as u64,
     },
     default: Some(1),
 };
@@ -115,7 +115,7 @@ pub(crate) const WALL: OptionRow = OptionRow {
     name: "wall",
     values: Values::Number {
         least: 0,
-        most: 18_446_744_073_709_551_615,
+        most: u64::MAX,
     },
     default: None,
 };
@@ -125,7 +125,7 @@ pub(crate) const THRESHOLD: OptionRow = OptionRow {
     name: "threshold",
     values: Values::Number {
         least: 0,
-        most: 4_294_967_295,
+        most: u32::MAX as u64,
     },
     default: Some(1),
 };
@@ -149,7 +149,7 @@ pub(crate) const TOP: OptionRow = OptionRow {
     name: "top",
     values: Values::Number {
         least: 0,
-        most: 4_294_967_295,
+        most: u32::MAX as u64,
     },
     default: None,
 };
@@ -238,7 +238,7 @@ const SEED: FileRow = FileRow {
 /// What this number may be: any of 64 bits.
 pub(crate) const SEEDS: Values = Values::Number {
     least: 0,
-    most: 18_446_744_073_709_551_615,
+    most: u64::MAX,
 };
 
 /// `account TRACE [IMAGE]`: prints how often the functions of a trace were called, and for how

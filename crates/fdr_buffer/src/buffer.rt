@@ -101,7 +101,7 @@ impl Buffer {
         requires { IsTrue self.now.begun }
         ensures { result ≡ has_room self.now.size (self.now.events ++ event.now ∷ []) }
     {
-        Lead::of(self.last, event).len(event) <= self.bytes.len() - self.used
+        Lead::of(self.last, event).len() <= self.bytes.len() - self.used
     }
 
     /// Adds an event after the others. The buffer has to be begun, and the event has to fit; `fits`

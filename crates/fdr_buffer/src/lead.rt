@@ -1,6 +1,7 @@
 //! What comes before an event's function record.
 
 ghost use Rattle.std.specs.Prelude.{◌≡◌, ◌<◌, ◌^◌, length};
+ghost use Rattle.fdr_record.specs.declared.event.Event.{Event};
 ghost use Rattle.fdr_buffer.specs.Segments.{bytes_of, records_of};
 ghost use Rattle.fdr_buffer.specs.private.Leads.{lead_records};
 
@@ -31,15 +32,15 @@ impl Lead {
         if before.cpu != cpu {
             return Lead::Cpu;
         }
-        match tsc.checked_sub(before.tsc) {
-            Some(delta) if delta <= u32::MAX as u64 => Lead::Delta(delta as u32),
+        match tsc.checked_sub(before.tsc).map(u32::try_from) {
+            Some(Ok(delta)) => Lead::Delta(delta),
             _ => Lead::Wrap,
         }
     }
 
-    /// The length of the event's records in bytes.
-    pub(crate) fn len(self, event: &Event) -> usize
-        ensures { result ≡ length (bytes_of (lead_records self event.now)) }
+    /// The length of an event's records in bytes, which is the same for every event.
+    pub(crate) fn len(self) -> usize
+        ensures { (event : Event) → result ≡ length (bytes_of (lead_records self event)) }
     {
         match self {
             Lead::Cpu | Lead::Wrap => METADATA_BYTES + FUNCTION_BYTES,

@@ -6,3 +6,4 @@ pub mod Gathered
 pub mod Accepting
 pub mod Returning
 pub mod Described
+mod Flags

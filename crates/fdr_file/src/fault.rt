@@ -11,9 +11,9 @@ pub enum TraceFault {
     /// The file ends too early. If it has fewer bytes than a header, the place is 0. Otherwise a
     /// block has to begin at this place, and the bytes left are fewer than a `BufferExtents` record
     /// has, or fewer than that record names.
-    #[error("the file is cut off in what begins at {0}")]
+    #[error("the file ends within the block or header at {0}")]
     Short(u64),
-    /// The header's version, if it isn't 3.
+    /// The header's version, if it isn't 3. The runtime of LLVM 14, for example, writes version 5.
     #[error("version {0} isn't read")]
     Version(u16),
     /// The header's type, if it isn't 1, which is that of the Flight Data Recorder mode.
@@ -26,7 +26,7 @@ pub enum TraceFault {
     Order(u64),
     /// The extents at this place name fewer than the 48 bytes of a preamble. Or the record at this
     /// place doesn't end within the block, whose end the extents say.
-    #[error("the extents don't fit the record at {0}")]
+    #[error("the block's extents are too short at {0}")]
     Extents(u64),
     /// The bytes at this place aren't a record, because of their action or their kind.
     #[error("no record stands at {0}: {1}")]

@@ -1,6 +1,7 @@
 //! The header of a trace file.
 
-ghost use Rattle.std.specs.Prelude.{◌≡◌, ◌≤◌, length, drop, Ok, Err};
+ghost use Rattle.std.specs.Prelude.{◌≡◌, ◌≤◌, ◌+◌, length, drop, Ok, Err};
+ghost use Rattle.byteorder.specs.Endian.{little_number};
 ghost use Rattle.fdr_file.specs.Traces.{header_in};
 ghost use Rattle.fdr_file.specs.private.Faults.{decided, header_faults};
 
@@ -10,13 +11,15 @@ use byteorder::{ByteOrder, LittleEndian};
 /// The length of a header in bytes.
 pub(crate) const HEADER_BYTES: usize = 32;
 
-/// The version of the files that are read.
-const VERSION: u16 = 3;
+/// The version of the files that are read and written.
+pub const VERSION: u16 = 3;
 
 /// The type of files of the Flight Data Recorder mode.
 pub(crate) const FDR: u16 = 1;
 
-/// The places of a header's fields. The version is at 0, and bytes from 24 on are reserved.
+/// The places of a header's fields. Bytes from 24 on are reserved.
+const VERSION_AT: usize = 0;
+
 const TYPE_AT: usize = 2;
 
 const FLAGS_AT: usize = 4;
@@ -25,9 +28,10 @@ const FREQUENCY_AT: usize = 8;
 
 const SIZE_AT: usize = 16;
 
-/// The flags, as bits of their number.
+/// The flag that the counter runs at a constant frequency. Flags are bits of their number.
 pub(crate) const CONSTANT: u32 = 1;
 
+/// The flag that the counter goes on while the processor sleeps.
 pub(crate) const NONSTOP: u32 = 2;
 
 /// The reserved bytes, as they are written.
@@ -48,35 +52,52 @@ pub struct Header {
     pub size: u64,
 }
 
-/// The bytes from a place on.
-fn from(bytes: &[u8], at: usize) -> &[u8]
-    requires { at ≤ length bytes.now }
-    ensures { result.now ≡ drop at bytes.now }
+/// The number in the two bytes at a place, lowest byte first.
+fn u16_at(bytes: &[u8], at: usize) -> u16
+    requires { at + 2 ≤ length bytes.now }
+    ensures { result ≡ little_number 2 (drop at bytes.now) }
 {
-    bytes.split_at(at).1
+    LittleEndian::read_u16(bytes.split_at(at).1)
+}
+
+/// The number in the four bytes at a place, lowest byte first.
+fn u32_at(bytes: &[u8], at: usize) -> u32
+    requires { at + 4 ≤ length bytes.now }
+    ensures { result ≡ little_number 4 (drop at bytes.now) }
+{
+    LittleEndian::read_u32(bytes.split_at(at).1)
+}
+
+/// The number in the eight bytes at a place, lowest byte first.
+fn u64_at(bytes: &[u8], at: usize) -> u64
+    requires { at + 8 ≤ length bytes.now }
+    ensures { result ≡ little_number 8 (drop at bytes.now) }
+{
+    LittleEndian::read_u64(bytes.split_at(at).1)
 }
 
 /// The header of a file, or its first fault.
+#[tactic(auto, using(crate::proofs::Flags::first_flag, crate::proofs::Flags::second_flag))]
 pub(crate) fn read_header(bytes: &[u8]) -> Result<Header, TraceFault>
     ensures { result ≡ decided (header_faults bytes.now) (header_in bytes.now) }
 {
     if bytes.len() < HEADER_BYTES {
         return Err(TraceFault::Short(0));
     }
-    let version = LittleEndian::read_u16(bytes);
+    let version = u16_at(bytes, VERSION_AT);
     if version != VERSION {
         return Err(TraceFault::Version(version));
     }
-    let form = LittleEndian::read_u16(from(bytes, TYPE_AT));
+    let form = u16_at(bytes, TYPE_AT);
     if form != FDR {
         return Err(TraceFault::Form(form));
     }
-    let flags = LittleEndian::read_u32(from(bytes, FLAGS_AT));
+    let flags = u32_at(bytes, FLAGS_AT);
     Ok(Header {
         version,
-        constant: flags % 2 == 1,
-        nonstop: (flags >> 1) % 2 == 1,
-        frequency: LittleEndian::read_u64(from(bytes, FREQUENCY_AT)),
-        size: LittleEndian::read_u64(from(bytes, SIZE_AT)),
+        constant: flags & CONSTANT != 0,
+        nonstop: flags & NONSTOP != 0,
+        frequency: u64_at(bytes, FREQUENCY_AT),
+        size: u64_at(bytes, SIZE_AT),
     })
 }

@@ -15,7 +15,7 @@ mod trace;
 mod writing;
 
 pub use fault::TraceFault;
-pub use header::Header;
+pub use header::{Header, VERSION};
 pub use laws::{a_file_reads_back, a_place_is_decoded, a_trace_is_read, what_is_read_is_a_trace};
 pub use reading::read_trace;
 pub use trace::{Block, Blocks, Events, Items, Trace};

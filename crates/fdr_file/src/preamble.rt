@@ -5,11 +5,11 @@ ghost use Rattle.fdr_file.specs.private.Reading.{Reads, left_at, preamble_on};
 
 use crate::TraceFault;
 use crate::records::record_at;
-use fdr_record::Rec;
+use fdr_record::{METADATA_BYTES, Rec};
 use xray_io::Wall;
 
 /// The length of the three records of a preamble in bytes.
-pub(crate) const PREAMBLE_BYTES: u64 = 48;
+pub(crate) const PREAMBLE_BYTES: u64 = 3 * METADATA_BYTES as u64;
 
 /// What the first three records of a block say.
 #[derive(Drop)]

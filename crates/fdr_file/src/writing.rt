@@ -117,9 +117,10 @@ impl Printed for TraceFile<'_> {
 
 /// Writes a trace file of version 3: the header, and a block for each buffer. A block is a
 /// `BufferExtents` record with the number of the buffer's bytes, and these bytes. LLVM's runtime
-/// flushes its buffers in this way (`fdrLoggingFlush` of `xray_fdr_logging.cpp`). Each buffer has
-/// to be begun, so that its block has a preamble. The file is a trace by the grammar. It reads back
-/// as the header and the events of the buffers, in order.
+/// flushes its buffers as blocks too (`fdrLoggingFlush` of `xray_fdr_logging.cpp`), but that of
+/// LLVM 14 writes version 5. Each buffer has to be begun, so that its block has a preamble. The
+/// file is a trace by the grammar. It reads back as the header and the events of the buffers, in
+/// order.
 ///
 /// On `WriteFault` a prefix of the file was written, and the sink counted a fault.
 pub fn write_file<S: Sink>(

@@ -23,7 +23,8 @@ pub enum Rec {
         /// from it.
         tsc: u64,
     },
-    /// The whole counter, if a delta can't reach it (`TSCWrap`).
+    /// The whole counter, if a delta can't reach it (`TSCWrap`). compiler-rt writes one as soon as
+    /// the delta is above 2^31 - 1.
     TscWrap {
         /// The counter, in cycles. The deltas of the function records after this one count from it.
         tsc: u64,

@@ -7,7 +7,11 @@ use std::test::Fail;
 
 #[test]
 fn inputs_are_those_of_the_model(rt: HostRuntime) -> Result<(), Fail> {
-    let (text, script, schedule) = soak_inputs(rt.alloc(), 0)?;
+    let SoakInputs {
+        text,
+        script,
+        schedule,
+    } = soak_inputs(rt.alloc(), 0)?;
     check_same(&rt, &text.len(), &3720);
     assert!(rt; text.starts_with(b"base 0x1000\nfn f0 always\nmov eax, 17\nout 1\ncall f1\n"));
     check_same(&rt, &script.len(), &1606);
@@ -16,7 +20,11 @@ fn inputs_are_those_of_the_model(rt: HostRuntime) -> Result<(), Fail> {
     );
     check_same(&rt, &schedule.len(), &27112);
     assert!(rt; schedule.starts_with(b"t 2 131\nt 4 20\nt 1 145\nt 2 180\nt 3 3\np 1\n"));
-    let (text, script, schedule) = soak_inputs(rt.alloc(), u64::MAX)?;
+    let SoakInputs {
+        text,
+        script,
+        schedule,
+    } = soak_inputs(rt.alloc(), u64::MAX)?;
     check_same(&rt, &text.len(), &3740);
     check_same(&rt, &script.len(), &1684);
     check_same(&rt, &schedule.len(), &27185);

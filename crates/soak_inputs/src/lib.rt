@@ -10,5 +10,5 @@ mod schedule;
 mod script;
 mod text;
 
-pub use inputs::soak_inputs;
+pub use inputs::{SOAK_FUNCTIONS, SOAK_THREADS, SoakInputs, soak_inputs};
 pub use laws::{the_schedule_is_read, the_script_is_read, the_text_is_assembled};

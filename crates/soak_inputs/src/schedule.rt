@@ -3,6 +3,7 @@ ghost use Rattle.std.specs.Prelude.{◌≡◌, ◌++◌, ◌∷◌, [], IfOk, On
 ghost use Rattle.step_sim.specs.WrittenSchedules.{schedule_text};
 ghost use Rattle.soak_inputs.specs.Schedules.{after_turns, schedule, turns};
 
+use crate::SOAK_THREADS;
 use crate::draws::Draws;
 use crate::lines::add_number;
 use std::alloc::Global;
@@ -11,8 +12,8 @@ use xray_io::NoMemory;
 /// How many lines there are.
 const LINES: u32 = 4000;
 
-/// Who may have turns: the patcher, and each of four threads.
-const PARTIES: u64 = 5;
+/// Who may have turns: the patcher, and each thread.
+const PARTIES: u64 = 1 + SOAK_THREADS as u64;
 
 /// The most turns of the patcher in a line, and of a thread.
 const STEPS: u64 = 8;

@@ -3,6 +3,7 @@ ghost use Rattle.std.specs.Prelude.{◌≡◌, ◌++◌, ◌∷◌, [], IfOk, On
 ghost use Rattle.patch_script.specs.WrittenScripts.{script_text};
 ghost use Rattle.soak_inputs.specs.Scripts.{after_change, after_script, change, script};
 
+use crate::SOAK_FUNCTIONS;
 use crate::draws::Draws;
 use crate::lines::{add_bytes, add_number};
 use std::alloc::Global;
@@ -13,9 +14,6 @@ const CHANGES: u32 = 100;
 
 /// How many kinds of changes there are.
 const KINDS: u64 = 4;
-
-/// How many function ids there are.
-const IDS: u64 = 64;
 
 /// The script that is drawn next.
 pub(crate) fn write_script(alloc: Global, draws: &mut Draws) -> Result<Vec<u8>, NoMemory>
@@ -35,8 +33,8 @@ fn add_change(text: &mut Vec<u8>, draws: &mut Draws) -> Result<(), NoMemory>
     ensures after { OnOk result (draws.new ≡ after_change draws.old) }
 {
     match draws.draw(KINDS) {
-        0 => add_number(text, b"patch_function ", 1 + draws.draw(IDS), b"\n"),
-        1 => add_number(text, b"unpatch_function ", 1 + draws.draw(IDS), b"\n"),
+        0 => add_number(text, b"patch_function ", 1 + draws.draw(SOAK_FUNCTIONS), b"\n"),
+        1 => add_number(text, b"unpatch_function ", 1 + draws.draw(SOAK_FUNCTIONS), b"\n"),
         2 => add_bytes(text, b"remove_handler\n"),
         _ => add_bytes(text, b"set_handler\n"),
     }

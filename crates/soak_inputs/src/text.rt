@@ -3,16 +3,14 @@ ghost use Rattle.std.specs.Prelude.{◌≡◌, ◌≤◌, ◌<◌, ◌++◌, ◌
 ghost use Rattle.text_lines.specs.Written.{written_text};
 ghost use Rattle.soak_inputs.specs.Texts.{after_callee, after_function, after_round, after_text, assembler_text, call_lines, callee, function_lines, round, round_lines};
 
+use crate::SOAK_FUNCTIONS;
 use crate::draws::Draws;
 use crate::lines::add_number;
 use std::alloc::Global;
 use xray_io::NoMemory;
 
-/// How many functions there are. They are `f0`, `f1` and so on.
-const FUNCTIONS: u64 = 64;
-
-/// The number of the last function.
-const LAST: u64 = FUNCTIONS - 1;
+/// The number of the last function. They are `f0`, `f1` and so on.
+const LAST: u64 = SOAK_FUNCTIONS - 1;
 
 /// How many functions after its caller a called function may come.
 const REACH: u64 = 4;
@@ -29,7 +27,7 @@ pub(crate) fn write_text(alloc: Global, draws: &mut Draws) -> Result<Vec<u8>, No
     ensures after { OnOk result (draws.new ≡ after_text draws.old) }
 {
     let mut text = Vec::from_slice(alloc, b"base 0x1000\n")?;
-    for function in 0..FUNCTIONS {
+    for function in 0..SOAK_FUNCTIONS {
         add_function(&mut text, function, draws)?;
     }
     Ok(text)

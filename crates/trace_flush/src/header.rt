@@ -3,11 +3,8 @@
 ghost use Rattle.std.specs.Prelude.{◌≡◌};
 ghost use Rattle.trace_flush.specs.Flush.{header_of};
 
-use fdr_file::Header;
+use fdr_file::{Header, VERSION};
 use machine_step::Setup;
-
-/// The version of the traces that are written.
-const VERSION: u16 = 3;
 
 /// The header of the trace of a run with this setup: version 3, a counter that runs at a constant
 /// frequency and never stops, that frequency, and the size of a buffer.

@@ -1,14 +1,14 @@
 //! The end of a command's work: its outputs are written, and then its text.
 ghost use Rattle.std.specs.Prelude.{◌≡◌, ℕ, List, [], ◌∷◌, Contains, Option, option_map, IfErr, OnOk};
 ghost use Rattle.fault_words.specs.Words.{words_text};
-ghost use Rattle.xray_io.specs.{Calls.{Went}, Outputs.{AppendsText, MakesOutput}};
+ghost use Rattle.xray_io.specs.Calls.{Went};
 ghost use Rattle.xray_io.specs.World.{desk_view, sink_view};
 ghost use Rattle.xray_program.specs.Outputs.{AreWhole};
 ghost use Rattle.xray_program.specs.private.Works.{AreMakings, Delivers, KeepsOthers, StopsOutputs, names_of};
 
 use crate::stop::Stop;
 use fault_words::Words;
-use xray_io::{Desk, DeskFile, Printed, Sink, WriteFault, write_text};
+use xray_io::{Desk, Printed, Sink, WriteFault, write_output, write_text};
 
 /// The name of the standard output in a line on err.
 const OUT: &str = "output";
@@ -67,7 +67,7 @@ impl<'a, P: Printed> Outputs<'a> for Output<'a, '_, P> {
     ghost ready = { λ o. P.ready o.text.now };
 
     fn write<D: Desk>(&self, desk: &mut D) -> Result<(), Stop<'a>> {
-        match make(desk, self.name, self.text) {
+        match write_output(desk, self.name, self.text) {
             Ok(()) => Ok(()),
             Err(WriteFault) => Err(Stop::Unwritten(self.name)),
         }
@@ -93,36 +93,14 @@ impl<'a, P: Printed, Q: Printed> Outputs<'a> for TwoOutputs<'a, '_, P, Q> {
         × P.ready o.first.text.now × Q.ready o.second.text.now };
 
     fn write<D: Desk>(&self, desk: &mut D) -> Result<(), Stop<'a>> {
-        match make(desk, self.first.name, self.first.text) {
-            Ok(()) => match make(desk, self.second.name, self.second.text) {
+        match write_output(desk, self.first.name, self.first.text) {
+            Ok(()) => match write_output(desk, self.second.name, self.second.text) {
                 Ok(()) => Ok(()),
                 Err(WriteFault) => Err(Stop::Unwritten(self.second.name)),
             },
             Err(WriteFault) => Err(Stop::Unwritten(self.first.name)),
         }
     }
-}
-
-/// Creates a name, and writes a text to it.
-fn make<P: Printed, D: Desk>(desk: &mut D, name: &str, text: &P) -> Result<(), WriteFault>
-    requires { P.ready text.now }
-    ensures { MakesOutput D.held D.read_faults D.write_faults D.along
-        desk.old desk.new name.now (P.text text.now) result }
-{
-    match desk.create(name) {
-        Ok(()) => append(desk, name, text),
-        Err(_) => Err(WriteFault),
-    }
-}
-
-/// Writes a text at the end of what a name holds.
-fn append<P: Printed, D: Desk>(desk: &mut D, name: &str, text: &P) -> Result<(), WriteFault>
-    requires { P.ready text.now }
-    ensures { AppendsText D.held D.read_faults D.write_faults D.along
-        desk.old desk.new name.now (P.text text.now) result }
-{
-    let mut file = DeskFile::new(desk, name);
-    write_text(text, &mut file)
 }
 
 /// Creates and writes the outputs, each in its turn, and then writes the text on out. After a

@@ -13,7 +13,10 @@ use asm_text::{an_assembled_file_is_accepted, assemble};
 use fault_words::Fault;
 use machine_step::{Limits, Setup, Steps};
 use patch_script::read_script;
-use soak_inputs::{soak_inputs, the_schedule_is_read, the_script_is_read, the_text_is_assembled};
+use soak_inputs::{
+    SOAK_THREADS, SoakInputs, soak_inputs, the_schedule_is_read, the_script_is_read,
+    the_text_is_assembled,
+};
 use std::alloc::Global;
 use step_sim::{SimEnd, SimStart, read_schedule};
 use xray_image::{Image, read_image};
@@ -24,7 +27,7 @@ const THRESHOLD: u32 = 1;
 
 /// What each replay is made with.
 pub(crate) const SOAK_SETUP: Setup = Setup {
-    threads: 4,
+    threads: SOAK_THREADS,
     size: 4_096,
     max: 64,
     limits: Limits {
@@ -69,14 +72,18 @@ pub(crate) fn each_input_is_read()
 /// The inputs of a number, each as it is read.
 pub(crate) fn drawn_inputs(alloc: Global, number: u64) -> Result<SimInputs, NoMemory>
     ensures inputs { IfOk result (λ inputs. AreInputs number inputs.image inputs.script inputs.schedule) }
-    ensures fit { IfOk result (AreReadFor 4) }
+    ensures fit { IfOk result (AreReadFor SOAK_THREADS) }
 {
     // Called for its contract: none of the inputs is refused.
     each_input_is_read();
-    let (text, script, schedule) = soak_inputs(alloc, number)?;
+    let SoakInputs {
+        text,
+        script,
+        schedule,
+    } = soak_inputs(alloc, number)?;
     let image = image_of(alloc, &text)?;
-    let script = unrefused(read_script(alloc, &script, &image, SOAK_SETUP.threads))?;
-    let schedule = unrefused(read_schedule(alloc, &schedule, SOAK_SETUP.threads))?;
+    let script = unrefused(read_script(alloc, &script, &image, SOAK_THREADS))?;
+    let schedule = unrefused(read_schedule(alloc, &schedule, SOAK_THREADS))?;
     Ok(SimInputs {
         image,
         script,
@@ -101,7 +108,7 @@ pub(crate) fn replayed<'s>(
     inputs: &SimInputs,
 ) -> Result<SimEnd<'s>, NoMemory>
     requires steps { inputs.now.image ≡ steps.now }
-    requires fit { AreReadFor 4 inputs.now }
+    requires fit { AreReadFor SOAK_THREADS inputs.now }
     requires still { waiting_line inputs.now.script.lines ≡ None }
     ensures { IfOk result (λ end. IsSimulated inputs.now.image (commands_of inputs.now.script.lines)
         inputs.now.schedule soak_setup end.cpus.items end.sealed.items end.segments.items end.first.items

@@ -10,8 +10,9 @@ use function_names::add_name;
 use xray_image::Image;
 use xray_io::{Piece, Printed, Sink, Text, WriteFault};
 
-/// A trace, which is printed as `llvm-xray convert -f=yaml` does, as a YAML document: its header, and
-/// a line for each event, block by block in the order of the file.
+/// A trace as a YAML document with the keys of `llvm-xray convert -f=yaml`: its header, and a line
+/// for each event. Unlike there, events stay block by block, in the order of the file, and records
+/// have no `data`.
 ///
 /// The type of the header is always 1, that of the Flight Data Recorder mode. The type of a record is
 /// always 0. `process` is the process of the event's block, and `tsc` its counter in cycles.
