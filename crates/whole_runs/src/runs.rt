@@ -7,7 +7,7 @@ use std::sync::Wait;
 use std::test::Fail;
 use std::thread::Threads;
 use xray_io::{Desk, Gate, MemDesk, MemSink, OpenGate, Wall};
-use xray_program::xray;
+use xray_program::{may_wait, xray, xray_still};
 
 /// The file of an image of 170 bytes. Its only function, at 0x1000, is an entry sled, `mov eax,
 /// 0x41`, `out 1, al`, and an exit sled.
@@ -114,7 +114,11 @@ pub fn run_at<R: Threads + Wait + Sync + AllocGlobal, D: Desk, G: Gate + Sync>(
     let wall = Wall { secs: 7, micros: 8 };
     let mut out = MemSink::new(alloc, Vec::from_slice(alloc, out_failing)?);
     let mut err = MemSink::new(alloc, Vec::from_slice(alloc, err_failing)?);
-    let status = xray(rt, alloc, &said, wall, desk, &mut out, &mut err, gate);
+    let status = if may_wait(&said) {
+        xray(rt, alloc, &said, wall, desk, &mut out, &mut err, gate)
+    } else {
+        xray_still(alloc, &said, wall, desk, &mut out, &mut err)
+    };
     Ok(Run {
         status,
         out: text_of(alloc, &out)?,

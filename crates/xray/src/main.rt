@@ -8,7 +8,7 @@ use xray_io::{ErrSink, FileDesk, OpenGate, OutSink, Wall, write_all};
 use xray_program::{may_wait, xray, xray_still};
 
 /// Does what the words of the command line say, over files and the standard streams, and ends with
-/// the status.
+/// the status. Only a command that may wait is given leave to wait.
 ///
 /// Words that aren't UTF-8 say no command. If memory for the words is refused, the report is that
 /// of `xray` for want of memory.
@@ -18,20 +18,17 @@ fn main(rt: HostRuntime) -> ExitCode {
         Err(error) if error.kind() == io::ErrorKind::OutOfMemory => return out_of_memory(&rt),
         Err(_) => Vec::new(rt.alloc()),
     };
-    ExitCode::from(status_of(&rt, &words))
-}
-
-/// Does what the words say. Only a command that may wait is given leave to wait.
-fn status_of(rt: &HostRuntime, words: &[String]) -> u8 {
-    let (alloc, wall) = (rt.alloc(), wall_time(rt));
-    let mut desk = FileDesk::new(rt);
-    let mut out = OutSink::new(rt);
+    let (alloc, wall) = (rt.alloc(), wall_time(&rt));
+    let mut desk = FileDesk::new(&rt);
+    let mut out = OutSink::new(&rt);
     let mut err = ErrSink::new(rt.stderr());
-    if may_wait(words) {
-        xray(rt, alloc, words, wall, &mut desk, &mut out, &mut err, &OpenGate)
+    let status = if may_wait(&words) {
+        let gate = &OpenGate;
+        xray(&rt, alloc, &words, wall, &mut desk, &mut out, &mut err, gate)
     } else {
-        xray_still(alloc, words, wall, &mut desk, &mut out, &mut err)
-    }
+        xray_still(alloc, &words, wall, &mut desk, &mut out, &mut err)
+    };
+    ExitCode::from(status)
 }
 
 fn words_after_name(rt: &HostRuntime) -> io::Result<Vec<String>> {
