@@ -7,6 +7,19 @@ pub const RAX: u8 = 0;
 /// The register that they count from if a bit of the prefix extends them.
 pub const R8: u8 = 8;
 
+/// How many bits of a register's number an opcode or ModRM holds. A bit of the prefix extends them.
+pub(crate) const LOW_BITS: u8 = 3;
+
+/// The mask of these bits.
+pub(crate) const LOW_MASK: u8 = 0b111;
+
+/// The place of the bit R in REX, which extends the source. Bit 0 is B, which extends the other
+/// register.
+pub(crate) const REX_R_SHIFT: u8 = 2;
+
+/// The place of the source in ModRM.
+pub(crate) const SOURCE_SHIFT: u8 = 3;
+
 /// REX with B alone: the register in the opcode is one of r8 to r15.
 pub const REX_B: u8 = 0x41;
 

@@ -9,8 +9,8 @@ ghost use Rattle.subset_decode.specs.Reading.{byte_at, field_at, distance_at, re
 use crate::fault::DecodeFault;
 use crate::instr::Instr;
 use crate::opcodes::{
-    ADD, CALL, ESCAPE, JMP, JNZ, MOV, OUT, POP, PUSH, R8, RAX, RET, REX_B, REX_W, REX_WB, REX_WR,
-    REX_WRB, SUB, TWO_REGISTERS,
+    ADD, CALL, ESCAPE, JMP, JNZ, LOW_MASK, MOV, OUT, POP, PUSH, R8, RAX, RET, REX_B, REX_W, REX_WB,
+    REX_WR, REX_WRB, SOURCE_SHIFT, SUB, TWO_REGISTERS,
 };
 use crate::reg::Reg;
 use byteorder::{ByteOrder, LittleEndian};
@@ -58,8 +58,8 @@ fn low_register(from: u8, opcode: u8, rest: &[u8]) -> Result<(Instr, &[u8]), Dec
     requires { from ≤ 8 }
     ensures { Gives (λ x. (x.0, x.1.now)) result (low_register_at from opcode rest.now) }
 {
-    let number = from + opcode % 8;
-    match opcode - opcode % 8 {
+    let number = from + (opcode & LOW_MASK);
+    match opcode & !LOW_MASK {
         MOV => {
             let dst = register(number)?;
             let (imm, rest) = field(rest)?;
@@ -86,8 +86,8 @@ fn operands(dst_from: u8, src_from: u8, modrm: u8) -> Result<(Reg, Reg), DecodeF
     if modrm < TWO_REGISTERS {
         return Err(DecodeFault::Unknown(modrm));
     }
-    let dst = register(dst_from + modrm % 8)?;
-    let src = register(src_from + modrm / 8 % 8)?;
+    let dst = register(dst_from + (modrm & LOW_MASK))?;
+    let src = register(src_from + (modrm >> SOURCE_SHIFT & LOW_MASK))?;
     Ok((dst, src))
 }
 

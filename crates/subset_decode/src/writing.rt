@@ -8,8 +8,8 @@ ghost use Rattle.subset_decode.specs.Encoding.{spelling, opcode_of, two_register
 use crate::code::Code;
 use crate::instr::Instr;
 use crate::opcodes::{
-    ADD, CALL, ESCAPE, JMP, JNZ, MOV, OUT, POP, PUSH, R8, RET, REX_B, REX_W, REX_WB, REX_WR, SUB,
-    TWO_REGISTERS,
+    ADD, CALL, ESCAPE, JMP, JNZ, LOW_BITS, LOW_MASK, MOV, OUT, POP, PUSH, R8, RET, REX_B,
+    REX_R_SHIFT, REX_W, SOURCE_SHIFT, SUB, TWO_REGISTERS,
 };
 use crate::reg::Reg;
 use byteorder::{ByteOrder, LittleEndian};
@@ -27,7 +27,7 @@ fn push_opcode(code: &mut Code, opcode: u8, reg: Reg)
     if number >= R8 {
         code.push_all(&[REX_B]);
     }
-    code.push_all(&[opcode + number % 8]);
+    code.push_all(&[opcode + (number & LOW_MASK)]);
 }
 
 /// A field of four bytes, lowest byte first.
@@ -60,8 +60,8 @@ fn push_two_registers(code: &mut Code, opcode: u8, dst: Reg, src: Reg)
     ensures named { IsRegister dst × IsRegister src }
 {
     let (dst, src) = (dst.number(), src.number());
-    let prefix = REX_W + (REX_WR - REX_W) * (src / 8) + (REX_WB - REX_W) * (dst / 8);
-    let registers = TWO_REGISTERS + 8 * (src % 8) + dst % 8;
+    let prefix = REX_W | ((src >> LOW_BITS) << REX_R_SHIFT | dst >> LOW_BITS);
+    let registers = TWO_REGISTERS | ((src & LOW_MASK) << SOURCE_SHIFT | dst & LOW_MASK);
     code.push_all(&[prefix, opcode, registers]);
 }
 
