@@ -16,12 +16,7 @@ fn has_function(laid: &[Laid], name: &[u8]) -> bool
     ensures { result ≡ list_any (λ line. names_function name.now line.1)
         (lines_of (placed_in laid.now)) }
 {
-    for line in laid {
-        if line.statement.names_function(name) {
-            return true;
-        }
-    }
-    false
+    laid.iter().any(|line| line.statement.names_function(name))
 }
 
 /// Whether a line's name has no place. `target` is the place of the next instruction line or
