@@ -167,7 +167,7 @@ fn a_desk_in_memory_is_written_at_the_end_of_a_name(rt: HostRuntime) -> Result<(
     for (name, call, wanted) in &CALLS {
         check_same_at(&rt, &make(&mut desk, name, call), wanted, name);
     }
-    write_output(&mut desk, "f", b"whole")?;
+    write_output(&mut desk, "f", &Piece::Bytes(b"whole"))?;
     for (name, bytes) in &HELD {
         check_same_at(&rt, &desk.get(name), &Some(*bytes), name);
     }

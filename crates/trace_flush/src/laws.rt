@@ -12,9 +12,7 @@ ghost use Rattle.trace_flush.specs.{Flush.{trace_bytes, IsTraceOf}, Lines.{accou
 ghost use Rattle.trace_flush.specs.Telling.{HasNumbers, HasSetupNumbers};
 
 use fdr_file::a_file_reads_back;
-use traced_run::{
-    a_run_fits_its_buffers, a_run_leaves_few_buffers, a_run_without_losses_is_whole,
-};
+use traced_run::{a_run_fits_its_buffers, a_run_leaves_few_buffers, a_run_without_losses_is_whole};
 
 /// The text of an audit determines its run. If two audits have the same text, their runs had the
 /// same setup and the same threads. Each thread has the same end, the same marks, and as many

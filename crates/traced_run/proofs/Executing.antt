@@ -182,11 +182,18 @@ module _ (bytes : List ℕ) (program : Program) (a : IsAccepted bytes program) (
           let its = owns 0 (passing_at limits thread s k sled) (ap (λ ps. slice_get ps 0) one) in
           let after : State = record s { passings = s.passings + 1 } in
           let address = sym at ∙ sym (stands_at_unit bytes program a u k sled among is found) in
-          let passes = sled_passes bytes program a limits k sled its.0 r after address found (its.2 sled found) in
-          (passes.r10, (
-            sled, found, its.0, sym (ap (slice_get loads) (add-zero s.passings)) ∙ its.1, passes.bytes, passes.fetched,
-            subst (λ (n : Next). SledStep program.trampolines limits sled (with_r10 r after) passes.bytes (but_r10 passes.r10 n)) (sym e) passes.step,
-          ))
+          let passes = sled_passes bytes program a limits k sled its.0 r after address found (its.2 sled found) in (
+            passes.r10,
+            (
+              sled,
+              found,
+              its.0,
+              sym (ap (slice_get loads) (add-zero s.passings)) ∙ its.1,
+              passes.bytes,
+              passes.fetched,
+              subst (λ (n : Next). SledStep program.trampolines limits sled (with_r10 r after) passes.bytes (but_r10 passes.r10 n)) (sym e) passes.step,
+            ),
+          )
   unit_executes r s u whats.Pad made next among at is owns (none, e) = (r, ap (but_r10 r) e)
 
   step_executes : (r : ℕ) (s : State) (made : List Passing) (next : Next) → HasOwn program loads s.passings made

@@ -24,7 +24,9 @@ fn main(rt: HostRuntime) -> ExitCode {
     let mut err = ErrSink::new(rt.stderr());
     let status = if may_wait(&words) {
         let gate = &OpenGate;
-        xray(&rt, alloc, &words, wall, &mut desk, &mut out, &mut err, gate)
+        xray(
+            &rt, alloc, &words, wall, &mut desk, &mut out, &mut err, gate,
+        )
     } else {
         xray_still(alloc, &words, wall, &mut desk, &mut out, &mut err)
     };
