@@ -49,13 +49,10 @@ fn count_functions(lines: &[Laid]) -> u32
     requires { length (functions 0 (placed_in lines.now)) ≤ most_functions }
     ensures { result ≡ length (functions 0 (placed_in lines.now)) }
 {
-    let mut count = 0;
-    for line in lines {
-        if let Statement::Function { .. } = line.statement {
-            count += 1;
-        }
-    }
-    count
+    lines
+        .iter()
+        .filter(|line| matches!(line.statement, Statement::Function { .. }))
+        .count() as u32
 }
 
 /// How many sleds there are.
@@ -63,13 +60,10 @@ fn count_sleds(lines: &[Laid]) -> u32
     requires { length (map_entries 0 (placed_in lines.now)) ≤ most_sleds }
     ensures { result ≡ length (map_entries 0 (placed_in lines.now)) }
 {
-    let mut count = 0;
-    for line in lines {
-        if line.owner.traced && kind_of(&line.statement).is_some() {
-            count += 1;
-        }
-    }
-    count
+    lines
+        .iter()
+        .filter(|line| line.owner.traced && kind_of(&line.statement).is_some())
+        .count() as u32
 }
 
 /// The number of the function with this name, from 0.
