@@ -1,6 +1,6 @@
 //! What is kept of each function while events are taken.
 
-ghost use Rattle.std.specs.Prelude.{◌≡◌, ◌-◌, ◌==◌, ◌||◌, ℕ, length, nat_eq, is_some, if◌then◌else◌, OnOk, slice_index};
+ghost use Rattle.std.specs.Prelude.{◌≡◌, ◌+◌, ◌-◌, ◌==◌, ◌||◌, ℕ, length, nat_eq, is_some, if◌then◌else◌, IfOk, OnOk, slice_index};
 ghost use Rattle.std.specs.HashMap.{get};
 ghost use Rattle.account_report.specs.Account.{row_from};
 ghost use Rattle.account_report.specs.private.Tallies.{durations_in, no_tally, row_with, tally_in, with_event};
@@ -52,12 +52,9 @@ impl Tally {
         if let Some(pair) = pair {
             self.durations.push(pair.duration)?;
         }
-        // No trace in memory has more events.
         match kind {
-            Kind::Entry => self.entries = self.entries.checked_add(1).ok_or(NoMemory)?,
-            Kind::Exit | Kind::TailExit => {
-                self.exits = self.exits.checked_add(1).ok_or(NoMemory)?;
-            }
+            Kind::Entry => self.entries = one_more(self.entries)?,
+            Kind::Exit | Kind::TailExit => self.exits = one_more(self.exits)?,
         }
         Ok(())
     }
@@ -74,6 +71,14 @@ impl Tally {
         durations.sort_unstable();
         row(func, &durations, entries, exits)
     }
+}
+
+/// The number after a count. No trace in memory reaches a count beyond its type, so `NoMemory` stands
+/// for that too.
+fn one_more(count: u64) -> Result<u64, NoMemory>
+    ensures { IfOk result (λ more. more ≡ count + 1) }
+{
+    count.checked_add(1).ok_or(NoMemory)
 }
 
 /// The row of a function with these durations, in ascending order, and with these numbers of

@@ -59,7 +59,6 @@ impl ThreadCalls {
         ensures stands { OnOk result (self.new ≡ next_standing event.now self.old) }
     {
         let at = self.events;
-        // No trace in memory has more events.
         self.events = at.checked_add(1).ok_or(NoMemory)?;
         match event.kind {
             Kind::Entry => {

@@ -18,6 +18,7 @@ mod stacks_of;
 mod tally;
 mod thread_blocks;
 mod thread_stack;
+mod totals;
 
 pub use call::{Call, Pair};
 pub use calls::ThreadCalls;

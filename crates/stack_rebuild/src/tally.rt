@@ -3,6 +3,7 @@
 ghost use Rattle.std.specs.Prelude.{◌≡◌, OnOk};
 ghost use Rattle.stack_rebuild.specs.private.Scanning.{no_tally, with_pair};
 
+use crate::totals::added;
 use xray_io::NoMemory;
 
 /// How many pairs a path has, and two sums: of their durations, and of their durations without
@@ -26,13 +27,13 @@ impl Tally {
         }
     }
 
-    /// One more pair. No trace in memory has more events than the numbers can count.
+    /// One more pair.
     pub(crate) fn add(&mut self, duration: u64, own: u128) -> Result<(), NoMemory>
         ensures { OnOk result (self.new ≡ with_pair duration own self.old) }
     {
         self.count = self.count.checked_add(1).ok_or(NoMemory)?;
-        self.sum = self.sum.checked_add(u128::from(duration)).ok_or(NoMemory)?;
-        self.own = self.own.checked_add(own).ok_or(NoMemory)?;
+        self.sum = added(self.sum, u128::from(duration))?;
+        self.own = added(self.own, own)?;
         Ok(())
     }
 }

@@ -10,6 +10,7 @@ ghost use Rattle.stack_rebuild.specs.Stacks.{Timed};
 
 use crate::calls::ThreadCalls;
 use crate::path_sums::PathSums;
+use crate::totals::added;
 use fdr_record::{Event, Kind};
 use std::alloc::Global;
 use xray_io::NoMemory;
@@ -24,14 +25,11 @@ pub(crate) struct Frame {
 }
 
 impl Frame {
-    /// Adds a duration to what was spent. No trace in memory has more events than it can count.
+    /// Adds a duration to what was spent.
     fn spend(&mut self, duration: u64) -> Result<(), NoMemory>
         ensures { OnOk result (self.new ≡ spending duration self.old) }
     {
-        self.spent = self
-            .spent
-            .checked_add(u128::from(duration))
-            .ok_or(NoMemory)?;
+        self.spent = added(self.spent, u128::from(duration))?;
         Ok(())
     }
 }

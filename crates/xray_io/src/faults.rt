@@ -17,14 +17,17 @@ pub enum ReadFail {
     Failed,
 }
 
-/// A wall time: seconds since the epoch, and microseconds below 1,000,000.
+/// A wall time.
 #[derive(Debug, Clone, Copy, PartialEq, Eq)]
 pub struct Wall {
+    /// Seconds since the epoch.
     pub secs: u64,
+    /// Microseconds within the second, below 1,000,000.
     pub micros: u32,
 }
 
-/// An allocation was refused.
+/// An allocation was refused. It may also stand for a count or a sum beyond its type, which no data
+/// in memory reaches.
 #[derive(Debug, Clone, Copy, PartialEq, Eq)]
 pub struct NoMemory;
 
