@@ -33,8 +33,18 @@ fn add_change(text: &mut Vec<u8>, draws: &mut Draws) -> Result<(), NoMemory>
     ensures after { OnOk result (draws.new ≡ after_change draws.old) }
 {
     match draws.draw(KINDS) {
-        0 => add_number(text, b"patch_function ", 1 + draws.draw(SOAK_FUNCTIONS), b"\n"),
-        1 => add_number(text, b"unpatch_function ", 1 + draws.draw(SOAK_FUNCTIONS), b"\n"),
+        0 => add_number(
+            text,
+            b"patch_function ",
+            1 + draws.draw(SOAK_FUNCTIONS),
+            b"\n",
+        ),
+        1 => add_number(
+            text,
+            b"unpatch_function ",
+            1 + draws.draw(SOAK_FUNCTIONS),
+            b"\n",
+        ),
         2 => add_bytes(text, b"remove_handler\n"),
         _ => add_bytes(text, b"set_handler\n"),
     }
