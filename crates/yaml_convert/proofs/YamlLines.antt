@@ -1,9 +1,8 @@
 -- The lines of a YAML document, as they are put together.
-use Rattle.std.proofs.Common.{◌≡◌, ◌<◌, ◌≤◌, ◌+◌, ◌++◌, ◌∙◌, ◌||◌, ℕ, zero, suc, Bool, true, false, cond, arith, Option, List, [], ◌∷◌, length, take, get_or, refl, sym, ap, append_assoc}
+use Rattle.std.proofs.Common.{◌≡◌, ◌++◌, ◌∙◌, ℕ, All, Bool, false, cond, Option, List, [], sym, ap, append_assoc}
 use Rattle.std.specs.Prelude.{codes, decimal}
-use Rattle.std.specs.List.{flat_map, list_any}
-use Rattle.std.proofs.lemmas.List.{take_all, take_more}
-use Rattle.std.proofs.lemmas.List.Folds.{list_any-append}
+use Rattle.std.specs.List.{flat_map}
+use Rattle.std.proofs.lemmas.List.Folds.{list_any_none}
 use Rattle.fdr_record.specs.declared.event.Event.{Event}
 use Rattle.fdr_file.specs.declared.header.Header.{Header}
 use Rattle.fdr_file.specs.declared.trace.Block.{Block}
@@ -35,30 +34,8 @@ end_pieces block event cpu thread pid tsc kind same_cpu same_thread same_pid sam
 
 -- ---- whether there is an event
 
-pub none_more : {X : Type 0} (p : X → Bool) (xs : List X) (i : ℕ) (x : X) → x ≡ get_or xs i x → i < length xs → list_any p (take i xs) ≡ false → p x ≡ false
-    → list_any p (take (i + 1) xs) ≡ false
-none_more p xs i x is within before here =
-    ap (list_any p) (take_more xs i x within)
-    ∙ (list_any-append p (take i xs) (get_or xs i x ∷ [])
-    ∙ (ap (λ (b : Bool). b || (p (get_or xs i x) || false)) before ∙ ap (λ (b : Bool). b || false) (ap p (sym is) ∙ here)))
-
-pub some_at : {X : Type 0} (p : X → Bool) (xs : List X) (i : ℕ) (x : X) → x ≡ get_or xs i x → i < length xs → p x ≡ true → list_any p xs ≡ true
-some_at p [] i x is within here = absurd (omega (arith, within))
-some_at p (y ∷ ys) zero x is within here = ap (λ (b : Bool). b || list_any p ys) (ap p (sym is) ∙ here)
-some_at p (y ∷ ys) (suc i) x is within here = ap (λ (b : Bool). p y || b) (some_at p ys i x is (omega (arith, within)) here) ∙ or_true (p y)
-  where
-    or_true : (b : Bool) → (b || true) ≡ true
-    or_true true = refl
-    or_true false = refl
-
-pub none_at_all : {X : Type 0} (p : X → Bool) (xs : List X) (i : ℕ) → length xs ≤ i → list_any p (take i xs) ≡ false → list_any p xs ≡ false
-none_at_all p xs i done none = sym (ap (list_any p) (take_all i xs done)) ∙ none
-
-pub starts_records : (blocks : List Block) → list_any has_events blocks ≡ true → records_start blocks ≡ codes "records:\n"
-starts_records blocks some = ap (λ (b : Bool). cond b (codes "records:\n") (codes "records: []\n")) some
-
-pub starts_empty : (blocks : List Block) → list_any has_events blocks ≡ false → records_start blocks ≡ codes "records: []\n"
-starts_empty blocks none = ap (λ (b : Bool). cond b (codes "records:\n") (codes "records: []\n")) none
+pub starts_empty : (blocks : List Block) → All (λ block. has_events block ≡ false) blocks → records_start blocks ≡ codes "records: []\n"
+starts_empty blocks none = ap (λ (b : Bool). cond b (codes "records:\n") (codes "records: []\n")) (list_any_none has_events blocks none)
 
 -- ---- the whole document
 

@@ -67,22 +67,22 @@ fn add_records<S: Sink>(text: &mut Text<S>, yaml: &YamlText) -> Result<(), Write
 }
 
 /// The text that the records begin with.
+#[tactic(auto, using(crate::proofs::YamlLines::starts_empty))]
 fn records_line(blocks: &[Block]) -> &'static [u8]
     ensures { result.now ≡ records_start blocks.now }
 {
-    'looking: for block in blocks {
-        if has_event(block) {
-            return b"records:\n";
-        }
+    if blocks.iter().any(has_event) {
+        b"records:\n"
+    } else {
+        b"records: []\n"
     }
-    b"records: []\n"
 }
 
 /// Whether a block has an event.
 fn has_event(block: &Block) -> bool
     ensures { result ≡ has_events block.now }
 {
-    block.events.as_slice().len() > 0
+    !block.events.as_slice().is_empty()
 }
 
 /// Adds the lines of blocks.
