@@ -26,6 +26,7 @@ use Rattle.machine_step.specs.PlainStep.{Ends, Goes, Next, Passing, PlainRun, Pl
 use Rattle.machine_step.specs.Traced.{sleds_of}
 use Rattle.machine_step.specs.Whole.{FoundPatched, IsWhole, Loaded, loads_by_passing}
 use Rattle.machine_step.proofs.OnCourse.{run_count}
+use Rattle.machine_step.proofs.OneEnd.{Passes as PassesOrEnds}
 use Rattle.traced_run.specs.Decoded.{DecodesWhole}
 use Rattle.traced_run.specs.Runs.{ThreadRun}
 use Rattle.traced_run.specs.Executed.{Executes, ExecutesTo, Fetched, SledStep, StepExecutes, UnitExecutes, all_parts, calls, head_alone, jumps, leaves, past, returned, to_trampoline, with_r10, loaded_bytes}
@@ -167,11 +168,7 @@ module _ (bytes : List ℕ) (program : Program) (a : IsAccepted bytes program) (
       (r, ap (but_r10 r) e ∙ (sym (fuelled_but limits r s _) ∙ ap (fuelled limits (with_r10 r s)) (sym (does_but r s _ instr (names_registers bytes program a u instr among is)))))
   unit_executes r s u (whats.Sled k) made next among at is owns step = by_left (s.passings == limits.passings) step
     where
-      by_left : (left : Bool)
-          → MatchBool left ((made ≡ []) × (next ≡ Ends ends.Passings s))
-          ((sled : Sled) × (slice_get program.sleds k ≡ Some sled)
-          × (made ≡ passing_at limits thread s k sled ∷ [])
-          × (next ≡ after_passing limits (record s { passings = s.passings + 1 }) sled.kind))
+      by_left : (left : Bool) → PassesOrEnds program limits thread s k left made next
           → (r' : ℕ) × MatchBool left (but_r10 r' next ≡ Ends ends.Passings (with_r10 r s))
           ((sled : Sled) × (slice_get program.sleds k ≡ Some sled)
           × (own : List Load) × (slice_get loads s.passings ≡ Some own)

@@ -93,27 +93,17 @@ const LEFT: [Left; 6] = [
     ),
 ];
 
-/// Checks what threads that record all their passings leave.
-fn assert_leaves<R: Abort + Threads + Wait + Sync + AllocGlobal>(
-    rt: &R,
-    row: &Left,
-) -> Result<(), Fail> {
-    let (text, options, len, recycled, last) = *row;
-    let mut desk = desk_with(rt, text, TRACED)?;
-    let line = format!(in rt.alloc(); "{RUN} {options}")?;
-    let run = run_line(rt, &line, &mut desk)?;
-    assert_no_fault(rt, &run);
-    assert_length(rt, desk.get("t"), len);
-    let audit = std::str::from_utf8(desk.get("a").ok_or("no audit")?)?;
-    assert!(rt; has_line(audit, recycled), "{audit}");
-    assert!(rt; has_line(run.out.as_str(), last), "{}", run.out);
-    Ok(())
-}
-
 #[test]
 fn threads_keep_all_segments_or_the_last_ones(rt: HostRuntime) -> Result<(), Fail> {
-    for row in &LEFT {
-        assert_leaves(&rt, row)?;
+    for (text, options, len, recycled, last) in &LEFT {
+        let mut desk = desk_with(&rt, text, TRACED)?;
+        let line = format!(in rt.alloc(); "{RUN} {options}")?;
+        let run = run_line(&rt, &line, &mut desk)?;
+        assert_no_fault(&rt, &run);
+        assert_length(&rt, desk.get("t"), *len);
+        let audit = std::str::from_utf8(desk.get("a").ok_or("no audit")?)?;
+        assert!(rt; has_line(audit, recycled), "{audit}");
+        assert!(rt; has_line(run.out.as_str(), last), "{}", run.out);
     }
     Ok(())
 }

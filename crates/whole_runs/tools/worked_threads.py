@@ -106,10 +106,10 @@ ORDERED = [
     ),
     beside(
         "a thread that has ended lets the patcher go on",
-        file=STRAIGHT_LINE,
         script="set_handler / init / go / await 1 4294967295 / patch",
-        has=("marks .2",),
+        file=STRAIGHT_LINE,
         leaves={"t": header()},
+        has=("marks .2",),
     ),
     beside(
         "a thread that ends before its hold is never held",
