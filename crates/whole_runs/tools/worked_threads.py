@@ -113,10 +113,10 @@ ORDERED = [
     ),
     beside(
         "a thread that ends before its hold is never held",
-        file=STRAIGHT_LINE,
         script="patch / set_handler / init / hold 1 2 / go / await 1 2 / unpatch / release 1",
-        has=("marks +2",),
+        file=STRAIGHT_LINE,
         sizes={"t": 128},
+        has=("marks +2",),
     ),
 ]
 
