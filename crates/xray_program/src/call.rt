@@ -1,5 +1,5 @@
 //! The top call.
-ghost use Rattle.std.specs.Prelude.{◌≡◌, IfErr, IfOk, IsFalse, OnOk, Some};
+ghost use Rattle.std.specs.Prelude.{◌≡◌, ◌↔◌, IfErr, IfOk, IsFalse, IsTrue, OnOk, Some, codes, slice_get};
 ghost use Rattle.command_words.specs.{Items.{texts}, Ranges.{HasRanges}, Views.{command_view}};
 ghost use Rattle.command_words.specs.Words.{reading};
 ghost use Rattle.xray_io.specs.World.{desk_view, sink_view};
@@ -92,10 +92,11 @@ pub fn xray<T: Threads + Wait + Sync, D: Desk, O: Sink, E: Sink, G: Gate + Sync>
     answer(ended, err)
 }
 
-/// Whether the call of `words` may wait: the command is `run`, or no command. If not, it may be made
-/// by `xray_still`, whatever the wall time is.
+/// Whether the call of `words` may wait: the first of them is `run`. If it is not, `xray_still` may
+/// make the call, whatever the wall time is.
 pub fn may_wait(words: &[String]) -> bool
-    ensures { IsFalse result → (wall : Wall) → IsStill (reading wall (texts words.now)) }
+    ensures run { IsTrue result ↔ (slice_get (texts words.now) 0 ≡ Some (codes "run")) }
+    ensures still { IsFalse result → (wall : Wall) → IsStill (reading wall (texts words.now)) }
 {
     commands_follow_their_rows();
     match words.split_first() {

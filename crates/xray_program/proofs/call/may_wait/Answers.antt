@@ -6,8 +6,8 @@ use Rattle.xray_program.specs.Commands.{IsStill}
 use Rattle.xray_program.proofs.Waiting.{still_by_word}
 use Rattle.xray_program.proofs.call.may_wait.Goals as goal
 
-pub returns-in-Some : goal.returns-in-Some
-returns-in-Some c differs wall =
+pub returns-in-Some-clause-still : goal.returns-in-Some-clause-still
+returns-in-Some-clause-still c differs wall =
     let words_are : texts c.args.words.now ≡ c.as_str.result.now ∷ texts c.in-Some.field-0-1.now = search rules in
     let other : c.as_str.result.now ≡ codes "run" → ⊥ =
     λ same. let both : true ≡ false = ap (λ word. bytes_eq word (codes "run")) (sym same) ∙ (sym c.eq.ensures ∙ differs) in cc in
