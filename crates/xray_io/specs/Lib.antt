@@ -1,7 +1,6 @@
 pub mod Calls
 pub mod Desk
 pub mod DeskFile
-pub mod Each
 pub mod Faults
 pub mod Memory
 pub mod Outputs

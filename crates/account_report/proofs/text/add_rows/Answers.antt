@@ -1,6 +1,6 @@
 use Rattle.std.proofs.Common.{refl}
 use Rattle.std.specs.Option.{option_map}
-use Rattle.xray_io.specs.Each.{adds_broken, adds_next}
+use Rattle.xray_io.proofs.ItemTexts.{adds_broken, adds_next}
 use Rattle.account_report.specs.AccountText.{row_text}
 use Rattle.account_report.proofs.text.add_rows.Goals as goal
 

@@ -1,6 +1,6 @@
 use Rattle.std.proofs.Common.{List, ℕ}
 use Rattle.std.specs.Option.{option_map}
-use Rattle.xray_io.specs.Each.{adds_broken, adds_next}
+use Rattle.xray_io.proofs.ItemTexts.{adds_broken, adds_next}
 use Rattle.stack_rebuild.specs.declared.stack_row.StackRow.{StackRow}
 use Rattle.stack_rebuild.specs.Stacks.{told}
 use Rattle.stack_rebuild.specs.StackText.{row_text}

@@ -1,5 +1,5 @@
 use Rattle.std.specs.Option.{option_map}
-use Rattle.xray_io.specs.Each.{adds_broken, adds_next}
+use Rattle.xray_io.proofs.ItemTexts.{adds_broken, adds_next}
 use Rattle.yaml_convert.specs.Yaml.{block_lines}
 use Rattle.yaml_convert.proofs.yaml.add_blocks.Goals as goal
 

@@ -1,6 +1,6 @@
 use Rattle.std.proofs.Common.{refl}
 use Rattle.std.specs.Option.{option_map}
-use Rattle.xray_io.specs.Each.{adds_broken, adds_next}
+use Rattle.xray_io.proofs.ItemTexts.{adds_broken, adds_next}
 use Rattle.yaml_convert.specs.Yaml.{event_line}
 use Rattle.yaml_convert.proofs.yaml.add_events.Goals as goal
 

@@ -1,4 +1,4 @@
-use Rattle.xray_io.specs.Each.{adds_broken, adds_next}
+use Rattle.xray_io.proofs.ItemTexts.{adds_broken, adds_next}
 use Rattle.xray_io.specs.Text.{adds_nothing}
 use Rattle.xray_io.proofs.text.EachPrinted.add_to.Goals as goal
 
