@@ -1,3 +1,5 @@
+//! A row of an account.
+
 /// What the account says of a function, over all threads of a trace. Durations are in cycles.
 #[derive(Clone, Copy, Debug, PartialEq, Eq)]
 pub struct AccountRow {

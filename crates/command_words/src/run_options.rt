@@ -12,7 +12,7 @@ use crate::tables::{
 use xray_io::Wall;
 
 /// The most bytes that a trace file may have.
-pub const TRACE_LIMIT: u64 = 64 << 20;
+pub const TRACE_LIMIT: u64 = 67_108_864;
 
 /// How many bytes of a trace file come before its buffers.
 const TRACE_HEADER: u64 = 32;

@@ -21,8 +21,8 @@ pub const LARGEST_SIZE: u32 = 1_048_576;
 /// The most buffers of a run.
 pub const MOST_BUFFERS: u32 = 1_024;
 
-/// The bytes of one segment of a thread's events. First comes a preamble that says which thread it
-/// is, when the segment began, and in which process. The records of the events follow. LLVM's
+/// The bytes of one segment of a thread's events. First comes a preamble: the thread, a wall time
+/// and the process, as `begin` was given them. The records of the events follow. LLVM's
 /// `xray_fdr_controller.h` fills its buffers with the same kinds of records. The size of a buffer
 /// never changes.
 #[derive(Debug, Drop)]

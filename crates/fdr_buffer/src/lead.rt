@@ -10,16 +10,20 @@ use fdr_record::{Event, FUNCTION_BYTES, METADATA_BYTES};
 /// How an event's records say its CPU and counter.
 #[derive(Clone, Copy, PartialEq, Eq)]
 pub(crate) enum Lead {
-    /// A record with its CPU and counter comes first.
+    /// A `NewCPUId` record comes first. The event is the first of its segment, or it is on another
+    /// CPU than the event before it.
     Cpu,
-    /// A record with its counter comes first.
+    /// A `TSCWrap` record comes first. The counter is below that of the event before, or at least
+    /// 2^32 cycles above it. LLVM's runtime already writes this record from 2^31 cycles on
+    /// (`xray_fdr_controller.h`).
     Wrap,
-    /// Only the function record: it says how far the counter has advanced since the event before.
+    /// No other record comes first. The function record says by how many cycles the counter has
+    /// advanced since the event before.
     Delta(u32),
 }
 
 impl Lead {
-    /// How the records of an event say it, if `before` is the event before it in its segment.
+    /// The lead of an event. `before` is the event before it in its segment.
     pub(crate) fn of(before: Option<Event>, event: &Event) -> Lead
         ensures records { lead_records result event.now ≡ records_of before event.now }
         ensures cpu { event.now.cpu < 2 ^ 16 }
@@ -38,7 +42,8 @@ impl Lead {
         }
     }
 
-    /// The length of an event's records in bytes, which is the same for every event.
+    /// The length in bytes of the records of any event with this lead: 24 with a record that comes
+    /// first, and 8 without.
     pub(crate) fn len(self) -> usize
         ensures { (event : Event) → result ≡ length (bytes_of (lead_records self event)) }
     {

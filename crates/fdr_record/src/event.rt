@@ -1,3 +1,5 @@
+//! Events.
+
 /// What a passing records, as a function record of LLVM XRay's Flight Data Recorder mode says it.
 #[derive(Clone, Copy, Debug, PartialEq, Eq)]
 pub enum Kind {

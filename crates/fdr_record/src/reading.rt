@@ -121,8 +121,6 @@ pub fn take_rec(bytes: &[u8], at: usize) -> Result<(Rec, usize), RecFault>
     // A fault that holds there is answered.
     ensures exact { (f : RecFault) → Refuses (drop at bytes.now) f → result ≡ Err f }
 {
-    match record(&bytes[at..]) {
-        Ok(rec) => Ok((rec, at + rec_len(&rec))),
-        Err(fault) => Err(fault),
-    }
+    let rec = record(&bytes[at..])?;
+    Ok((rec, at + rec_len(&rec)))
 }

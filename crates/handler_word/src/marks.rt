@@ -100,8 +100,9 @@ impl Marks {
         Mark::from_bits((byte >> (n % MARKS_IN_BYTE * BITS_OF_MARK)) & FIRST_MARK)
     }
 
-    /// A number of marks from this one on that are all `mark`, as it is. If it is the first of a byte
-    /// of four such marks, they are all marks of that byte and of the bytes like it that follow.
+    /// How many marks from number `first` on are `mark`: at least 1, and perhaps not all of them. If
+    /// `first` begins a byte of four such marks, all marks of that byte and of the equal bytes after
+    /// it are counted.
     pub(crate) fn alike_from(&self, first: u32, mark: Mark) -> u32
         requires { slice_get self.now.items first ≡ Some mark }
         ensures some { 0 < result }

@@ -6,10 +6,8 @@ ghost use Rattle.machine_step.specs.private.Stages.{AllowsAt};
 
 use crate::stage::Stage;
 use sled_words::{HANDLER_SET, JUMP_HEAD, LogState, PATCHED_HEAD, Part, RELEASED, part_value};
+use subset_decode::opcodes::RET;
 use xray_image::{Image, SledKind};
-
-/// The byte C3, `ret`, which begins an unpatched exit sled.
-const RETURN: u64 = 0xC3;
 
 /// Whether a value may be loaded at this stage of a passing of a sled.
 pub(crate) fn allows(image: &Image, stage: Stage, sled: u32, value: u64) -> bool
@@ -28,13 +26,14 @@ pub(crate) fn allows(image: &Image, stage: Stage, sled: u32, value: u64) -> bool
     }
 }
 
-/// Whether a value is the head of an unpatched sled of this kind: a jump over the sled, or a return
-/// with any second byte.
+/// Whether a value is the head of an unpatched sled of this kind: a jump over the nine bytes after
+/// it, or a return with any second byte, since unpatching stores only the first one
+/// (`patchFunctionExit` of `xray_x86_64.cpp`).
 fn is_unpatched_head(kind: SledKind, value: u64) -> bool
     ensures { IsTrue result ↔ IsUnpatchedHead kind value }
 {
     match kind {
         SledKind::Entry | SledKind::Tail => value == JUMP_HEAD,
-        SledKind::Exit => value < 1 << 16 && value % 256 == RETURN,
+        SledKind::Exit => value <= u64::from(u16::MAX) && value as u8 == RET,
     }
 }

@@ -1,3 +1,5 @@
+//! The ends of threads.
+
 /// How a thread ends.
 #[derive(Clone, Copy, Debug, PartialEq, Eq)]
 pub enum End {
@@ -7,7 +9,7 @@ pub enum End {
     Fuel,
     /// Before a sled, with all passings used.
     Passings,
-    /// At an output of more than 65,536 bytes.
+    /// At an `out` with 65,536 bytes in the output.
     OutputFull,
     /// At a push or a call with 65,536 values on the stack.
     StackFull,

@@ -1,3 +1,5 @@
+//! The limits of threads.
+
 /// The limits of a thread, and how its passings are stamped.
 #[derive(Clone, Copy, Debug, PartialEq, Eq)]
 pub struct Limits {
@@ -9,8 +11,8 @@ pub struct Limits {
     pub tick: u64,
     /// The counter at a thread's start, in cycles.
     pub tsc: u64,
-    /// How many processors there are, at least 1.
+    /// How many CPUs there are, at least 1. They are numbered from 0.
     pub cpus: u16,
-    /// How many passings a thread makes before it moves to the next processor, at least 1.
+    /// How many passings a thread makes before it moves to the next CPU, at least 1.
     pub migrate: u32,
 }

@@ -1,3 +1,5 @@
+//! What a plain run of a thread leaves.
+
 use crate::end::End;
 
 /// The end of a thread whose sleds are only counted, and what it leaves.

@@ -1,3 +1,5 @@
+//! What replays and runs are made with.
+
 use crate::limits::Limits;
 use xray_io::Wall;
 
@@ -14,7 +16,8 @@ pub struct Setup {
     pub limits: Limits,
     /// The process's number, below 2^31.
     pub pid: u32,
-    /// The wall time that is written in each buffer.
+    /// The wall time that is written in each buffer: one for the whole run. LLVM's runtime reads a
+    /// clock for each buffer (`setupNewBuffer` of `xray_fdr_controller.h`).
     pub wall: Wall,
     /// The frequency of the counter in cycles per second, as the trace's header says it.
     pub frequency: u64,

@@ -42,8 +42,8 @@ pub(crate) fn event_at(
     })
 }
 
-/// The processor on which a thread is in its passing of this number. It divides only if the thread
-/// has moved, or if there are fewer processors than threads.
+/// The number of the CPU on which a thread is in its passing of this number. It divides only if the
+/// thread has moved, or if there are fewer CPUs than threads.
 fn cpu_at(thread: u32, passing: u32, limits: Limits) -> u16
     requires stamps { (1 ≤ limits.cpus) × (1 ≤ limits.migrate) }
     ensures { result ≡ (thread + passing / limits.migrate) % limits.cpus }
@@ -51,15 +51,15 @@ fn cpu_at(thread: u32, passing: u32, limits: Limits) -> u16
     if limits.cpus == 1 {
         return 0;
     }
-    let turn = u64::from(thread) + u64::from(moves_before(passing, limits.migrate));
-    if turn < u64::from(limits.cpus) {
-        turn as u16
+    let moved = u64::from(thread) + u64::from(moves_before(passing, limits.migrate));
+    if moved < u64::from(limits.cpus) {
+        moved as u16
     } else {
-        (turn % u64::from(limits.cpus)) as u16
+        (moved % u64::from(limits.cpus)) as u16
     }
 }
 
-/// How often a thread has moved to the next processor before its passing of this number.
+/// How often a thread has moved to the next CPU before its passing of this number.
 fn moves_before(passing: u32, migrate: u32) -> u32
     requires { 1 ≤ migrate }
     ensures { result ≡ passing / migrate }

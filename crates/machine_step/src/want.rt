@@ -1,3 +1,5 @@
+//! What threads wait for.
+
 use crate::end::End;
 
 /// What a thread wants next.

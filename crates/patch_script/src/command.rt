@@ -1,3 +1,5 @@
+//! The commands of scripts.
+
 /// A command of a patch script. Each line has one. Function ids and threads count from 1, passings
 /// from 0.
 #[derive(Clone, Copy, Debug, PartialEq, Eq)]

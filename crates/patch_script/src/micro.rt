@@ -1,3 +1,5 @@
+//! The micro steps of the patcher.
+
 /// One step of the patcher.
 #[derive(Clone, Copy, Debug, PartialEq, Eq)]
 pub enum Micro {

@@ -17,12 +17,15 @@ pub struct Load {
 
 /// A thread that was met, and what its seat had seen.
 pub struct Met {
+    /// The thread's number, from 1.
     pub thread: u64,
+    /// The place of the script that its seat had seen.
     pub seen: u64,
 }
 
 /// What the patcher's seat knows.
 pub struct PatchView {
+    /// The script of the table.
     pub script: Script,
     /// How many micro steps were made.
     pub place: u64,
@@ -36,6 +39,7 @@ pub struct PatchView {
 
 /// What a thread's seat knows.
 pub struct WorkView {
+    /// The script of the table.
     pub script: Script,
     /// The thread's number, from 1.
     pub thread: u64,
@@ -50,14 +54,19 @@ pub struct WorkView {
 
 /// What a note says: a place that the patcher had come to.
 pub struct NoteView {
+    /// The script of the table.
     pub script: Script,
+    /// How many micro steps had been made.
     pub told: u64,
 }
 
 /// What a tally says: a count that a thread had reached.
 pub struct TallyView {
+    /// The script of the table.
     pub script: Script,
+    /// The thread's number, from 1.
     pub thread: u64,
+    /// How many passings the thread had made, or 2^64 - 1 if it had ended.
     pub count: u64,
 }
 

@@ -36,10 +36,7 @@ fn push_unit(bytes: &mut Vec<u8>, what: What, words: &[u64]) -> Result<(), Alloc
     ensures { OnOk result (bytes.new.items ≡ bytes.old.items ++ unit_bytes words.now what) }
 {
     match what {
-        What::Plain(instr) => {
-            let code = encode(&instr);
-            bytes.extend_from_slice(&code.bytes[..code.len as usize])
-        }
+        What::Plain(instr) => bytes.extend_from_slice(encode(&instr).as_slice()),
         What::Sled(sled) => push_sled(bytes, sled, words),
         What::Pad => bytes.extend_from_slice(&[ALIGNMENT]),
     }
@@ -65,12 +62,12 @@ fn push_part(bytes: &mut Vec<u8>, sled: u32, part: Part, words: &[u64]) -> Resul
     ensures { OnOk result (bytes.new.items ≡ bytes.old.items ++ part_bytes words.now sled part) }
 {
     let value = words[word_of(sled, part) as usize];
-    bytes.extend_from_slice(&value.to_le_bytes()[..size_of(part)])?;
+    bytes.extend_from_slice(&value.to_le_bytes()[..part_size(part)])?;
     Ok(())
 }
 
 /// How many bytes of a sled a part has.
-fn size_of(part: Part) -> usize
+fn part_size(part: Part) -> usize
     ensures size { result ≡ part_size part }
     ensures few { result ≤ 4 }
 {

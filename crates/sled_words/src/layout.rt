@@ -1,3 +1,5 @@
+//! The numbers of the words.
+
 ghost use Rattle.std.specs.Prelude.{◌≡◌, ◌<◌, ◌≤◌, ◌^◌, length};
 ghost use Rattle.sled_words.specs.Words.{code_word_count, handler_word, release_word, state_word, word_of};
 

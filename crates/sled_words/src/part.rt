@@ -1,3 +1,5 @@
+//! The parts of a sled.
+
 /// A word of a sled, by the bytes of the sled that it covers.
 #[derive(Clone, Copy, Debug, PartialEq, Eq)]
 pub enum Part {

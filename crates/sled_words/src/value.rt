@@ -1,3 +1,5 @@
+//! The values of the parts of a sled, unpatched and patched.
+
 ghost use Rattle.std.specs.Prelude.{◌≡◌, ◌<◌, ◌+◌, length, slice_get, Some};
 ghost use Rattle.sled_words.specs.Parts.{displacement, part_value, patched, unpatched};
 ghost use Rattle.xray_image.specs.declared.sled.Sled.{Sled};
@@ -48,6 +50,7 @@ pub fn part_value(image: &Image, sled: u32, part: Part, patched: bool) -> u64
     }
 }
 
+/// The value of a part of an unpatched sled, as the image file has it.
 pub(crate) fn unpatched_value(sled: Sled, part: Part) -> u64
     ensures { result ≡ unpatched sled part }
 {
@@ -62,6 +65,7 @@ pub(crate) fn unpatched_value(sled: Sled, part: Part) -> u64
     }
 }
 
+/// The value of a part of a patched sled.
 fn patched_value(image: &Image, sled: Sled, part: Part) -> u64
     ensures { result ≡ patched image.now.trampolines sled part }
 {

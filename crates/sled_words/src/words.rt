@@ -1,3 +1,5 @@
+//! The values of the words before the first command of a script.
+
 ghost use Rattle.std.specs.Prelude.{◌≡◌, ◌≤◌, IfOk};
 ghost use Rattle.sled_words.specs.Parts.{initial_words, sled_words};
 

@@ -1,3 +1,5 @@
+//! Open calls.
+
 /// An open call: its entry was recorded, and no exit that ends it.
 #[derive(Clone, Copy, Debug, PartialEq, Eq)]
 pub struct Call {

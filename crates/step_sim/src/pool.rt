@@ -37,7 +37,8 @@ pub(crate) struct Left {
     /// How many segments each thread has: one per buffer that it has put into the queue, and the
     /// one in its hand.
     pub(crate) segments: Vec<u32>,
-    /// How many of the buffers in the queue were taken away again.
+    /// How many of each thread's segments are lost, because their buffers were taken out of the
+    /// queue again. Segments count from 0, so this is the number of the first one that is left.
     pub(crate) first: Vec<u32>,
     /// The buffers that hold a segment, thread by thread. Those of a thread are in the order of its
     /// segments.

@@ -28,8 +28,8 @@ pub struct SimEnd<'a> {
     /// How many segments the events of each thread were cut into: those that it has put into the
     /// queue, and the one that it holds. A thread without events has none.
     pub segments: Vec<u32>,
-    /// How many of those were taken away again. This is the number of the first segment of the
-    /// thread that is left.
+    /// How many of each thread's segments are lost, because their buffers were taken out of the
+    /// queue again. Segments count from 0, so this is the number of the first one that is left.
     pub first: Vec<u32>,
     /// The buffers that hold an event, thread by thread. Those of a thread are in the order of its
     /// segments.

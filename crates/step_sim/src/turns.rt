@@ -1,3 +1,5 @@
+//! The lines of schedules.
+
 /// A line of a schedule: whose turns come next, and how many.
 #[derive(Clone, Copy, Debug, PartialEq, Eq)]
 pub enum Turns {

@@ -3,7 +3,7 @@
 ghost use Rattle.std.specs.Prelude.{◌≡◌, ◌≤◌, ◌+◌, ◌-◌, [], ◌++◌, length, take, drop, replicate};
 ghost use Rattle.subset_decode.specs.declared.code.TheConstants.{LONGEST};
 
-/// The length of the longest encoding in bytes: `mov` into r8 to r15.
+/// The length of the longest encodings in bytes: those of `jnz`, and of `mov` into r8 to r15.
 pub const LONGEST: usize = 6;
 
 /// The length of `call` and `jmp` in bytes.

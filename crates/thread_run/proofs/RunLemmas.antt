@@ -8,6 +8,7 @@ use Rattle.std.proofs.lemmas.List.Sums.{length-filter, sum_by-cons}
 use Rattle.std.proofs.lemmas.Option.{slice_get-get_or, slice_get-map, slice_get_within}
 use Rattle.std.specs.List.{AllByRecursion, count_by}
 use Rattle.xray_image.specs.Program.{Program}
+use Rattle.patch_script.specs.Micros.{total_of}
 use Rattle.patch_script.specs.Plans.{Plan}
 use Rattle.patch_script.specs.Refusals.{commands_of}
 use Rattle.fdr_record.specs.declared.event.Event.{Event}
@@ -19,6 +20,7 @@ use Rattle.buffer_queue.specs.Passes.{PoolIs}
 use Rattle.machine_step.specs.declared.limits.Limits.{Limits}
 use Rattle.machine_step.specs.declared.setup.Setup.{Setup}
 use Rattle.machine_step.specs.Events.{recorded}
+use Rattle.machine_step.specs.Follows.{later}
 use Rattle.machine_step.specs.PlainStep.{PlainRun}
 use Rattle.machine_step.specs.Traced.{Traced, sleds_of}
 use Rattle.sled_rule.specs.Seats.{script_of}
@@ -27,9 +29,9 @@ use Rattle.traced_run.specs.Left.{HasRun}
 use Rattle.traced_run.specs.Losses.{AreLost, recycled_of}
 use Rattle.traced_run.specs.Runs.{ThreadRun}
 use Rattle.thread_run.specs.declared.worker.Worker.{Worker}
-use Rattle.thread_run.specs.Following.{MarksFollowScript, given}
+use Rattle.thread_run.specs.Following.{LoadsFollow, MarksFollowScript, given}
 use Rattle.thread_run.specs.Recordings.{HasSameOwner, Recording, StandsFor, segments_begun, segments_in}
-use Rattle.thread_run.specs.Runs.{HaveRunBeside}
+use Rattle.thread_run.specs.Runs.{HasRunAlong, HaveRunBeside}
 use Rattle.thread_run.specs.private.Pooled.{AreWorkersOfRun, IsWorkerOfRun, lost_beside}
 use Rattle.thread_run.specs.Workers.{HasEnded, HasRunOut, HaveRun, IsGoing, cpu_of, loads_of, recorder_of}
 use Rattle.thread_run.proofs.Notes.{begun_are}
@@ -42,6 +44,7 @@ use Rattle.thread_run.proofs.Pooled.{AreHands, HandIs, KeepsLast, hand_is, hands
 pub record IsRunOfWorker (plan : Plan) (setup : Setup) (used buffers : List Filled) (number : ℕ) (worker : Worker Recording) (run : ThreadRun) : Type 0 where
   pub plain : PlainRun plan.program setup.limits number run.passed run.end run.last
   pub follow : MarksFollowScript plan.program (commands_of plan.lines) number (sleds_of run.passed) run.marks
+  pub along : HasRunAlong plan.program (commands_of plan.lines) number run (cpu_of worker)
   pub has : HasRun number run (cpu_of worker)
   pub segments : segments_begun (recorder_of worker) ≡ segment_count setup.size run
   pub lost_is : segments_begun (recorder_of worker) - count_by (λ (b : Filled). b.thread == number) buffers ≡ run.lost
@@ -91,6 +94,14 @@ run_of_worker plan pool used buffers number worker is ended pooled =
         follow =
             subst (λ (k : ℕ). MarksFollowScript plan.program (commands_of plan.lines) k (sleds_of at.passed) t.marks) is.thread
             (subst (λ (p : Plan). MarksFollowScript p.program (commands_of p.lines) t.thread (sleds_of at.passed) t.marks) is.table ended.marks);
+        along = record {
+          loads = given (loads_of worker);
+          follow =
+              subst (λ (k : ℕ). LoadsFollow plan.program (commands_of plan.lines) k (sleds_of at.passed) (given (loads_of worker)) (total_of plan.program (commands_of plan.lines))) is.thread
+              (subst (λ (p : Plan). LoadsFollow p.program (commands_of p.lines) t.thread (sleds_of at.passed) (given (loads_of worker)) (total_of p.program (commands_of p.lines))) is.table
+              (later (given (loads_of worker)) _ _ at.within at.along.all.follow));
+          ends = ends;
+        };
         has = record { thread = is.thread; loads = given (loads_of worker); ends = ends; marks = refl };
         segments = count;
         lost_is = omega (arith, count, segs_count, all_count, keeps.count, length-filter (λ (b : Filled). b.thread == number) buffers);
@@ -319,6 +330,11 @@ left_so hold plan pool workers left are count is =
     run_at plan setup is.used buffers 1 workers runs all.1 in
     let runs_count : length runs ≡ length workers = same_count plan setup is.used buffers 1 workers runs all.1 in
     let rs_count : length rs ≡ length workers = length-map workers (λ w. recorder_of w) in
+    let thread_is : (i : ℕ) (run : ThreadRun) (t : Traced) → (found : slice_get runs i ≡ Some run)
+    → slice_get (map (λ w. cpu_of w) workers) i ≡ Some t → cpu_of (at i run found).worker ≡ t =
+    (λ i run t found there.
+    same_traced plan setup is.used buffers (cpu_of (at i run found).worker) t
+    (sym (slice_get-map (λ w. cpu_of w) workers i ∙ ap (option_map (λ w. cpu_of w)) (at i run found).found) ∙ there)) in
     record {
       runs = runs;
       run = record {
@@ -333,15 +349,16 @@ left_so hold plan pool workers left are count is =
             subst (λ (k : ℕ). MarksFollowScript plan.program (commands_of plan.lines) k (sleds_of run.passed) run.marks) next (at i run found).is.follow;
         losses = losses_are plan setup is.used buffers workers runs all.1 is.absent;
       };
+      along = λ i run t found there.
+          let next : 1 + i ≡ i + 1 = omega arith in
+          subst (HasRunAlong plan.program (commands_of plan.lines) (i + 1) run) (thread_is i run t found there)
+          (subst (λ (k : ℕ). HasRunAlong plan.program (commands_of plan.lines) k run (cpu_of (at i run found).worker)) next (at i run found).is.along);
       leaves = record {
         count = length-map workers (λ w. cpu_of w) ∙ sym runs_count;
         cpus_are = λ i run t found there.
             let next : 1 + i ≡ i + 1 = omega arith in
-            let one_at = at i run found in
-            let here : slice_get (map (λ w. cpu_of w) workers) i ≡ Some (cpu_of one_at.worker) =
-            slice_get-map (λ w. cpu_of w) workers i ∙ ap (option_map (λ w. cpu_of w)) one_at.found in
-            subst (HasRun (i + 1) run) (same_traced plan setup is.used buffers (cpu_of one_at.worker) t (sym here ∙ there))
-            (subst (λ (k : ℕ). HasRun k run (cpu_of one_at.worker)) next one_at.is.has);
+            subst (HasRun (i + 1) run) (thread_is i run t found there)
+            (subst (λ (k : ℕ). HasRun k run (cpu_of (at i run found).worker)) next (at i run found).is.has);
         segments_are = all_segments plan setup is.used buffers 1 workers runs all.1;
         first_are = all_first plan setup is.used buffers 1 workers runs all.1;
         buffers_are = refl;

@@ -3,6 +3,7 @@ use Rattle.std.proofs.Common.{◌≡◌, ℕ, ◌+◌, ◌<◌, List, [], ◌∷
 use Rattle.std.specs.Prelude.{◌||◌, ◌⊎◌}
 use Rattle.std.specs.List.{list_any}
 use Rattle.xray_image.specs.Program.{Program}
+use Rattle.sled_words.specs.Words.{release_word}
 use Rattle.fdr_record.specs.declared.event.Event.{Event}
 use Rattle.handler_word.specs.declared.mark.Mark.{Mark}
 use Rattle.machine_step.specs.declared.end.End.{End}
@@ -17,7 +18,8 @@ use Rattle.sled_rule.specs.Seats.{work_view}
 use Rattle.thread_run.specs.declared.worker.Worker.{Worker}
 use Rattle.thread_run.specs.Following.{is_held_by}
 use Rattle.thread_run.specs.private.Steps.{CountIsBehind, HasTaken, IsBehind}
-use Rattle.thread_run.specs.Workers.{HasMade, IsGoing, IsSameWorker, cpu_of, loads_of, seat_of}
+use Rattle.thread_run.specs.Workers.{HasMade, IsGoing, IsSameWorker, WasHeld, cpu_of, loads_of, seat_of}
+use Rattle.thread_run.proofs.Loading.{holds}
 
 -- ---- the same worker
 
@@ -53,42 +55,57 @@ any_both {X = X} p (x ∷ xs) ys none = by_first (p x) (λ rest. any_both p xs y
     by_first true rest none = absurd cc
     by_first false rest none = rest none
 
-pub made_then : {R : Type 0} (held : Bool) (a b c : Worker R) → IsSameThread (cpu_of a) (cpu_of b) → HasMade false a b → HasMade held b c → HasMade held a c
-made_then held a b c same p q = record {
+-- what some loads have made free of holding, for the same thread
+free_of : (a b : Traced) (loads : List SeatLoad) → IsSameThread a b → is_held_by b.program b.thread loads ≡ false → is_held_by a.program a.thread loads ≡ false
+free_of a b loads same free =
+    ap (λ (x : Program). is_held_by x a.thread loads) (sym same.program) ∙ ap (λ (x : ℕ). is_held_by b.program x loads) (sym same.thread) ∙ free
+
+pub made_then : {R : Type 0} (a b c : Worker R) → IsSameThread (cpu_of a) (cpu_of b) → HasMade a b → HasMade b c → HasMade a c
+made_then a b c same p q = record {
   made = p.made ++ q.made;
   loads = q.loads ∙ ap (λ (ls : List SeatLoad). ls ++ q.made) p.loads ∙ append_assoc (loads_of a) p.made q.made;
-  held_is =
-      any_both _ p.made q.made p.held_is
-      ∙ ap (λ (x : Program). is_held_by x (cpu_of a).thread q.made) (sym same.program)
-      ∙ ap (λ (x : ℕ). is_held_by (cpu_of b).program x q.made) (sym same.thread)
-      ∙ q.held_is;
+  free = any_both _ p.made q.made p.free ∙ free_of (cpu_of a) (cpu_of b) q.made same q.free;
 }
 
 -- nothing was made
-pub made_none : {R : Type 0} (a b : Worker R) → loads_of b ≡ loads_of a → HasMade false a b
-made_none a b same = record { made = []; loads = same ∙ sym (append-nil (loads_of a)); held_is = refl }
+pub made_none : {R : Type 0} (a b : Worker R) → loads_of b ≡ loads_of a → HasMade a b
+made_none a b same = record { made = []; loads = same ∙ sym (append-nil (loads_of a)); free = refl }
 
--- one load was made
-pub made_one : {R : Type 0} (held : Bool) (a b : Worker R) (load : SeatLoad) → loads_of b ≡ loads_of a ++ load ∷ []
-    → is_held_by (cpu_of a).program (cpu_of a).thread (load ∷ []) ≡ held → HasMade held a b
-made_one held a b load loads is = record { made = load ∷ []; loads = loads; held_is = is }
+-- one load was made, which didn't hold the worker
+pub made_one : {R : Type 0} (a b : Worker R) (load : SeatLoad) → loads_of b ≡ loads_of a ++ load ∷ []
+    → is_held_by (cpu_of a).program (cpu_of a).thread (load ∷ []) ≡ false → HasMade a b
+made_one a b load loads is = record { made = load ∷ []; loads = loads; free = is }
+
+-- some loads were made, and then one that held the worker
+pub made_held : {R : Type 0} (a b c : Worker R) (load : SeatLoad) → IsSameThread (cpu_of a) (cpu_of b) → HasMade a b
+    → loads_of c ≡ loads_of b ++ load ∷ [] → is_held_by (cpu_of b).program (cpu_of b).thread (load ∷ []) ≡ true → WasHeld a c
+made_held a b c load same made loads held =
+    let found = holds (cpu_of b).program (cpu_of b).thread load held in
+    record {
+      made = made.made;
+      last = load;
+      loads = loads ∙ ap (λ (ls : List SeatLoad). ls ++ load ∷ []) made.loads ∙ append_assoc (loads_of a) made.made (load ∷ []);
+      free = made.free;
+      word = found.0 ∙ ap (λ (x : Program). release_word x (cpu_of b).thread) same.program ∙ ap (λ (x : ℕ). release_word (cpu_of a).program x) same.thread;
+      value = found.1;
+    }
 
 -- the worker goes on, no load has held it since the first, and what it wants is known
 pub record GoesOn {R : Type 0} (stands : R → List Event → Type 0) (follows : R → R → Type 0) (first worker : Worker R) (next : Want) : Type 0 where
   pub going : IsGoing stands worker
   pub same : IsSameWorker follows first worker
-  pub made : HasMade false first worker
+  pub made : HasMade first worker
   pub want : next ≡ (cpu_of worker).want
   pub there : IsLoadable (cpu_of worker) (cpu_of worker).want
 
 pub goes_on : {R : Type 0} (stands : R → List Event → Type 0) (follows : R → R → Type 0)
     → ((x y z : R) → follows x y → follows y z → follows x z) → (first mid new : Worker R) (old_want want : Want)
-    → GoesOn stands follows first mid old_want → IsSameWorker follows mid new → HasMade false mid new → IsGoing stands new
+    → GoesOn stands follows first mid old_want → IsSameWorker follows mid new → HasMade mid new → IsGoing stands new
     → want ≡ (cpu_of new).want → IsLoadable (cpu_of new) (cpu_of new).want → GoesOn stands follows first new want
 goes_on stands follows along first mid new old_want want kept same made going wants there = record {
   going = going;
   same = worker_then follows along first mid new kept.same same;
-  made = made_then false first mid new kept.same.thread kept.made made;
+  made = made_then first mid new kept.same.thread kept.made made;
   want = wants;
   there = there;
 }

@@ -2,22 +2,33 @@
 use Rattle.std.specs.Prelude.{◌≡◌, ◌+◌, ℕ, List, Some, IsPermutation, filter, slice_get}
 use Rattle.xray_image.specs.Program.{Program}
 use Rattle.patch_script.specs.declared.command.Command.{Command}
+use Rattle.patch_script.specs.Micros.{total_of}
 use Rattle.machine_step.specs.Buffers.{spare_of}
 use Rattle.fdr_buffer.specs.Filled.{Filled, has_event}
 use Rattle.machine_step.specs.declared.setup.Setup.{Setup}
+use Rattle.machine_step.specs.Ended.{EndsAsPlain}
+use Rattle.machine_step.specs.Loads.{Load}
 use Rattle.machine_step.specs.Traced.{Traced, sleds_of}
 use Rattle.traced_run.specs.Kept.{kept_buffers}
 use Rattle.traced_run.specs.Left.{Leaves}
 use Rattle.traced_run.specs.Losses.{AreLost}
 use Rattle.traced_run.specs.Runs.{IsRun, ThreadRun}
-use Rattle.thread_run.specs.Following.{MarksFollowScript}
+use Rattle.thread_run.specs.Following.{LoadsFollow, MarksFollowScript}
 
--- The law of runs beside a script, with one pool of buffers for all threads. The marks of each thread follow the script. As many segments are lost as the pool had no spare buffers for. Whose they are isn't fixed, but each thread
--- keeps its last one.
+-- The law of runs beside a script, with one pool of buffers for all threads. The marks of each thread follow the script.
+-- As many segments are lost as the pool had no spare buffers for. Whose they are isn't fixed, but each thread keeps its
+-- last one.
 pub record FollowsScript (program : Program) (script : List Command) (setup : Setup) (runs : List ThreadRun) : Type 0 where
   pub follow : (i : ℕ) (run : ThreadRun) → slice_get runs i ≡ Some run
       → MarksFollowScript program script (i + 1) (sleds_of run.passed) run.marks
   pub losses : AreLost setup.size (spare_of setup) runs
+
+-- A thread has made loads that follow the script. By these loads it has ended as its plain run does, and decoded no torn
+-- sled.
+pub record HasRunAlong (program : Program) (script : List Command) (number : ℕ) (run : ThreadRun) (t : Traced) : Type 0 where
+  pub loads : List Load
+  pub follow : LoadsFollow program script number (sleds_of run.passed) loads (total_of program script)
+  pub ends : EndsAsPlain t run.passed run.end run.last loads
 
 -- Threads have run beside a script, and these are what their runs leave. The buffers that hold events are those of the
 -- segments that are left, in any order.
@@ -26,5 +37,7 @@ pub record HaveRunBeside (program : Program) (script : List Command) (setup : Se
   pub runs : List ThreadRun
   pub run : IsRun program setup runs
   pub lawful : FollowsScript program script setup runs
+  pub along : (i : ℕ) (run : ThreadRun) (t : Traced) → slice_get runs i ≡ Some run → slice_get cpus i ≡ Some t
+      → HasRunAlong program script (i + 1) run t
   pub leaves : Leaves setup runs cpus segments first (kept_buffers setup runs)
   pub buffers_are : IsPermutation (filter has_event buffers) (kept_buffers setup runs)

@@ -1,5 +1,5 @@
 -- What is true of a worker: a traced thread that makes its loads from a table by its seat, and notes its events.
-use Rattle.std.specs.Prelude.{◌≡◌, ◌≢◌, ◌<◌, ◌≤◌, ◌++◌, ℕ, List, [], length, All, Bool}
+use Rattle.std.specs.Prelude.{◌≡◌, ◌≢◌, ◌<◌, ◌≤◌, ◌++◌, ℕ, List, [], ◌∷◌, length, All, false}
 use Rattle.xray_image.specs.Program.{IsAccepted}
 use Rattle.sled_words.specs.Words.{release_word}
 use Rattle.patch_script.specs.Micros.{hold_of, start_of, total_of}
@@ -103,11 +103,20 @@ pub record IsSameWorker {R : Type 0} (follows : R → R → Type 0) (old new : W
   pub thread : IsSameThread (cpu_of old) (cpu_of new)
   pub recorder : follows (recorder_of old) (recorder_of new)
 
--- a worker has made some more loads; none of them held it, or one did
-pub record HasMade {R : Type 0} (held : Bool) (old new : Worker R) : Type 0 where
+-- a worker has made some more loads, and none of them held it
+pub record HasMade {R : Type 0} (old new : Worker R) : Type 0 where
   pub made : List SeatLoad
   pub loads : loads_of new ≡ loads_of old ++ made
-  pub held_is : is_held_by (cpu_of old).program (cpu_of old).thread made ≡ held
+  pub free : is_held_by (cpu_of old).program (cpu_of old).thread made ≡ false
+
+-- A worker has made some more loads. The last of them held it: it found the thread's release word at 0. No other did.
+pub record WasHeld {R : Type 0} (old new : Worker R) : Type 0 where
+  pub made : List SeatLoad
+  pub last : SeatLoad
+  pub loads : loads_of new ≡ loads_of old ++ made ++ last ∷ []
+  pub free : is_held_by (cpu_of old).program (cpu_of old).thread made ≡ false
+  pub word : last.word ≡ release_word (cpu_of old).program (cpu_of old).thread
+  pub value : last.value ≡ 0
 
 -- a worker has run to its end
 pub record HasRunOut {R : Type 0} (stands : R → List Event → Type 0) (follows : R → R → Type 0) (old new : Worker R) : Type 0 where

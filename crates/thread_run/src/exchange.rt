@@ -14,10 +14,11 @@ use xray_io::Wall;
 /// What all segments of a thread begin with.
 #[derive(Drop)]
 pub(crate) struct Preamble {
+    /// The thread's number, from 1.
     pub(crate) thread: u32,
-    /// When the trace began.
+    /// The wall time of the run, which is the same for all segments.
     pub(crate) wall: Wall,
-    /// The process.
+    /// The number of the process.
     pub(crate) pid: u32,
 }
 

@@ -35,7 +35,8 @@ pub struct RunEnd<'s> {
     pub cpus: Vec<Cpu<'s>>,
     /// Into how many segments the events of each thread were cut.
     pub segments: Vec<u32>,
-    /// How many of these are lost: the first ones.
+    /// How many of these are lost. Segments count from 0, so this is the number of the first one that
+    /// is left.
     pub first: Vec<u32>,
     /// All buffers. Those with an event hold the segments that are left. They are in no order.
     pub buffers: Vec<Buffer>,

@@ -16,8 +16,8 @@ pub struct AuditLine {
     /// How many segments its events were cut into, including the recycled ones. Each segment had a
     /// buffer.
     pub segments: u32,
-    /// How many of its segments were lost because their buffers were used again. These are its
-    /// first ones.
+    /// How many of its segments are lost because their buffers were used again. Segments count from
+    /// 0, so this is the number of the first one that is left.
     pub first: u32,
 }
 

@@ -33,6 +33,7 @@ fn main(rt: HostRuntime) -> ExitCode {
     ExitCode::from(status)
 }
 
+/// The arguments without the first, which is the program's name.
 fn words_after_name(rt: &HostRuntime) -> io::Result<Vec<String>> {
     let words = env::args(rt)?.skip(1).collect(rt.alloc())?;
     Ok(words)
@@ -47,7 +48,8 @@ fn out_of_memory(rt: &HostRuntime) -> ExitCode {
 /// The status if memory runs out.
 const OUT_OF_MEMORY: u8 = 5;
 
-/// The time of the clock, or the epoch if there is no clock or if it is set before the epoch.
+/// The time of the clock. It is 1970-01-01 00:00:00 UTC if there is no clock, or if the clock is set
+/// before that.
 fn wall_time(rt: &HostRuntime) -> Wall {
     match SystemTime::now(rt) {
         Ok(now) => since_epoch(now),
@@ -55,8 +57,10 @@ fn wall_time(rt: &HostRuntime) -> Wall {
     }
 }
 
+/// 1970-01-01 00:00:00 UTC.
 const EPOCH: Wall = Wall { secs: 0, micros: 0 };
 
+/// A time of the clock as seconds and microseconds.
 fn since_epoch(now: SystemTime) -> Wall {
     match now.duration_since(UNIX_EPOCH) {
         Ok(passed) => Wall {

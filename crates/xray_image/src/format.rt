@@ -13,7 +13,8 @@ pub const MAGIC: [u8; 4] = [0x58, 0x52, 0x49, 0x4D];
 /// The version of the container.
 pub const VERSION: u32 = 1;
 
-/// The length of the header in bytes. The code follows it.
+/// The length of the header in bytes. The code follows it. The last eight bytes are the address of
+/// the trampoline of entry sleds that log arguments, which readers ignore.
 pub const HEADER_LENGTH: usize = 64;
 
 /// The place of the version in the header.

@@ -20,7 +20,8 @@ const START_AT: usize = 0;
 /// The place of the name's length in a function entry.
 const NAME_LENGTH_AT: usize = 8;
 
-/// The length of an entry of the sled map. The bytes after its version are padding.
+/// The length of an entry of the sled map in bytes. The layout is that of `XRaySledEntry` in
+/// compiler-rt (`xray_interface_internal.h`). The bytes after the version are padding.
 const MAP_ENTRY_LENGTH: usize = 32;
 
 /// The place of the sled's address in a map entry.

@@ -16,8 +16,9 @@ use crate::parts::{FunctionEntry, RawMapEntry};
 use crate::sled::{Sled, SledKind};
 use std::alloc::{AllocError, Global};
 
-/// Map entries with versions below this are known.
-const VERSIONS: u8 = 2;
+/// How many versions of map entries are known: 0 and 1, whose addresses are absolute. In compiler-rt
+/// those of version 2 are relative (`XRaySledEntry::address`).
+const KNOWN_VERSIONS: u8 = 2;
 
 /// Checks that the map has one entry for each sled, in the order of the sleds. `MapOrder` gives the
 /// first number whose entry and sled don't share one address.
@@ -72,7 +73,7 @@ fn is_entry_of(functions: &[FunctionEntry<'_>], spot: &SledSpot, line: &RawMapEn
 {
     lies_in(functions, spot.address, line.function)
         && may_have_kind(spot.returns, line.kind)
-        && line.version < VERSIONS
+        && line.version < KNOWN_VERSIONS
 }
 
 /// Checks what each entry says of its sled: the function that the sled lies in, a kind that fits

@@ -26,6 +26,7 @@ pub fn put_digits(n: u64, buffer: &mut [u8; MOST_DIGITS]) -> usize
     }
 }
 
+/// The digit of a value below 16.
 fn digit(value: u64) -> u8
     requires { value < 16 }
     ensures { result ≡ digit_glyph false value }

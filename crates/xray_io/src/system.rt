@@ -53,6 +53,7 @@ impl<R: Files + AllocGlobal> FileDesk<R> {
         }
     }
 
+    /// Opens a file for reading from this place on.
     fn open(&self, name: &str, place: u64) -> io::Result<Opened<R::File>>
         ensures name { IfOk result (λ opened. string_bytes opened.name ≡ name.now) }
         ensures place { IfOk result (λ opened. opened.place ≡ place) }
@@ -78,6 +79,7 @@ impl<R: Files + AllocGlobal> FileDesk<R> {
         }
     }
 
+    /// Reads bytes of a file from this place on, and keeps the file open.
     fn read_file(&mut self, name: &str, from: u64, buf: &mut [u8]) -> io::Result<usize>
         ensures within { IfOk result (λ n. n ≤ length buf.new) }
         ensures kept { IfOk result (λ n. IfSome self.new.opened (λ opened.

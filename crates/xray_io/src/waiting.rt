@@ -6,6 +6,7 @@ use std::marker::Model;
 /// The most bytes that may wait.
 pub const ROOM: usize = 4096;
 
+/// Bytes that wait, at most `ROOM` of them.
 #[derive(Drop)]
 pub struct Waiting {
     bytes: [u8; ROOM],

@@ -21,7 +21,8 @@ abbrev pub Says : (before after : SinkView) → List ℕ → Type 0
 Says before after line =
     Adds before.written after.written line ⊎ (Rose before.faults after.faults × AddsPrefix before.written after.written line)
 
--- the call ended with an outcome that is meant and writes: its outputs are whole, and out has exactly its text
+-- The call ended with an outcome that is meant and writes. Its outputs are whole, out has exactly its text, and no write
+-- to out failed.
 pub record LeavesAll (said : Option Command) (before after : World) (ending : Ending) : Type 0 where
   pub outcome : Outcome
   pub is : ending ≡ With outcome
@@ -31,6 +32,7 @@ pub record LeavesAll (said : Option Command) (before after : World) (ending : En
   pub writes : written_by outcome ≡ Some (outputs, text)
   pub whole : AreWhole outputs before.desk.held after.desk.held
   pub out : Adds before.out.written after.out.written text
+  pub calm : after.out.faults ≡ before.out.faults
 
 -- it ended with an outcome that is meant
 pub record Reports (said : Option Command) (before : World) (ending : Ending) : Type 0 where

@@ -105,9 +105,9 @@ pub fn may_wait(words: &[String]) -> bool
     }
 }
 
-/// A law: no thread of a replay decodes a torn sled, and none that runs beside a script. So each
-/// executes its code to the end of its plain run. How many segments a replay loses, and which. The
-/// trace of a run reads back.
+/// A law. No thread of a replay decodes a torn sled, and none of a run does. So each thread executes
+/// its code to the end of its plain run. A replay loses as few segments as its buffers allow, and a
+/// thread's lost segments are its oldest ones. The trace reads back.
 fn what_runs_leave()
     ensures { CallLaws }
 {

@@ -81,10 +81,7 @@ pub(crate) fn take_maybe<'a, K: Kind, D: Desk>(
         (IsMaybeTaking (option_map (λ n. n.now) name.entry) (K.form kind.now).limit result) }
 {
     match name {
-        Some(name) => match take(alloc, desk, name, kind) {
-            Ok(value) => Ok(Some(value)),
-            Err(stop) => Err(stop),
-        },
+        Some(name) => Ok(Some(take(alloc, desk, name, kind)?)),
         None => Ok(None),
     }
 }

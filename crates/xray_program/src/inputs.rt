@@ -24,6 +24,12 @@ const SCRIPT_LIMIT: u64 = 1_048_576;
 /// The most bytes of a schedule.
 const SCHEDULE_LIMIT: u64 = 16_777_216;
 
+/// The word for a script in a line on err.
+pub(crate) const SCRIPT: &str = "script";
+
+/// The word for a trace in a line on err.
+pub(crate) const TRACE: &str = "trace";
+
 /// An image file.
 #[derive(Drop)]
 pub(crate) struct ImageKind;
@@ -111,7 +117,7 @@ impl Kind for ScriptKind<'_> {
     ghost fits = { λ k script. (script.program ≡ k.image.now) × (script.threads ≡ k.threads) };
 
     fn word(&self) -> &'static str {
-        "script"
+        SCRIPT
     }
 
     fn limit(&self) -> u64 {
@@ -174,7 +180,7 @@ impl Kind for TraceKind {
     ghost fits = { λ _ _. ⊤ };
 
     fn word(&self) -> &'static str {
-        "trace"
+        TRACE
     }
 
     fn limit(&self) -> u64 {

@@ -3,7 +3,7 @@ ghost use Rattle.std.specs.Prelude.{◌≡◌, [], IfOk};
 ghost use Rattle.command_words.specs.Ranges.{AreRunOptions};
 
 use crate::input::{fault_stop, take};
-use crate::inputs::{ImageKind, ScheduleKind, ScriptKind};
+use crate::inputs::{ImageKind, SCRIPT, ScheduleKind, ScriptKind};
 use crate::setups::setup_of;
 use crate::sim_inputs::SimInputs;
 use crate::stop::Stop;
@@ -14,9 +14,6 @@ use machine_step::Steps;
 use std::alloc::Global;
 use step_sim::{SimEnd, SimStart};
 use xray_io::{Desk, Sink};
-
-/// The word for a script in a line on err.
-const SCRIPT: &str = "script";
 
 /// `sim IMAGE SCRIPT SCHEDULE TRACE AUDIT`.
 #[derive(Drop)]

@@ -4,6 +4,7 @@ ghost use Rattle.xray_program.specs.Stack.{form_of};
 
 use crate::delivery::{NoOutputs, deliver};
 use crate::input::fault_stop;
+use crate::inputs::TRACE;
 use crate::report_inputs::{ReportInputs, take_report};
 use crate::stop::Stop;
 use crate::work::Work;
@@ -11,9 +12,6 @@ use command_words::StackFormat;
 use stack_rebuild::{StackForm, StackText, stacks};
 use std::alloc::Global;
 use xray_io::{Desk, Sink};
-
-/// The word for a trace in a line on err.
-const TRACE: &str = "trace";
 
 /// `stack TRACE [IMAGE]`.
 #[derive(Drop)]

@@ -36,7 +36,8 @@ pub(crate) struct RunLeft<'i> {
     pub(crate) cpus: Vec<Cpu<'i>>,
     /// How many segments the events of each thread were cut into.
     pub(crate) segments: Vec<u32>,
-    /// How many of these segments are lost.
+    /// How many of these segments are lost. Segments count from 0, so this is the number of the first
+    /// one that is left.
     pub(crate) first: Vec<u32>,
     /// The buffers of the segments that are left, in the order of a trace.
     pub(crate) buffers: Vec<Buffer>,

@@ -39,10 +39,11 @@ AreMakings outputs desk desk_now (Ok done) calls = MakesAll outputs calls
 AreMakings outputs desk desk_now (Err (stops.Unwritten n)) calls = FailsAtOutput outputs desk desk_now n.now calls
 AreMakings outputs desk desk_now (Err stop) calls = ⊥
 
--- outputs are whole, and out has exactly a text
+-- outputs are whole, out has exactly a text, and no write to out failed
 pub record Writes (outputs : List (List ℕ × List ℕ)) (text : List ℕ) (desk desk_now : DeskView) (out out_now : SinkView) : Type 0 where
   pub whole : AreWhole outputs desk.held desk_now.held
   pub printed : Adds out.written out_now.written text
+  pub calm : out_now.faults ≡ out.faults
 
 -- outputs and a text were written, and all is well unless something is wrong all the same; or one of them failed
 abbrev pub Delivers : List (List ℕ × List ℕ) → (text : List ℕ) → (trouble : Option (List ℕ)) → (desk desk_now : DeskView)

@@ -3,7 +3,7 @@ use Rattle.std.proofs.lemmas.Bool.{false≢true}
 use Rattle.machine_step.specs.declared.want.Want.TheVariants.{Load as Loads}
 use Rattle.machine_step.specs.Traced.{Traced, loads_left}
 use Rattle.thread_run.specs.Workers.{cpu_of}
-use Rattle.thread_run.proofs.Turns.{after_taken, goes_on, held_again, made_none, made_one, made_then, moved_on, worker_again, worker_then}
+use Rattle.thread_run.proofs.Turns.{after_taken, goes_on, held_again, made_held, made_none, made_one, moved_on, worker_again, worker_then}
 use Rattle.thread_run.proofs.worker.Worker.run.Goals as goal
 
 pub loads-init : goal.loads-init
@@ -57,7 +57,7 @@ loads-preserved-in-Some g c =
     let on = moved_on c.in-Load.word old mid took.taken (sym c.loads.invariant.want ∙ c.in-Load.is) (took.ends refl c.in-Load.word) in
     goes_on g.R.Recorder.stands g.R.Recorder.follows g.met.R.Recorder.follows_along c.args.self.now old new _ _ c.loads.invariant
     (worker_then g.R.Recorder.follows g.met.R.Recorder.follows_along old mid new took.same said.same)
-    (made_one false old new took.taken.load (said.loads ∙ took.taken.loads) on) said.going said.want said.there
+    (made_one old new took.taken.load (said.loads ∙ took.taken.loads) on) said.going said.want said.there
 
 pub returns-then-is_load-clause-same : goal.returns-then-is_load-clause-same
 returns-then-is_load-clause-same g c =
@@ -77,7 +77,7 @@ returns-then-is_load-clause-held g c = λ is.
     ap (λ (t : Traced). t.want) (sym c.go_on-want.ensures.cpu) ∙ sym c.go_on-want.ensures.want ∙ c.is_load.ensures.0 c.if-is_load.true in
     let held = held_again c.in-Load.word old mid taken c.in-None.ensures.same.thread (sym kept.want ∙ c.in-Load.is) again in (
       c.go_on-want.ensures.going,
-      made_then true c.args.self.now old new kept.same.thread kept.made (made_one true old new taken.load (c.go_on-want.ensures.loads ∙ taken.loads) held),
+      made_held c.args.self.now old new taken.load kept.same.thread kept.made (c.go_on-want.ensures.loads ∙ taken.loads) held,
     )
 
 pub loads-smaller : goal.loads-smaller
@@ -97,4 +97,4 @@ loads-preserved g c =
     (λ again. false≢true (sym c.if-is_load.false ∙ c.is_load.ensures.1 (said.want ∙ ap (λ (t : Traced). t.want) said.cpu ∙ again))) in
     goes_on g.R.Recorder.stands g.R.Recorder.follows g.met.R.Recorder.follows_along c.args.self.now old c.go_on-want.new.self _ _ c.loads.invariant
     (worker_then g.R.Recorder.follows g.met.R.Recorder.follows_along old c.take.new.self c.go_on-want.new.self took.same said.same)
-    (made_one false old c.go_on-want.new.self took.taken.load (said.loads ∙ took.taken.loads) on) said.going said.want said.there
+    (made_one old c.go_on-want.new.self took.taken.load (said.loads ∙ took.taken.loads) on) said.going said.want said.there
