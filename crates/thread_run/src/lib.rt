@@ -18,4 +18,4 @@ pub use recorder::FdrRecorder;
 pub use running::run_threads;
 pub use thread::new_cpu;
 pub use whole::{RunEnd, run};
-pub use worker::{Stopped, Worker};
+pub use worker::{Turn, Worker};

@@ -1,6 +1,6 @@
 //! What is done in one thread.
 
-use crate::worker::{Stopped, Worker};
+use crate::worker::{Turn, Worker};
 use crossbeam_utils::Backoff;
 use fdr_record::Recorder;
 use std::sync::Wait;
@@ -32,8 +32,8 @@ impl<R: Recorder> Work for Worker<'_, '_, R> {
         let backoff = Backoff::new();
         'turns: for _ in rt.forever() {
             match self.run(gate) {
-                Stopped::Done => return,
-                Stopped::Held => backoff.snooze(),
+                Turn::Done => return,
+                Turn::Held => backoff.snooze(),
             }
         }
         unreachable!()

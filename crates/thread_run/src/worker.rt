@@ -14,9 +14,9 @@ use sled_rule::{CodeTable, PatchSeat, WorkSeat};
 use traced_run::passings_are_few;
 use xray_io::Gate;
 
-/// Why a worker stopped.
+/// How a turn of a worker ended.
 #[derive(Clone, Copy, Debug, PartialEq, Eq)]
-pub enum Stopped {
+pub enum Turn {
     /// The thread is at its end.
     Done,
     /// The thread's release word is 0, so it can't begin its passing yet.
@@ -83,11 +83,11 @@ impl<'s, 't, R: Recorder> Worker<'s, 't, R> {
     }
 
     /// Runs the thread until it has ended, or until its release word holds it.
-    pub fn run<G: Gate>(&mut self, gate: &G) -> Stopped
+    pub fn run<G: Gate>(&mut self, gate: &G) -> Turn
         requires going { IsGoing R.stands self.old }
         ensures same { IsSameWorker R.follows self.old self.new }
-        ensures held { (result ≡ Stopped.Held) → IsGoing R.stands self.new × WasHeld self.old self.new }
-        ensures done { (result ≡ Stopped.Done) → HasEnded R.stands self.new × HasMade self.old self.new }
+        ensures held { (result ≡ Turn.Held) → IsGoing R.stands self.new × WasHeld self.old self.new }
+        ensures done { (result ≡ Turn.Done) → HasEnded R.stands self.new × HasMade self.old self.new }
     {
         let mut want = self.cpu.want();
         'loads: loop {
@@ -98,13 +98,13 @@ impl<'s, 't, R: Recorder> Worker<'s, 't, R> {
                     None => {
                         want = self.go_on();
                         if is_load(want, word) {
-                            return Stopped::Held;
+                            return Turn::Held;
                         }
                     }
                 },
                 Want::Done(_) => {
                     self.finish();
-                    return Stopped::Done;
+                    return Turn::Done;
                 }
             }
         }
