@@ -115,8 +115,10 @@ impl<'a> FirstPass<'a> {
         ensures { Takes result (with_line (lines_in self.old.entries.items)
             (line.now.number, line.now.bytes.now)) self.new }
     {
-        let Some(spoken) = read_line(line)? else {
-            return Ok(());
+        let spoken = match read_line(line) {
+            Ok(Some(spoken)) => spoken,
+            Ok(None) => return Ok(()),
+            Err(fault) => return Err(fault),
         };
         if self.totals.misplaces(&spoken) {
             return Err(AsmFault::Syntax(line.number));

@@ -34,6 +34,6 @@ fn is_unpatched_head(kind: SledKind, value: u64) -> bool
 {
     match kind {
         SledKind::Entry | SledKind::Tail => value == JUMP_HEAD,
-        SledKind::Exit => value <= u64::from(u16::MAX) && value as u8 == RET,
+        SledKind::Exit => value <= u64::from(u16::MAX) && value % 256 == u64::from(RET),
     }
 }
