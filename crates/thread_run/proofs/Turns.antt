@@ -84,7 +84,7 @@ made_held a b c load same made loads held =
     record {
       made = made.made;
       last = load;
-      loads = loads ∙ ap (λ (ls : List SeatLoad). ls ++ load ∷ []) made.loads ∙ append_assoc (loads_of a) made.made (load ∷ []);
+      loads = loads ∙ ap (λ (ls : List SeatLoad). ls ++ load ∷ []) made.loads;
       free = made.free;
       word = found.0 ∙ ap (λ (x : Program). release_word x (cpu_of b).thread) same.program ∙ ap (λ (x : ℕ). release_word (cpu_of a).program x) same.thread;
       value = found.1;

@@ -102,11 +102,7 @@ fails_over outputs text desk mid desk_now out out_now name same counted (inr fai
 writes_over : (outputs : List (List ℕ × List ℕ)) (text : List ℕ) (desk mid desk_now : DeskView) (out out_now : SinkView) → mid.held ≡ desk.held
     → Writes outputs text mid desk_now out out_now → Writes outputs text desk desk_now out out_now
 writes_over outputs text desk mid desk_now out out_now same writes =
-    record {
-      whole = subst (λ (h : List ℕ → Entry). AreWhole outputs h desk_now.held) same writes.whole;
-      printed = writes.printed;
-      calm = writes.calm;
-    }
+    record { whole = subst (λ (h : List ℕ → Entry). AreWhole outputs h desk_now.held) same writes.whole; printed = writes.printed; calm = writes.calm }
 
 unmade_over : (outputs : List (List ℕ × List ℕ)) (desk mid desk_now : DeskView) (name : List ℕ) (calls : List Call) → mid.held ≡ desk.held
     → IsUnmade outputs mid desk_now name calls → IsUnmade outputs desk desk_now name calls
