@@ -23,7 +23,7 @@ pub record FollowsScript (program : Program) (script : List Command) (setup : Se
       → MarksFollowScript program script (i + 1) (sleds_of run.passed) run.marks
   pub losses : AreLost setup.size (spare_of setup) runs
 
--- A thread has made loads that follow the script. By these loads it has ended as its plain run does, and decoded no torn
+-- There are loads that follow the script, by which a thread has ended as its plain run does, and has decoded no torn
 -- sled.
 pub record HasRunAlong (program : Program) (script : List Command) (number : ℕ) (run : ThreadRun) (t : Traced) : Type 0 where
   pub loads : List Load

@@ -21,8 +21,8 @@ abbrev pub Says : (before after : SinkView) → List ℕ → Type 0
 Says before after line =
     Adds before.written after.written line ⊎ (Rose before.faults after.faults × AddsPrefix before.written after.written line)
 
--- The call ended with an outcome that is meant and writes. Its outputs are whole, out has exactly its text, and no write
--- to out failed.
+-- The call ended with an outcome that is meant and writes. Its outputs are whole, out has exactly its text, and no fault
+-- of out was counted.
 pub record LeavesAll (said : Option Command) (before after : World) (ending : Ending) : Type 0 where
   pub outcome : Outcome
   pub is : ending ≡ With outcome

@@ -39,7 +39,7 @@ AreMakings outputs desk desk_now (Ok done) calls = MakesAll outputs calls
 AreMakings outputs desk desk_now (Err (stops.Unwritten n)) calls = FailsAtOutput outputs desk desk_now n.now calls
 AreMakings outputs desk desk_now (Err stop) calls = ⊥
 
--- outputs are whole, out has exactly a text, and no write to out failed
+-- outputs are whole, out has exactly a text, and no fault of out was counted
 pub record Writes (outputs : List (List ℕ × List ℕ)) (text : List ℕ) (desk desk_now : DeskView) (out out_now : SinkView) : Type 0 where
   pub whole : AreWhole outputs desk.held desk_now.held
   pub printed : Adds out.written out_now.written text
