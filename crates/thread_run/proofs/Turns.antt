@@ -55,7 +55,7 @@ any_both {X = X} p (x ∷ xs) ys none = by_first (p x) (λ rest. any_both p xs y
     by_first true rest none = absurd cc
     by_first false rest none = rest none
 
--- what some loads have made free of holding, for the same thread
+-- loads of which none holds a thread hold none for the same thread at another moment
 free_of : (a b : Traced) (loads : List SeatLoad) → IsSameThread a b → is_held_by b.program b.thread loads ≡ false → is_held_by a.program a.thread loads ≡ false
 free_of a b loads same free =
     ap (λ (x : Program). is_held_by x a.thread loads) (sym same.program) ∙ ap (λ (x : ℕ). is_held_by b.program x loads) (sym same.thread) ∙ free
