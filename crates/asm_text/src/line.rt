@@ -10,7 +10,7 @@ use crate::keyword::{Keyword, choice_of, keyword_of};
 use crate::names::{before_end, name_of};
 use crate::numbers::number_of;
 use crate::registers::{RegisterWord, register32, register64};
-use crate::statement::{Branch, Choice, Spoken, Written};
+use crate::statement::{Branch, Choice, RawOperation, RawStatement};
 use text_lines::{Line, Operands, Words, read_operands};
 
 /// The byte that ends a label.
@@ -20,48 +20,48 @@ const COLON: u8 = b':';
 const COMMA: u8 = b',';
 
 /// An instruction line that goes to a name.
-fn branch_line<'a>(branch: Branch, word: &'a [u8]) -> Option<Spoken<'a>>
+fn branch_line<'a>(branch: Branch, word: &'a [u8]) -> Option<RawStatement<'a>>
     ensures { option_map statement_spoken result
         ≡ option_map (λ n. Does (Go branch n)) (name_of word.now) }
 {
     let name = name_of(word)?;
-    Some(Spoken::Does(Written::Go { branch, name }))
+    Some(RawStatement::Does(RawOperation::Go { branch, name }))
 }
 
 /// What a keyword says by itself.
-fn says_alone<'a>(keyword: Keyword) -> Option<Spoken<'a>>
+fn says_alone<'a>(keyword: Keyword) -> Option<RawStatement<'a>>
     ensures { option_map statement_spoken result ≡ says keyword [] }
 {
     match keyword {
-        Keyword::Ret => Some(Spoken::Does(Written::Return)),
+        Keyword::Ret => Some(RawStatement::Does(RawOperation::Return)),
         _ => None,
     }
 }
 
 /// What a keyword says with one word.
-fn says_one<'a>(keyword: Keyword, word: &'a [u8]) -> Option<Spoken<'a>>
+fn says_one<'a>(keyword: Keyword, word: &'a [u8]) -> Option<RawStatement<'a>>
     ensures { option_map statement_spoken result ≡ says keyword (word.now ∷ []) }
 {
     match keyword {
-        Keyword::Base => Some(Spoken::Base(number_of(word)?)),
-        Keyword::Entry => Some(Spoken::Entry(name_of(word)?)),
-        Keyword::Function => Some(Spoken::Function {
+        Keyword::Base => Some(RawStatement::Base(number_of(word)?)),
+        Keyword::Entry => Some(RawStatement::Entry(name_of(word)?)),
+        Keyword::Function => Some(RawStatement::Function {
             name: name_of(word)?,
             choice: Choice::ByLength,
         }),
-        Keyword::Push => Some(Spoken::Does(Written::Push {
+        Keyword::Push => Some(RawStatement::Does(RawOperation::Push {
             reg: register64(word)?,
         })),
-        Keyword::Pop => Some(Spoken::Does(Written::Pop {
+        Keyword::Pop => Some(RawStatement::Does(RawOperation::Pop {
             reg: register64(word)?,
         })),
         Keyword::Call => branch_line(Branch::Call, word),
         Keyword::Jmp => branch_line(Branch::Jmp, word),
         Keyword::Jnz => branch_line(Branch::Jnz, word),
-        Keyword::TailJump => Some(Spoken::Does(Written::TailJump {
+        Keyword::TailJump => Some(RawStatement::Does(RawOperation::TailJump {
             name: name_of(word)?,
         })),
-        Keyword::Out => Some(Spoken::Does(Written::Out {
+        Keyword::Out => Some(RawStatement::Does(RawOperation::Out {
             port: number_of(word)?,
         })),
         Keyword::Mov | Keyword::Add | Keyword::Sub | Keyword::Ret => None,
@@ -80,33 +80,33 @@ fn two_registers(first: &[u8], second: &[u8]) -> Option<(RegisterWord, RegisterW
 }
 
 /// What a keyword says with two words.
-fn says_two<'a>(keyword: Keyword, first: &'a [u8], second: &'a [u8]) -> Option<Spoken<'a>>
+fn says_two<'a>(keyword: Keyword, first: &'a [u8], second: &'a [u8]) -> Option<RawStatement<'a>>
     ensures { option_map statement_spoken result ≡ says keyword (first.now ∷ second.now ∷ []) }
 {
     match keyword {
-        Keyword::Function => Some(Spoken::Function {
+        Keyword::Function => Some(RawStatement::Function {
             name: name_of(first)?,
             choice: choice_of(second)?,
         }),
         Keyword::Mov => {
             let dst = register32(before_end(COMMA, first)?)?;
             let imm = number_of(second)?;
-            Some(Spoken::Does(Written::Mov { dst, imm }))
+            Some(RawStatement::Does(RawOperation::Mov { dst, imm }))
         }
         Keyword::Add => {
             let (dst, src) = two_registers(first, second)?;
-            Some(Spoken::Does(Written::Add { dst, src }))
+            Some(RawStatement::Does(RawOperation::Add { dst, src }))
         }
         Keyword::Sub => {
             let (dst, src) = two_registers(first, second)?;
-            Some(Spoken::Does(Written::Sub { dst, src }))
+            Some(RawStatement::Does(RawOperation::Sub { dst, src }))
         }
         _ => None,
     }
 }
 
 /// What a keyword says with the words after it.
-fn says<'a>(keyword: Keyword, words: Words<'a>) -> Option<Spoken<'a>>
+fn says<'a>(keyword: Keyword, words: Words<'a>) -> Option<RawStatement<'a>>
     ensures { option_map statement_spoken result ≡ says keyword words.entry }
 {
     match read_operands(words) {
@@ -118,18 +118,18 @@ fn says<'a>(keyword: Keyword, words: Words<'a>) -> Option<Spoken<'a>>
 }
 
 /// The label that a line is. Its first word isn't a keyword.
-fn label<'a>(word: &'a [u8], mut words: Words<'a>) -> Option<Spoken<'a>>
+fn label<'a>(word: &'a [u8], mut words: Words<'a>) -> Option<RawStatement<'a>>
     ensures { option_map statement_spoken result ≡ label_of word.now words.entry }
 {
     if words.next().is_some() {
         return None;
     }
     let name = name_of(before_end(COLON, word)?)?;
-    Some(Spoken::Label(name))
+    Some(RawStatement::Label(name))
 }
 
 /// What a line says, or nothing if it has no words. `Syntax` if it isn't a line of the language.
-pub(crate) fn read_line<'a>(line: &Line<'a>) -> Result<Option<Spoken<'a>>, AsmFault>
+pub(crate) fn read_line<'a>(line: &Line<'a>) -> Result<Option<RawStatement<'a>>, AsmFault>
     ensures { LineGives line.now.number line.now.bytes.now result }
 {
     if !line.is_clean() {

@@ -6,7 +6,7 @@ ghost use Rattle.asm_text.specs.private.Views.{register_number, statement_said, 
 
 use crate::fault::AsmFault;
 use crate::registers::{Register, RegisterWord};
-use crate::statement::{Operation, Plain, Spoken, Statement, Written};
+use crate::statement::{Operation, Plain, RawOperation, RawStatement, Statement};
 use xray_image::format::{BASE_ALIGNMENT, BASE_LIMIT};
 
 /// The register, or the fault `Register` if it can't be named.
@@ -22,61 +22,61 @@ fn register(line: u32, word: RegisterWord) -> Result<Register, AsmFault>
 
 /// The operation of an instruction line. `Register` if it names a register that can't be named, and
 /// `Range` if a number doesn't fit its field.
-fn checked_operation<'a>(line: u32, written: &Written<'a>) -> Result<Operation<'a>, AsmFault>
+fn checked_operation<'a>(line: u32, written: &RawOperation<'a>) -> Result<Operation<'a>, AsmFault>
     ensures { Tells operation_checked result (operation_of line (operation_written written.now)) }
 {
     match *written {
-        Written::Mov { dst, imm } => {
+        RawOperation::Mov { dst, imm } => {
             let dst = register(line, dst)?;
             let imm = u32::try_from(imm).map_err(|_| AsmFault::Range(line))?;
             Ok(Operation::Plain(Plain::Mov { dst, imm }))
         }
-        Written::Add { dst, src } => {
+        RawOperation::Add { dst, src } => {
             let dst = register(line, dst)?;
             let src = register(line, src)?;
             Ok(Operation::Plain(Plain::Add { dst, src }))
         }
-        Written::Sub { dst, src } => {
+        RawOperation::Sub { dst, src } => {
             let dst = register(line, dst)?;
             let src = register(line, src)?;
             Ok(Operation::Plain(Plain::Sub { dst, src }))
         }
-        Written::Push { reg } => {
+        RawOperation::Push { reg } => {
             let reg = register(line, reg)?;
             Ok(Operation::Plain(Plain::Push { reg }))
         }
-        Written::Pop { reg } => {
+        RawOperation::Pop { reg } => {
             let reg = register(line, reg)?;
             Ok(Operation::Plain(Plain::Pop { reg }))
         }
-        Written::Out { port } => {
+        RawOperation::Out { port } => {
             let port = u8::try_from(port).map_err(|_| AsmFault::Range(line))?;
             Ok(Operation::Plain(Plain::Out { port }))
         }
-        Written::Go { branch, name } => Ok(Operation::Go { branch, name }),
-        Written::TailJump { name } => Ok(Operation::TailJump { name }),
-        Written::Return => Ok(Operation::Return),
+        RawOperation::Go { branch, name } => Ok(Operation::Go { branch, name }),
+        RawOperation::TailJump { name } => Ok(Operation::TailJump { name }),
+        RawOperation::Return => Ok(Operation::Return),
     }
 }
 
 /// What a line says, with checked operands, or its refusal.
-pub(crate) fn checked<'a>(line: u32, spoken: &Spoken<'a>) -> Result<Statement<'a>, AsmFault>
+pub(crate) fn checked<'a>(line: u32, spoken: &RawStatement<'a>) -> Result<Statement<'a>, AsmFault>
     ensures { Tells statement_said result (statement_of_spoken line (statement_spoken spoken.now)) }
 {
     match spoken {
-        Spoken::Base(address) => {
+        RawStatement::Base(address) => {
             let address = *address;
             if !address.is_multiple_of(BASE_ALIGNMENT) || address > BASE_LIMIT {
                 return Err(AsmFault::Range(line));
             }
             Ok(Statement::Base(address))
         }
-        Spoken::Entry(name) => Ok(Statement::Entry(*name)),
-        Spoken::Function { name, choice } => Ok(Statement::Function {
+        RawStatement::Entry(name) => Ok(Statement::Entry(*name)),
+        RawStatement::Function { name, choice } => Ok(Statement::Function {
             name: *name,
             choice: *choice,
         }),
-        Spoken::Label(name) => Ok(Statement::Label(*name)),
-        Spoken::Does(written) => Ok(Statement::Does(checked_operation(line, written)?)),
+        RawStatement::Label(name) => Ok(Statement::Label(*name)),
+        RawStatement::Does(written) => Ok(Statement::Does(checked_operation(line, written)?)),
     }
 }

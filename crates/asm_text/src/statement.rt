@@ -27,7 +27,7 @@ pub(crate) enum Branch {
 /// What an instruction line asks for, as it is written. It may name registers that instructions
 /// can't name, and its numbers may be larger than their fields.
 #[derive(Clone, Copy)]
-pub(crate) enum Written<'a> {
+pub(crate) enum RawOperation<'a> {
     Mov {
         dst: RegisterWord,
         imm: u64,
@@ -61,7 +61,7 @@ pub(crate) enum Written<'a> {
 
 /// What a line says. Its instruction is as it is written, or with checked operands.
 #[derive(Clone, Copy)]
-pub(crate) enum Saying<'a, O> {
+pub(crate) enum AnyStatement<'a, O> {
     /// The address of the code's first byte.
     Base(u64),
     /// The entry function.
@@ -75,10 +75,10 @@ pub(crate) enum Saying<'a, O> {
 }
 
 /// What a line says, as it is written.
-pub(crate) type Spoken<'a> = Saying<'a, Written<'a>>;
+pub(crate) type RawStatement<'a> = AnyStatement<'a, RawOperation<'a>>;
 
 /// What a line says, with checked operands.
-pub(crate) type Statement<'a> = Saying<'a, Operation<'a>>;
+pub(crate) type Statement<'a> = AnyStatement<'a, Operation<'a>>;
 
 /// An instruction that goes to no name.
 #[derive(Clone, Copy)]
@@ -147,7 +147,7 @@ impl<'a> Operation<'a> {
     }
 }
 
-impl<'a> Saying<'a, Operation<'a>> {
+impl<'a> AnyStatement<'a, Operation<'a>> {
     ghost use Rattle.asm_text.specs.Layout.{names_function};
     ghost use Rattle.asm_text.specs.private.{Views.{statement_said}, FirstPass.{name_defined}};
 

@@ -4,7 +4,7 @@ ghost use Rattle.std.specs.Prelude.{◌≡◌, ◌||◌, true, false, if◌then�
 ghost use Rattle.asm_text.specs.Layout.{is_function, is_instruction};
 ghost use Rattle.asm_text.specs.private.Views.{statement_said};
 
-use crate::statement::{Choice, Spoken, Statement};
+use crate::statement::{Choice, RawStatement, Statement};
 use crate::width::{line_sleds, line_width};
 use xray_image::format::{CODE_LIMIT, FUNCTION_LIMIT, SLED_LIMIT};
 
@@ -102,15 +102,15 @@ impl Totals {
     }
 
     /// Whether a line may not come after those so far.
-    pub(crate) fn misplaces(&self, spoken: &Spoken) -> bool
+    pub(crate) fn misplaces(&self, spoken: &RawStatement) -> bool
         ensures { (lines : Lines) → IsTotals lines self.now
             → result ≡ is_misplaced lines (statement_spoken spoken.now) }
     {
         match spoken {
-            Spoken::Base(_) => self.has_base || self.standing.has_begun(),
-            Spoken::Entry(_) => self.has_entry || self.standing.has_begun(),
-            Spoken::Function { .. } => self.standing.lacks_lines(),
-            Spoken::Label(_) | Spoken::Does(_) => !self.standing.has_begun(),
+            RawStatement::Base(_) => self.has_base || self.standing.has_begun(),
+            RawStatement::Entry(_) => self.has_entry || self.standing.has_begun(),
+            RawStatement::Function { .. } => self.standing.lacks_lines(),
+            RawStatement::Label(_) | RawStatement::Does(_) => !self.standing.has_begun(),
         }
     }
 

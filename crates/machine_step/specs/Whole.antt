@@ -1,5 +1,5 @@
 -- Which passings decode their sleds whole.
-use Rattle.std.specs.Prelude.{◌+◌, ◌-◌, ◌⊎◌, ℕ, List, [], ◌∷◌, length, take, Contains, Option, Some, slice_get, ◌≡◌}
+use Rattle.std.specs.Prelude.{◌+◌, ◌-◌, ◌<◌, ◌⊎◌, ℕ, List, [], ◌∷◌, length, take, Contains, Option, Some, slice_get, ◌≡◌}
 use Rattle.xray_image.specs.declared.sled.Sled.{Sled}
 use Rattle.xray_image.specs.Program.{Program}
 use Rattle.sled_words.specs.declared.part.Part.{Part}
@@ -45,3 +45,13 @@ abbrev pub AreWhole : Program → ℕ → Option ℕ → List ℕ → List Load 
 AreWhole program thread hold sleds loads =
     (n k : ℕ) (sled : Sled) (own : List Load) → slice_get sleds n ≡ Some k → slice_get program.sleds k ≡ Some sled
     → slice_get (loads_by_passing program thread hold 0 sleds loads) n ≡ Some own → IsWhole program k sled own
+
+-- each part of the sled with this number was loaded with at most one value
+abbrev pub HaveOneValue : List Load → ℕ → Type 0
+HaveOneValue loads k = (part : Part) (v w : ℕ) → Loaded loads k part v → Loaded loads k part w → v ≡ w
+
+-- so was each part in each passing with a mark, if its sled exists
+abbrev pub HaveOneValueEach : Program → ℕ → Option ℕ → List ℕ → List Load → Type 0
+HaveOneValueEach program thread hold sleds loads =
+    (n k : ℕ) (own : List Load) → slice_get sleds n ≡ Some k → k < length program.sleds
+    → slice_get (loads_by_passing program thread hold 0 sleds loads) n ≡ Some own → HaveOneValue own k

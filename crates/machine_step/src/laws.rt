@@ -10,7 +10,7 @@ ghost use Rattle.machine_step.specs.{PlainStep.{State, Passing, PlainRun}, Cours
 ghost use Rattle.machine_step.specs.Follows.{Follows, MarksFollow};
 ghost use Rattle.machine_step.specs.{Loads.{AreWanted, Load, next_load}, Ended.{EndsAsPlain}};
 ghost use Rattle.machine_step.specs.Traced.{HasLoaded, IsDone, StandsAs, Traced, sleds_of};
-ghost use Rattle.machine_step.specs.Whole.{AreWhole};
+ghost use Rattle.machine_step.specs.Whole.{AreWhole, HaveOneValueEach};
 
 /// A thread of an accepted image reaches only one end. All its plain runs have the same passings,
 /// the same end and the same last state. So what is printed of a plain run depends only on the
@@ -76,6 +76,14 @@ pub fn allowed_loads_are_whole()
         → AreWanted program thread hold sleds loads
         → All (λ load. IsAllowed program thread load.word load.value) loads
         → AreWhole program thread hold sleds loads }
+{}
+
+/// If a thread loads the words that it wants one after the other, each of its passings has loaded
+/// each part of its sled with at most one value, whatever the values are.
+pub fn wanted_loads_have_one_value()
+    ensures { (program : Program) (thread : ℕ) (hold : Option ℕ) (sleds : List ℕ) (loads : List Load)
+        → AreWanted program thread hold sleds loads
+        → HaveOneValueEach program thread hold sleds loads }
 {}
 
 /// If changing code lets a thread come to its end, some marks of all its passings follow the code.

@@ -23,6 +23,11 @@ const PATCH_STORES: u64 = PARTS as u64;
 /// The parts of a sled, in the order in which patching stores them.
 const PATCH_ORDER: [Part; PARTS as usize] = [Part::Id, Part::Opcode, Part::Offset, Part::Head];
 
+/// The states that `init` and `finalize` store, in the order of their micro steps.
+const INIT_STATES: [LogState; 2] = [LogState::Initializing, LogState::Initialized];
+
+const FINALIZE_STATES: [LogState; 2] = [LogState::Finalizing, LogState::Finalized];
+
 /// A command with its place.
 #[derive(Clone, Copy)]
 pub(crate) struct Placed {
@@ -254,11 +259,11 @@ impl PlacedCommands {
             },
             Command::Init => Micro::Store {
                 word: self.state_word,
-                value: LogState::Initializing as u64 + step,
+                value: INIT_STATES[step as usize] as u64,
             },
             Command::Finalize => Micro::Store {
                 word: self.state_word,
-                value: LogState::Finalizing as u64 + step,
+                value: FINALIZE_STATES[step as usize] as u64,
             },
             Command::Release { thread } => Micro::Store {
                 word: self.state_word + thread,

@@ -10,14 +10,14 @@ use Rattle.patch_script.specs.declared.command.Command.{Command}
 use Rattle.patch_script.specs.Micros.{hold_of}
 use Rattle.handler_word.specs.declared.mark.Mark.{Mark}
 use Rattle.machine_step.specs.declared.setup.Setup.{Setup}
-use Rattle.machine_step.specs.Loads.{Load, Marked, Reading, Wants, from_start, is_held_at, marks_from, marks_of, next_from, next_load}
+use Rattle.machine_step.specs.Loads.{AreWanted, Load, Marked, Reading, Wants, from_start, is_held_at, marks_from, marks_of, next_from, next_load}
 use Rattle.machine_step.specs.PlainStep.{Passing}
 use Rattle.machine_step.specs.Traced.{sleds_of}
 use Rattle.machine_step.specs.Whole.{AreWhole}
 use Rattle.traced_run.specs.Decoded.{DecodesWhole}
 use Rattle.traced_run.specs.Runs.{ThreadRun}
 use Rattle.step_sim.specs.declared.turns.Turns.{Turns}
-use Rattle.step_sim.specs.Along.{IsAlong, NamesThread, TearsNoSled}
+use Rattle.step_sim.specs.Along.{IsAlong, LoadsAreWanted, NamesThread, TearsNoSled}
 use Rattle.step_sim.specs.Plays.{Plays}
 use Rattle.step_sim.specs.Replay.{Cast, Moment, first_moment, moment_rules, of_thread, wanted_by}
 use Rattle.step_sim.specs.private.Turns.{AllRunOut, scheduled}
@@ -93,16 +93,22 @@ sleds_at [] j run found = absurd (no_run j run found)
 sleds_at (r ∷ runs) zero run found = ap (λ (o : ThreadRun). Some (sleds_of o.passed)) (some_run r run found)
 sleds_at (r ∷ runs) (suc j) run found = sleds_at runs j run found
 
+-- no load of a replay is unwanted
+abbrev pub NoneUnwanted : Type 0
+NoneUnwanted = (cast : Cast) (moment : Moment) → IsAlong cast moment → LoadsAreWanted cast moment
+
 -- no moment of a replay tears a sled
 abbrev pub NoneTorn : Type 0
 NoneTorn = (cast : Cast) (moment : Moment) → IsAlong cast moment → TearsNoSled cast moment
 
-pub decodes_whole : NoneTorn → (program : Program) (script : List Command) (schedule : List Turns) (setup : Setup) (runs : List ThreadRun)
+pub decodes_whole : NoneUnwanted → NoneTorn → (program : Program) (script : List Command) (schedule : List Turns) (setup : Setup) (runs : List ThreadRun)
     → All NamesThread schedule → (is : IsReplayOf program script schedule setup runs) → (j : ℕ) (run : ThreadRun) → slice_get runs j ≡ Some run
     → DecodesWhole program (j + 1) (hold_of (j + 1) script) run (of_thread is.last.moment.loads (j + 1))
-decodes_whole none program script schedule setup runs names is j run found =
+decodes_whole wanted none program script schedule setup runs names is j run found =
     subst (λ (t : ℕ). DecodesWhole program t (hold_of t script) run (of_thread is.last.moment.loads t)) number
     (record {
+      wanted = subst (λ (xs : List ℕ). AreWanted program (1 + j) (hold_of (1 + j) script) xs (of_thread is.last.moment.loads (1 + j))) sleds
+          (wanted cast is.last.moment along (1 + j) (omega arith));
       each = ap length marks
           ∙ each_marked program (1 + j) (hold_of (1 + j) script) 0 (sleds_of run.passed) (of_thread is.last.moment.loads (1 + j)) ended
           ∙ length-map run.passed (λ (p : Passing). p.sled);

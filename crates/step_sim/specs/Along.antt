@@ -3,6 +3,7 @@ use Rattle.std.specs.Prelude.{◌<◌, ◌≤◌, ℕ, ⊤}
 use Rattle.patch_script.specs.CodeAt.{code_at}
 use Rattle.patch_script.specs.Micros.{hold_of, start_of, total_of}
 use Rattle.machine_step.specs.Follows.{Follows}
+use Rattle.machine_step.specs.Loads.{AreWanted}
 use Rattle.machine_step.specs.Whole.{AreWhole}
 use Rattle.step_sim.specs.declared.turns.Turns.{Turns}
 use Rattle.step_sim.specs.declared.turns.Turns.TheVariants.{Thread, Patcher}
@@ -25,6 +26,12 @@ AllFollow cast moment =
 pub record IsAlong (cast : Cast) (moment : Moment) : Type 0 where
   pub along : AllFollow cast moment
   pub within : moment.place ≤ total_of cast.program cast.script
+
+-- at a moment each load of each thread, from 1 on, is of the word that the thread wanted next
+abbrev pub LoadsAreWanted : Cast → Moment → Type 0
+LoadsAreWanted cast moment =
+    (thread : ℕ) → 0 < thread
+    → AreWanted cast.program thread (hold_of thread cast.script) (of_thread cast.passings thread) (of_thread moment.loads thread)
 
 -- at a moment no thread, from 1 on, has torn a sled: each passing that has its mark decoded its sled whole
 abbrev pub TearsNoSled : Cast → Moment → Type 0

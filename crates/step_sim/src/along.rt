@@ -8,7 +8,7 @@ ghost use Rattle.patch_script.specs.{CodeAt.{code_at}, Micros.{hold_of}};
 ghost use Rattle.machine_step.specs.declared.setup.Setup.{Setup};
 ghost use Rattle.traced_run.specs.{Decoded.{DecodesWhole}, Runs.{ThreadRun}};
 ghost use Rattle.step_sim.specs.declared.turns.Turns.{Turns as Line};
-ghost use Rattle.step_sim.specs.Along.{IsAlong, NamesThread, TearsNoSled};
+ghost use Rattle.step_sim.specs.Along.{IsAlong, LoadsAreWanted, NamesThread, TearsNoSled};
 ghost use Rattle.step_sim.specs.{Schedules.{schedule_of}, Plays.{Plays}};
 ghost use Rattle.step_sim.specs.Replay.{Cast, Moment, first_moment, moment_rules, of_thread, patcher_turn, thread_turn, wanted_by};
 ghost use Rattle.step_sim.specs.Replayed.{IsReplayOf};
@@ -17,8 +17,8 @@ use machine_step::what_follows_is_allowed;
 use patch_script::each_script_keeps_sleds;
 
 /// At each moment of a replay the loads of each thread follow the script: at the first moment, and
-/// after each turn of a thread or of the patcher. So the value of the word that a thread wants next
-/// is allowed, and no passing has torn its sled.
+/// after each turn of a thread or of the patcher. So each load is of the word that its thread wanted
+/// next, the value of the word that a thread wants next is allowed, and no passing has torn its sled.
 pub fn a_replay_reads_along()
     ensures first { (cast : Cast) → IsAlong cast (first_moment cast) }
     ensures thread { (cast : Cast) (thread : ℕ) (moment : Moment) → 0 < thread
@@ -28,6 +28,7 @@ pub fn a_replay_reads_along()
     ensures allowed { (cast : Cast) (moment : Moment) (thread word : ℕ) → 0 < thread
         → IsAlong cast moment → wanted_by cast thread moment ≡ Some word
         → IsAllowed cast.program thread word (code_at cast.program cast.script moment.place word) }
+    ensures wanted { (cast : Cast) (moment : Moment) → IsAlong cast moment → LoadsAreWanted cast moment }
     ensures whole { (cast : Cast) (moment : Moment) → IsAlong cast moment → TearsNoSled cast moment }
 {
     each_script_keeps_sleds();

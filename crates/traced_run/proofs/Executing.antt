@@ -1,10 +1,10 @@
--- With whole passings, executing the code comes to the end of the plain run.
+-- With whole passings, executing the code comes to the end of the plain run, and to no other one.
 use Rattle.std.proofs.Common.{◌≡◌, ℕ, zero, suc, ◌+◌, ◌==◌, Bool, true, false, List, [], ◌∷◌, ◌++◌, length, Option, Some, refl, sym, ap, subst, ◌∙◌, inl, inr, arith, add-zero, zero-add, suc-add, get_or, length-append}
 use Rattle.std.specs.Prelude.{Contains, FitsSigned, MatchBool, ℤ, pos, ◌-ℤ◌, slice_get}
 use Rattle.std.specs.Int.{w32}
 use Rattle.std.specs.Option.{option_map}
 use Rattle.std.proofs.lemmas.List.{set-set}
-use Rattle.std.proofs.lemmas.Option.{slice_get-get_or, slice_get-map, slice_get_within}
+use Rattle.std.proofs.lemmas.Option.{same_Some, slice_get-get_or, slice_get-map, slice_get_within}
 use Rattle.subset_decode.specs.declared.instr.Instr.TheVariants.{Mov, Call, Jmp}
 use Rattle.subset_decode.specs.Encoding.{IsEncodable, spelling}
 use Rattle.xray_image.specs.declared.sled.Sled.{Sled}
@@ -21,17 +21,19 @@ use Rattle.machine_step.specs.declared.end.End.{End}
 use Rattle.machine_step.specs.declared.end.End.TheVariants as ends
 use Rattle.machine_step.specs.declared.limits.Limits.{Limits}
 use Rattle.handler_word.specs.declared.mark.Mark.{Mark}
-use Rattle.machine_step.specs.Loads.{Load, Marked, Reading, Wants, from_start, is_held_at, marks_from}
+use Rattle.machine_step.specs.Loads.{AreWanted, Load, Marked, Reading, Wants, from_start, is_held_at, marks_from}
 use Rattle.machine_step.specs.PlainStep.{Ends, Goes, Next, Passing, PlainRun, PlainStep, RunsTo, State, UnitStep, after_passing, fuelled, opening, passing_at, returns}
 use Rattle.machine_step.specs.Traced.{sleds_of}
-use Rattle.machine_step.specs.Whole.{FoundPatched, IsWhole, Loaded, loads_by_passing}
+use Rattle.machine_step.specs.Whole.{FoundPatched, HaveOneValue, HaveOneValueEach, IsWhole, Loaded, loads_by_passing}
 use Rattle.machine_step.proofs.OnCourse.{run_count}
 use Rattle.machine_step.proofs.OneEnd.{Passes as PassesOrEnds}
+use Rattle.machine_step.proofs.OneUnit.{accepted_units}
 use Rattle.traced_run.specs.Decoded.{DecodesWhole}
 use Rattle.traced_run.specs.Runs.{ThreadRun}
 use Rattle.traced_run.specs.Executed.{Executes, ExecutesTo, Fetched, SledStep, StepExecutes, UnitExecutes, all_parts, calls, head_alone, jumps, leaves, past, returned, to_trampoline, with_r10, loaded_bytes}
 use Rattle.traced_run.proofs.AcceptedCode.{names_registers, reaches_trampoline, stands_at_unit}
 use Rattle.traced_run.proofs.ButR10.{but_r10, does_but, fuelled_but, returns_but}
+use Rattle.traced_run.proofs.OneExecution.{OneHere, same_step}
 use Rattle.traced_run.proofs.SledBytes.{call_bytes, jump_away_bytes, jump_bytes, return_bytes}
 use Rattle.traced_run.proofs.SmallIds.{small_id}
 
@@ -143,12 +145,13 @@ module _ (bytes : List ℕ) (program : Program) (a : IsAccepted bytes program) (
 
 -- ---- a unit, and a step
 
--- each of these passings, numbered from a number on, has loads with which it decodes its sled whole
+-- each of these passings, numbered from a number on, has loads with which it decodes its sled whole, and which have one
+-- value for each of its parts
 abbrev HasOwn : Program → List (List Load) → ℕ → List Passing → Type 0
 HasOwn program loads number passed =
     (m : ℕ) (p : Passing) → slice_get passed m ≡ Some p
     → (own : List Load) × (slice_get loads (number + m) ≡ Some own)
-    × ((sled : Sled) → slice_get program.sleds p.sled ≡ Some sled → IsWhole program p.sled sled own)
+    × ((sled : Sled) → slice_get program.sleds p.sled ≡ Some sled → IsWhole program p.sled sled own × HaveOneValue own p.sled)
 
 -- places in two lists, one after the other
 first_at : {X : Type 0} (xs ys : List X) (i : ℕ) (x : X) → slice_get xs i ≡ Some x → slice_get (xs ++ ys) i ≡ Some x
@@ -179,7 +182,7 @@ module _ (bytes : List ℕ) (program : Program) (a : IsAccepted bytes program) (
           let its = owns 0 (passing_at limits thread s k sled) (ap (λ ps. slice_get ps 0) one) in
           let after : State = record s { passings = s.passings + 1 } in
           let address = sym at ∙ sym (stands_at_unit bytes program a u k sled among is found) in
-          let passes = sled_passes bytes program a limits k sled its.0 r after address found (its.2 sled found) in (
+          let passes = sled_passes bytes program a limits k sled its.0 r after address found (its.2 sled found).0 in (
             passes.r10,
             (
               sled,
@@ -200,13 +203,48 @@ module _ (bytes : List ℕ) (program : Program) (a : IsAccepted bytes program) (
       let executed = unit_executes r s u u.what made next among at refl owns step in
       (executed.0, inr (u, among, at, executed.1))
 
+  -- so the code has one step here
+  one_here : (r : ℕ) (s : State) (made : List Passing) (next : Next) → HasOwn program loads s.passings made
+      → PlainStep program limits thread s made next → OneHere program limits loads (with_r10 r s)
+  one_here r s made next owns (inl (far, none, e)) = λ u k sled own among at what left found own_at. absurd (far u among at)
+  one_here r s made next owns (inr (u, among, at, step)) = λ v k sled own among' at' what left found own_at.
+      let same : u ≡ v = (accepted_units bytes program a).same u v among among' (at ∙ sym at') in
+      of_passing k sled own left found own_at
+      (subst (λ (w : What). UnitStep program limits thread s w made next) (ap (λ (w : Unit). w.what) same ∙ what) step)
+    where
+      of_passing : (k : ℕ) (sled : Sled) (own : List Load) → (s.passings == limits.passings) ≡ false → slice_get program.sleds k ≡ Some sled
+          → slice_get loads s.passings ≡ Some own → UnitStep program limits thread s (whats.Sled k) made next → HaveOneValue own k
+      of_passing k sled own left found own_at step =
+          let passed : PassesOrEnds program limits thread s k false made next =
+          subst (λ (b : Bool). PassesOrEnds program limits thread s k b made next) left step in
+          let its = owns 0 (passing_at limits thread s k passed.0) (ap (λ ps. slice_get ps 0) passed.2) in
+          let same : its.0 ≡ own = same_Some its.0 own (sym its.1 ∙ (ap (slice_get loads) (add-zero s.passings) ∙ own_at)) in
+          subst (λ (o : List Load). HaveOneValue o k) same (its.2 sled found).1
+
+  -- an end that another execution comes to, too
+  abbrev OnlyEnd : State → End → State → Type 0
+  OnlyEnd s end last = (n : ℕ) (e : End) (l : State) → ExecutesTo program limits loads n s e l → (e ≡ end) × (l ≡ last)
+
   run_executes : (n r : ℕ) (s : State) (passed : List Passing) (end : End) (last : State) → HasOwn program loads s.passings passed
       → RunsTo program limits thread n s passed end last
-      → (r' : ℕ) × ExecutesTo program limits loads n (with_r10 r s) end (with_r10 r' last)
-  run_executes zero r s passed end last owns step = step_executes r s passed (Ends end last) owns step
+      → (r' : ℕ) × ExecutesTo program limits loads n (with_r10 r s) end (with_r10 r' last) × OnlyEnd (with_r10 r s) end (with_r10 r' last)
+  run_executes zero r s passed end last owns step =
+      let stepped = step_executes r s passed (Ends end last) owns step in
+      (stepped.0, stepped.1, only stepped.0 stepped.1)
+    where
+      only : (r' : ℕ) → StepExecutes program limits loads (with_r10 r s) (Ends end (with_r10 r' last)) → OnlyEnd (with_r10 r s) end (with_r10 r' last)
+      only r' here zero e l there =
+          let same = same_step program limits loads (accepted_units bytes program a) (with_r10 r s) (Ends end (with_r10 r' last)) (Ends e l)
+          (one_here r s passed (Ends end last) owns step) here there in
+          (cc, cc)
+      only r' here (suc n) e l (mid, there, rest) =
+          let same = same_step program limits loads (accepted_units bytes program a) (with_r10 r s) (Ends end (with_r10 r' last)) (Goes mid)
+          (one_here r s passed (Ends end last) owns step) here there in
+          absurd cc
   run_executes (suc n) r s passed end last owns (made, later, mid, step, rest, joined) =
       let both : HasOwn program loads s.passings (made ++ later) = subst (HasOwn program loads s.passings) joined owns in
-      let stepped = step_executes r s made (Goes mid) (λ m p at. both m p (first_at made later m p at)) step in
+      let own : HasOwn program loads s.passings made = λ m p at. both m p (first_at made later m p at) in
+      let stepped = step_executes r s made (Goes mid) own step in
       let count : mid.passings ≡ s.passings + length made =
       omega (
         arith,
@@ -219,7 +257,19 @@ module _ (bytes : List ℕ) (program : Program) (a : IsAccepted bytes program) (
       let number : s.passings + (length made + m) ≡ mid.passings + m = omega arith in
       (its.0, sym (ap (slice_get loads) number) ∙ its.1, its.2) in
       let others = run_executes n stepped.0 mid later end last afterwards rest in
-      (others.0, (with_r10 stepped.0 mid, stepped.1, others.1))
+      (others.0, (with_r10 stepped.0 mid, stepped.1, others.1), only own stepped.0 stepped.1 others.0 others.2)
+    where
+      only : HasOwn program loads s.passings made → (r' : ℕ) → StepExecutes program limits loads (with_r10 r s) (Goes (with_r10 r' mid)) → (r'' : ℕ)
+          → OnlyEnd (with_r10 r' mid) end (with_r10 r'' last) → OnlyEnd (with_r10 r s) end (with_r10 r'' last)
+      only own r' here r'' others zero e l there =
+          let same = same_step program limits loads (accepted_units bytes program a) (with_r10 r s) (Goes (with_r10 r' mid)) (Ends e l)
+          (one_here r s made (Goes mid) own step) here there in
+          absurd cc
+      only own r' here r'' others (suc n') e l (mid', there, rest') =
+          let same = same_step program limits loads (accepted_units bytes program a) (with_r10 r s) (Goes (with_r10 r' mid)) (Goes mid')
+          (one_here r s made (Goes mid) own step) here there in
+          let mids : mid' ≡ with_r10 r' mid = cc in
+          others n' e l (subst (λ (t : State). ExecutesTo program limits loads n' t e l) mids rest')
 
 -- ---- a whole run
 
@@ -247,10 +297,15 @@ as_many program thread hold number (k ∷ sleds) loads =
     by_reading later (Wants word) e = none_cut program thread hold number k sleds loads word e
     by_reading later (Marked mark more) e = one_cut program thread hold number k sleds loads mark more e (later more)
 
-pub whole_executes : (bytes : List ℕ) (program : Program) (limits : Limits) (number : ℕ) (hold : Option ℕ) (run : ThreadRun) (loads : List Load)
+-- wanted loads have one value for each part in each passing
+abbrev pub WantedHaveOne : Type 0
+WantedHaveOne = (program : Program) (thread : ℕ) (hold : Option ℕ) (sleds : List ℕ) (loads : List Load)
+    → AreWanted program thread hold sleds loads → HaveOneValueEach program thread hold sleds loads
+
+pub whole_executes : WantedHaveOne → (bytes : List ℕ) (program : Program) (limits : Limits) (number : ℕ) (hold : Option ℕ) (run : ThreadRun) (loads : List Load)
     → IsAccepted bytes program → PlainRun program limits number run.passed run.end run.last → DecodesWhole program number hold run loads
     → Executes program limits number hold run loads
-whole_executes bytes program limits number hold run loads a (n, plain) decodes =
+whole_executes ones bytes program limits number hold run loads a (n, plain) decodes =
     let cuts = loads_by_passing program number hold 0 (sleds_of run.passed) loads in
     let long : length cuts ≡ length run.passed =
     as_many program number hold 0 (sleds_of run.passed) loads ∙ (sym (ap length decodes.marks) ∙ decodes.each) in
@@ -259,6 +314,13 @@ whole_executes bytes program limits number hold run loads a (n, plain) decodes =
     let own : slice_get cuts m ≡ Some (get_or cuts m []) = slice_get-get_or cuts m [] (omega (arith, long, within)) in
     let sled_at : slice_get (sleds_of run.passed) m ≡ Some p.sled =
     slice_get-map (λ (p : Passing). p.sled) run.passed m ∙ ap (option_map (λ (p : Passing). p.sled)) at in
-    (get_or cuts m [], ap (slice_get cuts) (zero-add m) ∙ own, λ sled found. decodes.whole m p.sled sled (get_or cuts m []) sled_at found own) in
+    let one = ones program number hold (sleds_of run.passed) loads decodes.wanted m p.sled (get_or cuts m []) sled_at in (
+      get_or cuts m [],
+      ap (slice_get cuts) (zero-add m) ∙ own,
+      λ sled found. (
+        decodes.whole m p.sled sled (get_or cuts m []) sled_at found own,
+        one (slice_get_within program.sleds p.sled sled found) own,
+      ),
+    ) in
     let executed = run_executes bytes program a limits number cuts n 0 (opening program number) run.passed run.end run.last owns plain in
-    record { steps = n; r10 = executed.0; comes = executed.1 }
+    record { steps = n; r10 = executed.0; comes = executed.1; only = executed.2 }

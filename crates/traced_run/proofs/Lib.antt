@@ -8,6 +8,7 @@ pub mod SomeLosses
 pub mod ButR10
 pub mod SledBytes
 pub mod AcceptedCode
+pub mod OneExecution
 pub mod Executing
 pub mod FewBuffers
 mod ExecutedRows

@@ -90,10 +90,14 @@ ExecutesTo program limits loads zero s end last = StepExecutes program limits lo
 ExecutesTo program limits loads (suc n) s end last =
     (mid : State) × StepExecutes program limits loads s (Goes mid) × ExecutesTo program limits loads n mid end last
 
--- With these loads the thread executes the code from the entry function on, and comes to the end of the run. Its last
--- state is that of the run but for r10: the other registers, the zero flag, the stack, the output and the counts.
+-- With these loads the thread executes the code from the entry function on, and comes to the end of the run, and to no
+-- other one. Its last state is that of the run but for r10: the other registers, the zero flag, the stack, the output and
+-- the counts.
 pub record Executes (program : Program) (limits : Limits) (number : ℕ) (hold : Option ℕ) (run : ThreadRun) (loads : List Load) : Type 0 where
   pub steps : ℕ
   pub r10 : ℕ
   pub comes : ExecutesTo program limits (loads_by_passing program number hold 0 (sleds_of run.passed) loads) steps
       (opening program number) run.end (with_r10 r10 run.last)
+  pub only : (n : ℕ) (end : End) (last : State)
+      → ExecutesTo program limits (loads_by_passing program number hold 0 (sleds_of run.passed) loads) n (opening program number) end last
+      → (end ≡ run.end) × (last ≡ with_r10 r10 run.last)

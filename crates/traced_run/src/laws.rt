@@ -18,7 +18,7 @@ ghost use Rattle.traced_run.specs.Losses.{AreLost, recycled_of, without_losses};
 ghost use Rattle.traced_run.specs.Runs.{IsRun, ThreadRun, events_of};
 
 use fdr_buffer::{a_body_has_room, segments_hold_all};
-use machine_step::{Cpu, Steps};
+use machine_step::{Cpu, Steps, wanted_loads_have_one_value};
 
 /// No event of a thread falls between its segments. The events of as many of the first segments as
 /// are lost, and then those of the segments that are left, are all events that its marks record.
@@ -107,10 +107,12 @@ pub fn some_losses_are_of_a_queue()
 {}
 
 /// A thread that executes the code with the bytes of its sleds as it loaded them comes to the end
-/// of its plain run, if it decodes no torn sled. Only r10 may differ.
+/// of its plain run, and to no other one, if it decodes no torn sled. Only r10 may differ.
 pub fn a_whole_run_executes_to_its_end()
     ensures { (bytes : List ℕ) (program : Program) (limits : Limits) (number : ℕ) (hold : Option ℕ)
         (run : ThreadRun) (loads : List Load) → IsAccepted bytes program
         → PlainRun program limits number run.passed run.end run.last
         → DecodesWhole program number hold run loads → Executes program limits number hold run loads }
-{}
+{
+    wanted_loads_have_one_value();
+}

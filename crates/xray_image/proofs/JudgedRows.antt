@@ -78,8 +78,8 @@ module _ (h : Header) (p : FileParts) (u : CodeUnits) where
         subst (λ (ss : List SledSpot). (i : ℕ) → HasOneAddress (map place_of ss) (map entry_of p.entries.items) i) same_spots
         (subst (λ (ls : List RawMapEntry). (i : ℕ) → HasOneAddress (map place_of spots) (map entry_of ls) i) same_lines all)
 
-    pub few_lines : Order → length lines ≤ length spots
-    few_lines all = omega (arith, as_many u.sleds.items p.entries.items all, ap length same_spots, ap length same_lines)
+    pub few_entries : Order → length lines ≤ length spots
+    few_entries all = omega (arith, as_many u.sleds.items p.entries.items all, ap length same_spots, ap length same_lines)
 
     pub kinds_all : Order → Entries → All (λ e. e.kind < 3) lines
     kinds_all order entries =

@@ -62,27 +62,27 @@ impl FunctionIds {
     pub(crate) fn new(
         alloc: Global,
         functions: &[FunctionEntry<'_>],
-        lines: &[RawMapEntry],
+        entries: &[RawMapEntry],
     ) -> Result<FunctionIds, AllocError>
         requires ascend { IsStrictlyIncreasing (map (λ f. f.start) functions.now) }
-        requires known { All (λ e. Contains (map (λ f. f.start) functions.now) e.function) lines.now }
-        requires in_order { IsNonDecreasing (map (λ e. e.function) lines.now) }
+        requires known { All (λ e. Contains (map (λ f. f.start) functions.now) e.function) entries.now }
+        requires in_order { IsNonDecreasing (map (λ e. e.function) entries.now) }
         requires few_functions { length functions.now < 2 ^ 32 }
-        requires few_lines { length lines.now < 2 ^ 32 }
+        requires few_entries { length entries.now < 2 ^ 32 }
         ensures of_entries { IfOk result (λ ids. ids.of_entries.items
-            ≡ map (λ e. id_of (map entry_of lines.now) e.function) lines.now) }
+            ≡ map (λ e. id_of (map entry_of entries.now) e.function) entries.now) }
         ensures functions { IfOk result (λ ids. AreNumbersOf (map (λ f. f.start) functions.now)
-            (distinct [] (map (λ e. e.function) lines.now)) ids.functions.items) }
+            (distinct [] (map (λ e. e.function) entries.now)) ids.functions.items) }
     {
         let mut ids = FunctionIds {
             of_entries: Vec::new(alloc),
             functions: Vec::new(alloc),
         };
         let mut last = None;
-        for line in lines {
-            let id = ids.next_id(functions, last, line.function)?;
+        for entry in entries {
+            let id = ids.next_id(functions, last, entry.function)?;
             ids.of_entries.push(id)?;
-            last = Some(line.function);
+            last = Some(entry.function);
         }
         Ok(ids)
     }

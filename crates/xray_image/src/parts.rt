@@ -111,7 +111,7 @@ impl<'a> Counted<'a> for RawMapEntry {
         if bytes.len() < MAP_ENTRY_LENGTH {
             return None;
         }
-        let line = RawMapEntry {
+        let entry = RawMapEntry {
             sled: u64_at(bytes, SLED_AT),
             function: u64_at(bytes, FUNCTION_AT),
             kind: bytes[KIND_AT],
@@ -119,7 +119,7 @@ impl<'a> Counted<'a> for RawMapEntry {
             version: bytes[SLED_VERSION_AT],
         };
         let (_, rest) = bytes.split_at(MAP_ENTRY_LENGTH);
-        Some((line, rest))
+        Some((entry, rest))
     }
 }
 

@@ -22,24 +22,24 @@ const KNOWN_VERSIONS: u8 = 2;
 
 /// Checks that the map has one entry for each sled, in the order of the sleds. `MapOrder` gives the
 /// first number whose entry and sled don't share one address.
-pub(crate) fn check_order(spots: &[SledSpot], lines: &[RawMapEntry]) -> Result<(), ImageFault>
+pub(crate) fn check_order(spots: &[SledSpot], entries: &[RawMapEntry]) -> Result<(), ImageFault>
     requires spots { length spots.now < 2 ^ 32 }
-    requires lines { length lines.now < 2 ^ 32 }
+    requires entries { length entries.now < 2 ^ 32 }
     ensures ordered { OnOk result ((i : ℕ)
-        → HasOneAddress (map place_of spots.now) (map entry_of lines.now) i) }
+        → HasOneAddress (map place_of spots.now) (map entry_of entries.now) i) }
     ensures refused { IfErr result (IsFirstFault
-        (HasOneAddress (map place_of spots.now) (map entry_of lines.now)) ImageFault.MapOrder) }
+        (HasOneAddress (map place_of spots.now) (map entry_of entries.now)) ImageFault.MapOrder) }
 {
-    for (number, line) in lines.iter().enumerate() {
+    for (number, entry) in entries.iter().enumerate() {
         if number >= spots.len() {
             return Err(ImageFault::MapOrder(number as u32));
         }
-        if spots[number].address != line.sled {
+        if spots[number].address != entry.sled {
             return Err(ImageFault::MapOrder(number as u32));
         }
     }
-    if lines.len() < spots.len() {
-        return Err(ImageFault::MapOrder(lines.len() as u32));
+    if entries.len() < spots.len() {
+        return Err(ImageFault::MapOrder(entries.len() as u32));
     }
     Ok(())
 }
@@ -66,14 +66,14 @@ fn may_have_kind(returns: bool, kind: u8) -> bool
 }
 
 /// Whether an entry agrees with the code about a sled.
-fn is_entry_of(functions: &[FunctionEntry<'_>], spot: &SledSpot, line: &RawMapEntry) -> bool
+fn is_entry_of(functions: &[FunctionEntry<'_>], spot: &SledSpot, entry: &RawMapEntry) -> bool
     requires { Ascend (map function_of functions.now) }
     ensures { IsTrue result
-        ↔ IsEntryOf (map function_of functions.now) (place_of spot.now) (entry_of line.now) }
+        ↔ IsEntryOf (map function_of functions.now) (place_of spot.now) (entry_of entry.now) }
 {
-    lies_in(functions, spot.address, line.function)
-        && may_have_kind(spot.returns, line.kind)
-        && line.version < KNOWN_VERSIONS
+    lies_in(functions, spot.address, entry.function)
+        && may_have_kind(spot.returns, entry.kind)
+        && entry.version < KNOWN_VERSIONS
 }
 
 /// Checks what each entry says of its sled: the function that the sled lies in, a kind that fits
@@ -81,18 +81,18 @@ fn is_entry_of(functions: &[FunctionEntry<'_>], spot: &SledSpot, line: &RawMapEn
 pub(crate) fn check_entries(
     functions: &[FunctionEntry<'_>],
     spots: &[SledSpot],
-    lines: &[RawMapEntry],
+    entries: &[RawMapEntry],
 ) -> Result<(), ImageFault>
-    requires few { length lines.now < 2 ^ 32 }
-    requires spots { length lines.now ≤ length spots.now }
+    requires few { length entries.now < 2 ^ 32 }
+    requires spots { length entries.now ≤ length spots.now }
     requires ascend { Ascend (map function_of functions.now) }
-    ensures fit { OnOk result ((i : ℕ) → FitsAt (map place_of spots.now) (map entry_of lines.now)
+    ensures fit { OnOk result ((i : ℕ) → FitsAt (map place_of spots.now) (map entry_of entries.now)
         (IsEntryOf (map function_of functions.now)) i) }
     ensures refused { IfErr result (IsFirstFault (FitsAt (map place_of spots.now)
-        (map entry_of lines.now) (IsEntryOf (map function_of functions.now))) ImageFault.Odd) }
+        (map entry_of entries.now) (IsEntryOf (map function_of functions.now))) ImageFault.Odd) }
 {
-    for (number, line) in lines.iter().enumerate() {
-        if !is_entry_of(functions, &spots[number], line) {
+    for (number, entry) in entries.iter().enumerate() {
+        if !is_entry_of(functions, &spots[number], entry) {
             return Err(ImageFault::Odd(number as u32));
         }
     }
@@ -124,18 +124,18 @@ fn reaches(sled: u64, trampoline: u64) -> bool
 pub(crate) fn check_distances(
     trampolines: &Trampolines,
     spots: &[SledSpot],
-    lines: &[RawMapEntry],
+    entries: &[RawMapEntry],
 ) -> Result<(), ImageFault>
-    requires few { length lines.now < 2 ^ 32 }
-    requires spots { length lines.now ≤ length spots.now }
-    requires kinds { All (λ e. e.kind < 3) lines.now }
-    ensures near { OnOk result ((i : ℕ) → FitsAt (map place_of spots.now) (map entry_of lines.now)
+    requires few { length entries.now < 2 ^ 32 }
+    requires spots { length entries.now ≤ length spots.now }
+    requires kinds { All (λ e. e.kind < 3) entries.now }
+    ensures near { OnOk result ((i : ℕ) → FitsAt (map place_of spots.now) (map entry_of entries.now)
         (Reaches (trampolines_of trampolines.now)) i) }
     ensures refused { IfErr result (IsFirstFault (FitsAt (map place_of spots.now)
-        (map entry_of lines.now) (Reaches (trampolines_of trampolines.now))) ImageFault.Far) }
+        (map entry_of entries.now) (Reaches (trampolines_of trampolines.now))) ImageFault.Far) }
 {
-    for (number, line) in lines.iter().enumerate() {
-        let trampoline = trampolines.of(kind_of(line.kind));
+    for (number, entry) in entries.iter().enumerate() {
+        let trampoline = trampolines.of(kind_of(entry.kind));
         if !reaches(spots[number].address, trampoline) {
             return Err(ImageFault::Far(number as u32));
         }
@@ -147,24 +147,24 @@ pub(crate) fn check_distances(
 pub(crate) fn read_sleds(
     alloc: Global,
     spots: &[SledSpot],
-    lines: &[RawMapEntry],
+    entries: &[RawMapEntry],
     ids: &[u32],
 ) -> Result<Vec<Sled>, AllocError>
-    requires spots { length lines.now ≤ length spots.now }
-    requires kinds { All (λ e. e.kind < 3) lines.now }
-    requires ids { ids.now ≡ map (λ e. id_of (map entry_of lines.now) e.function) lines.now }
-    ensures { IfOk result (λ sleds. let entries = map entry_of lines.now in
-        sleds.items ≡ map (sled_of entries) (zip (map place_of spots.now) entries)) }
+    requires spots { length entries.now ≤ length spots.now }
+    requires kinds { All (λ e. e.kind < 3) entries.now }
+    requires ids { ids.now ≡ map (λ e. id_of (map entry_of entries.now) e.function) entries.now }
+    ensures { IfOk result (λ sleds. sleds.items
+        ≡ map (sled_of (map entry_of entries.now)) (zip (map place_of spots.now) (map entry_of entries.now))) }
 {
-    let mut sleds = Vec::with_capacity(alloc, lines.len())?;
-    for (number, line) in lines.iter().enumerate() {
+    let mut sleds = Vec::with_capacity(alloc, entries.len())?;
+    for (number, entry) in entries.iter().enumerate() {
         let spot = &spots[number];
         sleds.push(Sled {
             address: spot.address,
-            function: line.function,
+            function: entry.function,
             id: ids[number],
-            kind: kind_of(line.kind),
-            always: line.always != 0,
+            kind: kind_of(entry.kind),
+            always: entry.always != 0,
             shift: spot.shift,
         })?;
     }

@@ -1,14 +1,14 @@
 -- What words mean: only one thing if they are decided, a refusal and nothing else, and something in any case. Each
 -- command has a line.
-use Rattle.std.proofs.Common.{◌≡◌, ◌∙◌, ℕ, List, map, Option, Some, None, true, arith, refl, sym}
-use Rattle.command_words.specs.Files.{inputs_in, names_of, row_of}
+use Rattle.std.proofs.Common.{◌≡◌, ◌∙◌, ℕ, List, ◌∷◌, map, Option, Some, None, true, arith, codes, refl, sym}
+use Rattle.command_words.specs.Files.{AreOfTheirRows, inputs_in, names_of, row_of}
 use Rattle.xray_io.specs.Desk.{Entry}
-use Rattle.xray_program.specs.Commands.{Comes, IsDecided, Means, TellsAll, is_decided}
-use Rattle.xray_program.specs.Order.{inputs_of}
+use Rattle.xray_io.specs.declared.faults.Wall.{Wall}
+use Rattle.xray_program.specs.Commands.{Comes, IsDecided, IsStill, Means, TellsAll, inputs_of, is_decided}
 use Rattle.xray_program.specs.Outcomes.{Outcome, BadLine, written_by}
 use Rattle.xray_program.specs.Setups.{setup_of}
 use Rattle.xray_program.specs.Taking.{Sound}
-use Rattle.command_words.specs.Words.{Command, Sim, Run, Plain, Extract, Asm, Account, Stack, Convert, Soak}
+use Rattle.command_words.specs.Words.{Command, Sim, Run, Plain, Extract, Asm, Account, Stack, Convert, Soak, reading}
 use Rattle.xray_program.proofs.AccountLaws.{account_alone, account_some}
 use Rattle.xray_program.proofs.AsmLaws.{asm_alone, asm_some}
 use Rattle.xray_program.proofs.ConvertLaws.{convert_alone, convert_some}
@@ -77,6 +77,23 @@ command_some laws held told holds (Account t i options) = account_some (image_ju
 command_some laws held told holds (Stack t i format) = stack_some (image_judged laws.verdict laws.accepts) held t i format told holds
 command_some laws held told holds (Convert t i) = convert_some (image_judged laws.verdict laws.accepts) held t i told holds
 command_some laws held told holds (Soak number) = soak_some laws.run laws.drawn number
+
+-- only `run` may wait
+pub still_by_word : AreOfTheirRows → (wall : Wall) (word : List ℕ) (words : List (List ℕ)) → (word ≡ codes "run" → ⊥)
+    → IsStill (reading wall (word ∷ words))
+still_by_word rows wall word words other = by_said (reading wall (word ∷ words)) refl
+  where
+    by_said : (said : Option Command) → reading wall (word ∷ words) ≡ said → IsStill said
+    by_said None is = refl
+    by_said (Some (Sim image script schedule trace audit options)) is = refl
+    by_said (Some (Run image script trace audit options)) is = absurd (other (rows wall word words (Run image script trace audit options) is).word_is)
+    by_said (Some (Plain image bounds)) is = refl
+    by_said (Some (Extract image)) is = refl
+    by_said (Some (Asm text image threshold)) is = refl
+    by_said (Some (Account trace image options)) is = refl
+    by_said (Some (Stack trace image format)) is = refl
+    by_said (Some (Convert trace image)) is = refl
+    by_said (Some (Soak number)) is = refl
 
 -- ---- words
 

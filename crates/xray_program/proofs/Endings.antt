@@ -6,10 +6,10 @@ use Rattle.fault_words.specs.Words.{words_text}
 use Rattle.xray_io.specs.Calls.{Call, Composes, Went, went_on}
 use Rattle.xray_io.specs.Desk.{Entry}
 use Rattle.xray_io.specs.Faults.{Rose}
-use Rattle.xray_program.specs.Commands.{Comes}
+use Rattle.xray_program.specs.Commands.{Comes, inputs_of}
 use Rattle.xray_io.specs.Outputs.{IsMaking}
 use Rattle.xray_io.specs.Reads.{Reads, ReadsUpToFault}
-use Rattle.xray_program.specs.Order.{FailsAtOutput, InOrder, IsNoCall, IsUnmade, MakesAll, ReadsAll, ReadsWhole, StopsAt, inputs_of}
+use Rattle.xray_program.specs.Order.{FailsAtOutput, InOrder, IsNoCall, IsUnmade, MakesAll, ReadsAll, ReadsWhole, StopsAt}
 use Rattle.xray_program.specs.Outcomes.{Outcome, BadLine, Unread, TooLong, Refused, Done, Fell, Ending, With, Unwritten, NoMemory, status_at, line_at, written_by}
 use Rattle.xray_program.specs.Outputs.{AreWhole, AreUntouched, FailsAt, FailsAtOut, FailsWriting, HoldsPrefix, WritesNothing}
 use Rattle.xray_program.specs.private.Further.{ended_by}

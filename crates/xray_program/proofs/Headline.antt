@@ -178,6 +178,7 @@ beside_by laws before after i s t a image script setup fits outputs text image_h
       released = λ i run found. (made.are i run found).released;
     })
     (λ i run found. record {
+      wanted = laws.wanted first.value _ _ _ (i + 1) _ _ _ _ (made.are i run found).follow;
       each = (made.are i run found).each ∙ length-map run.passed (λ (p : Passing). p.sled);
       marks = (made.are i run found).leave;
       whole = laws.follows first.value _ _ _ (i + 1) _ _ _ _ (laws.keeps first.value commands (i + 1)) (made.are i run found).follow;

@@ -28,4 +28,3 @@ pub mod SoakTexts
 pub mod StackLaws
 pub mod TextLists
 pub mod Turns
-pub mod Waiting

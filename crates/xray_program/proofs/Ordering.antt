@@ -1,15 +1,17 @@
 -- The calls of a desk, in their order.
-use Rattle.std.proofs.Common.{◌≡◌, ◌++◌, ◌∙◌, ℕ, List, [], ◌∷◌, length, Result, Ok, Err, refl, sym, ap, subst, append_assoc}
-use Rattle.std.proofs.lemmas.List.{append-nil}
+use Rattle.std.proofs.Common.{◌≡◌, ◌++◌, ◌∙◌, ℕ, suc, List, [], ◌∷◌, length, Option, Some, None, Result, Ok, Err, refl, sym, ap, arith, subst, append_assoc}
+use Rattle.std.proofs.lemmas.List.{append-nil, length-append}
 use Rattle.std.specs.Prelude.{IsErrAnd}
 use Rattle.xray_io.specs.Calls.{Call, Composes, HoldsOfNone, Went, went_on}
 use Rattle.xray_program.specs.Order.{ReadsAll, ReadsWhole}
+use Rattle.xray_io.specs.Desk.{Entry}
 use Rattle.xray_io.specs.World.{DeskView}
-use Rattle.xray_program.specs.private.Takes.{AreTakings, IsNamed, IsTaken, IsTaking, StopsTaking, StopsTakings}
+use Rattle.xray_program.specs.Inputs.{optional_input}
+use Rattle.xray_program.specs.private.Takes.{AreTakings, Gives, IsMaybeTaken, IsMaybeTaking, IsNamed, IsTaken, IsTaking, StopsTaking, StopsTakings}
 use Rattle.xray_program.specs.Outcomes.{Outcome}
-use Rattle.xray_program.specs.Taking.{AcceptsFirst, DeskReads, Form, Take}
+use Rattle.xray_program.specs.Taking.{AcceptsFirst, DeskReads, Form, Take, TakeMaybe}
 use Rattle.xray_program.specs.declared.stop.Stop.{Stop}
-use Rattle.xray_program.proofs.Turns.{accepts, leads}
+use Rattle.xray_program.proofs.Turns.{Leads, accepts, leads}
 use Rattle.xray_program.specs.declared.stop.Stop.TheVariants as stops
 
 -- something else is said of the same calls
@@ -106,3 +108,44 @@ pub first_handed : {S X Y : Type 0} (along : S → S → List Call → Type 0) �
     → Went (along first second) (AreTakings comes inputs result)
 first_handed along both none first second form before after inputs later name result stop comes is turn taken went =
     stop_handed along both first first second form before after inputs [] later name result stop comes tt is turn taken (no_reads along none first) went
+
+-- ---- an input that the words may leave out, after these
+
+-- it was read whole, or none was
+pub maybe_read : {S X : Type 0} (along : S → S → List Call → Type 0) → Composes along → (first second third : S) (earlier : List (List ℕ × ℕ))
+    (name : Option (List ℕ)) (limit : ℕ) (value : X) → Went (along first second) (ReadsAll earlier)
+    → (let result : Result X Stop = Ok value in Went (along second third) (IsMaybeTaking name limit result))
+    → Went (along first third) (ReadsAll (earlier ++ optional_input name limit))
+maybe_read along both first second third earlier None limit value went then =
+    went_on along both first second third (ReadsAll earlier) (λ calls. calls ≡ []) (ReadsAll (earlier ++ [])) went then
+    (λ calls later p none. rw (none, append-nil calls, append-nil earlier) p)
+maybe_read along both first second third earlier (Some name) limit value went then =
+    read_on along both first second third earlier name limit went then
+
+-- so it is accepted, if the words name it, and so are those before it
+pub maybe_accepts : {X : Type 0} (form : Form X) (comes : DeskReads → Outcome → Type 0) (before mid after : DeskView) (earlier : List (List ℕ × ℕ))
+    (name : Option (List ℕ)) (next : DeskReads → Option X → Outcome → Type 0) (value : Option X) → AcceptsFirst comes (length earlier)
+    → Leads comes (λ reads. TakeMaybe form (length earlier) reads before.held name (next reads))
+    → mid.held ≡ before.held → IsMaybeTaken form name mid after (Ok value) → AcceptsFirst comes (length (earlier ++ optional_input name form.limit))
+maybe_accepts form comes before mid after earlier None next value accepted leads same taken = rw (append-nil earlier) accepted
+maybe_accepts form comes before mid after earlier (Some name) next None accepted leads same taken = absurd taken
+maybe_accepts form comes before mid after earlier (Some name) next (Some value) accepted leads same taken =
+    let one : length (earlier ++ (name, form.limit) ∷ []) ≡ suc (length earlier) = length-append earlier ((name, form.limit) ∷ []) ∙ (omega arith) in
+    subst (AcceptsFirst comes) (sym one)
+    (accepts form (length earlier) comes before.held name (λ reads v. next reads (Some v)) value leads
+    (subst (λ (h : List ℕ → Entry). Gives form (h name) value) same taken))
+
+-- the stop that a `?` passes on, of such an input
+pub maybe_handed : {S X Y : Type 0} (along : S → S → List Call → Type 0) → Composes along → (first second third : S) (form : Form X) (before after : DeskView)
+    (earlier : List (List ℕ × ℕ)) (name : Option (List ℕ)) (result : Result Y Stop) (stop : Stop) (comes : DeskReads → Outcome → Type 0)
+    → AcceptsFirst comes (length earlier) → IsErrAnd result (λ s. s ≡ stop) → IsMaybeTaken form name before after (Err stop)
+    → Went (along first second) (ReadsAll earlier)
+    → (let taken : Result (Option X) Stop = Err stop in Went (along second third) (IsMaybeTaking name form.limit taken))
+    → Went (along first third) (AreTakings comes (earlier ++ optional_input name form.limit) result)
+maybe_handed {S} {X} along both first second third form before after earlier None result stop comes accepted is taken went then = absurd (never taken)
+  where
+    never : (let one : Result (Option X) Stop = Err stop in let other : Result (Option X) Stop = Ok None in one ≡ other) → ⊥
+    never e = cc
+maybe_handed along both first second third form before after earlier (Some name) result stop comes accepted is taken went then =
+    stop_handed along both first second third form before after (earlier ++ (name, form.limit) ∷ []) earlier [] name result stop comes accepted is refl
+    taken went then

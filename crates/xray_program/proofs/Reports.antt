@@ -1,13 +1,12 @@
 -- The inputs of a report: their turns, the calls that these make, and what comes of them.
 use Rattle.std.specs.Prelude.{IsErrAnd}
-use Rattle.std.proofs.Common.{◌≡◌, ◌++◌, ◌∙◌, ◌≤◌, ℕ, zero, suc, List, [], ◌∷◌, length, Option, Some, None, Result, Ok, Err, inl, inr, refl, sym, ap, subst, le_refl}
+use Rattle.std.proofs.Common.{◌≡◌, ◌≤◌, ℕ, zero, suc, List, [], ◌∷◌, length, Option, Some, None, Result, Ok, Err, inl, inr, refl, le_refl}
 use Rattle.std.specs.Prelude.{codes}
-use Rattle.std.proofs.lemmas.List.{append-nil}
 use Rattle.fdr_file.specs.declared.trace.Trace.{Trace}
 use Rattle.fdr_file.specs.Traces.{trace_of}
 use Rattle.trace_words.specs.TraceWords.{trace_words}
 use Rattle.xray_image.specs.Program.{Program}
-use Rattle.xray_io.specs.Calls.{Call, Composes, Went, went_on}
+use Rattle.xray_io.specs.Calls.{Call, Composes, Went}
 use Rattle.xray_io.specs.Desk.{Entry}
 use Rattle.xray_io.specs.World.{DeskView}
 use Rattle.command_words.specs.Limits.{trace_limit}
@@ -22,7 +21,7 @@ use Rattle.xray_program.specs.Taking.{AcceptedUpTo, AcceptsFirst, AllAccepted, D
 use Rattle.xray_program.specs.declared.report_inputs.ReportInputs.{ReportInputs}
 use Rattle.xray_program.specs.declared.stop.Stop.{Stop}
 use Rattle.xray_program.proofs.Meanings.{HoldsBytes, IsAlone, IsDecided, IsJudged, SomeOutcome, decided_by, judged_by, maybe_alone, some_maybe, some_take, take_alone}
-use Rattle.xray_program.proofs.Ordering.{all_taken, read_on, stop_handed}
+use Rattle.xray_program.proofs.Ordering.{all_taken, maybe_accepts, maybe_handed, maybe_read}
 use Rattle.xray_program.proofs.Turns.{Leads, accepts, leads, leads_on, maybe_leads_on, maybe_stops_at, stops_at}
 
 -- ---- the turns
@@ -65,57 +64,40 @@ stop_of_image trace image before mid after t (Err s) stop is same later given ta
 
 -- ---- the calls
 
--- the trace is accepted; and the image, if there is one
+-- the trace is accepted
 pub trace_accepted : (held : List ℕ → Entry) (trace : List ℕ) (image : Option (List ℕ)) (t : Trace) → Gives trace_form (held trace) t
     → AcceptsFirst (λ reads. StopsReport reads held trace image) 1
 trace_accepted held trace image t given =
     accepts trace_form 0 (λ reads. StopsReport reads held trace image) held trace
     (λ reads t. TakeMaybe image_form 1 reads held image (λ program outcome. ⊥)) t (leads (λ reads. StopsReport reads held trace image)) given
 
-all_accepted : (held : List ℕ → Entry) (trace : List ℕ) (image : Option (List ℕ)) (t : Trace) (before after : DeskView) (program : Option Program)
-    → before.held ≡ held → Gives trace_form (held trace) t → IsMaybeTaken image_form image before after (Ok program)
-    → AcceptsFirst (λ reads. StopsReport reads held trace image) (length (report_inputs trace image))
-all_accepted held trace None t before after program same given taken = trace_accepted held trace None t given
-all_accepted held trace (Some image) t before after None same given taken = absurd taken
-all_accepted held trace (Some image) t before after (Some program) same given taken =
-    accepts image_form 1 (λ reads. StopsReport reads held trace (Some image)) held image (λ reads program outcome. ⊥) program
-    (to_image held trace (Some image) (λ t program outcome. ⊥) t given) (subst (λ (h : List ℕ → Entry). Gives image_form (h image) program) same taken)
-
--- the image was read whole, or there is none
-image_read : {S X : Type 0} (along : S → S → List Call → Type 0) → Composes along → (first second third : S) (trace : List ℕ) (image : Option (List ℕ))
-    (value : X) → Went (along first second) (ReadsAll ((trace, trace_limit) ∷ []))
-    → (let result : Result X Stop = Ok value in Went (along second third) (IsMaybeTaking image image_limit result))
-    → Went (along first third) (ReadsAll (report_inputs trace image))
-image_read along both first second third trace None value went then =
-    went_on along both first second third (ReadsAll ((trace, trace_limit) ∷ [])) (λ calls. calls ≡ []) (ReadsAll (report_inputs trace None)) went then
-    (λ calls later p none. subst (ReadsAll (report_inputs trace None)) (sym (ap (λ (l : List Call). calls ++ l) none ∙ append-nil calls)) p)
-image_read along both first second third trace (Some image) value went then =
-    read_on along both first second third ((trace, trace_limit) ∷ []) image image_limit went then
+-- the inputs before the image
+abbrev before_image : List ℕ → List (List ℕ × ℕ)
+before_image trace = (trace, trace_limit) ∷ []
 
 -- both gave values
-pub both_read : {S : Type 0} (along : S → S → List Call → Type 0) → Composes along → (first second third : S) (before after : DeskView)
-    (held : List ℕ → Entry) (trace : List ℕ) (image : Option (List ℕ)) (t : Trace) (program : Option Program) → before.held ≡ held
-    → Gives trace_form (held trace) t → IsMaybeTaken image_form image before after (Ok program) → Went (along first second) (ReadsAll ((trace, trace_limit) ∷ []))
+pub both_read : {S : Type 0} (along : S → S → List Call → Type 0) → Composes along → (first second third : S) (before mid after : DeskView)
+    (trace : List ℕ) (image : Option (List ℕ)) (t : Trace) (program : Option Program) → mid.held ≡ before.held
+    → Gives trace_form (before.held trace) t → IsMaybeTaken image_form image mid after (Ok program) → Went (along first second) (ReadsAll (before_image trace))
     → (let result : Result (Option Program) Stop = Ok program in Went (along second third) (IsMaybeTaking image image_limit result))
-    → Went (along first third) (λ calls. AcceptsFirst (λ reads. StopsReport reads held trace image) (length (report_inputs trace image))
+    → Went (along first third) (λ calls. AcceptsFirst (λ reads. StopsReport reads before.held trace image) (length (report_inputs trace image))
     × ReadsAll (report_inputs trace image) calls)
-both_read along both first second third before after held trace image t program same given taken went then =
-    all_taken (all_accepted held trace image t before after program same given taken) (image_read along both first second third trace image program went then)
+both_read along both first second third before mid after trace image t program same given taken went then =
+    all_taken
+    (maybe_accepts image_form (λ reads. StopsReport reads before.held trace image) before mid after (before_image trace) image (λ reads program outcome. ⊥) program
+    (trace_accepted before.held trace image t given) (to_image before.held trace image (λ t program outcome. ⊥) t given) same taken)
+    (maybe_read along both first second third (before_image trace) image image_limit program went then)
 
 -- the image was a stop
 pub image_stopped : {S Y : Type 0} (along : S → S → List Call → Type 0) → Composes along → (first second third : S) (before after : DeskView)
     (held : List ℕ → Entry) (trace : List ℕ) (image : Option (List ℕ)) (t : Trace) → Gives trace_form (held trace) t
     → (result : Result Y Stop) (stop : Stop) → IsErrAnd result (λ s. s ≡ stop)
-    → IsMaybeTaken image_form image before after (Err stop) → Went (along first second) (ReadsAll ((trace, trace_limit) ∷ []))
+    → IsMaybeTaken image_form image before after (Err stop) → Went (along first second) (ReadsAll (before_image trace))
     → (let taken : Result (Option Program) Stop = Err stop in Went (along second third) (IsMaybeTaking image image_limit taken))
     → Went (along first third) (AreTakings (λ reads. StopsReport reads held trace image) (report_inputs trace image) result)
-image_stopped along both first second third before after held trace None t given result stop is taken went then = absurd (never taken)
-  where
-    never : (let one : Result (Option Program) Stop = Err stop in let other : Result (Option Program) Stop = Ok None in one ≡ other) → ⊥
-    never e = cc
-image_stopped along both first second third before after held trace (Some image) t given result stop is taken went then =
-    stop_handed along both first second third image_form before after (report_inputs trace (Some image)) ((trace, trace_limit) ∷ []) [] image result stop
-    (λ reads. StopsReport reads held trace (Some image)) (trace_accepted held trace (Some image) t given) is refl taken went then
+image_stopped along both first second third before after held trace image t given result stop is taken went then =
+    maybe_handed along both first second third image_form before after (before_image trace) image result stop
+    (λ reads. StopsReport reads held trace image) (trace_accepted held trace image t given) is taken went then
 
 -- what comes if a turn fails, or if nothing is asked of what follows, comes whatever follows the inputs
 follows_more : (reads : DeskReads) (place : ℕ) (Less More : Type 0) → (Less → More) → Follows reads place Less → Follows reads place More

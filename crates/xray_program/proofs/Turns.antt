@@ -185,3 +185,12 @@ maybe_stops_at {X} form place comes before mid after None next stop leads same u
     never e = cc
 maybe_stops_at form place comes before mid after (Some name) next stop leads same up taken =
     stops_at form place comes before mid after name (λ reads v. next reads (Some v)) stop leads same up taken
+
+-- so the stop that a `?` passes on
+pub maybe_stop : {X Y : Type 0} (form : Form X) (place : ℕ) (comes : DeskReads → Outcome → Type 0) (yields : Y → Outcome → Type 0)
+    (before mid after : DeskView) (name : Option (List ℕ)) (next : DeskReads → Option X → Outcome → Type 0) (result : Result Y Stop) (stop : Stop)
+    → IsErrAnd result (λ s. s ≡ stop) → Leads comes (λ reads. TakeMaybe form place reads before.held name (next reads))
+    → mid.held ≡ before.held → before.read_faults ≤ mid.read_faults → IsMaybeTaken form name mid after (Err stop)
+    → AreTaken comes yields before after result
+maybe_stop form place comes yields before mid after name next result stop is leads same up taken =
+    handed_on comes yields before after result stop is (maybe_stops_at form place comes before mid after name next stop leads same up taken)

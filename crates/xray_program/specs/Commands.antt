@@ -1,13 +1,15 @@
 -- What words mean: what comes of the command that they say, and of what the desk holds.
-use Rattle.std.specs.Prelude.{◌≡◌, ◌≢◌, ℕ, List, [], Bool, true, false, MatchOption, Option}
+use Rattle.std.specs.Prelude.{◌≡◌, ◌≢◌, ℕ, List, [], ◌∷◌, Bool, true, false, MatchOption, Option}
 use Rattle.std.specs.Option.{option_map_or}
 use Rattle.xray_io.specs.Desk.{Entry, Untold}
 use Rattle.xray_program.specs.Account.{AccountComes}
 use Rattle.xray_program.specs.Asm.{AsmComes}
 use Rattle.xray_program.specs.Convert.{ConvertComes}
 use Rattle.xray_program.specs.Extract.{ExtractComes}
+use Rattle.xray_program.specs.Inputs.{image_limit, text_limit, script_limit, schedule_limit}
 use Rattle.xray_program.specs.Outcomes.{Outcome, BadLine, Unread}
 use Rattle.xray_program.specs.Plain.{PlainComes}
+use Rattle.xray_program.specs.Reports.{report_inputs}
 use Rattle.xray_program.specs.Run.{RunComes}
 use Rattle.xray_program.specs.Setups.{setup_of}
 use Rattle.xray_program.specs.Sim.{SimComes}
@@ -17,6 +19,19 @@ use Rattle.xray_program.specs.Taking.{DeskReads, Sound, Faulty}
 use Rattle.command_words.specs.Words.{Command, Sim, Run, Plain, Extract, Asm, Account, Stack, Convert, Soak, outputs_of}
 
 -- ---- a line for each command
+
+-- its inputs in the order of the words, each with its name and the most bytes that it may have; one that the words
+-- leave out isn't listed
+abbrev pub inputs_of : Command → List (List ℕ × ℕ)
+inputs_of (Sim image script schedule trace audit options) = (image, image_limit) ∷ (script, script_limit) ∷ (schedule, schedule_limit) ∷ []
+inputs_of (Run image script trace audit options) = (image, image_limit) ∷ (script, script_limit) ∷ []
+inputs_of (Plain image bounds) = (image, image_limit) ∷ []
+inputs_of (Extract image) = (image, image_limit) ∷ []
+inputs_of (Asm text image threshold) = (text, text_limit) ∷ []
+inputs_of (Account trace image options) = report_inputs trace image
+inputs_of (Stack trace image format) = report_inputs trace image
+inputs_of (Convert trace image) = report_inputs trace image
+inputs_of (Soak number) = []
 
 -- what comes of it
 abbrev pub Comes : DeskReads → (List ℕ → Entry) → Command → Outcome → Type 0
@@ -39,6 +54,13 @@ is_decided command = true
 abbrev pub is_still : Command → Bool
 is_still (Run image script trace audit options) = false
 is_still command = true
+
+-- whether it reports on a trace
+abbrev pub is_report : Command → Bool
+is_report (Account trace image options) = true
+is_report (Stack trace image format) = true
+is_report (Convert trace image) = true
+is_report command = false
 
 -- ---- what was said: a command, or none
 

@@ -1,5 +1,5 @@
 -- The kinds of input.
-use Rattle.std.specs.Prelude.{◌≡◌, Result, Ok, Err, ℕ, List, [], Option, codes, unwrap_or}
+use Rattle.std.specs.Prelude.{◌≡◌, Result, Ok, Err, ℕ, List, [], ◌∷◌, Option, Some, None, codes, unwrap_or}
 use Rattle.command_words.specs.Limits.{trace_limit}
 use Rattle.xray_image.specs.Program.{Program, IsAccepted}
 use Rattle.xray_image.specs.declared.fault.ImageFault.{ImageFault}
@@ -30,6 +30,11 @@ script_limit = 1048576
 
 abbrev pub schedule_limit : ℕ
 schedule_limit = 16777216
+
+-- an input that the words may leave out, with the most bytes that it may have: a list of one input, or of none
+abbrev pub optional_input : (name : Option (List ℕ)) → (limit : ℕ) → List (List ℕ × ℕ)
+optional_input None limit = []
+optional_input (Some name) limit = (name, limit) ∷ []
 
 -- ---- the kinds
 

@@ -6,27 +6,10 @@ use Rattle.xray_io.specs.Outputs.{IsMaking, Makes}
 use Rattle.xray_io.specs.Reads.{Reads, ReadsSome, ReadsUpTo, ReadsUpToFault}
 use Rattle.xray_io.specs.World.{DeskView}
 use Rattle.xray_io.specs.declared.faults.WriteFault.{WriteFault}
-use Rattle.xray_program.specs.Inputs.{image_limit, text_limit, script_limit, schedule_limit}
-use Rattle.xray_program.specs.Reports.{report_inputs}
-use Rattle.xray_program.specs.Commands.{ComesOf}
+use Rattle.xray_program.specs.Commands.{ComesOf, inputs_of}
 use Rattle.xray_program.specs.Taking.{AcceptsFirst, AllAccepted, DeskReads}
 use Rattle.xray_program.specs.Outcomes.{Outcome, BadLine, Unread, TooLong, Refused, Done, Fell, Ending, With, Unwritten, NoMemory}
-use Rattle.command_words.specs.Words.{Command, Sim, Run, Plain, Extract, Asm, Account, Stack, Convert, Soak}
-
--- ---- a line for each command
-
--- its inputs in the order of the words, each with its name and the most bytes that it may have; one that the words
--- leave out isn't listed
-abbrev pub inputs_of : Command → List (List ℕ × ℕ)
-inputs_of (Sim image script schedule trace audit options) = (image, image_limit) ∷ (script, script_limit) ∷ (schedule, schedule_limit) ∷ []
-inputs_of (Run image script trace audit options) = (image, image_limit) ∷ (script, script_limit) ∷ []
-inputs_of (Plain image bounds) = (image, image_limit) ∷ []
-inputs_of (Extract image) = (image, image_limit) ∷ []
-inputs_of (Asm text image threshold) = (text, text_limit) ∷ []
-inputs_of (Account trace image options) = report_inputs trace image
-inputs_of (Stack trace image format) = report_inputs trace image
-inputs_of (Convert trace image) = report_inputs trace image
-inputs_of (Soak number) = []
+use Rattle.command_words.specs.Words.{Command}
 
 -- ---- inputs
 

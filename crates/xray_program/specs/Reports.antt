@@ -1,10 +1,10 @@
 -- The inputs of a report on a trace: the trace, and an image that the words may leave out.
-use Rattle.std.specs.Prelude.{ℕ, List, [], ◌∷◌, Option, Some, None}
+use Rattle.std.specs.Prelude.{ℕ, List, ◌∷◌, Option}
 use Rattle.fdr_file.specs.declared.trace.Trace.{Trace}
 use Rattle.xray_image.specs.Program.{Program}
 use Rattle.xray_io.specs.Desk.{Entry}
 use Rattle.command_words.specs.Limits.{trace_limit}
-use Rattle.xray_program.specs.Inputs.{image_form, image_limit, trace_form}
+use Rattle.xray_program.specs.Inputs.{image_form, image_limit, optional_input, trace_form}
 use Rattle.xray_program.specs.Outcomes.{Outcome}
 use Rattle.xray_program.specs.Taking.{DeskReads, Take, TakeMaybe}
 
@@ -13,11 +13,6 @@ abbrev pub TakeReport : DeskReads → (List ℕ → Entry) → (trace : List ℕ
     → Outcome → Type 0
 TakeReport reads held trace image next = Take trace_form 0 reads held trace (λ t. TakeMaybe image_form 1 reads held image (λ program. next t program))
 
--- an image that the words may leave out, with the most bytes that it may have
-abbrev pub image_input : Option (List ℕ) → List (List ℕ × ℕ)
-image_input None = []
-image_input (Some image) = (image, image_limit) ∷ []
-
 -- the inputs in the order of the words
 abbrev pub report_inputs : (trace : List ℕ) → (image : Option (List ℕ)) → List (List ℕ × ℕ)
-report_inputs trace image = (trace, trace_limit) ∷ image_input image
+report_inputs trace image = (trace, trace_limit) ∷ optional_input image image_limit

@@ -43,9 +43,10 @@ pub record Traces (Lawful : List ThreadRun → Type 0) (program : Program) (setu
 -- is read for it and for the number of threads. There are runs of the threads, and loads of each thread by its number,
 -- which are lawful, such that:
 -- - each thread goes as its plain run does;
--- - by its loads no passing of a thread decodes a torn sled, and its marks are those of its loads;
+-- - each load of a thread is of the word that it wanted next, by its loads no passing decodes a torn sled, and its marks are
+--   those of its loads;
 -- - a thread that executes the code, each sled with the bytes that it loaded there, comes to the same end as the plain run,
---   with the same registers except r10, zero flag, stack, output and counts;
+--   and to no other one, with the same registers except r10, zero flag, stack, output and counts;
 -- - each thread that has segments of events keeps its last one; if there are more other segments than spare buffers,
 --   exactly the excess is lost, and otherwise none is;
 -- - the trace holds the trace of these runs: a header with the setup's numbers, and for each thread the last whole

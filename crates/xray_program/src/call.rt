@@ -1,12 +1,12 @@
 //! The top call.
-ghost use Rattle.std.specs.Prelude.{◌≡◌, ◌↔◌, IfErr, IfOk, IsFalse, IsTrue, OnOk, Some, codes, slice_get};
+ghost use Rattle.std.specs.Prelude.{◌≡◌, ◌↔◌, IfErr, IfOk, IsFalse, IsTrue, OnOk, Some, codes, slice_get, true};
 ghost use Rattle.command_words.specs.{Items.{texts}, Ranges.{HasRanges}, Views.{command_view}};
 ghost use Rattle.command_words.specs.Words.{reading};
 ghost use Rattle.xray_io.specs.World.{desk_view, sink_view};
-ghost use Rattle.xray_program.specs.{Answers.{Answered, Says}, Commands.{IsStill}};
+ghost use Rattle.xray_program.specs.{Answers.{Answered, Says}, Commands.{IsStill, is_report}};
 ghost use Rattle.xray_program.specs.private.CallLaws.{CallLaws};
 ghost use Rattle.xray_program.specs.private.Stops.{answer_of, told_of, IsUnsaid};
-ghost use Rattle.xray_program.specs.private.Works.{Ends, FitsTraces, IsOther, IsReport, SaidFits};
+ghost use Rattle.xray_program.specs.private.Works.{Ends, FitsTraces, IsOther, SaidFits};
 
 use crate::account::Account;
 use crate::asm::Asm;
@@ -106,8 +106,8 @@ pub fn may_wait(words: &[String]) -> bool
 }
 
 /// A law. No thread of a replay decodes a torn sled, and none of a run does. So each thread executes
-/// its code to the end of its plain run. A replay loses as few segments as its buffers allow, and a
-/// thread's lost segments are its oldest ones. The trace reads back.
+/// its code to the end of its plain run, and to no other end. A replay loses as few segments as its
+/// buffers allow, and a thread's lost segments are its oldest ones. The trace reads back.
 fn what_runs_leave()
     ensures { CallLaws }
 {
@@ -316,7 +316,7 @@ fn perform_report<'a, D: Desk, O: Sink>(
     desk: &mut D,
     out: &mut O,
 ) -> Result<(), Stop<'a>>
-    requires report { IsReport (command_view command) }
+    requires report { is_report (command_view command) ≡ true }
     ensures ends { let seen = desk_view D.held D.read_faults D.write_faults in
         let got = sink_view O.written O.faults in
         Ends (Some (command_view command.entry)) (seen desk.old) (seen desk.new) (got out.old) (got out.new)

@@ -2,7 +2,7 @@
 ghost use Rattle.std.specs.Prelude.{◌≡◌, ◌<◌, ℕ, List, Option, None, All, map};
 ghost use Rattle.command_words.specs.Files.{inputs_in, names_of, row_of};
 ghost use Rattle.xray_io.specs.Desk.{Entry, Holds};
-ghost use Rattle.xray_program.specs.{Commands.{IsDecided, Means, TellsAll}, Order.{inputs_of}};
+ghost use Rattle.xray_program.specs.Commands.{IsDecided, Means, TellsAll, inputs_of};
 ghost use Rattle.xray_program.specs.Outcomes.{Outcome, written_by};
 ghost use Rattle.command_words.specs.Words.{Command};
 

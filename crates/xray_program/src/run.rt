@@ -7,7 +7,7 @@ ghost use Rattle.thread_run.specs.Runs.{HaveRunBeside};
 ghost use Rattle.fdr_buffer.specs.Filled.{has_event};
 ghost use Rattle.traced_run.specs.{Kept.{kept_buffers}, Runs.{ThreadRun}};
 ghost use Rattle.xray_io.specs.{Calls.{Went}, World.{desk_view, sink_view}};
-ghost use Rattle.xray_program.specs.{Commands.{Comes}, Order.{inputs_of}};
+ghost use Rattle.xray_program.specs.Commands.{Comes, inputs_of};
 ghost use Rattle.xray_program.specs.private.RunInputs.{comes_of, said_by, IsReadFor};
 ghost use Rattle.xray_program.specs.private.Stops.{answer_of, told_of};
 ghost use Rattle.xray_program.specs.private.Takes.{AreTaken, AreTakings};

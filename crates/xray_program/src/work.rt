@@ -2,7 +2,7 @@
 ghost use Rattle.std.specs.Prelude.{◌≡◌, ◌≤◌, ℕ, List, Some, IfOk};
 ghost use Rattle.command_words.specs.Words.{Command, outputs_of};
 ghost use Rattle.xray_io.specs.{Calls.{Went}, World.{desk_view, sink_view}};
-ghost use Rattle.xray_program.specs.{Commands.{Comes}, Order.{inputs_of}, Outcomes.{Outcome}};
+ghost use Rattle.xray_program.specs.{Commands.{Comes, inputs_of}, Outcomes.{Outcome}};
 ghost use Rattle.xray_program.specs.private.Stops.{answer_of, told_of};
 ghost use Rattle.xray_program.specs.private.Takes.{AreTaken, AreTakings};
 ghost use Rattle.xray_program.specs.private.Works.{Ends, Finishes, KeepsOthers};

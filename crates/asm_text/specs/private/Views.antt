@@ -8,17 +8,17 @@ use Rattle.asm_text.specs.declared.statement.Plain.{Plain as PlainOne}
 use Rattle.asm_text.specs.declared.statement.Plain.TheVariants as plain
 use Rattle.asm_text.specs.declared.fault.AsmFault.{AsmFault}
 use Rattle.asm_text.specs.declared.fault.AsmFault.TheVariants as faults
-use Rattle.asm_text.specs.declared.statement.Written.{Written}
-use Rattle.asm_text.specs.declared.statement.Written.TheVariants as written
+use Rattle.asm_text.specs.declared.statement.RawOperation.{RawOperation}
+use Rattle.asm_text.specs.declared.statement.RawOperation.TheVariants as written
 use Rattle.asm_text.specs.declared.statement.Operation.{Operation as Checked}
 use Rattle.asm_text.specs.declared.statement.Operation.TheVariants as checked
-use Rattle.asm_text.specs.declared.statement.Saying.{Saying}
-use Rattle.asm_text.specs.declared.statement.Saying.TheVariants as said
+use Rattle.asm_text.specs.declared.statement.AnyStatement.{AnyStatement}
+use Rattle.asm_text.specs.declared.statement.AnyStatement.TheVariants as said
 use Rattle.asm_text.specs.Statements.{Operation, Plain, Go, TailJump, Return, Statement, Base, Entry, Func, Label, Does}
 use Rattle.asm_text.specs.Layout.{Lines}
 use Rattle.asm_text.specs.Refusals.{with_line, judged, operation_reserves, operation_exceeds, names_reserved, is_out_of_range}
 
-abbrev pub operation_written : Written → Operation
+abbrev pub operation_written : RawOperation → Operation
 operation_written (written.Mov dst imm) = Plain (instrs.Mov dst imm)
 operation_written (written.Add dst src) = Plain (instrs.Add dst src)
 operation_written (written.Sub dst src) = Plain (instrs.Sub dst src)
@@ -30,14 +30,14 @@ operation_written (written.TailJump name) = TailJump name.now
 operation_written written.Return = Return
 
 -- a statement, by what its instruction means
-abbrev pub statement_by : {O : Type 0} → (O → Operation) → Saying O → Statement
+abbrev pub statement_by : {O : Type 0} → (O → Operation) → AnyStatement O → Statement
 statement_by view (said.Base address) = Base address
 statement_by view (said.Entry name) = Entry name.now
 statement_by view (said.Function name choice) = Func name.now choice
 statement_by view (said.Label name) = Label name.now
 statement_by view (said.Does operation) = Does (view operation)
 
-abbrev pub statement_spoken : Saying Written → Statement
+abbrev pub statement_spoken : AnyStatement RawOperation → Statement
 statement_spoken = statement_by operation_written
 
 -- the number of a register
@@ -71,11 +71,11 @@ operation_checked (checked.Go branch name) = Go branch name.now
 operation_checked (checked.TailJump name) = TailJump name.now
 operation_checked checked.Return = Return
 
-abbrev pub statement_said : Saying Checked → Statement
+abbrev pub statement_said : AnyStatement Checked → Statement
 statement_said = statement_by operation_checked
 
 -- what reading a line means for the text, whatever lines come before it
-abbrev pub LineGives : ℕ → List ℕ → Result (Option (Saying Written)) AsmFault → Type 0
+abbrev pub LineGives : ℕ → List ℕ → Result (Option (AnyStatement RawOperation)) AsmFault → Type 0
 LineGives number line (Ok None) = (before : Lines) → with_line before (number, line) ≡ Ok before
 LineGives number line (Ok (Some says)) = (before : Lines) → with_line before (number, line) ≡ judged before number (statement_spoken says)
 LineGives number line (Err fault) = (before : Lines) → with_line before (number, line) ≡ Err fault

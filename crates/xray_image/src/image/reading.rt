@@ -37,7 +37,7 @@ fn check_program(
     requires within { AreWithin header.now.base (2 ^ 32) (addresses (units_in code.now.units)) }
     requires functions { length parts.now.functions.items < 2 ^ 32 }
     requires spots { length code.now.sleds.items < 2 ^ 32 }
-    requires lines { length parts.now.entries.items < 2 ^ 32 }
+    requires entries { length parts.now.entries.items < 2 ^ 32 }
     ensures fit { OnOk result (IsJudged (map entry_of parts.now.entries.items) (places_in code.now)
         (program_read header.now parts.now code.now)) }
     ensures refused { IfErr result (λ fault. (fault ≡ ImageFault.NoMemory)
@@ -86,7 +86,7 @@ fn image_of(
     requires sound { IsSoundTable code.units }
     requires entry { header.now.entry_index < length parts.now.functions.items }
     requires functions { length parts.now.functions.items < 2 ^ 32 }
-    requires lines { length parts.now.entries.items < 2 ^ 32 }
+    requires entries { length parts.now.entries.items < 2 ^ 32 }
     ensures { IfOk result (λ image. image ≡ program_read header.now parts.now code) }
 {
     let functions = named_functions(alloc, &parts.functions)?;

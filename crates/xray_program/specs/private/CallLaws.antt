@@ -11,7 +11,7 @@ use Rattle.patch_script.specs.declared.command.Command.{Command as PatchCommand}
 use Rattle.machine_step.specs.declared.setup.Setup.{Setup}
 use Rattle.machine_step.specs.Buffers.{spare_of}
 use Rattle.machine_step.specs.Follows.{Follows}
-use Rattle.machine_step.specs.Loads.{Load}
+use Rattle.machine_step.specs.Loads.{AreWanted, Load}
 use Rattle.machine_step.specs.Whole.{AreWhole as PassingsAreWhole}
 use Rattle.machine_step.specs.declared.limits.Limits.{Limits}
 use Rattle.machine_step.specs.PlainStep.{PlainRun}
@@ -43,6 +43,11 @@ LosesOldest = (program : Program) (script : List PatchCommand) (text : List ℕ)
 abbrev pub ScriptsKeep : Type 0
 ScriptsKeep = (program : Program) (script : List PatchCommand) (thread : ℕ) → KeepsSleds program thread (code_at program script)
 
+-- loads that follow changing code are of the words that are wanted
+abbrev pub FollowsWanted : Type 0
+FollowsWanted = (program : Program) (code : ℕ → ℕ → ℕ) (start : ℕ) (bound : ℕ → ℕ) (thread : ℕ) (hold : Option ℕ) (sleds : List ℕ)
+    (loads : List Load) (place : ℕ) → Follows program code start bound thread hold sleds loads place → AreWanted program thread hold sleds loads
+
 -- loads that follow code which keeps sleds whole tear none
 abbrev pub FollowsWhole : Type 0
 FollowsWhole = (program : Program) (code : ℕ → ℕ → ℕ) (start : ℕ) (bound : ℕ → ℕ) (thread : ℕ) (hold : Option ℕ) (sleds : List ℕ)
@@ -54,7 +59,8 @@ abbrev pub TracesRuns : Type 0
 TracesRuns = (bytes : List ℕ) (program : Program) (setup : Setup) (runs : List ThreadRun) → IsAccepted bytes program → SetupFits setup
     → IsRun program setup runs → IsTraceOf setup runs (trace_bytes setup runs)
 
--- a thread that executes the code with the bytes that it loaded comes to the end of its plain run, if it tears no sled
+-- a thread that executes the code with the bytes that it loaded comes to the end of its plain run, and to no other one, if
+-- it tears no sled
 abbrev pub ExecutesRuns : Type 0
 ExecutesRuns = (bytes : List ℕ) (program : Program) (limits : Limits) (number : ℕ) (hold : Option ℕ) (run : ThreadRun) (loads : List Load)
     → IsAccepted bytes program → PlainRun program limits number run.passed run.end run.last → DecodesWhole program number hold run loads
@@ -81,6 +87,7 @@ pub record CallLaws : Type 0 where
   pub loses : LosesAsQueued
   pub oldest : LosesOldest
   pub keeps : ScriptsKeep
+  pub wanted : FollowsWanted
   pub follows : FollowsWhole
   pub executes : ExecutesRuns
   pub traced : TracesRuns

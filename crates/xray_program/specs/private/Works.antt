@@ -9,7 +9,7 @@ use Rattle.xray_program.specs.Commands.{Means, HadItsTurn, outputs_named}
 use Rattle.xray_program.specs.Order.{FailsAtOutput, InOrder, IsNoCall, IsUnmade, MakesAll}
 use Rattle.xray_program.specs.Outcomes.{Outcome, BadLine, Unread, Refused, Done, Fell, Ending, With, Unwritten, NoMemory, status_at, line_at, written_by}
 use Rattle.xray_program.specs.Outputs.{AreWhole, FailsAt, FailsWriting, WritesNothing}
-use Rattle.command_words.specs.Words.{Command, Sim, Run, Plain, Extract, Asm, Account, Stack, Convert, Soak}
+use Rattle.command_words.specs.Words.{Command, Sim, Run}
 use Rattle.command_words.specs.Limits.{trace_limit}
 use Rattle.machine_step.specs.declared.setup.Setup.{Setup}
 use Rattle.traced_run.specs.Fits.{SetupFits}
@@ -127,26 +127,13 @@ pub record FitsReports (setup : Setup) : Type 0 where
 abbrev pub FitsTraces : Command → Type 0
 FitsTraces (Sim image script schedule trace audit options) = FitsReports (setup_of options)
 FitsTraces (Run image script trace audit options) = FitsReports (setup_of options)
-FitsTraces (Plain image bounds) = Unit {0}
-FitsTraces (Extract image) = Unit {0}
-FitsTraces (Asm text image threshold) = Unit {0}
-FitsTraces (Account trace image options) = Unit {0}
-FitsTraces (Stack trace image format) = Unit {0}
-FitsTraces (Convert trace image) = Unit {0}
-FitsTraces (Soak number) = Unit {0}
+FitsTraces command = Unit {0}
 
 -- a command that writes no trace and no audit
 abbrev pub IsOther : Command → Type 0
 IsOther (Sim image script schedule trace audit options) = ⊥
 IsOther (Run image script trace audit options) = ⊥
 IsOther command = Unit {0}
-
--- a command that reports on a trace
-abbrev pub IsReport : Command → Type 0
-IsReport (Account trace image options) = Unit {0}
-IsReport (Stack trace image format) = Unit {0}
-IsReport (Convert trace image) = Unit {0}
-IsReport command = ⊥
 
 abbrev pub SaidFits : Option Command → Type 0
 SaidFits None = Unit {0}

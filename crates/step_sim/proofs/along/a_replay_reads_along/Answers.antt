@@ -11,6 +11,7 @@ returns c =
       patcher = patcher_keeps;
       allowed = λ cast moment thread word some is wanted.
           said.next cast.program _ _ _ thread _ _ _ _ word (keeps cast.program cast.script thread) (is.along thread some) wanted;
+      wanted = λ cast moment is thread some. said.wanted cast.program _ _ _ thread _ _ _ _ (is.along thread some);
       whole = λ cast moment is thread some.
           said.whole cast.program _ _ _ thread _ _ _ _ (keeps cast.program cast.script thread) (is.along thread some);
     }

@@ -8,4 +8,4 @@ returns-clause-named c = λ cast schedule last names out. c.a_replay_reads_along
 
 pub returns-clause-runs : goal.returns-clause-runs
 returns-clause-runs c = λ program script text schedule setup runs reads is.
-    decodes_whole c.a_replay_reads_along.ensures.whole program script schedule setup runs (names_threads setup.threads text schedule reads) is
+    decodes_whole c.a_replay_reads_along.ensures.wanted c.a_replay_reads_along.ensures.whole program script schedule setup runs (names_threads setup.threads text schedule reads) is

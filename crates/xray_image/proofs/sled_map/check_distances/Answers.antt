@@ -12,18 +12,18 @@ returns-then-not-reaches-clause-refused c =
     let i = c.loop-number.number in
     let trampolines = trampolines_of c.args.trampolines.now in
     let is = c.of-trampoline.ensures ∙ ap (trampoline_of trampolines) c.kind_of.ensures in
-    misfit_first c.args.spots.now c.args.lines.now i c.loop-number-test.true c.requires.spots (Reaches trampolines) _ c.loop-number.invariant
-    (λ h. false≢true (c.if-not-reaches.ensures.1 (near_back trampolines (place_of (get_or c.args.spots.now i zero_spot)) (entry_of (get_or c.args.lines.now i zero_line)) c.of-trampoline.result is h)))
+    misfit_first c.args.spots.now c.args.entries.now i c.loop-number-test.true c.requires.spots (Reaches trampolines) _ c.loop-number.invariant
+    (λ h. false≢true (c.if-not-reaches.ensures.1 (near_back trampolines (place_of (get_or c.args.spots.now i zero_spot)) (entry_of (get_or c.args.entries.now i zero_line)) c.of-trampoline.result is h)))
 
 pub loop-number-preserved : goal.loop-number-preserved
 loop-number-preserved c =
     let i = c.loop-number.number in
     let trampolines = trampolines_of c.args.trampolines.now in
     let is = c.of-trampoline.ensures ∙ ap (trampoline_of trampolines) c.kind_of.ensures in
-    below_more (FitsAt (map place_of c.args.spots.now) (map entry_of c.args.lines.now) (Reaches trampolines)) i c.loop-number.invariant
-    (fit_at c.args.spots.now c.args.lines.now i c.loop-number-test.true c.requires.spots (Reaches trampolines)
-    (near trampolines (place_of (get_or c.args.spots.now i zero_spot)) (entry_of (get_or c.args.lines.now i zero_line)) c.of-trampoline.result is (c.if-not-reaches.ensures.0 refl)))
+    below_more (FitsAt (map place_of c.args.spots.now) (map entry_of c.args.entries.now) (Reaches trampolines)) i c.loop-number.invariant
+    (fit_at c.args.spots.now c.args.entries.now i c.loop-number-test.true c.requires.spots (Reaches trampolines)
+    (near trampolines (place_of (get_or c.args.spots.now i zero_spot)) (entry_of (get_or c.args.entries.now i zero_line)) c.of-trampoline.result is (c.if-not-reaches.ensures.0 refl)))
 
 pub returns-clause-near : goal.returns-clause-near
 returns-clause-near c =
-    fit_all c.args.spots.now c.args.lines.now c.loop-number.number (Reaches (trampolines_of c.args.trampolines.now)) (omega (arith, c.loop-number-test.false)) c.loop-number.invariant
+    fit_all c.args.spots.now c.args.entries.now c.loop-number.number (Reaches (trampolines_of c.args.trampolines.now)) (omega (arith, c.loop-number-test.false)) c.loop-number.invariant

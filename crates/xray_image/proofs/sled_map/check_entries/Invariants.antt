@@ -5,4 +5,4 @@ use Rattle.xray_image.specs.private.Views.{function_of, place_of, entry_of}
 use Rattle.xray_image.proofs.sled_map.check_entries.Given as goal
 
 abbrev pub invariant-loop-number : goal.invariant-loop-number
-invariant-loop-number l = (j : ℕ) → j < l.number → FitsAt (map place_of l.spots) (map entry_of l.lines) (IsEntryOf (map function_of l.functions)) j
+invariant-loop-number l = (j : ℕ) → j < l.number → FitsAt (map place_of l.spots) (map entry_of l.entries) (IsEntryOf (map function_of l.functions)) j

@@ -1,9 +1,9 @@
-use Rattle.std.proofs.Common.{rules, ◌≡◌, ◌∷◌, ◌∙◌, Bool, true, false, ap, sym, subst, codes}
+use Rattle.std.proofs.Common.{rules, ◌≡◌, ◌∷◌, ◌∙◌, true, false, ap, sym, subst, codes}
 use Rattle.std.specs.Str.{bytes_eq}
 use Rattle.command_words.specs.Items.{texts}
 use Rattle.command_words.specs.Words.{reading}
 use Rattle.xray_program.specs.Commands.{IsStill}
-use Rattle.xray_program.proofs.Waiting.{still_by_word}
+use Rattle.xray_program.proofs.CommandLaws.{still_by_word}
 use Rattle.xray_program.proofs.call.may_wait.Goals as goal
 
 pub returns-in-Some-clause-still : goal.returns-in-Some-clause-still

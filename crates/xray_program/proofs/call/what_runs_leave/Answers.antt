@@ -6,6 +6,7 @@ returns c = record {
   loses = c.a_replay_loses_few.ensures.read;
   oldest = c.lost_segments_are_the_oldest.ensures.read;
   keeps = c.each_script_keeps_sleds.ensures;
+  wanted = c.what_follows_is_allowed.ensures.wanted;
   follows = c.what_follows_is_allowed.ensures.whole;
   executes = c.a_whole_run_executes_to_its_end.ensures;
   traced = c.a_run_is_traced.ensures;

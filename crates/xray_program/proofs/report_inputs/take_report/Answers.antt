@@ -1,8 +1,8 @@
 use Rattle.std.proofs.Common.{option_map, refl}
 use Rattle.xray_io.specs.World.{desk_view}
 use Rattle.command_words.specs.Limits.{trace_limit}
-use Rattle.xray_program.specs.Inputs.{trace_form}
-use Rattle.xray_program.specs.Reports.{image_input, report_inputs}
+use Rattle.xray_program.specs.Inputs.{image_limit, optional_input, trace_form}
+use Rattle.xray_program.specs.Reports.{report_inputs}
 use Rattle.xray_program.specs.private.ReportTakes.{StopsReport}
 use Rattle.xray_program.proofs.Ordering.{first_handed, read_first}
 use Rattle.xray_program.proofs.Reports.{both_read, image_stopped, stop_of_image, stop_of_trace}
@@ -35,7 +35,7 @@ returns-in_err-trace-clause-calls g c =
     let seen = desk_view g.D.Desk.held g.D.Desk.read_faults g.D.Desk.write_faults in
     let image = option_map (λ n. n.now) c.args.image in
     first_handed g.D.Desk.along g.met.D.Desk.along_both g.met.D.Desk.along_none c.args.desk.now c.take.new.desk trace_form (seen c.args.desk.now)
-    (seen c.take.new.desk) (report_inputs c.args.trace.now image) (image_input image) c.args.trace.now c.from_residual.result _
+    (seen c.take.new.desk) (report_inputs c.args.trace.now image) (optional_input image image_limit) c.args.trace.now c.from_residual.result _
     (λ reads. StopsReport reads (g.D.Desk.held c.args.desk.now) c.args.trace.now image)
     c.from_residual.ensures.1 refl c.in_err-trace.ensures.taken c.in_err-trace.ensures.calls
 
@@ -56,5 +56,5 @@ returns-clause-calls g c =
     let both = g.met.D.Desk.along_both in
     let image = option_map (λ n. n.now) c.args.image in
     let one = read_first along both g.met.D.Desk.along_none c.args.desk.now c.take.new.desk c.args.trace.now trace_limit c.in_ok-trace.ensures.calls in
-    both_read along both c.args.desk.now c.take.new.desk c.take_maybe.new.desk (seen c.take.new.desk) (seen c.take_maybe.new.desk) (g.D.Desk.held c.args.desk.now)
+    both_read along both c.args.desk.now c.take.new.desk c.take_maybe.new.desk (seen c.args.desk.now) (seen c.take.new.desk) (seen c.take_maybe.new.desk)
     c.args.trace.now image c.in_ok-trace.trace c.in_ok-image.image c.take.ensures.held c.in_ok-trace.ensures.taken c.in_ok-image.ensures.taken one c.in_ok-image.ensures.calls

@@ -13,8 +13,8 @@ unpatch_step-requires-clause-sled c =
     let one = c.args.placed in
     unpatched_within c.args.self.now.image.value one.command one.sleds (c.requires.sound.each c.args.number one c.requires.placed).sleds c.args.step c.requires.within c.in-Unpatch.is
 
-pub overflow_add-result-in-Release : goal.overflow_add-result-in-Release
-overflow_add-result-in-Release c =
+pub overflow_add-result : goal.overflow_add-result
+overflow_add-result c =
     let few : c.in-Release.thread ≤ 16 = subst NamesFewThreads c.in-Release.is (c.requires.sound.each c.args.number c.args.placed c.requires.placed).thread in
     omega (arith, few, c.requires.sound.image.state, c.requires.sound.image.few)
 

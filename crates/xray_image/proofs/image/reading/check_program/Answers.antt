@@ -1,7 +1,7 @@
 use Rattle.std.proofs.Common.{inr, refl}
 use Rattle.std.proofs.lemmas.Result.{err_from_is_err_and}
 use Rattle.xray_image.specs.private.UnitTable.{units_in}
-use Rattle.xray_image.proofs.JudgedRows.{functions_all, functions_row, ascend, order_all, order_row, few_lines, kinds_all, entries_all, entries_row, near_all, near_row, branches_all, branches_row}
+use Rattle.xray_image.proofs.JudgedRows.{functions_all, functions_row, ascend, order_all, order_row, few_entries, kinds_all, entries_all, entries_row, near_all, near_row, branches_all, branches_row}
 use Rattle.xray_image.proofs.image.reading.check_program.Goals as goal
 
 pub returns-in_err-check_functions-clause-refused : goal.returns-in_err-check_functions-clause-refused
@@ -18,7 +18,7 @@ returns-in_err-check_order-clause-refused c =
 pub check_entries-requires-clause-spots : goal.check_entries-requires-clause-spots
 check_entries-requires-clause-spots c =
     let order = order_all c.args.header.now c.args.parts.now c.args.code.now c.deref-2.result.now c.deref-3.result.now c.deref-2.ensures.value c.deref-3.ensures.value c.in_ok-check_order.ensures.ordered in
-    few_lines c.args.header.now c.args.parts.now c.args.code.now c.deref-5.result.now c.deref-6.result.now c.deref-5.ensures.value c.deref-6.ensures.value order
+    few_entries c.args.header.now c.args.parts.now c.args.code.now c.deref-5.result.now c.deref-6.result.now c.deref-5.ensures.value c.deref-6.ensures.value order
 
 pub check_entries-requires-clause-ascend : goal.check_entries-requires-clause-ascend
 check_entries-requires-clause-ascend c =
@@ -35,7 +35,7 @@ returns-in_err-check_entries-clause-refused c =
 pub check_distances-requires-clause-spots : goal.check_distances-requires-clause-spots
 check_distances-requires-clause-spots c =
     let order = order_all c.args.header.now c.args.parts.now c.args.code.now c.deref-2.result.now c.deref-3.result.now c.deref-2.ensures.value c.deref-3.ensures.value c.in_ok-check_order.ensures.ordered in
-    few_lines c.args.header.now c.args.parts.now c.args.code.now c.deref-7.result.now c.deref-8.result.now c.deref-7.ensures.value c.deref-8.ensures.value order
+    few_entries c.args.header.now c.args.parts.now c.args.code.now c.deref-7.result.now c.deref-8.result.now c.deref-7.ensures.value c.deref-8.ensures.value order
 
 pub check_distances-requires-clause-kinds : goal.check_distances-requires-clause-kinds
 check_distances-requires-clause-kinds c =

@@ -9,7 +9,7 @@ use Rattle.xray_image.specs.private.UnitTable.{units_in}
 use Rattle.xray_image.specs.private.Views.{entry_of, function_of, place_of}
 use Rattle.xray_image.proofs.Entries.{ascend_entries}
 use Rattle.xray_image.proofs.ImageMade.{names_all, known, falling, numbers, program_made}
-use Rattle.xray_image.proofs.JudgedRows.{ascend, few_lines, kinds_all}
+use Rattle.xray_image.proofs.JudgedRows.{ascend, few_entries, kinds_all}
 use Rattle.xray_image.proofs.image.reading.image_of.Goals as goal
 
 pub named_functions-requires : goal.named_functions-requires
@@ -31,7 +31,7 @@ new-requires-clause-in_order c =
 
 pub read_sleds-requires-clause-spots : goal.read_sleds-requires-clause-spots
 read_sleds-requires-clause-spots c =
-    few_lines c.args.header.now c.args.parts.now c.args.code c.deref-4.result.now c.deref-5.result.now c.deref-4.ensures.value c.deref-5.ensures.value c.requires.judged.order
+    few_entries c.args.header.now c.args.parts.now c.args.code c.deref-4.result.now c.deref-5.result.now c.deref-4.ensures.value c.deref-5.ensures.value c.requires.judged.order
 
 pub read_sleds-requires-clause-kinds : goal.read_sleds-requires-clause-kinds
 read_sleds-requires-clause-kinds c =

@@ -46,8 +46,8 @@ pub check_program-requires-clause-spots : goal.check_program-requires-clause-spo
 check_program-requires-clause-spots c =
     spots_few c.args.bytes.now c.in_ok-header.header c.in_ok-header.ensures.accepted c.in_ok-header.ensures.fields c.in_ok-parts.parts c.in_ok-parts.ensures.found c.in_ok-code.code c.in_ok-code.ensures.found
 
-pub check_program-requires-clause-lines : goal.check_program-requires-clause-lines
-check_program-requires-clause-lines c =
+pub check_program-requires-clause-entries : goal.check_program-requires-clause-entries
+check_program-requires-clause-entries c =
     entries_few c.args.bytes.now c.in_ok-header.header c.in_ok-header.ensures.accepted c.in_ok-header.ensures.fields c.in_ok-parts.parts c.in_ok-parts.ensures.found
 
 pub returns-in_err-check_program : goal.returns-in_err-check_program
@@ -71,8 +71,8 @@ pub image_of-requires-clause-functions : goal.image_of-requires-clause-functions
 image_of-requires-clause-functions c =
     functions_few c.args.bytes.now c.in_ok-header.header c.in_ok-header.ensures.accepted c.in_ok-header.ensures.fields c.in_ok-parts.parts c.in_ok-parts.ensures.found
 
-pub image_of-requires-clause-lines : goal.image_of-requires-clause-lines
-image_of-requires-clause-lines c =
+pub image_of-requires-clause-entries : goal.image_of-requires-clause-entries
+image_of-requires-clause-entries c =
     entries_few c.args.bytes.now c.in_ok-header.header c.in_ok-header.ensures.accepted c.in_ok-header.ensures.fields c.in_ok-parts.parts c.in_ok-parts.ensures.found
 
 pub returns : goal.returns
