@@ -5,7 +5,7 @@ use Rattle.machine_step.specs.declared.end.End.{End}
 use Rattle.machine_step.specs.declared.want.Want.{Want}
 use Rattle.machine_step.specs.declared.want.Want.TheVariants.{Gate, Load as Loads, Done}
 use Rattle.machine_step.specs.Ended.{EndsAsPlain}
-use Rattle.machine_step.specs.Loads.{Load, marks_of}
+use Rattle.machine_step.specs.Loads.{AreWanted, Load, marks_of}
 use Rattle.machine_step.specs.PlainStep.{Passing, PlainRun, State, opening}
 use Rattle.machine_step.specs.Traced.{HasLoaded, IsAtEnd, IsDone, StandsAs, Traced, sleds_of, state_at}
 use Rattle.machine_step.specs.Whole.{AreWhole}
@@ -40,6 +40,7 @@ ends_as_plain bytes t own passed loads end last accepted loaded done stands run 
       output = ap (λ (s : State). s.output) same.lasts;
       instructions = ap (λ (s : State). s.instructions) same.lasts;
       passings = ap (λ (s : State). s.passings) same.lasts;
+      wanted = subst (λ (ps : List Passing). AreWanted t.program t.thread t.hold (sleds_of ps) loads) alike.passings loaded.wanted;
       each = sym ends.count ∙ ap length same.passings;
       marks = loaded.marks ∙ ap (λ (ps : List Passing). marks_of t.program t.thread t.hold (sleds_of ps) loads) alike.passings;
       whole = subst (λ (ps : List Passing). AreWhole t.program t.thread t.hold (sleds_of ps) loads) alike.passings whole;

@@ -50,7 +50,7 @@ AreWhole program thread hold sleds loads =
 abbrev pub HaveOneValue : List Load → ℕ → Type 0
 HaveOneValue loads k = (part : Part) (v w : ℕ) → Loaded loads k part v → Loaded loads k part w → v ≡ w
 
--- so was each part in each passing with a mark, if its sled exists
+-- in each passing with a mark, each part of its sled was loaded with at most one value, if the sled exists
 abbrev pub HaveOneValueEach : Program → ℕ → Option ℕ → List ℕ → List Load → Type 0
 HaveOneValueEach program thread hold sleds loads =
     (n k : ℕ) (own : List Load) → slice_get sleds n ≡ Some k → k < length program.sleds

@@ -70,7 +70,8 @@ pub fn what_follows_is_allowed()
 {}
 
 /// If a thread loads the words that it wants one after the other, and each value is allowed, no
-/// sled is torn. Each passing decodes its sled whole, wherever the values come from.
+/// sled is torn. Each passing that has its mark decodes its sled whole, wherever the values come
+/// from.
 pub fn allowed_loads_are_whole()
     ensures { (program : Program) (thread : ℕ) (hold : Option ℕ) (sleds : List ℕ) (loads : List Load)
         → AreWanted program thread hold sleds loads
@@ -78,8 +79,9 @@ pub fn allowed_loads_are_whole()
         → AreWhole program thread hold sleds loads }
 {}
 
-/// If a thread loads the words that it wants one after the other, each of its passings has loaded
-/// each part of its sled with at most one value, whatever the values are.
+/// If a thread loads the words that it wants one after the other, each of its passings that has its
+/// mark, at a sled that exists, has loaded each part of the sled with at most one value, whatever
+/// the values are.
 pub fn wanted_loads_have_one_value()
     ensures { (program : Program) (thread : ℕ) (hold : Option ℕ) (sleds : List ℕ) (loads : List Load)
         → AreWanted program thread hold sleds loads
@@ -87,7 +89,7 @@ pub fn wanted_loads_have_one_value()
 {}
 
 /// If changing code lets a thread come to its end, some marks of all its passings follow the code.
-/// They are those of a thread that makes each load as late as it may.
+/// One example is the marks of a thread that makes each load as late as it may.
 pub fn some_marks_follow()
     ensures { (program : Program) (limits : Limits) (thread : ℕ) (passed : List Passing) (end : End) (last : State)
         (code : ℕ → ℕ → ℕ) (start total : ℕ) (bound : ℕ → ℕ) (hold : Option ℕ)

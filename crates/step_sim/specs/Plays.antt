@@ -36,6 +36,6 @@ ThreadsRunOut {X = X} rules (suc n) thread before after =
     (mid : X) × ThreadRunsOut rules thread before mid × ThreadsRunOut rules n (thread + 1) mid after
 
 -- Where a schedule brings a state with this many threads. Its lines come in order. After them each thread runs out,
--- thread 1 first. Then the patcher makes the micro steps that are left, which no thread sees.
+-- thread 1 first. Micro steps that are left then are no part of this: no thread sees them.
 abbrev pub Plays : {X : Type 0} → Rules X → (threads : ℕ) → (first : X) → List Turns → (last : X) → Type 0
 Plays rules threads first schedule last = ThreadsRunOut rules threads 1 (lines_played rules first schedule) last

@@ -35,9 +35,9 @@ pub fn a_replay_reads_along()
     what_follows_is_allowed();
 }
 
-/// No replay tears a sled, whatever the program, the script and the schedule are. When all threads
-/// have run out, each of their passings has decoded its sled whole. A queue of buffers changes
-/// nothing.
+/// No replay tears a sled, whatever the program and the script are, and whatever the schedule is, if
+/// it names threads from 1 on. When all threads have run out, each of their passings has decoded its
+/// sled whole. A queue of buffers changes nothing.
 pub fn no_replay_tears_a_sled()
     ensures named { (cast : Cast) (schedule : List Line) (last : Moment) → All NamesThread schedule
         → Plays (moment_rules cast) (length cast.passings) (first_moment cast) schedule last

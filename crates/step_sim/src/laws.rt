@@ -1,5 +1,5 @@
 //! Laws of replays. Each law is the contract of a function that does nothing.
-ghost use Rattle.std.specs.Prelude.{◌≡◌, ℕ, All, List, None, Ok};
+ghost use Rattle.std.specs.Prelude.{◌≡◌, ℕ, All, List, None, Ok, length};
 ghost use Rattle.xray_image.specs.Program.{IsAccepted, Program};
 ghost use Rattle.patch_script.specs.declared.command.Command.{Command};
 ghost use Rattle.patch_script.specs.{Micros.{hold_of}, Plans.{waiting_line}};
@@ -9,7 +9,8 @@ ghost use Rattle.machine_step.specs.declared.setup.Setup.{Setup};
 ghost use Rattle.traced_run.specs.{Losses.{AreLost}, Runs.{ThreadRun}};
 ghost use Rattle.step_sim.specs.declared.turns.Turns.{Turns as Line};
 ghost use Rattle.step_sim.specs.Pool.{Pooled, PooledReplay, Pooling};
-ghost use Rattle.step_sim.specs.Replay.{Cast, Replay, marks_at};
+ghost use Rattle.step_sim.specs.Plays.{Plays};
+ghost use Rattle.step_sim.specs.Replay.{Cast, Replay, first_moment, marks_at, moment_rules};
 ghost use Rattle.step_sim.specs.Replayed.{IsReplayOf, LoseOldest};
 ghost use Rattle.machine_step.specs.Buffers.{spare_of};
 ghost use Rattle.step_sim.specs.Schedules.{AreTurnsOf, schedule_of};
@@ -34,10 +35,13 @@ pub fn some_replay()
         → waiting_line lines ≡ None → (marks : List (List Mark)) × Replay cast schedule marks }
 {}
 
-/// A replay with buffers goes through the moments of the replay without them, and leaves the same
-/// marks. It doesn't matter what counts as a segment, or how many buffers there are. Each replay is
-/// one with buffers.
+/// A replay with buffers comes to a moment of the replay without them, and leaves the same marks.
+/// It doesn't matter what counts as a segment, or how many buffers there are. Each replay is one
+/// with buffers.
 pub fn buffers_change_no_replay()
+    ensures moments { (cast : Cast) (pooling : Pooling) (schedule : List Line) (last : Pooled)
+        → PooledReplay cast pooling schedule last
+        → Plays (moment_rules cast) (length cast.passings) (first_moment cast) schedule last.moment }
     ensures is { (cast : Cast) (pooling : Pooling) (schedule : List Line) (last : Pooled)
         → PooledReplay cast pooling schedule last → Replay cast schedule (marks_at cast last.moment) }
     ensures has { (cast : Cast) (pooling : Pooling) (schedule : List Line) (marks : List (List Mark))

@@ -15,9 +15,8 @@ use Rattle.traced_run.specs.Losses.{AreLost}
 use Rattle.traced_run.specs.Runs.{IsRun, ThreadRun}
 use Rattle.thread_run.specs.Following.{LoadsFollow, MarksFollowScript}
 
--- The law of runs beside a script, with one pool of buffers for all threads. The marks of each thread follow the script.
--- As many segments are lost as the pool had no spare buffers for. Whose they are isn't fixed, but each thread keeps its
--- last one.
+-- The law of runs beside a script. The marks of each thread follow the script. As many segments are lost as the pool of
+-- all threads had no spare buffers for. Whose they are isn't fixed, but each thread keeps its last one.
 pub record FollowsScript (program : Program) (script : List Command) (setup : Setup) (runs : List ThreadRun) : Type 0 where
   pub follow : (i : ℕ) (run : ThreadRun) → slice_get runs i ≡ Some run
       → MarksFollowScript program script (i + 1) (sleds_of run.passed) run.marks

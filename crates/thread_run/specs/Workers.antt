@@ -62,8 +62,8 @@ pub record IsFreshIn (plan : Plan) (t : Traced) (v : WorkView) : Type 0 where
   pub count : v.count ≡ 0
   pub loads : v.loads ≡ []
 
--- The loads of the seat are those that the thread was given. They follow the script up to what the seat has seen. So do
--- those that didn't hold the thread. Only these are known to determine its marks.
+-- The loads of the seat are those that the thread was given. They follow the script up to what the seat has seen, and
+-- determine the thread's marks. There are also loads that do both and never found the thread held.
 pub record IsAlong (plan : Plan) (t : Traced) (v : WorkView) (passed : List Passing) : Type 0 where
   pub all : HasFollowed plan.program (commands_of plan.lines) t passed v.seen (given v.loads)
   pub made : List Load

@@ -14,9 +14,9 @@ ghost use Rattle.trace_flush.specs.Telling.{HasNumbers, HasSetupNumbers};
 use fdr_file::a_file_reads_back;
 use traced_run::{a_run_fits_its_buffers, a_run_leaves_few_buffers, a_run_without_losses_is_whole};
 
-/// The text of an audit determines its run. If two audits have the same text, their runs had the
-/// same setup and the same threads. Each thread has the same end, the same marks, and as many
-/// segments and recycled ones.
+/// The text of an audit determines its setup and its threads, if all numbers have at most 64 bits. If
+/// two audits have the same text, each thread has the same end, the same marks, and as many segments
+/// and recycled ones.
 pub fn audit_tells_its_run()
     ensures threads { (setup other : Setup) (threads others : List Account)
         → All HasNumbers threads → All HasNumbers others

@@ -1,4 +1,4 @@
--- With whole passings, executing the code comes to the end of the plain run, and to no other one.
+-- With whole passings, executing the code always comes to the end of the plain run.
 use Rattle.std.proofs.Common.{◌≡◌, ℕ, zero, suc, ◌+◌, ◌==◌, Bool, true, false, List, [], ◌∷◌, ◌++◌, length, Option, Some, refl, sym, ap, subst, ◌∙◌, inl, inr, arith, add-zero, zero-add, suc-add, get_or, length-append}
 use Rattle.std.specs.Prelude.{Contains, FitsSigned, MatchBool, ℤ, pos, ◌-ℤ◌, slice_get}
 use Rattle.std.specs.Int.{w32}
@@ -30,7 +30,7 @@ use Rattle.machine_step.proofs.OneEnd.{Passes as PassesOrEnds}
 use Rattle.machine_step.proofs.OneUnit.{accepted_units}
 use Rattle.traced_run.specs.Decoded.{DecodesWhole}
 use Rattle.traced_run.specs.Runs.{ThreadRun}
-use Rattle.traced_run.specs.Executed.{Executes, ExecutesTo, Fetched, SledStep, StepExecutes, UnitExecutes, all_parts, calls, head_alone, jumps, leaves, past, returned, to_trampoline, with_r10, loaded_bytes}
+use Rattle.traced_run.specs.Executed.{EndsIn, Executes, ExecutesOn, ExecutesTo, Fetched, SledStep, StepExecutes, UnitExecutes, all_parts, calls, head_alone, jumps, leaves, past, returned, to_trampoline, with_r10, loaded_bytes}
 use Rattle.traced_run.proofs.AcceptedCode.{names_registers, reaches_trampoline, stands_at_unit}
 use Rattle.traced_run.proofs.ButR10.{but_r10, does_but, fuelled_but, returns_but}
 use Rattle.traced_run.proofs.OneExecution.{OneHere, same_step}
@@ -221,26 +221,31 @@ module _ (bytes : List ℕ) (program : Program) (a : IsAccepted bytes program) (
           let same : its.0 ≡ own = same_Some its.0 own (sym its.1 ∙ (ap (slice_get loads) (add-zero s.passings) ∙ own_at)) in
           subst (λ (o : List Load). HaveOneValue o k) same (its.2 sled found).1
 
-  -- an end that another execution comes to, too
-  abbrev OnlyEnd : State → End → State → Type 0
-  OnlyEnd s end last = (n : ℕ) (e : End) (l : State) → ExecutesTo program limits loads n s e l → (e ≡ end) × (l ≡ last)
-
   run_executes : (n r : ℕ) (s : State) (passed : List Passing) (end : End) (last : State) → HasOwn program loads s.passings passed
       → RunsTo program limits thread n s passed end last
-      → (r' : ℕ) × ExecutesTo program limits loads n (with_r10 r s) end (with_r10 r' last) × OnlyEnd (with_r10 r s) end (with_r10 r' last)
+      → (r' : ℕ) × EndsIn program limits loads n (with_r10 r s) end (with_r10 r' last)
   run_executes zero r s passed end last owns step =
       let stepped = step_executes r s passed (Ends end last) owns step in
-      (stepped.0, stepped.1, only stepped.0 stepped.1)
+      (stepped.0, record { comes = stepped.1; goes_on = goes_on stepped.0 stepped.1; only = only stepped.0 stepped.1 })
     where
-      only : (r' : ℕ) → StepExecutes program limits loads (with_r10 r s) (Ends end (with_r10 r' last)) → OnlyEnd (with_r10 r s) end (with_r10 r' last)
-      only r' here zero e l there =
-          let same = same_step program limits loads (accepted_units bytes program a) (with_r10 r s) (Ends end (with_r10 r' last)) (Ends e l)
-          (one_here r s passed (Ends end last) owns step) here there in
-          (cc, cc)
-      only r' here (suc n) e l (mid, there, rest) =
-          let same = same_step program limits loads (accepted_units bytes program a) (with_r10 r s) (Ends end (with_r10 r' last)) (Goes mid)
-          (one_here r s passed (Ends end last) owns step) here there in
-          absurd cc
+      -- the step is the end
+      same : (r' : ℕ) → StepExecutes program limits loads (with_r10 r s) (Ends end (with_r10 r' last)) → (other : Next)
+          → StepExecutes program limits loads (with_r10 r s) other → other ≡ Ends end (with_r10 r' last)
+      same r' here other there =
+          same_step program limits loads (accepted_units bytes program a) (with_r10 r s) (Ends end (with_r10 r' last)) other
+          (one_here r s passed (Ends end last) owns step) here there
+
+      goes_on : (r' : ℕ) → StepExecutes program limits loads (with_r10 r s) (Ends end (with_r10 r' last)) → (n : ℕ) (mid : State)
+          → ExecutesOn program limits loads n (with_r10 r s) mid
+          → (rest : ℕ) × (n + rest ≡ 0) × ExecutesTo program limits loads rest mid end (with_r10 r' last)
+      goes_on r' here zero mid is =
+          (0, refl, subst (λ (t : State). StepExecutes program limits loads t (Ends end (with_r10 r' last))) (sym is) here)
+      goes_on r' here (suc n) mid (first, there, rest) = let never = same r' here (Goes first) there in absurd cc
+
+      only : (r' : ℕ) → StepExecutes program limits loads (with_r10 r s) (Ends end (with_r10 r' last)) → (n : ℕ) (e : End) (l : State)
+          → ExecutesTo program limits loads n (with_r10 r s) e l → (e ≡ end) × (l ≡ with_r10 r' last)
+      only r' here zero e l there = let alike = same r' here (Ends e l) there in (cc, cc)
+      only r' here (suc n) e l (first, there, rest) = let never = same r' here (Goes first) there in absurd cc
   run_executes (suc n) r s passed end last owns (made, later, mid, step, rest, joined) =
       let both : HasOwn program loads s.passings (made ++ later) = subst (HasOwn program loads s.passings) joined owns in
       let own : HasOwn program loads s.passings made = λ m p at. both m p (first_at made later m p at) in
@@ -257,19 +262,35 @@ module _ (bytes : List ℕ) (program : Program) (a : IsAccepted bytes program) (
       let number : s.passings + (length made + m) ≡ mid.passings + m = omega arith in
       (its.0, sym (ap (slice_get loads) number) ∙ its.1, its.2) in
       let others = run_executes n stepped.0 mid later end last afterwards rest in
-      (others.0, (with_r10 stepped.0 mid, stepped.1, others.1), only own stepped.0 stepped.1 others.0 others.2)
+      (others.0, one_more own stepped.0 stepped.1 others.0 others.1)
     where
-      only : HasOwn program loads s.passings made → (r' : ℕ) → StepExecutes program limits loads (with_r10 r s) (Goes (with_r10 r' mid)) → (r'' : ℕ)
-          → OnlyEnd (with_r10 r' mid) end (with_r10 r'' last) → OnlyEnd (with_r10 r s) end (with_r10 r'' last)
-      only own r' here r'' others zero e l there =
-          let same = same_step program limits loads (accepted_units bytes program a) (with_r10 r s) (Goes (with_r10 r' mid)) (Ends e l)
-          (one_here r s made (Goes mid) own step) here there in
-          absurd cc
-      only own r' here r'' others (suc n') e l (mid', there, rest') =
-          let same = same_step program limits loads (accepted_units bytes program a) (with_r10 r s) (Goes (with_r10 r' mid)) (Goes mid')
-          (one_here r s made (Goes mid) own step) here there in
-          let mids : mid' ≡ with_r10 r' mid = cc in
-          others n' e l (subst (λ (t : State). ExecutesTo program limits loads n' t e l) mids rest')
+      -- one step before
+      one_more : HasOwn program loads s.passings made → (r' : ℕ) → StepExecutes program limits loads (with_r10 r s) (Goes (with_r10 r' mid)) → (r'' : ℕ)
+          → EndsIn program limits loads n (with_r10 r' mid) end (with_r10 r'' last) → EndsIn program limits loads (suc n) (with_r10 r s) end (with_r10 r'' last)
+      one_more own r' here r'' others = record { comes = (with_r10 r' mid, here, others.comes); goes_on = goes_on; only = only }
+        where
+          same : (other : Next) → StepExecutes program limits loads (with_r10 r s) other → other ≡ Goes (with_r10 r' mid)
+          same other there =
+              same_step program limits loads (accepted_units bytes program a) (with_r10 r s) (Goes (with_r10 r' mid)) other
+              (one_here r s made (Goes mid) own step) here there
+
+          goes_on : (m : ℕ) (reached : State) → ExecutesOn program limits loads m (with_r10 r s) reached
+              → (rest : ℕ) × (m + rest ≡ suc n) × ExecutesTo program limits loads rest reached end (with_r10 r'' last)
+          goes_on zero reached is =
+              let From : State → Type 0 = λ t. ExecutesTo program limits loads (suc n) t end (with_r10 r'' last) in
+              (suc n, omega arith, subst From (sym is) (with_r10 r' mid, here, others.comes))
+          goes_on (suc m) reached (first, there, on) =
+              let alike = same (Goes first) there in
+              let firsts : first ≡ with_r10 r' mid = cc in
+              let left = others.goes_on m reached (subst (λ (t : State). ExecutesOn program limits loads m t reached) firsts on) in
+              (left.0, (let count = left.1 in omega (arith, count)), left.2)
+
+          only : (m : ℕ) (e : End) (l : State) → ExecutesTo program limits loads m (with_r10 r s) e l → (e ≡ end) × (l ≡ with_r10 r'' last)
+          only zero e l there = let never = same (Ends e l) there in absurd cc
+          only (suc m) e l (first, there, on) =
+              let alike = same (Goes first) there in
+              let firsts : first ≡ with_r10 r' mid = cc in
+              others.only m e l (subst (λ (t : State). ExecutesTo program limits loads m t e l) firsts on)
 
 -- ---- a whole run
 
@@ -323,4 +344,4 @@ whole_executes ones bytes program limits number hold run loads a (n, plain) deco
       ),
     ) in
     let executed = run_executes bytes program a limits number cuts n 0 (opening program number) run.passed run.end run.last owns plain in
-    record { steps = n; r10 = executed.0; comes = executed.1; only = executed.2 }
+    record { steps = n; r10 = executed.0; ends = executed.1 }

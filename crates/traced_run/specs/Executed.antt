@@ -90,14 +90,26 @@ ExecutesTo program limits loads zero s end last = StepExecutes program limits lo
 ExecutesTo program limits loads (suc n) s end last =
     (mid : State) × StepExecutes program limits loads s (Goes mid) × ExecutesTo program limits loads n mid end last
 
--- With these loads the thread executes the code from the entry function on, and comes to the end of the run, and to no
--- other one. Its last state is that of the run but for r10: the other registers, the zero flag, the stack, the output and
+-- n steps lead from a state to another
+abbrev pub ExecutesOn : Program → Limits → List (List Load) → ℕ → State → State → Type 0
+ExecutesOn program limits loads zero s reached = reached ≡ s
+ExecutesOn program limits loads (suc n) s reached =
+    (mid : State) × StepExecutes program limits loads s (Goes mid) × ExecutesOn program limits loads n mid reached
+
+-- From a state each execution comes to this end, in this many steps and one more: one does (`comes`); whatever steps are
+-- made first, they lead to it in the steps that are left (`goes_on`); and there is no other end (`only`). So none stops
+-- before, and none goes on forever.
+pub record EndsIn (program : Program) (limits : Limits) (loads : List (List Load)) (steps : ℕ) (s : State) (end : End) (last : State) : Type 0 where
+  pub comes : ExecutesTo program limits loads steps s end last
+  pub goes_on : (n : ℕ) (mid : State) → ExecutesOn program limits loads n s mid
+      → (rest : ℕ) × (n + rest ≡ steps) × ExecutesTo program limits loads rest mid end last
+  pub only : (n : ℕ) (other : End) (state : State) → ExecutesTo program limits loads n s other state → (other ≡ end) × (state ≡ last)
+
+-- With these loads the thread executes the code from the entry function on, and comes to the end of the run, whatever its
+-- steps are. Its last state is that of the run but for r10: the other registers, the zero flag, the stack, the output and
 -- the counts.
 pub record Executes (program : Program) (limits : Limits) (number : ℕ) (hold : Option ℕ) (run : ThreadRun) (loads : List Load) : Type 0 where
   pub steps : ℕ
   pub r10 : ℕ
-  pub comes : ExecutesTo program limits (loads_by_passing program number hold 0 (sleds_of run.passed) loads) steps
+  pub ends : EndsIn program limits (loads_by_passing program number hold 0 (sleds_of run.passed) loads) steps
       (opening program number) run.end (with_r10 r10 run.last)
-  pub only : (n : ℕ) (end : End) (last : State)
-      → ExecutesTo program limits (loads_by_passing program number hold 0 (sleds_of run.passed) loads) n (opening program number) end last
-      → (end ≡ run.end) × (last ≡ with_r10 r10 run.last)

@@ -8,7 +8,7 @@ use Rattle.machine_step.specs.Traced.{Traced}
 use Rattle.traced_run.specs.Runs.{ThreadRun}
 use Rattle.traced_run.specs.Kept.{kept_buffers, segment_count}
 
--- a traced thread has made some loads and has ended as its plain run does, with the run's marks
+-- there are loads by which a traced thread has ended as its plain run does, with the run's marks
 pub record HasRun (number : ℕ) (run : ThreadRun) (t : Traced) : Type 0 where
   pub thread : t.thread ≡ number
   pub loads : List Load

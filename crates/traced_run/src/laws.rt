@@ -106,8 +106,8 @@ pub fn some_losses_are_of_a_queue()
         → (others : List ThreadRun) × (without_losses others ≡ without_losses runs) × AreLost size spare others }
 {}
 
-/// A thread that executes the code with the bytes of its sleds as it loaded them comes to the end
-/// of its plain run, and to no other one, if it decodes no torn sled. Only r10 may differ.
+/// A thread that executes the code with the bytes of its sleds as it loaded them always comes to the
+/// end of its plain run, if it decodes no torn sled. Only r10 may differ.
 pub fn a_whole_run_executes_to_its_end()
     ensures { (bytes : List ℕ) (program : Program) (limits : Limits) (number : ℕ) (hold : Option ℕ)
         (run : ThreadRun) (loads : List Load) → IsAccepted bytes program

@@ -72,14 +72,14 @@ IsAnswer said before after status =
     ⊎ ((status ≡ 3) × Rose before.desk.read_faults after.desk.read_faults)
     ⊎ ((status ≡ 4) × (Rose before.desk.write_faults after.desk.write_faults ⊎ Rose before.out.faults after.out.faults))
 
--- `sim` was said, with inputs that the desk holds, and all that the schedule leaves was written
+-- if `sim` was said, with inputs that the desk holds, then all that the schedule leaves was written
 abbrev pub IsSimulated : Option Command → (before after : World) → Type 0
 IsSimulated said before after =
     (i s c t a image script schedule : List ℕ) (options : RunOptions) → said ≡ Some (Sim i s c t a options)
     → before.desk.held i ≡ Holds image → before.desk.held s ≡ Holds script → before.desk.held c ≡ Holds schedule
     → IsTraced (FollowsSchedule schedule (setup_of options)) image script t a (setup_of options) before after
 
--- `run` was said, with inputs that the desk holds, and all that threads leave beside the script was written
+-- if `run` was said, with inputs that the desk holds, then all that threads leave beside the script was written
 abbrev pub IsRunBeside : Option Command → (before after : World) → Type 0
 IsRunBeside said before after =
     (i s t a image script : List ℕ) (options : RunOptions) → said ≡ Some (Run i s t a options)

@@ -17,8 +17,8 @@ use Rattle.xray_program.specs.Outcomes.{Outcome}
 use Rattle.xray_program.specs.Taking.{DeskReads, Take, Leaves}
 use Rattle.xray_program.specs.Traced.{Traces}
 
--- The law of `run`. Runs are lawful if threads can make them beside the script, with one pool of buffers: the marks of
--- each thread follow the script, and as many segments are lost as the pool had no spare buffers for.
+-- The law of `run`. The marks of each thread follow the script, and as many segments are lost as the threads' pool had no
+-- spare buffers for. Whose they are isn't fixed, but each thread keeps its last one.
 abbrev pub FollowsPlan : Setup → Program → Plan → List ThreadRun → Type 0
 FollowsPlan setup program plan = FollowsScript program (commands_of plan.lines) setup
 

@@ -20,7 +20,7 @@ pub data DeskReads : Type 0 where
   AllAccepted : DeskReads
   AcceptedUpTo : (place : ℕ) → DeskReads
 
--- a name of which the desk reports this can't be read
+-- a name can't be read, if this is what the desk reports of it
 abbrev pub IsUnreadable : DeskReads → Entry → Type 0
 IsUnreadable Sound entry = entry ≡ Absent
 IsUnreadable Faulty entry = ⊤

@@ -45,8 +45,8 @@ pub record Traces (Lawful : List ThreadRun → Type 0) (program : Program) (setu
 -- - each thread goes as its plain run does;
 -- - each load of a thread is of the word that it wanted next, by its loads no passing decodes a torn sled, and its marks are
 --   those of its loads;
--- - a thread that executes the code, each sled with the bytes that it loaded there, comes to the same end as the plain run,
---   and to no other one, with the same registers except r10, zero flag, stack, output and counts;
+-- - a thread that executes the code, each sled with the bytes that it loaded there, always comes to the same end as the
+--   plain run, with the same registers except r10, zero flag, stack, output and counts;
 -- - each thread that has segments of events keeps its last one; if there are more other segments than spare buffers,
 --   exactly the excess is lost, and otherwise none is;
 -- - the trace holds the trace of these runs: a header with the setup's numbers, and for each thread the last whole

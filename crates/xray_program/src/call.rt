@@ -36,9 +36,9 @@ use xray_io::{Desk, Gate, Sink, Wall};
 /// Does what `words` say, with the files of `desk`. `words` don't hold the program's own name.
 /// Answers the program's status.
 ///
-/// Status 0: all is done. 1: the words say no command. 2: an input isn't in its format. 3: an input
-/// can't be read. 4: an output of the command, or `out`, failed. 5: memory ran out. 6: an input has
-/// more bytes than its limit. 7: all was written, and something is wrong all the same.
+/// Status 0: all is done. 1: the words say no command. 2: an input is refused. 3: an input can't be
+/// read. 4: an output of the command, or `out`, failed. 5: memory ran out. 6: an input has more
+/// bytes than its limit. 7: all was written, and something is wrong all the same.
 ///
 /// On 1 to 7 a line on `err` says so. Outputs and `out` are written only on 0, 4 and 7. On 4
 /// everything before what failed is whole, and nothing after it is touched. No other name of the
@@ -105,8 +105,8 @@ pub fn may_wait(words: &[String]) -> bool
     }
 }
 
-/// A law. No thread of a replay decodes a torn sled, and none of a run does. So each thread executes
-/// its code to the end of its plain run, and to no other end. A replay loses as few segments as its
+/// A law. No thread of a replay decodes a torn sled, and none of a run does. So each thread that
+/// executes its code always comes to the end of its plain run. A replay loses as few segments as its
 /// buffers allow, and a thread's lost segments are its oldest ones. The trace reads back.
 fn what_runs_leave()
     ensures { CallLaws }

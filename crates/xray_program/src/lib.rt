@@ -10,8 +10,8 @@
 //!
 //! The meaning of a command is one relation: `Comes` of `specs/Commands.antt`. The contract of the
 //! call is one record: `Answered` of `specs/Answers.antt`, over what was said, the world before the
-//! call and the world after it. For another command, add a case to `Comes`. The contract doesn't
-//! change.
+//! call and the world after it. For another command, add a case to `Comes`, to `inputs_of` and to
+//! `outputs_of` (of `command_words`). The record doesn't change.
 #![tactic(auto)]
 
 mod account;

@@ -59,8 +59,8 @@ abbrev pub TracesRuns : Type 0
 TracesRuns = (bytes : List ℕ) (program : Program) (setup : Setup) (runs : List ThreadRun) → IsAccepted bytes program → SetupFits setup
     → IsRun program setup runs → IsTraceOf setup runs (trace_bytes setup runs)
 
--- a thread that executes the code with the bytes that it loaded comes to the end of its plain run, and to no other one, if
--- it tears no sled
+-- a thread that executes the code with the bytes that it loaded always comes to the end of its plain run, if it tears no
+-- sled
 abbrev pub ExecutesRuns : Type 0
 ExecutesRuns = (bytes : List ℕ) (program : Program) (limits : Limits) (number : ℕ) (hold : Option ℕ) (run : ThreadRun) (loads : List Load)
     → IsAccepted bytes program → PlainRun program limits number run.passed run.end run.last → DecodesWhole program number hold run loads
